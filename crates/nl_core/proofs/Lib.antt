@@ -1,0 +1,17 @@
+pub mod Ranges
+pub mod Written
+pub mod PathLemmas
+pub mod NamedFiles
+pub mod KeptLemmas
+pub mod FindLemmas
+pub mod TreeMeaning
+pub mod Events
+pub mod Changes
+pub mod NewVolumes
+pub mod Settling
+pub mod PutLemmas
+pub mod Published
+pub mod Layouts
+pub mod Checkpointing
+pub mod Moving
+pub mod OneWorld

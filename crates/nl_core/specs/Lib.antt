@@ -1,0 +1,13 @@
+pub mod Content
+pub mod Over
+pub mod Named
+pub mod Place
+pub mod Settled
+pub mod Volume
+pub mod Means
+pub mod Draft
+pub mod Put
+pub mod Tables
+pub mod Inside
+pub mod Layout
+pub mod Laws

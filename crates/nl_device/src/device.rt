@@ -1,0 +1,60 @@
+//! What the layers above know of a device.
+ghost use Rattle.std.specs.Prelude.{◌≡◌, ℕ, ◌*◌, ◌<◌, ◌≤◌, Some, OnOk, OnErr, IfOk, IsErrOf};
+ghost use Rattle.nl_types.specs.declared.geometry.Geometry.{Geometry};
+ghost use Rattle.nl_device.specs.Pages.{Pages, KeepsOthers, ClearsBlocks, SamePages};
+
+use nl_types::{BlockNumber, Page, Segment};
+
+/// A put failed, and the device has counted it.
+#[derive(Clone, Copy, Debug, PartialEq, Eq)]
+pub struct Fault;
+
+/// Why a get was refused.
+#[derive(Clone, Copy, Debug, PartialEq, Eq)]
+pub enum DeviceError {
+    /// The device failed, and has counted it.
+    Fault,
+    /// The page can't be shared for want of memory.
+    Memory,
+}
+
+/// Blocks by number. A device gives back what was put, and counts its failures.
+pub trait Device: Drop {
+    /// The page at each block number, if there is one.
+    ghost pages: { Self → Pages };
+
+    /// How often the device has failed.
+    ghost failure_count: { Self → ℕ };
+
+    /// How it is divided. This stays.
+    ghost shape: { Self → Geometry };
+
+    /// Puts a page at a number. Refused, that block alone may differ.
+    fn put(&mut self, number: BlockNumber, page: Page) -> Result<(), Fault>
+        requires { number < (shape self.old).segments * (shape self.old).blocks }
+        ensures there { OnOk result (pages self.new number ≡ Some page) }
+        ensures others { KeepsOthers number (pages self.old) (pages self.new) }
+        ensures failed { OnErr result (failure_count self.old < failure_count self.new) }
+        ensures counted { failure_count self.old ≤ failure_count self.new }
+        ensures shape { shape self.new ≡ shape self.old };
+
+    /// The page at a number, or none where none was put.
+    fn get(&mut self, number: BlockNumber) -> Result<Option<Page>, DeviceError>
+        requires { number < (shape self.old).segments * (shape self.old).blocks }
+        ensures found { IfOk result (λ page. page ≡ pages self.old number) }
+        ensures failed { IsErrOf result DeviceError.Fault → failure_count self.old < failure_count self.new }
+        ensures same { SamePages (pages self.old) (pages self.new) }
+        ensures counted { failure_count self.old ≤ failure_count self.new }
+        ensures shape { shape self.new ≡ shape self.old };
+
+    /// Empties a segment.
+    fn clear(&mut self, segment: Segment)
+        requires { segment < (shape self.old).segments }
+        ensures cleared { ClearsBlocks (segment * (shape self.old).blocks) (shape self.old).blocks (pages self.old) (pages self.new) }
+        ensures counted { failure_count self.old ≤ failure_count self.new }
+        ensures shape { shape self.new ≡ shape self.old };
+
+    /// How often the device has failed.
+    fn failures(&self) -> u64
+        ensures { result ≡ failure_count self.now };
+}

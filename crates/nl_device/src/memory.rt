@@ -1,0 +1,72 @@
+//! A device in memory, which never fails.
+ghost use Rattle.std.specs.Prelude.{◌≡◌, ℕ, ◌+◌, ◌*◌, ◌<◌, ◌≤◌, None, IfOk, IsOkUnless, vec_len};
+ghost use Rattle.nl_device.specs.Pages.{IsEmpty};
+
+use crate::device::{Device, DeviceError, Fault};
+use nl_types::{BlockNumber, Geometry, Page, Segment, VolError};
+use std::alloc::Global;
+
+/// A device in memory. Its table has its full length from the start.
+#[derive(Drop)]
+pub struct MemDevice {
+    geometry: Geometry,
+    blocks: Vec<Option<Page>>,
+    ghost sized: { vec_len blocks ≡ geometry.segments * geometry.blocks },
+}
+
+impl MemDevice {
+    ghost use Rattle.nl_device.specs.Memory.{pages_of};
+
+    /// An empty device, refused by `Memory` alone.
+    pub fn new(alloc: Global, geometry: Geometry) -> Result<MemDevice, VolError>
+        ensures empty { IfOk result (λ device. IsEmpty (pages_of device)) }
+        ensures shape { IfOk result (λ device. device.geometry ≡ geometry) }
+        ensures refused { IsOkUnless result VolError.Memory }
+    {
+        let total = geometry.total() as usize;
+        let mut blocks = Vec::with_capacity(alloc, total)?;
+        for _ in 0..total {
+            blocks.push(None)?;
+        }
+        Ok(MemDevice { geometry, blocks })
+    }
+}
+
+impl Device for MemDevice {
+    ghost use Rattle.nl_device.specs.Memory.{pages_of};
+
+    ghost pages = { pages_of };
+
+    ghost failure_count = { λ _. 0 };
+
+    ghost shape = { λ d. d.geometry };
+
+    fn put(&mut self, number: BlockNumber, page: Page) -> Result<(), Fault> {
+        let at = number.get() as usize;
+        self.blocks[at] = Some(page);
+        Ok(())
+    }
+
+    fn get(&mut self, number: BlockNumber) -> Result<Option<Page>, DeviceError> {
+        let at = number.get() as usize;
+        match &self.blocks[at] {
+            None => Ok(None),
+            Some(page) => match page.share() {
+                Ok(page) => Ok(Some(page)),
+                Err(_) => Err(DeviceError::Memory),
+            },
+        }
+    }
+
+    fn clear(&mut self, segment: Segment) {
+        let blocks = self.geometry.blocks as usize;
+        let from = segment.get() as usize * blocks;
+        for at in from..from + blocks {
+            self.blocks[at] = None;
+        }
+    }
+
+    fn failures(&self) -> u64 {
+        0
+    }
+}

@@ -1,0 +1,4 @@
+pub mod TreeLaws
+pub mod ChangeLaws
+pub mod NumberedLists
+pub mod WorldLaws

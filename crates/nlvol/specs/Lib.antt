@@ -1,0 +1,4 @@
+pub mod Commands
+pub mod ExitStatus
+pub mod Options
+pub mod Splitting
