@@ -1,7 +1,6 @@
 //! A line, as words.
-ghost use Rattle.std.specs.Prelude.{length, MatchOption};
-ghost use Rattle.std.specs.Iterator.{at_most};
-ghost use Rattle.nlvol.specs.Splitting.{IsPlainWord, IsFirstWord, IsOpen};
+ghost use Rattle.std.specs.Prelude.{MatchOption, IfOk, IsErrOf};
+ghost use Rattle.nlvol.specs.Splitting.{IsPlainWord, IsFirstWord, IsOpen, IsTrimmed, AreWords, HasOpenWord};
 
 use crate::error::LineError;
 use std::alloc::Global;
@@ -27,33 +26,11 @@ fn first_word(text: &str) -> Option<(&str, &str)>
     }
 }
 
-/// The words of a line, from left to right. It ends at an open quotation mark, with `Usage`.
-#[derive(Drop)]
-struct Words<'a> {
-    rest: &'a str,
-}
-
-impl<'a> Iterator for Words<'a> {
-    type Item = Result<&'a str, LineError>;
-
-    ghost remaining = { λ words. at_most (length words.rest.now) };
-
-    fn next(&mut self) -> Option<Result<&'a str, LineError>> {
-        let text = self.rest.trim_start_matches(BLANKS);
-        if text.is_empty() {
-            return None;
-        }
-        match first_word(text) {
-            Some((word, rest)) => {
-                self.rest = rest;
-                Some(Ok(word))
-            }
-            None => {
-                self.rest = "";
-                Some(Err(LineError::Usage))
-            }
-        }
-    }
+/// The text behind the blanks that begin it.
+fn trimmed(text: &str) -> &str
+    ensures { IsTrimmed text.now result.now }
+{
+    text.trim_start_matches(BLANKS)
 }
 
 /// The words of a line. They are parted by spaces and tabs. One that begins with a quotation mark
@@ -61,6 +38,18 @@ impl<'a> Iterator for Words<'a> {
 ///
 /// # Errors
 /// `Usage` where a quotation mark is open, `Memory` where there is none for the list.
-pub fn words_of(alloc: Global, line: &str) -> Result<Vec<&str>, LineError> {
-    Words { rest: line }.try_collect(alloc)
+pub fn words_of(alloc: Global, line: &str) -> Result<Vec<&str>, LineError>
+    ensures words { IfOk result (λ words. AreWords line.now words.items) }
+    ensures open { IsErrOf result LineError.Usage → HasOpenWord line.now }
+{
+    let mut words = Vec::new(alloc);
+    let mut rest = trimmed(line);
+    while !rest.is_empty() {
+        let Some((word, behind)) = first_word(rest) else {
+            return Err(LineError::Usage);
+        };
+        words.push(word)?;
+        rest = trimmed(behind);
+    }
+    Ok(words)
 }
