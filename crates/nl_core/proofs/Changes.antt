@@ -6,9 +6,10 @@ use Rattle.std.proofs.lemmas.List.{get_or_append_left, get_or_push, get_or_past,
 use Rattle.nl_types.specs.declared.reply.Answer.{Answer}
 use Rattle.nl_types.specs.Paths.{Name}
 use Rattle.nl_core.specs.Content.{Table, file_in, no_file, slot_at, slot_in, IsTidy, IsPlaced, IsMarkedOver}
+use Rattle.nl_core.specs.Changes.{empty_file}
 use Rattle.nl_core.specs.Over.{IsWritten}
 use Rattle.nl_core.specs.Tables.{KeepsBlocks}
-use Rattle.nl_core.specs.Volume.{Volume, IsSound}
+use Rattle.nl_core.specs.Volume.{Volume, IsSound, kept_in}
 use Rattle.nl_core.specs.declared.file.File.{File}
 use Rattle.nl_core.specs.declared.file.Slot.{Slot}
 use Rattle.nl_core.specs.declared.checkpoint.Mounted.{Mounted}
@@ -35,10 +36,6 @@ each_file-set P files index f within here each k = ⊎_elim
     (cases_eq k index)
 
 -- ---- a new file
-
--- the file of a name, with nothing in it
-abbrev pub empty_file : Name → File
-empty_file name = record { name = name; size = 0; slots = [] }
 
 pub sound-created : (v : Volume) (name : Name) → IsSound v → IsSound (record v { files = v.files ++ empty_file name ∷ []; dirty = true })
 sound-created v name sound =
@@ -88,6 +85,7 @@ IsWritten-latest : (table : Table) (a b : List Slot) (offset : ℕ) (bytes : Lis
 IsWritten-latest table a b offset bytes old new same written = record {
   name = written.name;
   content = written.content;
+  made = written.made;
   tidy = written.tidy;
   count = written.count;
   placed = written.placed;
@@ -118,10 +116,11 @@ pub sound-with_file : (v : Volume) (files : List File) (name : Name) → files �
 sound-with_file v files name told sound = subst (λ fs. IsSound (record v { files = fs; dirty = true })) (sym told) (sound-created v name sound)
 
 -- an event that is done touches no block
-pub keeps_blocks : (v old new : Volume) (a : Answer) → v ≡ old → new.table ≡ v.table → new.next ≡ v.next → IsSound new → KeepsBlocks old (Ok a) new
-keeps_blocks v old new a is table next sound = record {
+pub keeps_blocks : (v old new : Volume) (a : Answer) → v ≡ old → new.table ≡ v.table → new.next ≡ v.next → kept_in new ≡ kept_in v → IsSound new → KeepsBlocks old (Ok a) new
+keeps_blocks v old new a is table next kept sound = record {
   table = table ∙ ap (λ (u : Volume). u.table) is;
   next = next ∙ ap (λ (u : Volume). u.next) is;
+  kept = kept ∙ ap kept_in is;
   refused = λ err. absurd (false≢true err);
   sound = sound;
 }

@@ -1,6 +1,6 @@
 -- From what an event does to the tables to what it does to the layout and the world.
 use Rattle.std.proofs.Common.{arith, ◌≡◌, ℕ, length, refl, ap, ◌∙◌, subst, inl, inr, sym}
-use Rattle.std.specs.Prelude.{Ok, Err}
+use Rattle.std.specs.Prelude.{Ok, Err, IfOk}
 use Rattle.nl_types.specs.declared.error.VolError.{VolError}
 use Rattle.nl_types.specs.declared.error.VolError.TheVariants as error
 use Rattle.nl_types.specs.declared.event.Event.{Event}
@@ -11,11 +11,12 @@ use Rattle.nl_types.specs.Laws.{StepsKeepWorlds}
 use Rattle.nl_types.specs.Worlds.{World, IsWorld, Reply}
 use Rattle.nl_types.specs.Runs.{Step, MayBeRefused}
 use Rattle.nl_device.specs.Pages.{Pages}
+use Rattle.nl_core.specs.Changes.{HasChanged}
 use Rattle.nl_core.specs.Content.{page_at}
 use Rattle.nl_core.specs.Volume.{Volume}
 use Rattle.nl_core.specs.Tables.{KeepsBlocks}
 use Rattle.nl_core.specs.Means.{Goes, Follows}
-use Rattle.nl_core.specs.Layout.{Layout, IsHeld, LacksSpace, Fails, Moves, Touches, layout_of, table_of}
+use Rattle.nl_core.specs.Layout.{Layout, IsHeld, KeepsStored, LacksSpace, Fails, Moves, Touches, layout_of, table_of}
 
 -- ---- steps
 
@@ -72,22 +73,30 @@ module _ (v new : Volume) (pages : Pages) (failures : ℕ) where
   refused-kept : (e : VolError) → KeepsBlocks v (Err e) new → layout_of new pages failures ≡ layout_of v pages failures
   refused-kept e keeps = ap (λ u. layout_of u pages failures) (keeps.refused refl)
 
+  -- no block is put
+  keeps_stored : (reply : Reply) → KeepsBlocks v reply new → KeepsStored (layout_of v pages failures) (layout_of new pages failures)
+  keeps_stored reply keeps = record { device = ap (λ t. table_of (length t) pages) keeps.table; failures = refl; table = keeps.table; next = keeps.next; kept = keeps.kept }
+
   -- a change
-  pub touches-Apply : (c : Change) (reply : Reply) → KeepsBlocks v reply new → Touches (layout_of v pages failures) (Apply c) reply (layout_of new pages failures)
-  touches-Apply c (Ok a) keeps = (ap (λ t. table_of (length t) pages) keeps.table, refl, keeps.table, keeps.next)
-  touches-Apply c (Err e) keeps = refused-kept e keeps
+  pub touches-Apply : (c : Change) (reply : Reply) → KeepsBlocks v reply new → IfOk reply (λ _. HasChanged c v.files new.files) → Touches (layout_of v pages failures) (Apply c) reply (layout_of new pages failures)
+  touches-Apply c (Ok a) keeps changed = (keeps_stored (Ok a) keeps, changed)
+  touches-Apply c (Err e) keeps changed = refused-kept e keeps
 
   -- a mount
-  pub touches-Mount : (n : ℕ) (reply : Reply) → KeepsBlocks v reply new → Touches (layout_of v pages failures) (Mount n) reply (layout_of new pages failures)
-  touches-Mount n (Ok a) keeps = (ap (λ t. table_of (length t) pages) keeps.table, refl, keeps.table, keeps.next)
-  touches-Mount n (Err e) keeps = refused-kept e keeps
+  pub touches-Mount : (n : ℕ) (reply : Reply) → KeepsBlocks v reply new → new.files ≡ v.files → Touches (layout_of v pages failures) (Mount n) reply (layout_of new pages failures)
+  touches-Mount n (Ok a) keeps same = (keeps_stored (Ok a) keeps, same)
+  touches-Mount n (Err e) keeps same = refused-kept e keeps
+
+-- a read leaves all as it was
+stays : (l : Layout) → KeepsStored l l
+stays l = record { device = refl; failures = refl; table = refl; next = refl; kept = refl }
 
 -- a read of the current tree
 pub touches-Read : (l : Layout) (a : Ask) (reply : Reply) → Touches l (Read a) reply l
-touches-Read l a (Ok answer) = (refl, refl, refl, refl)
+touches-Read l a (Ok answer) = (stays l, refl)
 touches-Read l a (Err e) = refl
 
 -- a read of a mount
 pub touches-MountRead : (l : Layout) (mount : ℕ) (a : Ask) (reply : Reply) → Touches l (MountRead mount a) reply l
-touches-MountRead l mount a (Ok answer) = (refl, refl, refl, refl)
+touches-MountRead l mount a (Ok answer) = (stays l, refl)
 touches-MountRead l mount a (Err e) = refl

@@ -1,13 +1,13 @@
 -- Bytes written over others, byte by byte and slot by slot.
-use Rattle.std.proofs.Common.{◌≡◌, ℕ, suc, zero, inl, inr, true, false, set, ◌≢◌, get_or-set_same, get_or-set_other, ◌+◌, ◌-◌, ◌*◌, ◌/◌, ◌%◌, ◌<◌, ◌≤◌, ◌⊎◌, cond, List, ◌++◌, length, get_or, take, drop, replicate, refl, sym, ap, ◌∙◌, subst, ⊎_elim, arith}
+use Rattle.std.proofs.Common.{◌≡◌, ℕ, suc, zero, inl, inr, true, false, set, ◌≢◌, get_or-set_same, get_or-set_other, ◌+◌, ◌-◌, ◌*◌, ◌/◌, ◌%◌, ◌<◌, ◌≤◌, ◌⊎◌, cond, List, [], ◌∷◌, ◌++◌, length, get_or, take, drop, replicate, refl, sym, ap, ◌∙◌, subst, ⊎_elim, arith}
 use Rattle.std.specs.Prelude.{max}
 use Rattle.std.proofs.lemmas.List.{get_or_append_left, get_or_past, get_or-take, get_or-drop, get_or-append_right, length-append, length-take, length-drop, length-replicate, ext_get_or}
 use Rattle.std.proofs.lemmas.List.FromFn.{get_or-map-range_with_len, length-map-range_with_len}
 use Rattle.std.proofs.lemmas.Bool.{cases_lt, cases_eq, cond-true, cond-false}
 use Rattle.std.proofs.lemmas.Bool.Decides.{nat_tests}
 use Rattle.nl_types.specs.Calls.{overwritten}
-use Rattle.nl_core.specs.Content.{Table, bytes_in, byte_of, content, slot_in, IsTidy}
-use Rattle.nl_core.specs.Over.{is_over, byte_over, slot_over, IsBlockOver}
+use Rattle.nl_core.specs.Content.{Table, bytes_in, byte_of, content, slot_in, IsThere, IsTidy}
+use Rattle.nl_core.specs.Over.{is_over, byte_over, slot_over, block_end, IsBlockOver, IsTouched, HasMade}
 use Rattle.nl_core.specs.declared.file.Slot.{Slot}
 use Rattle.nl_core.specs.declared.file.File.{File}
 use Rattle.nl_core.specs.declared.file.Slot.TheVariants.{Hole}
@@ -126,12 +126,37 @@ put_all_of written old slots first before i =
     let count : length written - 0 ≡ length written = omega arith in
     before i ∙ ap (λ b. cond b (slot_in written (i - first)) (slot_in old i)) (ap (λ f. is_over f (length written - 0) i) start ∙ ap (λ n. is_over first n i) count)
 
+-- ---- blocks that bytes lie in
+
+-- a block that a byte lies in is among those from the first to the last one
+touched-inside : (offset count i : ℕ) → IsTouched offset count i → (offset / 1024 ≤ i) × (i < block_end offset count)
+touched-inside offset zero i touched = absurd (omega (arith, touched.among))
+touched-inside offset (suc count) i touched = (omega (arith, touched.lies), omega (arith, touched.among, touched.lies))
+
+-- and each of those has such a byte
+inside-touched : (offset count i : ℕ) → offset / 1024 ≤ i → i < block_end offset count → IsTouched offset count i
+inside-touched offset zero i low high = absurd (omega (arith, low, high))
+inside-touched offset (suc count) i low high = ⊎_elim
+    (λ (here : i < offset / 1024 + 1). record { at = 0; among = omega arith; lies = omega (arith, low, here) })
+    (λ (behind : offset / 1024 + 1 ≤ i). record { at = 1024 * i - offset; among = omega (arith, high, behind); lies = omega (arith, behind) })
+    (cases_lt i (offset / 1024 + 1))
+
+-- a file has a limit, and so have its blocks
+pub block_end-limit : (offset count : ℕ) → offset + count ≤ 67108864 → block_end offset count ≤ 65536
+block_end-limit offset zero high = omega (arith, high)
+block_end-limit offset (suc count) high = omega (arith, high)
+
+-- no byte lies behind them
+byte_over_behind : (bytes : List ℕ) (offset i old : ℕ) → block_end offset (length bytes) ≤ i / 1024 → byte_over bytes offset i old ≡ old
+byte_over_behind [] offset i old behind = grind (arith, nat_tests)
+byte_over_behind (b ∷ bytes) offset i old behind = byte_over_above (b ∷ bytes) offset i old (omega (arith, behind))
+
 -- where an index lies: among the slots, before them or behind
 in_or_out : (first count i : ℕ) → ((first ≤ i) × (i < first + count)) ⊎ ((i < first) ⊎ (first + count ≤ i))
 in_or_out first count i = ⊎_elim (λ low. inr (inl low)) (λ high. ⊎_elim (λ within. inl (high, within)) (λ past. inr (inr past)) (cases_lt i (first + count))) (cases_lt i first)
 
 module _ (table : Table) (offset : ℕ) (bytes : List ℕ) (old new written : List Slot)
-    (count : offset / 1024 + length written ≡ max (offset / 1024) ((offset + length bytes + 1023) / 1024))
+    (count : offset / 1024 + length written ≡ block_end offset (length bytes))
     (blocks : (k : ℕ) → k < length written → IsBlockOver table (1024 * (offset / 1024 + k)) offset bytes (slot_in old (offset / 1024 + k)) (bytes_in table (slot_in written k)))
     (put : (i : ℕ) → slot_in new i ≡ slot_over written (offset / 1024) i (slot_in old i)) where
   -- a property of the slots that were put, and of all before, is one of all after
@@ -143,6 +168,19 @@ module _ (table : Table) (offset : ℕ) (bytes : List ℕ) (old new written : Li
       (subst (λ j. P j (slot_in written (i - offset / 1024))) at (here (i - offset / 1024) (omega (arith, inside.0, inside.1)))))
       (λ outside. subst (P i) (sym (slot_over_out written (offset / 1024) i (slot_in old i) outside)) (before i))
       (in_or_out (offset / 1024) (length written) i))
+
+  -- which blocks are there
+  pub made-written : ((k : ℕ) → k < length written → IsThere (slot_in written k)) → HasMade offset (length bytes) old new
+  made-written there = record {
+    touched = λ i touched.
+        let inside = touched-inside offset (length bytes) i touched in
+        subst IsThere (sym (put i ∙ slot_over_in written (offset / 1024) i (slot_in old i) inside.0 (omega (arith, inside.1, count))))
+        (there (i - offset / 1024) (omega (arith, inside.0, inside.1, count)));
+    others = λ i untouched. put i ∙ ⊎_elim
+        (λ inside. absurd (untouched (inside-touched offset (length bytes) i inside.0 (omega (arith, inside.1, count)))))
+        (λ outside. slot_over_out written (offset / 1024) i (slot_in old i) outside)
+        (in_or_out (offset / 1024) (length written) i);
+  }
 
   -- what each byte of the file is
   pub byte_of-written : (i : ℕ) → byte_of table new i ≡ byte_over bytes offset i (byte_of table old i)
@@ -160,7 +198,7 @@ module _ (table : Table) (offset : ℕ) (bytes : List ℕ) (old new written : Li
       ap (λ s. get_or (bytes_in table s) (i % 1024) 0) (slot_over_out written (offset / 1024) (i / 1024) (slot_in old (i / 1024)) outside)
       ∙ sym (⊎_elim
       (λ low. byte_over_below bytes offset i (byte_of table old i) (omega (arith, low)))
-      (λ high. byte_over_above bytes offset i (byte_of table old i) (omega (arith, high, count)))
+      (λ high. byte_over_behind bytes offset i (byte_of table old i) (omega (arith, high, count)))
       outside))
       (in_or_out (offset / 1024) (length written) (i / 1024))
 

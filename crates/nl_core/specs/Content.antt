@@ -33,6 +33,12 @@ bytes_in table slot = unwrap_or (block_in table slot) []
 abbrev pub slot_in : List Slot → ℕ → Slot
 slot_in slots i = slice_index_or slots i Hole
 
+-- the slot has a block
+abbrev pub IsThere : Slot → Type 0
+IsThere Hole = ⊥
+IsThere (Stored number) = Unit {0}
+IsThere (Changed page) = Unit {0}
+
 -- the byte at an index, 0 where none is stored
 abbrev pub byte_of : Table → List Slot → ℕ → ℕ
 byte_of table slots i = slice_index (bytes_in table (slot_in slots (i / 1024))) (i % 1024)

@@ -4,15 +4,16 @@ use Rattle.std.specs.List.{range_with_len}
 use Rattle.nl_types.specs.declared.error.VolError.{VolError}
 use Rattle.nl_types.specs.declared.error.VolError.TheVariants.{Fault}
 use Rattle.nl_types.specs.declared.event.Event.{Event}
-use Rattle.nl_types.specs.declared.event.Event.TheVariants.{Checkpoint}
+use Rattle.nl_types.specs.declared.event.Event.TheVariants.{Apply, Checkpoint}
 use Rattle.nl_types.specs.Worlds.{World, Reply}
 use Rattle.nl_types.specs.Runs.{Step}
 use Rattle.nl_device.specs.Pages.{Pages}
 use Rattle.nl_core.specs.Content.{Table, page_at}
+use Rattle.nl_core.specs.Changes.{HasChanged}
 use Rattle.nl_core.specs.Settled.{changed_pages}
 use Rattle.nl_core.specs.Put.{HasPut, HasTried}
 use Rattle.nl_core.specs.Draft.{IsDraftRefusal}
-use Rattle.nl_core.specs.Volume.{Volume, IsSound, changed, unused, published, next_checkpoint}
+use Rattle.nl_core.specs.Volume.{Volume, IsSound, kept_in, changed, unused, published, next_checkpoint}
 use Rattle.nl_core.specs.Means.{Means}
 
 pub record Layout : Type 0 where
@@ -50,10 +51,18 @@ pub record HasPublished (old new : Layout) : Type 0 where
   pub volume : new.volume ≡ published new.volume.latest old.volume
   pub put : HasPut old.volume.next (changed_pages old.volume.files) (page_at old.device) (page_at new.device)
 
+-- no block was put, and kept checkpoints name theirs as before
+pub record KeepsStored (old new : Layout) : Type 0 where
+  pub device : new.device ≡ old.device
+  pub failures : new.failures ≡ old.failures
+  pub table : new.volume.table ≡ old.volume.table
+  pub next : new.volume.next ≡ old.volume.next
+  pub kept : kept_in new.volume ≡ kept_in old.volume
+
 abbrev pub HasDone : Layout → Event → Layout → Type 0
 HasDone old (Checkpoint mode moment) new = HasPublished old new × (new.volume.latest ≡ next_checkpoint mode moment old.volume)
-HasDone old event new =
-    (new.device ≡ old.device) × (new.failures ≡ old.failures) × (new.volume.table ≡ old.volume.table) × (new.volume.next ≡ old.volume.next)
+HasDone old (Apply change) new = KeepsStored old new × HasChanged change old.volume.files new.volume.files
+HasDone old event new = KeepsStored old new × (new.volume.files ≡ old.volume.files)
 
 -- the numbers that were tried are used, and all else is as before
 pub record HasFaulted (old new : Layout) : Type 0 where

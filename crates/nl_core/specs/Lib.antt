@@ -1,3 +1,4 @@
+pub mod Changes
 pub mod Content
 pub mod Over
 pub mod Named

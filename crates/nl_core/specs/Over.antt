@@ -1,7 +1,7 @@
 -- Bytes written over others, block by block.
-use Rattle.std.specs.Prelude.{◌≡◌, ℕ, Bool, ◌+◌, ◌-◌, ◌<◌, ◌≤◌, nat_le, nat_lt, ◌&&◌, if◌then◌else◌, List, length, slice_index}
+use Rattle.std.specs.Prelude.{◌≡◌, ℕ, zero, suc, Bool, ◌+◌, ◌-◌, ◌/◌, ◌<◌, ◌≤◌, nat_le, nat_lt, ◌&&◌, if◌then◌else◌, List, length, slice_index}
 use Rattle.nl_types.specs.Calls.{overwritten}
-use Rattle.nl_core.specs.Content.{Table, bytes_in, content, slot_in, IsTidy, IsPlaced, IsMarkedOver}
+use Rattle.nl_core.specs.Content.{Table, bytes_in, content, slot_in, IsThere, IsTidy, IsPlaced, IsMarkedOver}
 use Rattle.nl_core.specs.declared.file.Slot.{Slot}
 use Rattle.nl_core.specs.declared.file.File.{File}
 
@@ -21,10 +21,27 @@ slot_over slots first i old = if is_over first (length slots) i then slot_in slo
 abbrev pub IsBlockOver : Table → ℕ → ℕ → List ℕ → Slot → List ℕ → Type 0
 IsBlockOver table start offset bytes old new = (j : ℕ) → j < 1024 → slice_index new j ≡ byte_over bytes offset (start + j) (slice_index (bytes_in table old) j)
 
+-- behind the last block that so many bytes from an offset on lie in
+abbrev pub block_end : ℕ → ℕ → ℕ
+block_end offset zero = offset / 1024
+block_end offset (suc count) = (offset + count) / 1024 + 1
+
+-- one of so many bytes from an offset on lies in the block at i
+pub record IsTouched (offset count i : ℕ) : Type 0 where
+  pub at : ℕ
+  pub among : at < count
+  pub lies : (offset + at) / 1024 ≡ i
+
+-- the slots, once so many bytes are written at an offset: a block is there that a byte lies in, and no other slot changes
+pub record HasMade (offset count : ℕ) (old new : List Slot) : Type 0 where
+  pub touched : (i : ℕ) → IsTouched offset count i → IsThere (slot_in new i)
+  pub others : (i : ℕ) → (IsTouched offset count i → ⊥) → slot_in new i ≡ slot_in old i
+
 -- the file, once bytes are written at an offset. `latest` has the slots of the latest checkpoint
 pub record IsWritten (table : Table) (latest : List Slot) (offset : ℕ) (bytes : List ℕ) (old new : File) : Type 0 where
   pub name : new.name ≡ old.name
   pub content : content table new ≡ overwritten (content table old) offset bytes
+  pub made : HasMade offset (length bytes) old.slots new.slots
   pub tidy : IsTidy table new
   pub count : length new.slots ≤ 65536
   pub placed : ((i : ℕ) → IsPlaced table (slot_in old.slots i)) → (i : ℕ) → IsPlaced table (slot_in new.slots i)

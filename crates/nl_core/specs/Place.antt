@@ -45,10 +45,14 @@ Places (Err e) (Ok names) = ⊥
 abbrev pub file_of : Tree → List ℕ → Result (List ℕ) VolError
 file_of tree path = after (path_of path) (file_at tree)
 
--- the path spells the name of the file at this index; else the tree refuses so
+-- the path spells the name of the file at this index
+abbrev pub LeadsTo : List File → List ℕ → ℕ → Type 0
+LeadsTo files path index = (name : Name) × (path_of path ≡ Ok (name ∷ [])) × IsFirstNamed files name index
+
+-- the path leads to the file at this index; else the tree refuses so
 abbrev pub FindsFile : Table → List File → List ℕ → Result ℕ VolError → Type 0
 FindsFile table files path found = MatchResult found
-    (λ index. (name : Name) × (path_of path ≡ Ok (name ∷ [])) × IsFirstNamed files name index)
+    (LeadsTo files path)
     (λ e. (tree : Tree) → TreeMeans table files tree → file_of tree path ≡ Err e)
 
 -- the path spells this name, which no file has; else the tree refuses so, or memory ran out

@@ -56,6 +56,7 @@ impl Tables {
     ghost use Rattle.nl_core.specs.Volume.{IsSound, kept_in, published};
     ghost use Rattle.nl_core.specs.Means.{Means, Follows, numbered};
     ghost use Rattle.nl_core.specs.Draft.{IsDraftRefusal, IsNext, IsNextDraft};
+    ghost use Rattle.nl_core.specs.Changes.{HasCreated, HasWritten, HasChanged};
     ghost use Rattle.nl_core.specs.Tables.{IsNew, KeepsBlocks};
 
     /// The tables of a volume just formatted, with checkpoint 1 of the root alone. Refused by `Memory` alone.
@@ -88,6 +89,7 @@ impl Tables {
 
     fn create(&mut self, alloc: Global, path: &[u8]) -> Reply
         ensures follows { Follows self.old.volume (Apply (Create path.now)) result self.new.volume }
+        ensures changed { IfOk result (λ _. HasCreated path.now self.old.volume.files self.new.volume.files) }
         ensures blocks { KeepsBlocks self.old.volume result self.new.volume }
     {
         let name = find_free(alloc, &self.files, path)?;
@@ -102,6 +104,7 @@ impl Tables {
 
     fn write(&mut self, alloc: Global, path: &[u8], offset: u64, bytes: &[u8]) -> Reply
         ensures follows { Follows self.old.volume (Apply (Write path.now offset bytes.now)) result self.new.volume }
+        ensures changed { IfOk result (λ _. HasWritten path.now offset (length bytes.now) self.old.volume.files self.new.volume.files) }
         ensures blocks { KeepsBlocks self.old.volume result self.new.volume }
     {
         let index = find_file(&self.files, path)?;
@@ -121,6 +124,7 @@ impl Tables {
     /// A change of the current tree.
     pub fn change(&mut self, alloc: Global, change: &Change) -> Reply
         ensures follows { Follows self.old.volume (Apply change.now) result self.new.volume }
+        ensures changed { IfOk result (λ _. HasChanged change.now self.old.volume.files self.new.volume.files) }
         ensures blocks { KeepsBlocks self.old.volume result self.new.volume }
     {
         match change {
@@ -154,6 +158,7 @@ impl Tables {
     /// Mounts a snapshot.
     pub fn mount(&mut self, number: CheckpointNumber) -> Reply
         ensures follows { Follows self.old.volume (Mount number) result self.new.volume }
+        ensures files { self.new.volume.files ≡ self.old.volume.files }
         ensures blocks { KeepsBlocks self.old.volume result self.new.volume }
     {
         match self.kept(number) {

@@ -370,6 +370,49 @@ fn space_runs_out(rt: HostRuntime) -> Result<(), Fail> {
     expect(&rt, alloc, volume(alloc, 8, 4)?, &rows)
 }
 
+/// A block is there exactly where a byte was written: one at the far end of a file takes one block of 32, and so do zeros
+/// over a hole.
+#[test]
+fn a_write_makes_the_blocks_of_its_bytes(rt: HostRuntime) -> Result<(), Fail> {
+    let alloc = rt.alloc();
+    let long = vec![in alloc; b'A'; 32768]?;
+    let none = Want::Refused(VolError::NoSpace);
+    let fits = [
+        (Call::Create(b"/f"), Want::Done),
+        (Call::Write(b"/f", 67_108_863, b"x"), Want::Written(1)),
+        (Call::Write(b"/f", 3000, b""), Want::Written(0)),
+        (PLAIN, Want::Checkpoint(2)),
+        (Call::Create(b"/g"), Want::Done),
+        (Call::Write(b"/g", 0, &long[..31744]), Want::Written(31744)),
+        (PLAIN, Want::Checkpoint(3)),
+        (Call::Write(b"/f", 0, b"x"), Want::Written(1)),
+        (PLAIN, none),
+    ];
+    expect(&rt, alloc, volume(alloc, 8, 4)?, &fits)?;
+    let past = [
+        (Call::Create(b"/f"), Want::Done),
+        (Call::Write(b"/f", 67_108_863, b"x"), Want::Written(1)),
+        (PLAIN, Want::Checkpoint(2)),
+        (Call::Create(b"/g"), Want::Done),
+        (Call::Write(b"/g", 0, &long), Want::Written(32768)),
+        (PLAIN, none),
+    ];
+    expect(&rt, alloc, volume(alloc, 8, 4)?, &past)?;
+    let zeros = [
+        (Call::Create(b"/f"), Want::Done),
+        (Call::Write(b"/f", 1024, b"x"), Want::Written(1)),
+        (PLAIN, Want::Checkpoint(2)),
+        (Call::Write(b"/f", 0, b"\0"), Want::Written(1)),
+        (PLAIN, Want::Checkpoint(3)),
+        (Call::Create(b"/g"), Want::Done),
+        (Call::Write(b"/g", 0, &long[..30720]), Want::Written(30720)),
+        (PLAIN, Want::Checkpoint(4)),
+        (Call::Write(b"/g", 30720, b"x"), Want::Written(1)),
+        (PLAIN, none),
+    ];
+    expect(&rt, alloc, volume(alloc, 8, 4)?, &zeros)
+}
+
 #[test]
 fn large_volumes_fill_up(rt: HostRuntime) -> Result<(), Fail> {
     let alloc = rt.alloc();

@@ -1,7 +1,7 @@
 //! Bytes written to a file, over the blocks that the latest checkpoint has.
 ghost use Rattle.std.specs.Prelude.{◌≡◌, ℕ, ◌+◌, ◌*◌, ◌/◌, ◌^◌, ◌<◌, ◌≤◌, ◌-◌, Some, IfOk, OnOk, OnErr, length, slice_index, max};
-ghost use Rattle.nl_core.specs.Content.{bytes_in, block_in, slot_in, IsTidy, IsKept, IsPlaced, IsMarkedOver};
-ghost use Rattle.nl_core.specs.Over.{byte_over, slot_over, IsBlockOver, IsWritten};
+ghost use Rattle.nl_core.specs.Content.{bytes_in, block_in, slot_in, IsThere, IsTidy, IsKept, IsPlaced, IsMarkedOver};
+ghost use Rattle.nl_core.specs.Over.{byte_over, slot_over, block_end, IsBlockOver, IsWritten};
 
 use crate::file::{File, Slot, slot_or};
 use nl_types::{BLOCK_SIZE, Block, Items, Page};
@@ -51,6 +51,7 @@ fn block_after(
 fn slot_with(latest: &Slot, table: &[Option<Page>], page: Page) -> Slot
     requires { IsKept table.now latest.now }
     ensures block { block_in table.now result ≡ Some page }
+    ensures there { IsThere result }
     ensures marked { IsMarkedOver table.now latest.now result }
     ensures placed { IsPlaced table.now result }
 {
@@ -77,6 +78,7 @@ fn written_slot(
     requires end { offset + length bytes.now ≤ 67108864 }
     requires kept { IsKept table.now latest.now }
     ensures block { IfOk result (λ new. IsBlockOver table.now start offset bytes.now slot.now (bytes_in table.now new)) }
+    ensures there { IfOk result IsThere }
     ensures marked { IfOk result (IsMarkedOver table.now latest.now) }
     ensures placed { IfOk result (IsPlaced table.now) }
 {
@@ -95,13 +97,17 @@ fn written_slots(
 ) -> Result<Vec<Slot>, AllocError>
     requires end { offset + length bytes.now ≤ 67108864 }
     requires kept { (i : ℕ) → IsKept table.now (slot_in latest.now i) }
-    ensures count { IfOk result (λ new. offset / 1024 + length new.items ≡ max (offset / 1024) ((offset + length bytes.now + 1023) / 1024)) }
+    ensures count { IfOk result (λ new. offset / 1024 + length new.items ≡ block_end offset (length bytes.now)) }
     ensures blocks { IfOk result (λ new. (k : ℕ) → k < length new.items → IsBlockOver table.now (1024 * (offset / 1024 + k)) offset bytes.now (slot_in slots.now (offset / 1024 + k)) (bytes_in table.now (slot_in new.items k))) }
+    ensures there { IfOk result (λ new. (k : ℕ) → k < length new.items → IsThere (slot_in new.items k)) }
     ensures marked { IfOk result (λ new. (k : ℕ) → k < length new.items → IsMarkedOver table.now (slot_in latest.now (offset / 1024 + k)) (slot_in new.items k)) }
     ensures placed { IfOk result (λ new. (k : ℕ) → k < length new.items → IsPlaced table.now (slot_in new.items k)) }
 {
     let first = offset / 1024;
-    let end = (offset + bytes.len() as u64 + 1023) / 1024;
+    let end = match bytes.len() as u64 {
+        0 => first,
+        len => (offset + len - 1) / 1024 + 1,
+    };
     let hole = Slot::Hole;
     let mut written = Vec::new(alloc);
     for index in first..end {

@@ -13,7 +13,7 @@ returns-in-Apply-clause-moves g c =
     subst (λ o. Moves o c.args.event.now c.change.result (layout_of new pages failures)) c.self.view_is
     (subst (λ e. Moves (layout_of v pages failures) e c.change.result (layout_of new pages failures)) (sym c.in-Apply.is)
     (moves-follows (layout_of v pages failures) (layout_of new pages failures) (Apply c.in-Apply.change) c.change.result c.steps_keep_worlds.ensures c.change.ensures.follows
-    (touches-Apply v new pages failures c.in-Apply.change c.change.result c.change.ensures.blocks)
+    (touches-Apply v new pages failures c.in-Apply.change c.change.result c.change.ensures.blocks c.change.ensures.changed)
     (held-kept v new pages failures c.change.result c.change.ensures.blocks c.self.invariant.0)))
 
 pub returns-in-Mount-clause-moves : goal.returns-in-Mount-clause-moves
@@ -25,7 +25,7 @@ returns-in-Mount-clause-moves g c =
     subst (λ o. Moves o c.args.event.now c.mount.result (layout_of new pages failures)) c.self-in-Mount.view_is
     (subst (λ e. Moves (layout_of v pages failures) e c.mount.result (layout_of new pages failures)) (sym c.in-Mount.is)
     (moves-follows (layout_of v pages failures) (layout_of new pages failures) (Mount c.in-Mount.number) c.mount.result c.steps_keep_worlds.ensures c.mount.ensures.follows
-    (touches-Mount v new pages failures c.in-Mount.number c.mount.result c.mount.ensures.blocks)
+    (touches-Mount v new pages failures c.in-Mount.number c.mount.result c.mount.ensures.blocks c.mount.ensures.files)
     (held-kept v new pages failures c.mount.result c.mount.ensures.blocks c.self-in-Mount.invariant.0)))
 
 pub returns-in-Read-clause-moves : goal.returns-in-Read-clause-moves

@@ -8,7 +8,8 @@ use Rattle.nl_core.specs.Place.{FindsFree}
 use Rattle.nl_core.specs.Volume.{Volume}
 use Rattle.nl_core.specs.Tables.{Roomy}
 use Rattle.nl_core.proofs.Events.{Leads, creates_refused, creates}
-use Rattle.nl_core.proofs.Changes.{empty_file, sound-with_file, with_file, keeps_blocks}
+use Rattle.nl_core.specs.Changes.{empty_file}
+use Rattle.nl_core.proofs.Changes.{sound-with_file, with_file, keeps_blocks}
 use Rattle.nl_core.proofs.tables.Tables.create.Goals as goal
 
 pub returns-in_err-name-clause-follows : goal.returns-in_err-name-clause-follows
@@ -37,4 +38,15 @@ returns-clause-follows c = λ w m.
 pub returns-clause-blocks : goal.returns-clause-blocks
 returns-clause-blocks c =
     let pushed = c.in_ok-push.ensures.items ∙ ap (λ slots. c.self.inside.files.items ++ record { name = c.in_ok-name.name; size = 0; slots = slots } ∷ []) c.new.ensures in
-    keeps_blocks _ c.args.self.now.volume _ Done (ap (λ (r : Roomy). r.volume) c.self.view_is) refl refl (sound-with_file _ c.push.new.self.items c.in_ok-name.name pushed c.self.invariant)
+    keeps_blocks _ c.args.self.now.volume _ Done (ap (λ (r : Roomy). r.volume) c.self.view_is) refl refl refl (sound-with_file _ c.push.new.self.items c.in_ok-name.name pushed c.self.invariant)
+
+pub returns-clause-changed : goal.returns-clause-changed
+returns-clause-changed c =
+    let old = c.args.self.now.volume in
+    let files : c.self.inside.files.items ≡ old.files = ap (λ (r : Roomy). r.volume.files) c.self.view_is in
+    let free : FindsFree old.table c.deref.result.now c.args.path.now (Ok c.in_ok-name.name) = c.in_ok-name.ensures old.table in
+    record {
+      name = c.in_ok-name.name;
+      leads = free.0;
+      files = c.in_ok-push.ensures.items ∙ ap (λ slots. c.self.inside.files.items ++ record { name = c.in_ok-name.name; size = 0; slots = slots } ∷ []) c.new.ensures ∙ ap (λ fs. fs ++ empty_file c.in_ok-name.name ∷ []) files;
+    }

@@ -8,8 +8,9 @@ use Rattle.nl_types.specs.declared.error.VolError.TheVariants.{Memory}
 use Rattle.nl_types.specs.declared.reply.Answer.TheVariants.{Written}
 use Rattle.nl_types.specs.Limits.{file_limit}
 use Rattle.nl_core.specs.Content.{Table, file_in, no_file, slot_in, slot_at, IsTidy, IsKept}
-use Rattle.nl_core.specs.Over.{IsWritten}
-use Rattle.nl_core.specs.Place.{FindsFile}
+use Rattle.nl_core.specs.Over.{HasMade, IsWritten}
+use Rattle.nl_core.specs.Changes.{HasWritten}
+use Rattle.nl_core.specs.Place.{LeadsTo, FindsFile}
 use Rattle.nl_core.specs.Volume.{Volume, IsSound}
 use Rattle.nl_core.specs.Means.{Means}
 use Rattle.nl_core.specs.Tables.{Roomy}
@@ -51,6 +52,16 @@ pub index_mut-requires : goal.index_mut-requires
 index_mut-requires c =
     let found : FindsFile c.self.inside.pages.items c.deref.result.now c.args.path.now (Ok c.in_ok-index.index) = c.in_ok-index.ensures c.self.inside.pages.items in
     omega (arith, found.2.within, c.deref.ensures.len)
+
+-- a write of no bytes
+nothing_written : (files : List File) (path : List ℕ) (offset count index : ℕ) → LeadsTo files path index → count ≡ 0 → HasWritten path offset count files files
+nothing_written files path offset count index leads none = record {
+  index = index;
+  leads = leads;
+  file = file_in files index;
+  files = sym (set-get_or files index no_file);
+  made = record { touched = λ i touched. absurd (omega (arith, touched.among, none)); others = λ i untouched. refl };
+}
 
 -- the file that was found is the one at its index
 file_there : (table : Table) (files lent : List File) (path : List ℕ) (index : ℕ) (file : File) → FindsFile table lent path (Ok index) → lent ≡ files → file ≡ get_or files index file → file ≡ file_in files index
@@ -123,6 +134,29 @@ returns-clause-blocks c =
     let v = volume_of c.self.inside in
     let index = c.in_ok-index.index in
     let found : FindsFile v.table c.deref.result.now c.args.path.now (Ok index) = c.in_ok-index.ensures v.table in
-    keeps_blocks v c.args.self.now.volume _ (Written (length c.args.bytes.now)) (ap (λ (r : Roomy). r.volume) c.self.view_is) refl refl
+    keeps_blocks v c.args.self.now.volume _ (Written (length c.args.bytes.now)) (ap (λ (r : Roomy). r.volume) c.self.view_is) refl refl refl
     (sound-found v c.deref.result.now c.args.path.now index c.deref-2.result.now c.as_slice.result.now c.slots_of-latest.result.now c.args.offset c.args.bytes.now c.index_mut.result.now c.write.new.self c.self.invariant
     found c.deref.ensures.value c.deref-2.ensures.value c.as_slice.ensures c.slots_of-latest.ensures c.index_mut.ensures.value c.in_ok-write.ensures.ok)
+
+pub returns-then-len-eq0-clause-changed : goal.returns-then-len-eq0-clause-changed
+returns-then-len-eq0-clause-changed c =
+    let old = c.args.self.now.volume in
+    let files : c.deref.result.now ≡ old.files = c.deref.ensures.value ∙ ap (λ (r : Roomy). r.volume.files) c.self.view_is in
+    let found : FindsFile old.table old.files c.args.path.now (Ok c.in_ok-index.index) = subst (λ fs. FindsFile old.table fs c.args.path.now (Ok c.in_ok-index.index)) files (c.in_ok-index.ensures old.table) in
+    nothing_written old.files c.args.path.now c.args.offset (length c.args.bytes.now) c.in_ok-index.index found c.if-len-eq0.true
+
+pub returns-clause-changed : goal.returns-clause-changed
+returns-clause-changed c =
+    let v = volume_of c.self.inside in
+    let old = c.args.self.now.volume in
+    let index = c.in_ok-index.index in
+    let files : v.files ≡ old.files = ap (λ (r : Roomy). r.volume.files) c.self.view_is in
+    let found : FindsFile v.table v.files c.args.path.now (Ok index) = subst (λ fs. FindsFile v.table fs c.args.path.now (Ok index)) c.deref.ensures.value (c.in_ok-index.ensures v.table) in
+    let file = file_there v.table v.files c.deref.result.now c.args.path.now index c.index_mut.result.now (c.in_ok-index.ensures v.table) c.deref.ensures.value c.index_mut.ensures.value in
+    subst (λ fs. HasWritten c.args.path.now c.args.offset (length c.args.bytes.now) fs (set v.files index c.write.new.self)) files (record {
+      index = index;
+      leads = found;
+      file = c.write.new.self;
+      files = refl;
+      made = subst (λ (f : File). HasMade c.args.offset (length c.args.bytes.now) f.slots c.write.new.self.slots) file c.in_ok-write.ensures.ok.made;
+    })
