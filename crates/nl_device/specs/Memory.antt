@@ -1,5 +1,5 @@
 -- What the devices in memory hold.
-use Rattle.std.specs.Prelude.{ℕ, List, Option, None, slice_index_or}
+use Rattle.std.specs.Prelude.{None, slice_index_or}
 use Rattle.nl_device.specs.Pages.{Pages}
 use Rattle.nl_device.specs.declared.memory.MemDevice.{MemDevice}
 

@@ -6,3 +6,6 @@ pub mod Calls
 pub mod Worlds
 pub mod Runs
 pub mod Laws
+pub mod Segments
+pub mod Placing
+pub mod PlacingLaws

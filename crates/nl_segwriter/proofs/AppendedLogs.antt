@@ -1,0 +1,142 @@
+-- From staged logs to what an append leaves.
+use Rattle.std.proofs.Common.{◌≡◌, ℕ, ◌+◌, ◌*◌, ◌≤◌, List, [], ◌∷◌, ◌++◌, length, map, take, drop, Bool, ap, sym, ◌∙◌, arith, subst}
+use Rattle.std.proofs.Math.Nat.{mul-le-mul_right}
+use Rattle.std.proofs.lemmas.List.{length-map, map-append, length-take-le, take-append-drop, length-drop}
+use Rattle.std.specs.List.{AllByRecursion}
+use Rattle.nl_types.specs.declared.segment.Log.{Log}
+use Rattle.nl_types.specs.Segments.{Segments, AreTidy, total_blocks}
+use Rattle.nl_types.specs.Placing.{IsLog, AreNextLogs, Fits, first_block, addresses, payload_count, row_of, with_log, with_logs}
+use Rattle.nl_types.proofs.NextLogs.{placed, length-with_log}
+use Rattle.nl_types.proofs.UsedParts.{are_unused, payload_used}
+use Rattle.nl_device.specs.Pages.{Pages}
+use Rattle.nl_segwriter.specs.declared.staging.Staged.{Staged}
+use Rattle.nl_segwriter.specs.Content.{Content, Held, Payload, page_of, StandAt}
+use Rattle.nl_segwriter.specs.Logs.{WholeLog, StandsFrom}
+use Rattle.nl_segwriter.specs.Appended.{StandInLogs, KeepsOthers, IsAppended, IsBrokenOff}
+use Rattle.nl_segwriter.specs.Staging.{IsReady, AreStaged, AreSized, logs_of, whole_of}
+use Rattle.nl_segwriter.specs.Writing.{LogsStand, BreaksOff}
+use Rattle.nl_segwriter.proofs.Rows.{stand_row, stand-append}
+use Rattle.nl_segwriter.proofs.LogsWritten.{parts_of}
+
+pub sized : (blocks : ℕ) (logs : List Log) → AllByRecursion (IsLog blocks) logs → AreSized logs
+sized blocks [] h = tt
+sized blocks (log ∷ logs) h = ((h.0.some, h.0.most), sized blocks logs h.1)
+
+-- the numbers of logs are numbers of the device
+pub logs_inside : (logs : List Log) (s : Segments) (stamp limit : ℕ) → AreNextLogs s stamp logs → total_blocks s ≤ limit → AllByRecursion (λ log. first_block s.blocks log + 1 + log.count ≤ limit) logs
+logs_inside [] s stamp limit next most = tt
+logs_inside (log ∷ logs) s stamp limit next most =
+    let m : (log.segment + 1) * s.blocks ≤ length s.each * s.blocks = mul-le-mul_right s.blocks (let w = next.0.segment in omega (arith, w)) in
+    let inside = next.0.is_log.inside in
+    let size : total_blocks (with_log s log stamp) ≡ total_blocks s = ap (λ (n : ℕ). n * s.blocks) (length-with_log s log stamp) in
+    (omega (arith, m, inside, most), logs_inside logs (with_log s log stamp) stamp limit next.1 (omega (arith, size, most)))
+
+-- ---- what was staged
+
+pub staged_logs : (stamp checkpoint : ℕ) (logs : List Log) (items : List Payload) (xs : List Staged) → AreStaged stamp checkpoint logs items xs → logs_of xs ≡ logs
+staged_logs stamp checkpoint [] items xs h = ap logs_of h.1
+staged_logs stamp checkpoint (log ∷ logs) items [] h = absurd h
+staged_logs stamp checkpoint (log ∷ logs) items (x ∷ xs) h =
+    let a = h.0.log_is in let b = staged_logs stamp checkpoint logs (drop log.count items) xs h.1 in cc
+
+pub staged_ready : (stamp checkpoint : ℕ) (logs : List Log) (items : List Payload) (xs : List Staged) → AreStaged stamp checkpoint logs items xs → AllByRecursion IsReady xs
+staged_ready stamp checkpoint [] items [] h = tt
+staged_ready stamp checkpoint [] items (x ∷ xs) h = let e = h.1 in absurd (cc)
+staged_ready stamp checkpoint (log ∷ logs) items [] h = absurd h
+staged_ready stamp checkpoint (log ∷ logs) items (x ∷ xs) h = (h.0.ready, staged_ready stamp checkpoint logs (drop log.count items) xs h.1)
+
+pub staged_stamps : (stamp checkpoint : ℕ) (logs : List Log) (items : List Payload) (xs : List Staged) → AreStaged stamp checkpoint logs items xs → AllByRecursion (λ x. x.stamp ≡ stamp) xs
+staged_stamps stamp checkpoint [] items [] h = tt
+staged_stamps stamp checkpoint [] items (x ∷ xs) h = let e = h.1 in absurd (cc)
+staged_stamps stamp checkpoint (log ∷ logs) items [] h = absurd h
+staged_stamps stamp checkpoint (log ∷ logs) items (x ∷ xs) h =
+    (ap (λ (w : WholeLog). w.stamp) h.0.whole_is, staged_stamps stamp checkpoint logs (drop log.count items) xs h.1)
+
+stand_in_logs : (stamp checkpoint blocks : ℕ) (logs : List Log) (items : List Payload) (xs : List Staged) (held : Held) (stored : Pages) → AreStaged stamp checkpoint logs items xs → LogsStand blocks xs held stored
+    → StandInLogs blocks stamp checkpoint logs items held stored
+stand_in_logs stamp checkpoint blocks [] items xs held stored h stand = h.0
+stand_in_logs stamp checkpoint blocks (log ∷ logs) items [] held stored h stand = absurd h
+stand_in_logs stamp checkpoint blocks (log ∷ logs) items (x ∷ xs) held stored h stand =
+    let whole : WholeLog = record { stamp = stamp; checkpoint = checkpoint; payload = take log.count items } in
+    let at : StandsFrom (first_block blocks log) (whole_of x) held stored = subst (λ (l : Log). StandsFrom (first_block blocks l) (whole_of x) held stored) h.0.log_is stand.0 in
+    (subst (λ (w : WholeLog). StandsFrom (first_block blocks log) w held stored) h.0.whole_is at, stand_in_logs stamp checkpoint blocks logs (drop log.count items) xs held stored h.1 stand.1)
+
+-- ---- where the payload stands
+
+rest_count : (log : Log) (logs : List Log) (items : List Payload) → payload_count (log ∷ logs) ≡ length items → payload_count logs ≡ length (drop log.count items)
+rest_count log logs items e = let l = length-drop log.count items in omega (arith, l, e)
+
+held_at : (stamp checkpoint blocks : ℕ) (logs : List Log) (items : List Payload) (held : Held) (stored : Pages) → StandInLogs blocks stamp checkpoint logs items held stored → payload_count logs ≡ length items
+    → StandAt (addresses blocks logs) items held
+held_at stamp checkpoint blocks [] items held stored h e = subst (λ (xs : List Payload). StandAt [] xs held) (sym h) tt
+held_at stamp checkpoint blocks (log ∷ logs) items held stored h e =
+    let long : length (take log.count items) ≡ log.count = length-take-le log.count items (omega (arith, e)) in
+    let row = stand_row (first_block blocks log + 1) log.count (take log.count items) held long h.0.payload in
+    let more = held_at stamp checkpoint blocks logs (drop log.count items) held stored h.1 (rest_count log logs items e) in
+    subst (λ (xs : List Payload). StandAt (row_of (first_block blocks log + 1) log.count ++ addresses blocks logs) xs held) (take-append-drop log.count items)
+    (stand-append (row_of (first_block blocks log + 1) log.count) (addresses blocks logs) _ _ held row more)
+
+stored_at : (stamp checkpoint blocks : ℕ) (logs : List Log) (items : List Payload) (held : Held) (stored : Pages) → StandInLogs blocks stamp checkpoint logs items held stored → payload_count logs ≡ length items
+    → StandAt (addresses blocks logs) (map page_of items) stored
+stored_at stamp checkpoint blocks [] items held stored h e = subst (λ (xs : List Payload). StandAt [] (map page_of xs) stored) (sym h) tt
+stored_at stamp checkpoint blocks (log ∷ logs) items held stored h e =
+    let front : List Payload = take log.count items in
+    let rest : List Payload = drop log.count items in
+    let long : length (map page_of front) ≡ log.count = length-map front page_of ∙ length-take-le log.count items (omega (arith, e)) in
+    let row = stand_row (first_block blocks log + 1) log.count (map page_of front) stored long h.0.pages in
+    let more = stored_at stamp checkpoint blocks logs rest held stored h.1 (rest_count log logs items e) in
+    subst (λ (xs : List (List ℕ)). StandAt (row_of (first_block blocks log + 1) log.count ++ addresses blocks logs) xs stored)
+    (sym (map-append page_of front rest) ∙ ap (map page_of) (take-append-drop log.count items))
+    (stand-append (row_of (first_block blocks log + 1) log.count) (addresses blocks logs) _ _ stored row more)
+
+-- ---- what an append leaves
+
+-- the logs of an append, planned and staged
+pub record Plan (s : Segments) (reserve : Bool) (stamp checkpoint : ℕ) (items : List Payload) (logs : List Log) (xs : List Staged) : Type 0 where
+  pub tidy : AreTidy s
+  pub fits : Fits s reserve (length items) logs
+  pub staged : AreStaged stamp checkpoint logs items xs
+
+pub next_logs : (s : Segments) (reserve : Bool) (stamp checkpoint : ℕ) (items : List Payload) (logs : List Log) (xs : List Staged) → Plan s reserve stamp checkpoint items logs xs → AreNextLogs s stamp logs
+next_logs s reserve stamp checkpoint items logs xs plan = (placed s reserve (length items) stamp logs plan.tidy plan.fits).next
+
+pub next_staged : (s : Segments) (reserve : Bool) (stamp checkpoint : ℕ) (items : List Payload) (logs : List Log) (xs : List Staged) → Plan s reserve stamp checkpoint items logs xs → AreNextLogs s stamp (logs_of xs)
+next_staged s reserve stamp checkpoint items logs xs plan =
+    subst (AreNextLogs s stamp) (sym (staged_logs stamp checkpoint logs items xs plan.staged)) (next_logs s reserve stamp checkpoint items logs xs plan)
+
+pub is_appended : (old new : Content) (reserve : Bool) (stamp checkpoint : ℕ) (items : List Payload) (logs : List Log) (xs : List Staged) (numbers : List ℕ) → Plan old.segments reserve stamp checkpoint items logs xs
+    → numbers ≡ addresses old.segments.blocks logs → new.segments ≡ with_logs old.segments (logs_of xs) stamp → LogsStand old.segments.blocks xs new.held new.stored → KeepsOthers old.segments.blocks (logs_of xs) old new
+    → IsAppended old new reserve stamp checkpoint items numbers
+is_appended old new reserve stamp checkpoint items logs xs numbers plan at table stand others =
+    let s : Segments = old.segments in
+    let next = next_logs s reserve stamp checkpoint items logs xs plan in
+    let same : logs_of xs ≡ logs = staged_logs stamp checkpoint logs items xs plan.staged in
+    let segments : new.segments ≡ with_logs s logs stamp = table ∙ ap (λ (l : List Log). with_logs s l stamp) same in
+    let in_logs = stand_in_logs stamp checkpoint s.blocks logs items xs new.held new.stored plan.staged stand in
+    let used = payload_used logs s stamp plan.tidy next in
+    record {
+      logs = logs;
+      fits = plan.fits;
+      segments = segments;
+      logs_stand = in_logs;
+      at = at;
+      unused_before = rw at (are_unused (length items) logs s stamp plan.tidy next plan.fits.total);
+      used_now = rw (at, segments) used.1;
+      held = rw at (held_at stamp checkpoint s.blocks logs items new.held new.stored in_logs plan.fits.total);
+      stored = rw at (stored_at stamp checkpoint s.blocks logs items new.held new.stored in_logs plan.fits.total);
+      others = subst (λ (l : List Log). KeepsOthers s.blocks l old new) same others;
+    }
+
+pub is_broken_off : (old new : Content) (reserve : Bool) (stamp checkpoint : ℕ) (items : List Payload) (logs : List Log) (xs : List Staged) → Plan old.segments reserve stamp checkpoint items logs xs
+    → BreaksOff old.segments new.segments stamp (logs_of xs) → KeepsOthers old.segments.blocks (logs_of xs) old new → IsBrokenOff old new reserve stamp checkpoint items
+is_broken_off old new reserve stamp checkpoint items logs xs plan broken others =
+    let same : logs_of xs ≡ logs = staged_logs stamp checkpoint logs items xs plan.staged in
+    let parts = parts_of (logs_of xs) old.segments new.segments stamp broken in
+    record {
+      written = parts.written;
+      failed = parts.failed;
+      left = parts.left;
+      fits = subst (Fits old.segments reserve (length items)) (sym same ∙ parts.all) plan.fits;
+      segments = parts.segments;
+      others = subst (λ (l : List Log). KeepsOthers old.segments.blocks l old new) parts.all others;
+    }

@@ -1,0 +1,51 @@
+-- Whole logs: each a summary block, and its payload right behind it.
+use Rattle.std.specs.Prelude.{◌≡◌, ℕ, ◌+◌, ◌*◌, ◌<◌, Bool, true, false, List, [], ◌∷◌, length, map, Some, None}
+use Rattle.nl_types.specs.declared.segment.SegmentState.{SegmentState}
+use Rattle.nl_types.specs.declared.segment.SegmentState.TheVariants.{Clean, Dirty, Active, Error}
+use Rattle.nl_types.specs.Segments.{Segments, info_of}
+use Rattle.nl_device.specs.Pages.{Pages}
+use Rattle.nl_layout.specs.Summary.{Contents, SummaryFits, summary_bytes}
+use Rattle.nl_segwriter.specs.Content.{Payload, Held, Content, tag_of, page_of, StandInRow}
+
+-- what a log says: its moment, a checkpoint number, and its payload
+pub record WholeLog : Type 0 where
+  pub stamp : ℕ
+  pub checkpoint : ℕ
+  pub payload : List Payload
+
+-- what its summary says
+abbrev pub contents_of : WholeLog → Contents
+contents_of log = record { stamp = log.stamp; checkpoint = log.checkpoint; tags = map tag_of log.payload }
+
+-- The log stands from block b on. The device has its summary there, where memory has no payload. Behind it the payload
+-- stands in memory, and its pages on the device.
+pub record StandsFrom (b : ℕ) (log : WholeLog) (held : Held) (stored : Pages) : Type 0 where
+  pub fits : SummaryFits (contents_of log)
+  pub summary : stored b ≡ Some (summary_bytes (contents_of log))
+  pub no_payload : held b ≡ None
+  pub payload : StandInRow (b + 1) log.payload held
+  pub pages : StandInRow (b + 1) (map page_of log.payload) stored
+
+-- the logs stand one right behind another, from block b up to the end
+abbrev pub FillUpTo : ℕ → ℕ → List WholeLog → Held → Pages → Type 0
+FillUpTo b end [] held stored = b ≡ end
+FillUpTo b end (log ∷ logs) held stored = StandsFrom b log held stored × FillUpTo (b + 1 + length log.payload) end logs held stored
+
+-- the used part of a segment is these logs
+abbrev pub IsFilledBy : Content → ℕ → List WholeLog → Type 0
+IsFilledBy c i logs = FillUpTo (i * c.segments.blocks) (i * c.segments.blocks + (info_of c.segments.each i).used) logs c.held c.stored
+
+-- the used part of each segment is whole logs
+abbrev pub AreWholeLogs : Content → Type 0
+AreWholeLogs c = (i : ℕ) → ∥ ((logs : List WholeLog) × IsFilledBy c i logs) ∥₁
+
+-- a segment in such a state has a log
+abbrev pub has_logs : SegmentState → Bool
+has_logs Clean = false
+has_logs Dirty = true
+has_logs Active = true
+has_logs Error = false
+
+-- a segment that is neither clean nor in error has logs
+abbrev pub HaveLogs : Segments → Type 0
+HaveLogs s = (i : ℕ) → has_logs (info_of s.each i).state ≡ true → 0 < (info_of s.each i).used

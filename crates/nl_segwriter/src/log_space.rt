@@ -1,0 +1,202 @@
+//! Space as logs on a device.
+ghost use Rattle.std.specs.Prelude.{◌≡◌, ◌+◌, ◌*◌, ◌<◌, ◌≤◌, ◌⊎◌, OnOk, OnErr, IfOk, IsOkUnless, Some, ℕ, length};
+ghost use Rattle.std.specs.List.{AllByRecursion};
+ghost use Rattle.nl_types.specs.Segments.{StaysUsed, active_place, info_of, lowest_clean, with_active, with_error};
+ghost use Rattle.nl_types.specs.Placing.{IsNextLog, AreNextLogs, first_block, with_log, with_logs};
+ghost use Rattle.nl_segwriter.specs.Content.{HoldsOnlyUsed, KeepsUsed, new_content};
+ghost use Rattle.nl_segwriter.specs.Logs.{AreWholeLogs, HaveLogs, StandsFrom};
+ghost use Rattle.nl_segwriter.specs.Appended.{KeepsOthers};
+ghost use Rattle.nl_segwriter.specs.Staging.{IsReady, logs_of, whole_of};
+ghost use Rattle.nl_segwriter.specs.Writing.{held_in, content_of, SameOutsideLog, LogsStand, BreaksOff};
+
+use crate::numbers::numbers_of;
+use crate::payload::{Payload, drop_row, hold_row, no_payload};
+use crate::put::put_row;
+use crate::space::Space;
+use crate::staging::{Staged, stage};
+use nl_device::{Device, DeviceError, Fault};
+use nl_sufile::SegTable;
+use nl_types::{BlockNumber, CheckpointNumber, Geometry, Items, Page, Position, Segment, VolError};
+use std::alloc::Global;
+
+/// Logs on a device, and their payload in memory.
+#[derive(Drop)]
+pub struct LogSpace<D: Device> {
+    device: D,
+    table: SegTable,
+    payload: Items<Option<Payload>>,
+    ghost segment_size: { table.blocks ≡ (D.shape device).blocks },
+    ghost segment_count: { length table.each ≡ (D.shape device).segments },
+    ghost sized: { length payload ≡ (D.shape device).segments * (D.shape device).blocks },
+    ghost unheld: { HoldsOnlyUsed (content_of table payload (D.pages device)) },
+    ghost logged: { HaveLogs table },
+    ghost whole: { AreWholeLogs (content_of table payload (D.pages device)) },
+}
+
+impl<D: Device> LogSpace<D> {
+    /// A space of clean segments on a device of this geometry. Refused by `Memory` alone; the device is dropped then.
+    pub fn new(alloc: Global, device: D, geometry: Geometry) -> Result<Self, VolError>
+        requires { D.shape device ≡ geometry }
+        ensures content { IfOk result (λ s. ⟦<LogSpace<D> as Space>⟧.content s ≡ new_content geometry (D.pages device)) }
+        ensures failures { IfOk result (λ s. ⟦<LogSpace<D> as Space>⟧.failure_count s ≡ D.failure_count device) }
+        ensures refused { IsOkUnless result VolError.Memory }
+    {
+        let table = SegTable::new(alloc, geometry)?;
+        let payload = no_payload(alloc, geometry.total())?;
+        Ok(LogSpace {
+            device,
+            table,
+            payload,
+        })
+    }
+
+    // Writes one log. Where that fails, its segment is in error.
+    fn write_log(&mut self, staged: Staged) -> Result<(), Fault>
+        requires next { IsNextLog self.old.table staged.log }
+        requires ready { IsReady staged }
+        ensures table { OnOk result (self.new.table ≡ with_log self.old.table staged.log staged.stamp) }
+        ensures stands { OnOk result (StandsFrom (first_block self.old.table.blocks staged.log) (whole_of staged) (held_in self.new.payload) (D.pages self.new.device)) }
+        ensures broken { OnErr result (self.new.table ≡ with_error self.old.table staged.log.segment) }
+        ensures failed { OnErr result (D.failure_count self.old.device < D.failure_count self.new.device) }
+        ensures counted { D.failure_count self.old.device ≤ D.failure_count self.new.device }
+        ensures others { SameOutsideLog self.old.table.blocks staged.log (content_of self.old.table self.old.payload (D.pages self.old.device)) (content_of self.new.table self.new.payload (D.pages self.new.device)) }
+    {
+        let Staged {
+            log,
+            stamp,
+            checkpoint: _,
+            pages,
+            payload,
+        } = staged;
+        self.table.limits_hold();
+        let first = log.segment.get() * self.table.blocks() + log.first;
+        let start = Position {
+            segment: log.segment,
+            block: log.first,
+        };
+        take_segment(&mut self.table, start);
+        match put_row(&mut self.device, first, pages) {
+            Ok(()) => {
+                hold_row(&mut self.payload, first as usize + 1, payload);
+                self.table.add_log(log, stamp);
+                Ok(())
+            }
+            Err(_) => {
+                self.table.mark_error(log.segment);
+                Err(Fault)
+            }
+        }
+    }
+
+    // Writes logs, all of one moment. Where one fails, those before it stay.
+    fn write_logs(&mut self, all: Vec<Staged>, now: u64) -> Result<(), Fault>
+        requires next { AreNextLogs self.old.table now (logs_of all.items) }
+        requires ready { AllByRecursion IsReady all.items }
+        requires stamps { AllByRecursion (λ x. x.stamp ≡ now) all.items }
+        ensures table { OnOk result (self.new.table ≡ with_logs self.old.table (logs_of all.items) now) }
+        ensures stand { OnOk result (LogsStand self.old.table.blocks all.items (held_in self.new.payload) (D.pages self.new.device)) }
+        ensures broken { OnErr result (BreaksOff self.old.table self.new.table now (logs_of all.items)) }
+        ensures failed { OnErr result (D.failure_count self.old.device < D.failure_count self.new.device) }
+        ensures counted { D.failure_count self.old.device ≤ D.failure_count self.new.device }
+        ensures others { KeepsOthers self.old.table.blocks (logs_of all.items) (content_of self.old.table self.old.payload (D.pages self.old.device)) (content_of self.new.table self.new.payload (D.pages self.new.device)) }
+        ensures kept { KeepsUsed self.old.table (content_of self.old.table self.old.payload (D.pages self.old.device)) (content_of self.new.table self.new.payload (D.pages self.new.device)) }
+        ensures stays { StaysUsed self.old.table self.new.table }
+    {
+        self.table.limits_hold();
+        for staged in all {
+            self.write_log(staged)?;
+        }
+        Ok(())
+    }
+}
+
+// Takes the segment of a log that is to start there, where it doesn't go on in the active one.
+fn take_segment(table: &mut SegTable, start: Position)
+    requires { (active_place table.old ≡ Some start) ⊎ (lowest_clean table.old ≡ Some start.segment) }
+    ensures with_active { (stamp used : ℕ) → with_active table.new start.segment stamp used ≡ with_active table.old start.segment stamp used }
+    ensures with_error { with_error table.new start.segment ≡ with_error table.old start.segment }
+    ensures size { (table.new.blocks ≡ table.old.blocks) × (length table.new.each ≡ length table.old.each) }
+{
+    table.limits_hold();
+    if table.active_place() != Some(start) {
+        let _ = table.take_clean();
+    }
+}
+
+// How many blocks of a segment are used.
+fn used_of(table: &SegTable, segment: Segment) -> u32
+    requires { segment < length table.now.each }
+    ensures { result ≡ (info_of table.now.each segment).used }
+{
+    match table.suinfo(segment) {
+        Ok(info) => info.used,
+        Err(_) => unreachable!(),
+    }
+}
+
+impl<D: Device> Space for LogSpace<D> {
+    ghost content = { λ s. content_of s.table s.payload (D.pages s.device) };
+
+    ghost failure_count = { λ s. D.failure_count s.device };
+
+    fn append(
+        &mut self,
+        alloc: Global,
+        items: &[Payload],
+        checkpoint: CheckpointNumber,
+        now: u64,
+        reserve: bool,
+    ) -> Result<Vec<BlockNumber>, VolError> {
+        self.table.limits_hold();
+        let planned = self.table.place(alloc, items.len(), reserve)?;
+        let logs = planned.as_slice();
+        let numbers = numbers_of(alloc, self.table.blocks(), logs)?;
+        let all = stage(alloc, logs, items, checkpoint, now)?;
+        match self.write_logs(all, now) {
+            Ok(()) => Ok(numbers),
+            Err(_) => Err(VolError::Fault),
+        }
+    }
+
+    fn page(&self, number: BlockNumber) -> Option<&Page> {
+        match self.payload.as_slice().get(number.get() as usize) {
+            Some(Some((_, page))) => Some(page),
+            _ => None,
+        }
+    }
+
+    fn load(&mut self, number: BlockNumber) -> Result<Page, VolError> {
+        self.table.limits_hold();
+        match self.device.get(number) {
+            Ok(Some(page)) => Ok(page),
+            Ok(None) => unreachable!(),
+            Err(DeviceError::Fault) => Err(VolError::Fault),
+            Err(DeviceError::Memory) => Err(VolError::Memory),
+        }
+    }
+
+    fn table(&self) -> &SegTable {
+        &self.table
+    }
+
+    fn summary(&self, segment: Segment) -> &[Option<Payload>] {
+        self.table.limits_hold();
+        let used = used_of(&self.table, segment) as usize;
+        let first = segment.get() as usize * self.table.blocks() as usize;
+        &self.payload.as_slice()[first..first + used]
+    }
+
+    fn free(&mut self, segment: Segment) {
+        self.table.limits_hold();
+        let blocks = self.table.blocks() as usize;
+        self.device.clear(segment);
+        drop_row(&mut self.payload, segment.get() as usize * blocks, blocks);
+        self.table.mark_clean(segment);
+    }
+
+    ghost holds_only_used = { λ s. s.unheld };
+
+    ghost whole_logs = { λ s. s.whole };
+
+    ghost have_logs = { λ s. s.logged };
+}

@@ -1,0 +1,32 @@
+//! The numbers of payload blocks.
+ghost use Rattle.std.specs.Prelude.{◌≡◌, ◌+◌, ◌*◌, ◌<◌, ◌≤◌, ◌++◌, ◌^◌, IfOk, OnOk};
+ghost use Rattle.std.specs.List.{AllByRecursion};
+ghost use Rattle.nl_types.specs.Segments.{total_blocks};
+ghost use Rattle.nl_types.specs.Placing.{addresses, row_of, first_block};
+
+use nl_types::{BlockNumber, Log};
+use std::alloc::{AllocError, Global};
+
+// The numbers of one log's payload.
+fn push_row(numbers: &mut Vec<BlockNumber>, blocks: u32, log: Log) -> Result<(), AllocError>
+    requires { first_block blocks log + 1 + log.count ≤ 262144 }
+    ensures { OnOk result (numbers.new.items ≡ numbers.old.items ++ row_of (first_block blocks log + 1) log.count) }
+{
+    let first = log.segment.get() * blocks + log.first + 1;
+    for k in 0..log.count {
+        numbers.push(BlockNumber::new(first + k))?;
+    }
+    Ok(())
+}
+
+/// The numbers of the payload blocks of these logs, in order, in segments of so many blocks.
+pub fn numbers_of(alloc: Global, blocks: u32, logs: &[Log]) -> Result<Vec<BlockNumber>, AllocError>
+    requires { AllByRecursion (λ log. first_block blocks log + 1 + log.count ≤ 262144) logs.now }
+    ensures { IfOk result (λ numbers. numbers.items ≡ addresses blocks logs.now) }
+{
+    let mut numbers = Vec::new(alloc);
+    for log in logs {
+        push_row(&mut numbers, blocks, *log)?;
+    }
+    Ok(numbers)
+}

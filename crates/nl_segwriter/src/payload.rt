@@ -1,0 +1,51 @@
+//! Payload in memory, by block number.
+ghost use Rattle.std.specs.Prelude.{◌≡◌, ◌+◌, ◌≤◌, length, vec_len, replicate, IfOk, None};
+ghost use Rattle.nl_segwriter.specs.Content.{StandInRow, SameOutside, IsEmptied};
+ghost use Rattle.nl_segwriter.specs.Writing.{held_in};
+
+use nl_layout::Tag;
+use nl_types::{Items, Page};
+use std::alloc::{AllocError, Global};
+
+/// A payload block: what its log's summary says of it, and its page.
+pub type Payload = (Tag, Page);
+
+/// A table of so many blocks without payload.
+pub fn no_payload(alloc: Global, total: u32) -> Result<Items<Option<Payload>>, AllocError>
+    ensures { IfOk result (λ table. table ≡ replicate total None) }
+{
+    let mut blocks = Vec::with_capacity(alloc, total as usize)?;
+    for _ in 0..total {
+        blocks.push(None)?;
+    }
+    Ok(Items::from_vec(blocks))
+}
+
+/// Keeps payload in a row, the first at a number.
+pub fn hold_row(table: &mut Items<Option<Payload>>, first: usize, payload: Items<Payload>)
+    requires { first + length payload ≤ length table.old }
+    ensures there { StandInRow first payload (held_in table.new) }
+    ensures others { SameOutside first (length payload) (held_in table.old) (held_in table.new) }
+    ensures size { length table.new ≡ length table.old }
+{
+    // As the table's length is a number, so is each index.
+    let _ = table.len();
+    let mut number = first;
+    for item in payload.into_vec() {
+        table.set(number, Some(item));
+        number += 1;
+    }
+}
+
+/// Gives the payload in a row up.
+pub fn drop_row(table: &mut Items<Option<Payload>>, first: usize, count: usize)
+    requires { first + count ≤ length table.old }
+    ensures emptied { IsEmptied first count (held_in table.old) (held_in table.new) }
+    ensures size { length table.new ≡ length table.old }
+{
+    // As the table's length is a number, so is each index.
+    let _ = table.len();
+    for number in first..first + count {
+        table.set(number, None);
+    }
+}

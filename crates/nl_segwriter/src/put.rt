@@ -1,0 +1,33 @@
+//! Pages put on the device, one after another.
+ghost use Rattle.std.specs.Prelude.{◌≡◌, ◌+◌, ◌*◌, ◌<◌, ◌≤◌, length, OnOk, OnErr, IfErr};
+ghost use Rattle.nl_segwriter.specs.Writing.{HasPut, HasTried};
+
+use nl_device::Device;
+use nl_types::{BlockNumber, Items, Page};
+
+/// A put failed. Nothing is known of the block that it was for.
+#[derive(Clone, Copy, Debug, PartialEq, Eq)]
+pub struct PutFailed {
+    /// How many puts were tried, the failed one included.
+    pub tried: u32,
+}
+
+/// Puts the pages at the numbers from `first` on, in order.
+pub fn put_row<D: Device>(device: &mut D, first: u32, pages: Items<Page>) -> Result<(), PutFailed>
+    requires { first + length pages ≤ (D.shape device.old).segments * (D.shape device.old).blocks }
+    ensures put { OnOk result (HasPut first pages (D.pages device.old) (D.pages device.new)) }
+    ensures tried { IfErr result (λ e. HasTried first e.tried pages (D.pages device.old) (D.pages device.new)) }
+    ensures failed { OnErr result (D.failure_count device.old < D.failure_count device.new) }
+    ensures counted { D.failure_count device.old ≤ D.failure_count device.new }
+    ensures shape { D.shape device.new ≡ D.shape device.old }
+{
+    let mut tried = 0;
+    for page in pages.into_vec() {
+        let number = BlockNumber::new(first + tried);
+        tried += 1;
+        if device.put(number, page).is_err() {
+            return Err(PutFailed { tried });
+        }
+    }
+    Ok(())
+}

@@ -1,0 +1,103 @@
+//! Logs made ready to be written: all that needs memory is done here.
+ghost use Rattle.std.specs.Prelude.{◌≡◌, ◌≤◌, length, map, IfOk};
+ghost use Rattle.nl_types.specs.Placing.{payload_count};
+ghost use Rattle.nl_layout.specs.Summary.{Spells};
+ghost use Rattle.nl_segwriter.specs.Content.{tag_of};
+
+use crate::payload::Payload;
+use nl_layout::{Summary, Tag};
+use nl_types::{BLOCK_SIZE, Block, CheckpointNumber, Items, Log, Page};
+use std::alloc::{AllocError, Global};
+
+/// A log with what it needs to be written.
+#[derive(Drop)]
+pub struct Staged {
+    pub log: Log,
+    pub stamp: u64,
+    pub checkpoint: CheckpointNumber,
+    /// For the device: the summary's page, and those of the payload.
+    pub pages: Items<Page>,
+    /// For memory.
+    pub payload: Items<Payload>,
+}
+
+ghost use Rattle.nl_segwriter.specs.Staging.{IsStaged, AreStaged, AreSized};
+
+// What a summary says of the items.
+fn tags_of(alloc: Global, items: &[Payload]) -> Result<Vec<Tag>, AllocError>
+    ensures { IfOk result (λ tags. tags.items ≡ map tag_of items.now) }
+{
+    let mut tags = Vec::new(alloc);
+    for (tag, _) in items {
+        tags.push(*tag)?;
+    }
+    Ok(tags)
+}
+
+// The page with the summary of a log of these items.
+fn summary_page(
+    alloc: Global,
+    items: &[Payload],
+    checkpoint: CheckpointNumber,
+    stamp: u64,
+) -> Result<Page, AllocError>
+    requires some { 1 ≤ length items.now }
+    requires most { length items.now ≤ 30 }
+    ensures { IfOk result (λ page. Spells page (record { stamp = stamp; checkpoint = checkpoint; tags = map tag_of items.now })) }
+{
+    let tags = tags_of(alloc, items)?;
+    let mut bytes = [0; BLOCK_SIZE];
+    Summary::new(stamp, checkpoint, &tags).write(&mut bytes);
+    Page::new(alloc, Block::new(bytes))
+}
+
+// One log of these items.
+fn stage_log(
+    alloc: Global,
+    log: Log,
+    items: &[Payload],
+    checkpoint: CheckpointNumber,
+    stamp: u64,
+) -> Result<Staged, AllocError>
+    requires count { length items.now ≡ log.count }
+    requires some { 1 ≤ log.count }
+    requires most { log.count ≤ 30 }
+    ensures { IfOk result (IsStaged log (record { stamp = stamp; checkpoint = checkpoint; payload = items.now })) }
+{
+    let mut pages = Items::new(alloc);
+    pages.push(summary_page(alloc, items, checkpoint, stamp)?)?;
+    let mut payload = Items::new(alloc);
+    for (tag, page) in items {
+        pages.push(page.share()?)?;
+        payload.push((*tag, page.share()?))?;
+    }
+    Ok(Staged {
+        log,
+        stamp,
+        checkpoint,
+        pages,
+        payload,
+    })
+}
+
+/// The logs, with the items shared out to them in order.
+pub fn stage(
+    alloc: Global,
+    logs: &[Log],
+    items: &[Payload],
+    checkpoint: CheckpointNumber,
+    stamp: u64,
+) -> Result<Vec<Staged>, AllocError>
+    requires sized { AreSized logs.now }
+    requires count { payload_count logs.now ≡ length items.now }
+    ensures { IfOk result (λ all. AreStaged stamp checkpoint logs.now items.now all.items) }
+{
+    let mut all = Vec::new(alloc);
+    let mut rest = items;
+    for log in logs {
+        let (part, others) = rest.split_at(log.count as usize);
+        all.push(stage_log(alloc, *log, part, checkpoint, stamp)?)?;
+        rest = others;
+    }
+    Ok(all)
+}

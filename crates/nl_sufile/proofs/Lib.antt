@@ -1,0 +1,2 @@
+pub mod NextLog
+pub mod ActiveSegment

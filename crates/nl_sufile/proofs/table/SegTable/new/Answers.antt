@@ -1,0 +1,5 @@
+use Rattle.nl_sufile.proofs.ActiveSegment.{table_new}
+use Rattle.nl_sufile.proofs.table.SegTable.new.Goals as goal
+
+pub invariant_of-result : goal.invariant_of-result
+invariant_of-result c = rw c.in_ok-each.ensures (table_new c.args.geometry)

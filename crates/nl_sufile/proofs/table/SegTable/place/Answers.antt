@@ -1,0 +1,8 @@
+use Rattle.nl_types.specs.Segments.{Segments}
+use Rattle.nl_sufile.proofs.ActiveSegment.{active_inside}
+use Rattle.nl_sufile.proofs.table.SegTable.place.Goals as goal
+
+pub place_on-requires-clause-inside : goal.place_on-requires-clause-inside
+place_on-requires-clause-inside c =
+    let s : Segments = record { blocks = c.self.inside.blocks; each = c.self.inside.each } in
+    rw (c.active_place-left.ensures, ← c.self.view_is) (active_inside s c.self.invariant.0)

@@ -1,0 +1,22 @@
+-- What a table of segments keeps.
+use Rattle.std.specs.Prelude.{◌≡◌, ℕ, ◌<◌, ◌≤◌, ◌⊎◌, true, List, length, Option, Some}
+use Rattle.nl_types.specs.declared.error.VolError.{VolError}
+use Rattle.nl_types.specs.declared.error.VolError.TheVariants.{NoSpace, Memory}
+use Rattle.nl_types.specs.declared.segment.SegmentInfo.{SegmentInfo}
+use Rattle.nl_types.specs.Segments.{Segments, AreTidy, info_of, is_active}
+
+-- what is true of every table
+pub record IsTable (s : Segments) : Type 0 where
+  pub few_blocks : 4 ≤ s.blocks
+  pub many_blocks : s.blocks ≤ 2048
+  pub many_segments : length s.each ≤ 4096
+  pub tidy : AreTidy s
+
+-- this segment is the active one, if one is
+pub record IsActiveIn (each : List SegmentInfo) (active : Option ℕ) : Type 0 where
+  pub there : (a : ℕ) → active ≡ Some a → (a < length each) × (is_active (info_of each a).state ≡ true)
+  pub only : (i : ℕ) → is_active (info_of each i).state ≡ true → active ≡ Some i
+
+-- why no logs are answered
+abbrev pub IsNoSpaceOrMemory : VolError → Type 0
+IsNoSpaceOrMemory e = (e ≡ NoSpace) ⊎ (e ≡ Memory)

@@ -1,0 +1,243 @@
+//! The table of segments.
+ghost use Rattle.std.specs.Prelude.{◌≡◌, ◌<◌, ◌≤◌, ◌+◌, length, IfOk, IfErr, IsErrOf, IfSome, IfNone, IsOkUnless, OnOk, slice_get, replicate};
+ghost use Rattle.std.specs.Option.{ok_or};
+ghost use Rattle.nl_types.specs.Segments.{active_place, clean_from, clean_segments as clean_numbers, clean_info, info_of, lowest_clean, none_active, with_active, with_clean, with_error};
+ghost use Rattle.nl_types.specs.Placing.{Fits, LacksSpace, end_of, with_log};
+ghost use Rattle.nl_sufile.specs.Table.{IsTable, IsActiveIn, IsNoSpaceOrMemory};
+
+use crate::placing::{clean_segments, place_on};
+use nl_types::{Geometry, Items, Log, Position, Segment, SegmentInfo, SegmentState, VolError};
+use std::alloc::{AllocError, Global};
+use std::marker::Model;
+
+/// What is known of each segment. Contracts see the segments' size, and the list of what is known of each.
+#[derive(Drop)]
+pub struct SegTable {
+    blocks: u32,
+    each: Items<SegmentInfo>,
+    active: Option<Segment>,
+}
+
+impl Model for SegTable {
+    ghost use Rattle.nl_types.specs.Segments.{Segments};
+    ghost use Rattle.nl_sufile.specs.Table.{IsTable, IsActiveIn};
+
+    ghost Value = { Segments };
+
+    ghost view = { λ table. record { blocks = table.blocks; each = table.each } };
+
+    ghost invariant = { λ table. IsTable (record { blocks = table.blocks; each = table.each }) × IsActiveIn table.each table.active };
+}
+
+/// How many segments there are, and of them how many are clean, and how many dirty. An active segment and one in error
+/// count as dirty.
+#[derive(Clone, Copy, Debug, PartialEq, Eq)]
+pub struct Sustat {
+    pub segments: usize,
+    pub clean: usize,
+    pub dirty: usize,
+}
+
+impl SegTable {
+    /// A table of clean segments, refused by `Memory` alone.
+    pub fn new(alloc: Global, geometry: Geometry) -> Result<SegTable, VolError>
+        ensures clean { IfOk result (λ table. table ≡ record { blocks = geometry.blocks; each = replicate geometry.segments clean_info }) }
+        ensures refused { IsOkUnless result VolError.Memory }
+    {
+        let each = clean_table(alloc, geometry.segments)?;
+        Ok(SegTable {
+            blocks: geometry.blocks,
+            each,
+            active: None,
+        })
+    }
+
+    /// Does nothing: its contract tells what is true of every table.
+    pub fn limits_hold(&self)
+        ensures { IsTable self.now }
+    {
+        let _ = &self.blocks;
+    }
+
+    /// How many blocks a segment has.
+    pub fn blocks(&self) -> u32
+        ensures { result ≡ self.now.blocks }
+    {
+        self.blocks
+    }
+
+    /// What is known of a segment. Refused by `BadRange` where there is no such segment. Takes no memory.
+    pub fn suinfo(&self, segment: Segment) -> Result<SegmentInfo, VolError>
+        ensures info { result ≡ ok_or (slice_get self.now.each segment) VolError.BadRange }
+        ensures inside { OnOk result (segment < length self.now.each) }
+        ensures known { IfOk result (λ info. info ≡ info_of self.now.each segment) }
+    {
+        match self.each.as_slice().get(segment.get() as usize) {
+            Some(info) => Ok(*info),
+            None => Err(VolError::BadRange),
+        }
+    }
+
+    /// Counts the segments. Takes no memory.
+    pub fn sustat(&self) -> Sustat
+        ensures segments { result.segments ≡ length self.now.each }
+        ensures clean { result.clean ≡ length (clean_numbers self.now) }
+        ensures dirty { result.dirty + result.clean ≡ result.segments }
+    {
+        let clean = count_clean(self.each.as_slice());
+        let segments = self.each.len();
+        Sustat {
+            segments,
+            clean,
+            dirty: segments - clean,
+        }
+    }
+
+    /// The first unused block of the active segment, if one is active. It may be the end of the segment.
+    pub fn active_place(&self) -> Option<Position>
+        ensures { result ≡ active_place self.now }
+    {
+        let segment = self.active?;
+        let info = self.each.as_slice()[segment.get() as usize];
+        Some(Position {
+            segment,
+            block: info.used,
+        })
+    }
+
+    /// The logs that `n` payload blocks go into: the active segment is filled, and then the lowest clean ones, by logs of
+    /// at most 30. A checkpoint, with `reserve`, leaves two clean segments where it takes any. Refused by `NoSpace` where
+    /// no list of logs fits, and by `Memory`.
+    pub fn place(&self, alloc: Global, n: usize, reserve: bool) -> Result<Vec<Log>, VolError>
+        ensures fits { IfOk result (λ logs. Fits self.now reserve n logs.items) }
+        ensures no_space { IsErrOf result VolError.NoSpace → LacksSpace self.now reserve n }
+        ensures errors { IfErr result IsNoSpaceOrMemory }
+    {
+        let left = self.active_place();
+        let clean = clean_segments(alloc, self.each.as_slice())?;
+        let spare = if reserve {
+            clean.len().saturating_sub(2)
+        } else {
+            clean.len()
+        };
+        place_on(alloc, self.blocks, left, &clean[..spare], n)
+    }
+
+    /// Takes the lowest clean segment, which alone is active then, if one is clean. It has no logs yet.
+    pub fn take_clean(&mut self) -> Option<Segment>
+        ensures lowest { result ≡ lowest_clean self.old }
+        ensures taken { IfSome result (λ segment. self.new ≡ with_active self.old segment 0 0) }
+        ensures none { IfNone result (self.new ≡ self.old) }
+    {
+        let segment = first_clean(self.each.as_slice())?;
+        self.make_active(segment, 0, 0);
+        Some(segment)
+    }
+
+    /// A log was written, at a moment: its segment alone is active, and used up to the log's end.
+    pub fn add_log(&mut self, log: Log, stamp: u64)
+        requires segment { log.segment < length self.old.each }
+        requires inside { end_of log ≤ self.old.blocks }
+        ensures { self.new ≡ with_log self.old log stamp }
+    {
+        // The table knows that its segments are small, so that the end is a number.
+        let _ = &self.blocks;
+        self.make_active(log.segment, stamp, log.end());
+    }
+
+    // A segment alone is active, with this stamp and so many used blocks.
+    fn make_active(&mut self, segment: Segment, stamp: u64, used: u32)
+        requires segment { segment < length self.old.each }
+        requires inside { used ≤ self.old.blocks }
+        ensures { self.new ≡ with_active self.old segment stamp used }
+    {
+        let info = SegmentInfo {
+            state: SegmentState::Active,
+            stamp,
+            used,
+        };
+        let active = self.active;
+        rest_active(&mut self.each, active);
+        self.each.set(segment.get() as usize, info);
+        self.active = Some(segment);
+    }
+
+    /// A write to a segment failed: it is in error and keeps its logs, and no segment is active.
+    pub fn mark_error(&mut self, segment: Segment)
+        requires { segment < length self.old.each }
+        ensures { self.new ≡ with_error self.old segment }
+    {
+        let at = segment.get() as usize;
+        let info = SegmentInfo {
+            state: SegmentState::Error,
+            ..self.each.as_slice()[at]
+        };
+        let active = self.active;
+        rest_active(&mut self.each, active);
+        self.each.set(at, info);
+        self.active = None;
+    }
+
+    /// A segment was emptied: it is clean, whatever it was before.
+    pub fn mark_clean(&mut self, segment: Segment)
+        requires { segment < length self.old.each }
+        ensures { self.new ≡ with_clean self.old segment }
+    {
+        self.each.set(segment.get() as usize, SegmentInfo::clean());
+        if self.active == Some(segment) {
+            self.active = None;
+        }
+    }
+}
+
+// So many clean segments.
+fn clean_table(alloc: Global, segments: u32) -> Result<Items<SegmentInfo>, AllocError>
+    ensures { IfOk result (λ each. each ≡ replicate segments clean_info) }
+{
+    let mut each = Vec::with_capacity(alloc, segments as usize)?;
+    for _ in 0..segments {
+        each.push(SegmentInfo::clean())?;
+    }
+    Ok(Items::from_vec(each))
+}
+
+fn count_clean(each: &[SegmentInfo]) -> usize
+    ensures count { result ≡ length (clean_from 0 each.now) }
+    ensures most { result ≤ length each.now }
+{
+    let mut count = 0;
+    for info in each {
+        if let SegmentState::Clean = info.state {
+            count += 1;
+        }
+    }
+    count
+}
+
+// The lowest clean segment.
+fn first_clean(each: &[SegmentInfo]) -> Option<Segment>
+    requires { length each.now ≤ 4096 }
+    ensures { result ≡ slice_get (clean_from 0 each.now) 0 }
+{
+    for (number, info) in each.iter().enumerate() {
+        if let SegmentState::Clean = info.state {
+            return Some(Segment::new(number as u32));
+        }
+    }
+    None
+}
+
+// No segment is active now.
+fn rest_active(each: &mut Items<SegmentInfo>, active: Option<Segment>)
+    requires { IsActiveIn each.old active }
+    ensures { each.new ≡ none_active each.old }
+{
+    if let Some(segment) = active {
+        let at = segment.get() as usize;
+        let info = SegmentInfo {
+            state: SegmentState::Dirty,
+            ..each.as_slice()[at]
+        };
+        each.set(at, info);
+    }
+}
