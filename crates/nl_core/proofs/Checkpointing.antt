@@ -1,125 +1,76 @@
--- A checkpoint's ways to end, over a volume and what a device holds.
-use Rattle.std.proofs.Common.{◌≡◌, ℕ, ◌+◌, ◌-◌, ◌<◌, ◌≤◌, List, length, refl, sym, ap, ◌∙◌, subst, inl, inr, arith, ⊎_elim}
-use Rattle.std.specs.Prelude.{Some, None, Ok, Err, nat_le}
-use Rattle.std.proofs.lemmas.List.{get_or_past}
-use Rattle.std.proofs.lemmas.Bool.{cases_lt, cond-true, le-leb}
+-- A checkpoint's ways to end.
+use Rattle.std.proofs.Common.{◌≡◌, ℕ, ◌+◌, ◌<◌, ◌≤◌, List, ◌++◌, ◌∷◌, length, refl, sym, ap, ◌∙◌, subst, inl, inr, arith, get_or}
+use Rattle.std.specs.Prelude.{None, Ok, Err, true, nat_le, max}
+use Rattle.std.specs.Option.{option_map}
+use Rattle.std.proofs.lemmas.Bool.{cond-true, le-leb}
+use Rattle.std.proofs.lemmas.List.{length-map}
 use Rattle.nl_types.specs.declared.error.VolError.{VolError}
 use Rattle.nl_types.specs.declared.error.VolError.TheVariants as error
 use Rattle.nl_types.specs.declared.event.Event.TheVariants as event
 use Rattle.nl_types.specs.declared.event.Mode.{Mode}
 use Rattle.nl_types.specs.declared.reply.Answer.TheVariants as answer
+use Rattle.nl_types.specs.Entries.{Content}
+use Rattle.nl_types.specs.Lifetimes.{EventsKeepLedgers, CoveredNumbersStay, NumbersEndOnce, IsLedger}
 use Rattle.nl_types.specs.Limits.{checkpoint_number_limit}
+use Rattle.nl_types.specs.PartialMaps.{Keeps}
+use Rattle.nl_types.specs.RootChanges.{with_births}
+use Rattle.nl_types.specs.Roots.{Pages, pages_of}
 use Rattle.nl_types.specs.Worlds.{World, step, latest}
-use Rattle.nl_device.specs.Pages.{Pages}
-use Rattle.nl_core.specs.Content.{Table, page_at}
-use Rattle.nl_core.specs.Settled.{changed_pages, with_pages}
-use Rattle.nl_core.specs.Volume.{Volume, IsSound, changed, unused, published, next_checkpoint}
-use Rattle.nl_core.specs.Draft.{IsDraftRefusal}
-use Rattle.nl_core.specs.Put.{HasPut, HasTried}
-use Rattle.nl_core.specs.Means.{Means, Goes}
-use Rattle.nl_core.specs.Layout.{Layout, IsHeld, HasPublished, HasFaulted, LacksSpace, Fails, table_of, layout_of}
+use Rattle.nl_types.specs.Placing as placing
+use Rattle.nl_types.proofs.Births.{pages-written}
+use Rattle.nl_segwriter.specs.Appended.{IsAppendError}
+use Rattle.nl_dat.specs.Batches.{Changes, Fits}
+use Rattle.nl_dat.specs.Stores.{Store, IsStore, IsWritten, IsBrokenOff, content_in, entry_of}
+use Rattle.nl_core.specs.declared.file.File.{File}
 use Rattle.nl_core.specs.declared.checkpoint.Checkpoint.{Checkpoint}
-use Rattle.nl_core.proofs.Layouts.{length-table_of, page_at-table_of, same-table_of, HasPut-table_of, HasTried-table_of, none_some}
-use Rattle.nl_core.proofs.Settling.{length-with_pages, page_at-with_pages_below, page_at-with_pages_above, StandFrom-with_pages}
-use Rattle.nl_core.proofs.Published.{latest-means, means-published}
-
--- ---- what stands where
-
--- a number at which a page stands is one of the table's
-within_table : (table : Table) (number : ℕ) (page : List ℕ) → page_at table number ≡ Some page → number < length table
-within_table table number page there = ⊎_elim (λ low. low) (λ high. absurd (none_some (sym (get_or_past table number None high) ∙ there))) (cases_lt number (length table))
-
--- a number at which a page stands was used
-used : (v : Volume) (number : ℕ) (page : List ℕ) → IsSound v → page_at v.table number ≡ Some page → number < v.next
-used v number page sound there = ⊎_elim (λ low. low) (λ high. absurd (none_some (sym (sound.unused number high) ∙ there))) (cases_lt number v.next)
-
--- what the device held for the table it holds still, where it was not touched
-still_held : (v : Volume) (old new : Pages) (failures number : ℕ) (page : List ℕ) → IsHeld (layout_of v old failures) → number < v.next → new number ≡ old number → page_at v.table number ≡ Some page → new number ≡ Some page
-still_held v old new failures number page held low same there =
-    same ∙ sym (page_at-table_of (length v.table) old number (within_table v.table number page there)) ∙ held.stored number page there
+use Rattle.nl_core.specs.Draft.{IsDraftRefusal}
+use Rattle.nl_core.specs.Settled.{WritesChanged, AreSettled, block_of, changed_blocks}
+use Rattle.nl_core.specs.Volume.{Volume, IsSound, changed, next_checkpoint, over, published}
+use Rattle.nl_core.specs.Means.{Means, Goes}
+use Rattle.nl_core.specs.Layout.{Layout, IsHeld, LacksSpace, Fails, Touches, Does, layout_of, ledger_of, volume_of}
+use Rattle.nl_core.proofs.Ledgers.{same-numbers, is_ledger-behind, latest-found, numbers-behind}
+use Rattle.nl_core.proofs.Published.{latest-means, sound-published, means-published}
+use Rattle.nl_core.proofs.Settling.{Stand}
+use Rattle.nl_core.proofs.WrittenBlocks.{keeps_pages, births_stand}
 
 -- ---- a checkpoint that is published
 
-module _ (v : Volume) (c : Checkpoint) (old new : Pages) (failures after : ℕ) (held : IsHeld (layout_of v old failures)) (space : changed v ≤ unused v) (put : HasPut v.next (changed_pages v.files) old new) where
-  -- the pages fit
-  room : v.next + changed v ≤ length v.table
-  room = omega (arith, held.sound.room, space)
+module _ (old : Layout) (held : IsHeld old) (mode : Mode) (moment capacity : ℕ) (files : List File) (changes : Changes) (store : Store) (left : old.lists.latest.number + 1 < checkpoint_number_limit)
+    (writes : WritesChanged (content_in old.store) old.lists.latest.files old.lists.files changes) (fits : Fits capacity (content_in old.store) changes) (settled : AreSettled changes.births old.lists.files files)
+    (written : IsWritten (next_checkpoint mode moment files old.lists).number (next_checkpoint mode moment files old.lists).stamp changes old.store store) where
+  abbrev next : Checkpoint
+  next = next_checkpoint mode moment files old.lists
 
-  -- each page of the new table is what the device holds
-  new_pages : (number : ℕ) (page : List ℕ) → page_at (with_pages v.next (changed_pages v.files) v.table) number ≡ Some page → new number ≡ Some page
-  new_pages number page there = ⊎_elim
-      (λ low. still_held v old new failures number page held low (put.others.below number low) (sym (page_at-with_pages_below v.next number (changed_pages v.files) v.table low) ∙ there))
-      (λ high. ⊎_elim
-      (λ inside.
-      let at : v.next + (number - v.next) ≡ number = omega arith in
-      let last : number - v.next < length (changed_pages v.files) = omega arith in
-      ap new (sym at) ∙ put.stand (number - v.next) last ∙ sym (StandFrom-with_pages v.next (changed_pages v.files) v.table room (number - v.next) last)
-      ∙ ap (page_at (with_pages v.next (changed_pages v.files) v.table)) at ∙ there)
-      (λ past.
-      let behind : v.next ≤ number = omega arith in
-      absurd (none_some (sym (page_at-with_pages_above v.next number (changed_pages v.files) v.table past ∙ held.sound.unused number behind) ∙ there)))
-      (cases_lt number (v.next + changed v)))
-      (cases_lt number v.next)
+  abbrev behind : Layout
+  behind = layout_of (published next old.lists) store
 
-  -- the device holds each page of the new table
-  pub held-published : IsSound (published c v) → IsHeld (layout_of (published c v) new after)
-  held-published sound = record {
-    sound = sound;
-    size = length-table_of (length (published c v).table) new;
-    stored = λ number page there.
-        page_at-table_of (length (published c v).table) new number (within_table (published c v).table number page there) ∙ new_pages number page there;
-    unused = λ number high.
-        let behind : v.next ≤ number = omega (arith, high) in
-        ap (λ n. page_at (table_of n new) number) (length-with_pages v.next (changed_pages v.files) v.table)
-        ∙ same-table_of (length v.table) old new number (put.others.above number high) ∙ held.unused number behind;
+  -- the pages behind it are the old ones with the births
+  pages-behind : pages_of (content_in store) ≡ with_births changes.births (pages_of (content_in old.store))
+  pages-behind = ap pages_of written.content ∙ pages-written changes.births changes.ends next.number (content_in old.store) fits.once
+
+  keeps : Keeps (pages_of (content_in old.store)) (pages_of (content_in store))
+  keeps = subst (Keeps (pages_of (content_in old.store))) (sym pages-behind) (keeps_pages (content_in old.store) capacity next.number old.lists.latest.files old.lists.files changes writes fits)
+
+  stand : Stand (pages_of (content_in store)) changes.births
+  stand = subst (λ (pages : Pages). Stand pages changes.births) (sym pages-behind) (births_stand (content_in old.store) capacity next.number old.lists.latest.files old.lists.files changes writes fits)
+
+  -- all that it does
+  pub does-published : EventsKeepLedgers → CoveredNumbersStay → NumbersEndOnce → IsStore store → Does old (event.Checkpoint mode moment) (Ok (answer.Checkpoint next.number)) behind
+  does-published ledgers stay once is_store = record {
+    goes = λ w m.
+        let after = means-published old.lists (pages_of (content_in old.store)) (pages_of (content_in store)) changes.births files held.sound keeps stand settled w mode moment left m in
+        (after.0, after.1, inl after.2);
+    touches = record { changes = changes; writes = writes; settled = settled; lists = refl; written = written };
+    numbers = numbers-behind old held capacity changes next store writes fits settled refl written.content stay once;
+    held = record {
+      sound = sound-published old.lists (pages_of (content_in old.store)) (pages_of (content_in store)) changes.births files held.sound keeps stand settled mode moment left;
+      ledger = is_ledger-behind old held capacity changes next store writes fits settled refl written.content ledgers;
+      latest = latest-found old held capacity changes next store writes fits settled refl written.content;
+      store = is_store;
+    };
   }
 
-  -- each changed block was put, and no other was touched
-  pub has_published : HasPublished (layout_of v old failures) (layout_of (published c v) new after)
-  has_published = record {
-    space = space;
-    volume = refl;
-    put = subst (λ n. HasPut v.next (changed_pages v.files) (page_at (table_of (length v.table) old)) (page_at (table_of n new))) (sym (length-with_pages v.next (changed_pages v.files) v.table))
-        (HasPut-table_of (length v.table) v.next (changed_pages v.files) old new room put);
-  }
-
--- ---- a checkpoint that a fault ends
-
--- the volume, with some more numbers used
-abbrev pub skipped : Volume → ℕ → Volume
-skipped v count = record v { next = v.next + count }
-
-module _ (v : Volume) (tried : ℕ) (old new : Pages) (failures after : ℕ) (held : IsHeld (layout_of v old failures)) (space : changed v ≤ unused v) (put : HasTried v.next tried (changed_pages v.files) old new) where
-  -- the device still holds each page of the table
-  pub held-skipped : IsSound (skipped v tried) → IsHeld (layout_of (skipped v tried) new after)
-  held-skipped sound = record {
-    sound = sound;
-    size = length-table_of (length v.table) new;
-    stored = λ number page there.
-        let low = used v number page held.sound there in
-        page_at-table_of (length v.table) new number (within_table v.table number page there) ∙ still_held v old new failures number page held low (put.others.below number low) there;
-    unused = λ number high.
-        let behind : v.next ≤ number = omega (arith, high) in
-        same-table_of (length v.table) old new number (put.others.above number high) ∙ held.unused number behind;
-  }
-
-  -- some blocks were tried, and no other was touched
-  pub has_faulted : HasFaulted (layout_of v old failures) (layout_of (skipped v tried) new after)
-  has_faulted = record {
-    tried = tried;
-    volume = refl;
-    put = HasTried-table_of (length v.table) v.next tried (changed_pages v.files) old new (omega (arith, held.sound.room, space)) put;
-  }
-
--- ---- the world
-
--- a checkpoint that is published
-pub goes-published : (old new : Layout) (c : Checkpoint) (mode : Mode) (moment : ℕ) → IsSound old.volume → old.volume.latest.number + 1 < checkpoint_number_limit → changed old.volume ≤ unused old.volume
-    → c ≡ next_checkpoint mode moment old.volume → new.volume ≡ published c old.volume
-    → Goes (LacksSpace old) (Fails old new) old.volume (event.Checkpoint mode moment) (Ok (answer.Checkpoint c.number)) new.volume
-goes-published old new c mode moment sound left space is told = λ w m.
-    let next = means-published old.volume w c mode moment sound m left space is in
-    (next.0, λ world. subst (λ v. Means v next.0) (sym told) (next.1 world), inl next.2)
+-- ---- one that is refused
 
 -- the world has no number left either
 spent : (v : Volume) (w : World) (mode : Mode) (moment : ℕ) → Means v w → checkpoint_number_limit ≤ v.latest.number + 1 → step w (event.Checkpoint mode moment) ≡ (Err error.NumbersSpent, w)
@@ -127,12 +78,66 @@ spent v w mode moment m over =
     let number : latest w ≡ v.latest.number = latest-means v w m in
     cond-true (nat_le checkpoint_number_limit (latest w + 1)) _ _ (le-leb checkpoint_number_limit (latest w + 1) (omega (arith, number, over)))
 
--- one that is refused before anything is put
-pub goes-refused : (old new : Layout) (mode : Mode) (moment : ℕ) (e : VolError) → IsDraftRefusal old.volume e → new.volume ≡ old.volume
-    → Goes (LacksSpace old) (Fails old new) old.volume (event.Checkpoint mode moment) (Err e) new.volume
-goes-refused old new mode moment error.NumbersSpent why is = λ w m. (w, λ _. subst (λ v. Means v w) (sym is) m, inl (spent old.volume w mode moment m why))
-goes-refused old new mode moment error.NoSpace why is = λ w m.
-    (w, λ _. subst (λ v. Means v w) (sym is) m, inr (record { error = error.NoSpace; reply_is = refl; allowed = (tt, why.1); unchanged = refl }))
-goes-refused old new mode moment error.Memory why is = λ w m.
-    (w, λ _. subst (λ v. Means v w) (sym is) m, inr (record { error = error.Memory; reply_is = refl; allowed = tt; unchanged = refl }))
-goes-refused old new mode moment _ why is = absurd why
+goes-refused : (l : Layout) (mode : Mode) (moment : ℕ) (e : VolError) → IsDraftRefusal l.store.segments l.lists e → Goes (LacksSpace l) (Fails l l) (volume_of l) (event.Checkpoint mode moment) (Err e) (volume_of l)
+goes-refused l mode moment error.NumbersSpent why = λ w m. (w, λ _. m, inl (spent (volume_of l) w mode moment m why))
+goes-refused l mode moment error.NoSpace why = λ w m. (w, λ _. m, inr (record { error = error.NoSpace; reply_is = refl; allowed = (tt, why.1); unchanged = refl }))
+goes-refused l mode moment error.Memory why = λ w m. (w, λ _. m, inr (record { error = error.Memory; reply_is = refl; allowed = tt; unchanged = refl }))
+goes-refused l mode moment _ why = absurd why
+
+touches-refused : (l : Layout) (mode : Mode) (moment : ℕ) (e : VolError) → IsDraftRefusal l.store.segments l.lists e → Touches l (event.Checkpoint mode moment) (Err e) l
+touches-refused l mode moment error.NumbersSpent why = (refl, why)
+touches-refused l mode moment error.NoSpace why = (refl, why)
+touches-refused l mode moment error.Memory why = (refl, why)
+touches-refused l mode moment _ why = absurd why
+
+-- before anything is written
+pub does-refused : (old new : Layout) (mode : Mode) (moment : ℕ) (e : VolError) → IsHeld old → IsDraftRefusal old.store.segments old.lists e → new ≡ old → Does old (event.Checkpoint mode moment) (Err e) new
+does-refused old new mode moment e held why same = subst (Does old (event.Checkpoint mode moment) (Err e)) (sym same)
+    (record { goes = goes-refused old mode moment e why; touches = touches-refused old mode moment e why; numbers = same-numbers old old refl; held = held })
+
+-- as many births as changed blocks
+pub count-births : (content : Content) (former current : List File) (changes : Changes) → WritesChanged content former current changes → length changes.births ≡ length (changed_blocks current)
+count-births content former current changes writes = sym (length-map changes.births block_of) ∙ ap length writes.births
+
+-- a store with the same numbers has the same content
+same-content : (old new : Store) → new.numbers ≡ old.numbers → content_in new ≡ content_in old
+same-content old new same i v = option_map entry_of (get_or (same i) v None)
+
+-- by a fault of the device
+pub does-faulted : (old : Layout) (store : Store) (mode : Mode) (moment n : ℕ) → IsHeld old → n ≡ changed old.lists → IsBrokenOff true (max moment old.lists.latest.stamp) n old.store store → IsStore store
+    → Does old (event.Checkpoint mode moment) (Err error.Fault) (layout_of old.lists store)
+does-faulted old store mode moment n held count broken is_store =
+    let new = layout_of old.lists store in
+    let content = same-content old.store store broken.numbers in
+    record {
+      goes = λ w m. (
+        w,
+        λ _. subst (λ (c : Content). Means (over (pages_of c) old.lists) w) (sym content) m,
+        inr (record { error = error.Fault; reply_is = refl; allowed = (tt, ((λ lacks. lacks (broken.done ++ broken.failed ∷ broken.left) (subst (λ k. placing.Fits old.store.segments true k (broken.done ++ broken.failed ∷ broken.left)) count broken.fits)), broken.failures)); unchanged = refl }),
+      );
+      touches = record { lists = refl; store = subst (λ k. IsBrokenOff true (max moment old.lists.latest.stamp) k old.store store) count broken };
+      numbers = same-numbers old new (ledger-same content);
+      held = record {
+        sound = subst (λ (c : Content). IsSound (over (pages_of c) old.lists)) (sym content) held.sound;
+        ledger = subst IsLedger (sym (ledger-same content)) held.ledger;
+        latest = held.latest;
+        store = is_store;
+      };
+    }
+  where
+    ledger-same : content_in store ≡ content_in old.store → ledger_of (layout_of old.lists store) ≡ ledger_of old
+    ledger-same content = ap (λ (c : Content). record (ledger_of old) { content = c }) content
+
+-- by a write that is refused
+pub does-unwritten : (old : Layout) (store : Store) (mode : Mode) (moment n : ℕ) (e : VolError) → IsHeld old → old.lists.latest.number + 1 < checkpoint_number_limit → n ≡ changed old.lists → IsAppendError e
+    → (e ≡ error.NoSpace → placing.LacksSpace old.store.segments true n) → (e ≡ error.NoSpace → store ≡ old.store) → (e ≡ error.Memory → store ≡ old.store)
+    → (e ≡ error.Fault → IsBrokenOff true (max moment old.lists.latest.stamp) n old.store store) → IsStore store → Does old (event.Checkpoint mode moment) (Err e) (layout_of old.lists store)
+does-unwritten old store mode moment n e held left count is lacks same memory fault is_store =
+    let reply : VolError → Type 0 = λ x. Does old (event.Checkpoint mode moment) (Err x) (layout_of old.lists store) in
+    elim is [
+      | inl no_space ↦ subst reply (sym no_space) (does-refused old (layout_of old.lists store) mode moment error.NoSpace held (left, subst (placing.LacksSpace old.store.segments true) count (lacks no_space)) (ap (layout_of old.lists) (same no_space)))
+      | inr other ↦ elim other [
+        | inl failed ↦ subst reply (sym failed) (does-faulted old store mode moment n held count (fault failed) is_store)
+        | inr refused ↦ subst reply (sym refused) (does-refused old (layout_of old.lists store) mode moment error.Memory held left (ap (layout_of old.lists) (memory refused)))
+      ]
+    ]

@@ -25,7 +25,8 @@ use Rattle.nl_types.specs.Trees.{Tree, insert}
 use Rattle.nl_types.specs.Calls.{after, file_at, create, write, change, reply_to, overwritten, refuse_if, is_dirtying, Changed}
 use Rattle.nl_types.specs.Worlds.{World, Copy, Reply, Outcome, IsWorld, step, either, refused_if, copy_at, is_snapshot, mount, mount_read}
 use Rattle.nl_types.specs.Runs.{Step}
-use Rattle.nl_core.specs.Content.{Table, content, file_in, no_file}
+use Rattle.nl_types.specs.Roots.{Pages}
+use Rattle.nl_core.specs.Content.{content, file_in, no_file}
 use Rattle.nl_core.specs.Named.{NoneNamed, IsFirstNamed}
 use Rattle.nl_core.specs.Place.{FindsFile, FindsFree, AnswersFrom}
 use Rattle.nl_core.specs.Volume.{Volume, kept_in}
@@ -76,7 +77,7 @@ or_true true = refl
 or_true false = refl
 
 -- no file can be made
-pub creates_refused : (old : Volume) (w : World) (path : List ℕ) (e : VolError) → Means old w → FindsFree old.table old.files path (Err e) → Leads w (Apply (Create path)) (Err e) old
+pub creates_refused : (old : Volume) (w : World) (path : List ℕ) (e : VolError) → Means old w → FindsFree old.pages old.files path (Err e) → Leads w (Apply (Create path)) (Err e) old
 creates_refused old w path e m found = refuses_unless_memory old w (Apply (Create path)) e m (λ other. not_changed w (Create path) e (found other w.tree m.tree))
 
 -- a new file stands behind the others
@@ -86,11 +87,11 @@ creates old w path name m spelled none room =
     let f : File = record { name = name; size = 0; slots = [] } in
     let tree = insert w.tree (name ∷ []) (node.File []) in
     let made : change w.tree (Create path) ≡ Ok (answer.Done, tree) =
-    ap (λ r. after r (create w.tree (node.File []))) spelled ∙ create-none old.table old.files w.tree m.tree (node.File []) name none room in (
+    ap (λ r. after r (create w.tree (node.File []))) spelled ∙ create-none old.pages old.files w.tree m.tree (node.File []) name none room in (
       record w { tree = tree; dirty = w.dirty || true },
       (λ world. record {
         world = world;
-        tree = tree-created old.table old.files w.tree name f m.world.tree m.tree none refl;
+        tree = tree-created old.pages old.files w.tree name f m.world.tree m.tree none refl;
         dirty = or_true w.dirty;
         copies = m.copies;
         mounts = m.mounts;
@@ -118,7 +119,7 @@ write-refused tree offset new e (Ok path) is =
 write-refused tree offset new e (Err d) is = cc
 
 -- there is no file to write to
-pub writes_refused : (old : Volume) (w : World) (path : List ℕ) (offset : ℕ) (bytes : List ℕ) (e : VolError) → Means old w → FindsFile old.table old.files path (Err e) → Leads w (Apply (Write path offset bytes)) (Err e) old
+pub writes_refused : (old : Volume) (w : World) (path : List ℕ) (offset : ℕ) (bytes : List ℕ) (e : VolError) → Means old w → FindsFile old.pages old.files path (Err e) → Leads w (Apply (Write path offset bytes)) (Err e) old
 writes_refused old w path offset bytes e m found =
     refuses old w (Apply (Write path offset bytes)) e m (not_changed w (Write path offset bytes) e (write-refused w.tree offset bytes e (path_of path) (found w.tree m.tree)))
 
@@ -129,7 +130,7 @@ writes_nothing old w path offset bytes name index m spelled first none =
     let empty : (length bytes == 0) ≡ true = eq-eqb (length bytes) 0 none in
     let clean : w.dirty || not (length bytes == 0) ≡ w.dirty = ap (λ b. w.dirty || not b) empty ∙ or_false w.dirty in
     let made : change w.tree (Write path offset bytes) ≡ Ok (answer.Written 0, w.tree) =
-    write-found w.tree path offset bytes name _ spelled (file_at-first old.table old.files w.tree m.tree name index no_file first) ∙ cond-true _ _ _ empty in (
+    write-found w.tree path offset bytes name _ spelled (file_at-first old.pages old.files w.tree m.tree name index no_file first) ∙ cond-true _ _ _ empty in (
       record w { tree = w.tree; dirty = w.dirty || not (length bytes == 0) },
       (λ world. record {
         world = world;
@@ -148,24 +149,24 @@ pub writes_past : (old : Volume) (w : World) (path : List ℕ) (offset : ℕ) (b
 writes_past old w path offset bytes name index m spelled first some past =
     refuses old w (Apply (Write path offset bytes)) error.TooBig m
     (not_changed w (Write path offset bytes) error.TooBig
-    (write-found w.tree path offset bytes name _ spelled (file_at-first old.table old.files w.tree m.tree name index no_file first)
+    (write-found w.tree path offset bytes name _ spelled (file_at-first old.pages old.files w.tree m.tree name index no_file first)
     ∙ cond-false _ _ _ (ne_eqb (length bytes) 0 some) ∙ cond-true _ _ _ (lt-ltb file_limit (offset + length bytes) past)))
 
 -- the file of the name, with the bytes over its own
 pub writes : (old : Volume) (w : World) (path : List ℕ) (offset : ℕ) (bytes : List ℕ) (name : Name) (index : ℕ) (f : File) → Means old w → path_of path ≡ Ok (name ∷ []) → IsFirstNamed old.files name index
-    → length bytes ≢ 0 → offset + length bytes ≤ file_limit → f.name ≡ (file_in old.files index).name → content old.table f ≡ overwritten (content old.table (file_in old.files index)) offset bytes
+    → length bytes ≢ 0 → offset + length bytes ≤ file_limit → f.name ≡ (file_in old.files index).name → content old.pages f ≡ overwritten (content old.pages (file_in old.files index)) offset bytes
     → Leads w (Apply (Write path offset bytes)) (Ok (answer.Written (length bytes))) (record old { files = set old.files index f; dirty = true })
 writes old w path offset bytes name index f m spelled first some fits named is =
-    let tree = insert w.tree (name ∷ []) (node.File (content old.table f)) in
+    let tree = insert w.tree (name ∷ []) (node.File (content old.pages f)) in
     let full : (length bytes == 0) ≡ false = ne_eqb (length bytes) 0 some in
     let made : change w.tree (Write path offset bytes) ≡ Ok (answer.Written (length bytes), tree) =
-    write-found w.tree path offset bytes name _ spelled (file_at-first old.table old.files w.tree m.tree name index no_file first)
+    write-found w.tree path offset bytes name _ spelled (file_at-first old.pages old.files w.tree m.tree name index no_file first)
     ∙ cond-false _ _ _ full ∙ cond-false _ _ _ (le-ltb file_limit (offset + length bytes) fits)
     ∙ ap (λ b. Ok (answer.Written (length bytes), insert w.tree (name ∷ []) (node.File b))) (sym is) in (
       record w { tree = tree; dirty = w.dirty || not (length bytes == 0) },
       (λ world. record {
         world = world;
-        tree = tree-written old.table old.files w.tree name index f m.world.tree m.tree first (named ∙ first.here no_file);
+        tree = tree-written old.pages old.files w.tree name index f m.world.tree m.tree first (named ∙ first.here no_file);
         dirty = ap (λ b. w.dirty || not b) full ∙ or_true w.dirty;
         copies = m.copies;
         mounts = m.mounts;
@@ -177,35 +178,35 @@ writes old w path offset bytes name index f m spelled first some fits named is =
 -- ---- reads
 
 -- what the current tree answers
-pub asks : (old : Volume) (w : World) (a : Ask) (reply : Reply) → Means old w → AnswersFrom old.table old.files a reply → Leads w (Read a) reply old
+pub asks : (old : Volume) (w : World) (a : Ask) (reply : Reply) → Means old w → AnswersFrom old.pages old.files a reply → Leads w (Read a) reply old
 asks old w a (Ok found) m is = (w, λ _. m, inl (ap (λ r. (r, w)) (is w.tree m.tree)))
 asks old w a (Err e) m is = refuses_unless_memory old w (Read a) e m (λ other. ap (λ r. (r, w)) (is w.tree m.tree other))
 
 -- ---- checkpoints and mounts by number
 
 -- the world's copy of a kept checkpoint
-abbrev pub HasCopy : Table → Option Checkpoint → Option Copy → Type 0
-HasCopy table None copy = copy ≡ None
-HasCopy table (Some c) copy = (k : Copy) × (copy ≡ Some k) × CopyMeans table c (c.number, k)
+abbrev pub HasCopy : Pages → Option Checkpoint → Option Copy → Type 0
+HasCopy pages None copy = copy ≡ None
+HasCopy pages (Some c) copy = (k : Copy) × (copy ≡ Some k) × CopyMeans pages c (c.number, k)
 
-same_number : (n : ℕ) (c : Checkpoint) (copy : ℕ × Copy) (table : Table) → CopyMeans table c copy → eq_by_cmp nat_cmp n copy.0 ≡ eq_by_cmp nat_cmp n c.number
-same_number n c copy table m = ap (eq_by_cmp nat_cmp n) m.number
+same_number : (n : ℕ) (c : Checkpoint) (copy : ℕ × Copy) (pages : Pages) → CopyMeans pages c copy → eq_by_cmp nat_cmp n copy.0 ≡ eq_by_cmp nat_cmp n c.number
+same_number n c copy pages m = ap (eq_by_cmp nat_cmp n) m.number
 
-found_by : (table : Table) (b : Bool) (c : Checkpoint) (copy : ℕ × Copy) (o : Option Checkpoint) (p : Option Copy) → CopyMeans table c copy → HasCopy table o p → HasCopy table (cond b (Some c) o) (cond b (Some copy.1) p)
-found_by table true c copy o p m rest = (copy.1, refl, record { number = refl; mode = m.mode; stamp = m.stamp; tree = m.tree })
-found_by table false c copy o p m rest = rest
+found_by : (pages : Pages) (b : Bool) (c : Checkpoint) (copy : ℕ × Copy) (o : Option Checkpoint) (p : Option Copy) → CopyMeans pages c copy → HasCopy pages o p → HasCopy pages (cond b (Some c) o) (cond b (Some copy.1) p)
+found_by pages true c copy o p m rest = (copy.1, refl, record { number = refl; mode = m.mode; stamp = m.stamp; tree = m.tree })
+found_by pages false c copy o p m rest = rest
 
-pub find_copy : (table : Table) (kept : List Checkpoint) (copies : List (ℕ × Copy)) (n : ℕ) → AllZip (CopyMeans table) kept copies → HasCopy table (find nat_cmp n (map numbered kept)) (find nat_cmp n copies)
-find_copy table [] [] n m = refl
-find_copy table [] (copy ∷ copies) n m = absurd m
-find_copy table (c ∷ kept) [] n m = absurd m
-find_copy table (c ∷ kept) (copy ∷ copies) n m =
-    subst (λ b. HasCopy table (cond (eq_by_cmp nat_cmp n c.number) (Some c) (find nat_cmp n (map numbered kept))) (cond b (Some copy.1) (find nat_cmp n copies))) (sym (same_number n c copy table m.0))
-    (found_by table (eq_by_cmp nat_cmp n c.number) c copy (find nat_cmp n (map numbered kept)) (find nat_cmp n copies) m.0 (find_copy table kept copies n m.1))
+pub find_copy : (pages : Pages) (kept : List Checkpoint) (copies : List (ℕ × Copy)) (n : ℕ) → AllZip (CopyMeans pages) kept copies → HasCopy pages (find nat_cmp n (map numbered kept)) (find nat_cmp n copies)
+find_copy pages [] [] n m = refl
+find_copy pages [] (copy ∷ copies) n m = absurd m
+find_copy pages (c ∷ kept) [] n m = absurd m
+find_copy pages (c ∷ kept) (copy ∷ copies) n m =
+    subst (λ b. HasCopy pages (cond (eq_by_cmp nat_cmp n c.number) (Some c) (find nat_cmp n (map numbered kept))) (cond b (Some copy.1) (find nat_cmp n copies))) (sym (same_number n c copy pages m.0))
+    (found_by pages (eq_by_cmp nat_cmp n c.number) c copy (find nat_cmp n (map numbered kept)) (find nat_cmp n copies) m.0 (find_copy pages kept copies n m.1))
 
 -- the copy at a number, where the kept checkpoint of it is known
-pub copy_of : (v : Volume) (w : World) (n : ℕ) (o : Option Checkpoint) → Means v w → find nat_cmp n (map numbered (kept_in v)) ≡ o → HasCopy v.table o (copy_at w n)
-copy_of v w n o m is = subst (λ c. HasCopy v.table c (copy_at w n)) is (find_copy v.table (kept_in v) w.copies n m.copies)
+pub copy_of : (v : Volume) (w : World) (n : ℕ) (o : Option Checkpoint) → Means v w → find nat_cmp n (map numbered (kept_in v)) ≡ o → HasCopy v.pages o (copy_at w n)
+copy_of v w n o m is = subst (λ c. HasCopy v.pages c (copy_at w n)) is (find_copy v.pages (kept_in v) w.copies n m.copies)
 
 -- ---- mounts
 
@@ -276,7 +277,7 @@ mount_gone old w mount n a m found none =
 
 -- what the tree of a mounted checkpoint answers
 pub mount_asks : (old : Volume) (w : World) (mount n : ℕ) (c : Checkpoint) (a : Ask) (reply : Reply) → Means old w → find nat_cmp mount (map mount_of old.mounts) ≡ Some n
-    → find nat_cmp n (map numbered (kept_in old)) ≡ Some c → AnswersFrom old.table c.files a reply → Leads w (MountRead mount a) reply old
+    → find nat_cmp n (map numbered (kept_in old)) ≡ Some c → AnswersFrom old.pages c.files a reply → Leads w (MountRead mount a) reply old
 mount_asks old w mount n c a (Ok found) m mounted kept is =
     let copy = copy_of old w n (Some c) m kept in
     (w, λ _. m, inl (ap (λ r. (r, w)) (mount_read-found w mount n a (Some copy.0) (mount_at old w mount (Some n) m mounted) copy.1 ∙ is copy.0.tree copy.2.tree)))

@@ -12,7 +12,8 @@ use Rattle.nl_types.specs.Limits.{path_limit}
 use Rattle.nl_types.specs.Paths.{Name, Path}
 use Rattle.nl_types.specs.Trees.{Tree, lookup, insert}
 use Rattle.nl_types.specs.Calls.{Changed, after, ok_unless, refuse_if, stops_walk, stop_from, walk, file_in, file_at, create, read}
-use Rattle.nl_core.specs.Content.{Table, TreeMeans, content, node_of, no_file}
+use Rattle.nl_types.specs.Roots.{Pages}
+use Rattle.nl_core.specs.Content.{TreeMeans, content, node_of, no_file}
 use Rattle.nl_core.specs.Named.{NoneNamed, IsFirstNamed}
 use Rattle.nl_core.specs.Place.{Places, RefusesBelow}
 use Rattle.nl_core.specs.declared.path.Place.{Place}
@@ -52,10 +53,10 @@ after-Below next e name (Err d) leads refuses = absurd leads
 -- ---- walks
 
 -- what a walk meets under a name where it stops
-stops_walk-below : (table : Table) (files : List File) (name : Name) (e : VolError) → RefusesBelow files name e → stops_walk (node_of table files (name ∷ [])) ≡ Some e
-stops_walk-below table files name NotDir h = ap (λ o. stops_walk (option_map node.File o)) (find_entry-first table files name h.0 no_file h.1)
-stops_walk-below table files name NotFound h = ap (λ o. stops_walk (option_map node.File o)) (find_entry-none table files name h)
-stops_walk-below table files name e h = absurd h
+stops_walk-below : (pages : Pages) (files : List File) (name : Name) (e : VolError) → RefusesBelow files name e → stops_walk (node_of pages files (name ∷ [])) ≡ Some e
+stops_walk-below pages files name NotDir h = ap (λ o. stops_walk (option_map node.File o)) (find_entry-first pages files name h.0 no_file h.1)
+stops_walk-below pages files name NotFound h = ap (λ o. stops_walk (option_map node.File o)) (find_entry-none pages files name h)
+stops_walk-below pages files name e h = absurd h
 
 -- a walk of which the first two steps are known
 two_steps : (first second : Option Node) (rest : Option VolError) (e : VolError) → first ≡ Some node.Dir → stops_walk second ≡ Some e
@@ -64,14 +65,14 @@ two_steps first second rest e dir stops =
     ap (λ o. ok_unless (option_or (stops_walk o) (option_or (stops_walk second) rest))) dir ∙ ap (λ o. ok_unless (option_or o rest)) stops
 
 -- The files stand for the tree.
-module _ (table : Table) (files : List File) (tree : Tree) (means : TreeMeans table files tree) where
+module _ (pages : Pages) (files : List File) (tree : Tree) (means : TreeMeans pages files tree) where
   -- nothing stands under a name that no file has
   lookup-none : (name : Name) → NoneNamed files name → lookup tree (name ∷ []) ≡ None
-  lookup-none name none = means.each (name ∷ []) ∙ ap (option_map node.File) (find_entry-none table files name none)
+  lookup-none name none = means.each (name ∷ []) ∙ ap (option_map node.File) (find_entry-none pages files name none)
 
   -- a file stands under its name
-  lookup-first : (name : Name) (i : ℕ) (d : File) → IsFirstNamed files name i → lookup tree (name ∷ []) ≡ Some (node.File (content table (get_or files i d)))
-  lookup-first name i d first = means.each (name ∷ []) ∙ ap (option_map node.File) (find_entry-first table files name i d first)
+  lookup-first : (name : Name) (i : ℕ) (d : File) → IsFirstNamed files name i → lookup tree (name ∷ []) ≡ Some (node.File (content pages (get_or files i d)))
+  lookup-first name i d first = means.each (name ∷ []) ∙ ap (option_map node.File) (find_entry-first pages files name i d first)
 
   -- the walk to a child of the root comes there
   walk-child : (name : Name) → walk tree (name ∷ []) ≡ Ok tt
@@ -81,7 +82,7 @@ module _ (table : Table) (files : List File) (tree : Tree) (means : TreeMeans ta
   walk-below : (name below : Name) (names : Path) (e : VolError) → RefusesBelow files name e → walk tree (name ∷ below ∷ names) ≡ Err e
   walk-below name below names e h =
       two_steps (lookup tree []) (lookup tree (name ∷ [])) (stop_from tree (name ∷ below ∷ []) names) e (means.each [])
-      (ap stops_walk (means.each (name ∷ [])) ∙ stops_walk-below table files name e h)
+      (ap stops_walk (means.each (name ∷ [])) ∙ stops_walk-below pages files name e h)
 
   -- ---- the file at a path
 
@@ -98,7 +99,7 @@ module _ (table : Table) (files : List File) (tree : Tree) (means : TreeMeans ta
   file_at-none name none = file_at-child name ∙ ap (λ o. after (ok_or o NotFound) file_in) (lookup-none name none)
 
   -- a file has the name
-  pub file_at-first : (name : Name) (i : ℕ) (d : File) → IsFirstNamed files name i → file_at tree (name ∷ []) ≡ Ok (content table (get_or files i d))
+  pub file_at-first : (name : Name) (i : ℕ) (d : File) → IsFirstNamed files name i → file_at tree (name ∷ []) ≡ Ok (content pages (get_or files i d))
   file_at-first name i d first = file_at-child name ∙ ap (λ o. after (ok_or o NotFound) file_in) (lookup-first name i d first)
 
   -- nothing is below a name
@@ -145,7 +146,7 @@ module _ (table : Table) (files : List File) (tree : Tree) (means : TreeMeans ta
 
   -- what spells the name of a file reads its bytes
   pub read-first : (offset len : ℕ) (name : Name) (i : ℕ) (d : File) (r : Result Path VolError) → r ≡ Ok (name ∷ []) → IsFirstNamed files name i
-      → after r (read tree offset len) ≡ Ok (answer.Bytes (take len (drop offset (content table (get_or files i d)))))
+      → after r (read tree offset len) ≡ Ok (answer.Bytes (take len (drop offset (content pages (get_or files i d)))))
   read-first offset len name i d r spelt first =
       ap (λ q. after q (read tree offset len)) spelt ∙ ap (λ f. after f (λ bytes. Ok (answer.Bytes (take len (drop offset bytes))))) (file_at-first name i d first)
 

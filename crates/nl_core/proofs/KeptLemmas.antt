@@ -10,7 +10,7 @@ use Rattle.nl_core.specs.Means.{numbered}
 use Rattle.nl_core.specs.declared.checkpoint.Checkpoint.{Checkpoint}
 
 -- the order's test of two numbers is `==`
-eq_by_cmp-nat_cmp : (n m : ℕ) → eq_by_cmp nat_cmp n m ≡ eqb m n
+pub eq_by_cmp-nat_cmp : (n m : ℕ) → eq_by_cmp nat_cmp n m ≡ eqb m n
 eq_by_cmp-nat_cmp n m = grind (arith, nat_tests)
 
 -- the first checkpoint of a number is the one that is found under it

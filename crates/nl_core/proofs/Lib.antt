@@ -8,10 +8,11 @@ pub mod TreeMeaning
 pub mod Events
 pub mod Changes
 pub mod NewVolumes
+pub mod Gaining
 pub mod Settling
-pub mod PutLemmas
 pub mod Published
-pub mod Layouts
+pub mod WrittenBlocks
+pub mod Ledgers
 pub mod Checkpointing
 pub mod Moving
 pub mod OneWorld

@@ -14,7 +14,8 @@ use Rattle.std.proofs.lemmas.List.{length-set, length_push}
 use Rattle.nl_types.specs.declared.reply.Node.TheVariants as node
 use Rattle.nl_types.specs.Paths.{Name, Path, name_cmp, path_cmp, same_name}
 use Rattle.nl_types.specs.Trees.{Tree, IsTree, lookup, insert}
-use Rattle.nl_core.specs.Content.{Table, TreeMeans, content, node_of}
+use Rattle.nl_types.specs.Roots.{Pages}
+use Rattle.nl_core.specs.Content.{TreeMeans, content, node_of}
 use Rattle.nl_core.specs.Named.{NoneNamed, IsFirstNamed}
 use Rattle.nl_core.specs.declared.file.File.{File}
 use Rattle.nl_core.proofs.NamedFiles.{names_equal, find_entry, find_entry-none, find_entry-first, find_entry-push, find_entry-set}
@@ -49,17 +50,17 @@ option_map-cond f true x o = refl
 option_map-cond f false x o = refl
 
 -- what stands at a path once the file has its place in the tree
-each-inserted : (table : Table) (old new : List File) (tree : Tree) (name : Name) (bytes : List ℕ) → TreeMeans table old tree
-    → ((q : Name) → find_entry table new q ≡ cond (same_name q name) (Some bytes) (find_entry table old q))
-    → (path : Path) → lookup (insert tree (name ∷ []) (node.File bytes)) path ≡ node_of table new path
-each-inserted table old new tree name bytes m found [] = find-put path_cmp path_total [] (name ∷ []) (node.File bytes) tree ∙ m.each []
-each-inserted table old new tree name bytes m found (q ∷ []) =
+each-inserted : (pages : Pages) (old new : List File) (tree : Tree) (name : Name) (bytes : List ℕ) → TreeMeans pages old tree
+    → ((q : Name) → find_entry pages new q ≡ cond (same_name q name) (Some bytes) (find_entry pages old q))
+    → (path : Path) → lookup (insert tree (name ∷ []) (node.File bytes)) path ≡ node_of pages new path
+each-inserted pages old new tree name bytes m found [] = find-put path_cmp path_total [] (name ∷ []) (node.File bytes) tree ∙ m.each []
+each-inserted pages old new tree name bytes m found (q ∷ []) =
     find-put path_cmp path_total (q ∷ []) (name ∷ []) (node.File bytes) tree
     ∙ ap (λ b. cond b (Some (node.File bytes)) (lookup tree (q ∷ []))) (is_eq-then_equal (name_cmp q name))
     ∙ ap (cond (same_name q name) (Some (node.File bytes))) (m.each (q ∷ []))
-    ∙ option_map-cond node.File (same_name q name) bytes (find_entry table old q)
+    ∙ option_map-cond node.File (same_name q name) bytes (find_entry pages old q)
     ∙ ap (option_map node.File) (sym (found q))
-each-inserted table old new tree name bytes m found (q ∷ r ∷ rest) =
+each-inserted pages old new tree name bytes m found (q ∷ r ∷ rest) =
     find-put path_cmp path_total (q ∷ r ∷ rest) (name ∷ []) (node.File bytes) tree
     ∙ ap (λ b. cond b (Some (node.File bytes)) (lookup tree (q ∷ r ∷ rest))) (is_eq-then_greater (name_cmp q name))
     ∙ m.each (q ∷ r ∷ rest)
@@ -69,27 +70,27 @@ ascends : (tree : Tree) → IsTree tree → T (is_sorted path_cmp tree)
 ascends tree is = subst T (sym is.ordered) tt
 
 -- the tree with a file of a new name
-pub tree-created : (table : Table) (files : List File) (tree : Tree) (name : Name) (f : File) → IsTree tree → TreeMeans table files tree → NoneNamed files name → f.name ≡ name
-    → TreeMeans table (files ++ f ∷ []) (insert tree (name ∷ []) (node.File (content table f)))
-tree-created table files tree name f is m none e = record {
-  each = each-inserted table files (files ++ f ∷ []) tree name (content table f) m (λ q. find_entry-push table files name f q none e);
-  count = length-put path_cmp path_total (name ∷ []) (node.File (content table f)) tree (ascends tree is)
-      ∙ cond-false (is_some (lookup tree (name ∷ []))) (length tree) (length tree + 1) (ap is_some (m.each (name ∷ [])) ∙ ap (λ o. is_some (option_map node.File o)) (find_entry-none table files name none))
+pub tree-created : (pages : Pages) (files : List File) (tree : Tree) (name : Name) (f : File) → IsTree tree → TreeMeans pages files tree → NoneNamed files name → f.name ≡ name
+    → TreeMeans pages (files ++ f ∷ []) (insert tree (name ∷ []) (node.File (content pages f)))
+tree-created pages files tree name f is m none e = record {
+  each = each-inserted pages files (files ++ f ∷ []) tree name (content pages f) m (λ q. find_entry-push pages files name f q none e);
+  count = length-put path_cmp path_total (name ∷ []) (node.File (content pages f)) tree (ascends tree is)
+      ∙ cond-false (is_some (lookup tree (name ∷ []))) (length tree) (length tree + 1) (ap is_some (m.each (name ∷ [])) ∙ ap (λ o. is_some (option_map node.File o)) (find_entry-none pages files name none))
       ∙ ap (λ n. n + 1) m.count ∙ ap (λ n. n + 1) (sym (length_push files f));
 }
 
 -- the tree with another file under the same name
-pub tree-written : (table : Table) (files : List File) (tree : Tree) (name : Name) (i : ℕ) (f : File) → IsTree tree → TreeMeans table files tree → IsFirstNamed files name i → f.name ≡ name
-    → TreeMeans table (set files i f) (insert tree (name ∷ []) (node.File (content table f)))
-tree-written table files tree name i f is m first e = record {
-  each = each-inserted table files (set files i f) tree name (content table f) m (λ q. find_entry-set table files name i f q first e);
-  count = length-put path_cmp path_total (name ∷ []) (node.File (content table f)) tree (ascends tree is)
-      ∙ cond-true (is_some (lookup tree (name ∷ []))) (length tree) (length tree + 1) (ap is_some (m.each (name ∷ [])) ∙ ap (λ o. is_some (option_map node.File o)) (find_entry-first table files name i f first))
+pub tree-written : (pages : Pages) (files : List File) (tree : Tree) (name : Name) (i : ℕ) (f : File) → IsTree tree → TreeMeans pages files tree → IsFirstNamed files name i → f.name ≡ name
+    → TreeMeans pages (set files i f) (insert tree (name ∷ []) (node.File (content pages f)))
+tree-written pages files tree name i f is m first e = record {
+  each = each-inserted pages files (set files i f) tree name (content pages f) m (λ q. find_entry-set pages files name i f q first e);
+  count = length-put path_cmp path_total (name ∷ []) (node.File (content pages f)) tree (ascends tree is)
+      ∙ cond-true (is_some (lookup tree (name ∷ []))) (length tree) (length tree + 1) (ap is_some (m.each (name ∷ [])) ∙ ap (λ o. is_some (option_map node.File o)) (find_entry-first pages files name i f first))
       ∙ m.count ∙ ap (λ n. n + 1) (sym (length-set files i f));
 }
 
 -- ---- files stand for one tree
 
 -- two trees that the same files stand for are the same
-pub same_tree : (table : Table) (files : List File) (s t : Tree) → IsTree s → IsTree t → TreeMeans table files s → TreeMeans table files t → s ≡ t
-same_tree table files s t is it m n = same_entries path_cmp path_total paths_equal s t (ascends s is) (ascends t it) (λ q. m.each q ∙ sym (n.each q))
+pub same_tree : (pages : Pages) (files : List File) (s t : Tree) → IsTree s → IsTree t → TreeMeans pages files s → TreeMeans pages files t → s ≡ t
+same_tree pages files s t is it m n = same_entries path_cmp path_total paths_equal s t (ascends s is) (ascends t it) (λ q. m.each q ∙ sym (n.each q))

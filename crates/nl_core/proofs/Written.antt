@@ -6,7 +6,8 @@ use Rattle.std.proofs.lemmas.List.FromFn.{get_or-map-range_with_len, length-map-
 use Rattle.std.proofs.lemmas.Bool.{cases_lt, cases_eq, cond-true, cond-false}
 use Rattle.std.proofs.lemmas.Bool.Decides.{nat_tests}
 use Rattle.nl_types.specs.Calls.{overwritten}
-use Rattle.nl_core.specs.Content.{Table, bytes_in, byte_of, content, slot_in, IsThere, IsTidy}
+use Rattle.nl_types.specs.Roots.{Pages}
+use Rattle.nl_core.specs.Content.{bytes_in, byte_of, content, slot_in, IsThere, IsTidy}
 use Rattle.nl_core.specs.Over.{is_over, byte_over, slot_over, block_end, IsBlockOver, IsTouched, HasMade}
 use Rattle.nl_core.specs.declared.file.Slot.{Slot}
 use Rattle.nl_core.specs.declared.file.File.{File}
@@ -155,9 +156,9 @@ byte_over_behind (b ∷ bytes) offset i old behind = byte_over_above (b ∷ byte
 in_or_out : (first count i : ℕ) → ((first ≤ i) × (i < first + count)) ⊎ ((i < first) ⊎ (first + count ≤ i))
 in_or_out first count i = ⊎_elim (λ low. inr (inl low)) (λ high. ⊎_elim (λ within. inl (high, within)) (λ past. inr (inr past)) (cases_lt i (first + count))) (cases_lt i first)
 
-module _ (table : Table) (offset : ℕ) (bytes : List ℕ) (old new written : List Slot)
+module _ (pages : Pages) (offset : ℕ) (bytes : List ℕ) (old new written : List Slot)
     (count : offset / 1024 + length written ≡ block_end offset (length bytes))
-    (blocks : (k : ℕ) → k < length written → IsBlockOver table (1024 * (offset / 1024 + k)) offset bytes (slot_in old (offset / 1024 + k)) (bytes_in table (slot_in written k)))
+    (blocks : (k : ℕ) → k < length written → IsBlockOver pages (1024 * (offset / 1024 + k)) offset bytes (slot_in old (offset / 1024 + k)) (bytes_in pages (slot_in written k)))
     (put : (i : ℕ) → slot_in new i ≡ slot_over written (offset / 1024) i (slot_in old i)) where
   -- a property of the slots that were put, and of all before, is one of all after
   pub each_slot : (P : ℕ → Slot → Type 0) → ((k : ℕ) → k < length written → P (offset / 1024 + k) (slot_in written k)) → ((i : ℕ) → P i (slot_in old i)) → (i : ℕ) → P i (slot_in new i)
@@ -183,50 +184,50 @@ module _ (table : Table) (offset : ℕ) (bytes : List ℕ) (old new written : Li
   }
 
   -- what each byte of the file is
-  pub byte_of-written : (i : ℕ) → byte_of table new i ≡ byte_over bytes offset i (byte_of table old i)
+  pub byte_of-written : (i : ℕ) → byte_of pages new i ≡ byte_over bytes offset i (byte_of pages old i)
   byte_of-written i =
       let whole : 1024 * (i / 1024) + i % 1024 ≡ i = omega arith in
-      ap (λ s. get_or (bytes_in table s) (i % 1024) 0) (put (i / 1024)) ∙ ⊎_elim
+      ap (λ s. get_or (bytes_in pages s) (i % 1024) 0) (put (i / 1024)) ∙ ⊎_elim
       (λ inside.
       let k = i / 1024 - offset / 1024 in
       let at : offset / 1024 + k ≡ i / 1024 = omega (arith, inside.0) in
-      ap (λ s. get_or (bytes_in table s) (i % 1024) 0) (slot_over_in written (offset / 1024) (i / 1024) (slot_in old (i / 1024)) inside.0 inside.1)
-      ∙ subst (λ b. get_or (bytes_in table (slot_in written k)) (i % 1024) 0 ≡ byte_over bytes offset (1024 * b + i % 1024) (get_or (bytes_in table (slot_in old b)) (i % 1024) 0)) at
+      ap (λ s. get_or (bytes_in pages s) (i % 1024) 0) (slot_over_in written (offset / 1024) (i / 1024) (slot_in old (i / 1024)) inside.0 inside.1)
+      ∙ subst (λ b. get_or (bytes_in pages (slot_in written k)) (i % 1024) 0 ≡ byte_over bytes offset (1024 * b + i % 1024) (get_or (bytes_in pages (slot_in old b)) (i % 1024) 0)) at
       (blocks k (omega (arith, inside.0, inside.1)) (i % 1024) (omega arith))
-      ∙ ap (λ j. byte_over bytes offset j (byte_of table old i)) whole)
+      ∙ ap (λ j. byte_over bytes offset j (byte_of pages old i)) whole)
       (λ outside.
-      ap (λ s. get_or (bytes_in table s) (i % 1024) 0) (slot_over_out written (offset / 1024) (i / 1024) (slot_in old (i / 1024)) outside)
+      ap (λ s. get_or (bytes_in pages s) (i % 1024) 0) (slot_over_out written (offset / 1024) (i / 1024) (slot_in old (i / 1024)) outside)
       ∙ sym (⊎_elim
-      (λ low. byte_over_below bytes offset i (byte_of table old i) (omega (arith, low)))
-      (λ high. byte_over_behind bytes offset i (byte_of table old i) (omega (arith, high, count)))
+      (λ low. byte_over_below bytes offset i (byte_of pages old i) (omega (arith, low)))
+      (λ high. byte_over_behind bytes offset i (byte_of pages old i) (omega (arith, high, count)))
       outside))
       (in_or_out (offset / 1024) (length written) (i / 1024))
 
 -- ---- whole files
 
-length-content : (table : Table) (f : File) → length (content table f) ≡ f.size
-length-content table f = length-map-range_with_len (byte_of table f.slots) 0 f.size
+length-content : (pages : Pages) (f : File) → length (content pages f) ≡ f.size
+length-content pages f = length-map-range_with_len (byte_of pages f.slots) 0 f.size
 
-get_or-content : (table : Table) (f : File) (i : ℕ) → IsTidy table f → get_or (content table f) i 0 ≡ byte_of table f.slots i
-get_or-content table f i tidy = ⊎_elim
-    (λ low. get_or-map-range_with_len (byte_of table f.slots) 0 f.size i i 0 low (omega arith))
-    (λ high. get_or_past (content table f) i 0 (omega (arith, length-content table f)) ∙ sym (tidy i high))
+get_or-content : (pages : Pages) (f : File) (i : ℕ) → IsTidy pages f → get_or (content pages f) i 0 ≡ byte_of pages f.slots i
+get_or-content pages f i tidy = ⊎_elim
+    (λ low. get_or-map-range_with_len (byte_of pages f.slots) 0 f.size i i 0 low (omega arith))
+    (λ high. get_or_past (content pages f) i 0 (omega (arith, length-content pages f)) ∙ sym (tidy i high))
     (cases_lt i f.size)
 
 -- what the file stands for, once bytes are written
-pub content-written : (table : Table) (offset : ℕ) (bytes : List ℕ) (old new : File) → IsTidy table old → ((i : ℕ) → byte_of table new.slots i ≡ byte_over bytes offset i (byte_of table old.slots i))
-    → new.size ≡ max old.size (offset + length bytes) → content table new ≡ overwritten (content table old) offset bytes
-content-written table offset bytes old new tidy over size =
+pub content-written : (pages : Pages) (offset : ℕ) (bytes : List ℕ) (old new : File) → IsTidy pages old → ((i : ℕ) → byte_of pages new.slots i ≡ byte_over bytes offset i (byte_of pages old.slots i))
+    → new.size ≡ max old.size (offset + length bytes) → content pages new ≡ overwritten (content pages old) offset bytes
+content-written pages offset bytes old new tidy over size =
     ext_get_or 0 _ _
-    (length-content table new ∙ size ∙ ap (λ n. max n (offset + length bytes)) (sym (length-content table old)) ∙ sym (length-overwritten (content table old) offset bytes))
+    (length-content pages new ∙ size ∙ ap (λ n. max n (offset + length bytes)) (sym (length-content pages old)) ∙ sym (length-overwritten (content pages old) offset bytes))
     (λ i h.
-    get_or-map-range_with_len (byte_of table new.slots) 0 new.size i i 0 (omega (arith, length-content table new)) (omega arith)
+    get_or-map-range_with_len (byte_of pages new.slots) 0 new.size i i 0 (omega (arith, length-content pages new)) (omega arith)
     ∙ over i
-    ∙ ap (byte_over bytes offset i) (sym (get_or-content table old i tidy))
-    ∙ sym (get_or-overwritten (content table old) offset bytes i))
+    ∙ ap (byte_over bytes offset i) (sym (get_or-content pages old i tidy))
+    ∙ sym (get_or-overwritten (content pages old) offset bytes i))
 
 -- no byte is stored past the new end
-pub IsTidy-written : (table : Table) (offset : ℕ) (bytes : List ℕ) (old new : File) → IsTidy table old → ((i : ℕ) → byte_of table new.slots i ≡ byte_over bytes offset i (byte_of table old.slots i))
-    → new.size ≡ max old.size (offset + length bytes) → IsTidy table new
-IsTidy-written table offset bytes old new tidy over size i past =
-    over i ∙ byte_over_above bytes offset i (byte_of table old.slots i) (omega arith) ∙ tidy i (omega arith)
+pub IsTidy-written : (pages : Pages) (offset : ℕ) (bytes : List ℕ) (old new : File) → IsTidy pages old → ((i : ℕ) → byte_of pages new.slots i ≡ byte_over bytes offset i (byte_of pages old.slots i))
+    → new.size ≡ max old.size (offset + length bytes) → IsTidy pages new
+IsTidy-written pages offset bytes old new tidy over size i past =
+    over i ∙ byte_over_above bytes offset i (byte_of pages old.slots i) (omega arith) ∙ tidy i (omega arith)

@@ -1,39 +1,28 @@
 -- A checkpoint that is not published yet.
-use Rattle.std.specs.Prelude.{◌≡◌, ℕ, ◌+◌, ◌<◌, ◌≤◌, List}
+use Rattle.std.specs.Prelude.{◌≡◌, ℕ, ◌+◌, ◌<◌, ◌≤◌, true}
 use Rattle.nl_types.specs.declared.error.VolError.{VolError}
 use Rattle.nl_types.specs.declared.error.VolError.TheVariants.{NoSpace, Memory, NumbersSpent}
 use Rattle.nl_types.specs.declared.event.Mode.{Mode}
+use Rattle.nl_types.specs.Entries.{Content}
 use Rattle.nl_types.specs.Limits.{checkpoint_number_limit}
-use Rattle.nl_core.specs.Settled.{changed_pages, settled_files}
-use Rattle.nl_core.specs.Volume.{Volume, changed, unused, next_checkpoint}
-use Rattle.nl_core.specs.declared.file.File.{File}
-use Rattle.nl_core.specs.declared.checkpoint.Checkpoint.{Checkpoint}
+use Rattle.nl_types.specs.Segments.{Segments}
+use Rattle.nl_types.specs.Placing.{LacksSpace}
+use Rattle.nl_dat.specs.Batches.{Fits}
+use Rattle.nl_core.specs.Settled.{WritesChanged, AreSettled}
+use Rattle.nl_core.specs.Volume.{Lists, changed, next_checkpoint}
 use Rattle.nl_core.specs.declared.draft.Draft.{Draft}
-use Rattle.nl_core.specs.declared.draft.Settled.{Settled}
 
--- the changed blocks of the current files have the numbers from the first on; `blank` is the checkpoint without files
-pub record IsDraft (first : ℕ) (current : List File) (blank : Checkpoint) (draft : Draft) : Type 0 where
-  pub checkpoint : draft.settled.checkpoint ≡ record blank { files = settled_files first current }
-  pub files : draft.settled.files ≡ settled_files first current
-  pub settled : draft.settled.pages ≡ changed_pages current
-  pub pages : draft.pages ≡ changed_pages current
+-- The draft of the lists' next checkpoint, for which there is a number. A store of such a capacity and content can take its batch.
+pub record IsNextDraft (capacity : ℕ) (content : Content) (mode : Mode) (moment : ℕ) (l : Lists) (draft : Draft) : Type 0 where
+  pub left : l.latest.number + 1 < checkpoint_number_limit
+  pub checkpoint : draft.checkpoint ≡ next_checkpoint mode moment draft.files l
+  pub writes : WritesChanged content l.latest.files l.files draft.batch
+  pub settled : AreSettled draft.batch.births l.files draft.files
+  pub fits : Fits capacity content draft.batch
 
--- why a checkpoint is refused before anything is put: numbers are judged first, then space, and memory last
-abbrev pub IsDraftRefusal : Volume → VolError → Type 0
-IsDraftRefusal v NumbersSpent = checkpoint_number_limit ≤ v.latest.number + 1
-IsDraftRefusal v NoSpace = (v.latest.number + 1 < checkpoint_number_limit) × (unused v < changed v)
-IsDraftRefusal v Memory = (v.latest.number + 1 < checkpoint_number_limit) × (changed v ≤ unused v)
-IsDraftRefusal v e = ⊥
-
--- the volume's next checkpoint, for which there are numbers and space
-pub record IsNext (mode : Mode) (moment : ℕ) (v : Volume) (s : Settled) : Type 0 where
-  pub left : v.latest.number + 1 < checkpoint_number_limit
-  pub space : changed v ≤ unused v
-  pub checkpoint : s.checkpoint ≡ next_checkpoint mode moment v
-  pub files : s.files ≡ settled_files v.next v.files
-  pub pages : s.pages ≡ changed_pages v.files
-
--- the draft of it
-pub record IsNextDraft (mode : Mode) (moment : ℕ) (v : Volume) (draft : Draft) : Type 0 where
-  pub settled : IsNext mode moment v draft.settled
-  pub pages : draft.pages ≡ changed_pages v.files
+-- why a checkpoint is refused: numbers are judged first
+abbrev pub IsDraftRefusal : Segments → Lists → VolError → Type 0
+IsDraftRefusal segments l NumbersSpent = checkpoint_number_limit ≤ l.latest.number + 1
+IsDraftRefusal segments l NoSpace = (l.latest.number + 1 < checkpoint_number_limit) × LacksSpace segments true (changed l)
+IsDraftRefusal segments l Memory = l.latest.number + 1 < checkpoint_number_limit
+IsDraftRefusal segments l e = ⊥

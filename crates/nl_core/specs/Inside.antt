@@ -1,20 +1,18 @@
 -- What the fields of the pen's tables hold.
 use Rattle.std.specs.Prelude.{◌-◌, vec_capacity, vec_len}
-use Rattle.nl_core.specs.Volume.{Volume}
+use Rattle.nl_core.specs.Volume.{Lists}
 use Rattle.nl_core.specs.Tables.{Roomy}
 use Rattle.nl_core.specs.declared.tables.Tables.TheInside.{Inside}
 
-abbrev pub volume_of : Inside → Volume
-volume_of t = record {
+abbrev pub lists_of : Inside → Lists
+lists_of t = record {
   files = t.files.items;
   dirty = t.dirty;
   earlier = t.earlier.items;
   latest = t.latest;
   mounts = t.mounts.items;
   given = t.given;
-  table = t.pages.items;
-  next = t.next;
 }
 
 abbrev pub roomy_of : Inside → Roomy
-roomy_of t = record { volume = volume_of t; room = vec_capacity t.earlier - vec_len t.earlier }
+roomy_of t = record { lists = lists_of t; room = vec_capacity t.earlier - vec_len t.earlier }

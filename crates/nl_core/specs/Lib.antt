@@ -7,7 +7,7 @@ pub mod Settled
 pub mod Volume
 pub mod Means
 pub mod Draft
-pub mod Put
+pub mod Gains
 pub mod Tables
 pub mod Inside
 pub mod Layout

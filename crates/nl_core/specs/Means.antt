@@ -4,16 +4,17 @@ use Rattle.std.specs.List.{AllZip}
 use Rattle.nl_types.specs.declared.event.Event.{Event}
 use Rattle.nl_types.specs.Worlds.{World, Copy, IsWorld, Reply}
 use Rattle.nl_types.specs.Runs.{Step}
-use Rattle.nl_core.specs.Content.{Table, TreeMeans}
+use Rattle.nl_types.specs.Roots.{Pages}
+use Rattle.nl_core.specs.Content.{TreeMeans}
 use Rattle.nl_core.specs.Volume.{Volume, kept_in}
 use Rattle.nl_core.specs.declared.checkpoint.Checkpoint.{Checkpoint}
 use Rattle.nl_core.specs.declared.checkpoint.Mounted.{Mounted}
 
-pub record CopyMeans (table : Table) (c : Checkpoint) (copy : ℕ × Copy) : Type 0 where
+pub record CopyMeans (pages : Pages) (c : Checkpoint) (copy : ℕ × Copy) : Type 0 where
   pub number : copy.0 ≡ c.number
   pub mode : copy.1.mode ≡ c.mode
   pub stamp : copy.1.stamp ≡ c.stamp
-  pub tree : TreeMeans table c.files copy.1.tree
+  pub tree : TreeMeans pages c.files copy.1.tree
 
 abbrev pub mount_of : Mounted → ℕ × ℕ
 mount_of m = (m.number, m.checkpoint)
@@ -24,9 +25,9 @@ numbered c = (c.number, c)
 
 pub record Means (v : Volume) (w : World) : Type 0 where
   pub world : IsWorld w
-  pub tree : TreeMeans v.table v.files w.tree
+  pub tree : TreeMeans v.pages v.files w.tree
   pub dirty : w.dirty ≡ v.dirty
-  pub copies : AllZip (CopyMeans v.table) (kept_in v) w.copies
+  pub copies : AllZip (CopyMeans v.pages) (kept_in v) w.copies
   pub mounts : w.mounts ≡ map mount_of v.mounts
   pub given : w.given ≡ v.given
 

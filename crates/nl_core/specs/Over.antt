@@ -1,7 +1,8 @@
 -- Bytes written over others, block by block.
 use Rattle.std.specs.Prelude.{◌≡◌, ℕ, zero, suc, Bool, ◌+◌, ◌-◌, ◌/◌, ◌<◌, ◌≤◌, nat_le, nat_lt, ◌&&◌, if◌then◌else◌, List, length, slice_index}
 use Rattle.nl_types.specs.Calls.{overwritten}
-use Rattle.nl_core.specs.Content.{Table, bytes_in, content, slot_in, IsThere, IsTidy, IsPlaced, IsMarkedOver}
+use Rattle.nl_types.specs.Roots.{Pages}
+use Rattle.nl_core.specs.Content.{bytes_in, content, slot_in, IsThere, IsTidy, IsPlaced, IsMarkedOver}
 use Rattle.nl_core.specs.declared.file.Slot.{Slot}
 use Rattle.nl_core.specs.declared.file.File.{File}
 
@@ -18,8 +19,8 @@ abbrev pub slot_over : List Slot → ℕ → ℕ → Slot → Slot
 slot_over slots first i old = if is_over first (length slots) i then slot_in slots (i - first) else old
 
 -- the bytes of the block that begins at `start`, once bytes are written at an offset
-abbrev pub IsBlockOver : Table → ℕ → ℕ → List ℕ → Slot → List ℕ → Type 0
-IsBlockOver table start offset bytes old new = (j : ℕ) → j < 1024 → slice_index new j ≡ byte_over bytes offset (start + j) (slice_index (bytes_in table old) j)
+abbrev pub IsBlockOver : Pages → ℕ → ℕ → List ℕ → Slot → List ℕ → Type 0
+IsBlockOver pages start offset bytes old new = (j : ℕ) → j < 1024 → slice_index new j ≡ byte_over bytes offset (start + j) (slice_index (bytes_in pages old) j)
 
 -- behind the last block that so many bytes from an offset on lie in
 abbrev pub block_end : ℕ → ℕ → ℕ
@@ -38,11 +39,11 @@ pub record HasMade (offset count : ℕ) (old new : List Slot) : Type 0 where
   pub others : (i : ℕ) → (IsTouched offset count i → ⊥) → slot_in new i ≡ slot_in old i
 
 -- the file, once bytes are written at an offset. `latest` has the slots of the latest checkpoint
-pub record IsWritten (table : Table) (latest : List Slot) (offset : ℕ) (bytes : List ℕ) (old new : File) : Type 0 where
+pub record IsWritten (pages : Pages) (latest : List Slot) (offset : ℕ) (bytes : List ℕ) (old new : File) : Type 0 where
   pub name : new.name ≡ old.name
-  pub content : content table new ≡ overwritten (content table old) offset bytes
+  pub content : content pages new ≡ overwritten (content pages old) offset bytes
   pub made : HasMade offset (length bytes) old.slots new.slots
-  pub tidy : IsTidy table new
+  pub tidy : IsTidy pages new
   pub count : length new.slots ≤ 65536
-  pub placed : ((i : ℕ) → IsPlaced table (slot_in old.slots i)) → (i : ℕ) → IsPlaced table (slot_in new.slots i)
-  pub marked : ((i : ℕ) → IsMarkedOver table (slot_in latest i) (slot_in old.slots i)) → (i : ℕ) → IsMarkedOver table (slot_in latest i) (slot_in new.slots i)
+  pub placed : ((i : ℕ) → IsPlaced pages (slot_in old.slots i)) → (i : ℕ) → IsPlaced pages (slot_in new.slots i)
+  pub marked : ((i : ℕ) → IsMarkedOver pages (slot_in latest i) (slot_in old.slots i)) → (i : ℕ) → IsMarkedOver pages (slot_in latest i) (slot_in new.slots i)

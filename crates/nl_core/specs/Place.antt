@@ -10,7 +10,8 @@ use Rattle.nl_types.specs.Paths.{Name, Path, path_of}
 use Rattle.nl_types.specs.Trees.{Tree}
 use Rattle.nl_types.specs.Calls.{ShowsUnlessMemory, after, file_at, create, read, reply_to}
 use Rattle.nl_types.specs.Worlds.{Reply}
-use Rattle.nl_core.specs.Content.{Table, TreeMeans}
+use Rattle.nl_types.specs.Roots.{Pages}
+use Rattle.nl_core.specs.Content.{TreeMeans}
 use Rattle.nl_core.specs.Named.{NoneNamed, IsFirstNamed}
 use Rattle.nl_core.specs.declared.file.File.{File}
 use Rattle.nl_core.specs.declared.path.Place.{Place}
@@ -50,16 +51,16 @@ abbrev pub LeadsTo : List File → List ℕ → ℕ → Type 0
 LeadsTo files path index = (name : Name) × (path_of path ≡ Ok (name ∷ [])) × IsFirstNamed files name index
 
 -- the path leads to the file at this index; else the tree refuses so
-abbrev pub FindsFile : Table → List File → List ℕ → Result ℕ VolError → Type 0
-FindsFile table files path found = MatchResult found
+abbrev pub FindsFile : Pages → List File → List ℕ → Result ℕ VolError → Type 0
+FindsFile pages files path found = MatchResult found
     (LeadsTo files path)
-    (λ e. (tree : Tree) → TreeMeans table files tree → file_of tree path ≡ Err e)
+    (λ e. (tree : Tree) → TreeMeans pages files tree → file_of tree path ≡ Err e)
 
 -- the path spells this name, which no file has; else the tree refuses so, or memory ran out
-abbrev pub FindsFree : Table → List File → List ℕ → Result (List ℕ) VolError → Type 0
-FindsFree table files path found = MatchResult found
+abbrev pub FindsFree : Pages → List File → List ℕ → Result (List ℕ) VolError → Type 0
+FindsFree pages files path found = MatchResult found
     (λ name. (path_of path ≡ Ok (name ∷ [])) × NoneNamed files name × (length files < path_limit))
-    (λ e. (e ≢ Memory) → (tree : Tree) → TreeMeans table files tree → after (path_of path) (create tree (node.File [])) ≡ Err e)
+    (λ e. (e ≢ Memory) → (tree : Tree) → TreeMeans pages files tree → after (path_of path) (create tree (node.File [])) ≡ Err e)
 
 -- why nothing can be below a name: a file has it, or nothing has
 abbrev pub RefusesBelow : List File → Name → VolError → Type 0
@@ -68,12 +69,12 @@ RefusesBelow files name NotFound = NoneNamed files name
 RefusesBelow files name e = ⊥
 
 -- these bytes are the tree's answer; else it refuses so, or memory ran out
-abbrev pub ReadsFrom : Table → List File → List ℕ → ℕ → ℕ → Result (List ℕ) VolError → Type 0
-ReadsFrom table files path offset len found =
-    (tree : Tree) → TreeMeans table files tree → MatchResult found
+abbrev pub ReadsFrom : Pages → List File → List ℕ → ℕ → ℕ → Result (List ℕ) VolError → Type 0
+ReadsFrom pages files path offset len found =
+    (tree : Tree) → TreeMeans pages files tree → MatchResult found
     (λ bytes. after (path_of path) (read tree offset len) ≡ Ok (answer.Bytes bytes))
     (λ e. (e ≢ Memory) → after (path_of path) (read tree offset len) ≡ Err e)
 
 -- what the tree answers, unless memory ran out
-abbrev pub AnswersFrom : Table → List File → Ask → Reply → Type 0
-AnswersFrom table files ask reply = (tree : Tree) → TreeMeans table files tree → ShowsUnlessMemory (λ a. a) reply (reply_to tree ask)
+abbrev pub AnswersFrom : Pages → List File → Ask → Reply → Type 0
+AnswersFrom pages files ask reply = (tree : Tree) → TreeMeans pages files tree → ShowsUnlessMemory (λ a. a) reply (reply_to tree ask)

@@ -1,9 +1,31 @@
--- What a checkpoint makes of the files: each changed block gets the next number.
-use Rattle.std.specs.Prelude.{ℕ, ◌+◌, List, [], ◌∷◌, length, flat_map, slice_set, Some}
-use Rattle.nl_core.specs.Content.{Table}
+-- What a checkpoint makes of the files: each changed block gets a number, and the one that it replaces ends.
+use Rattle.std.specs.Prelude.{◌≡◌, ℕ, ◌+◌, ◌-◌, ◌<◌, ◌==◌, ◌&&◌, nat_le, if◌then◌else◌, List, [], ◌∷◌, ◌++◌, map, length, flat_map, Option, None, Some}
+use Rattle.std.specs.List.{Contains}
+use Rattle.nl_types.specs.Entries.{Place, Birth, Content}
+use Rattle.nl_types.specs.Lifetimes.{Numbers}
+use Rattle.nl_dat.specs.Batches.{Changes, TakeLowestFree}
+use Rattle.nl_core.specs.Content.{slot_in, slot_at, file_in}
 use Rattle.nl_core.specs.declared.file.Slot.{Slot}
 use Rattle.nl_core.specs.declared.file.Slot.TheVariants.{Hole, Stored, Changed}
 use Rattle.nl_core.specs.declared.file.File.{File}
+
+-- ---- places
+
+-- where a block of a file belongs: files have the inode numbers from 11 on, in the order of their creation
+abbrev pub place_of : ℕ → ℕ → Place
+place_of k i = record { inode = 11 + k; level = 0; offset = i }
+
+-- the number that a slot names
+abbrev pub number_in : Slot → Option ℕ
+number_in Hole = None
+number_in (Stored number) = Some number
+number_in (Changed page) = None
+
+-- the number at each place of the files
+abbrev pub numbers_of : List File → Numbers
+numbers_of files p = if (p.level == 0) && nat_le 11 p.inode then number_in (slot_at files (p.inode - 11) p.offset) else None
+
+-- ---- what is written
 
 -- the page that is not written yet, if there is one
 abbrev pub page_of : Slot → List (List ℕ)
@@ -11,31 +33,53 @@ page_of Hole = []
 page_of (Stored number) = []
 page_of (Changed page) = page ∷ []
 
-abbrev pub pages_of : File → List (List ℕ)
-pages_of file = flat_map page_of file.slots
+-- the changed blocks of a file from one on
+abbrev pub changed_slots : ℕ → ℕ → List Slot → List (Place × List ℕ)
+changed_slots k i [] = []
+changed_slots k i (slot ∷ slots) = map (λ page. (place_of k i, page)) (page_of slot) ++ changed_slots k (i + 1) slots
 
--- the changed blocks, file by file, each ascending
-abbrev pub changed_pages : List File → List (List ℕ)
-changed_pages files = flat_map pages_of files
+-- those of all files from one on
+abbrev pub changed_files : ℕ → List File → List (Place × List ℕ)
+changed_files k [] = []
+changed_files k (file ∷ files) = changed_slots k 0 file.slots ++ changed_files (k + 1) files
 
--- the slot, where its page gets this number
-abbrev pub settled : ℕ → Slot → Slot
-settled n Hole = Hole
-settled n (Stored number) = Stored number
-settled n (Changed page) = Stored n
+-- the changed blocks with their places: files in the order of their creation, the blocks of each ascending
+abbrev pub changed_blocks : List File → List (Place × List ℕ)
+changed_blocks = changed_files 0
 
-abbrev pub settled_slots : ℕ → List Slot → List Slot
-settled_slots n [] = []
-settled_slots n (slot ∷ slots) = settled n slot ∷ settled_slots (n + length (page_of slot)) slots
+abbrev pub block_of : Birth → Place × List ℕ
+block_of b = (b.place, b.page)
 
-abbrev pub settled_file : ℕ → File → File
-settled_file n file = record file { slots = settled_slots n file.slots }
+-- ---- what ends
 
-abbrev pub settled_files : ℕ → List File → List File
-settled_files n [] = []
-settled_files n (file ∷ files) = settled_file n file ∷ settled_files (n + length (pages_of file)) files
+abbrev pub listed : Option ℕ → List ℕ
+listed None = []
+listed (Some v) = v ∷ []
 
--- the table with pages at the numbers from n on
-abbrev pub with_pages : ℕ → List (List ℕ) → Table → Table
-with_pages n [] table = table
-with_pages n (page ∷ pages) table = with_pages (n + 1) pages (slice_set table n (Some page))
+-- the numbers that stood where something is written
+abbrev pub replaced : Numbers → List Birth → List ℕ
+replaced old births = flat_map (λ (b : Birth). listed (old b.place)) births
+
+-- What a checkpoint writes of the current files, and what ends of the latest ones: each changed block gets the lowest number that is free when its turn comes.
+pub record WritesChanged (content : Content) (latest current : List File) (changes : Changes) : Type 0 where
+  pub births : map block_of changes.births ≡ changed_blocks current
+  pub numbers : TakeLowestFree content [] changes.births
+  pub ends : changes.ends ≡ replaced (numbers_of latest) changes.births
+
+-- ---- the files behind it
+
+-- a changed block is stored under its birth's number, and every other stays
+abbrev pub IsSettled : List Birth → Place → Slot → Slot → Type 0
+IsSettled births p Hole new = new ≡ Hole
+IsSettled births p (Stored number) new = new ≡ Stored number
+IsSettled births p (Changed page) new = (b : Birth) × Contains births b × (b.place ≡ p) × (b.page ≡ page) × (new ≡ Stored b.number)
+
+pub record IsSettledFile (births : List Birth) (k : ℕ) (old new : File) : Type 0 where
+  pub name : new.name ≡ old.name
+  pub size : new.size ≡ old.size
+  pub count : length new.slots ≡ length old.slots
+  pub slots : (i : ℕ) → i < length old.slots → IsSettled births (place_of k i) (slot_in old.slots i) (slot_in new.slots i)
+
+pub record AreSettled (births : List Birth) (old new : List File) : Type 0 where
+  pub count : length new ≡ length old
+  pub each : (k : ℕ) → k < length old → IsSettledFile births k (file_in old k) (file_in new k)

@@ -1,23 +1,29 @@
 -- What contracts see of the pen's tables.
-use Rattle.std.specs.Prelude.{◌≡◌, ℕ, None, replicate, IsErr}
+use Rattle.std.specs.Prelude.{◌≡◌, ℕ, false, [], IsErr}
+use Rattle.nl_types.specs.declared.event.Mode.TheVariants.{Plain}
+use Rattle.nl_types.specs.Roots.{Pages}
 use Rattle.nl_types.specs.Worlds.{Reply}
-use Rattle.nl_core.specs.Volume.{Volume, IsSound, kept_in}
+use Rattle.nl_core.specs.Volume.{Lists, IsSound, kept_by, over}
 
 pub record Roomy : Type 0 where
-  pub volume : Volume
+  pub lists : Lists
   -- for how many more checkpoints there is room
   pub room : ℕ
 
--- nothing was put yet
-pub record IsNew (total : ℕ) (v : Volume) : Type 0 where
-  pub table : v.table ≡ replicate total None
-  pub next : v.next ≡ 0
-  pub sound : IsSound v
+-- checkpoint 1 of the root alone
+abbrev pub new_lists : ℕ → Lists
+new_lists now = record {
+  files = [];
+  dirty = false;
+  earlier = [];
+  latest = record { number = 1; mode = Plain; stamp = now; files = [] };
+  mounts = [];
+  given = 0;
+}
 
 -- an event that touches no block, and nothing at all where it is refused
-pub record KeepsBlocks (old : Volume) (reply : Reply) (new : Volume) : Type 0 where
-  pub table : new.table ≡ old.table
-  pub next : new.next ≡ old.next
-  pub kept : kept_in new ≡ kept_in old
+pub record KeepsBlocks (pages : Pages) (old : Lists) (reply : Reply) (new : Lists) : Type 0 where
+  pub kept : kept_by new ≡ kept_by old
+  pub latest : new.latest ≡ old.latest
   pub refused : IsErr reply → new ≡ old
-  pub sound : IsSound new
+  pub sound : IsSound (over pages new)

@@ -1,61 +1,120 @@
 //! What a checkpoint is going to write and keep, with all the memory that it takes.
-ghost use Rattle.std.specs.Prelude.{◌≡◌, ◌↔◌, ◌+◌, ◌<◌, ◌≤◌, ◌^◌, [], ◌++◌, length, max, IsTrue, IfOk, OnOk, MatchOption, MatchResult, flat_map};
-ghost use Rattle.nl_core.specs.Settled.{page_of, pages_of, changed_pages, settled, settled_file, settled_files};
-ghost use Rattle.nl_core.specs.Draft.{IsDraft};
+ghost use Rattle.std.specs.Prelude.{◌≡◌, ℕ, ◌+◌, ◌<◌, ◌≤◌, ◌^◌, true, [], ◌∷◌, ◌++◌, length, max, Some, IfOk, OnOk, IfErr, map};
+ghost use Rattle.nl_types.specs.Lifetimes.{Numbers};
+ghost use Rattle.nl_types.specs.Limits.{path_limit};
+ghost use Rattle.nl_dat.specs.Batches.{Fits, IsLowestFree, is_live};
+ghost use Rattle.nl_dat.specs.Stores.{capacity};
+ghost use Rattle.nl_core.specs.Content.{slot_in, slot_at};
+ghost use Rattle.nl_core.specs.Settled.{place_of, number_in, numbers_of, listed, page_of, changed_slots, changed_blocks, IsSettled, IsSettledFile, AreSettled, WritesChanged};
+ghost use Rattle.nl_core.specs.Gains.{Gains, IsNumberRefusal};
 
 use crate::checkpoint::Checkpoint;
-use crate::file::{File, Slot};
-use nl_types::{BlockNumber, Items, Page};
+use crate::file::{File, Slot, slot_or};
+use crate::find::slots_of;
+use nl_dat::{Batch, Vstore};
+use nl_layout::{Level, Tag};
+use nl_types::{InodeNumber, Items, Page, VirtualNumber, VolError};
 use std::alloc::{AllocError, Global};
 
-/// What the tables hold once a checkpoint is published.
-#[derive(Drop)]
-pub struct Settled {
-    pub checkpoint: Checkpoint,
-    /// The current files, with the changed blocks stored.
-    pub files: Items<File>,
-    /// The changed blocks, in the order of their numbers.
-    pub pages: Items<Page>,
-}
+/// The inode number of the first file; the others follow in the order of their creation.
+const FIRST_INODE: u64 = 11;
 
 /// A checkpoint that is not published yet.
 #[derive(Drop)]
 pub struct Draft {
-    pub settled: Settled,
-    /// The changed blocks, for the device.
-    pub pages: Items<Page>,
+    pub checkpoint: Checkpoint,
+    /// The current files, with the changed blocks stored.
+    pub files: Items<File>,
+    /// The changed blocks, each under a number of its own, and the numbers that they replace.
+    pub batch: Batch,
 }
 
-/// A slot once its page is in the batch, whose first page gets the number `first`.
-fn settle_slot(slot: &Slot, first: u32, batch: &mut Items<Page>) -> Result<Slot, AllocError>
-    requires room { first + length batch.old + length (page_of slot.now) < 2 ^ 32 }
-    ensures batch { OnOk result (batch.new ≡ batch.old ++ page_of slot.now) }
-    ensures slot { IfOk result (λ new. new ≡ settled (first + length batch.old) slot.now) }
+/// A block of a file: which file, and which block.
+#[derive(Clone, Copy)]
+struct BlockIndex {
+    file: usize,
+    block: usize,
+}
+
+/// Gives a changed block a number, and ends the one that the latest checkpoint has in its place.
+fn give_number<V: Vstore>(
+    store: &V,
+    batch: &mut Batch,
+    at: BlockIndex,
+    page: Page,
+    latest: &Slot,
+) -> Result<VirtualNumber, VolError>
+    requires few { at.file < path_limit }
+    requires fits { Fits (capacity (V.store store.now)) (V.content store.now) batch.old }
+    requires live { (v : ℕ) → number_in latest.now ≡ Some v → is_live (V.content store.now v) ≡ true }
+    ensures born { IfOk result (λ n. batch.new.births ≡ batch.old.births ++ record { number = n; place = place_of at.file at.block; page = page } ∷ []) }
+    ensures lowest { IfOk result (IsLowestFree (V.content store.now) batch.old.births) }
+    ensures ended { OnOk result (batch.new.ends ≡ batch.old.ends ++ listed (number_in latest.now)) }
+    ensures fits { OnOk result (Fits (capacity (V.store store.now)) (V.content store.now) batch.new) }
+    ensures refused { IfErr result (IsNumberRefusal (V.store store.now).segments (length batch.old.births + 1)) }
+{
+    let number = store.fresh(batch)?;
+    let tag = Tag {
+        number,
+        inode: InodeNumber::new(FIRST_INODE + at.file as u64),
+        level: Level::new(0),
+        offset: at.block as u64,
+    };
+    batch.add_birth(tag, page)?;
+    if let Slot::Stored(replaced) = latest {
+        batch.add_end(*replaced)?;
+    }
+    Ok(number)
+}
+
+/// A slot once its block, where it is changed, has a number.
+fn settle_slot<V: Vstore>(
+    store: &V,
+    batch: &mut Batch,
+    at: BlockIndex,
+    slot: &Slot,
+    latest: &Slot,
+) -> Result<Slot, VolError>
+    requires few { at.file < path_limit }
+    requires fits { Fits (capacity (V.store store.now)) (V.content store.now) batch.old }
+    requires live { (v : ℕ) → number_in latest.now ≡ Some v → is_live (V.content store.now v) ≡ true }
+    ensures slot { IfOk result (IsSettled batch.new.births (place_of at.file at.block) slot.now) }
+    ensures gains { OnOk result ((numbers : Numbers) → numbers (place_of at.file at.block) ≡ number_in latest.now → Gains (V.content store.now) numbers (map (λ page. (place_of at.file at.block, page)) (page_of slot.now)) batch.old batch.new) }
+    ensures fits { OnOk result (Fits (capacity (V.store store.now)) (V.content store.now) batch.new) }
+    ensures refused { IfErr result (IsNumberRefusal (V.store store.now).segments (length batch.old.births + length (page_of slot.now))) }
 {
     match slot {
         Slot::Hole => Ok(Slot::Hole),
         Slot::Stored(number) => Ok(Slot::Stored(*number)),
         Slot::Changed(page) => {
-            let number = BlockNumber::new(first + batch.len() as u32);
-            batch.push(page.share()?)?;
+            let number = give_number(store, batch, at, page.share()?, latest)?;
             Ok(Slot::Stored(number))
         }
     }
 }
 
-fn settle_file(
+/// A file once its changed blocks have numbers. `latest` has its slots at the latest checkpoint.
+fn settle_file<V: Vstore>(
     alloc: Global,
+    store: &V,
+    batch: &mut Batch,
+    index: usize,
     file: &File,
-    first: u32,
-    batch: &mut Items<Page>,
-) -> Result<File, AllocError>
-    requires room { first + length batch.old + length (pages_of file.now) < 2 ^ 32 }
-    ensures batch { OnOk result (batch.new ≡ batch.old ++ pages_of file.now) }
-    ensures file { IfOk result (λ new. new ≡ settled_file (first + length batch.old) file.now) }
+    latest: &[Slot],
+) -> Result<File, VolError>
+    requires few { index < path_limit }
+    requires fits { Fits (capacity (V.store store.now)) (V.content store.now) batch.old }
+    requires live { (i v : ℕ) → number_in (slot_in latest.now i) ≡ Some v → is_live (V.content store.now v) ≡ true }
+    ensures file { IfOk result (IsSettledFile batch.new.births index file.now) }
+    ensures gains { OnOk result ((numbers : Numbers) → ((i : ℕ) → numbers (place_of index i) ≡ number_in (slot_in latest.now i)) → Gains (V.content store.now) numbers (changed_slots index 0 file.now.slots) batch.old batch.new) }
+    ensures fits { OnOk result (Fits (capacity (V.store store.now)) (V.content store.now) batch.new) }
+    ensures refused { IfErr result (IsNumberRefusal (V.store store.now).segments (length batch.old.births + length (changed_slots index 0 file.now.slots))) }
 {
+    let hole = Slot::Hole;
     let mut slots = Items::new(alloc);
-    for slot in file.slots.as_slice() {
-        slots.push(settle_slot(slot, first, batch)?)?;
+    for (block, slot) in file.slots.as_slice().iter().enumerate() {
+        let at = BlockIndex { file: index, block };
+        slots.push(settle_slot(store, batch, at, slot, slot_or(latest, block, &hole))?)?;
     }
     Ok(File {
         name: Items::from_slice(alloc, file.name.as_slice())?,
@@ -64,63 +123,27 @@ fn settle_file(
     })
 }
 
-/// The files once their changed pages are in the batch, which is empty before.
-fn settle(
+/// The files once their changed blocks have numbers.
+fn settle<V: Vstore>(
     alloc: Global,
+    store: &V,
+    batch: &mut Batch,
     files: &[File],
-    first: u32,
-    batch: &mut Items<Page>,
-) -> Result<Items<File>, AllocError>
-    requires empty { batch.old ≡ [] }
-    requires room { first + length (changed_pages files.now) < 2 ^ 32 }
-    ensures batch { OnOk result (batch.new ≡ changed_pages files.now) }
-    ensures files { IfOk result (λ new. new ≡ settled_files first files.now) }
+    latest: &[File],
+) -> Result<Items<File>, VolError>
+    requires few { length files.now ≤ path_limit }
+    requires fits { Fits (capacity (V.store store.now)) (V.content store.now) batch.old }
+    requires live { (k i v : ℕ) → number_in (slot_at latest.now k i) ≡ Some v → is_live (V.content store.now v) ≡ true }
+    ensures files { IfOk result (AreSettled batch.new.births files.now) }
+    ensures gains { OnOk result (Gains (V.content store.now) (numbers_of latest.now) (changed_blocks files.now) batch.old batch.new) }
+    ensures fits { OnOk result (Fits (capacity (V.store store.now)) (V.content store.now) batch.new) }
+    ensures refused { IfErr result (IsNumberRefusal (V.store store.now).segments (length batch.old.births + length (changed_blocks files.now))) }
 {
     let mut settled = Items::new(alloc);
-    for file in files {
-        settled.push(settle_file(alloc, file, first, batch)?)?;
+    for (index, file) in files.iter().enumerate() {
+        settled.push(settle_file(alloc, store, batch, index, file, slots_of(latest, index))?)?;
     }
     Ok(settled)
-}
-
-/// How many of the free block numbers are left once the file's changed blocks have theirs.
-fn left_after(file: &File, free: u32) -> Option<u32>
-    ensures { MatchOption result (free < length (pages_of file.now)) (λ left. left + length (pages_of file.now) ≡ free) }
-{
-    let mut left = free;
-    for slot in file.slots.as_slice() {
-        if let Slot::Changed(_) = slot {
-            if left == 0 {
-                return None;
-            }
-            left -= 1;
-        }
-    }
-    Some(left)
-}
-
-/// Whether the free block numbers suffice for the changed blocks.
-pub fn has_room(files: &[File], free: u32) -> bool
-    ensures { IsTrue result ↔ (length (changed_pages files.now) ≤ free) }
-{
-    let mut left = free;
-    for file in files {
-        match left_after(file, left) {
-            Some(rest) => left = rest,
-            None => return false,
-        }
-    }
-    true
-}
-
-fn share_pages(alloc: Global, pages: &[Page]) -> Result<Items<Page>, AllocError>
-    ensures { IfOk result (λ shared. shared ≡ pages.now) }
-{
-    let mut shared = Items::new(alloc);
-    for page in pages {
-        shared.push(page.share()?)?;
-    }
-    Ok(shared)
 }
 
 fn share_file(alloc: Global, file: &File) -> Result<File, AllocError>
@@ -148,33 +171,34 @@ fn share_files(alloc: Global, files: &[File]) -> Result<Items<File>, AllocError>
 }
 
 impl Draft {
-    /// The draft of a checkpoint over these files, whose changed blocks get the numbers from `first` on.
-    /// `checkpoint` has no files yet.
-    pub fn new(
+    /// The draft of a checkpoint of these files, over those of the latest one. `checkpoint` has no files yet.
+    pub fn new<V: Vstore>(
         alloc: Global,
+        store: &V,
         files: &[File],
-        first: u32,
+        latest: &[File],
         checkpoint: Checkpoint,
-    ) -> Result<Draft, AllocError>
-        requires room { first + length (changed_pages files.now) < 2 ^ 32 }
-        ensures { IfOk result (IsDraft first files.now checkpoint) }
+    ) -> Result<Draft, VolError>
+        requires few { length files.now ≤ path_limit }
+        requires live { (k i v : ℕ) → number_in (slot_at latest.now k i) ≡ Some v → is_live (V.content store.now v) ≡ true }
+        ensures checkpoint { IfOk result (λ draft. draft.checkpoint ≡ record checkpoint { files = draft.files }) }
+        ensures writes { IfOk result (λ draft. WritesChanged (V.content store.now) latest.now files.now draft.batch) }
+        ensures settled { IfOk result (λ draft. AreSettled draft.batch.births files.now draft.files) }
+        ensures fits { IfOk result (λ draft. Fits (capacity (V.store store.now)) (V.content store.now) draft.batch) }
+        ensures refused { IfErr result (IsNumberRefusal (V.store store.now).segments (length (changed_blocks files.now))) }
     {
-        let mut pages = Items::new(alloc);
-        let settled = settle(alloc, files, first, &mut pages)?;
+        let mut batch = Batch::new(alloc);
+        let settled = settle(alloc, store, &mut batch, files, latest)?;
         let copies = share_files(alloc, settled.as_slice())?;
-        let for_device = share_pages(alloc, pages.as_slice())?;
         Ok(Draft {
-            settled: Settled {
-                checkpoint: Checkpoint {
-                    number: checkpoint.number,
-                    mode: checkpoint.mode,
-                    stamp: checkpoint.stamp,
-                    files: copies,
-                },
-                files: settled,
-                pages,
+            checkpoint: Checkpoint {
+                number: checkpoint.number,
+                mode: checkpoint.mode,
+                stamp: checkpoint.stamp,
+                files: copies,
             },
-            pages: for_device,
+            files: settled,
+            batch,
         })
     }
 }

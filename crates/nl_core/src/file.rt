@@ -1,9 +1,11 @@
 //! Files as lists of slots, and the bytes that they stand for.
 ghost use Rattle.std.specs.Prelude.{◌≡◌, ◌↔◌, ◌<◌, ◌≤◌, ◌-◌, Some, IsTrue, IfOk, slice_index, take, drop};
 ghost use Rattle.std.specs.Option.{option_copied};
-ghost use Rattle.nl_core.specs.Content.{page_at, block_in, bytes_in, byte_of, content, slot_in};
+ghost use Rattle.nl_types.specs.Roots.{pages_of};
+ghost use Rattle.nl_core.specs.Content.{block_in, bytes_in, byte_of, content, slot_in};
 
-use nl_types::{BlockNumber, Items, Page};
+use nl_dat::VRead;
+use nl_types::{Items, Page, VirtualNumber};
 use std::alloc::{AllocError, Global};
 
 /// A block of a file.
@@ -12,7 +14,7 @@ pub enum Slot {
     /// Nothing was written here, which reads as zeros.
     Hole,
     /// As the latest checkpoint has it.
-    Stored(BlockNumber),
+    Stored(VirtualNumber),
     /// Not as the latest checkpoint has it, and not written yet.
     Changed(Page),
 }
@@ -26,44 +28,34 @@ pub struct File {
     pub slots: Items<Slot>,
 }
 
-/// The page at a block number.
-pub fn page_at(table: &[Option<Page>], number: BlockNumber) -> Option<&Page>
-    ensures { option_copied result ≡ page_at table.now number }
-{
-    match table.get(number.get() as usize) {
-        Some(Some(page)) => Some(page),
-        _ => None,
-    }
-}
-
 impl Slot {
     /// The slot's block, if there is one.
-    pub fn block<'a>(&'a self, table: &'a [Option<Page>]) -> Option<&'a Page>
-        ensures { option_copied result ≡ block_in table.now self.now }
+    pub fn block<'a, V: VRead>(&'a self, store: &'a V) -> Option<&'a Page>
+        ensures { option_copied result ≡ block_in (pages_of (V.content store.now)) self.now }
     {
         match self {
             Slot::Hole => None,
-            Slot::Stored(number) => page_at(table, *number),
+            Slot::Stored(number) => store.page(*number),
             Slot::Changed(page) => Some(page),
         }
     }
 
     /// Whether the block is there and has the bytes of this page.
-    pub fn has_bytes(&self, table: &[Option<Page>], page: &Page) -> bool
-        ensures { IsTrue result ↔ (block_in table.now self.now ≡ Some page.now) }
+    pub fn has_bytes<V: VRead>(&self, store: &V, page: &Page) -> bool
+        ensures { IsTrue result ↔ (block_in (pages_of (V.content store.now)) self.now ≡ Some page.now) }
     {
-        match self.block(table) {
+        match self.block(store) {
             Some(own) => own.bytes() == page.bytes(),
             None => false,
         }
     }
 
     /// The byte of the block at an index, 0 where there is no block.
-    pub fn byte(&self, table: &[Option<Page>], index: usize) -> u8
+    pub fn byte<V: VRead>(&self, store: &V, index: usize) -> u8
         requires { index < 1024 }
-        ensures { result ≡ slice_index (bytes_in table.now self.now) index }
+        ensures { result ≡ slice_index (bytes_in (pages_of (V.content store.now)) self.now) index }
     {
-        match self.block(table) {
+        match self.block(store) {
             Some(page) => page.bytes()[index],
             None => 0,
         }
@@ -93,29 +85,29 @@ pub fn slot_or<'a>(slots: &'a [Slot], index: usize, hole: &'a Slot) -> &'a Slot
 }
 
 /// The byte of a file at an index.
-fn byte_at(slots: &[Slot], table: &[Option<Page>], index: u64) -> u8
-    ensures { result ≡ byte_of table.now slots.now index }
+fn byte_at<V: VRead>(slots: &[Slot], store: &V, index: u64) -> u8
+    ensures { result ≡ byte_of (pages_of (V.content store.now)) slots.now index }
 {
     let hole = Slot::Hole;
-    slot_or(slots, (index / 1024) as usize, &hole).byte(table, (index % 1024) as usize)
+    slot_or(slots, (index / 1024) as usize, &hole).byte(store, (index % 1024) as usize)
 }
 
 impl File {
     /// The bytes from an offset on, at most `len`.
-    pub fn read(
+    pub fn read<V: VRead>(
         &self,
         alloc: Global,
-        table: &[Option<Page>],
+        store: &V,
         offset: u64,
         len: u64,
     ) -> Result<Items<u8>, AllocError>
-        ensures { IfOk result (λ bytes. bytes ≡ take len (drop offset (content table.now self.now))) }
+        ensures { IfOk result (λ bytes. bytes ≡ take len (drop offset (content (pages_of (V.content store.now)) self.now))) }
     {
         let end = self.size.min(offset.saturating_add(len));
         let mut bytes = Vec::new(alloc);
         bytes.reserve(end.saturating_sub(offset) as usize)?;
         for index in offset..end {
-            bytes.push(byte_at(self.slots.as_slice(), table, index))?;
+            bytes.push(byte_at(self.slots.as_slice(), store, index))?;
         }
         Ok(Items::from_vec(bytes))
     }

@@ -3,7 +3,8 @@ ghost use Rattle.std.specs.Prelude.{◌≡◌, ◌↔◌, ◌<◌, ℕ, IsTrue, 
 ghost use Rattle.std.specs.Option.{option_copied};
 ghost use Rattle.std.specs.Ordering.{nat_cmp};
 ghost use Rattle.std.specs.FinMap.{find};
-ghost use Rattle.nl_core.specs.Content.{Table, slot_in, file_in};
+ghost use Rattle.nl_types.specs.Roots.{Pages, pages_of};
+ghost use Rattle.nl_core.specs.Content.{slot_in, file_in};
 ghost use Rattle.nl_core.specs.Means.{mount_of, numbered};
 ghost use Rattle.nl_core.specs.Named.{NoneNamed, IsFirstNamed};
 ghost use Rattle.nl_core.specs.Place.{FindsFile, FindsFree, ReadsFrom, AnswersFrom, RefusesBelow};
@@ -11,7 +12,8 @@ ghost use Rattle.nl_core.specs.Place.{FindsFile, FindsFree, ReadsFrom, AnswersFr
 use crate::checkpoint::{Checkpoint, Mounted};
 use crate::file::{File, Slot};
 use crate::path::{Place, place_of};
-use nl_types::{Answer, Ask, CheckpointNumber, Items, MountNumber, Page, Reply, VolError};
+use nl_dat::VRead;
+use nl_types::{Answer, Ask, CheckpointNumber, Items, MountNumber, Reply, VolError};
 use std::alloc::Global;
 
 /// The most paths beside the root.
@@ -49,7 +51,7 @@ fn refusal_below(files: &[File], name: &[u8]) -> VolError
 
 /// Where the file at a path is.
 pub fn find_file(files: &[File], path: &[u8]) -> Result<usize, VolError>
-    ensures { (table : Table) → FindsFile table files.now path.now result }
+    ensures { (pages : Pages) → FindsFile pages files.now path.now result }
 {
     match place_of(path)? {
         Place::Root => Err(VolError::IsDir),
@@ -63,7 +65,7 @@ pub fn find_file(files: &[File], path: &[u8]) -> Result<usize, VolError>
 
 /// The name of a file that may be made at a path.
 pub fn find_free(alloc: Global, files: &[File], path: &[u8]) -> Result<Items<u8>, VolError>
-    ensures { (table : Table) → FindsFree table files.now path.now result }
+    ensures { (pages : Pages) → FindsFree pages files.now path.now result }
 {
     match place_of(path)? {
         Place::Root => Err(VolError::Exists),
@@ -77,27 +79,27 @@ pub fn find_free(alloc: Global, files: &[File], path: &[u8]) -> Result<Items<u8>
 }
 
 /// The bytes of the file at a path, from an offset on, at most `len`.
-fn read_at(
+fn read_at<V: VRead>(
     alloc: Global,
     files: &[File],
-    table: &[Option<Page>],
+    store: &V,
     path: &[u8],
     offset: u64,
     len: u64,
 ) -> Result<Items<u8>, VolError>
-    ensures { ReadsFrom table.now files.now path.now offset len result }
+    ensures { ReadsFrom (pages_of (V.content store.now)) files.now path.now offset len result }
 {
     let index = find_file(files, path)?;
-    Ok(files[index].read(alloc, table, offset, len)?)
+    Ok(files[index].read(alloc, store, offset, len)?)
 }
 
 /// What the tree of these files answers.
-pub fn answer(alloc: Global, files: &[File], table: &[Option<Page>], ask: &Ask) -> Reply
-    ensures { AnswersFrom table.now files.now ask.now result }
+pub fn answer<V: VRead>(alloc: Global, files: &[File], store: &V, ask: &Ask) -> Reply
+    ensures { AnswersFrom (pages_of (V.content store.now)) files.now ask.now result }
 {
     match ask {
         Ask::Bytes { path, offset, len } => {
-            let bytes = read_at(alloc, files, table, path.as_slice(), *offset, *len)?;
+            let bytes = read_at(alloc, files, store, path.as_slice(), *offset, *len)?;
             Ok(Answer::Bytes(bytes))
         }
     }

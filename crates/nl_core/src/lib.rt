@@ -8,11 +8,12 @@ mod find;
 pub mod laws;
 mod path;
 mod pen;
-mod put;
 mod tables;
 mod write;
 
 pub use pen::{Pen, run};
 
+#[cfg(test)]
+mod period_tests;
 #[cfg(test)]
 mod tests;

@@ -1,98 +1,141 @@
 //! The pen: what the writer of a volume holds, the device included.
-ghost use Rattle.std.specs.Prelude.{◌≡◌, ◌*◌, ◌<◌, ◌≤◌, length, IfOk, OnErr, IsOkUnless};
+ghost use Rattle.std.specs.Prelude.{◌≡◌, ◌↔◌, ◌⊎◌, ◌<◌, IfOk, IsErr, OnErr, IsOkUnless};
+ghost use Rattle.std.specs.Option.{option_map};
+ghost use Rattle.nl_dat.specs.Stores.{capacity, dat_entry_of, numbered_in};
 ghost use Rattle.nl_types.specs.Worlds.{World, formatted};
 ghost use Rattle.nl_types.specs.Runs.{Run};
-ghost use Rattle.nl_device.specs.Pages.{IsEmpty};
 
 use crate::draft::Draft;
-use crate::put::put_all;
 use crate::tables::Tables;
+use nl_dat::{Dat, DatEntry, Vstore};
 use nl_device::Device;
-use nl_types::laws::{new_volumes_are_worlds, steps_keep_worlds};
-use nl_types::{Answer, Event, Geometry, Mode, Reply, VolError};
+use nl_segwriter::{LogSpace, Space};
+use nl_sufile::SegTable;
+use nl_types::laws::{
+    covered_numbers_stay, lifetimes_are_exact, new_volumes_are_worlds, numbers_end_once,
+    steps_keep_worlds,
+};
+use nl_types::{Answer, Event, Geometry, Mode, Reply, VirtualNumber, VolError};
 use std::alloc::Global;
 use std::marker::Model;
 
-/// The writer's state of a volume: its tables in memory, and the device that it writes to.
+/// The writer's state of a volume: its tables in memory, and the store of their pages on the device that it writes to.
 #[derive(Drop)]
 pub struct Pen<D: Device> {
     alloc: Global,
-    device: D,
+    store: Dat<LogSpace<D>>,
     tables: Tables,
 }
 
 impl<D: Device> Model for Pen<D> {
-    ghost use Rattle.std.specs.Prelude.{◌≡◌, ◌*◌, length};
     ghost use Rattle.nl_core.specs.Layout.{Layout, IsHeld, layout_of};
 
     ghost Value = { Layout };
 
-    ghost view = { λ p. layout_of p.tables.volume (D.pages p.device) (D.failure_count p.device) };
+    ghost view = { λ p. layout_of p.tables.lists p.store };
 
-    ghost invariant = { λ p.
-        IsHeld (layout_of p.tables.volume (D.pages p.device) (D.failure_count p.device))
-        × ((D.shape p.device).segments * (D.shape p.device).blocks ≡ length p.tables.volume.table) };
+    ghost invariant = { λ p. IsHeld (layout_of p.tables.lists p.store) };
+}
+
+ghost use Rattle.nl_core.specs.Layout.{IsHeld, Does, layout_of, volume_of};
+ghost use Rattle.nl_types.specs.declared.event.Event.TheVariants.{Checkpoint};
+
+/// The next checkpoint: its draft, which takes all memory, then the blocks that it writes, and then its lists.
+fn checkpoint<S: Space>(
+    alloc: Global,
+    tables: &mut Tables,
+    store: &mut Dat<S>,
+    mode: Mode,
+    moment: u64,
+) -> Reply
+    requires held { IsHeld (layout_of tables.old.lists store.old) }
+    ensures { Does (layout_of tables.old.lists store.old) (Checkpoint mode moment) result (layout_of tables.new.lists store.new) }
+{
+    lifetimes_are_exact();
+    covered_numbers_stay();
+    numbers_end_once();
+    let draft = tables.draft(alloc, store, mode, moment)?;
+    let Draft {
+        checkpoint,
+        files,
+        batch,
+    } = draft;
+    let written = store.write(alloc, &batch, checkpoint.number, checkpoint.stamp);
+    // Its contract tells what is true of every store, also of one that a fault leaves.
+    store.capacity();
+    written?;
+    Ok(Answer::Checkpoint(tables.publish(checkpoint, files)))
 }
 
 impl<D: Device> Pen<D> {
-    ghost use Rattle.nl_core.specs.Layout.{Layout, IsHeld, IsFresh, Moves, Touches, LacksSpace, Fails};
-    ghost use Rattle.nl_core.specs.Means.{Means, Goes};
-    ghost use Rattle.nl_types.specs.declared.event.Event.TheVariants.{Checkpoint};
+    ghost use Rattle.nl_core.specs.Layout.{IsFresh, Moves};
+    ghost use Rattle.nl_core.specs.Means.{Means};
 
-    /// A volume on an empty device of this geometry, with checkpoint 1 of the root alone. It puts nothing yet, so it is
-    /// refused by `Memory` alone, and the device is dropped then.
+    /// A volume on a device of this geometry, with checkpoint 1 of the root alone. What the device holds is no part of it.
+    /// It puts nothing yet, so it is refused by `Memory` alone, and the device is dropped then.
     pub fn format(alloc: Global, device: D, geometry: Geometry, now: u64) -> Result<Self, VolError>
-        requires empty { IsEmpty (D.pages device) }
         requires shape { D.shape device ≡ geometry }
-        ensures means { IfOk result (λ pen. Means pen.volume (formatted now)) }
-        ensures fresh { IfOk result (IsFresh (geometry.segments * geometry.blocks)) }
+        ensures means { IfOk result (λ pen. Means (volume_of pen) (formatted now)) }
+        ensures fresh { IfOk result (IsFresh geometry (D.pages device) (D.failure_count device)) }
         ensures held { IfOk result IsHeld }
         ensures refused { IsOkUnless result VolError.Memory }
     {
         new_volumes_are_worlds();
-        let tables = Tables::format(alloc, geometry, now)?;
+        lifetimes_are_exact();
+        let space = LogSpace::new(alloc, device, geometry)?;
+        let store = Dat::new(alloc, space)?;
+        // Its contract tells what is true of every store.
+        store.capacity();
         Ok(Pen {
             alloc,
-            device,
-            tables,
+            store,
+            tables: Tables::format(alloc, now),
         })
     }
 
-    fn checkpoint(&mut self, mode: Mode, moment: u64) -> Reply
-        ensures goes { Goes (LacksSpace self.old) (Fails self.old self.new) self.old.volume (Checkpoint mode moment) result self.new.volume }
-        ensures touches { Touches self.old (Checkpoint mode moment) result self.new }
-        ensures held { IsHeld self.new }
+    /// What a virtual block number stands for: its period and its block, where it is in use. Refused by `BadRange` for 0 and
+    /// for numbers above those that there are: one for each block of the device. It takes no memory.
+    pub fn entry(&self, number: VirtualNumber) -> Result<Option<DatEntry>, VolError>
+        ensures range { IsErr result ↔ ((number ≡ 0) ⊎ (capacity self.now.store < number)) }
+        ensures kind { OnErr result (result ≡ Err VolError.BadRange) }
+        ensures entry { IfOk result (λ entry. entry ≡ option_map dat_entry_of (numbered_in self.now.store number)) }
     {
-        let Draft { settled, pages } = self.tables.draft(self.alloc, mode, moment)?;
-        match put_all(&mut self.device, self.tables.next(), pages) {
-            Ok(()) => Ok(Answer::Checkpoint(self.tables.publish(settled))),
-            Err(failed) => {
-                self.tables.skip(failed.tried);
-                Err(VolError::Fault)
-            }
-        }
+        self.store.entry(number)
     }
 
-    /// One event. A refusal leaves the world as it was. `NoSpace` comes exactly of a checkpoint that has a number left
-    /// and more changed blocks than there are block numbers never used, `Fault` only where the device failed during a
-    /// checkpoint, and `Memory` only by want of memory.
+    /// The states of the segments.
+    pub fn segments(&self) -> &SegTable
+        ensures { result.now ≡ self.now.store.segments }
+    {
+        self.store.table()
+    }
+
+    /// One event. A refusal leaves the world as it was. `NoSpace` comes only of a checkpoint whose changed blocks no list
+    /// of logs fits, `Fault` only where the device failed during a checkpoint, and `Memory` only by want of memory.
     pub fn apply(&mut self, event: &Event) -> Reply
         ensures moves { Moves self.old event.now result self.new }
-        ensures touches { Touches self.old event.now result self.new }
-        ensures held { IsHeld self.new }
+        ensures does { Does self.old event.now result self.new }
     {
         steps_keep_worlds();
         match event {
-            Event::Apply(change) => self.tables.change(self.alloc, change),
-            Event::Read(ask) => self.tables.read(self.alloc, ask),
-            Event::Checkpoint { mode, moment } => self.checkpoint(*mode, *moment),
+            Event::Apply(change) => self.tables.change(self.alloc, &self.store, change),
+            Event::Read(ask) => self.tables.read(self.alloc, &self.store, ask),
+            Event::Checkpoint { mode, moment } => checkpoint(
+                self.alloc,
+                &mut self.tables,
+                &mut self.store,
+                *mode,
+                *moment,
+            ),
             Event::Mount(number) => self.tables.mount(*number),
-            Event::MountRead(mount, ask) => self.tables.read_mounted(self.alloc, *mount, ask),
+            Event::MountRead(mount, ask) => self
+                .tables
+                .read_mounted(self.alloc, &self.store, *mount, ask),
         }
     }
 }
 
-ghost use Rattle.nl_core.specs.Layout.{Layout, Moved};
+ghost use Rattle.nl_core.specs.Layout.{Moved};
 ghost use Rattle.nl_core.specs.Means.{Means};
 
 /// Does the events in order. Each reply is that of plain files with a whole copied tree for each checkpoint. Refused by
@@ -102,7 +145,7 @@ pub fn run<D: Device>(
     pen: &mut Pen<D>,
     events: &[Event],
 ) -> Result<Vec<Reply>, VolError>
-    ensures run { IfOk result (λ replies. (w : World) → Means pen.old.volume w → (after : World) × Run Moved (pen.old, w) events.now replies.items (pen.new, after)) }
+    ensures run { IfOk result (λ replies. (w : World) → Means (volume_of pen.old) w → (after : World) × Run Moved (pen.old, w) events.now replies.items (pen.new, after)) }
     ensures refused { IsOkUnless result VolError.Memory }
     ensures err { OnErr result (pen.new ≡ pen.old) }
 {

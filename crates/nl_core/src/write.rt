@@ -1,16 +1,18 @@
 //! Bytes written to a file, over the blocks that the latest checkpoint has.
 ghost use Rattle.std.specs.Prelude.{◌≡◌, ℕ, ◌+◌, ◌*◌, ◌/◌, ◌^◌, ◌<◌, ◌≤◌, ◌-◌, Some, IfOk, OnOk, OnErr, length, slice_index, max};
+ghost use Rattle.nl_types.specs.Roots.{pages_of};
 ghost use Rattle.nl_core.specs.Content.{bytes_in, block_in, slot_in, IsThere, IsTidy, IsKept, IsPlaced, IsMarkedOver};
 ghost use Rattle.nl_core.specs.Over.{byte_over, slot_over, block_end, IsBlockOver, IsWritten};
 
 use crate::file::{File, Slot, slot_or};
+use nl_dat::VRead;
 use nl_types::{BLOCK_SIZE, Block, Items, Page};
 use std::alloc::{AllocError, Global};
 
 /// The byte at an index of a slot's block, which begins at `start`, once bytes are written at an offset.
-fn byte_after(
+fn byte_after<V: VRead>(
     slot: &Slot,
-    table: &[Option<Page>],
+    store: &V,
     start: u64,
     index: usize,
     offset: u64,
@@ -19,43 +21,43 @@ fn byte_after(
     requires index { index < 1024 }
     requires start { start ≤ 67108864 }
     requires end { offset + length bytes.now ≤ 67108864 }
-    ensures { result ≡ byte_over bytes.now offset (start + index) (slice_index (bytes_in table.now slot.now) index) }
+    ensures { result ≡ byte_over bytes.now offset (start + index) (slice_index (bytes_in (pages_of (V.content store.now)) slot.now) index) }
 {
     let at = start + index as u64;
     if at < offset || at >= offset + bytes.len() as u64 {
-        return slot.byte(table, index);
+        return slot.byte(store, index);
     }
     bytes[(at - offset) as usize]
 }
 
 /// The bytes of a slot's block, which begins at `start`, once bytes are written at an offset.
-fn block_after(
+fn block_after<V: VRead>(
     slot: &Slot,
-    table: &[Option<Page>],
+    store: &V,
     start: u64,
     offset: u64,
     bytes: &[u8],
 ) -> [u8; BLOCK_SIZE]
     requires start { start ≤ 67108864 }
     requires end { offset + length bytes.now ≤ 67108864 }
-    ensures { IsBlockOver table.now start offset bytes.now slot.now result }
+    ensures { IsBlockOver (pages_of (V.content store.now)) start offset bytes.now slot.now result }
 {
     let mut block = [0; BLOCK_SIZE];
     for index in 0..BLOCK_SIZE {
-        block[index] = byte_after(slot, table, start, index, offset, bytes);
+        block[index] = byte_after(slot, store, start, index, offset, bytes);
     }
     block
 }
 
 /// The slot of a block that has these bytes now: the latest checkpoint's, where that has the same bytes.
-fn slot_with(latest: &Slot, table: &[Option<Page>], page: Page) -> Slot
-    requires { IsKept table.now latest.now }
-    ensures block { block_in table.now result ≡ Some page }
+fn slot_with<V: VRead>(latest: &Slot, store: &V, page: Page) -> Slot
+    requires { IsKept (pages_of (V.content store.now)) latest.now }
+    ensures block { block_in (pages_of (V.content store.now)) result ≡ Some page }
     ensures there { IsThere result }
-    ensures marked { IsMarkedOver table.now latest.now result }
-    ensures placed { IsPlaced table.now result }
+    ensures marked { IsMarkedOver (pages_of (V.content store.now)) latest.now result }
+    ensures placed { IsPlaced (pages_of (V.content store.now)) result }
 {
-    if !latest.has_bytes(table, &page) {
+    if !latest.has_bytes(store, &page) {
         return Slot::Changed(page);
     }
     match latest {
@@ -65,43 +67,43 @@ fn slot_with(latest: &Slot, table: &[Option<Page>], page: Page) -> Slot
 }
 
 /// A slot, whose block begins at `start`, once bytes are written at an offset.
-fn written_slot(
+fn written_slot<V: VRead>(
     alloc: Global,
     slot: &Slot,
     latest: &Slot,
-    table: &[Option<Page>],
+    store: &V,
     start: u64,
     offset: u64,
     bytes: &[u8],
 ) -> Result<Slot, AllocError>
     requires start { start ≤ 67108864 }
     requires end { offset + length bytes.now ≤ 67108864 }
-    requires kept { IsKept table.now latest.now }
-    ensures block { IfOk result (λ new. IsBlockOver table.now start offset bytes.now slot.now (bytes_in table.now new)) }
+    requires kept { IsKept (pages_of (V.content store.now)) latest.now }
+    ensures block { IfOk result (λ new. IsBlockOver (pages_of (V.content store.now)) start offset bytes.now slot.now (bytes_in (pages_of (V.content store.now)) new)) }
     ensures there { IfOk result IsThere }
-    ensures marked { IfOk result (IsMarkedOver table.now latest.now) }
-    ensures placed { IfOk result (IsPlaced table.now) }
+    ensures marked { IfOk result (IsMarkedOver (pages_of (V.content store.now)) latest.now) }
+    ensures placed { IfOk result (IsPlaced (pages_of (V.content store.now))) }
 {
-    let block = Block::new(block_after(slot, table, start, offset, bytes));
-    Ok(slot_with(latest, table, Page::new(alloc, block)?))
+    let block = Block::new(block_after(slot, store, start, offset, bytes));
+    Ok(slot_with(latest, store, Page::new(alloc, block)?))
 }
 
 /// The slots of the blocks that bytes at an offset lie in, once they are written.
-fn written_slots(
+fn written_slots<V: VRead>(
     alloc: Global,
     slots: &[Slot],
     latest: &[Slot],
-    table: &[Option<Page>],
+    store: &V,
     offset: u64,
     bytes: &[u8],
 ) -> Result<Vec<Slot>, AllocError>
     requires end { offset + length bytes.now ≤ 67108864 }
-    requires kept { (i : ℕ) → IsKept table.now (slot_in latest.now i) }
+    requires kept { (i : ℕ) → IsKept (pages_of (V.content store.now)) (slot_in latest.now i) }
     ensures count { IfOk result (λ new. offset / 1024 + length new.items ≡ block_end offset (length bytes.now)) }
-    ensures blocks { IfOk result (λ new. (k : ℕ) → k < length new.items → IsBlockOver table.now (1024 * (offset / 1024 + k)) offset bytes.now (slot_in slots.now (offset / 1024 + k)) (bytes_in table.now (slot_in new.items k))) }
+    ensures blocks { IfOk result (λ new. (k : ℕ) → k < length new.items → IsBlockOver (pages_of (V.content store.now)) (1024 * (offset / 1024 + k)) offset bytes.now (slot_in slots.now (offset / 1024 + k)) (bytes_in (pages_of (V.content store.now)) (slot_in new.items k))) }
     ensures there { IfOk result (λ new. (k : ℕ) → k < length new.items → IsThere (slot_in new.items k)) }
-    ensures marked { IfOk result (λ new. (k : ℕ) → k < length new.items → IsMarkedOver table.now (slot_in latest.now (offset / 1024 + k)) (slot_in new.items k)) }
-    ensures placed { IfOk result (λ new. (k : ℕ) → k < length new.items → IsPlaced table.now (slot_in new.items k)) }
+    ensures marked { IfOk result (λ new. (k : ℕ) → k < length new.items → IsMarkedOver (pages_of (V.content store.now)) (slot_in latest.now (offset / 1024 + k)) (slot_in new.items k)) }
+    ensures placed { IfOk result (λ new. (k : ℕ) → k < length new.items → IsPlaced (pages_of (V.content store.now)) (slot_in new.items k)) }
 {
     let first = offset / 1024;
     let end = match bytes.len() as u64 {
@@ -113,7 +115,7 @@ fn written_slots(
     for index in first..end {
         let slot = slot_or(slots, index as usize, &hole);
         let latest = slot_or(latest, index as usize, &hole);
-        written.push(written_slot(alloc, slot, latest, table, 1024 * index, offset, bytes)?)?;
+        written.push(written_slot(alloc, slot, latest, store, 1024 * index, offset, bytes)?)?;
     }
     Ok(written)
 }
@@ -155,22 +157,22 @@ fn put_over(slots: &mut Items<Slot>, first: usize, mut written: Vec<Slot>)
 
 impl File {
     /// Writes bytes at an offset. `latest` has the file's slots at the latest checkpoint.
-    pub fn write(
+    pub fn write<V: VRead>(
         &mut self,
         alloc: Global,
-        table: &[Option<Page>],
+        store: &V,
         latest: &[Slot],
         offset: u64,
         bytes: &[u8],
     ) -> Result<(), AllocError>
         requires end { offset + length bytes.now ≤ 67108864 }
-        requires tidy { IsTidy table.now self.old }
+        requires tidy { IsTidy (pages_of (V.content store.now)) self.old }
         requires count { length self.old.slots ≤ 65536 }
-        requires kept { (i : ℕ) → IsKept table.now (slot_in latest.now i) }
-        ensures ok { OnOk result (IsWritten table.now latest.now offset bytes.now self.old self.new) }
+        requires kept { (i : ℕ) → IsKept (pages_of (V.content store.now)) (slot_in latest.now i) }
+        ensures ok { OnOk result (IsWritten (pages_of (V.content store.now)) latest.now offset bytes.now self.old self.new) }
         ensures err { OnErr result (self.new ≡ self.old) }
     {
-        let written = written_slots(alloc, self.slots.as_slice(), latest, table, offset, bytes)?;
+        let written = written_slots(alloc, self.slots.as_slice(), latest, store, offset, bytes)?;
         let first = (offset / 1024) as usize;
         grow(alloc, &mut self.slots, first + written.len())?;
         put_over(&mut self.slots, first, written);

@@ -1,2 +1,4 @@
 pub mod Writing
 pub mod Reading
+pub mod Slots
+pub mod Inodes

@@ -14,7 +14,7 @@ length-tags_bytes [] = refl
 length-tags_bytes (tag ∷ tags) = let more = length-tags_bytes tags in omega (arith, more)
 
 -- a write right behind a part
-put_mid-seam : (front rest new : List ℕ) (n : ℕ) → put_mid (length front) n (front ++ rest) new ≡ front ++ (new ++ drop n rest)
+pub put_mid-seam : (front rest new : List ℕ) (n : ℕ) → put_mid (length front) n (front ++ rest) new ≡ front ++ (new ++ drop n rest)
 put_mid-seam front rest new n = rw (take-append_seam front rest) (ap (λ (xs : List ℕ). front ++ (new ++ drop n xs)) (drop-append_seam front rest))
 
 -- the records and the zeros behind them, once there is one record more

@@ -1,11 +1,17 @@
-//! The blocks of the log that say what the log is, as bytes: the summary block at the head of each log.
+//! Blocks of the log as bytes: the summary block at the head of each log, the nodes above the data of a file, and inodes.
 #![tactic(auto)]
 
+mod inode;
 mod level;
+mod node;
+mod root;
 mod summary;
 mod tag;
 
+pub use inode::{INODE_SIZE, Inode, InodeEntry, InodeKind};
 pub use level::Level;
+pub use node::{NEXT, Node, SLOTS};
+pub use root::Root;
 pub use summary::Summary;
 pub use tag::Tag;
 

@@ -1,8 +1,11 @@
-//! Summaries byte by byte, and blocks that are none.
+//! Summaries, nodes and inodes byte by byte, and blocks that are none.
 ghost use Rattle.std.specs.Prelude.{◌≡◌, ◌<◌, Some};
 
-use crate::{Level, Summary, Tag};
-use nl_types::{BLOCK_SIZE, CheckpointNumber, InodeNumber, VirtualNumber};
+use crate::{
+    INODE_SIZE, Inode, InodeEntry, InodeKind, Level, NEXT, Node, Root, SLOTS, Summary, Tag,
+};
+use nl_types::{BLOCK_SIZE, Block, CheckpointNumber, InodeNumber, Page, VirtualNumber};
+use std::test::Fail;
 
 fn tag(number: u64, inode: u64, level: Level, offset: u64) -> Tag {
     Tag {
@@ -165,4 +168,143 @@ fn other_lengths_are_refused(rt: HostRuntime) {
             "{len} bytes"
         );
     }
+}
+
+fn inode(kind: InodeKind, root: Root, size: u64) -> InodeEntry {
+    InodeEntry::InUse(Inode { kind, root, size })
+}
+
+/// An entry that was written and read again.
+fn inode_read_again(entry: &InodeEntry) -> Option<InodeEntry>
+    ensures { result ≡ Some entry.now }
+{
+    let mut bytes = [0xaa; INODE_SIZE];
+    entry.write(&mut bytes);
+    InodeEntry::read(&bytes)
+}
+
+/// Whether an inode with one byte changed is read.
+fn is_inode_with(mut bytes: [u8; INODE_SIZE], at: usize, byte: u8) -> bool
+    requires { at < 128 }
+{
+    bytes[at] = byte;
+    InodeEntry::read(&bytes).is_some()
+}
+
+/// A directory of one block, whose chain begins at number 2,571.
+fn directory_spelled() -> [u8; INODE_SIZE] {
+    let mut bytes = [0; INODE_SIZE];
+    bytes[0] = 2;
+    bytes[1] = 1;
+    bytes[8..10].copy_from_slice(&[0x00, 0x04]);
+    bytes[16..18].copy_from_slice(&[0x0b, 0x0a]);
+    bytes
+}
+
+#[test]
+fn inodes_are_spelled_byte_by_byte(rt: HostRuntime) {
+    let chain = Root::Chain(VirtualNumber::new(0x0a0b));
+    let mut bytes = [0xaa; INODE_SIZE];
+    inode(InodeKind::Directory, chain, 1024).write(&mut bytes);
+    assert!(rt; bytes == directory_spelled());
+    inode(InodeKind::File, Root::Empty, 0).write(&mut bytes);
+    assert!(rt; bytes[0] == 1 && bytes[1..] == [0; 127]);
+    InodeEntry::Free.write(&mut bytes);
+    assert!(rt; bytes == [0; INODE_SIZE]);
+}
+
+#[test]
+fn inodes_are_read(rt: HostRuntime) {
+    let chain = Root::Chain(VirtualNumber::new(0x0a0b));
+    let directory = inode(InodeKind::Directory, chain, 1024);
+    assert_eq!(rt; InodeEntry::read(&directory_spelled()), Some(directory));
+    assert_eq!(rt; InodeEntry::read(&[0; INODE_SIZE]), Some(InodeEntry::Free));
+    let largest = inode(
+        InodeKind::InodeFile,
+        Root::Chain(VirtualNumber::new(u64::MAX)),
+        u64::MAX,
+    );
+    assert_eq!(rt; inode_read_again(&largest), Some(largest));
+}
+
+#[test]
+fn kinds_that_are_none_are_refused(rt: HostRuntime) {
+    for (kind, is_read) in [
+        (0, false),
+        (1, true),
+        (2, true),
+        (3, true),
+        (4, false),
+        (255, false),
+    ] {
+        assert_eq!(rt;
+            is_inode_with(directory_spelled(), 0, kind),
+            is_read,
+            "kind {kind}"
+        );
+    }
+    for (kind, is_read) in [(0, false), (1, true), (2, false), (255, false)] {
+        assert_eq!(rt;
+            is_inode_with(directory_spelled(), 1, kind),
+            is_read,
+            "root of kind {kind}"
+        );
+    }
+}
+
+#[test]
+fn bytes_of_no_field_of_an_inode_are_zero(rt: HostRuntime) {
+    for at in 0..INODE_SIZE {
+        let is_read = is_inode_with(directory_spelled(), at, 1);
+        // The kinds, the size and the number.
+        assert_eq!(rt; is_read, matches!(at, 0 | 1 | 8..=23), "at {at}");
+        assert_eq!(rt;
+            is_inode_with([0; INODE_SIZE], at, 1),
+            at == 0,
+            "at {at} of a free one"
+        );
+    }
+}
+
+#[test]
+fn inodes_of_other_lengths_are_refused(rt: HostRuntime) {
+    let long = [0; INODE_SIZE + 1];
+    assert!(rt; InodeEntry::read(&long[..127]).is_none());
+    assert!(rt; InodeEntry::read(&long).is_none());
+    assert!(rt; InodeEntry::read(&[]).is_none());
+}
+
+#[test]
+fn slots_are_spelled_byte_by_byte(rt: HostRuntime) -> Result<(), Fail> {
+    let numbers = [
+        VirtualNumber::new(0x0102),
+        VirtualNumber::new(0),
+        VirtualNumber::new(3),
+    ];
+    let node = Node::of_chain(&numbers, VirtualNumber::new(0x0405));
+    let mut block = [0xaa; BLOCK_SIZE];
+    node.write(&mut block);
+    let mut spelled = [0; BLOCK_SIZE];
+    spelled[..2].copy_from_slice(&[0x02, 0x01]);
+    spelled[16] = 3;
+    spelled[1016..1018].copy_from_slice(&[0x05, 0x04]);
+    assert!(rt; block == spelled);
+    let page = Page::new(rt.alloc(), Block::new(block))?;
+    assert_eq!(rt; Node::slot_in(&page, 0), Some(VirtualNumber::new(0x0102)));
+    assert_eq!(rt; Node::slot_in(&page, 1), None);
+    assert_eq!(rt;
+        Node::slot_in(&page, NEXT),
+        Some(VirtualNumber::new(0x0405))
+    );
+    let again = Node::read(&block).expect(&rt, "a node");
+    assert!(rt; again.slots() == node.slots());
+    Ok(())
+}
+
+#[test]
+fn every_block_is_a_node(rt: HostRuntime) {
+    let node = Node::read(&[0xff; BLOCK_SIZE]).expect(&rt, "a node");
+    assert!(rt; node.slots() == Node::new([VirtualNumber::new(u64::MAX); SLOTS]).slots());
+    assert!(rt; Node::read(&[0; BLOCK_SIZE - 1]).is_none());
+    assert!(rt; Node::read(&[0; BLOCK_SIZE + 1]).is_none());
 }

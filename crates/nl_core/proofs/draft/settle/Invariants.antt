@@ -1,9 +1,15 @@
-use Rattle.std.proofs.Common.{◌≡◌, ◌+◌, ◌++◌, drop, length}
-use Rattle.nl_core.specs.Settled.{changed_pages, settled_files}
+use Rattle.std.proofs.Common.{◌≡◌, ℕ, ◌<◌, length, take}
+use Rattle.nl_dat.specs.Batches.{Fits}
+use Rattle.nl_dat.specs.Stores.{capacity}
+use Rattle.nl_core.specs.Content.{file_in}
+use Rattle.nl_core.specs.Settled.{numbers_of, changed_blocks, IsSettledFile}
+use Rattle.nl_core.specs.Gains.{Gains}
 use Rattle.nl_core.proofs.draft.settle.Given as goal
 
-abbrev pub invariant-loop-file : goal.invariant-loop-file
-invariant-loop-file l = record {
-  batch : l.batch ++ changed_pages (drop l.file-index l.files) ≡ changed_pages l.files;
-  files : l.settled ++ settled_files (l.first + length l.batch) (drop l.file-index l.files) ≡ settled_files l.first l.files;
+abbrev pub invariant-loop-index : goal.invariant-loop-index
+invariant-loop-index g l = record {
+  count : length l.settled ≡ l.index;
+  files : (k : ℕ) → k < l.index → IsSettledFile l.batch.births k (file_in l.files k) (file_in l.settled k);
+  gains : Gains (g.V.VRead.content l.store) (numbers_of l.latest) (changed_blocks (take l.index l.files)) l.fn.batch l.batch;
+  fits : Fits (capacity (g.V.Vstore.store l.store)) (g.V.VRead.content l.store) l.batch;
 }

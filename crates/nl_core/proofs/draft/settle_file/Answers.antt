@@ -1,16 +1,57 @@
-use Rattle.std.proofs.Common.{◌≡◌, ◌+◌, ◌<◌, length, drop, get_or, ap, ◌∙◌, sym, arith}
-use Rattle.std.specs.Prelude.{flat_map}
-use Rattle.std.proofs.lemmas.List.{length-append}
-use Rattle.nl_core.specs.Settled.{page_of}
-use Rattle.nl_core.proofs.Settling.{flat_map-rest}
+use Rattle.std.proofs.Common.{◌≡◌, ℕ, ◌+◌, ◌<◌, List, length, take, refl, ap, sym, subst, ◌∙◌, arith}
+use Rattle.std.specs.Prelude.{map}
+use Rattle.std.proofs.lemmas.List.{take_all, length_push}
+use Rattle.std.proofs.lemmas.Result.{err_from_is_err_and}
+use Rattle.nl_types.specs.Entries.{Place}
+use Rattle.nl_types.specs.Lifetimes.{Numbers}
+use Rattle.nl_core.specs.Content.{slot_in}
+use Rattle.nl_core.specs.Settled.{place_of, number_in, page_of, changed_slots, IsSettled}
+use Rattle.nl_core.specs.Gains.{Gains}
+use Rattle.nl_core.specs.declared.file.Slot.{Slot}
+use Rattle.nl_core.specs.declared.file.Slot.TheVariants.{Hole}
+use Rattle.nl_core.proofs.Gaining.{gains-append, changed_slots-more, slots-step, slots-left, own_numbers, element-is, refusal-more}
 use Rattle.nl_core.proofs.draft.settle_file.Goals as goal
 
--- the batch, this slot's page and those of the slots behind it are together as many as the batch has in the end
-pub settle_slot-requires : goal.settle_slot-requires
-settle_slot-requires c =
+pub returns-in_err-settle_slot-clause-refused : goal.returns-in_err-settle_slot-clause-refused
+returns-in_err-settle_slot-clause-refused g c =
+    let p = err_from_is_err_and c.from_residual.result c.from_residual.ensures.1 in
+    let content = g.V.VRead.content c.args.store.now in
+    let segments = (g.V.Vstore.store c.args.store.now).segments in
     let slots = c.args.file.now.slots in
-    let whole : length c.loop-slot.batch + length (flat_map page_of (drop c.loop-slot.slot-index slots)) ≡ length c.args.batch.now + length (flat_map page_of slots) =
-    sym (length-append c.loop-slot.batch (flat_map page_of (drop c.loop-slot.slot-index slots))) ∙ ap length c.loop-slot.invariant.batch ∙ length-append c.args.batch.now (flat_map page_of slots) in
-    let within : c.loop-slot.slot-index < length slots = omega (arith, ap length c.as_slice-slot-items.ensures) in
-    let here : length (page_of c.slot-item.result) ≡ length (page_of (get_or slots c.loop-slot.slot-index c.slot-item.result)) = ap (λ s. length (page_of s)) (c.slot-item.is ∙ ap (λ xs. get_or xs c.loop-slot.slot-index c.slot-item.result) c.as_slice-slot-items.ensures) in
-    record { room = omega (arith, whole, here, flat_map-rest page_of slots c.loop-slot.slot-index c.slot-item.result within, c.requires.room) }
+    let i = c.loop-block.block in
+    let within : i < length slots = omega (arith, ap length c.as_slice-slot-items.ensures) in
+    let here : c.slot-item.result ≡ slot_in slots i = element-is slots c.as_slice-slot-items.result.now i c.slot-item.result Hole c.slot-item.is c.as_slice-slot-items.ensures within in
+    let told : Gains content (own_numbers c.args.latest.now) (changed_slots c.args.index 0 (take i slots)) c.args.batch.now c.loop-block.batch = c.loop-block.invariant.gains (own_numbers c.args.latest.now) (λ j. refl) in
+    rw (p.1, p.2) (refusal-more segments _ _ c.in_err-settle_slot.field-0.0
+    (omega (arith, slots-left content (own_numbers c.args.latest.now) c.args.index i slots c.args.batch.now c.loop-block.batch within told, ap (λ s. length (page_of s)) here))
+    c.in_err-settle_slot.ensures.refused)
+
+pub loop-block-preserved : goal.loop-block-preserved
+loop-block-preserved g c =
+    let content = g.V.VRead.content c.args.store.now in
+    let latest = c.args.latest.now in
+    let slots = c.args.file.now.slots in
+    let k = c.args.index in
+    let i = c.loop-block.block in
+    let before = c.loop-block.batch in
+    let after = c.settle_slot.new.batch in
+    let within : i < length slots = omega (arith, ap length c.as_slice-slot-items.ensures) in
+    let here : c.slot-item.result ≡ slot_in slots i = element-is slots c.as_slice-slot-items.result.now i c.slot-item.result Hole c.slot-item.is c.as_slice-slot-items.ensures within in
+    let each : (numbers : Numbers) → ((j : ℕ) → numbers (place_of k j) ≡ number_in (slot_in latest j)) → Gains content numbers (map (λ (page : List ℕ). (place_of k i, page)) (page_of (slot_in slots i))) before after =
+    λ numbers same. subst (λ (s : Slot). Gains content numbers (map (λ (page : List ℕ). (place_of k i, page)) (page_of s)) before after) here (c.in_ok-settle_slot.ensures.gains numbers (same i ∙ ap number_in (sym c.slot_or.ensures))) in
+    let settled : IsSettled after.births (place_of k i) (slot_in slots i) c.in_ok-settle_slot.field-0 = subst (λ (s : Slot). IsSettled after.births (place_of k i) s c.in_ok-settle_slot.field-0) here c.in_ok-settle_slot.ensures.slot in
+    record {
+      hole = c.loop-block.invariant.hole;
+      count = omega (arith, ap length c.in_ok-push.ensures.ok, length_push c.loop-block.slots c.in_ok-settle_slot.field-0, c.loop-block.invariant.count);
+      slots = subst (λ (news : List Slot). (j : ℕ) → j < i + 1 → IsSettled after.births (place_of k j) (slot_in slots j) (slot_in news j)) (sym c.in_ok-push.ensures.ok)
+          (slots-step content (own_numbers latest) _ before after k i slots c.loop-block.slots c.in_ok-settle_slot.field-0 (each (own_numbers latest) (λ j. refl)) c.loop-block.invariant.count c.loop-block.invariant.slots settled);
+      gains = λ numbers same. subst (λ (bs : List (Place × List ℕ)). Gains content numbers bs c.args.batch.now after) (sym (changed_slots-more k i slots within))
+          (gains-append content numbers _ _ c.args.batch.now before after (c.loop-block.invariant.gains numbers same) (each numbers same));
+      fits = c.in_ok-settle_slot.ensures.fits;
+    }
+
+pub returns-clause-gains : goal.returns-clause-gains
+returns-clause-gains g c = λ numbers same.
+    let slots = c.args.file.now.slots in
+    let all : take c.loop-block.block slots ≡ slots = take_all c.loop-block.block slots (omega (arith, ap length c.as_slice-slot-items.ensures)) in
+    subst (λ (xs : List Slot). Gains (g.V.VRead.content c.args.store.now) numbers (changed_slots c.args.index 0 xs) c.args.batch.now c.loop-block.batch) all (c.loop-block.invariant.gains numbers same)

@@ -1,10 +1,11 @@
 use Rattle.std.proofs.Common.{◌≡◌, ℕ, ◌<◌, ◌+◌, get_or, length}
+use Rattle.nl_types.specs.Roots.{pages_of}
 use Rattle.nl_core.specs.Content.{bytes_in}
 use Rattle.nl_core.specs.Over.{byte_over}
 use Rattle.nl_core.proofs.write.block_after.Given as goal
 
 abbrev pub invariant-loop-index : goal.invariant-loop-index
-invariant-loop-index l = record {
+invariant-loop-index g l = record {
   size : length l.block ≡ 1024;
-  written : (j : ℕ) → j < l.index → get_or l.block j 0 ≡ byte_over l.bytes l.offset (l.start + j) (get_or (bytes_in l.table l.slot) j 0);
+  written : (j : ℕ) → j < l.index → get_or l.block j 0 ≡ byte_over l.bytes l.offset (l.start + j) (get_or (bytes_in (pages_of (g.V.VRead.content l.store)) l.slot) j 0);
 }

@@ -1,14 +1,21 @@
-use Rattle.nl_core.proofs.Layouts.{held-new, size-new}
+use Rattle.std.proofs.Common.{ap, sym, subst}
+use Rattle.nl_types.specs.Roots.{pages_of}
+use Rattle.nl_types.specs.Worlds.{formatted}
+use Rattle.nl_dat.specs.Stores.{Store, content_in}
+use Rattle.nl_core.specs.Means.{Means}
+use Rattle.nl_core.specs.Volume.{over}
+use Rattle.nl_core.proofs.NewVolumes.{held-format, means-new}
 use Rattle.nl_core.proofs.pen.Pen.format.Goals as goal
 
 pub invariant_of-result : goal.invariant_of-result
-invariant_of-result g c = (
-  held-new _ c.in_ok-tables.tables.volume (g.D.Device.pages c.args.device) (g.D.Device.failure_count c.args.device) c.requires.empty c.in_ok-tables.ensures.new,
-  size-new c.args.geometry (g.D.Device.shape c.args.device) c.in_ok-tables.tables.volume c.requires.shape c.in_ok-tables.ensures.new,
-)
+invariant_of-result g c =
+    held-format c.format.result.lists c.in_ok-store.store _ c.args.now c.format.ensures (ap (λ (s : Store). s.numbers) c.in_ok-store.ensures.new) c.lifetimes_are_exact.ensures.new c.capacity.ensures.is_store
 
 pub returns-clause-means : goal.returns-clause-means
-returns-clause-means g c = c.in_ok-tables.ensures.means (c.new_volumes_are_worlds.ensures c.args.now)
+returns-clause-means g c =
+    let pages = pages_of (content_in c.in_ok-store.store) in
+    subst (λ lists. Means (over pages lists) (formatted c.args.now)) (sym c.format.ensures) (means-new pages c.args.now (c.new_volumes_are_worlds.ensures c.args.now))
 
 pub returns-clause-held : goal.returns-clause-held
-returns-clause-held g c = held-new _ c.in_ok-tables.tables.volume (g.D.Device.pages c.args.device) (g.D.Device.failure_count c.args.device) c.requires.empty c.in_ok-tables.ensures.new
+returns-clause-held g c =
+    held-format c.format.result.lists c.in_ok-store.store _ c.args.now c.format.ensures (ap (λ (s : Store). s.numbers) c.in_ok-store.ensures.new) c.lifetimes_are_exact.ensures.new c.capacity.ensures.is_store

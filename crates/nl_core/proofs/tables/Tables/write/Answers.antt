@@ -7,14 +7,15 @@ use Rattle.nl_types.specs.declared.event.Change.TheVariants.{Write}
 use Rattle.nl_types.specs.declared.error.VolError.TheVariants.{Memory}
 use Rattle.nl_types.specs.declared.reply.Answer.TheVariants.{Written}
 use Rattle.nl_types.specs.Limits.{file_limit}
-use Rattle.nl_core.specs.Content.{Table, file_in, no_file, slot_in, slot_at, IsTidy, IsKept}
+use Rattle.nl_types.specs.Roots.{Pages, pages_of}
+use Rattle.nl_core.specs.Content.{file_in, no_file, slot_in, slot_at, IsTidy, IsKept}
 use Rattle.nl_core.specs.Over.{HasMade, IsWritten}
 use Rattle.nl_core.specs.Changes.{HasWritten}
 use Rattle.nl_core.specs.Place.{LeadsTo, FindsFile}
-use Rattle.nl_core.specs.Volume.{Volume, IsSound}
+use Rattle.nl_core.specs.Volume.{Lists, IsSound, over}
 use Rattle.nl_core.specs.Means.{Means}
 use Rattle.nl_core.specs.Tables.{Roomy}
-use Rattle.nl_core.specs.Inside.{volume_of}
+use Rattle.nl_core.specs.Inside.{lists_of}
 use Rattle.nl_core.specs.declared.file.File.{File}
 use Rattle.nl_core.specs.declared.file.Slot.{Slot}
 use Rattle.nl_core.proofs.Events.{Leads, lacks_memory, writes_refused, writes_nothing, writes_past, writes}
@@ -23,34 +24,38 @@ use Rattle.nl_core.proofs.tables.Tables.write.Goals.{then-len-gt-FILE_LIMIT-via-
 use Rattle.nl_core.proofs.tables.Tables.write.Goals as goal
 
 pub returns-in_err-index-clause-follows : goal.returns-in_err-index-clause-follows
-returns-in_err-index-clause-follows c = λ w m.
+returns-in_err-index-clause-follows g c = λ w m.
     let p = err_from_is_err_and c.from_residual.result c.from_residual.ensures.1 in
-    let old = c.args.self.now.volume in
-    let files : c.deref.result.now ≡ old.files = c.deref.ensures.value ∙ ap (λ (r : Roomy). r.volume.files) c.self.view_is in
-    rw (p.1, p.2) (writes_refused old w c.args.path.now c.args.offset c.args.bytes.now c.in_err-index.field-0.0 m
-    (subst (λ fs. FindsFile old.table fs c.args.path.now (Err c.in_err-index.field-0.0)) files (c.in_err-index.ensures old.table)))
+    let pages = pages_of (g.V.VRead.content c.args.store.now) in
+    let old = c.args.self.now.lists in
+    let files : c.deref.result.now ≡ old.files = c.deref.ensures.value ∙ ap (λ (r : Roomy). r.lists.files) c.self.view_is in
+    rw (p.1, p.2) (writes_refused (over pages old) w c.args.path.now c.args.offset c.args.bytes.now c.in_err-index.field-0.0 m
+    (subst (λ fs. FindsFile pages fs c.args.path.now (Err c.in_err-index.field-0.0)) files (c.in_err-index.ensures pages)))
 
 pub returns-then-len-eq0-clause-follows : goal.returns-then-len-eq0-clause-follows
-returns-then-len-eq0-clause-follows c = λ w m.
-    let old = c.args.self.now.volume in
-    let files : c.deref.result.now ≡ old.files = c.deref.ensures.value ∙ ap (λ (r : Roomy). r.volume.files) c.self.view_is in
-    let found : FindsFile old.table old.files c.args.path.now (Ok c.in_ok-index.index) = subst (λ fs. FindsFile old.table fs c.args.path.now (Ok c.in_ok-index.index)) files (c.in_ok-index.ensures old.table) in
-    writes_nothing old w c.args.path.now c.args.offset c.args.bytes.now found.0 c.in_ok-index.index m found.1 found.2 c.if-len-eq0.true
+returns-then-len-eq0-clause-follows g c = λ w m.
+    let pages = pages_of (g.V.VRead.content c.args.store.now) in
+    let old = c.args.self.now.lists in
+    let files : c.deref.result.now ≡ old.files = c.deref.ensures.value ∙ ap (λ (r : Roomy). r.lists.files) c.self.view_is in
+    let found : FindsFile pages old.files c.args.path.now (Ok c.in_ok-index.index) = subst (λ fs. FindsFile pages fs c.args.path.now (Ok c.in_ok-index.index)) files (c.in_ok-index.ensures pages) in
+    writes_nothing (over pages old) w c.args.path.now c.args.offset c.args.bytes.now found.0 c.in_ok-index.index m found.1 found.2 c.if-len-eq0.true
 
 pub returns-then-len-gt-FILE_LIMIT-clause-follows : goal.returns-then-len-gt-FILE_LIMIT-clause-follows
-returns-then-len-gt-FILE_LIMIT-clause-follows c = λ w m.
-    let old = c.args.self.now.volume in
-    let files : c.deref.result.now ≡ old.files = c.deref.ensures.value ∙ ap (λ (r : Roomy). r.volume.files) c.self.view_is in
-    let found : FindsFile old.table old.files c.args.path.now (Ok c.in_ok-index.index) = subst (λ fs. FindsFile old.table fs c.args.path.now (Ok c.in_ok-index.index)) files (c.in_ok-index.ensures old.table) in
+returns-then-len-gt-FILE_LIMIT-clause-follows g c = λ w m.
+    let pages = pages_of (g.V.VRead.content c.args.store.now) in
+    let old = c.args.self.now.lists in
+    let files : c.deref.result.now ≡ old.files = c.deref.ensures.value ∙ ap (λ (r : Roomy). r.lists.files) c.self.view_is in
+    let found : FindsFile pages old.files c.args.path.now (Ok c.in_ok-index.index) = subst (λ fs. FindsFile pages fs c.args.path.now (Ok c.in_ok-index.index)) files (c.in_ok-index.ensures pages) in
     let past : file_limit < c.args.offset + length c.args.bytes.now = elim c.then-len-gt-FILE_LIMIT.branch [
       | then-len-gt-FILE_LIMIT-via-then-len-gt-FILE_LIMIT v ↦ omega arith
       | then-len-gt-FILE_LIMIT-via-else-len-gt-FILE_LIMIT+then-offset-len v ↦ omega arith
     ] in
-    writes_past old w c.args.path.now c.args.offset c.args.bytes.now found.0 c.in_ok-index.index m found.1 found.2 c.if-len-eq0.false past
+    writes_past (over pages old) w c.args.path.now c.args.offset c.args.bytes.now found.0 c.in_ok-index.index m found.1 found.2 c.if-len-eq0.false past
 
 pub index_mut-requires : goal.index_mut-requires
-index_mut-requires c =
-    let found : FindsFile c.self.inside.pages.items c.deref.result.now c.args.path.now (Ok c.in_ok-index.index) = c.in_ok-index.ensures c.self.inside.pages.items in
+index_mut-requires g c =
+    let pages = pages_of (g.V.VRead.content c.args.store.now) in
+    let found : FindsFile pages c.deref.result.now c.args.path.now (Ok c.in_ok-index.index) = c.in_ok-index.ensures pages in
     omega (arith, found.2.within, c.deref.ensures.len)
 
 -- a write of no bytes
@@ -64,8 +69,8 @@ nothing_written files path offset count index leads none = record {
 }
 
 -- the file that was found is the one at its index
-file_there : (table : Table) (files lent : List File) (path : List ℕ) (index : ℕ) (file : File) → FindsFile table lent path (Ok index) → lent ≡ files → file ≡ get_or files index file → file ≡ file_in files index
-file_there table files lent path index file found is read =
+file_there : (pages : Pages) (files lent : List File) (path : List ℕ) (index : ℕ) (file : File) → FindsFile pages lent path (Ok index) → lent ≡ files → file ≡ get_or files index file → file ≡ file_in files index
+file_there pages files lent path index file found is read =
     let within : index < length files = subst (λ (fs : List File). index < length fs) is found.2.within in
     read ∙ get_or_default files index file no_file within
 
@@ -73,87 +78,90 @@ file_there table files lent path index file found is read =
 latest_slots : (latest latest' : List File) (slots : List Slot) (index : ℕ) → latest' ≡ latest → ((i : ℕ) → slot_in slots i ≡ slot_in (file_in latest' index).slots i) → (i : ℕ) → slot_in slots i ≡ slot_at latest index i
 latest_slots latest latest' slots index is same i = same i ∙ ap (λ files. slot_at files index i) is
 
--- a volume with the written file is sound
-sound-found : (v : Volume) (lent : List File) (path : List ℕ) (index : ℕ) (table : Table) (latest : List File) (slots : List Slot) (offset : ℕ) (bytes : List ℕ) (old new : File) → IsSound v → FindsFile v.table lent path (Ok index)
-    → lent ≡ v.files → table ≡ v.table → latest ≡ v.latest.files → ((i : ℕ) → slot_in slots i ≡ slot_in (file_in latest index).slots i) → old ≡ get_or v.files index old → IsWritten table slots offset bytes old new
-    → IsSound (record v { files = set v.files index new; dirty = true })
-sound-found v lent path index table latest slots offset bytes old new sound found files_are table_is latest_is slots_are old_is written =
-    sound-written v index offset bytes new (subst (λ (fs : List File). index < length fs) files_are found.2.within) sound
-    (IsWritten-in v index table slots offset bytes old new table_is (latest_slots v.latest.files latest slots index latest_is slots_are) (file_there v.table v.files lent path index old found files_are old_is) written)
+-- lists with the written file are sound
+sound-found : (pages : Pages) (l : Lists) (lent : List File) (path : List ℕ) (index : ℕ) (latest : List File) (slots : List Slot) (offset : ℕ) (bytes : List ℕ) (old new : File) → IsSound (over pages l) → FindsFile pages lent path (Ok index)
+    → lent ≡ l.files → latest ≡ l.latest.files → ((i : ℕ) → slot_in slots i ≡ slot_in (file_in latest index).slots i) → old ≡ get_or l.files index old → IsWritten pages slots offset bytes old new
+    → IsSound (over pages (record l { files = set l.files index new; dirty = true }))
+sound-found pages l lent path index latest slots offset bytes old new sound found files_are latest_is slots_are old_is written =
+    sound-written (over pages l) index offset bytes new (subst (λ (fs : List File). index < length fs) files_are found.2.within) sound
+    (IsWritten-in (over pages l) index pages slots offset bytes old new refl (latest_slots l.latest.files latest slots index latest_is slots_are) (file_there pages l.files lent path index old found files_are old_is) written)
 
 pub write-requires-clause-tidy : goal.write-requires-clause-tidy
-write-requires-clause-tidy c =
+write-requires-clause-tidy g c =
+    let pages = pages_of (g.V.VRead.content c.args.store.now) in
     let index = c.in_ok-index.index in
-    let file = file_there c.self.inside.pages.items c.self.inside.files.items c.deref.result.now c.args.path.now index c.index_mut.result.now (c.in_ok-index.ensures c.self.inside.pages.items) c.deref.ensures.value c.index_mut.ensures.value in
-    subst (IsTidy c.deref-2.result.now) (sym file) (subst (λ t. IsTidy t (file_in c.self.inside.files.items index)) (sym c.deref-2.ensures.value) (c.self.invariant.tidy index))
+    let sound : IsSound (over pages (lists_of c.self.inside)) = subst (λ (l : Lists). IsSound (over pages l)) (sym (ap (λ (r : Roomy). r.lists) c.self.view_is)) c.requires.sound in
+    let file = file_there pages c.self.inside.files.items c.deref.result.now c.args.path.now index c.index_mut.result.now (c.in_ok-index.ensures pages) c.deref.ensures.value c.index_mut.ensures.value in
+    subst (IsTidy pages) (sym file) (sound.tidy index)
 
 pub write-requires-clause-count : goal.write-requires-clause-count
-write-requires-clause-count c =
+write-requires-clause-count g c =
+    let pages = pages_of (g.V.VRead.content c.args.store.now) in
     let index = c.in_ok-index.index in
-    let file = file_there c.self.inside.pages.items c.self.inside.files.items c.deref.result.now c.args.path.now index c.index_mut.result.now (c.in_ok-index.ensures c.self.inside.pages.items) c.deref.ensures.value c.index_mut.ensures.value in
-    subst (λ (f : File). length f.slots ≤ 65536) (sym file) (c.self.invariant.counts index)
+    let sound : IsSound (over pages (lists_of c.self.inside)) = subst (λ (l : Lists). IsSound (over pages l)) (sym (ap (λ (r : Roomy). r.lists) c.self.view_is)) c.requires.sound in
+    let file = file_there pages c.self.inside.files.items c.deref.result.now c.args.path.now index c.index_mut.result.now (c.in_ok-index.ensures pages) c.deref.ensures.value c.index_mut.ensures.value in
+    subst (λ (f : File). length f.slots ≤ 65536) (sym file) (sound.counts index)
 
 pub write-requires-clause-kept : goal.write-requires-clause-kept
-write-requires-clause-kept c = λ i.
-    subst (IsKept c.deref-2.result.now) (sym (latest_slots c.self.inside.latest.files c.as_slice.result.now c.slots_of-latest.result.now c.in_ok-index.index c.as_slice.ensures c.slots_of-latest.ensures i))
-    (subst (λ t. IsKept t (slot_at c.self.inside.latest.files c.in_ok-index.index i)) (sym c.deref-2.ensures.value) (c.self.invariant.latest c.in_ok-index.index i))
+write-requires-clause-kept g c = λ i.
+    let pages = pages_of (g.V.VRead.content c.args.store.now) in
+    let sound : IsSound (over pages (lists_of c.self.inside)) = subst (λ (l : Lists). IsSound (over pages l)) (sym (ap (λ (r : Roomy). r.lists) c.self.view_is)) c.requires.sound in
+    subst (IsKept pages) (sym (latest_slots c.self.inside.latest.files c.as_slice.result.now c.slots_of-latest.result.now c.in_ok-index.index c.as_slice.ensures c.slots_of-latest.ensures i))
+    (sound.latest c.in_ok-index.index i)
 
 -- a file that is put back where it was
-put_back : (v old : Volume) (index : ℕ) (file lent : File) → v ≡ old → file ≡ lent → lent ≡ get_or v.files index lent → record v { files = set v.files index file } ≡ old
-put_back v old index file lent is same read =
-    ap (λ f. record v { files = set v.files index f }) (same ∙ read) ∙ ap (λ fs. record v { files = fs }) (set-get_or v.files index lent) ∙ is
+put_back : (l old : Lists) (index : ℕ) (file lent : File) → l ≡ old → file ≡ lent → lent ≡ get_or l.files index lent → record l { files = set l.files index file } ≡ old
+put_back l old index file lent is same read =
+    ap (λ f. record l { files = set l.files index f }) (same ∙ read) ∙ ap (λ fs. record l { files = fs }) (set-get_or l.files index lent) ∙ is
 
 pub returns-in_err-write-clause-follows : goal.returns-in_err-write-clause-follows
-returns-in_err-write-clause-follows c = λ w m.
+returns-in_err-write-clause-follows g c = λ w m.
     let p = err_from_is_err_and c.from_residual-in_err-write.result c.from_residual-in_err-write.ensures.1 in
-    let old = c.args.self.now.volume in
-    let same = put_back (volume_of c.self.inside) old c.in_ok-index.index c.write.new.self c.index_mut.result.now (ap (λ (r : Roomy). r.volume) c.self.view_is) c.in_err-write.ensures.err c.index_mut.ensures.value in
-    rw (p.1, p.2) (subst (Leads w (Apply (Write c.args.path.now c.args.offset c.args.bytes.now)) (Err Memory)) (sym same) (lacks_memory old w (Apply (Write c.args.path.now c.args.offset c.args.bytes.now)) m))
-
-pub invariant_of-self-2 : goal.invariant_of-self-2
-invariant_of-self-2 c =
-    let v = volume_of c.self.inside in
-    let index = c.in_ok-index.index in
-    let found : FindsFile v.table c.deref.result.now c.args.path.now (Ok index) = c.in_ok-index.ensures v.table in
-    sound-found v c.deref.result.now c.args.path.now index c.deref-2.result.now c.as_slice.result.now c.slots_of-latest.result.now c.args.offset c.args.bytes.now c.index_mut.result.now c.write.new.self c.self.invariant
-    found c.deref.ensures.value c.deref-2.ensures.value c.as_slice.ensures c.slots_of-latest.ensures c.index_mut.ensures.value c.in_ok-write.ensures.ok
+    let pages = pages_of (g.V.VRead.content c.args.store.now) in
+    let old = c.args.self.now.lists in
+    let same = put_back (lists_of c.self.inside) old c.in_ok-index.index c.write.new.self c.index_mut.result.now (ap (λ (r : Roomy). r.lists) c.self.view_is) c.in_err-write.ensures.err c.index_mut.ensures.value in
+    rw (p.1, p.2) (subst (λ (l : Lists). Leads w (Apply (Write c.args.path.now c.args.offset c.args.bytes.now)) (Err Memory) (over pages l)) (sym same) (lacks_memory (over pages old) w (Apply (Write c.args.path.now c.args.offset c.args.bytes.now)) m))
 
 pub returns-clause-follows : goal.returns-clause-follows
-returns-clause-follows c = λ w m.
-    let v = volume_of c.self.inside in
-    let before : v ≡ c.args.self.now.volume = ap (λ (r : Roomy). r.volume) c.self.view_is in
+returns-clause-follows g c = λ w m.
+    let pages = pages_of (g.V.VRead.content c.args.store.now) in
+    let l = lists_of c.self.inside in
+    let before : l ≡ c.args.self.now.lists = ap (λ (r : Roomy). r.lists) c.self.view_is in
     let index = c.in_ok-index.index in
-    let found : FindsFile v.table v.files c.args.path.now (Ok index) = subst (λ fs. FindsFile v.table fs c.args.path.now (Ok index)) c.deref.ensures.value (c.in_ok-index.ensures v.table) in
-    let file = file_there v.table v.files c.deref.result.now c.args.path.now index c.index_mut.result.now (c.in_ok-index.ensures v.table) c.deref.ensures.value c.index_mut.ensures.value in
-    let written = IsWritten-in v index c.deref-2.result.now c.slots_of-latest.result.now c.args.offset c.args.bytes.now c.index_mut.result.now c.write.new.self c.deref-2.ensures.value
-    (latest_slots v.latest.files c.as_slice.result.now c.slots_of-latest.result.now index c.as_slice.ensures c.slots_of-latest.ensures) file c.in_ok-write.ensures.ok in
-    writes v w c.args.path.now c.args.offset c.args.bytes.now found.0 index c.write.new.self (subst (λ u. Means u w) (sym before) m) found.1 found.2 c.if-len-eq0.false (omega arith) written.name written.content
+    let found : FindsFile pages l.files c.args.path.now (Ok index) = subst (λ fs. FindsFile pages fs c.args.path.now (Ok index)) c.deref.ensures.value (c.in_ok-index.ensures pages) in
+    let file = file_there pages l.files c.deref.result.now c.args.path.now index c.index_mut.result.now (c.in_ok-index.ensures pages) c.deref.ensures.value c.index_mut.ensures.value in
+    let written = IsWritten-in (over pages l) index pages c.slots_of-latest.result.now c.args.offset c.args.bytes.now c.index_mut.result.now c.write.new.self refl
+    (latest_slots l.latest.files c.as_slice.result.now c.slots_of-latest.result.now index c.as_slice.ensures c.slots_of-latest.ensures) file c.in_ok-write.ensures.ok in
+    writes (over pages l) w c.args.path.now c.args.offset c.args.bytes.now found.0 index c.write.new.self (subst (λ (u : Lists). Means (over pages u) w) (sym before) m) found.1 found.2 c.if-len-eq0.false (omega arith) written.name written.content
 
 pub returns-clause-blocks : goal.returns-clause-blocks
-returns-clause-blocks c =
-    let v = volume_of c.self.inside in
-    let index = c.in_ok-index.index in
-    let found : FindsFile v.table c.deref.result.now c.args.path.now (Ok index) = c.in_ok-index.ensures v.table in
-    keeps_blocks v c.args.self.now.volume _ (Written (length c.args.bytes.now)) (ap (λ (r : Roomy). r.volume) c.self.view_is) refl refl refl
-    (sound-found v c.deref.result.now c.args.path.now index c.deref-2.result.now c.as_slice.result.now c.slots_of-latest.result.now c.args.offset c.args.bytes.now c.index_mut.result.now c.write.new.self c.self.invariant
-    found c.deref.ensures.value c.deref-2.ensures.value c.as_slice.ensures c.slots_of-latest.ensures c.index_mut.ensures.value c.in_ok-write.ensures.ok)
+returns-clause-blocks g c =
+    let pages = pages_of (g.V.VRead.content c.args.store.now) in
+    let l = lists_of c.self.inside in
+    let before : l ≡ c.args.self.now.lists = ap (λ (r : Roomy). r.lists) c.self.view_is in
+    let sound : IsSound (over pages l) = subst (λ (u : Lists). IsSound (over pages u)) (sym before) c.requires.sound in
+    keeps_blocks pages l c.args.self.now.lists _ (Written (length c.args.bytes.now)) before refl refl
+    (sound-found pages l c.deref.result.now c.args.path.now c.in_ok-index.index c.as_slice.result.now c.slots_of-latest.result.now c.args.offset c.args.bytes.now c.index_mut.result.now c.write.new.self sound
+    (c.in_ok-index.ensures pages) c.deref.ensures.value c.as_slice.ensures c.slots_of-latest.ensures c.index_mut.ensures.value c.in_ok-write.ensures.ok)
 
 pub returns-then-len-eq0-clause-changed : goal.returns-then-len-eq0-clause-changed
-returns-then-len-eq0-clause-changed c =
-    let old = c.args.self.now.volume in
-    let files : c.deref.result.now ≡ old.files = c.deref.ensures.value ∙ ap (λ (r : Roomy). r.volume.files) c.self.view_is in
-    let found : FindsFile old.table old.files c.args.path.now (Ok c.in_ok-index.index) = subst (λ fs. FindsFile old.table fs c.args.path.now (Ok c.in_ok-index.index)) files (c.in_ok-index.ensures old.table) in
+returns-then-len-eq0-clause-changed g c =
+    let pages = pages_of (g.V.VRead.content c.args.store.now) in
+    let old = c.args.self.now.lists in
+    let files : c.deref.result.now ≡ old.files = c.deref.ensures.value ∙ ap (λ (r : Roomy). r.lists.files) c.self.view_is in
+    let found : FindsFile pages old.files c.args.path.now (Ok c.in_ok-index.index) = subst (λ fs. FindsFile pages fs c.args.path.now (Ok c.in_ok-index.index)) files (c.in_ok-index.ensures pages) in
     nothing_written old.files c.args.path.now c.args.offset (length c.args.bytes.now) c.in_ok-index.index found c.if-len-eq0.true
 
 pub returns-clause-changed : goal.returns-clause-changed
-returns-clause-changed c =
-    let v = volume_of c.self.inside in
-    let old = c.args.self.now.volume in
+returns-clause-changed g c =
+    let pages = pages_of (g.V.VRead.content c.args.store.now) in
+    let l = lists_of c.self.inside in
+    let old = c.args.self.now.lists in
     let index = c.in_ok-index.index in
-    let files : v.files ≡ old.files = ap (λ (r : Roomy). r.volume.files) c.self.view_is in
-    let found : FindsFile v.table v.files c.args.path.now (Ok index) = subst (λ fs. FindsFile v.table fs c.args.path.now (Ok index)) c.deref.ensures.value (c.in_ok-index.ensures v.table) in
-    let file = file_there v.table v.files c.deref.result.now c.args.path.now index c.index_mut.result.now (c.in_ok-index.ensures v.table) c.deref.ensures.value c.index_mut.ensures.value in
-    subst (λ fs. HasWritten c.args.path.now c.args.offset (length c.args.bytes.now) fs (set v.files index c.write.new.self)) files (record {
+    let files : l.files ≡ old.files = ap (λ (r : Roomy). r.lists.files) c.self.view_is in
+    let found : FindsFile pages l.files c.args.path.now (Ok index) = subst (λ fs. FindsFile pages fs c.args.path.now (Ok index)) c.deref.ensures.value (c.in_ok-index.ensures pages) in
+    let file = file_there pages l.files c.deref.result.now c.args.path.now index c.index_mut.result.now (c.in_ok-index.ensures pages) c.deref.ensures.value c.index_mut.ensures.value in
+    subst (λ fs. HasWritten c.args.path.now c.args.offset (length c.args.bytes.now) fs (set l.files index c.write.new.self)) files (record {
       index = index;
       leads = found;
       file = c.write.new.self;

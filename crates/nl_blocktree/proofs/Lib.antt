@@ -1,0 +1,15 @@
+pub mod Chains
+pub mod Places
+pub mod Reading
+pub mod Numbers
+pub mod Kept
+pub mod Pairwise
+pub mod HeldPages
+pub mod MoreChanges
+pub mod WrittenChains
+pub mod Renewal
+pub mod Frames
+pub mod Assembly
+pub mod Unchanged
+pub mod RootByRoot
+pub mod WalkedBlocks

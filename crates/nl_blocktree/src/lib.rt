@@ -1,0 +1,21 @@
+//! Files as trees of blocks, over any store of virtual block numbers: a root is a map from index to page.
+#![tactic(auto)]
+
+mod chain;
+mod change;
+mod data;
+pub mod laws;
+mod nodes;
+mod put;
+mod read;
+mod walking;
+
+pub use change::BlockChange;
+pub use put::put_all;
+pub use read::get;
+pub use walking::{PlacedBlock, WalkError, walk};
+
+#[cfg(test)]
+mod put_tests;
+#[cfg(test)]
+mod tests;

@@ -1,0 +1,15 @@
+pub mod BatchLaws
+pub mod Tables
+pub mod Counting
+pub mod SoundTable
+pub mod Contents
+pub mod StoreOf
+pub mod FreeNumbers
+pub mod Writing
+pub mod Refusals
+pub mod Positions
+pub mod TakingOut
+pub mod Reclaiming
+pub mod Loading
+pub mod ClosedSegments
+pub mod Relocating

@@ -1,0 +1,201 @@
+-- What a relocation does to the table and to what callers see.
+use Rattle.std.proofs.Common.{◌≡◌, ℕ, ◌+◌, ◌<◌, ◌≤◌, Bool, true, false, eqb, List, [], ◌∷◌, Some, None, Option, inl, inr, sym, refl, ap, subst, ◌∙◌, map, get_or, length, is_some, arith}
+use Rattle.std.specs.Prelude.{◌||◌}
+use Rattle.std.specs.List.{All, AllByRecursion, range_with_len}
+use Rattle.std.specs.Option.{option_map}
+use Rattle.std.proofs.lemmas.Bool.{cases_Bool, or_cases}
+use Rattle.std.proofs.lemmas.List.{length-map}
+use Rattle.nl_types.specs.declared.error.VolError.{VolError}
+use Rattle.nl_types.specs.declared.error.VolError.TheVariants.{NoSpace, Fault, Memory}
+use Rattle.nl_types.specs.Segments.{AreTidy, IsUsed, StaysUsed, total_blocks}
+use Rattle.nl_types.specs.Placing.{LacksSpace, Fits}
+use Rattle.nl_types.specs.PartialMaps.{Partial, adjust, adjust_each, is_one_of, Stands}
+use Rattle.nl_types.proofs.PartialMaps.{is_one_of-get_or}
+use Rattle.nl_segwriter.specs.Content.{Payload, Content as Space, KeepsUsed, page_of as payload_page}
+use Rattle.nl_segwriter.specs.Appended.{IsAppended, IsAppendError, IsBrokenOff as BreaksOff}
+use Rattle.nl_dat.specs.declared.entries.DatEntry.{DatEntry}
+use Rattle.nl_dat.specs.Batches.{birth_of_item, births_of}
+use Rattle.nl_dat.specs.Table.{entry_in, addresses_of, block_of, content_of, moved_entry, stored_at, IsSound}
+use Rattle.nl_dat.specs.Stores.{IsMoved, IsMoveRefused, KeepsStored, IsClosed, is_inside, moved_to, address_in}
+use Rattle.nl_dat.specs.Inside.{births_in, numbered_of, store_of, IsTable}
+use Rattle.nl_dat.proofs.Contents.{KeepsAt, content_of-KeepsAt, IsSound-KeepsAt, content_of-moves, addresses_of-moves, IsSound-moves}
+use Rattle.nl_dat.proofs.StoreOf.{content_in-store_of, address_in-store_of}
+use Rattle.nl_dat.proofs.ClosedSegments.{fits-outside}
+use Rattle.nl_dat.proofs.Writing.{total-with_logs, stand-births, stand-stored, length-StandAt, keeps_at}
+use Rattle.nl_dat.proofs.Refusals.{broken_off}
+
+-- ---- numbers that are moved
+
+-- what holds of each block of before, and of each new one
+adjust_each-each : (P : ℕ → Type 0) (ks bs : List ℕ) (m : Partial ℕ) → AllByRecursion P bs → ((v b : ℕ) → m v ≡ Some b → P b) → (v b : ℕ) → adjust_each moved_to ks bs m v ≡ Some b → P b
+adjust_each-each P [] bs m all before v b is = before v b is
+adjust_each-each P (k ∷ ks) [] m all before v b is = before v b is
+adjust_each-each P (k ∷ ks) (a ∷ bs) m all before v b is = adjust_each-each P ks bs (adjust (moved_to a) m k) all.1 (λ w c at_w. elim (cases_Bool (eqb w k)) [
+  | inl e ↦ moved (m w) c (sym (rw e refl) ∙ at_w)
+  | inr e ↦ before w c (sym (rw e refl) ∙ at_w)
+]) v b is
+  where
+    moved : (o : Option ℕ) (c : ℕ) → option_map (moved_to a) o ≡ Some c → P c
+    moved None c h = cc
+    moved (Some x) c h = let same : a ≡ c = cc in subst P same all.0
+
+adjust_each-is_some : {A X : Type 0} (f : A → X → X) (ks : List ℕ) (xs : List A) (m : Partial X) (v : ℕ) → is_some (adjust_each f ks xs m v) ≡ is_some (m v)
+adjust_each-is_some f [] xs m v = refl
+adjust_each-is_some f (k ∷ ks) [] m v = refl
+adjust_each-is_some f (k ∷ ks) (x ∷ xs) m v = adjust_each-is_some f ks xs (adjust (f x) m k) v ∙ elim (cases_Bool (eqb v k)) [
+  | inl e ↦ rw e (same (m v))
+  | inr e ↦ rw e refl
+]
+  where
+    same : (o : Option _) → is_some (option_map (f x) o) ≡ is_some o
+    same None = refl
+    same (Some y) = refl
+
+-- a number that is moved has one of the new blocks
+moved-in : (P : ℕ → Type 0) (ks bs : List ℕ) (m : Partial ℕ) (v : ℕ) → length ks ≡ length bs → AllByRecursion P bs → is_one_of ks v ≡ true → is_some (m v) ≡ true → (b : ℕ) × (adjust_each moved_to ks bs m v ≡ Some b) × P b
+moved-in P [] bs m v len all among some = cc
+moved-in P (k ∷ ks) [] m v len all among some = absurd (omega (arith, len))
+moved-in P (k ∷ ks) (a ∷ bs) m v len all among some = elim (cases_Bool (is_one_of ks v)) [
+  | inl later ↦ moved-in P ks bs (adjust (moved_to a) m k) v (omega (arith, len)) all.1 later (elim (cases_Bool (eqb v k)) [
+    | inl e ↦ rw e (is_some-moved (m v) some)
+    | inr e ↦ rw e some
+  ])
+  | inr last ↦ elim (or_cases (eqb v k) (is_one_of ks v) among) [
+    | inl e ↦ (a, others ks bs (adjust (moved_to a) m k) last ∙ rw e (here (m v) some), all.0)
+    | inr e ↦ absurd (both e last)
+  ]
+]
+  where
+    both : {t : Bool} → t ≡ true → t ≡ false → ⊥
+    both e f = cc
+
+    is_some-moved : (o : Option ℕ) → is_some o ≡ true → is_some (option_map (moved_to a) o) ≡ true
+    is_some-moved None h = cc
+    is_some-moved (Some x) h = refl
+
+    here : (o : Option ℕ) → is_some o ≡ true → option_map (moved_to a) o ≡ Some a
+    here None h = cc
+    here (Some x) h = refl
+
+    others : (js cs : List ℕ) (n : Partial ℕ) → is_one_of js v ≡ false → adjust_each moved_to js cs n v ≡ n v
+    others [] cs n none = refl
+    others (j ∷ js) [] n none = refl
+    others (j ∷ js) (c ∷ cs) n none = elim (cases_Bool (eqb v j)) [
+      | inl e ↦ absurd (both (ap (λ t. t || is_one_of js v) e) none)
+      | inr e ↦ others js cs (adjust (moved_to c) n j) (sym (ap (λ t. t || is_one_of js v) e) ∙ none) ∙ rw e refl
+    ]
+
+is_some-inside : (s : Rattle.nl_types.specs.Segments.Segments) (segment : ℕ) (o : Option ℕ) → is_inside s segment o ≡ true → is_some o ≡ true
+is_some-inside s segment None h = cc
+is_some-inside s segment (Some b) h = refl
+
+none_of : {A : Type 0} (o : Option A) → is_some o ≡ false → o ≡ None
+none_of None h = refl
+none_of (Some x) h = cc
+
+module _ (table new : List (Option DatEntry)) (lowest : ℕ) (old later : Space) (before after c now segment : ℕ) (numbers at : List ℕ) (items : List Payload)
+    (is_table : IsTable table lowest old) (loaded : map (stored_at (entry_in table) (births_in old)) numbers ≡ map Some (births_of items))
+    (appended : IsAppended old later false now c items at) (kept : KeepsUsed old.segments old later) (stays : StaysUsed old.segments later.segments)
+    (is_new : entry_in new ≡ adjust_each moved_entry numbers at (entry_in table)) (size : length new ≡ length table) where
+  keeps : KeepsAt (addresses_of (entry_in table)) (births_in old) (births_in later)
+  keeps = keeps_at table lowest old later is_table kept
+
+  stands : Stands (births_in later) at (births_of items)
+  stands = stand-births at items later appended.held
+
+  pub moved-count : length numbers ≡ length items
+  moved-count = sym (length-map numbers (stored_at (entry_in table) (births_in old))) ∙ ap length loaded ∙ length-map (births_of items) Some ∙ length-map items birth_of_item
+
+  at-count : length numbers ≡ length at
+  at-count = moved-count ∙ length-StandAt at items later.held appended.held
+
+  -- what was read stands at the old blocks still
+  stored-still : (v : ℕ) → stored_at (entry_in table) (births_in later) v ≡ stored_at (entry_in table) (births_in old) v
+  stored-still v = of_entry (entry_in table v) refl
+    where
+      of_entry : (o : Option DatEntry) → entry_in table v ≡ o → Rattle.std.specs.Option.option_and_then (λ (s : DatEntry). births_in later s.block) o ≡ Rattle.std.specs.Option.option_and_then (λ (s : DatEntry). births_in old s.block) o
+      of_entry None is = refl
+      of_entry (Some e) is = keeps v e.block (ap (option_map block_of) is)
+
+  map-still : (ks : List ℕ) → map (stored_at (entry_in table) (births_in later)) ks ≡ map (stored_at (entry_in table) (births_in old)) ks
+  map-still [] = refl
+  map-still (k ∷ ks) = ap (λ o. o ∷ map (stored_at (entry_in table) (births_in later)) ks) (stored-still k) ∙ ap (λ os. stored_at (entry_in table) (births_in old) k ∷ os) (map-still ks)
+
+  loaded-later : map Some (births_of items) ≡ map (stored_at (entry_in table) (births_in later)) numbers
+  loaded-later = sym loaded ∙ sym (map-still numbers)
+
+  sound-later : IsSound (addresses_of (entry_in table)) (births_in later)
+  sound-later = IsSound-KeepsAt (addresses_of (entry_in table)) (births_in old) (births_in later) is_table.sound keeps
+
+  sound-now : IsSound (addresses_of (entry_in new)) (births_in later)
+  sound-now = subst (λ m. IsSound (addresses_of m) (births_in later)) (sym is_new) (IsSound-moves numbers at (births_of items) (entry_in table) (births_in later) stands loaded-later sound-later)
+
+  addresses-moved : addresses_of (entry_in new) ≡ adjust_each moved_to numbers at (addresses_of (entry_in table))
+  addresses-moved = ap addresses_of is_new ∙ addresses_of-moves numbers at (entry_in table)
+
+  total : total_blocks later.segments ≡ total_blocks old.segments
+  total = ap total_blocks appended.segments ∙ total-with_logs old.segments appended.logs now
+
+  each_block : (P : ℕ → Type 0) → AllByRecursion P at → ((v b : ℕ) → addresses_of (entry_in table) v ≡ Some b → P b) → (v b : ℕ) → addresses_of (entry_in new) v ≡ Some b → P b
+  each_block P all each v b is = adjust_each-each P numbers at (addresses_of (entry_in table)) all each v b (sym (ap (λ (m : Partial ℕ). m v) addresses-moved) ∙ is)
+
+  in_use-now : (v : ℕ) → is_some (entry_in new v) ≡ is_some (entry_in table v)
+  in_use-now v = ap (λ (m : Partial DatEntry). is_some (m v)) is_new ∙ adjust_each-is_some moved_entry numbers at (entry_in table) v
+
+  pub table-moved : IsTable new lowest later
+  table-moved = record {
+    full = size ∙ is_table.full ∙ ap (λ n. n + 1) (sym total);
+    zero_unused = none_of (entry_in new 0) (in_use-now 0 ∙ ap is_some is_table.zero_unused);
+    sound = sound-now;
+    used = each_block (IsUsed later.segments) appended.used_now (λ v b is. stays b (is_table.used v b is));
+    stored = each_block (λ b. later.stored b ≡ option_map payload_page (later.held b)) (stand-stored at items later appended.held appended.stored)
+        (λ v b is. let same = kept b (is_table.used v b is) in same.1 ∙ is_table.stored v b is ∙ sym (ap (option_map payload_page) same.0));
+    positive = is_table.positive;
+    within = omega (arith, is_table.within, size);
+    below_lowest = λ v low high. in_use-now v ∙ is_table.below_lowest v low high;
+  }
+
+  pub is_moved : AreTidy old.segments → IsClosed old.segments segment → All (λ v. is_inside old.segments segment (address_in (store_of table old before) v) ≡ true) numbers
+      → IsMoved segment now numbers (store_of table old before) (store_of new later after)
+  is_moved tidy closed inside = record {
+    content = content_in-store_of new later after ∙ ap (λ m. content_of m (births_in later)) is_new ∙ content_of-moves numbers at (births_of items) (entry_in table) (births_in later) stands loaded-later
+        ∙ content_of-KeepsAt (entry_in table) (births_in old) (births_in later) keeps ∙ sym (content_in-store_of table old before);
+    at = at;
+    placed = record {
+      logs = appended.logs;
+      fits = subst (λ n. Fits old.segments false n appended.logs) (sym moved-count) appended.fits;
+      at_is = appended.at;
+      segments = appended.segments;
+    };
+    address = address_in-store_of new later after sound-now ∙ addresses-moved ∙ ap (adjust_each moved_to numbers at) (sym (address_in-store_of table old before is_table.sound));
+    out = λ k d within.
+        let v = get_or numbers k d in
+        let was : is_some (addresses_of (entry_in table) v) ≡ true = is_some-inside old.segments segment (addresses_of (entry_in table) v) (sym (ap (λ (m : Partial ℕ). is_inside old.segments segment (m v)) (address_in-store_of table old before is_table.sound)) ∙ inside k d within) in
+        let there = moved-in (λ b. is_inside old.segments segment (Some b) ≡ false) numbers at (addresses_of (entry_in table)) v at-count outside (is_one_of-get_or numbers k d within) was in
+        ap (λ (m : Partial ℕ). is_inside old.segments segment (m v)) (address_in-store_of new later after sound-now ∙ addresses-moved) ∙ ap (is_inside old.segments segment) there.1 ∙ there.2;
+  }
+    where
+      outside : AllByRecursion (λ b. is_inside old.segments segment (Some b) ≡ false) at
+      outside = subst (AllByRecursion (λ b. is_inside old.segments segment (Some b) ≡ false)) (sym appended.at) (fits-outside old.segments false (length items) segment appended.logs tidy closed appended.fits)
+
+-- ---- a refusal
+
+keeps-stored : (table : List (Option DatEntry)) (old later : Space) (before after : ℕ) → later ≡ old → KeepsStored (store_of table old before) (store_of table later after)
+keeps-stored table old later before after same = record {
+  numbers = ap (λ (s : Space). map (numbered_of (births_in s)) table) same;
+  segments = ap (λ (s : Space). s.segments) same;
+  device = ap (λ (s : Space). map s.stored (range_with_len 0 (total_blocks s.segments))) same;
+}
+
+pub move-refused : (table : List (Option DatEntry)) (lowest : ℕ) (old later : Space) (before between after stamp checkpoint n : ℕ) (payload : List Payload) (e : VolError) → IsTable table lowest old → length payload ≡ n → KeepsUsed old.segments old later → before ≤ between
+    → IsAppendError e → (e ≡ NoSpace → later ≡ old) → (e ≡ NoSpace → LacksSpace old.segments false (length payload)) → (e ≡ Memory → later ≡ old) → (e ≡ Fault → between < after) → (e ≡ Fault → BreaksOff old later false stamp checkpoint payload)
+    → IsMoveRefused stamp n e (store_of table old before) (store_of table later after)
+move-refused table lowest old later before between after stamp checkpoint n payload e is_table count kept more why no_space lacks memory risen broken = elim why [
+  | inl is ↦ subst (λ d. IsMoveRefused stamp n d (store_of table old before) (store_of table later after)) (sym is)
+      (subst (LacksSpace old.segments false) count (lacks is), keeps-stored table old later before after (no_space is))
+  | inr or ↦ elim or [
+    | inl is ↦ subst (λ d. IsMoveRefused stamp n d (store_of table old before) (store_of table later after)) (sym is)
+        (inr (broken_off table lowest old later before after false stamp checkpoint n payload is_table count kept (omega (arith, more, risen is)) (broken is)))
+    | inr is ↦ subst (λ d. IsMoveRefused stamp n d (store_of table old before) (store_of table later after)) (sym is) (keeps-stored table old later before after (memory is))
+  ]
+]

@@ -1,0 +1,149 @@
+-- What callers see of a table over a space.
+use Rattle.std.proofs.Common.{◌≡◌, ℕ, zero, suc, ◌∷◌, replicate, ◌+◌, ◌≤◌, inl, inr, subst, List, Some, None, Option, sym, refl, ap, ◌∙◌, map, get_or, length, arith}
+use Rattle.std.specs.Prelude.{slice_index_or}
+use Rattle.std.specs.List.{range_with_len}
+use Rattle.std.specs.Option.{option_map, option_and_then}
+use Rattle.std.proofs.Math.ListN.{get_or-map}
+use Rattle.std.proofs.lemmas.List.FromFn.{get_or-map-range_with_len}
+use Rattle.std.proofs.lemmas.List.{get_or_past, length-replicate}
+use Rattle.std.proofs.lemmas.Bool.{cases_lt}
+use Rattle.nl_types.specs.Segments.{AreTidy, total_blocks}
+use Rattle.nl_types.specs.PartialMaps.{Partial}
+use Rattle.nl_types.specs.Entries.{Birth, number_of}
+use Rattle.nl_types.proofs.PartialMaps.{same_at_all}
+use Rattle.nl_segwriter.specs.Content.{Payload, Content as Space, page_of as payload_page}
+use Rattle.nl_dat.specs.declared.entries.DatEntry.{DatEntry}
+use Rattle.nl_dat.specs.Batches.{birth_of_item}
+use Rattle.nl_dat.specs.Table.{entry_in, addresses_of, block_of, content_of, meaning_of, meaning_at, period_of, period_of_entry, IsSound}
+use Rattle.nl_dat.specs.Stores.{Numbered, new_store, numbered_in, content_in, address_in, entry_of, block_of as block_now, dat_entry_of, IsStore}
+use Rattle.nl_dat.specs.Inside.{births_in, numbered_with, numbered_of, store_of, IsTable}
+use Rattle.nl_types.proofs.UsedParts.{used_inside}
+use Rattle.nl_dat.proofs.SoundTable.{stored_for, IsSound-apart}
+
+module _ (table : List (Option DatEntry)) (space : Space) (failures : ℕ) where
+  pub numbered_in-store_of : (v : ℕ) → numbered_in (store_of table space failures) v ≡ numbered_of (births_in space) (entry_in table v)
+  numbered_in-store_of v = get_or-map (numbered_of (births_in space)) table v None
+
+  -- what a number stands for
+  pub content_in-store_of : content_in (store_of table space failures) ≡ content_of (entry_in table) (births_in space)
+  content_in-store_of = same_at_all _ _ (λ v. ap (option_map entry_of) (numbered_in-store_of v) ∙ of_entry (entry_in table v))
+    where
+      of_birth : (e : DatEntry) (o : Option Birth) → option_map entry_of (option_map (numbered_with e) o) ≡ option_map (meaning_of e) o
+      of_birth e None = refl
+      of_birth e (Some p) = refl
+
+      of_entry : (o : Option DatEntry) → option_map entry_of (numbered_of (births_in space) o) ≡ option_and_then (meaning_at (births_in space)) o
+      of_entry None = refl
+      of_entry (Some e) = of_birth e (births_in space e.block)
+
+  -- what is stored for an entry is its own
+  stored_of : IsSound (addresses_of (entry_in table)) (births_in space) → (v : ℕ) (e : DatEntry) → entry_in table v ≡ Some e → (p : Birth) × (births_in space e.block ≡ Some p) × (number_of p ≡ v)
+  stored_of sound v e is = stored_for (entry_in table) (births_in space) v e sound is
+
+  -- an entry is seen as it is
+  pub entry-store_of : IsSound (addresses_of (entry_in table)) (births_in space) → (v : ℕ) → entry_in table v ≡ option_map dat_entry_of (numbered_in (store_of table space failures) v)
+  entry-store_of sound v =
+      elim (entry_in table v) as (λ o. entry_in table v ≡ o → o ≡ option_map dat_entry_of (numbered_of (births_in space) o)) [
+        | None ↦ λ is. refl
+        | Some e ↦ λ is. let p = stored_of sound v e is in sym (ap (λ o. option_map dat_entry_of (option_map (numbered_with e) o)) p.1)
+      ] refl
+      ∙ sym (ap (option_map dat_entry_of) (numbered_in-store_of v))
+
+  -- and its block
+  pub address_in-store_of : IsSound (addresses_of (entry_in table)) (births_in space) → address_in (store_of table space failures) ≡ addresses_of (entry_in table)
+  address_in-store_of sound = same_at_all _ _ (λ v.
+      ap (option_map block_now) (numbered_in-store_of v)
+      ∙ elim (entry_in table v) as (λ o. entry_in table v ≡ o → option_map block_now (numbered_of (births_in space) o) ≡ option_map block_of o) [
+        | None ↦ λ is. refl
+        | Some e ↦ λ is. let p = stored_of sound v e is in ap (λ o. option_map block_now (option_map (numbered_with e) o)) p.1
+      ] refl)
+
+  -- and its period
+  pub period-store_of : IsSound (addresses_of (entry_in table)) (births_in space) → (v : ℕ) (e : DatEntry) → entry_in table v ≡ Some e → Some (period_of_entry e) ≡ option_map period_of (content_in (store_of table space failures) v)
+  period-store_of sound v e is =
+      let p = stored_of sound v e is in
+      sym (ap (λ f. option_map period_of (f v)) content_in-store_of ∙ ap (λ o. option_map period_of (option_and_then (meaning_at (births_in space)) o)) is ∙ ap (λ o. option_map period_of (option_map (meaning_of e) o)) p.1)
+
+-- ---- what is true of every store
+
+module _ (table : List (Option DatEntry)) (lowest : ℕ) (space : Space) (failures : ℕ) (is_table : IsTable table lowest space) (tidy : AreTidy space.segments) where
+  address_now : (v b : ℕ) → address_in (store_of table space failures) v ≡ Some b → addresses_of (entry_in table) v ≡ Some b
+  address_now v b at = sym (ap (λ (m : Partial ℕ). m v) (address_in-store_of table space failures is_table.sound)) ∙ at
+
+  -- a number in use is one that there is
+  numbers : (v b : ℕ) → addresses_of (entry_in table) v ≡ Some b → (1 ≤ v) × (v ≤ total_blocks space.segments)
+  numbers v b at = (
+    (elim (cases_lt 0 v) [
+      | inl h ↦ omega (arith, h)
+      | inr h ↦
+          let zero : v ≡ 0 = omega (arith, h) in
+          let none : addresses_of (entry_in table) v ≡ None = ap (addresses_of (entry_in table)) zero ∙ ap (option_map block_of) is_table.zero_unused in
+          absurd (none_some (sym none ∙ at))
+    ]),
+    (elim (cases_lt v (length table)) [
+      | inl h ↦ omega (arith, h, is_table.full)
+      | inr h ↦ absurd (none_some (sym (ap (option_map block_of) (get_or_past table v None h)) ∙ at))
+    ]),
+  )
+    where
+      none_some : {b : ℕ} → None ≡ Some b → ⊥
+      none_some h = cc
+
+  -- the page of a number in use is stored on the device
+  on_device : (v : ℕ) (n : Numbered) → numbered_in (store_of table space failures) v ≡ Some n → slice_index_or (map space.stored (range_with_len 0 (total_blocks space.segments))) n.block None ≡ Some n.entry.page
+  on_device v n is = of_entry (entry_in table v) refl (sym (numbered_in-store_of table space failures v) ∙ is)
+    where
+      of_entry : (o : Option DatEntry) → entry_in table v ≡ o → numbered_of (births_in space) o ≡ Some n → slice_index_or (map space.stored (range_with_len 0 (total_blocks space.segments))) n.block None ≡ Some n.entry.page
+      of_entry None there h = cc
+      of_entry (Some e) there h = of_payload (space.held e.block) refl h
+        where
+          of_payload : (o : Option Payload) → space.held e.block ≡ o → option_map (numbered_with e) (option_map birth_of_item o) ≡ Some n → slice_index_or (map space.stored (range_with_len 0 (total_blocks space.segments))) n.block None ≡ Some n.entry.page
+          of_payload None held g = cc
+          of_payload (Some payload) held g =
+              let same : numbered_with e (birth_of_item payload) ≡ n = cc in
+              let at : addresses_of (entry_in table) v ≡ Some e.block = ap (option_map block_of) there in
+              subst (λ (m : Numbered). slice_index_or (map space.stored (range_with_len 0 (total_blocks space.segments))) m.block None ≡ Some m.entry.page) same
+              (get_or-map-range_with_len space.stored 0 (total_blocks space.segments) e.block e.block None (used_inside space.segments e.block tidy (is_table.used v e.block at)) (omega arith)
+              ∙ is_table.stored v e.block at ∙ ap (option_map payload_page) held)
+
+  pub is_store : IsStore (store_of table space failures)
+  is_store = record {
+    numbers = λ v b at. numbers v b (address_now v b at);
+    used = λ v b at. is_table.used v b (address_now v b at);
+    apart = λ v w b at_v at_w. IsSound-apart (addresses_of (entry_in table)) (births_in space) v w b is_table.sound (address_now v b at_v) (address_now w b at_w);
+    on_device = on_device;
+  }
+
+-- ---- an empty table
+
+map-empty : (stored : Partial Birth) (n : ℕ) → map (numbered_of stored) (replicate n None) ≡ replicate n None
+map-empty stored zero = refl
+map-empty stored (suc n) = ap (λ xs. None ∷ xs) (map-empty stored n)
+
+pub store_of-empty : (table : List (Option DatEntry)) (space : Space) (failures : ℕ) → table ≡ replicate (total_blocks space.segments + 1) None → store_of table space failures ≡ new_store space failures
+store_of-empty table space failures is =
+    ap (λ numbers. record { numbers = numbers; segments = space.segments; device = map space.stored (range_with_len 0 (total_blocks space.segments)); failures = failures })
+    (ap (map (numbered_of (births_in space))) is ∙ map-empty (births_in space) (total_blocks space.segments + 1))
+
+get_or-empty : {A : Type 0} (n v : ℕ) → ◌≡◌ {A = Option A} (get_or (replicate n None) v None) None
+get_or-empty zero v = refl
+get_or-empty (suc n) zero = refl
+get_or-empty (suc n) (suc v) = get_or-empty n v
+
+pub table-empty : (table : List (Option DatEntry)) (space : Space) → table ≡ replicate (total_blocks space.segments + 1) None → IsTable table 1 space
+table-empty table space is = record {
+  full = ap length is ∙ length-replicate (total_blocks space.segments + 1) None;
+  zero_unused = none 0;
+  sound = λ v b at. absurd (unused v b at);
+  used = λ v b at. absurd (unused v b at);
+  stored = λ v b at. absurd (unused v b at);
+  positive = omega arith;
+  within = omega (arith, ap length is ∙ length-replicate (total_blocks space.segments + 1) None);
+  below_lowest = λ v low high. absurd (omega (arith, low, high));
+}
+  where
+    none : (v : ℕ) → entry_in table v ≡ None
+    none v = ap (λ t. entry_in t v) is ∙ get_or-empty (total_blocks space.segments + 1) v
+
+    unused : (v b : ℕ) → addresses_of (entry_in table) v ≡ Some b → ⊥
+    unused v b at = let no : None ≡ Some b = sym (ap (option_map block_of) (none v)) ∙ at in cc

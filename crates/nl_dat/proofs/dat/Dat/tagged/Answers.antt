@@ -1,0 +1,19 @@
+use Rattle.std.proofs.Common.{◌≡◌, ℕ, ◌+◌, ◌*◌, ◌<◌, Some, sym, ap, subst, ◌∙◌}
+use Rattle.nl_types.specs.Segments.{AreTidy}
+use Rattle.nl_types.specs.PartialMaps.{Partial}
+use Rattle.nl_dat.specs.Stores.{Store, address_in}
+use Rattle.nl_dat.proofs.StoreOf.{address_in-store_of}
+use Rattle.nl_dat.proofs.Positions.{tagged-row}
+use Rattle.nl_dat.proofs.dat.Dat.tagged.Goals as goal
+
+pub returns : goal.returns
+returns g c =
+    let table = c.self.inside.table in
+    let space = g.S.Space.content c.self.inside.space in
+    let failures = g.S.Space.failure_count c.self.inside.space in
+    let tidy = subst AreTidy c.table.ensures c.limits_hold.ensures.tidy in
+    let within = subst (λ (s : Store). c.args.position < s.segments.blocks) (sym c.self.view_is) c.requires.position in
+    subst (λ (s : Store). (v : ℕ) → address_in s v ≡ Some (c.args.segment * s.segments.blocks + c.args.position) → c.number_in.result ≡ Some v) c.self.view_is
+    (λ v at. c.number_in.ensures
+    ∙ tagged-row table (c.self.inside.filled + 1) space c.summary.result.now c.args.segment c.args.position v tidy c.self.invariant c.summary.ensures.count c.summary.ensures.each within
+    (sym (ap (λ (m : Partial ℕ). m v) (address_in-store_of table space failures c.self.invariant.sound)) ∙ at))

@@ -1,0 +1,84 @@
+use Rattle.std.proofs.Common.{true, ◌≡◌, ℕ, ◌+◌, ◌≤◌, List, Option, sym, ap, subst, ◌∙◌, get_or, length, arith}
+use Rattle.std.specs.Prelude.{max, Err}
+use Rattle.std.proofs.lemmas.Result.{err_from_is_err_and}
+use Rattle.std.proofs.lemmas.List.{length-map}
+use Rattle.nl_types.specs.declared.error.VolError.TheVariants.{Fault}
+use Rattle.nl_types.specs.Entries.{number_of}
+use Rattle.nl_types.specs.PartialMaps.{put_each, adjust_all}
+use Rattle.nl_types.proofs.PartialMaps.{is_one_of-get_or}
+use Rattle.nl_segwriter.specs.Content.{Payload}
+use Rattle.nl_dat.specs.declared.entries.DatEntry.{DatEntry}
+use Rattle.nl_dat.specs.Batches.{Changes, Fits, birth_of_item, births_of, last_number}
+use Rattle.nl_dat.specs.Table.{entry_in, new_entry, ended_entry}
+use Rattle.nl_dat.specs.Stores.{Store, IsWritten, IsBrokenOff, content_in, capacity}
+use Rattle.nl_dat.specs.Inside.{store_of}
+use Rattle.nl_dat.proofs.Writing.{table-kept, table-written, is_written, live_inside, is_born_read}
+use Rattle.nl_dat.proofs.Refusals.{total-refused, broken_off}
+use Rattle.nl_dat.proofs.dat.DatVstore.write.Goals as goal
+
+pub invariant_of-self : goal.invariant_of-self
+invariant_of-self g c =
+    let old = g.S.Space.content c.self.inside.space in
+    let later = g.S.Space.content c.append.new.self in
+    let e = c.in_err-numbers.ensures in
+    table-kept c.self.inside.table (c.self.inside.filled + 1) old later c.self.invariant e.kept e.stays
+    (total-refused old later true c.args.now c.args.checkpoint c.births.result.now c.in_err-numbers.field-0.0 e.errors (λ is. ap g.S.Space.content (e.no_space_same (ap Err is))) (λ is. ap g.S.Space.content (e.memory_same (ap Err is))) (λ is. e.broken_off (ap Err is)))
+
+pub returns-in_err-numbers-clause-fault : goal.returns-in_err-numbers-clause-fault
+returns-in_err-numbers-clause-fault g c =
+    let p = err_from_is_err_and c.from_residual.result c.from_residual.ensures.1 in
+    let old = g.S.Space.content c.self.inside.space in
+    let later = g.S.Space.content c.append.new.self in
+    let e = c.in_err-numbers.ensures in
+    rw (p.1, p.2) (λ is.
+    let fault : c.in_err-numbers.field-0.0 ≡ Fault = cc in
+    subst (λ s. IsBrokenOff true c.args.now (length c.args.batch.now.births) s (store_of c.self.inside.table later (g.S.Space.failure_count c.append.new.self))) c.self.view_is
+    (broken_off c.self.inside.table (c.self.inside.filled + 1) old later (g.S.Space.failure_count c.self.inside.space) (g.S.Space.failure_count c.append.new.self) true c.args.now c.args.checkpoint (length c.args.batch.now.births) c.births.result.now
+    c.self.invariant (sym (length-map c.births.result.now birth_of_item) ∙ ap length c.births.ensures) e.kept (e.fault (ap Err fault)) (e.broken_off (ap Err fault))))
+
+pub end_entries-requires : goal.end_entries-requires
+end_entries-requires g c =
+    let ends = c.args.batch.now.ends in
+    let fits = subst (λ (s : Store). Fits (capacity s) (content_in s) c.args.batch.now) (sym c.self.view_is) c.requires in
+    rw c.ends.ensures (λ k d within.
+    live_inside c.self.inside.table (g.S.Space.content c.self.inside.space) (g.S.Space.failure_count c.self.inside.space) (get_or ends k d) (fits.live (get_or ends k d) (is_one_of-get_or ends k d within)))
+
+pub enter_births-requires-clause-inside : goal.enter_births-requires-clause-inside
+enter_births-requires-clause-inside g c =
+    let births = c.args.batch.now.births in
+    let fits = subst (λ (s : Store). Fits (capacity s) (content_in s) c.args.batch.now) (sym c.self.view_is) c.requires in
+    rw (c.births-2.ensures, c.end_entries.ensures.length) (λ k d within.
+    let upto : number_of (get_or births k d) ≤ last_number births = fits.upto_last _ (is_born_read births k d within) in
+    omega (arith, upto, fits.inside, c.self.invariant.full))
+
+-- the table behind both changes
+both : (checkpoint : ℕ) (changes : Changes) (items : List Payload) (ends at deref : List ℕ) (table mid new : List (Option DatEntry)) → births_of items ≡ changes.births → ends ≡ changes.ends → deref ≡ at
+    → entry_in mid ≡ adjust_all (ended_entry checkpoint) ends (entry_in table) → entry_in new ≡ put_each number_of (new_entry checkpoint) (births_of items) deref (entry_in mid)
+    → entry_in new ≡ put_each number_of (new_entry checkpoint) changes.births at (adjust_all (ended_entry checkpoint) changes.ends (entry_in table))
+both checkpoint changes items ends at deref table mid new births_are ends_are at_is is_mid is_new =
+    is_new ∙ ap (λ bs. put_each number_of (new_entry checkpoint) bs deref (entry_in mid)) births_are ∙ ap (λ bs. put_each number_of (new_entry checkpoint) changes.births bs (entry_in mid)) at_is
+    ∙ ap (put_each number_of (new_entry checkpoint) changes.births at) (is_mid ∙ ap (λ ks. adjust_all (ended_entry checkpoint) ks (entry_in table)) ends_are)
+
+pub invariant_of-self-2 : goal.invariant_of-self-2
+invariant_of-self-2 g c =
+    let old = g.S.Space.content c.self.inside.space in
+    let later = g.S.Space.content c.append.new.self in
+    let changes = c.args.batch.now in
+    let e = c.in_ok-numbers.ensures in
+    let fits = subst (λ (s : Store). Fits (capacity s) (content_in s) changes) (sym c.self.view_is) c.requires in
+    let lowest : c.max-self-inside.result + 1 ≡ max (c.self.inside.filled + 1) (last_number changes.births + 1) = omega (arith, c.max-self-inside.ensures, c.get.ensures, c.last_number.ensures) in
+    let is_new = both c.args.checkpoint changes c.births-2.result.now c.ends.result.now c.in_ok-numbers.numbers.items c.deref.result.now c.self.inside.table c.end_entries.new.table c.enter_births.new.table c.births-2.ensures c.ends.ensures c.deref.ensures.value c.end_entries.ensures.entries c.enter_births.ensures.entries in
+    rw lowest (table-written c.self.inside.table c.enter_births.new.table (c.self.inside.filled + 1) old later (g.S.Space.failure_count c.self.inside.space) (g.S.Space.failure_count c.append.new.self) c.args.checkpoint c.args.now changes c.births.result.now c.in_ok-numbers.numbers.items
+    c.self.invariant fits c.births.ensures e.appended e.kept e.stays is_new (c.enter_births.ensures.length ∙ c.end_entries.ensures.length))
+
+pub returns-clause-written : goal.returns-clause-written
+returns-clause-written g c =
+    let old = g.S.Space.content c.self.inside.space in
+    let later = g.S.Space.content c.append.new.self in
+    let changes = c.args.batch.now in
+    let e = c.in_ok-numbers.ensures in
+    let fits = subst (λ (s : Store). Fits (capacity s) (content_in s) changes) (sym c.self.view_is) c.requires in
+    let is_new = both c.args.checkpoint changes c.births-2.result.now c.ends.result.now c.in_ok-numbers.numbers.items c.deref.result.now c.self.inside.table c.end_entries.new.table c.enter_births.new.table c.births-2.ensures c.ends.ensures c.deref.ensures.value c.end_entries.ensures.entries c.enter_births.ensures.entries in
+    subst (λ s. IsWritten c.args.checkpoint c.args.now changes s (store_of c.enter_births.new.table later (g.S.Space.failure_count c.append.new.self))) c.self.view_is
+    (is_written c.self.inside.table c.enter_births.new.table (c.self.inside.filled + 1) old later (g.S.Space.failure_count c.self.inside.space) (g.S.Space.failure_count c.append.new.self) c.args.checkpoint c.args.now changes c.births.result.now c.in_ok-numbers.numbers.items
+    c.self.invariant fits c.births.ensures e.appended e.kept e.stays is_new (c.enter_births.ensures.length ∙ c.end_entries.ensures.length))

@@ -1,0 +1,191 @@
+//! The table of virtual block numbers, over a space.
+ghost use Rattle.std.specs.Prelude.{◌≡◌, ◌≢◌, ◌↔◌, ◌⊎◌, ℕ, ◌+◌, ◌*◌, ◌<◌, ◌≤◌, Bool, true, false, length, is_some, IfOk, OnOk, OnErr, IsErr, IsOkUnless, Some, option_copied};
+ghost use Rattle.std.specs.Option.{option_map};
+
+use crate::batch::Batch;
+use crate::entries::{
+    DatEntry, Period, empty_places, end_entries, enter_births, entry_at, first_free, move_entries,
+    number_in,
+};
+use crate::moving::load_all;
+use crate::reclaim::take_out;
+use crate::store::{VRead, Vstore};
+use nl_segwriter::Space;
+use nl_sufile::SegTable;
+use nl_types::laws::payload_goes_to_unused_blocks;
+use nl_types::{CheckpointNumber, Items, Page, Segment, VirtualNumber, VolError};
+use std::alloc::Global;
+use std::marker::Model;
+
+/// The table of virtual block numbers, over the space that has their pages. Its length never changes, so no call but
+/// those that append needs memory.
+#[derive(Drop)]
+pub struct Dat<S: Space> {
+    /// By number; 0 is never used.
+    table: Items<Option<DatEntry>>,
+    /// Every number from 1 up to this one is in use, so that a free one is looked for behind it.
+    filled: u64,
+    space: S,
+}
+
+impl<S: Space> Model for Dat<S> {
+    ghost use Rattle.std.specs.Prelude.{◌+◌};
+    ghost use Rattle.nl_dat.specs.Stores.{Store};
+    ghost use Rattle.nl_dat.specs.Inside.{store_of, IsTable};
+
+    ghost Value = { Store };
+
+    ghost view = { λ d. store_of d.table (S.content d.space) (S.failure_count d.space) };
+
+    ghost invariant = { λ d. IsTable d.table (d.filled + 1) (S.content d.space) };
+}
+
+impl<S: Space> Dat<S> {
+    ghost use Rattle.nl_dat.specs.Stores.{new_store, address_in, capacity, numbered_in, dat_entry_of};
+
+    /// The table over a space, with no number in use. Refused by `Memory` alone; the space is dropped then.
+    pub fn new(alloc: Global, space: S) -> Result<Dat<S>, VolError>
+        ensures new { IfOk result (λ dat. dat ≡ new_store (S.content space) (S.failure_count space)) }
+        ensures refused { IsOkUnless result VolError.Memory }
+    {
+        let table = space.table();
+        table.limits_hold();
+        let count = table.sustat().segments * table.blocks() as usize;
+        let table = empty_places(alloc, count + 1)?;
+        Ok(Dat {
+            table,
+            filled: 0,
+            space,
+        })
+    }
+
+    /// What the table has for a number, where it is in use. Refused by `BadRange` for 0 and for numbers above those that
+    /// there are: one for each block of the device. It takes no memory.
+    pub fn entry(&self, number: VirtualNumber) -> Result<Option<DatEntry>, VolError>
+        ensures range { IsErr result ↔ ((number ≡ 0) ⊎ (capacity self.now < number)) }
+        ensures kind { OnErr result (result ≡ Err VolError.BadRange) }
+        ensures entry { IfOk result (λ entry. entry ≡ option_map dat_entry_of (numbered_in self.now number)) }
+    {
+        if number.get() == 0 || number.get() >= self.table.len() as u64 {
+            return Err(VolError::BadRange);
+        }
+        Ok(entry_at(self.table.as_slice(), number))
+    }
+
+    /// What is known of the segments. By it a caller of `relocate` sees that a segment is closed.
+    pub fn table(&self) -> &SegTable
+        ensures { result.now ≡ self.now.segments }
+    {
+        self.space.table()
+    }
+
+    /// The number that the payload at a position of a segment was written for: no other number's page can stand there.
+    fn tagged(&self, segment: Segment, position: u32) -> Option<VirtualNumber>
+        requires segment { segment < length self.now.segments.each }
+        requires position { position < self.now.segments.blocks }
+        ensures { (v : ℕ) → address_in self.now v ≡ Some (segment * self.now.segments.blocks + position) → result ≡ Some v }
+    {
+        // The table tells that no segment is used past its end.
+        self.space.table().limits_hold();
+        number_in(self.space.summary(segment), position)
+    }
+}
+
+impl<S: Space> VRead for Dat<S> {
+    ghost use Rattle.nl_dat.specs.Stores.{content_in};
+
+    ghost content = { λ d. content_in d };
+
+    fn page(&self, number: VirtualNumber) -> Option<&Page> {
+        let entry = entry_at(self.table.as_slice(), number)?;
+        self.space.page(entry.block)
+    }
+
+    fn period(&self, number: VirtualNumber) -> Option<Period> {
+        let entry = entry_at(self.table.as_slice(), number)?;
+        Some(entry.period())
+    }
+}
+
+impl<S: Space> Vstore for Dat<S> {
+    ghost store = { λ d. d };
+
+    ghost contents = { λ d v. Rattle.std.specs.Prelude.refl };
+
+    fn capacity(&self) -> u64 {
+        // The table tells that no segment is used past its end.
+        self.space.table().limits_hold();
+        self.table.len() as u64 - 1
+    }
+
+    fn fresh(&self, batch: &Batch) -> Result<VirtualNumber, VolError> {
+        // Where a list of logs fits, its payload finds blocks that no number has.
+        payload_goes_to_unused_blocks();
+        self.space.table().limits_hold();
+        let first = self.filled.max(batch.last_number().get()) + 1;
+        first_free(self.table.as_slice(), first).ok_or(VolError::NoSpace)
+    }
+
+    fn write(
+        &mut self,
+        alloc: Global,
+        batch: &Batch,
+        checkpoint: CheckpointNumber,
+        now: u64,
+    ) -> Result<(), VolError> {
+        let numbers = self
+            .space
+            .append(alloc, batch.births(), checkpoint, now, true)?;
+        end_entries(&mut self.table, batch.ends(), checkpoint);
+        enter_births(&mut self.table, batch.births(), &numbers, checkpoint);
+        self.filled = self.filled.max(batch.last_number().get());
+        Ok(())
+    }
+
+    fn at(&self, segment: Segment, position: u32) -> Option<VirtualNumber> {
+        let table = self.space.table();
+        table.limits_hold();
+        let block = segment.get() * table.blocks() + position;
+        let number = self.tagged(segment, position)?;
+        let entry = entry_at(self.table.as_slice(), number)?;
+        if entry.block.get() == block {
+            Some(number)
+        } else {
+            None
+        }
+    }
+
+    fn relocate(
+        &mut self,
+        alloc: Global,
+        segment: Segment,
+        numbers: &[VirtualNumber],
+        checkpoint: CheckpointNumber,
+        now: u64,
+    ) -> Result<(), VolError> {
+        self.space.table().limits_hold();
+        let payload = load_all(
+            alloc,
+            &mut self.space,
+            self.table.as_slice(),
+            segment,
+            numbers,
+        )?;
+        let blocks = self.space.append(alloc, &payload, checkpoint, now, false)?;
+        move_entries(&mut self.table, numbers, &blocks);
+        Ok(())
+    }
+
+    fn reclaim(&mut self, segment: Segment) -> u32 {
+        let segments = self.space.table();
+        segments.limits_hold();
+        let first = segment.get() * segments.blocks();
+        let row = self.space.summary(segment);
+        let taken = take_out(&mut self.table, row, first);
+        let count = taken.count;
+        self.space.free(segment);
+        let filled = self.filled;
+        self.filled = taken.filled_after(filled);
+        count
+    }
+}

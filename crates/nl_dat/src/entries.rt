@@ -1,0 +1,176 @@
+//! The table of virtual block numbers, as a slice.
+ghost use Rattle.std.specs.Prelude.{◌≡◌, ◌<◌, length, replicate, slice_index_or, MatchOption, IfOk, None};
+ghost use Rattle.std.specs.List.{All};
+ghost use Rattle.nl_types.specs.PartialMaps.{put, put_each, adjust, adjust_all, adjust_each};
+ghost use Rattle.nl_types.specs.Entries.{number_of};
+ghost use Rattle.nl_dat.specs.Batches.{births_of, number_of_payload};
+ghost use Rattle.std.specs.Option.{option_map};
+ghost use Rattle.nl_dat.specs.Table.{AreInUse, IsFirstFree, entry_in, new_entry, ended_entry, moved_entry};
+
+use nl_segwriter::Payload;
+use nl_types::{BlockNumber, CheckpointNumber, Items, VirtualNumber};
+use std::alloc::{AllocError, Global};
+
+/// What the table has for a number in use: where its page stands, and its period. As in the DAT of nilfs2.rst.
+#[derive(Clone, Copy, Debug, PartialEq, Eq)]
+pub struct DatEntry {
+    /// Where the page stands now.
+    pub block: BlockNumber,
+    /// The first checkpoint that has the page.
+    pub start: CheckpointNumber,
+    /// The first checkpoint that no longer has it, where there is one.
+    pub end: Option<CheckpointNumber>,
+}
+
+/// The checkpoints that have a page: those from `start` on, and before `end` where there is one.
+#[derive(Clone, Copy, Debug, PartialEq, Eq)]
+pub struct Period {
+    pub start: CheckpointNumber,
+    pub end: Option<CheckpointNumber>,
+}
+
+impl DatEntry {
+    ghost use Rattle.nl_dat.specs.Table.{period_of_entry};
+
+    pub fn period(self) -> Period
+        ensures { result ≡ period_of_entry self }
+    {
+        Period {
+            start: self.start,
+            end: self.end,
+        }
+    }
+}
+
+/// So many places, none of which has a value.
+pub(crate) fn empty_places<T: Drop>(
+    alloc: Global,
+    count: usize,
+) -> Result<Items<Option<T>>, AllocError>
+    ensures { IfOk result (λ places. places ≡ replicate count None) }
+{
+    let mut places = Vec::with_capacity(alloc, count)?;
+    for _ in 0..count {
+        places.push(None)?;
+    }
+    Ok(Items::from_vec(places))
+}
+
+/// What the table has for a number, where it is in use.
+pub(crate) fn entry_at(table: &[Option<DatEntry>], number: VirtualNumber) -> Option<DatEntry>
+    ensures { result ≡ entry_in table.now number }
+{
+    match table.get(number.get() as usize) {
+        Some(entry) => *entry,
+        None => None,
+    }
+}
+
+/// The number of the payload at a position of a row, if there is payload.
+pub(crate) fn number_in(row: &[Option<Payload>], position: u32) -> Option<VirtualNumber>
+    ensures { result ≡ option_map number_of_payload (slice_index_or row.now position None) }
+{
+    match row.get(position as usize) {
+        Some(Some(payload)) => Some(payload.0.number),
+        _ => None,
+    }
+}
+
+/// The first number from one on that is not in use.
+pub(crate) fn first_free(table: &[Option<DatEntry>], from: u64) -> Option<VirtualNumber>
+    ensures { MatchOption result (AreInUse table.now from (length table.now)) (IsFirstFree table.now from) }
+{
+    for index in from..table.len() as u64 {
+        let number = VirtualNumber::new(index);
+        if entry_at(table, number).is_none() {
+            return Some(number);
+        }
+    }
+    None
+}
+
+fn set_entry(table: &mut Items<Option<DatEntry>>, number: VirtualNumber, entry: DatEntry)
+    requires { number < length table.old }
+    ensures entries { entry_in table.new ≡ put (entry_in table.old) number entry }
+    ensures length { length table.new ≡ length table.old }
+{
+    table.set(number.get() as usize, Some(entry));
+}
+
+fn end_entry(
+    table: &mut Items<Option<DatEntry>>,
+    number: VirtualNumber,
+    checkpoint: CheckpointNumber,
+)
+    requires { number < length table.old }
+    ensures entries { entry_in table.new ≡ adjust (ended_entry checkpoint) (entry_in table.old) number }
+    ensures length { length table.new ≡ length table.old }
+{
+    if let Some(entry) = entry_at(table.as_slice(), number) {
+        let end = Some(checkpoint);
+        set_entry(table, number, DatEntry { end, ..entry });
+    }
+}
+
+fn move_entry(table: &mut Items<Option<DatEntry>>, number: VirtualNumber, block: BlockNumber)
+    requires { number < length table.old }
+    ensures entries { entry_in table.new ≡ adjust (moved_entry block) (entry_in table.old) number }
+    ensures length { length table.new ≡ length table.old }
+{
+    if let Some(entry) = entry_at(table.as_slice(), number) {
+        set_entry(table, number, DatEntry { block, ..entry });
+    }
+}
+
+/// Births have their blocks, and begin at the checkpoint.
+pub(crate) fn enter_births(
+    table: &mut Items<Option<DatEntry>>,
+    births: &[Payload],
+    blocks: &[BlockNumber],
+    checkpoint: CheckpointNumber,
+)
+    requires inside { All (λ b. number_of b < length table.old) (births_of births.now) }
+    requires each { length births.now ≡ length blocks.now }
+    ensures entries { entry_in table.new ≡ put_each number_of (new_entry checkpoint) (births_of births.now) blocks.now (entry_in table.old) }
+    ensures length { length table.new ≡ length table.old }
+{
+    for (i, (tag, _)) in births.iter().enumerate() {
+        let entry = DatEntry {
+            block: blocks[i],
+            start: checkpoint,
+            end: None,
+        };
+        set_entry(table, tag.number, entry);
+    }
+}
+
+/// Numbers end at the checkpoint.
+pub(crate) fn end_entries(
+    table: &mut Items<Option<DatEntry>>,
+    ends: &[VirtualNumber],
+    checkpoint: CheckpointNumber,
+)
+    requires { All (λ v. v < length table.old) ends.now }
+    ensures entries { entry_in table.new ≡ adjust_all (ended_entry checkpoint) ends.now (entry_in table.old) }
+    ensures length { length table.new ≡ length table.old }
+{
+    for number in ends {
+        end_entry(table, *number, checkpoint);
+    }
+}
+
+/// Numbers have new blocks.
+pub(crate) fn move_entries(
+    table: &mut Items<Option<DatEntry>>,
+    numbers: &[VirtualNumber],
+    blocks: &[BlockNumber],
+)
+    requires inside { All (λ v. v < length table.old) numbers.now }
+    requires each { length numbers.now ≡ length blocks.now }
+    ensures entries { entry_in table.new ≡ adjust_each moved_entry numbers.now blocks.now (entry_in table.old) }
+    ensures length { length table.new ≡ length table.old }
+{
+    for (i, number) in numbers.iter().enumerate() {
+        move_entry(table, *number, blocks[i]);
+    }
+}

@@ -1,0 +1,81 @@
+//! Pages read from the device, to be written elsewhere.
+ghost use Rattle.std.specs.Prelude.{◌≡◌, ℕ, ◌+◌, ◌<◌, ◌≤◌, true, map, length, All, IfOk, IfErr, IsErrOf, slice_index_or, None, Some};
+ghost use Rattle.std.specs.Option.{option_map};
+ghost use Rattle.nl_segwriter.specs.Content.{tag_of};
+ghost use Rattle.nl_segwriter.specs.Appended.{IsLoadError};
+ghost use Rattle.nl_dat.specs.Batches.{birth_of_item, births_of};
+ghost use Rattle.nl_dat.specs.Table.{entry_in, addresses_of, stored_at};
+ghost use Rattle.nl_dat.specs.Stores.{is_inside};
+ghost use Rattle.nl_dat.specs.Inside.{IsBacked, births_in};
+
+use crate::entries::{DatEntry, entry_at};
+use nl_layout::Tag;
+use nl_segwriter::{Payload, Space};
+use nl_types::{Segment, VirtualNumber, VolError};
+use std::alloc::Global;
+
+/// What the summary says of the payload at a position of a row, if there is payload.
+fn tag_in(row: &[Option<Payload>], position: u32) -> Option<Tag>
+    ensures { result ≡ option_map tag_of (slice_index_or row.now position None) }
+{
+    match row.get(position as usize) {
+        Some(Some(payload)) => Some(payload.0),
+        _ => None,
+    }
+}
+
+/// The payload of a number that stands in a segment, with its page as the device has it.
+fn load_one<S: Space>(
+    space: &mut S,
+    table: &[Option<DatEntry>],
+    segment: Segment,
+    number: VirtualNumber,
+) -> Result<Payload, VolError>
+    requires segment { segment < length (S.content space.old).segments.each }
+    requires backed { IsBacked table.now (S.content space.old) }
+    requires inside { is_inside (S.content space.old).segments segment (addresses_of (entry_in table.now) number) ≡ true }
+    ensures payload { IfOk result (λ payload. stored_at (entry_in table.now) (births_in (S.content space.old)) number ≡ Some (birth_of_item payload)) }
+    ensures same { S.content space.new ≡ S.content space.old }
+    ensures counted { S.failure_count space.old ≤ S.failure_count space.new }
+    ensures fault { IsErrOf result VolError.Fault → S.failure_count space.old < S.failure_count space.new }
+    ensures errors { IfErr result IsLoadError }
+{
+    let segments = space.table();
+    segments.limits_hold();
+    let first = segment.get() * segments.blocks();
+    let entry = match entry_at(table, number) {
+        Some(entry) => entry,
+        None => unreachable!(),
+    };
+    let position = entry.block.get() - first;
+    let tag = match tag_in(space.summary(segment), position) {
+        Some(tag) => tag,
+        None => unreachable!(),
+    };
+    let page = space.load(entry.block)?;
+    Ok((tag, page))
+}
+
+/// The payload of numbers that stand in a segment, in their order, with the pages as the device has them.
+pub(crate) fn load_all<S: Space>(
+    alloc: Global,
+    space: &mut S,
+    table: &[Option<DatEntry>],
+    segment: Segment,
+    numbers: &[VirtualNumber],
+) -> Result<Vec<Payload>, VolError>
+    requires segment { segment < length (S.content space.old).segments.each }
+    requires backed { IsBacked table.now (S.content space.old) }
+    requires inside { All (λ v. is_inside (S.content space.old).segments segment (addresses_of (entry_in table.now) v) ≡ true) numbers.now }
+    ensures payload { IfOk result (λ payload. map (stored_at (entry_in table.now) (births_in (S.content space.old))) numbers.now ≡ map Some (births_of payload.items)) }
+    ensures same { S.content space.new ≡ S.content space.old }
+    ensures counted { S.failure_count space.old ≤ S.failure_count space.new }
+    ensures fault { IsErrOf result VolError.Fault → S.failure_count space.old < S.failure_count space.new }
+    ensures errors { IfErr result IsLoadError }
+{
+    let mut payload = Vec::new(alloc);
+    for number in numbers {
+        payload.push(load_one(space, table, segment, *number)?)?;
+    }
+    Ok(payload)
+}

@@ -1,0 +1,106 @@
+//! What the layers above know of pages under virtual block numbers.
+ghost use Rattle.std.specs.Prelude.{◌≡◌, ◌≢◌, ℕ, ◌+◌, ◌<◌, ◌≤◌, Bool, true, false, List, length, All, IfOk, IfErr, OnOk, OnErr, IsErrOf, MatchOption, MatchResult, Some, option_copied};
+ghost use Rattle.std.specs.Option.{option_map};
+ghost use Rattle.nl_types.specs.Segments.{block_at};
+ghost use Rattle.nl_types.specs.Placing.{LacksSpace};
+ghost use Rattle.nl_types.specs.Entries.{Content};
+ghost use Rattle.nl_segwriter.specs.Appended.{IsAppendError};
+ghost use Rattle.nl_dat.specs.Batches.{IsLowestFree, LacksSpaceFrom, Fits};
+ghost use Rattle.nl_dat.specs.Table.{page_of, period_of};
+ghost use Rattle.nl_dat.specs.Stores.{Store, IsStore, IsWritten, IsMoved, IsMoveRefused, IsReclaimed, IsBrokenOff, IsClosed, is_inside, content_in, address_in, capacity};
+
+use crate::batch::Batch;
+use crate::entries::Period;
+use nl_types::{CheckpointNumber, Page, Segment, VirtualNumber, VolError};
+use std::alloc::Global;
+
+/// Pages under virtual block numbers, for reading.
+pub trait VRead {
+    /// Which numbers are in use, and what each stands for.
+    ghost content: { Self → Content };
+
+    /// The page of a number, where it is in use.
+    fn page(&self, number: VirtualNumber) -> Option<&Page>
+        ensures { option_copied result ≡ option_map page_of (content self.now number) };
+
+    /// The checkpoints that a number in use belongs to.
+    fn period(&self, number: VirtualNumber) -> Option<Period>
+        ensures { result ≡ option_map period_of (content self.now number) };
+}
+
+/// Pages under virtual block numbers, changed by a whole batch at a time. A number stays the same however often its page
+/// is moved, as in the DAT of nilfs2.rst.
+pub trait Vstore: VRead {
+    /// The numbers in use, the segments, and what the device holds.
+    ghost store: { Self → Store };
+
+    /// How many numbers there are: one for each block of the device, from 1 on. Its contract also tells what is true of every
+    /// store.
+    fn capacity(&self) -> u64
+        ensures count { result ≡ capacity (store self.now) }
+        ensures is_store { IsStore (store self.now) };
+
+    /// The lowest number that is neither in use nor given to a birth of the batch. Refused by `NoSpace` alone, where no
+    /// list of logs fits one block more than the batch has, or yet more. It takes no memory.
+    fn fresh(&self, batch: &Batch) -> Result<VirtualNumber, VolError>
+        requires { Fits (capacity (store self.now)) (Self.content self.now) batch.now }
+        ensures lowest { IfOk result (IsLowestFree (Self.content self.now) batch.now.births) }
+        ensures inside { IfOk result (λ v. v ≤ capacity (store self.now)) }
+        ensures no_space { OnErr result (result ≡ Err VolError.NoSpace) }
+        ensures lacks_space { OnErr result (LacksSpaceFrom (store self.now).segments (length batch.now.births + 1)) };
+
+    /// Writes the births of a batch, which begin at the checkpoint, and sets its ends there, or changes no number. `now` is
+    /// the moment in whole seconds that the segments get as their stamp.
+    ///
+    /// Refused by `NoSpace` where no list of logs fits, by `Memory`, and by `Fault` where the device failed.
+    fn write(
+        &mut self,
+        alloc: Global,
+        batch: &Batch,
+        checkpoint: CheckpointNumber,
+        now: u64,
+    ) -> Result<(), VolError>
+        requires { Fits (capacity (store self.old)) (Self.content self.old) batch.now }
+        ensures written { OnOk result (IsWritten checkpoint now batch.now (store self.old) (store self.new)) }
+        ensures no_space { IsErrOf result VolError.NoSpace → LacksSpace (store self.old).segments true (length batch.now.births) }
+        ensures no_space_same { IsErrOf result VolError.NoSpace → store self.new ≡ store self.old }
+        ensures memory_same { IsErrOf result VolError.Memory → store self.new ≡ store self.old }
+        ensures fault { IsErrOf result VolError.Fault → IsBrokenOff true now (length batch.now.births) (store self.old) (store self.new) }
+        ensures errors { IfErr result IsAppendError }
+        ensures counted { (store self.old).failures ≤ (store self.new).failures };
+
+    /// The number whose page stands at a position of a segment, counted from 0 with the summary blocks.
+    fn at(&self, segment: Segment, position: u32) -> Option<VirtualNumber>
+        requires segment { segment < length (store self.now).segments.each }
+        requires position { position < (store self.now).segments.blocks }
+        ensures { MatchOption result ((v : ℕ) → address_in (store self.now) v ≢ Some (block_at (store self.now).segments.blocks (record { segment = segment; block = position })))
+            (λ v. address_in (store self.now) v ≡ Some (block_at (store self.now).segments.blocks (record { segment = segment; block = position }))) };
+
+    /// Moves the pages of numbers out of a segment that takes no more logs, in their order: each is read from the device and
+    /// written elsewhere. The checkpoint is the latest one, and `now` the moment in whole seconds, for the logs' summaries.
+    ///
+    /// Refused by `NoSpace` where no list of logs fits, by `Memory`, and by `Fault` where the device failed.
+    fn relocate(
+        &mut self,
+        alloc: Global,
+        segment: Segment,
+        numbers: &[VirtualNumber],
+        checkpoint: CheckpointNumber,
+        now: u64,
+    ) -> Result<(), VolError>
+        requires segment { segment < length (store self.old).segments.each }
+        requires closed { IsClosed (store self.old).segments segment }
+        requires inside { All (λ v. is_inside (store self.old).segments segment (address_in (store self.old) v) ≡ true) numbers.now }
+        ensures moved { MatchResult result (λ _. IsMoved segment now numbers.now (store self.old) (store self.new)) (λ e. IsMoveRefused now (length numbers.now) e (store self.old) (store self.new)) }
+        ensures counted { (store self.old).failures ≤ (store self.new).failures };
+
+    /// Takes the numbers out of use whose pages stand in a segment, and empties the segment. It answers how many they were.
+    /// It takes no memory.
+    fn reclaim(&mut self, segment: Segment) -> u32
+        requires { segment < length (store self.old).segments.each }
+        ensures reclaimed { IsReclaimed segment result (store self.old) (store self.new) }
+        ensures counted { (store self.old).failures ≤ (store self.new).failures };
+
+    /// What is read is what is stored.
+    ghost contents: { (s : Self) (v : ℕ) → Self.content s v ≡ content_in (store s) v };
+}

@@ -1,0 +1,69 @@
+-- The bytes of an inode: 128 of them, numbers in little endian.
+use Rattle.std.specs.Prelude.{◌≡◌, ℕ, zero, suc, ◌<◌, ◌^◌, List, ◌∷◌, ◌++◌, replicate, drop, slice_index, Option, None, Some}
+use Rattle.std.specs.Option.{option_map, option_and_then}
+use Rattle.byteorder.specs.Endian.{little_bytes, little_number}
+use Rattle.nl_layout.specs.declared.root.Root.{Root}
+use Rattle.nl_layout.specs.declared.root.Root.TheVariants.{Empty, Chain}
+use Rattle.nl_layout.specs.declared.inode.Inode.{Inode}
+use Rattle.nl_layout.specs.declared.inode.InodeKind.{InodeKind}
+use Rattle.nl_layout.specs.declared.inode.InodeKind.TheVariants.{File, Directory, InodeFile}
+use Rattle.nl_layout.specs.declared.inode.InodeEntry.{InodeEntry}
+use Rattle.nl_layout.specs.declared.inode.InodeEntry.TheVariants.{Free, InUse}
+
+-- ---- writing
+
+abbrev pub kind_code : InodeKind → ℕ
+kind_code File = 1
+kind_code Directory = 2
+kind_code InodeFile = 3
+
+abbrev pub root_code : Root → ℕ
+root_code Empty = 0
+root_code (Chain first) = 1
+
+-- the number of the first node, 0 where there is none
+abbrev pub root_number : Root → ℕ
+root_number Empty = 0
+root_number (Chain first) = first
+
+-- the kind, the root's kind, 6 zeros, the size and the root's number, and 104 zeros
+abbrev pub inode_bytes : Inode → List ℕ
+inode_bytes inode = kind_code inode.kind ∷ root_code inode.root ∷ replicate 6 0 ++ little_bytes 8 inode.size ++ little_bytes 8 (root_number inode.root) ++ replicate 104 0
+
+abbrev pub entry_bytes : InodeEntry → List ℕ
+entry_bytes Free = replicate 128 0
+entry_bytes (InUse inode) = inode_bytes inode
+
+-- what has a spelling
+pub record InodeFits (inode : Inode) : Type 0 where
+  pub size : inode.size < 2 ^ 64
+  pub number : root_number inode.root < 2 ^ 64
+
+abbrev pub EntryFits : InodeEntry → Type 0
+EntryFits Free = Unit {0}
+EntryFits (InUse inode) = InodeFits inode
+
+-- the bytes are the spelling of this entry
+pub record Spells (bytes : List ℕ) (entry : InodeEntry) : Type 0 where
+  pub fits : EntryFits entry
+  pub spelling : bytes ≡ entry_bytes entry
+
+-- ---- reading: what stands in the fields of an entry, whether the bytes spell one or not
+
+abbrev pub root_at : ℕ → ℕ → Option Root
+root_at zero number = Some Empty
+root_at (suc zero) number = Some (Chain number)
+root_at (suc (suc kind)) number = None
+
+abbrev pub inode_at : InodeKind → List ℕ → Option InodeEntry
+inode_at kind bytes = option_map (λ root. InUse (record { kind = kind; root = root; size = little_number 8 (drop 8 bytes) })) (root_at (slice_index bytes 1) (little_number 8 (drop 16 bytes)))
+
+abbrev pub entry_with : ℕ → List ℕ → Option InodeEntry
+entry_with zero bytes = Some Free
+entry_with (suc zero) bytes = inode_at File bytes
+entry_with (suc (suc zero)) bytes = inode_at Directory bytes
+entry_with (suc (suc (suc zero))) bytes = inode_at InodeFile bytes
+entry_with (suc (suc (suc (suc code)))) bytes = None
+
+abbrev pub entry_at : List ℕ → Option InodeEntry
+entry_at bytes = entry_with (slice_index bytes 0) bytes
