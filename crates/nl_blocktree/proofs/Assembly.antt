@@ -6,15 +6,13 @@ use Rattle.std.proofs.lemmas.List.{length-map}
 use Rattle.std.proofs.lemmas.List.Elements.{Contains-append_cases, Contains-append_left, Contains-append_right, Contains-get_or}
 use Rattle.std.proofs.lemmas.Option.{slice_get-map, slice_get_within, slice_get-get_or, get_or_from_slice_get}
 use Rattle.nl_types.specs.Entries.{Birth, Content, number_of}
-use Rattle.nl_dat.specs.Batches.{LacksSpaceFrom}
 use Rattle.nl_types.specs.RootChanges.{InPayloadOrder, Includes, IsAt, IsSound, IsWritten, Precedes, Reaches, Rewrites, born, of_chain, places, with_births}
-use Rattle.nl_types.specs.Roots.{OfChain, OfTree, Pages, Root, kind_of, numbered, page_at, pages_of, place_at}
-use Rattle.nl_types.specs.Segments.{Segments}
+use Rattle.nl_types.specs.Roots.{OfChain, OfTree, Pages, Root, kind_of, page_at, pages_of, place_at}
 use Rattle.nl_dat.specs.Batches.{Changes}
 use Rattle.nl_blocktree.specs.Chains.{block_in, names}
 use Rattle.nl_blocktree.specs.Changed.{changed, indexes}
 use Rattle.nl_blocktree.specs.NodePages.{PutsNodes}
-use Rattle.nl_blocktree.specs.Numbering.{IsUnused, RunsOut}
+use Rattle.nl_blocktree.specs.Numbering.{IsUnused}
 use Rattle.nl_dat.specs.Batches.{TakeLowestFree}
 use Rattle.nl_blocktree.specs.Putting.{PutsAll}
 use Rattle.nl_blocktree.specs.SlotChanges.{IsPlaced, PutsBlocks, comes, goes, stays}
@@ -25,6 +23,7 @@ use Rattle.nl_blocktree.proofs.Numbers.{born-append, born_in, numbered-append, n
 use Rattle.nl_blocktree.proofs.Pairwise.{pairs-append}
 use Rattle.nl_blocktree.proofs.Places.{above}
 use Rattle.nl_blocktree.proofs.Renewal.{Renews, once_after, rewrites_renews}
+use Rattle.nl_blocktree.proofs.Room.{data-below, last-named}
 
 slice_get-contains : (xs : List ℕ) (p v : ℕ) → slice_get xs p ≡ Some v → Contains xs v
 slice_get-contains xs p v e = (p, slice_get_within xs p v e, get_or_from_slice_get xs p v v e)
@@ -344,20 +343,11 @@ module _ {content : Content} {inode : ℕ} {root new : Root} {changes : List Blo
   }
 
   -- the new file is sound
-  data_below : (i v : ℕ) → names slots' i ≡ Some v → i < 65536
-  data_below i v e = elim (h.becomes i) [
-    | stays s ↦ sound.in_range 0 i v (data_at i ∙ (sym s ∙ e))
-    | comes b k t s g ↦ subst (λ (o : ℕ). o < 65536) t.1 (range b.place.offset (h.puts b k).asked)
-    | goes s g ↦ let q : None ≡ Some v = sym s ∙ e in cc
-  ]
+  below : (i v : ℕ) → names slots' i ≡ Some v → i < 65536
+  below = data-below root data_at h 65536 (sound.in_range 0) range
 
-  -- the last slot names a block
   last : (k : ℕ) → length written ≡ k + 1 → (v : ℕ) × (names slots' k ≡ Some v)
-  last k l = named (get_or written k 0) (tight k l) (sym (same k))
-    where
-      named : (m : ℕ) → m ≢ 0 → names slots' k ≡ numbered m → (v : ℕ) × (names slots' k ≡ Some v)
-      named zero z e = absurd (z refl)
-      named (suc m) z e = (suc m, e)
+  last = last-named root data_at h written same tight
 
   pred_of : (m : ℕ) → 0 < m → (k : ℕ) × (m ≡ k + 1)
   pred_of zero l = absurd (omega arith)
@@ -370,13 +360,13 @@ module _ {content : Content} {inode : ℕ} {root new : Root} {changes : List Blo
   some_slot p v e = let a = node_count p v e in let b = n.none_spare in omega arith
 
   in_range : (level offset v : ℕ) → place_at after new level offset ≡ Some v → offset < 65536
-  in_range zero i v e = data_below i v (sym (new_data i) ∙ e)
+  in_range zero i v e = below i v (sym (new_data i) ∙ e)
   in_range (suc zero) p v e =
       let a = node_count p v e in
       let b = n.none_spare in
       let k = pred_of (length written) (some_slot p v e) in
       let w = last k.0 k.1 in
-      let c = data_below k.0 w.0 w.1 in
+      let c = below k.0 w.0 w.1 in
       let d = k.1 in
       omega arith
   in_range (suc (suc level)) offset v e = let q : None ≡ Some v = sym (above after new level offset n.no_tree) ∙ e in cc
@@ -429,11 +419,3 @@ module _ {content : Content} {inode : ℕ} {root new : Root} {changes : List Blo
     blocks = subst (λ (xs : List Birth). (i : ℕ) → page_at (with_births xs (pages_of content)) new i ≡ changed changes (page_at (pages_of content) root) i) (sym c) blocks;
     sound = subst (λ (xs : List Birth). IsSound (with_births xs (pages_of content)) new) (sym c) sound_after;
   }
-
--- what runs out after some births has run out after these and more
-pub runs-out : (content : Content) (segments : Segments) (old bs added : List Birth) → bs ≡ old ++ added → TakeLowestFree content old added → RunsOut content segments bs → RunsOut content segments old
-runs-out content segments old bs added e n r = record {
-  added = added ++ r.added;
-  numbers = numbered-append content old added r.added n (subst (λ (t : List Birth). TakeLowestFree content t r.added) e r.numbers);
-  lacks = subst (λ (xs : List Birth). LacksSpaceFrom segments (length xs + 1)) (ap (λ (xs : List Birth). xs ++ r.added) e ∙ append_assoc old added r.added) r.lacks;
-}

@@ -9,6 +9,7 @@ pub mod MoreChanges
 pub mod WrittenChains
 pub mod Renewal
 pub mod Frames
+pub mod Room
 pub mod Assembly
 pub mod Unchanged
 pub mod RootByRoot

@@ -7,7 +7,6 @@ ghost use Rattle.nl_types.specs.Roots.{numbered, pages_of};
 ghost use Rattle.nl_dat.specs.Batches.{Fits, is_live};
 ghost use Rattle.nl_dat.specs.Stores.{capacity};
 ghost use Rattle.nl_blocktree.specs.Changed.{AreAscending};
-ghost use Rattle.nl_blocktree.specs.Numbering.{RunsOut};
 ghost use Rattle.nl_blocktree.specs.Putting.{IsPutError};
 ghost use Rattle.nl_blocktree.specs.SlotChanges.{IsReady, PutsBlock, PutsBlocks, replaced};
 
@@ -30,7 +29,8 @@ pub(crate) fn put_blocks<V: Vstore>(
     requires room { All (λ change. change.index < length slots.old) changes.now }
     ensures ok { IfOk result (λ _. PutsBlocks (V.content store.now) inode changes.now slots.old slots.new batch.old.births batch.new.births batch.old.ends batch.new.ends) }
     ensures fits { IfOk result (λ _. Fits (capacity (V.store store.now)) (V.content store.now) batch.new) }
-    ensures refused { IfErr result (λ e. e ≡ VolError.NoSpace → RunsOut (V.content store.now) (V.store store.now).segments batch.old.births) }
+    ensures few { IfOk result (λ _. length batch.new.births ≤ length batch.old.births + length changes.now) }
+    ensures refused { IfErr result (λ e. e ≡ VolError.NoSpace → LacksSpaceFrom (V.store store.now).segments (length batch.old.births + length changes.now)) }
     ensures errors { IfErr result IsPutError }
     ensures births_kept { take (length batch.old.births) batch.new.births ≡ batch.old.births }
     ensures ends_kept { take (length batch.old.ends) batch.new.ends ≡ batch.old.ends }

@@ -1,11 +1,10 @@
 //! The nodes of a file: a chain is written whole.
-ghost use Rattle.std.specs.Prelude.{◌≡◌, ◌<◌, ◌≤◌, ◌+◌, ◌*◌, ◌^◌, ℕ, length, slice_index, slice_index_or, take, IfOk, IfErr};
+ghost use Rattle.std.specs.Prelude.{◌≡◌, ◌<◌, ◌≤◌, ◌+◌, ◌*◌, ◌/◌, ◌^◌, ℕ, length, slice_index, slice_index_or, take, IfOk, IfErr};
 ghost use Rattle.nl_types.specs.Entries.{Birth, Content};
 ghost use Rattle.nl_types.specs.Roots.{numbered, slot};
 ghost use Rattle.nl_layout.specs.Root.{root_of};
-ghost use Rattle.nl_dat.specs.Batches.{Fits};
+ghost use Rattle.nl_dat.specs.Batches.{Fits, LacksSpaceFrom};
 ghost use Rattle.nl_dat.specs.Stores.{capacity};
-ghost use Rattle.nl_blocktree.specs.Numbering.{RunsOut};
 ghost use Rattle.nl_blocktree.specs.Putting.{IsPutError};
 ghost use Rattle.nl_blocktree.specs.NodePages.{AddsNodes, Extends, IsNode, PutsNodes, SameButPage};
 
@@ -27,7 +26,7 @@ pub(crate) fn put_nodes<V: Vstore>(
     requires small { length slots.now < 2 ^ 32 }
     ensures ok { IfOk result (λ root. PutsNodes (V.content store.now) inode slots.now batch.old.births batch.new.births (root_of root)) }
     ensures fits { IfOk result (λ _. Fits (capacity (V.store store.now)) (V.content store.now) batch.new) }
-    ensures refused { IfErr result (λ e. e ≡ VolError.NoSpace → RunsOut (V.content store.now) (V.store store.now).segments batch.old.births) }
+    ensures refused { IfErr result (λ e. e ≡ VolError.NoSpace → LacksSpaceFrom (V.store store.now).segments (length batch.old.births + (length slots.now + 126) / 127)) }
     ensures errors { IfErr result IsPutError }
     ensures births_kept { take (length batch.old.births) batch.new.births ≡ batch.old.births }
     ensures ends { batch.new.ends ≡ batch.old.ends }
@@ -53,7 +52,7 @@ fn number_nodes<V: Vstore>(
     requires { Fits (capacity (V.store store.now)) (V.content store.now) batch.old }
     ensures ok { IfOk result (λ nodes. AddsNodes (V.content store.now) inode count nodes.items batch.old.births batch.new.births) }
     ensures fits { IfOk result (λ _. Fits (capacity (V.store store.now)) (V.content store.now) batch.new) }
-    ensures refused { IfErr result (λ e. e ≡ VolError.NoSpace → RunsOut (V.content store.now) (V.store store.now).segments batch.old.births) }
+    ensures refused { IfErr result (λ e. e ≡ VolError.NoSpace → LacksSpaceFrom (V.store store.now).segments (length batch.old.births + count)) }
     ensures errors { IfErr result IsPutError }
     ensures extends { Extends batch.old.births batch.new.births }
     ensures ends { batch.new.ends ≡ batch.old.ends }

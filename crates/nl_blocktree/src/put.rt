@@ -7,7 +7,7 @@ ghost use Rattle.nl_layout.specs.Root.{root_of};
 ghost use Rattle.nl_dat.specs.Batches.{Fits, is_live};
 ghost use Rattle.nl_dat.specs.Stores.{capacity};
 ghost use Rattle.nl_blocktree.specs.Changed.{AreAscending, AreInRange};
-ghost use Rattle.nl_blocktree.specs.Numbering.{IsLive, RunsOut};
+ghost use Rattle.nl_blocktree.specs.Numbering.{EndsBefore, IsLive, RunsOut};
 ghost use Rattle.nl_blocktree.specs.Putting.{IsPutError, PutsAll};
 
 use crate::chain::read_chain;
@@ -22,7 +22,8 @@ use std::alloc::Global;
 /// Changes the blocks of a file: adds to the batch what is born and what ends by it, and answers the root of the changed
 /// file. A page that is there already, byte for byte, is not written again. The root of a file without blocks is empty.
 ///
-/// Refused by `NoSpace` where the store has no number for a birth more, and by `Memory`; then the batch is as before.
+/// Refused by `NoSpace` where the store has no room for all that the changes may take, and by `Memory`; then the batch is as
+/// before.
 pub fn put_all<V: Vstore>(
     alloc: Global,
     store: &V,
@@ -39,7 +40,8 @@ pub fn put_all<V: Vstore>(
     ensures ok { IfOk result (λ new. PutsAll (V.content store.now) inode (root_of root) (root_of new) changes.now batch.old batch.new) }
     ensures fits { IfOk result (λ _. Fits (capacity (V.store store.now)) (V.content store.now) batch.new) }
     ensures same { OnErr result (batch.new ≡ batch.old) }
-    ensures refused { IfErr result (λ e. e ≡ VolError.NoSpace → RunsOut (V.content store.now) (V.store store.now).segments batch.old.births) }
+    ensures refused { IfErr result (λ e. e ≡ VolError.NoSpace → (end : ℕ) → EndsBefore (pages_of (V.content store.now)) (root_of root) end → All (λ change. change.index < end) changes.now
+        → RunsOut (V.store store.now).segments (length batch.old.births) (length changes.now) end) }
     ensures errors { IfErr result IsPutError }
 {
     let births = batch.birth_count();
@@ -68,7 +70,8 @@ fn put_chain<V: Vstore>(
     requires in_range { AreInRange changes.now }
     ensures ok { IfOk result (λ new. PutsAll (V.content store.now) inode (root_of root) (root_of new) changes.now batch.old batch.new) }
     ensures fits { IfOk result (λ _. Fits (capacity (V.store store.now)) (V.content store.now) batch.new) }
-    ensures refused { IfErr result (λ e. e ≡ VolError.NoSpace → RunsOut (V.content store.now) (V.store store.now).segments batch.old.births) }
+    ensures refused { IfErr result (λ e. e ≡ VolError.NoSpace → (end : ℕ) → EndsBefore (pages_of (V.content store.now)) (root_of root) end → All (λ change. change.index < end) changes.now
+        → RunsOut (V.store store.now).segments (length batch.old.births) (length changes.now) end) }
     ensures errors { IfErr result IsPutError }
     ensures births_kept { take (length batch.old.births) batch.new.births ≡ batch.old.births }
     ensures ends_kept { take (length batch.old.ends) batch.new.ends ≡ batch.old.ends }

@@ -1,4 +1,4 @@
-//! What a checkpoint is going to write and keep, with all the memory that it takes.
+//! What a checkpoint is going to write and keep, with all the memory that the lists take for it.
 ghost use Rattle.std.specs.Prelude.{◌≡◌, ℕ, ◌+◌, ◌<◌, ◌≤◌, ◌^◌, true, [], ◌∷◌, ◌++◌, length, max, Some, IfOk, OnOk, IfErr, map};
 ghost use Rattle.nl_types.specs.Lifetimes.{Numbers};
 ghost use Rattle.nl_types.specs.Limits.{path_limit};

@@ -40,7 +40,8 @@ impl<D: Device> Model for Pen<D> {
 ghost use Rattle.nl_core.specs.Layout.{IsHeld, Does, layout_of, volume_of};
 ghost use Rattle.nl_types.specs.declared.event.Event.TheVariants.{Checkpoint};
 
-/// The next checkpoint: its draft, which takes all memory, then the blocks that it writes, and then its lists.
+/// The next checkpoint: its draft, then the blocks that it writes, and then its lists. The draft takes the memory for the
+/// lists, and the write takes its own before its first put, so a refusal comes before anything is written.
 fn checkpoint<S: Space>(
     alloc: Global,
     tables: &mut Tables,

@@ -1,16 +1,16 @@
-use Rattle.std.proofs.Common.{◌≡◌, ◌+◌, ◌++◌, ◌∷◌, [], ◌<◌, List, length, take, get_or, arith, ap, sym, subst, ◌∙◌}
+use Rattle.std.proofs.Common.{◌≡◌, ◌+◌, ◌++◌, ◌∷◌, [], ◌<◌, length, take, get_or, arith, ap, sym, subst, ◌∙◌}
 use Rattle.std.proofs.lemmas.List.{take_more}
 use Rattle.std.proofs.lemmas.Result.{err_from_is_err_and}
-use Rattle.nl_types.specs.Entries.{Birth}
-use Rattle.nl_dat.specs.Batches.{LacksSpaceFrom}
 use Rattle.nl_blocktree.specs.declared.change.BlockChange.{BlockChange}
 use Rattle.nl_blocktree.proofs.Kept.{kept_append, kept_more}
 use Rattle.nl_blocktree.proofs.MoreChanges.{below-here, puts-more, puts-none}
+use Rattle.nl_blocktree.proofs.Room.{lacks-more, one-birth}
 use Rattle.nl_blocktree.proofs.data.put_blocks.Goals as goal
 
 pub loop-change-init : goal.loop-change-init
 loop-change-init g c = record {
   puts = puts-none (g.V.VRead.content c.args.store.now) c.args.inode c.args.slots.now c.args.batch.now.births c.args.batch.now.ends c.requires.ready;
+  few = omega arith;
   fits = c.requires.fits;
 }
 
@@ -25,17 +25,14 @@ loop-change-preserved g c =
     record {
       puts = rw more (puts-more x c.loop-change.invariant.puts c.requires.ready
           (λ o i. subst (λ (y : BlockChange). o < y.index) here (below-here cs k x c.requires.ascending within o i)) (let r = c.requires.room k x within in let e = ap (λ (y : BlockChange). y.index) here in omega arith) c.in_ok-put_block.ensures.ok);
+      few = let few = c.loop-change.invariant.few in let one = one-birth c.in_ok-put_block.ensures.ok in omega arith;
       fits = c.in_ok-put_block.ensures.fits;
     }
 
 pub returns-in_err-put_block-clause-refused : goal.returns-in_err-put_block-clause-refused
 returns-in_err-put_block-clause-refused g c =
     let p = err_from_is_err_and c.from_residual.result c.from_residual.ensures.1 in
-    rw (p.1, p.2) (λ e. record {
-      added = c.loop-change.invariant.puts.added;
-      numbers = c.loop-change.invariant.puts.numbers;
-      lacks = subst (λ (bs : List Birth). LacksSpaceFrom (g.V.Vstore.store c.args.store.now).segments (length bs + 1)) c.loop-change.invariant.puts.births_are (c.in_err-put_block.ensures.refused e);
-    })
+    rw (p.1, p.2) (λ e. lacks-more (g.V.Vstore.store c.args.store.now).segments _ _ (let few = c.loop-change.invariant.few in omega arith) (c.in_err-put_block.ensures.refused e))
 
 pub returns-in_err-put_block-clause-births_kept : goal.returns-in_err-put_block-clause-births_kept
 returns-in_err-put_block-clause-births_kept g c =

@@ -1,8 +1,7 @@
-use Rattle.std.proofs.Common.{◌+◌, List, length, refl, ap, subst, ◌∙◌}
+use Rattle.std.proofs.Common.{length, length-append, arith, refl, ap, ◌∙◌}
 use Rattle.std.proofs.lemmas.Result.{err_from_is_err_and}
-use Rattle.nl_types.specs.Entries.{Birth}
-use Rattle.nl_dat.specs.Batches.{LacksSpaceFrom}
 use Rattle.nl_dat.specs.Batches.{Changes}
+use Rattle.nl_blocktree.proofs.Room.{lacks-more}
 use Rattle.nl_blocktree.proofs.WrittenChains.{adds-more}
 use Rattle.nl_blocktree.proofs.nodes.number_nodes.Goals as goal
 
@@ -10,11 +9,8 @@ pub returns-in_err-fresh-clause-refused : goal.returns-in_err-fresh-clause-refus
 returns-in_err-fresh-clause-refused g c =
     let p = err_from_is_err_and c.from_residual-in_err-fresh.result c.from_residual-in_err-fresh.ensures.1 in
     let adds = c.loop-offset.invariant.adds in
-    rw (p.1, p.2) (λ e. record {
-      added = adds.added;
-      numbers = adds.numbers;
-      lacks = subst (λ (bs : List Birth). LacksSpaceFrom (g.V.Vstore.store c.args.store.now).segments (length bs + 1)) adds.after c.in_err-fresh.ensures.lacks_space;
-    })
+    rw (p.1, p.2) (λ e. lacks-more (g.V.Vstore.store c.args.store.now).segments _ _
+    (omega (arith, ap length adds.after ∙ length-append c.args.batch.now.births adds.added, adds.count_is)) c.in_err-fresh.ensures.lacks_space)
 
 pub loop-offset-preserved : goal.loop-offset-preserved
 loop-offset-preserved g c = record {

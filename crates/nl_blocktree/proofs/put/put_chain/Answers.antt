@@ -1,20 +1,20 @@
-use Rattle.std.proofs.Common.{◌≡◌, ◌++◌, ℕ, List, length, take, drop, get_or, slice_index, ap, sym, subst, refl, true, ◌∙◌}
+use Rattle.std.proofs.Common.{◌≡◌, ◌++◌, ℕ, List, length, take, drop, get_or, slice_index, ap, sym, subst, refl, true, arith, ◌∙◌}
 use Rattle.std.specs.List.{All}
 use Rattle.std.proofs.lemmas.List.{take_at}
 use Rattle.std.proofs.lemmas.Option.{slice_get-get_or}
-use Rattle.std.proofs.lemmas.Result.{IfOk-weaker, IfErr-weaker}
+use Rattle.std.proofs.lemmas.Result.{err_from_is_err_and, IfOk-weaker, IfErr-weaker}
 use Rattle.nl_types.specs.Entries.{Birth}
 use Rattle.nl_types.specs.Roots.{numbered, pages_of}
 use Rattle.nl_layout.specs.Root.{root_of}
 use Rattle.nl_dat.specs.Batches.{Changes, is_live}
 use Rattle.nl_blocktree.specs.Chains.{names}
-use Rattle.nl_blocktree.specs.Numbering.{RunsOut}
 use Rattle.nl_blocktree.specs.NodePages.{PutsNodes}
-use Rattle.nl_blocktree.proofs.Assembly.{puts-all, runs-out}
+use Rattle.nl_blocktree.proofs.Assembly.{puts-all}
 use Rattle.nl_blocktree.proofs.Frames.{some-of, data-places}
 use Rattle.nl_blocktree.proofs.MoreChanges.{indexes-below}
 use Rattle.nl_blocktree.proofs.Numbers.{unused_of_fits}
 use Rattle.nl_blocktree.proofs.Places.{not_tree}
+use Rattle.nl_blocktree.proofs.Room.{lacks-more, slots-end}
 use Rattle.nl_blocktree.proofs.Unchanged.{puts-nothing}
 use Rattle.nl_blocktree.proofs.put.put_chain.Goals as goal
 use Rattle.nl_blocktree.proofs.put.put_chain.Goals.{else-birth_count-births-via-then-birth_count-births+else-end_count-ends, else-birth_count-births-via-else-birth_count-births}
@@ -68,8 +68,20 @@ returns-clause-ok g c =
 
 pub returns-clause-refused : goal.returns-clause-refused
 returns-clause-refused g c =
+    let wrote = c.put_blocks.new.slots in
+    let long : length wrote ≡ c.make_room.new.slots.len = c.put_blocks.auto.slots ∙ (ap length c.deref_mut.ensures.value ∙ sym c.make_room.new.slots.ok.0) in
+    let back : take c.make_room.new.slots.len (wrote ++ drop (length wrote) c.make_room.new.slots.items) ≡ wrote =
+    take_at wrote (drop (length wrote) c.make_room.new.slots.items) c.make_room.new.slots.len long in
     IfErr-weaker c.put_nodes.result _ _
-    (λ y r e. runs-out (g.V.VRead.content c.args.store.now) (g.V.Vstore.store c.args.store.now).segments c.args.batch.now.births c.put_blocks.new.batch.births
-    c.in_ok-put_blocks.ensures.ok.added c.in_ok-put_blocks.ensures.ok.births_are c.in_ok-put_blocks.ensures.ok.numbers
-    (subst (λ (bs : List Birth). RunsOut (g.V.VRead.content c.args.store.now) (g.V.Vstore.store c.args.store.now).segments bs) c.end_all.ensures.births_kept (r e)))
+    (λ y r e end before asked.
+    let short = slots-end (root_of c.args.root) (data-places c.make_room.new.slots.items c.deref_mut.result.now (not_tree c.args.root) c.in_ok-chain.ensures.lists c.make_room.ensures.same c.deref_mut.ensures.value)
+    c.in_ok-put_blocks.ensures.ok c.trim.new.slots.items (λ i. ap numbered (c.trim.ensures.same i) ∙ ap (λ (xs : List ℕ). names xs i) back) c.trim.ensures.tight
+    end before (indexes-below c.args.changes.now end asked) in
+    let few = c.in_ok-put_blocks.ensures.few in
+    lacks-more (g.V.Vstore.store c.args.store.now).segments _ _ (omega (arith, ap length c.end_all.ensures.births_kept, ap length c.deref-2.ensures.value)) (r e))
     c.put_nodes.ensures.refused
+
+pub returns-in_err-put_blocks-clause-refused : goal.returns-in_err-put_blocks-clause-refused
+returns-in_err-put_blocks-clause-refused g c =
+    let p = err_from_is_err_and c.from_residual-in_err-put_blocks.result c.from_residual-in_err-put_blocks.ensures.1 in
+    rw (p.1, p.2) (λ e end before asked. lacks-more (g.V.Vstore.store c.args.store.now).segments _ _ (omega arith) (c.in_err-put_blocks.ensures.refused e))

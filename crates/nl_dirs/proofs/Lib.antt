@@ -1,0 +1,8 @@
+pub mod Spelling
+pub mod Holding
+pub mod Ascending
+pub mod PageReading
+pub mod RecordOrder
+pub mod Packings
+pub mod Filling
+pub mod Blocks

@@ -1,0 +1,5 @@
+use Rattle.nl_dirs.proofs.Blocks.{packings-one}
+use Rattle.nl_dirs.proofs.laws.packings_are_one.Goals as goal
+
+pub returns : goal.returns
+returns c = packings-one

@@ -1,0 +1,5 @@
+pub mod Records
+pub mod Stored
+pub mod Packing
+pub mod Listings
+pub mod Laws

@@ -1,0 +1,16 @@
+//! Directories as blocks: a directory is a map from name to inode and kind.
+#![tactic(auto)]
+
+pub mod laws;
+mod packing;
+mod reading;
+mod record;
+
+pub use packing::pack;
+pub use reading::{find, first_name, records};
+pub use record::{EntryKind, Record};
+
+#[cfg(test)]
+mod packing_tests;
+#[cfg(test)]
+mod reading_tests;

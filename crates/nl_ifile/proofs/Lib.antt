@@ -1,0 +1,8 @@
+pub mod Spelling
+pub mod BlockBytes
+pub mod Changes
+pub mod BlockChanges
+pub mod NewFile
+pub mod WholeBlocks
+pub mod Blocks
+pub mod Finding

@@ -1,0 +1,42 @@
+-- Free inode numbers. Ordinary inodes have numbers from 11 to 524,287.
+use Rattle.std.specs.Prelude.{◌≡◌, ℕ, ◌+◌, ◌*◌, ◌/◌, ◌%◌, ◌≤◌, ◌<◌, ◌==◌, if◌then◌else◌, List, [], ◌∷◌, IsSome, Option, None, Some}
+use Rattle.std.specs.Option.{option_and_then}
+use Rattle.nl_ifile.specs.declared.change.InodeChange.{InodeChange}
+use Rattle.nl_ifile.specs.Inodes.{Inodes, inode_in}
+
+-- all numbers from 11 up to, and without, this one are in use
+abbrev pub AreInUse : Inodes → ℕ → Type 0
+AreInUse inodes end = (n : ℕ) → 11 ≤ n → n < end → IsSome (inodes n)
+
+-- the lowest number from 11 on that is free
+pub record IsLowestFree (inodes : Inodes) (n : ℕ) : Type 0 where
+  pub first : 11 ≤ n
+  pub last : n ≤ 524287
+  pub free : inodes n ≡ None
+  pub lowest : AreInUse inodes n
+
+-- ---- within a block
+
+-- all numbers from one up to, and without, another are in use
+abbrev pub AreInUseFrom : Inodes → ℕ → ℕ → Type 0
+AreInUseFrom inodes first end = (n : ℕ) → first ≤ n → n < end → IsSome (inodes n)
+
+-- the number behind those of the block of this one
+abbrev pub block_end : ℕ → ℕ
+block_end n = (n / 8 + 1) * 8
+
+-- the lowest number that is free from this one on, in its block
+pub record IsFreeInBlock (inodes : Inodes) (first n : ℕ) : Type 0 where
+  pub low : first ≤ n
+  pub high : n < block_end first
+  pub free : inodes n ≡ None
+  pub lowest : AreInUseFrom inodes first n
+
+-- the inode that a number has in its block, if that is there
+abbrev pub inode_of_page : Option (List ℕ) → Inodes
+inode_of_page page n = option_and_then (λ bytes. inode_in bytes (n % 8)) page
+
+-- the change of a number, if there is one
+abbrev pub change_at : List InodeChange → ℕ → Option InodeChange
+change_at [] n = None
+change_at (c ∷ changes) n = if n == c.number then Some c else change_at changes n

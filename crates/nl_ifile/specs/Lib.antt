@@ -1,0 +1,4 @@
+pub mod Inodes
+pub mod Changing
+pub mod Free
+pub mod Contents

@@ -1,0 +1,23 @@
+//! Inodes in the blocks of a file of their own: a root of it is a map from inode number to inode.
+#![tactic(auto)]
+
+mod change;
+mod changed_block;
+mod free;
+pub mod laws;
+mod put;
+mod read;
+
+pub use change::InodeChange;
+pub use free::{FIRST_INODE, LAST_INODE, next_ino};
+pub use put::{INODE_FILE, put_inodes};
+pub use read::inode;
+
+#[cfg(test)]
+mod free_tests;
+#[cfg(test)]
+mod put_tests;
+#[cfg(test)]
+mod read_tests;
+#[cfg(test)]
+mod shelf;

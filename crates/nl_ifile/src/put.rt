@@ -1,0 +1,58 @@
+//! Changing inodes.
+ghost use Rattle.std.specs.Prelude.{◌≡◌, ◌<◌, ◌*◌, ℕ, length, All, OnErr, IfOk, IfErr};
+ghost use Rattle.nl_types.specs.Roots.{pages_of};
+ghost use Rattle.nl_types.specs.RootChanges.{IsSound};
+ghost use Rattle.nl_layout.specs.Root.{root_of};
+ghost use Rattle.nl_dat.specs.Batches.{Fits};
+ghost use Rattle.nl_dat.specs.Stores.{capacity};
+ghost use Rattle.nl_blocktree.specs.Numbering.{EndsBefore, IsLive, RunsOut};
+ghost use Rattle.nl_blocktree.specs.Putting.{IsPutError};
+ghost use Rattle.nl_ifile.specs.Inodes.{IsInodeFile};
+ghost use Rattle.nl_ifile.specs.Changing.{AreAscending, AreInRange, PutsInodes};
+
+use crate::change::InodeChange;
+use crate::changed_block::changed_blocks;
+use nl_blocktree::put_all;
+use nl_dat::{Batch, Vstore};
+use nl_layout::Root;
+use nl_types::{InodeNumber, VolError};
+use std::alloc::Global;
+
+/// The inode of the file of inodes itself, as in nilfs2.rst.
+pub const INODE_FILE: u64 = 6;
+
+/// Changes inodes: adds to the batch what is born and what ends by it, and answers the root of the changed file. A block of
+/// inodes is there exactly where one of its eight is in use, and one that has the same bytes afterwards isn't written.
+///
+/// Refused by `NoSpace` where the store has no room for all that the changes may take, and by `Memory`; then the batch is as
+/// before.
+pub fn put_inodes<V: Vstore>(
+    alloc: Global,
+    store: &V,
+    batch: &mut Batch,
+    root: Root,
+    changes: &[InodeChange],
+) -> Result<Root, VolError>
+    requires fits { Fits (capacity (V.store store.now)) (V.content store.now) batch.old }
+    requires sound { IsSound (pages_of (V.content store.now)) (root_of root) }
+    requires live { IsLive (V.content store.now) (root_of root) }
+    requires inodes { IsInodeFile (pages_of (V.content store.now)) (root_of root) }
+    requires ascending { AreAscending changes.now }
+    requires in_range { AreInRange changes.now }
+    ensures ok { IfOk result (λ new. PutsInodes (V.content store.now) (root_of root) (root_of new) changes.now batch.old batch.new) }
+    ensures fits { IfOk result (λ _. Fits (capacity (V.store store.now)) (V.content store.now) batch.new) }
+    ensures same { OnErr result (batch.new ≡ batch.old) }
+    ensures refused { IfErr result (λ e. e ≡ VolError.NoSpace → (end : ℕ) → EndsBefore (pages_of (V.content store.now)) (root_of root) end → All (λ change. change.number < 8 * end) changes.now
+        → RunsOut (V.store store.now).segments (length batch.old.births) (length changes.now) end) }
+    ensures errors { IfErr result IsPutError }
+{
+    let blocks = changed_blocks(alloc, store, &root, changes)?;
+    put_all(
+        alloc,
+        store,
+        batch,
+        InodeNumber::new(INODE_FILE),
+        root,
+        &blocks,
+    )
+}
