@@ -12,8 +12,3 @@ mod tables;
 mod write;
 
 pub use pen::{Pen, run};
-
-#[cfg(test)]
-mod period_tests;
-#[cfg(test)]
-mod tests;

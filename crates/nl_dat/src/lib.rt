@@ -12,6 +12,3 @@ pub use batch::Batch;
 pub use dat::Dat;
 pub use entries::{DatEntry, Period};
 pub use store::{VRead, Vstore};
-
-#[cfg(test)]
-mod tests;

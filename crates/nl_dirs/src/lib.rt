@@ -9,8 +9,3 @@ mod record;
 pub use packing::pack;
 pub use reading::{find, first_name, records};
 pub use record::{EntryKind, Record};
-
-#[cfg(test)]
-mod packing_tests;
-#[cfg(test)]
-mod reading_tests;

@@ -14,6 +14,3 @@ pub use node::{NEXT, Node, SLOTS};
 pub use root::Root;
 pub use summary::Summary;
 pub use tag::Tag;
-
-#[cfg(test)]
-mod tests;

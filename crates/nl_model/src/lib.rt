@@ -12,6 +12,3 @@ mod world;
 
 pub use runs::run;
 pub use world::World;
-
-#[cfg(test)]
-mod tests;

@@ -166,25 +166,3 @@ impl World {
         }
     }
 }
-
-#[cfg(test)]
-mod tests {
-    use super::*;
-    use std::test::Fail;
-
-    #[test]
-    fn stamps_never_fall(rt: HostRuntime) -> Result<(), Fail> {
-        let alloc = rt.alloc();
-        let mut world = World::format(alloc, 100)?;
-        for (moment, want) in [(50, 100), (200, 200), (150, 200), (201, 201)] {
-            let mode = Mode::Plain;
-            world.apply(alloc, &Event::Checkpoint { mode, moment })?;
-            assert_eq!(rt;
-                stamp_of_latest(world.copies.as_slice()),
-                want,
-                "at {moment}"
-            );
-        }
-        Ok(())
-    }
-}

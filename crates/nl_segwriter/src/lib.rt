@@ -21,6 +21,3 @@ mod staging;
 pub use log_space::LogSpace;
 pub use payload::Payload;
 pub use space::Space;
-
-#[cfg(test)]
-mod tests;

@@ -11,6 +11,3 @@ mod placing;
 mod table;
 
 pub use table::{SegTable, Sustat};
-
-#[cfg(test)]
-mod tests;

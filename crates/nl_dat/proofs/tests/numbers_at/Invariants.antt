@@ -1,7 +1,0 @@
-use Rattle.std.proofs.Common.{◌≡◌, true, All}
-use Rattle.nl_dat.specs.Stores.{is_inside, address_in}
-use Rattle.nl_dat.proofs.tests.numbers_at.Given as goal
-
--- each number found so far has its page in the segment
-abbrev pub invariant-loop-position : goal.invariant-loop-position
-invariant-loop-position g l = All (λ v. is_inside l.dat.segments l.segment (address_in l.dat v) ≡ true) l.numbers.items

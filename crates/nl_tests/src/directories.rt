@@ -1,0 +1,151 @@
+//! Blocks of directories byte by byte, and what is found in them.
+ghost use Rattle.std.specs.Prelude.{◌≡◌, IsTrue};
+ghost use Rattle.nl_dirs.specs.Records.{AllFit};
+
+use nl_dirs::{EntryKind, Record, find, first_name, pack, records};
+use nl_types::{Block, InodeNumber, Items, Page, VolError};
+use std::alloc::{AllocError, Global};
+use std::test::Fail;
+
+/// Whether each record may be packed.
+fn all_fit(records: &[Record]) -> bool
+    ensures { IsTrue result → AllFit records.now }
+{
+    for record in records {
+        let length = record.name.len();
+        if length == 0 || length > 255 || record.inode.get() > 0xffff_ffff {
+            return false;
+        }
+    }
+    true
+}
+
+/// The blocks of records. Refused by `BadName` where one can't be packed.
+fn packed(alloc: Global, records: &[Record]) -> Result<Vec<Block>, VolError> {
+    if !all_fit(records) {
+        return Err(VolError::BadName);
+    }
+    pack(alloc, records)
+}
+
+/// Name, inode and kind of a record.
+type Entry = (&'static [u8], u64, EntryKind);
+
+fn records_of(alloc: Global, entries: &[Entry]) -> Result<Vec<Record>, AllocError> {
+    let mut records = Vec::new(alloc);
+    for (name, inode, kind) in entries {
+        records.push(Record {
+            name: Items::from_slice(alloc, name)?,
+            inode: InodeNumber::new(*inode),
+            kind: *kind,
+        })?;
+    }
+    Ok(records)
+}
+
+const FOUR: [Entry; 4] = [
+    (b"a", 0x0102_0304, EntryKind::File),
+    (b"b/", 5, EntryKind::Directory),
+    (&[0x7f, 0x80, 0xff], 0xffff_ffff, EntryKind::File),
+    (&[0xff; 255], 0x8000_0000, EntryKind::Directory),
+];
+
+/// The four records up to the last one's name.
+const FOUR_SPELLED: [u8; 30] = [
+    4, 3, 2, 1, 1, 1, b'a', 5, 0, 0, 0, 2, 2, b'b', b'/', 0xff, 0xff, 0xff, 0xff, 1, 3, 0x7f, 0x80,
+    0xff, 0, 0, 0, 0x80, 2, 255,
+];
+
+fn is_entry(record: &Record, entry: &Entry) -> bool {
+    record.name.as_slice() == entry.0
+        && record.inode == InodeNumber::new(entry.1)
+        && record.kind == entry.2
+}
+
+#[test]
+fn records_are_spelled_and_found(rt: HostRuntime) -> Result<(), Fail> {
+    let alloc = rt.alloc();
+    let blocks = packed(alloc, &records_of(alloc, &FOUR)?)?;
+    assert_eq!(rt; blocks.len(), 1);
+    let bytes = blocks[0].bytes();
+    assert!(rt; &bytes[..30] == FOUR_SPELLED.as_slice());
+    assert!(rt; bytes[30..285] == [0xff; 255] && bytes[285..] == [0; 739]);
+    let page = Page::new(alloc, Block::new(*bytes))?;
+    assert!(rt; first_name(&page) == Some(b"a".as_slice()));
+    let Some(read) = records(alloc, &page)? else {
+        panic!(rt; "no page of a directory");
+    };
+    assert_eq!(rt; read.len(), 4);
+    for (record, entry) in read.iter().zip(FOUR.as_slice()) {
+        let found = find(&page, entry.0);
+        assert!(rt; is_entry(record, entry) && found == Some((record.inode, record.kind)));
+    }
+    assert!(rt; find(&page, b"b").is_none());
+    Ok(())
+}
+
+/// The name of 250 bytes that begins with a number in two decimal digits.
+fn numbered(number: u8) -> [u8; 250] {
+    let mut name = [b'n'; 250];
+    name[0] = b'0' + number / 10 % 10;
+    name[1] = b'0' + number % 10;
+    name
+}
+
+/// Files with the names of the first 70 numbers, and each number as inode.
+fn seventy(alloc: Global) -> Result<Vec<Record>, AllocError> {
+    let mut records = Vec::new(alloc);
+    for number in 0..70 {
+        records.push(Record {
+            name: Items::from_slice(alloc, &numbered(number))?,
+            inode: InodeNumber::new(number.into()),
+            kind: EntryKind::File,
+        })?;
+    }
+    Ok(records)
+}
+
+/// Whether a place of 256 bytes in a block has the record that `seventy` has for a number, or zeros where there is none.
+fn is_numbered(bytes: &[u8], number: u8) -> bool {
+    if number >= 70 {
+        return bytes.iter().all(|byte| *byte == 0);
+    }
+    bytes.starts_with(&[number, 0, 0, 0, 1, 250]) && bytes.ends_with(&numbered(number))
+}
+
+/// Whether these are the blocks of `seventy`: four records of 256 bytes in each, and two in the last.
+fn are_of_seventy(blocks: &[Block]) -> bool {
+    let mut number = 0;
+    for block in blocks {
+        for place in block.bytes().chunks_exact(256) {
+            if !is_numbered(place, number) {
+                return false;
+            }
+            number = number.saturating_add(1);
+        }
+    }
+    number == 72
+}
+
+/// With one allocation failing, the packing that is refused is done again (`rt try --test --fail-alloc N`).
+#[test]
+fn seventy_long_names_take_eighteen_blocks(rt: HostRuntime) -> Result<(), Fail> {
+    let alloc = rt.alloc();
+    let records = seventy(alloc)?;
+    let blocks = match packed(alloc, &records) {
+        Err(VolError::Memory) => packed(alloc, &records)?,
+        packed => packed?,
+    };
+    assert_eq!(rt; blocks.len(), 18);
+    assert!(rt; are_of_seventy(&blocks));
+    Ok(())
+}
+
+const NONE: [Entry; 0] = [];
+
+#[test]
+fn an_empty_directory_has_no_block(rt: HostRuntime) -> Result<(), Fail> {
+    let alloc = rt.alloc();
+    assert!(rt; packed(alloc, &records_of(alloc, &NONE)?)?.is_empty());
+    Ok(())
+}

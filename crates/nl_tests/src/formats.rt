@@ -1,0 +1,120 @@
+//! Blocks of the log byte by byte, as the format says: the summary block, nodes and inodes.
+use nl_layout::{INODE_SIZE, Inode, InodeEntry, InodeKind, Level, NEXT, Node, Root, Summary, Tag};
+use nl_types::{BLOCK_SIZE, Block, CheckpointNumber, InodeNumber, Page, VirtualNumber};
+use std::test::Fail;
+
+/// Bytes at an offset.
+type Spelling = (usize, &'static [u8]);
+
+/// Zeros with these bytes at their offsets.
+fn spelled<const N: usize>(spellings: &[Spelling]) -> [u8; N] {
+    let mut bytes = [0; N];
+    for (offset, spelling) in spellings {
+        for (k, byte) in spelling.iter().enumerate() {
+            if let Some(place) = bytes.get_mut(offset.saturating_add(k)) {
+                *place = *byte;
+            }
+        }
+    }
+    bytes
+}
+
+fn tag(number: u64, inode: u64, level: Level, offset: u64) -> Tag {
+    Tag {
+        number: VirtualNumber::new(number),
+        inode: InodeNumber::new(inode),
+        level,
+        offset,
+    }
+}
+
+/// Moment 7 and checkpoint 3, with data block 2 of inode 11 under number 258.
+const ONE_RECORD: &[Spelling] = &[
+    (0, &[0x4e, 0x4c, 0x53, 0x47, 0x01]),
+    (8, &[7]),
+    (16, &[3]),
+    (64, &[0x02, 0x01]),
+    (72, &[0x0b]),
+    (80, &[2]),
+];
+
+/// Two records: data of a file, and a node of the file of inodes.
+const TWO_RECORDS: &[Spelling] = &[
+    (0, b"NLSG\x02"),
+    (8, &[0x88, 0x77, 0x66, 0x55, 0x44, 0x33, 0x22, 0x11]),
+    (16, &[9]),
+    (64, &[0x02, 0x01]),
+    (72, &[11]),
+    (80, &[0xff, 0xff]),
+    (96, &[0x03, 0x01]),
+    (104, &[6]),
+    (112, &[0x08, 0x07, 0x06, 0x05, 0x04, 0x03, 0x02, 0x01]),
+    (120, &[2]),
+];
+
+#[test]
+fn summaries_are_spelled_byte_by_byte(rt: HostRuntime) {
+    let tags = [
+        tag(0x0102, 11, Level::new(0), 65_535),
+        tag(0x0103, 6, Level::new(2), 0x0102_0304_0506_0708),
+    ];
+    let mut block = [0xaa; BLOCK_SIZE];
+    Summary::new(0x1122_3344_5566_7788, CheckpointNumber::new(9), &tags).write(&mut block);
+    assert!(rt; block == spelled::<BLOCK_SIZE>(TWO_RECORDS));
+    let block: [u8; BLOCK_SIZE] = spelled(ONE_RECORD);
+    let summary = Summary::read(&block).expect(&rt, "a summary");
+    assert_eq!(rt; summary.stamp(), 7);
+    assert_eq!(rt; summary.checkpoint(), CheckpointNumber::new(3));
+    assert!(rt; summary.tags() == [tag(258, 11, Level::new(0), 2)].as_slice());
+}
+
+/// Slots 0 and 2, and the next node.
+const NODE: &[Spelling] = &[(0, &[0x02, 0x01]), (16, &[3]), (1016, &[0x05, 0x04])];
+
+#[test]
+fn nodes_are_spelled_byte_by_byte(rt: HostRuntime) -> Result<(), Fail> {
+    let numbers = [
+        VirtualNumber::new(0x0102),
+        VirtualNumber::new(0),
+        VirtualNumber::new(3),
+    ];
+    let mut block = [0xaa; BLOCK_SIZE];
+    Node::of_chain(&numbers, VirtualNumber::new(0x0405)).write(&mut block);
+    assert!(rt; block == spelled::<BLOCK_SIZE>(NODE));
+    let page = Page::new(rt.alloc(), Block::new(block))?;
+    assert_eq!(rt; Node::slot_in(&page, 1), None);
+    assert_eq!(rt;
+        Node::slot_in(&page, NEXT),
+        Some(VirtualNumber::new(0x0405))
+    );
+    Ok(())
+}
+
+/// A directory of one block, whose chain begins at number 2,571.
+const DIRECTORY: &[Spelling] = &[(0, &[2, 1]), (8, &[0x00, 0x04]), (16, &[0x0b, 0x0a])];
+
+const EMPTY_FILE: &[Spelling] = &[(0, &[1])];
+
+#[test]
+fn inodes_are_spelled_byte_by_byte(rt: HostRuntime) {
+    let directory = InodeEntry::InUse(Inode {
+        kind: InodeKind::Directory,
+        root: Root::Chain(VirtualNumber::new(0x0a0b)),
+        size: 1024,
+    });
+    let empty = InodeEntry::InUse(Inode {
+        kind: InodeKind::File,
+        root: Root::Empty,
+        size: 0,
+    });
+    for (entry, spelling) in [
+        (directory, DIRECTORY),
+        (empty, EMPTY_FILE),
+        (InodeEntry::Free, [].as_slice()),
+    ] {
+        let mut bytes = [0xaa; INODE_SIZE];
+        entry.write(&mut bytes);
+        assert!(rt; bytes == spelled::<INODE_SIZE>(spelling));
+        assert_eq!(rt; InodeEntry::read(&bytes), Some(entry));
+    }
+}

@@ -1,0 +1,22 @@
+//! Tests of the layers through their public calls: worked rows with values from outside, devices that fail, formats byte by
+//! byte, and refused memory. Nothing stands on this crate, and it has nothing but tests.
+//!
+//! A row is a list of steps in a constant, which the checker evaluates and need not follow; each kind of step is proved once.
+//! A step that is refused for memory has to leave what is seen as it was, and is done again: so with one allocation failing,
+//! each row still passes (`rt try --test --fail-alloc N`).
+#![tactic(auto)]
+
+#[cfg(test)]
+mod directories;
+#[cfg(test)]
+mod files;
+#[cfg(test)]
+mod formats;
+#[cfg(test)]
+mod logs;
+#[cfg(test)]
+mod numbers;
+#[cfg(test)]
+mod values;
+#[cfg(test)]
+mod volumes;
