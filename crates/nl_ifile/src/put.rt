@@ -5,8 +5,7 @@ ghost use Rattle.nl_types.specs.RootChanges.{IsSound};
 ghost use Rattle.nl_layout.specs.Root.{root_of};
 ghost use Rattle.nl_dat.specs.Batches.{Fits};
 ghost use Rattle.nl_dat.specs.Stores.{capacity};
-ghost use Rattle.nl_blocktree.specs.Numbering.{EndsBefore, IsLive, RunsOut};
-ghost use Rattle.nl_blocktree.specs.Putting.{IsPutError};
+ghost use Rattle.nl_blocktree.specs.Numbering.{IsLive};
 ghost use Rattle.nl_ifile.specs.Inodes.{IsInodeFile};
 ghost use Rattle.nl_ifile.specs.Changing.{AreAscending, AreInRange, PutsInodes};
 
@@ -24,8 +23,7 @@ pub const INODE_FILE: u64 = 6;
 /// Changes inodes: adds to the batch what is born and what ends by it, and answers the root of the changed file. A block of
 /// inodes is there exactly where one of its eight is in use, and one that has the same bytes afterwards isn't written.
 ///
-/// Refused by `NoSpace` where the store has no room for all that the changes may take, and by `Memory`; then the batch is as
-/// before.
+/// Refused by `Memory` alone; then the batch is as before.
 pub fn put_inodes<V: Vstore>(
     alloc: Global,
     store: &V,
@@ -42,9 +40,7 @@ pub fn put_inodes<V: Vstore>(
     ensures ok { IfOk result (λ new. PutsInodes (V.content store.now) (root_of root) (root_of new) changes.now batch.old batch.new) }
     ensures fits { IfOk result (λ _. Fits (capacity (V.store store.now)) (V.content store.now) batch.new) }
     ensures same { OnErr result (batch.new ≡ batch.old) }
-    ensures refused { IfErr result (λ e. e ≡ VolError.NoSpace → (end : ℕ) → EndsBefore (pages_of (V.content store.now)) (root_of root) end → All (λ change. change.number < 8 * end) changes.now
-        → RunsOut (V.store store.now).segments (length batch.old.births) (length changes.now) end) }
-    ensures errors { IfErr result IsPutError }
+    ensures errors { IfErr result (λ e. e ≡ VolError.Memory) }
 {
     let blocks = changed_blocks(alloc, store, &root, changes)?;
     put_all(

@@ -19,13 +19,3 @@ returns-clause-ok g c =
     (subst (λ (inode : ℕ). PutsAll (g.V.VRead.content c.args.store.now) inode (root_of c.args.root) (root_of new) c.deref.result.now c.args.batch.now c.put_all.new.batch) c.new.ensures puts))
     c.put_all.ensures.ok
 
-pub returns-clause-refused : goal.returns-clause-refused
-returns-clause-refused g c =
-    IfErr-weaker c.put_all.result _ _
-    (λ e r no_space end before low.
-    let value : c.deref.result.now ≡ c.in_ok-blocks.blocks.items = c.deref.ensures.value in
-    let lacks = r no_space end before (subst (λ (blocks : List BlockChange). All (λ b. b.index < end) blocks) (sym value) (c.in_ok-blocks.ensures.ok.below end low)) in
-    let few : length c.in_ok-blocks.blocks.items ≤ length c.args.changes.now = c.in_ok-blocks.ensures.ok.few in
-    let count : length c.deref.result.now ≡ length c.in_ok-blocks.blocks.items = ap length value in
-    λ reserve m l. lacks reserve m (omega (arith, l, few, count)))
-    c.put_all.ensures.refused
