@@ -5,7 +5,7 @@ use Rattle.std.specs.List.{range_with_len}
 use Rattle.std.specs.Option.{option_map, option_and_then}
 use Rattle.std.proofs.Math.ListN.{get_or-map}
 use Rattle.std.proofs.lemmas.List.FromFn.{get_or-map-range_with_len}
-use Rattle.std.proofs.lemmas.List.{get_or_past, length-replicate}
+use Rattle.std.proofs.lemmas.List.{get_or_past, length-map, length-replicate}
 use Rattle.std.proofs.lemmas.Bool.{cases_lt}
 use Rattle.nl_types.specs.Segments.{AreTidy, total_blocks}
 use Rattle.nl_types.specs.PartialMaps.{Partial}
@@ -108,6 +108,7 @@ module _ (table : List (Option DatEntry)) (lowest : ℕ) (space : Space) (failur
 
   pub is_store : IsStore (store_of table space failures)
   is_store = record {
+    full = length-map table (numbered_of (births_in space)) ∙ is_table.full;
     numbers = λ v b at. numbers v b (address_now v b at);
     used = λ v b at. is_table.used v b (address_now v b at);
     apart = λ v w b at_v at_w. IsSound-apart (addresses_of (entry_in table)) (births_in space) v w b is_table.sound (address_now v b at_v) (address_now w b at_w);

@@ -73,8 +73,10 @@ capacity s = total_blocks s.segments
 
 -- ---- what is true of every store
 
--- each number in use has a used block of its own, and the device holds its page there
+-- There is a place for each number, and for 0, which is never used. Each number in use has a used block of its own, and
+-- the device holds its page there.
 pub record IsStore (s : Store) : Type 0 where
+  pub full : length s.numbers ≡ capacity s + 1
   pub numbers : (v b : ℕ) → address_in s v ≡ Some b → (1 ≤ v) × (v ≤ capacity s)
   pub used : (v b : ℕ) → address_in s v ≡ Some b → IsUsed s.segments b
   pub apart : (v w b : ℕ) → address_in s v ≡ Some b → address_in s w ≡ Some b → v ≡ w

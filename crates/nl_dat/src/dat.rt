@@ -112,9 +112,13 @@ impl<S: Space> Dat<S> {
 }
 
 impl<S: Space> VRead for Dat<S> {
+    ghost use Rattle.nl_types.specs.Roots.{pages_of};
     ghost use Rattle.nl_dat.specs.Stores.{content_in};
+    ghost use Rattle.nl_dat.specs.Table.{periods_of};
 
-    ghost content = { λ d. content_in d };
+    ghost pages = { λ d. pages_of (content_in d) };
+
+    ghost periods = { λ d. periods_of (content_in d) };
 
     fn page(&self, number: VirtualNumber) -> Option<&Page> {
         let entry = entry_at(self.table.as_slice(), number)?;
@@ -130,7 +134,9 @@ impl<S: Space> VRead for Dat<S> {
 impl<S: Space> Vstore for Dat<S> {
     ghost store = { λ d. d };
 
-    ghost contents = { λ d v. Rattle.std.specs.Prelude.refl };
+    ghost reads_pages = { λ d. Rattle.std.specs.Prelude.refl };
+
+    ghost reads_periods = { λ d. Rattle.std.specs.Prelude.refl };
 
     fn capacity(&self) -> u64 {
         // The table tells that no segment is used past its end.

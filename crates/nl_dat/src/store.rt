@@ -1,13 +1,12 @@
 //! What the layers above know of pages under virtual block numbers.
 ghost use Rattle.std.specs.Prelude.{◌≡◌, ◌≢◌, ℕ, ◌+◌, ◌<◌, ◌≤◌, Bool, true, false, List, length, All, IfOk, IfErr, OnOk, OnErr, IsErrOf, MatchOption, MatchResult, Some, option_copied};
-ghost use Rattle.std.specs.Option.{option_map};
 ghost use Rattle.nl_types.specs.Segments.{block_at};
 ghost use Rattle.nl_types.specs.Placing.{LacksSpace};
-ghost use Rattle.nl_types.specs.Entries.{Content};
+ghost use Rattle.nl_types.specs.Roots.{Pages, pages_of};
 ghost use Rattle.nl_segwriter.specs.Appended.{IsAppendError};
 ghost use Rattle.std.specs.Prelude.{max, ◌^◌};
 ghost use Rattle.nl_dat.specs.Batches.{last_number, IsLowestFree, is_taken, LacksSpaceFrom, Fits};
-ghost use Rattle.nl_dat.specs.Table.{page_of, period_of};
+ghost use Rattle.nl_dat.specs.Table.{Periods, periods_of};
 ghost use Rattle.nl_dat.specs.Located.{number_at, payload_count};
 ghost use Rattle.nl_dat.specs.Stores.{Store, IsStore, IsWritten, IsMoved, IsMoveRefused, IsReclaimed, IsBrokenOff, IsClosed, is_inside, content_in, address_in, capacity};
 
@@ -18,16 +17,19 @@ use std::alloc::Global;
 
 /// Pages under virtual block numbers, for reading.
 pub trait VRead {
-    /// Which numbers are in use, and what each stands for.
-    ghost content: { Self → Content };
+    /// The page of each number in use.
+    ghost pages: { Self → Pages };
+
+    /// The checkpoints that each number in use belongs to.
+    ghost periods: { Self → Periods };
 
     /// The page of a number, where it is in use.
     fn page(&self, number: VirtualNumber) -> Option<&Page>
-        ensures { option_copied result ≡ option_map page_of (content self.now number) };
+        ensures { option_copied result ≡ pages self.now number };
 
     /// The checkpoints that a number in use belongs to.
     fn period(&self, number: VirtualNumber) -> Option<Period>
-        ensures { result ≡ option_map period_of (content self.now number) };
+        ensures { result ≡ periods self.now number };
 }
 
 /// Pages under virtual block numbers, changed by a whole batch at a time. A number stays the same however often its page
@@ -46,10 +48,10 @@ pub trait Vstore: VRead {
     /// The lowest number that is neither in use nor given to a birth of the batch. Refused by `NoSpace` alone, where no
     /// list of logs fits one block more than the batch has, or yet more. It takes no memory.
     fn fresh(&self, batch: &Batch) -> Result<VirtualNumber, VolError>
-        requires { Fits (capacity (store self.now)) (Self.content self.now) batch.now }
-        ensures lowest { IfOk result (IsLowestFree (Self.content self.now) batch.now.births) }
+        requires { Fits (capacity (store self.now)) (content_in (store self.now)) batch.now }
+        ensures lowest { IfOk result (IsLowestFree (content_in (store self.now)) batch.now.births) }
         ensures inside { IfOk result (λ v. v ≤ capacity (store self.now)) }
-        ensures all_taken { OnErr result ((v : ℕ) → 1 ≤ v → v ≤ capacity (store self.now) → is_taken (Self.content self.now) batch.now.births v ≡ true) }
+        ensures all_taken { OnErr result ((v : ℕ) → 1 ≤ v → v ≤ capacity (store self.now) → is_taken (content_in (store self.now)) batch.now.births v ≡ true) }
         ensures no_space { OnErr result (result ≡ Err VolError.NoSpace) }
         ensures lacks_space { OnErr result (LacksSpaceFrom (store self.now).segments (length batch.now.births + 1)) };
 
@@ -64,7 +66,7 @@ pub trait Vstore: VRead {
         checkpoint: CheckpointNumber,
         now: u64,
     ) -> Result<(), VolError>
-        requires { Fits (capacity (store self.old)) (Self.content self.old) batch.now }
+        requires { Fits (capacity (store self.old)) (content_in (store self.old)) batch.now }
         ensures written { OnOk result (IsWritten checkpoint now batch.now (store self.old) (store self.new)) }
         ensures no_space { IsErrOf result VolError.NoSpace → LacksSpace (store self.old).segments true (length batch.now.births) }
         ensures no_space_same { IsErrOf result VolError.NoSpace → store self.new ≡ store self.old }
@@ -112,14 +114,16 @@ pub trait Vstore: VRead {
         ensures counted { (store self.old).failures ≤ (store self.new).failures };
 
     /// What is read is what is stored.
-    ghost contents: { (s : Self) (v : ℕ) → Self.content s v ≡ content_in (store s) v };
+    ghost reads_pages: { (s : Self) → Self.pages s ≡ pages_of (content_in (store s)) };
+
+    ghost reads_periods: { (s : Self) → Self.periods s ≡ periods_of (content_in (store s)) };
 }
 
 /// The lowest number that is neither in use nor given to a birth of the batch, be it one that there is or one above: no
 /// store takes a batch with such a one.
 pub fn next_number<V: Vstore>(store: &V, batch: &Batch) -> VirtualNumber
-    requires { Fits (capacity (V.store store.now)) (V.content store.now) batch.now }
-    ensures lowest { IsLowestFree (V.content store.now) batch.now.births result }
+    requires { Fits (capacity (V.store store.now)) (content_in (V.store store.now)) batch.now }
+    ensures lowest { IsLowestFree (content_in (V.store store.now)) batch.now.births result }
     ensures low { result ≤ capacity (V.store store.now) + length batch.now.births + 1 }
 {
     match store.fresh(batch) {
