@@ -6,4 +6,3 @@ pub mod NodePages
 pub mod Putting
 pub mod Checkpoints
 pub mod Walked
-pub mod Shelves

@@ -14,8 +14,3 @@ pub use change::BlockChange;
 pub use put::put_all;
 pub use read::get;
 pub use walking::{PlacedBlock, WalkError, walk};
-
-#[cfg(test)]
-mod put_tests;
-#[cfg(test)]
-mod tests;
