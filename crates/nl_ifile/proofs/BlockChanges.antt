@@ -3,7 +3,7 @@ use Rattle.std.proofs.Common.{◌≡◌, ◌≢◌, ℕ, ◌+◌, ◌-◌, ◌*�
 use Rattle.std.proofs.Math.Seq.{take-add}
 use Rattle.std.specs.List.{All, Contains}
 use Rattle.std.proofs.lemmas.Bool.{cases_eq}
-use Rattle.std.proofs.lemmas.List.{get_or-drop, get_or-map, get_or-take, length-append, length-map, length-take, take_all}
+use Rattle.std.proofs.lemmas.List.{get_or-drop, get_or-map, get_or-take, length-map, length-take, take_all}
 use Rattle.std.proofs.lemmas.List.Elements.{All-append, All-push}
 use Rattle.std.proofs.lemmas.List.Quantifiers.{all_pairs_push}
 use Rattle.nl_layout.specs.Inode.{EntryFits}
@@ -21,7 +21,7 @@ use Rattle.nl_ifile.proofs.Changes.{changed-absent, changed-append, changed-cong
 pub block_changes-none : (pages : ℕ → Option (List ℕ)) (inodes : Inodes) (changes : List InodeChange) → ((i : ℕ) → pages i ≡ block_for (in_block inodes i)) → AreFirstBlockChanges pages inodes changes 0 []
 block_changes-none pages inodes changes file = record {
   within = omega arith;
-  blocks_are = record { ascending = λ i j d l m. absurd (omega arith); in_range = λ k d l. absurd (omega arith); become = file; fits = λ k d l. absurd (omega arith); few = omega arith; below = λ e h k d l. absurd (omega arith) };
+  blocks_are = record { ascending = λ i j d l m. absurd (omega arith); in_range = λ k d l. absurd (omega arith); become = file; fits = λ k d l. absurd (omega arith) };
   lower = λ next l k d m. absurd (omega arith);
   apart = λ next l k d m. absurd (omega arith);
 }
@@ -93,23 +93,6 @@ module _ (pages : ℕ → Option (List ℕ)) (inodes : Inodes) (changes : List I
       ∙ (before.blocks_are.become j
       ∙ block_for-cong (in_block (changed (take start changes) inodes) j) (in_block (changed (take end changes) inodes) j) (λ p l. outside (8 * j + p) (λ e. n (omega (arith, e, index)))))
 
-  few : length (blocks ++ b ∷ []) ≤ length (take end changes)
-  few = omega (arith, before.blocks_are.few, length-take start changes, length-take end changes, length-append blocks (b ∷ []))
-
-  -- the first changes are among more of them
-  earlier : (e : ℕ) → All (λ c. c.number < 8 * e) (take end changes) → All (λ c. c.number < 8 * e) (take start changes)
-  earlier e h k d l =
-      let near : k < start = omega (arith, l, length-take start changes) in
-      let less = h k d (omega (arith, near, length-take end changes)) in
-      let here : (get_or (take start changes) k d).number ≡ (get_or (take end changes) k d).number = ap (λ (c : InodeChange). c.number) (get_or-take start changes k d near ∙ sym (get_or-take end changes k d (omega arith))) in
-      omega (arith, less, here)
-
-  this : (e : ℕ) → All (λ c. c.number < 8 * e) (take end changes) → b.index < e
-  this e h =
-      let less = h start none (omega (arith, length-take end changes)) in
-      let here : (get_or (take end changes) start none).number ≡ (get_or changes start none).number = ap (λ (c : InodeChange). c.number) (get_or-take end changes start none low) in
-      omega (arith, less, here, first none, index)
-
   -- one more block
   pub block_changes-more : AreFirstBlockChanges pages inodes changes end (blocks ++ b ∷ [])
   unfolding these
@@ -117,11 +100,9 @@ module _ (pages : ℕ → Option (List ℕ)) (inodes : Inodes) (changes : List I
     within = high;
     blocks_are = record {
       ascending = all_pairs_push (λ (x y : BlockChange). x.index < y.index) blocks b before.blocks_are.ascending (λ k d l. let less = lower_blocks k d l in omega (arith, less, index));
-      in_range = All-push (λ (x : BlockChange). x.index < 65536) blocks b before.blocks_are.in_range (omega (arith, index));
+      in_range = All-push (λ (x : BlockChange). x.index < 262144) blocks b before.blocks_are.in_range (omega (arith, index));
       become = λ j. become j (cases_eq j b.index);
       fits = subst (λ (cs : List InodeChange). All (λ c. EntryFits (entry_for c.inode)) cs) (sym split) (All-append (λ (c : InodeChange). EntryFits (entry_for c.inode)) (take start changes) these before.blocks_are.fits fits);
-      few = few;
-      below = λ e h. All-push (λ (x : BlockChange). x.index < e) blocks b (before.blocks_are.below e (earlier e h)) (this e h);
     };
     lower = λ next l. All-push (λ (x : BlockChange). x.index < (get_or changes end next).number / 8) blocks b (λ k d m. let less = lower_blocks k d m in omega (arith, less, stop next l)) (omega (arith, index, stop next l));
     apart = λ next l.

@@ -1,5 +1,5 @@
 -- Changes of inodes.
-use Rattle.std.specs.Prelude.{◌≡◌, ℕ, ◌*◌, ◌==◌, ◌<◌, if◌then◌else◌, ◌/◌, ◌≤◌, get_or, length, take, Option, List, [], ◌∷◌}
+use Rattle.std.specs.Prelude.{◌≡◌, ℕ, ◌==◌, ◌<◌, if◌then◌else◌, ◌/◌, ◌≤◌, get_or, length, take, Option, List, [], ◌∷◌}
 use Rattle.std.specs.List.{All, AllPairs}
 use Rattle.nl_types.specs.Entries.{Content}
 use Rattle.nl_types.specs.Roots.{Root, pages_of}
@@ -39,8 +39,6 @@ pub record AreBlockChanges (pages : ℕ → Option (List ℕ)) (inodes : Inodes)
   pub in_range : files.AreInRange blocks
   pub become : (i : ℕ) → files.changed blocks pages i ≡ block_for (in_block (changed changes inodes) i)
   pub fits : All (λ c. EntryFits (entry_for c.inode)) changes
-  pub few : length blocks ≤ length changes
-  pub below : (end : ℕ) → All (λ c. c.number < 8 * end) changes → All (λ b. b.index < end) blocks
 
 -- the same of the first changes, where none of the others is in a block that they touch
 pub record AreFirstBlockChanges (pages : ℕ → Option (List ℕ)) (inodes : Inodes) (changes : List InodeChange) (count : ℕ) (blocks : List BlockChange) : Type 0 where

@@ -1,6 +1,6 @@
 //! The blocks that changes of inodes touch.
 ghost use Rattle.std.specs.Prelude.{◌≡◌, ◌≤◌, ◌<◌, ◌/◌, ℕ, Option, length, get_or, take, drop, All, IfOk, IfErr};
-ghost use Rattle.nl_types.specs.Roots.{page_at, pages_of};
+ghost use Rattle.nl_types.specs.Roots.{page_at};
 ghost use Rattle.nl_layout.specs.Root.{root_of};
 ghost use Rattle.nl_layout.specs.Inode.{EntryFits};
 ghost use Rattle.nl_layout.specs.declared.inode.Inode.{Inode};
@@ -23,10 +23,10 @@ pub(crate) fn changed_blocks<V: VRead>(
     root: &Root,
     changes: &[InodeChange],
 ) -> Result<Vec<BlockChange>, VolError>
-    requires inodes { IsInodeFile (pages_of (V.content store.now)) (root_of root.now) }
+    requires inodes { IsInodeFile (V.pages store.now) (root_of root.now) }
     requires ascending { AreAscending changes.now }
     requires in_range { AreInRange changes.now }
-    ensures ok { IfOk result (λ blocks. AreBlockChanges (page_at (pages_of (V.content store.now)) (root_of root.now)) (inode_at (pages_of (V.content store.now)) (root_of root.now)) changes.now blocks.items) }
+    ensures ok { IfOk result (λ blocks. AreBlockChanges (page_at (V.pages store.now) (root_of root.now)) (inode_at (V.pages store.now) (root_of root.now)) changes.now blocks.items) }
     ensures err { IfErr result (λ e. e ≡ VolError.Memory) }
 {
     let mut blocks = Vec::new(alloc);
@@ -65,11 +65,11 @@ fn changed_block<V: VRead>(
     index: u64,
     changes: &[InodeChange],
 ) -> Result<BlockChange, VolError>
-    requires inodes { IsInodeFile (pages_of (V.content store.now)) (root_of root) }
+    requires inodes { IsInodeFile (V.pages store.now) (root_of root) }
     requires ascending { AreAscending changes.now }
     requires inside { All (λ c. c.number / 8 ≡ index) changes.now }
     ensures index { IfOk result (λ change. change.index ≡ index) }
-    ensures page { IfOk result (λ change. change.page ≡ block_for (in_block (changed changes.now (inode_at (pages_of (V.content store.now)) (root_of root))) index)) }
+    ensures page { IfOk result (λ change. change.page ≡ block_for (in_block (changed changes.now (inode_at (V.pages store.now) (root_of root))) index)) }
     ensures fits { IfOk result (λ _. All (λ c. EntryFits (entry_for c.inode)) changes.now) }
     ensures err { IfErr result (λ e. e ≡ VolError.Memory) }
 {
@@ -87,8 +87,8 @@ fn changed_block<V: VRead>(
 
 /// The bytes of a block, zeros where it isn't there, which are eight free entries.
 fn old_bytes<V: VRead>(store: &V, root: Root, index: u64) -> [u8; BLOCK_SIZE]
-    requires { IsInodeFile (pages_of (V.content store.now)) (root_of root) }
-    ensures { result ≡ block_bytes (in_block (inode_at (pages_of (V.content store.now)) (root_of root)) index) }
+    requires { IsInodeFile (V.pages store.now) (root_of root) }
+    ensures { result ≡ block_bytes (in_block (inode_at (V.pages store.now) (root_of root)) index) }
 {
     match get(store, root, index) {
         Some(page) => *page.bytes(),

@@ -1,10 +1,9 @@
 //! Free inode numbers.
 ghost use Rattle.std.specs.Prelude.{◌≡◌, ◌<◌, ◌≤◌, MatchOption, option_copied};
-ghost use Rattle.nl_types.specs.Roots.{pages_of};
 ghost use Rattle.nl_layout.specs.Root.{root_of};
 ghost use Rattle.nl_ifile.specs.Inodes.{inode_at};
 ghost use Rattle.nl_ifile.specs.Changing.{AreAscending, changed};
-ghost use Rattle.nl_ifile.specs.Free.{AreInUse, AreInUseFrom, IsFreeInBlock, IsLowestFree, change_at, block_end, inode_of_page};
+ghost use Rattle.nl_ifile.specs.Free.{AreInUseFrom, IsFreeInBlock, IsLowestFreeFrom, change_at, block_end, inode_of_page};
 
 use crate::change::InodeChange;
 use crate::read::{INODES_PER_BLOCK, inode_in_page};
@@ -19,20 +18,17 @@ pub const FIRST_INODE: u64 = 11;
 /// The greatest number of an inode.
 pub const LAST_INODE: u64 = 524_287;
 
-/// The lowest number from 11 on that is free when the changes are made, or none where all up to 524,287 are in use. The search
-/// begins at `from`, below which all of them have to be in use: a caller that takes one number after another begins
-/// behind the last one, and so reads each block once. It takes no memory.
+/// The lowest number from `from` on that is free when the changes are made, or none where all up to 524,287 are in use. It
+/// takes no memory.
 pub fn next_ino<V: VRead>(
     store: &V,
     root: Root,
     changes: &[InodeChange],
     from: InodeNumber,
 ) -> Option<InodeNumber>
-    requires ascending { AreAscending changes.now }
-    requires first { 11 ≤ from }
-    requires taken { AreInUse (changed changes.now (inode_at (pages_of (V.content store.now)) (root_of root))) from }
-    ensures { MatchOption result (AreInUse (changed changes.now (inode_at (pages_of (V.content store.now)) (root_of root))) 524288)
-        (IsLowestFree (changed changes.now (inode_at (pages_of (V.content store.now)) (root_of root)))) }
+    requires { AreAscending changes.now }
+    ensures { MatchOption result (AreInUseFrom (changed changes.now (inode_at (V.pages store.now) (root_of root))) from 524288)
+        (IsLowestFreeFrom (changed changes.now (inode_at (V.pages store.now) (root_of root))) from) }
 {
     for block in from.get() / INODES_PER_BLOCK..LAST_INODE / INODES_PER_BLOCK + 1 {
         let first = from.get().max(block * INODES_PER_BLOCK);
@@ -53,8 +49,8 @@ fn free_in_block<V: VRead>(
 ) -> Option<InodeNumber>
     requires ascending { AreAscending changes.now }
     requires in_range { first < 524288 }
-    ensures { MatchOption result (AreInUseFrom (changed changes.now (inode_at (pages_of (V.content store.now)) (root_of root.now))) first (block_end first))
-        (IsFreeInBlock (changed changes.now (inode_at (pages_of (V.content store.now)) (root_of root.now))) first) }
+    ensures { MatchOption result (AreInUseFrom (changed changes.now (inode_at (V.pages store.now) (root_of root.now))) first (block_end first))
+        (IsFreeInBlock (changed changes.now (inode_at (V.pages store.now) (root_of root.now))) first) }
 {
     free_on_page(get(store, *root, first / INODES_PER_BLOCK), changes, first)
 }

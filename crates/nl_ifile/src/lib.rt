@@ -12,12 +12,3 @@ pub use change::InodeChange;
 pub use free::{FIRST_INODE, LAST_INODE, next_ino};
 pub use put::{INODE_FILE, put_inodes};
 pub use read::inode;
-
-#[cfg(test)]
-mod free_tests;
-#[cfg(test)]
-mod put_tests;
-#[cfg(test)]
-mod read_tests;
-#[cfg(test)]
-mod shelf;

@@ -1,7 +1,7 @@
 use Rattle.std.proofs.Common.{◌≡◌, ◌/◌, ◌<◌, ℕ, List, length, get_or, sym, subst, ap, ◌∙◌, arith}
 use Rattle.std.proofs.lemmas.List.{get_or_default}
 use Rattle.nl_blocktree.specs.declared.change.BlockChange.{BlockChange}
-use Rattle.nl_types.specs.Roots.{page_at, pages_of}
+use Rattle.nl_types.specs.Roots.{page_at}
 use Rattle.nl_layout.specs.Root.{root_of}
 use Rattle.nl_ifile.specs.declared.change.InodeChange.{InodeChange}
 use Rattle.nl_ifile.specs.Inodes.{inode_at}
@@ -15,7 +15,7 @@ loop-start-preserved g c =
     let l : c.loop-start.start < length c.args.changes.now = omega arith in
     let number : (get_or c.args.changes.now c.loop-start.start item).number / 8 ≡ c.get-index.result / 8 = ap (λ (n : ℕ). n / 8) (sym c.get-index.ensures) in
     let low = c.requires.in_range c.loop-start.start item l in
-    subst (λ (blocks : List BlockChange). AreFirstBlockChanges (page_at (pages_of (g.V.VRead.content c.args.store.now)) (root_of c.args.root.now)) (inode_at (pages_of (g.V.VRead.content c.args.store.now)) (root_of c.args.root.now)) c.args.changes.now c.end_of_block-end.result blocks)
+    subst (λ (blocks : List BlockChange). AreFirstBlockChanges (page_at (g.V.VRead.pages c.args.store.now) (root_of c.args.root.now)) (inode_at (g.V.VRead.pages c.args.store.now) (root_of c.args.root.now)) c.args.changes.now c.end_of_block-end.result blocks)
     (sym c.in_ok-push.ensures.items)
     (block_changes-more _ _ c.args.changes.now c.loop-start.start c.end_of_block-end.result _ _ (c.get-index.result / 8) c.loop-start.invariant
     c.end_of_block-end.ensures.more c.end_of_block-end.ensures.within
