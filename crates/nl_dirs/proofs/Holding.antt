@@ -7,8 +7,8 @@ use Rattle.std.proofs.lemmas.List.Elements.{All-nil, All-cons}
 use Rattle.std.proofs.lemmas.Grind.{common_steps}
 use Rattle.byteorder.specs.Endian.{little_bytes, little_number}
 use Rattle.nl_types.specs.Paths.{Name, same_name}
-use Rattle.nl_dirs.specs.declared.record.EntryKind.{EntryKind}
-use Rattle.nl_dirs.specs.declared.record.EntryKind.TheVariants.{File, Directory}
+use Rattle.nl_types.specs.declared.kind.Kind.{Kind}
+use Rattle.nl_types.specs.declared.kind.Kind.TheVariants.{File, Directory}
 use Rattle.nl_dirs.specs.declared.record.Record.{Record}
 use Rattle.nl_dirs.specs.Records.{AreBytes, Begins, BeginsNone, Holds, entry_of, RecordFits, kind_code, record_bytes, size_of}
 use Rattle.nl_dirs.specs.Listings.{first_name_of}
@@ -36,15 +36,15 @@ IsSplit bytes = BeginsNone bytes ⊎ ((r : Record) × (behind : List ℕ) × Beg
 short-BeginsNone : (bytes : List ℕ) → length bytes < 6 → BeginsNone bytes
 short-BeginsNone bytes short r behind fits e = omega (arith, ap length e)
 
-of_kind : (k : ℕ) → ((kind : EntryKind) × (k ≡ kind_code kind)) ⊎ ((kind : EntryKind) → k ≢ kind_code kind)
+of_kind : (k : ℕ) → ((kind : Kind) × (k ≡ kind_code kind)) ⊎ ((kind : Kind) → k ≢ kind_code kind)
 of_kind k = cases_of (cases_eq k 1) (cases_eq k 2)
   where
-    cases_of : ((k ≡ 1) ⊎ (k ≢ 1)) → ((k ≡ 2) ⊎ (k ≢ 2)) → ((kind : EntryKind) × (k ≡ kind_code kind)) ⊎ ((kind : EntryKind) → k ≢ kind_code kind)
+    cases_of : ((k ≡ 1) ⊎ (k ≢ 1)) → ((k ≡ 2) ⊎ (k ≢ 2)) → ((kind : Kind) × (k ≡ kind_code kind)) ⊎ ((kind : Kind) → k ≢ kind_code kind)
     cases_of (inl e) q = inl (File, e)
     cases_of (inr n) (inl e) = inl (Directory, e)
     cases_of (inr n) (inr m) = inr other
       where
-        other : (kind : EntryKind) → k ≢ kind_code kind
+        other : (kind : Kind) → k ≢ kind_code kind
         other File = n
         other Directory = m
 
@@ -56,7 +56,7 @@ four-lt : (a b c d : ℕ) → a < 256 → b < 256 → c < 256 → d < 256 → li
 four-lt a b c d p q r s = omega arith
 
 -- the head of six bytes and its name
-spelled : (a b c d l : ℕ) (kind : EntryKind) (rest : List ℕ) → a < 256 → b < 256 → c < 256 → d < 256 → l < 256 → 0 < l → l ≤ length rest
+spelled : (a b c d l : ℕ) (kind : Kind) (rest : List ℕ) → a < 256 → b < 256 → c < 256 → d < 256 → l < 256 → 0 < l → l ≤ length rest
     → (r : Record) × (behind : List ℕ) × Begins (a ∷ b ∷ c ∷ d ∷ kind_code kind ∷ l ∷ rest) r behind
 spelled a b c d l kind rest p q r s small some long =
     let inode : ℕ = little_number 4 (a ∷ b ∷ c ∷ d ∷ []) in
@@ -72,7 +72,7 @@ spelled a b c d l kind rest p q r s small some long =
     join : {us vs names ms : List ℕ} {m n : ℕ} (k : ℕ) → us ≡ vs → n ≡ m → names ≡ ms → vs ++ k ∷ m ∷ ms ≡ us ++ k ∷ n ∷ names
     join k e f g = cc
 
-no_kind : (a b c d k l : ℕ) (rest : List ℕ) → ((kind : EntryKind) → k ≢ kind_code kind) → BeginsNone (a ∷ b ∷ c ∷ d ∷ k ∷ l ∷ rest)
+no_kind : (a b c d k l : ℕ) (rest : List ℕ) → ((kind : Kind) → k ≢ kind_code kind) → BeginsNone (a ∷ b ∷ c ∷ d ∷ k ∷ l ∷ rest)
 no_kind a b c d k l rest other r behind fits e = other r.kind (ap (λ (xs : List ℕ). slice_index xs 4) e)
 
 no_name : (a b c d k : ℕ) (rest : List ℕ) → BeginsNone (a ∷ b ∷ c ∷ d ∷ k ∷ 0 ∷ rest)
@@ -89,7 +89,7 @@ pub split : (bytes : List ℕ) → AreBytes bytes → IsSplit bytes
 split (a ∷ b ∷ c ∷ d ∷ k ∷ zero ∷ rest) small = inl (no_name a b c d k rest)
 split (a ∷ b ∷ c ∷ d ∷ k ∷ suc l ∷ rest) small = of_code (of_kind k) (cases_lt (length rest) (suc l))
   where
-    of_code : ((kind : EntryKind) × (k ≡ kind_code kind)) ⊎ ((kind : EntryKind) → k ≢ kind_code kind) → ((length rest < suc l) ⊎ (suc l ≤ length rest)) → IsSplit (a ∷ b ∷ c ∷ d ∷ k ∷ suc l ∷ rest)
+    of_code : ((kind : Kind) × (k ≡ kind_code kind)) ⊎ ((kind : Kind) → k ≢ kind_code kind) → ((length rest < suc l) ⊎ (suc l ≤ length rest)) → IsSplit (a ∷ b ∷ c ∷ d ∷ k ∷ suc l ∷ rest)
     of_code (inr other) q = inl (no_kind a b c d k (suc l) rest other)
     of_code (inl kind) (inl short) = inl (no_room a b c d k (suc l) rest short)
     of_code (inl kind) (inr long) = inr (subst (λ (code : ℕ). (r : Record) × (behind : List ℕ) × Begins (a ∷ b ∷ c ∷ d ∷ code ∷ suc l ∷ rest) r behind) (sym kind.1)

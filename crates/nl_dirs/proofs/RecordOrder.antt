@@ -11,7 +11,7 @@ use Rattle.std.specs.declared.cmp.Ordering.TheVariants.{Less, Equal, Greater}
 use Rattle.std.proofs.lemmas.Bool.{cond-true, cond-false}
 use Rattle.std.proofs.lemmas.List.Elements.{All-head, All-tail, All-weaker, All-cons, All-nil}
 use Rattle.nl_types.specs.Paths.{Name, name_cmp, same_name}
-use Rattle.nl_dirs.specs.declared.record.EntryKind.{EntryKind}
+use Rattle.nl_types.specs.declared.kind.Kind.{Kind}
 use Rattle.nl_dirs.specs.declared.record.Record.{Record}
 use Rattle.nl_dirs.specs.Records.{AreAscending, entry_of}
 
@@ -91,18 +91,18 @@ entry_of-front name (x ∷ xs) ys h = ap (cond (same_name name x.name) (Some (x.
 
 -- ---- lists with the same map
 
-same_record : (x y : Record) → x.name ≡ y.name → ◌≡◌ {A = Option (ℕ × EntryKind)} (Some (x.inode, x.kind)) (Some (y.inode, y.kind)) → x ≡ y
+same_record : (x y : Record) → x.name ≡ y.name → ◌≡◌ {A = Option (ℕ × Kind)} (Some (x.inode, x.kind)) (Some (y.inode, y.kind)) → x ≡ y
 same_record x y n e =
-    let pairs : ◌≡◌ {A = ℕ × EntryKind} (x.inode, x.kind) (y.inode, y.kind) = cc in
-    let inodes : x.inode ≡ y.inode = ap (λ (p : ℕ × EntryKind). p.0) pairs in
-    let kinds : x.kind ≡ y.kind = ap (λ (p : ℕ × EntryKind). p.1) pairs in
+    let pairs : ◌≡◌ {A = ℕ × Kind} (x.inode, x.kind) (y.inode, y.kind) = cc in
+    let inodes : x.inode ≡ y.inode = ap (λ (p : ℕ × Kind). p.0) pairs in
+    let kinds : x.kind ≡ y.kind = ap (λ (p : ℕ × Kind). p.1) pairs in
     λ i. record { name = n i; inode = inodes i; kind = kinds i }
 
 -- two lists that ascend and have the same map are the same list
 pub same_records : (xs ys : List Record) → AreAscending xs → AreAscending ys → ((name : Name) → entry_of name xs ≡ entry_of name ys) → xs ≡ ys
 same_records [] [] a b h = refl
-same_records [] (y ∷ ys) a b h = let e : ◌≡◌ {A = Option (ℕ × EntryKind)} None (Some (y.inode, y.kind)) = h y.name ∙ entry_of-first y ys in cc
-same_records (x ∷ xs) [] a b h = let e : ◌≡◌ {A = Option (ℕ × EntryKind)} (Some (x.inode, x.kind)) None = sym (entry_of-first x xs) ∙ h x.name in cc
+same_records [] (y ∷ ys) a b h = let e : ◌≡◌ {A = Option (ℕ × Kind)} None (Some (y.inode, y.kind)) = h y.name ∙ entry_of-first y ys in cc
+same_records (x ∷ xs) [] a b h = let e : ◌≡◌ {A = Option (ℕ × Kind)} (Some (x.inode, x.kind)) None = sym (entry_of-first x xs) ∙ h x.name in cc
 same_records (x ∷ xs) (y ∷ ys) a b h = choose (name_cmp x.name y.name) refl
     (λ n. same_records xs ys (ascending-tail x xs a) (ascending-tail y ys b) (λ name. tails n name (same_name name x.name) refl))
   where

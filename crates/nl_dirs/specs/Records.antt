@@ -8,8 +8,8 @@ use Rattle.std.specs.List.{All, AllPairs, flat_map}
 use Rattle.std.specs.declared.cmp.Ordering.TheVariants.{Less}
 use Rattle.byteorder.specs.Endian.{little_bytes}
 use Rattle.nl_types.specs.Paths.{Name, name_cmp, same_name}
-use Rattle.nl_dirs.specs.declared.record.EntryKind.{EntryKind}
-use Rattle.nl_dirs.specs.declared.record.EntryKind.TheVariants.{File, Directory}
+use Rattle.nl_types.specs.declared.kind.Kind.{Kind}
+use Rattle.nl_types.specs.declared.kind.Kind.TheVariants.{File, Directory}
 use Rattle.nl_dirs.specs.declared.record.Record.{Record}
 
 -- what has a spelling: a name of 1 to 255 bytes, and an inode number of 4 bytes
@@ -18,7 +18,7 @@ pub record RecordFits (r : Record) : Type 0 where
   pub most : length r.name ≤ 255
   pub inode : r.inode < 2 ^ 32
 
-abbrev pub kind_code : EntryKind → ℕ
+abbrev pub kind_code : Kind → ℕ
 kind_code File = 1
 kind_code Directory = 2
 
@@ -40,7 +40,7 @@ page_of records = flat_map record_bytes records ++ replicate (1024 - sizes recor
 -- ---- a directory as a map
 
 -- what the name stands for: the inode and kind of the first record of it
-abbrev pub entry_of : Name → List Record → Option (ℕ × EntryKind)
+abbrev pub entry_of : Name → List Record → Option (ℕ × Kind)
 entry_of name [] = None
 entry_of name (r ∷ records) = cond (same_name name r.name) (Some (r.inode, r.kind)) (entry_of name records)
 

@@ -2,8 +2,8 @@
 ghost use Rattle.std.specs.Prelude.{◌≡◌, IsTrue};
 ghost use Rattle.nl_dirs.specs.Records.{AllFit};
 
-use crate::{EntryKind, Record, pack};
-use nl_types::{BLOCK_SIZE, Block, InodeNumber, Items, VolError};
+use crate::{Record, pack};
+use nl_types::{BLOCK_SIZE, Block, InodeNumber, Items, Kind, VolError};
 use std::alloc::{AllocError, Global};
 use std::test::Fail;
 
@@ -20,7 +20,7 @@ fn all_fit(records: &[Record]) -> bool
     true
 }
 
-fn record(alloc: Global, name: &[u8], inode: u64, kind: EntryKind) -> Result<Record, AllocError> {
+fn record(alloc: Global, name: &[u8], inode: u64, kind: Kind) -> Result<Record, AllocError> {
     Ok(Record {
         name: Items::from_slice(alloc, name)?,
         inode: InodeNumber::new(inode),
@@ -29,7 +29,7 @@ fn record(alloc: Global, name: &[u8], inode: u64, kind: EntryKind) -> Result<Rec
 }
 
 fn file(alloc: Global, name: &[u8], inode: u64) -> Result<Record, AllocError> {
-    record(alloc, name, inode, EntryKind::File)
+    record(alloc, name, inode, Kind::File)
 }
 
 /// The name of 250 bytes that begins with the number in decimal digits.
@@ -121,9 +121,9 @@ fn records_are_spelled_one_behind_the_other(rt: HostRuntime) -> Result<(), Fail>
     let alloc = rt.alloc();
     let mut records = Vec::new(alloc);
     records.push(file(alloc, b"a", 0x0102_0304)?)?;
-    records.push(record(alloc, b"b/", 5, EntryKind::Directory)?)?;
+    records.push(record(alloc, b"b/", 5, Kind::Directory)?)?;
     records.push(file(alloc, &[0x7f, 0x80, 0xff], 0xffff_ffff)?)?;
-    records.push(record(alloc, &[0xff; 255], 0x8000_0000, EntryKind::Directory)?)?;
+    records.push(record(alloc, &[0xff; 255], 0x8000_0000, Kind::Directory)?)?;
     let due = [
         4, 3, 2, 1, 1, 1, b'a', 5, 0, 0, 0, 2, 2, b'b', b'/', 0xff, 0xff, 0xff, 0xff, 1, 3, 0x7f,
         0x80, 0xff, 0, 0, 0, 0x80, 2, 255,

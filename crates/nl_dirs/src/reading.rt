@@ -8,8 +8,8 @@ ghost use Rattle.nl_dirs.specs.declared.record.Record.{Record};
 ghost use Rattle.nl_dirs.specs.Records.{AreAscending, AreBytes, Holds, IsPageOf, entry_of};
 ghost use Rattle.nl_dirs.specs.Listings.{first_name_of};
 
-use crate::record::{EntryKind, Record, split_record};
-use nl_types::{BLOCK_SIZE, InodeNumber, Page, VolError};
+use crate::record::{Record, split_record};
+use nl_types::{BLOCK_SIZE, InodeNumber, Kind, Page, VolError};
 use std::alloc::Global;
 
 /// The bytes of a page, as a slice whose length and range are known.
@@ -50,7 +50,7 @@ fn are_zeros(bytes: &[u8]) -> bool
 
 /// What the name stands for in a page of a directory, if the page has a record of it: the first one, on any page. It
 /// takes no memory.
-pub fn find(page: &Page, name: &[u8]) -> Option<(InodeNumber, EntryKind)>
+pub fn find(page: &Page, name: &[u8]) -> Option<(InodeNumber, Kind)>
     ensures { (records : List Record) × Holds page.now records × (result ≡ entry_of name.now records) }
 {
     let mut rest = bytes_of(page);
@@ -71,6 +71,19 @@ pub fn first_name(page: &Page) -> Option<&[u8]>
         Some((record, _)) => Some(record.name),
         None => None,
     }
+}
+
+/// How many records a page begins with, on any page. It takes no memory.
+pub fn record_count(page: &Page) -> usize
+    ensures { (records : List Record) × Holds page.now records × (result ≡ length records) }
+{
+    let mut rest = bytes_of(page);
+    let mut count = 0;
+    while let Some((_, behind)) = split_record(rest) {
+        count += 1;
+        rest = behind;
+    }
+    count
 }
 
 /// The records of a page of a directory, in the order of their names. None where it isn't such a page: no record begins

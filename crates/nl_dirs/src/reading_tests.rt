@@ -1,6 +1,6 @@
 //! Pages written byte by byte, among them pages that no directory has.
-use crate::{EntryKind, Record, find, first_name, records};
-use nl_types::{BLOCK_SIZE, Block, InodeNumber, Page, VolError};
+use crate::{Record, find, first_name, records};
+use nl_types::{BLOCK_SIZE, Block, InodeNumber, Kind, Page, VolError};
 use std::alloc::Global;
 
 /// The page that begins with the bytes, which are followed by zeros.
@@ -25,15 +25,15 @@ const TWO: [u8; 16] = [
     5, 0, 0, 0, 2, 2, b'a', b'c',
 ];
 
-fn is_record(record: &Record, name: &[u8], inode: u64, kind: EntryKind) -> bool {
+fn is_record(record: &Record, name: &[u8], inode: u64, kind: Kind) -> bool {
     record.name.as_slice() == name && record.inode == InodeNumber::new(inode) && record.kind == kind
 }
 
 #[test]
 fn two_records_are_found(rt: HostRuntime) -> Result<(), VolError> {
     let page = page_of(rt.alloc(), &TWO)?;
-    let file = Some((InodeNumber::new(50_331_906), EntryKind::File));
-    let directory = Some((InodeNumber::new(5), EntryKind::Directory));
+    let file = Some((InodeNumber::new(50_331_906), Kind::File));
+    let directory = Some((InodeNumber::new(5), Kind::Directory));
     assert!(rt; find(&page, b"ab") == file);
     assert!(rt; find(&page, b"ac") == directory);
     assert!(rt; first_name(&page) == Some(b"ab".as_slice()));
@@ -56,8 +56,8 @@ fn two_records_are_read(rt: HostRuntime) -> Result<(), VolError> {
         return Err(VolError::NotFound);
     };
     assert_eq!(rt; read.len(), 2);
-    assert!(rt; is_record(&read[0], b"ab", 50_331_906, EntryKind::File));
-    assert!(rt; is_record(&read[1], b"ac", 5, EntryKind::Directory));
+    assert!(rt; is_record(&read[0], b"ab", 50_331_906, Kind::File));
+    assert!(rt; is_record(&read[1], b"ac", 5, Kind::Directory));
     Ok(())
 }
 
@@ -83,8 +83,8 @@ fn longest_name() -> [u8; 268] {
 #[test]
 fn names_have_1_to_255_bytes(rt: HostRuntime) -> Result<(), VolError> {
     let page = page_of(rt.alloc(), &longest_name())?;
-    let longest = Some((InodeNumber::new(4_294_967_295), EntryKind::Directory));
-    let shortest = Some((InodeNumber::new(9), EntryKind::File));
+    let longest = Some((InodeNumber::new(4_294_967_295), Kind::Directory));
+    let shortest = Some((InodeNumber::new(9), Kind::File));
     assert!(rt; find(&page, &[b'n'; 255]) == longest);
     assert!(rt; find(&page, &[b'n'; 254]).is_none());
     assert!(rt; find(&page, &[b'n'; 256]).is_none());
@@ -94,8 +94,8 @@ fn names_have_1_to_255_bytes(rt: HostRuntime) -> Result<(), VolError> {
         return Err(VolError::NotFound);
     };
     assert_eq!(rt; read.len(), 2);
-    assert!(rt; is_record(&read[0], &[b'n'; 255], 4_294_967_295, EntryKind::Directory));
-    assert!(rt; is_record(&read[1], b"o", 9, EntryKind::File));
+    assert!(rt; is_record(&read[0], &[b'n'; 255], 4_294_967_295, Kind::Directory));
+    assert!(rt; is_record(&read[1], b"o", 9, Kind::File));
     Ok(())
 }
 
@@ -146,7 +146,7 @@ fn nearly_full() -> [u8; BLOCK_SIZE] {
 #[test]
 fn a_record_ends_within_its_page(rt: HostRuntime) -> Result<(), VolError> {
     let full = page_of(rt.alloc(), &nearly_full())?;
-    let last = Some((InodeNumber::new(8), EntryKind::File));
+    let last = Some((InodeNumber::new(8), Kind::File));
     assert!(rt; find(&full, &[b'd'; 249]) == last);
     assert!(rt; matches!(&records(rt.alloc(), &full)?, Some(list) if list.len() == 4));
     for length in [254, 255] {
@@ -177,7 +177,7 @@ fn a_name_twice_is_found_once_and_no_page(rt: HostRuntime) -> Result<(), VolErro
         6, 0, 0, 0, 2, 1, b'b',
     ];
     let page = page_of(rt.alloc(), &twice)?;
-    let first = Some((InodeNumber::new(7), EntryKind::File));
+    let first = Some((InodeNumber::new(7), Kind::File));
     assert!(rt; find(&page, b"b") == first);
     assert!(rt; records(rt.alloc(), &page)?.is_none());
     Ok(())
@@ -190,7 +190,7 @@ fn names_that_descend_are_found_in_no_page(rt: HostRuntime) -> Result<(), VolErr
         6, 0, 0, 0, 2, 1, b'b',
     ];
     let page = page_of(rt.alloc(), &descending)?;
-    let last = Some((InodeNumber::new(6), EntryKind::Directory));
+    let last = Some((InodeNumber::new(6), Kind::Directory));
     assert!(rt; find(&page, b"b") == last);
     assert!(rt; first_name(&page) == Some(b"ba".as_slice()));
     assert!(rt; records(rt.alloc(), &page)?.is_none());
@@ -207,7 +207,7 @@ fn a_byte_behind_the_last_record_is_refused(rt: HostRuntime) -> Result<(), VolEr
         block[6] = b'b';
         block[at] = 1;
         let page = page_of(rt.alloc(), &block)?;
-        let only = Some((InodeNumber::new(7), EntryKind::File));
+        let only = Some((InodeNumber::new(7), Kind::File));
         assert!(rt; find(&page, b"b") == only);
         assert!(rt; records(rt.alloc(), &page)?.is_none(), "at {at}");
     }
