@@ -10,7 +10,7 @@ ghost use Rattle.nl_ifile.specs.Changing.{AreAscending, AreBlockChanges, AreInRa
 
 use crate::change::InodeChange;
 use crate::read::INODES_PER_BLOCK;
-use nl_blocktree::{BlockChange, get};
+use nl_blocktree::{BlockChange, Cursor};
 use nl_dat::VRead;
 use nl_layout::{INODE_SIZE, Inode, InodeEntry, Root};
 use nl_types::{BLOCK_SIZE, Block, Page, VolError};
@@ -29,12 +29,13 @@ pub(crate) fn changed_blocks<V: VRead>(
     ensures ok { IfOk result (λ blocks. AreBlockChanges (page_at (V.pages store.now) (root_of root.now)) (inode_at (V.pages store.now) (root_of root.now)) changes.now blocks.items) }
     ensures err { IfErr result (λ e. e ≡ VolError.Memory) }
 {
+    let mut cursor = Cursor::new(store, *root);
     let mut blocks = Vec::new(alloc);
     let mut start = 0;
     while start < changes.len() {
         let index = changes[start].number.get() / INODES_PER_BLOCK;
         let end = end_of_block(changes, start, index);
-        blocks.push(changed_block(alloc, store, *root, index, &changes[start..end])?)?;
+        blocks.push(changed_block(alloc, &mut cursor, index, &changes[start..end])?)?;
         start = end;
     }
     Ok(blocks)
@@ -60,20 +61,22 @@ fn end_of_block(changes: &[InodeChange], start: usize, index: u64) -> usize
 /// The change of a block that changes of its inodes are. The block goes where none of the eight is in use then.
 fn changed_block<V: VRead>(
     alloc: Global,
-    store: &V,
-    root: Root,
+    cursor: &mut Cursor<'_, V>,
     index: u64,
     changes: &[InodeChange],
 ) -> Result<BlockChange, VolError>
-    requires inodes { IsInodeFile (V.pages store.now) (root_of root) }
+    requires inodes { IsInodeFile (V.pages cursor.old.store.now) (root_of cursor.old.root) }
     requires ascending { AreAscending changes.now }
     requires inside { All (λ c. c.number / 8 ≡ index) changes.now }
     ensures index { IfOk result (λ change. change.index ≡ index) }
-    ensures page { IfOk result (λ change. change.page ≡ block_for (in_block (changed changes.now (inode_at (V.pages store.now) (root_of root))) index)) }
+    ensures page { IfOk result (λ change. change.page ≡ block_for (in_block (changed changes.now
+        (inode_at (V.pages cursor.old.store.now) (root_of cursor.old.root))) index)) }
+    ensures store { cursor.new.store.now ≡ cursor.old.store.now }
+    ensures root { cursor.new.root ≡ cursor.old.root }
     ensures fits { IfOk result (λ _. All (λ c. EntryFits (entry_for c.inode)) changes.now) }
     ensures err { IfErr result (λ e. e ≡ VolError.Memory) }
 {
-    let mut bytes = old_bytes(store, root, index);
+    let mut bytes = old_bytes(cursor, index);
     write_inodes(&mut bytes, changes);
     if bytes == [0; BLOCK_SIZE] {
         return Ok(BlockChange { index, page: None });
@@ -86,11 +89,14 @@ fn changed_block<V: VRead>(
 }
 
 /// The bytes of a block, zeros where it isn't there, which are eight free entries.
-fn old_bytes<V: VRead>(store: &V, root: Root, index: u64) -> [u8; BLOCK_SIZE]
-    requires { IsInodeFile (V.pages store.now) (root_of root) }
-    ensures { result ≡ block_bytes (in_block (inode_at (V.pages store.now) (root_of root)) index) }
+fn old_bytes<V: VRead>(cursor: &mut Cursor<'_, V>, index: u64) -> [u8; BLOCK_SIZE]
+    requires { IsInodeFile (V.pages cursor.old.store.now) (root_of cursor.old.root) }
+    ensures bytes { result ≡ block_bytes (in_block
+        (inode_at (V.pages cursor.old.store.now) (root_of cursor.old.root)) index) }
+    ensures store { cursor.new.store.now ≡ cursor.old.store.now }
+    ensures root { cursor.new.root ≡ cursor.old.root }
 {
-    match get(store, root, index) {
+    match cursor.page_at(index) {
         Some(page) => *page.bytes(),
         None => [0; BLOCK_SIZE],
     }

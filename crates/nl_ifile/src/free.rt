@@ -7,7 +7,7 @@ ghost use Rattle.nl_ifile.specs.Free.{AreInUseFrom, IsFreeInBlock, IsLowestFreeF
 
 use crate::change::InodeChange;
 use crate::read::{INODES_PER_BLOCK, inode_in_page};
-use nl_blocktree::get;
+use nl_blocktree::Cursor;
 use nl_dat::VRead;
 use nl_layout::{Inode, Root};
 use nl_types::{InodeNumber, Page};
@@ -30,9 +30,10 @@ pub fn next_ino<V: VRead>(
     ensures { MatchOption result (AreInUseFrom (changed changes.now (inode_at (V.pages store.now) (root_of root))) from 524288)
         (IsLowestFreeFrom (changed changes.now (inode_at (V.pages store.now) (root_of root))) from) }
 {
+    let mut cursor = Cursor::new(store, root);
     for block in from.get() / INODES_PER_BLOCK..LAST_INODE / INODES_PER_BLOCK + 1 {
         let first = from.get().max(block * INODES_PER_BLOCK);
-        let free = free_in_block(store, &root, changes, first);
+        let free = free_in_block(&mut cursor, changes, first);
         if free.is_some() {
             return free;
         }
@@ -42,17 +43,19 @@ pub fn next_ino<V: VRead>(
 
 /// The lowest free number from `first` on in the block of that number.
 fn free_in_block<V: VRead>(
-    store: &V,
-    root: &Root,
+    cursor: &mut Cursor<'_, V>,
     changes: &[InodeChange],
     first: u64,
 ) -> Option<InodeNumber>
     requires ascending { AreAscending changes.now }
     requires in_range { first < 524288 }
-    ensures { MatchOption result (AreInUseFrom (changed changes.now (inode_at (V.pages store.now) (root_of root.now))) first (block_end first))
-        (IsFreeInBlock (changed changes.now (inode_at (V.pages store.now) (root_of root.now))) first) }
+    ensures found { MatchOption result
+        (AreInUseFrom (changed changes.now (inode_at (V.pages cursor.old.store.now) (root_of cursor.old.root))) first (block_end first))
+        (IsFreeInBlock (changed changes.now (inode_at (V.pages cursor.old.store.now) (root_of cursor.old.root))) first) }
+    ensures store { cursor.new.store.now ≡ cursor.old.store.now }
+    ensures root { cursor.new.root ≡ cursor.old.root }
 {
-    free_on_page(get(store, *root, first / INODES_PER_BLOCK), changes, first)
+    free_on_page(cursor.page_at(first / INODES_PER_BLOCK), changes, first)
 }
 
 /// The lowest free number from `first` on in the block of that number, whose page is given where it is there.
