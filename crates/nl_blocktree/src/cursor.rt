@@ -35,7 +35,8 @@ impl<'a, V: VRead> Cursor<'a, V> {
 
     /// The page of the file at an index, as `get` answers it. It takes no memory.
     pub fn page_at(&mut self, index: u64) -> Option<&'a Page>
-        ensures page { option_copied result ≡ page_at (V.pages self.old.store.now) (root_of self.old.root) index }
+        ensures page { option_copied result ≡
+            page_at (V.pages self.old.store.now) (root_of self.old.root) index }
         ensures store { self.new.store.now ≡ self.old.store.now }
         ensures root { self.new.root ≡ self.old.root }
     {

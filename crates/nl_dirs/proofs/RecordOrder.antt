@@ -13,7 +13,7 @@ use Rattle.std.proofs.lemmas.List.Elements.{All-head, All-tail, All-weaker, All-
 use Rattle.nl_types.specs.Paths.{Name, name_cmp, same_name}
 use Rattle.nl_types.specs.declared.kind.Kind.{Kind}
 use Rattle.nl_dirs.specs.declared.record.Record.{Record}
-use Rattle.nl_dirs.specs.Records.{AreAscending, entry_of}
+use Rattle.nl_dirs.specs.Records.{NamesAscend, entry_of}
 
 -- ---- names
 
@@ -39,13 +39,13 @@ before_not_before a b c h not = choose (name_cmp c b) refl
 abbrev pub IsBeforeAll : Name → List Record → Type 0
 IsBeforeAll name records = All (λ (r : Record). name_cmp name r.name ≡ Less) records
 
-pub ascending-head : (r : Record) (rs : List Record) → AreAscending (r ∷ rs) → IsBeforeAll r.name rs
+pub ascending-head : (r : Record) (rs : List Record) → NamesAscend (r ∷ rs) → IsBeforeAll r.name rs
 ascending-head r rs h k d l = h 0 (suc k) d (omega arith) (omega arith)
 
-pub ascending-tail : (r : Record) (rs : List Record) → AreAscending (r ∷ rs) → AreAscending rs
+pub ascending-tail : (r : Record) (rs : List Record) → NamesAscend (r ∷ rs) → NamesAscend rs
 ascending-tail r rs h i j d lt l = h (suc i) (suc j) d (omega arith) (omega arith)
 
-pub ascending-right : (xs ys : List Record) → AreAscending (xs ++ ys) → AreAscending ys
+pub ascending-right : (xs ys : List Record) → NamesAscend (xs ++ ys) → NamesAscend ys
 ascending-right [] ys h = h
 ascending-right (x ∷ xs) ys h = ascending-right xs ys (ascending-tail x (xs ++ ys) h)
 
@@ -54,7 +54,7 @@ all-right P [] ys h = h
 all-right P (x ∷ xs) ys h = all-right P xs ys (All-tail P x (xs ++ ys) h)
 
 -- the records of the front come before the one behind them
-pub ascending-across : (xs : List Record) (n : Record) (rest : List Record) → AreAscending (xs ++ n ∷ rest) → All (λ (x : Record). name_cmp x.name n.name ≡ Less) xs
+pub ascending-across : (xs : List Record) (n : Record) (rest : List Record) → NamesAscend (xs ++ n ∷ rest) → All (λ (x : Record). name_cmp x.name n.name ≡ Less) xs
 ascending-across [] n rest h = All-nil (λ (x : Record). name_cmp x.name n.name ≡ Less)
 ascending-across (x ∷ xs) n rest h =
     let here : IsBeforeAll x.name (n ∷ rest) = all-right (λ (r : Record). name_cmp x.name r.name ≡ Less) xs (n ∷ rest) (ascending-head x (xs ++ n ∷ rest) h) in
@@ -62,7 +62,7 @@ ascending-across (x ∷ xs) n rest h =
     (ascending-across xs n rest (ascending-tail x (xs ++ n ∷ rest) h))
 
 -- what comes before the first comes before all
-pub before_first : (name : Name) (r : Record) (rs : List Record) → AreAscending (r ∷ rs) → name_cmp name r.name ≡ Less → IsBeforeAll name (r ∷ rs)
+pub before_first : (name : Name) (r : Record) (rs : List Record) → NamesAscend (r ∷ rs) → name_cmp name r.name ≡ Less → IsBeforeAll name (r ∷ rs)
 before_first name r rs h less = All-cons (λ (s : Record). name_cmp name s.name ≡ Less) r rs less
     (All-weaker (λ (s : Record). name_cmp r.name s.name ≡ Less) (λ (s : Record). name_cmp name s.name ≡ Less) (λ s. nat_list_cmp_total.trans name r.name s.name less) rs (ascending-head r rs h))
 
@@ -99,7 +99,7 @@ same_record x y n e =
     λ i. record { name = n i; inode = inodes i; kind = kinds i }
 
 -- two lists that ascend and have the same map are the same list
-pub same_records : (xs ys : List Record) → AreAscending xs → AreAscending ys → ((name : Name) → entry_of name xs ≡ entry_of name ys) → xs ≡ ys
+pub same_records : (xs ys : List Record) → NamesAscend xs → NamesAscend ys → ((name : Name) → entry_of name xs ≡ entry_of name ys) → xs ≡ ys
 same_records [] [] a b h = refl
 same_records [] (y ∷ ys) a b h = let e : ◌≡◌ {A = Option (ℕ × Kind)} None (Some (y.inode, y.kind)) = h y.name ∙ entry_of-first y ys in cc
 same_records (x ∷ xs) [] a b h = let e : ◌≡◌ {A = Option (ℕ × Kind)} (Some (x.inode, x.kind)) None = sym (entry_of-first x xs) ∙ h x.name in cc

@@ -8,7 +8,7 @@ use Rattle.byteorder.specs.Numbers.{little_number-reads_back}
 use Rattle.nl_types.specs.declared.kind.Kind.{Kind}
 use Rattle.nl_types.specs.declared.kind.Kind.TheVariants.{File, Directory}
 use Rattle.nl_dirs.specs.declared.record.Record.{Record}
-use Rattle.nl_dirs.specs.Records.{AllFit, BeginsNone, Holds, RecordFits, kind_code, page_of, record_bytes, sizes}
+use Rattle.nl_dirs.specs.Records.{AllFit, BeginsNone, HoldsList, RecordFits, kind_code, packed_block, record_bytes, sizes}
 use Rattle.nl_dirs.specs.Laws.{BlocksHoldTheirRecords, BytesHoldOneList}
 
 -- ---- one record
@@ -89,8 +89,8 @@ zeros-BeginsNone n r behind fits e =
     no_code File h = absurd (omega arith)
     no_code Directory h = absurd (omega arith)
 
-pub page_of-Holds : (records : List Record) → AllFit records → Holds (page_of records) records
-page_of-Holds records fit = record { fit = fit; rest = replicate (1024 - sizes records) 0; begins = refl; no_more = zeros-BeginsNone (1024 - sizes records) }
+pub packed_block-HoldsList : (records : List Record) → AllFit records → HoldsList (packed_block records) records
+packed_block-HoldsList records fit = record { fit = fit; rest = replicate (1024 - sizes records) 0; begins = refl; no_more = zeros-BeginsNone (1024 - sizes records) }
 
 pub blocks_hold_their_records : BlocksHoldTheirRecords
-blocks_hold_their_records records fit room = page_of-Holds records fit
+blocks_hold_their_records records fit room = packed_block-HoldsList records fit

@@ -5,7 +5,7 @@ ghost use Rattle.std.specs.declared.cmp.Ordering.TheVariants.{Less};
 ghost use Rattle.nl_types.specs.declared.error.VolError;
 ghost use Rattle.nl_types.specs.Paths.{name_cmp, same_name};
 ghost use Rattle.nl_dirs.specs.declared.record.Record.{Record};
-ghost use Rattle.nl_dirs.specs.Records.{AreAscending, AreBytes, Holds, IsPageOf, entry_of};
+ghost use Rattle.nl_dirs.specs.Records.{NamesAscend, AreBytes, HoldsList, IsPageOf, entry_of};
 ghost use Rattle.nl_dirs.specs.Listings.{first_name_of};
 
 use crate::record::{Record, split_record};
@@ -33,7 +33,7 @@ fn is_same(name: &[u8], other: &[u8]) -> bool
 
 /// Whether a name comes behind those of records in ascending order.
 fn is_behind(name: &[u8], records: &[Record]) -> bool
-    requires { AreAscending records.now }
+    requires { NamesAscend records.now }
     ensures { IsTrue result ↔ All (λ r. name_cmp r.name name.now ≡ Less) records.now }
 {
     match records.last() {
@@ -51,7 +51,7 @@ fn are_zeros(bytes: &[u8]) -> bool
 /// What the name stands for in a page of a directory, if the page has a record of it: the first one, on any page. It
 /// takes no memory.
 pub fn find(page: &Page, name: &[u8]) -> Option<(InodeNumber, Kind)>
-    ensures { (records : List Record) × Holds page.now records × (result ≡ entry_of name.now records) }
+    ensures { (records : List Record) × HoldsList page.now records × (result ≡ entry_of name.now records) }
 {
     let mut rest = bytes_of(page);
     while let Some((record, behind)) = split_record(rest) {
@@ -65,7 +65,7 @@ pub fn find(page: &Page, name: &[u8]) -> Option<(InodeNumber, Kind)>
 
 /// The first name of a page, if a record begins it. The first names of a directory's blocks tell which one has a name.
 pub fn first_name(page: &Page) -> Option<&[u8]>
-    ensures { (records : List Record) × Holds page.now records × (option_map (λ name. name.now) result ≡ first_name_of records) }
+    ensures { (records : List Record) × HoldsList page.now records × (option_map (λ name. name.now) result ≡ first_name_of records) }
 {
     match split_record(bytes_of(page)) {
         Some((record, _)) => Some(record.name),
@@ -75,7 +75,7 @@ pub fn first_name(page: &Page) -> Option<&[u8]>
 
 /// How many records a page begins with, on any page. It takes no memory.
 pub fn record_count(page: &Page) -> usize
-    ensures { (records : List Record) × Holds page.now records × (result ≡ length records) }
+    ensures { (records : List Record) × HoldsList page.now records × (result ≡ length records) }
 {
     let mut rest = bytes_of(page);
     let mut count = 0;

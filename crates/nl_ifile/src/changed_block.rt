@@ -6,7 +6,7 @@ ghost use Rattle.nl_layout.specs.Inode.{EntryFits};
 ghost use Rattle.nl_layout.specs.declared.inode.Inode.{Inode};
 ghost use Rattle.nl_ifile.specs.declared.change.InodeChange.{InodeChange};
 ghost use Rattle.nl_ifile.specs.Inodes.{Inodes, IsInodeFile, block_bytes, block_for, entry_for, in_block, inode_at, with_inode};
-ghost use Rattle.nl_ifile.specs.Changing.{AreAscending, AreBlockChanges, AreInRange, changed};
+ghost use Rattle.nl_ifile.specs.Changing.{NumbersAscend, AreBlockChanges, NumbersAreInRange, inodes_with};
 
 use crate::change::InodeChange;
 use crate::read::INODES_PER_BLOCK;
@@ -24,8 +24,8 @@ pub(crate) fn changed_blocks<V: VRead>(
     changes: &[InodeChange],
 ) -> Result<Vec<BlockChange>, VolError>
     requires inodes { IsInodeFile (V.pages store.now) (root_of root.now) }
-    requires ascending { AreAscending changes.now }
-    requires in_range { AreInRange changes.now }
+    requires ascending { NumbersAscend changes.now }
+    requires in_range { NumbersAreInRange changes.now }
     ensures ok { IfOk result (λ blocks. AreBlockChanges (page_at (V.pages store.now) (root_of root.now)) (inode_at (V.pages store.now) (root_of root.now)) changes.now blocks.items) }
     ensures err { IfErr result (λ e. e ≡ VolError.Memory) }
 {
@@ -43,7 +43,7 @@ pub(crate) fn changed_blocks<V: VRead>(
 
 /// The first place behind `start` whose change is of an inode of another block.
 fn end_of_block(changes: &[InodeChange], start: usize, index: u64) -> usize
-    requires ascending { AreAscending changes.now }
+    requires ascending { NumbersAscend changes.now }
     requires inside { start < length changes.now }
     requires first { (next : InodeChange) → (get_or changes.now start next).number / 8 ≡ index }
     ensures more { start < result }
@@ -66,10 +66,10 @@ fn changed_block<V: VRead>(
     changes: &[InodeChange],
 ) -> Result<BlockChange, VolError>
     requires inodes { IsInodeFile (V.pages cursor.old.store.now) (root_of cursor.old.root) }
-    requires ascending { AreAscending changes.now }
+    requires ascending { NumbersAscend changes.now }
     requires inside { All (λ c. c.number / 8 ≡ index) changes.now }
     ensures index { IfOk result (λ change. change.index ≡ index) }
-    ensures page { IfOk result (λ change. change.page ≡ block_for (in_block (changed changes.now
+    ensures page { IfOk result (λ change. change.page ≡ block_for (in_block (inodes_with changes.now
         (inode_at (V.pages cursor.old.store.now) (root_of cursor.old.root))) index)) }
     ensures store { cursor.new.store.now ≡ cursor.old.store.now }
     ensures root { cursor.new.root ≡ cursor.old.root }
@@ -104,8 +104,8 @@ fn old_bytes<V: VRead>(cursor: &mut Cursor<'_, V>, index: u64) -> [u8; BLOCK_SIZ
 
 /// Writes each changed inode to its place in a block.
 fn write_inodes(bytes: &mut [u8; BLOCK_SIZE], changes: &[InodeChange])
-    requires ascending { AreAscending changes.now }
-    ensures written { (inodes : Inodes) (index : ℕ) → All (λ c. c.number / 8 ≡ index) changes.now → bytes.old ≡ block_bytes (in_block inodes index) → bytes.new ≡ block_bytes (in_block (changed changes.now inodes) index) }
+    requires ascending { NumbersAscend changes.now }
+    ensures written { (inodes : Inodes) (index : ℕ) → All (λ c. c.number / 8 ≡ index) changes.now → bytes.old ≡ block_bytes (in_block inodes index) → bytes.new ≡ block_bytes (in_block (inodes_with changes.now inodes) index) }
     ensures fits { All (λ c. EntryFits (entry_for c.inode)) changes.now }
 {
     for change in changes {

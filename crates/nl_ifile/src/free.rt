@@ -2,7 +2,7 @@
 ghost use Rattle.std.specs.Prelude.{◌≡◌, ◌<◌, ◌≤◌, MatchOption, option_copied};
 ghost use Rattle.nl_layout.specs.Root.{root_of};
 ghost use Rattle.nl_ifile.specs.Inodes.{inode_at};
-ghost use Rattle.nl_ifile.specs.Changing.{AreAscending, changed};
+ghost use Rattle.nl_ifile.specs.Changing.{NumbersAscend, inodes_with};
 ghost use Rattle.nl_ifile.specs.Free.{AreInUseFrom, IsFreeInBlock, IsLowestFreeFrom, change_at, block_end, inode_of_page};
 
 use crate::change::InodeChange;
@@ -26,9 +26,9 @@ pub fn next_ino<V: VRead>(
     changes: &[InodeChange],
     from: InodeNumber,
 ) -> Option<InodeNumber>
-    requires { AreAscending changes.now }
-    ensures { MatchOption result (AreInUseFrom (changed changes.now (inode_at (V.pages store.now) (root_of root))) from 524288)
-        (IsLowestFreeFrom (changed changes.now (inode_at (V.pages store.now) (root_of root))) from) }
+    requires { NumbersAscend changes.now }
+    ensures { MatchOption result (AreInUseFrom (inodes_with changes.now (inode_at (V.pages store.now) (root_of root))) from 524288)
+        (IsLowestFreeFrom (inodes_with changes.now (inode_at (V.pages store.now) (root_of root))) from) }
 {
     let mut cursor = Cursor::new(store, root);
     for block in from.get() / INODES_PER_BLOCK..LAST_INODE / INODES_PER_BLOCK + 1 {
@@ -47,11 +47,11 @@ fn free_in_block<V: VRead>(
     changes: &[InodeChange],
     first: u64,
 ) -> Option<InodeNumber>
-    requires ascending { AreAscending changes.now }
+    requires ascending { NumbersAscend changes.now }
     requires in_range { first < 524288 }
     ensures found { MatchOption result
-        (AreInUseFrom (changed changes.now (inode_at (V.pages cursor.old.store.now) (root_of cursor.old.root))) first (block_end first))
-        (IsFreeInBlock (changed changes.now (inode_at (V.pages cursor.old.store.now) (root_of cursor.old.root))) first) }
+        (AreInUseFrom (inodes_with changes.now (inode_at (V.pages cursor.old.store.now) (root_of cursor.old.root))) first (block_end first))
+        (IsFreeInBlock (inodes_with changes.now (inode_at (V.pages cursor.old.store.now) (root_of cursor.old.root))) first) }
     ensures store { cursor.new.store.now ≡ cursor.old.store.now }
     ensures root { cursor.new.root ≡ cursor.old.root }
 {
@@ -60,10 +60,10 @@ fn free_in_block<V: VRead>(
 
 /// The lowest free number from `first` on in the block of that number, whose page is given where it is there.
 fn free_on_page(page: Option<&Page>, changes: &[InodeChange], first: u64) -> Option<InodeNumber>
-    requires ascending { AreAscending changes.now }
+    requires ascending { NumbersAscend changes.now }
     requires in_range { first < 524288 }
-    ensures { MatchOption result (AreInUseFrom (changed changes.now (inode_of_page (option_copied page.entry))) first (block_end first))
-        (IsFreeInBlock (changed changes.now (inode_of_page (option_copied page.entry))) first) }
+    ensures { MatchOption result (AreInUseFrom (inodes_with changes.now (inode_of_page (option_copied page.entry))) first (block_end first))
+        (IsFreeInBlock (inodes_with changes.now (inode_of_page (option_copied page.entry))) first) }
 {
     for number in first..(first / INODES_PER_BLOCK + 1) * INODES_PER_BLOCK {
         let number = InodeNumber::new(number);
@@ -76,8 +76,8 @@ fn free_on_page(page: Option<&Page>, changes: &[InodeChange], first: u64) -> Opt
 
 /// The inode that a number has when the changes are made, in the block whose page is given where it is there.
 fn changed_inode(page: Option<&Page>, changes: &[InodeChange], number: InodeNumber) -> Option<Inode>
-    requires ascending { AreAscending changes.now }
-    ensures { result ≡ changed changes.now (inode_of_page (option_copied page.entry)) number }
+    requires ascending { NumbersAscend changes.now }
+    ensures { result ≡ inodes_with changes.now (inode_of_page (option_copied page.entry)) number }
 {
     match change_of(changes, number) {
         Some(change) => change.inode,
@@ -87,7 +87,7 @@ fn changed_inode(page: Option<&Page>, changes: &[InodeChange], number: InodeNumb
 
 /// The change of a number, if there is one.
 fn change_of(changes: &[InodeChange], number: InodeNumber) -> Option<&InodeChange>
-    requires ascending { AreAscending changes.now }
+    requires ascending { NumbersAscend changes.now }
     ensures { option_copied result ≡ change_at changes.now number }
 {
     let index = changes.partition_point(|change| change.number < number);

@@ -7,7 +7,7 @@ ghost use Rattle.nl_dat.specs.Batches.{Fits};
 ghost use Rattle.nl_dat.specs.Stores.{capacity, content_in};
 ghost use Rattle.nl_blocktree.specs.Numbering.{IsLive};
 ghost use Rattle.nl_ifile.specs.Inodes.{IsInodeFile};
-ghost use Rattle.nl_ifile.specs.Changing.{AreAscending, AreInRange, PutsInodes};
+ghost use Rattle.nl_ifile.specs.Changing.{NumbersAscend, NumbersAreInRange, PutsInodes};
 
 use crate::change::InodeChange;
 use crate::changed_block::changed_blocks;
@@ -35,8 +35,8 @@ pub fn put_inodes<V: Vstore>(
     requires sound { IsSound (pages_of (content_in (V.store store.now))) (root_of root) }
     requires live { IsLive (content_in (V.store store.now)) (root_of root) }
     requires inodes { IsInodeFile (pages_of (content_in (V.store store.now))) (root_of root) }
-    requires ascending { AreAscending changes.now }
-    requires in_range { AreInRange changes.now }
+    requires ascending { NumbersAscend changes.now }
+    requires in_range { NumbersAreInRange changes.now }
     ensures ok { IfOk result (λ new. PutsInodes (content_in (V.store store.now)) (root_of root) (root_of new) changes.now batch.old batch.new) }
     ensures fits { IfOk result (λ _. Fits (capacity (V.store store.now)) (content_in (V.store store.now)) batch.new) }
     ensures same { OnErr result (batch.new ≡ batch.old) }

@@ -5,7 +5,7 @@ use Rattle.nl_types.specs.Roots.{page_at}
 use Rattle.nl_layout.specs.Root.{root_of}
 use Rattle.nl_ifile.specs.declared.change.InodeChange.{InodeChange}
 use Rattle.nl_ifile.specs.Inodes.{Inodes, block_for, in_block, inode_at}
-use Rattle.nl_ifile.specs.Changing.{AreFirstBlockChanges, changed}
+use Rattle.nl_ifile.specs.Changing.{AreFirstBlockChanges, inodes_with}
 use Rattle.nl_ifile.proofs.BlockChanges.{all-between, block_changes-more}
 use Rattle.nl_ifile.proofs.changed_block.changed_blocks.Goals as goal
 
@@ -27,6 +27,6 @@ loop-start-preserved g c =
     (λ next. ap (λ (x : InodeChange). x.number / 8) (get_or_default c.args.changes.now c.loop-start.start next item l) ∙ number)
     (omega (arith, low, number)) c.in_ok-changed_block.ensures.index
     (all-between c.args.changes.now c.loop-start.start c.end_of_block-end.result (c.get-index.result / 8) c.end_of_block-end.ensures.same)
-    (c.in_ok-changed_block.ensures.page ∙ ap (λ (f : Inodes). block_for (in_block (changed these f) (c.get-index.result / 8))) read)
+    (c.in_ok-changed_block.ensures.page ∙ ap (λ (f : Inodes). block_for (in_block (inodes_with these f) (c.get-index.result / 8))) read)
     c.in_ok-changed_block.ensures.fits c.end_of_block-end.ensures.stop item) in
     record { store = c.changed_block.ensures.store ∙ c.loop-start.invariant.store; root = c.changed_block.ensures.root ∙ c.loop-start.invariant.root; blocks = more }
