@@ -15,6 +15,11 @@ pub record IsLowestFreeFrom (inodes : Inodes) (from n : ℕ) : Type 0 where
   pub free : inodes n ≡ None
   pub lowest : AreInUseFrom inodes from n
 
+-- what a search from a number finds: the lowest free one, or that none is
+abbrev pub FindsFree : Inodes → ℕ → Option ℕ → Type 0
+FindsFree inodes from None = AreInUseFrom inodes from 524288
+FindsFree inodes from (Some n) = IsLowestFreeFrom inodes from n
+
 -- ---- within a block
 
 -- the number behind those of the block of this one
@@ -27,6 +32,11 @@ pub record IsFreeInBlock (inodes : Inodes) (first n : ℕ) : Type 0 where
   pub high : n < block_end first
   pub free : inodes n ≡ None
   pub lowest : AreInUseFrom inodes first n
+
+-- what a search from a number in its block finds
+abbrev pub FindsFreeInBlock : Inodes → ℕ → Option ℕ → Type 0
+FindsFreeInBlock inodes first None = AreInUseFrom inodes first (block_end first)
+FindsFreeInBlock inodes first (Some n) = IsFreeInBlock inodes first n
 
 -- the inode that a number has in its block, if that is there
 abbrev pub inode_of_page : Option (List ℕ) → Inodes

@@ -26,7 +26,8 @@ pub(crate) fn changed_blocks<V: VRead>(
     requires inodes { IsInodeFile (V.pages store.now) (root_of root.now) }
     requires ascending { NumbersAscend changes.now }
     requires in_range { NumbersAreInRange changes.now }
-    ensures ok { IfOk result (λ blocks. AreBlockChanges (page_at (V.pages store.now) (root_of root.now)) (inode_at (V.pages store.now) (root_of root.now)) changes.now blocks.items) }
+    ensures ok { IfOk result (λ blocks. AreBlockChanges (page_at (V.pages store.now) (root_of root.now))
+        (inode_at (V.pages store.now) (root_of root.now)) changes.now blocks.items) }
     ensures err { IfErr result (λ e. e ≡ VolError.Memory) }
 {
     let mut cursor = Cursor::new(store, *root);
@@ -48,8 +49,10 @@ fn end_of_block(changes: &[InodeChange], start: usize, index: u64) -> usize
     requires first { (next : InodeChange) → (get_or changes.now start next).number / 8 ≡ index }
     ensures more { start < result }
     ensures within { result ≤ length changes.now }
-    ensures same { (k : ℕ) (next : InodeChange) → start ≤ k → k < result → (get_or changes.now k next).number / 8 ≡ index }
-    ensures stop { (next : InodeChange) → result < length changes.now → index < (get_or changes.now result next).number / 8 }
+    ensures same { (k : ℕ) (next : InodeChange) → start ≤ k → k < result →
+        (get_or changes.now k next).number / 8 ≡ index }
+    ensures stop { (next : InodeChange) → result < length changes.now →
+        index < (get_or changes.now result next).number / 8 }
 {
     let mut end = start + 1;
     while end < changes.len() && changes[end].number.get() / INODES_PER_BLOCK == index {
@@ -105,7 +108,9 @@ fn old_bytes<V: VRead>(cursor: &mut Cursor<'_, V>, index: u64) -> [u8; BLOCK_SIZ
 /// Writes each changed inode to its place in a block.
 fn write_inodes(bytes: &mut [u8; BLOCK_SIZE], changes: &[InodeChange])
     requires ascending { NumbersAscend changes.now }
-    ensures written { (inodes : Inodes) (index : ℕ) → All (λ c. c.number / 8 ≡ index) changes.now → bytes.old ≡ block_bytes (in_block inodes index) → bytes.new ≡ block_bytes (in_block (inodes_with changes.now inodes) index) }
+    ensures written { (inodes : Inodes) (index : ℕ) → All (λ c. c.number / 8 ≡ index) changes.now →
+        bytes.old ≡ block_bytes (in_block inodes index) →
+        bytes.new ≡ block_bytes (in_block (inodes_with changes.now inodes) index) }
     ensures fits { All (λ c. EntryFits (entry_for c.inode)) changes.now }
 {
     for change in changes {
@@ -117,7 +122,8 @@ fn write_inodes(bytes: &mut [u8; BLOCK_SIZE], changes: &[InodeChange])
 /// Writes an inode, or a free entry, to a place of a block.
 pub(crate) fn write_inode(bytes: &mut [u8; BLOCK_SIZE], place: usize, inode: Option<Inode>)
     requires { place < 8 }
-    ensures written { (inodes : ℕ → Option Inode) → bytes.old ≡ block_bytes inodes → bytes.new ≡ block_bytes (with_inode inodes place inode) }
+    ensures written { (inodes : ℕ → Option Inode) → bytes.old ≡ block_bytes inodes →
+        bytes.new ≡ block_bytes (with_inode inodes place inode) }
     ensures fits { EntryFits (entry_for inode) }
 {
     let entry = match inode {

@@ -1,9 +1,9 @@
 //! Free inode numbers.
-ghost use Rattle.std.specs.Prelude.{◌≡◌, ◌<◌, ◌≤◌, MatchOption, option_copied};
+ghost use Rattle.std.specs.Prelude.{◌≡◌, ◌<◌, option_copied};
 ghost use Rattle.nl_layout.specs.Root.{root_of};
 ghost use Rattle.nl_ifile.specs.Inodes.{inode_at};
 ghost use Rattle.nl_ifile.specs.Changing.{NumbersAscend, inodes_with};
-ghost use Rattle.nl_ifile.specs.Free.{AreInUseFrom, IsFreeInBlock, IsLowestFreeFrom, change_at, block_end, inode_of_page};
+ghost use Rattle.nl_ifile.specs.Free.{FindsFree, FindsFreeInBlock, change_at, inode_of_page};
 
 use crate::change::InodeChange;
 use crate::read::{INODES_PER_BLOCK, inode_in_page};
@@ -27,8 +27,8 @@ pub fn next_ino<V: VRead>(
     from: InodeNumber,
 ) -> Option<InodeNumber>
     requires { NumbersAscend changes.now }
-    ensures { MatchOption result (AreInUseFrom (inodes_with changes.now (inode_at (V.pages store.now) (root_of root))) from 524288)
-        (IsLowestFreeFrom (inodes_with changes.now (inode_at (V.pages store.now) (root_of root))) from) }
+    ensures { FindsFree
+        (inodes_with changes.now (inode_at (V.pages store.now) (root_of root))) from result }
 {
     let mut cursor = Cursor::new(store, root);
     for block in from.get() / INODES_PER_BLOCK..LAST_INODE / INODES_PER_BLOCK + 1 {
@@ -49,9 +49,8 @@ fn free_in_block<V: VRead>(
 ) -> Option<InodeNumber>
     requires ascending { NumbersAscend changes.now }
     requires in_range { first < 524288 }
-    ensures found { MatchOption result
-        (AreInUseFrom (inodes_with changes.now (inode_at (V.pages cursor.old.store.now) (root_of cursor.old.root))) first (block_end first))
-        (IsFreeInBlock (inodes_with changes.now (inode_at (V.pages cursor.old.store.now) (root_of cursor.old.root))) first) }
+    ensures found { FindsFreeInBlock (inodes_with changes.now
+        (inode_at (V.pages cursor.old.store.now) (root_of cursor.old.root))) first result }
     ensures store { cursor.new.store.now ≡ cursor.old.store.now }
     ensures root { cursor.new.root ≡ cursor.old.root }
 {
@@ -62,8 +61,8 @@ fn free_in_block<V: VRead>(
 fn free_on_page(page: Option<&Page>, changes: &[InodeChange], first: u64) -> Option<InodeNumber>
     requires ascending { NumbersAscend changes.now }
     requires in_range { first < 524288 }
-    ensures { MatchOption result (AreInUseFrom (inodes_with changes.now (inode_of_page (option_copied page.entry))) first (block_end first))
-        (IsFreeInBlock (inodes_with changes.now (inode_of_page (option_copied page.entry))) first) }
+    ensures { FindsFreeInBlock
+        (inodes_with changes.now (inode_of_page (option_copied page.entry))) first result }
 {
     for number in first..(first / INODES_PER_BLOCK + 1) * INODES_PER_BLOCK {
         let number = InodeNumber::new(number);

@@ -1,11 +1,10 @@
 //! Changing inodes.
 ghost use Rattle.std.specs.Prelude.{◌≡◌, ◌<◌, ◌*◌, ℕ, length, All, OnErr, IfOk, IfErr};
 ghost use Rattle.nl_types.specs.Roots.{pages_of};
-ghost use Rattle.nl_types.specs.RootChanges.{IsSound};
 ghost use Rattle.nl_layout.specs.Root.{root_of};
-ghost use Rattle.nl_dat.specs.Batches.{Fits};
-ghost use Rattle.nl_dat.specs.Stores.{capacity, content_in};
-ghost use Rattle.nl_blocktree.specs.Numbering.{IsLive};
+ghost use Rattle.nl_dat.specs.Stores.{content_in};
+ghost use Rattle.nl_blocktree.specs.Numbering.{CanTake};
+ghost use Rattle.nl_blocktree.specs.Putting.{CanChange};
 ghost use Rattle.nl_ifile.specs.Inodes.{IsInodeFile};
 ghost use Rattle.nl_ifile.specs.Changing.{NumbersAscend, NumbersAreInRange, PutsInodes};
 
@@ -31,14 +30,13 @@ pub fn put_inodes<V: Vstore>(
     root: Root,
     changes: &[InodeChange],
 ) -> Result<Root, VolError>
-    requires fits { Fits (capacity (V.store store.now)) (content_in (V.store store.now)) batch.old }
-    requires sound { IsSound (pages_of (content_in (V.store store.now))) (root_of root) }
-    requires live { IsLive (content_in (V.store store.now)) (root_of root) }
+    requires file { CanChange (V.store store.now) (root_of root) batch.old }
     requires inodes { IsInodeFile (pages_of (content_in (V.store store.now))) (root_of root) }
     requires ascending { NumbersAscend changes.now }
     requires in_range { NumbersAreInRange changes.now }
-    ensures ok { IfOk result (λ new. PutsInodes (content_in (V.store store.now)) (root_of root) (root_of new) changes.now batch.old batch.new) }
-    ensures fits { IfOk result (λ _. Fits (capacity (V.store store.now)) (content_in (V.store store.now)) batch.new) }
+    ensures ok { IfOk result (λ new. PutsInodes (content_in (V.store store.now))
+        (root_of root) (root_of new) changes.now batch.old batch.new) }
+    ensures fits { IfOk result (λ _. CanTake (V.store store.now) batch.new) }
     ensures same { OnErr result (batch.new ≡ batch.old) }
     ensures errors { IfErr result (λ e. e ≡ VolError.Memory) }
 {
