@@ -8,8 +8,9 @@ pub mod HeldPages
 pub mod MoreChanges
 pub mod WrittenChains
 pub mod Renewal
+pub mod Staying
 pub mod Frames
-pub mod Room
+pub mod LastSlots
 pub mod Assembly
 pub mod Unchanged
 pub mod RootByRoot

@@ -2,6 +2,7 @@
 use Rattle.std.proofs.Common.{◌≡◌, ℕ, zero, suc, ◌+◌, ◌*◌, ◌/◌, ◌%◌, ◌<◌, ◌≤◌, List, [], ◌∷◌, ◌++◌, length, get_or, take, drop, Some, refl, ap, sym, subst, ◌∙◌, arith, inl, inr, append_assoc, length-append, length-drop, take-append-drop}
 use Rattle.std.specs.Prelude.{slice_get}
 use Rattle.std.specs.List.{Contains}
+use Rattle.std.specs.Option.{IsSome}
 use Rattle.std.proofs.lemmas.Bool.{cases_lt, cases_eq, eq-eqb, ne_eqb}
 use Rattle.std.proofs.lemmas.List.{append-nil, get_or-drop, get_or_append_left, get_or_past, get_or_push, get_or-append-add, length-map, length_push, take_at}
 use Rattle.std.proofs.lemmas.List.Elements.{Contains-get_or}
@@ -183,6 +184,7 @@ puts-nodes content inode slots old new added top e n t f le sp l first = record 
   numbers = n;
   tags = t;
   no_tree = λ k. cc;
+  has_top = λ k. subst IsSome (sym (stored_node pages (born added) slots top stored some first 0 ∙ got (born added) 0 some)) refl;
   none_spare = sp;
   nodes_at = stored_node pages (born added) slots top stored some first;
   slots_at = stored_data pages (born added) slots top stored some first;
@@ -247,6 +249,7 @@ no-nodes content inode slots old e = record {
   numbers = tt;
   tags = λ k d l. absurd (omega arith);
   no_tree = λ k. cc;
+  has_top = λ k. absurd (k refl);
   none_spare = omega arith;
   nodes_at = λ p. refl;
   slots_at = λ i. sym (ap numbered (get_or_past slots i 0 (omega arith)));

@@ -3,6 +3,7 @@
 
 mod chain;
 mod change;
+mod cursor;
 mod data;
 pub mod laws;
 mod nodes;
@@ -11,6 +12,7 @@ mod read;
 mod walking;
 
 pub use change::BlockChange;
+pub use cursor::Cursor;
 pub use put::put_all;
 pub use read::get;
 pub use walking::{PlacedBlock, WalkError, walk};

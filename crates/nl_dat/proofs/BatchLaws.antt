@@ -1,5 +1,5 @@
 -- A batch that fits a store still does after one more birth or end.
-use Rattle.std.proofs.Common.{◌≡◌, ℕ, zero, suc, set, take, get_or, ◌-◌, ◌<◌, ◌≤◌, Bool, true, false, eqb, List, [], ◌∷◌, ◌++◌, Some, None, Option, inl, inr, sym, refl, ap, subst, ◌∙◌, length, is_some, Result, Ok, Err, OnOk, arith}
+use Rattle.std.proofs.Common.{◌≡◌, ℕ, zero, suc, set, take, get_or, ◌-◌, ◌<◌, ◌≤◌, Bool, true, false, eqb, List, [], ◌∷◌, ◌++◌, Some, None, Option, inl, inr, sym, refl, ap, subst, ◌∙◌, length, is_some, Result, Ok, Err, OnOk, arith, ◌+◌, length-append}
 use Rattle.std.specs.Prelude.{◌==◌, ◌||◌, ◌⊎◌, slice_get}
 use Rattle.std.specs.Option.{option_map_or}
 use Rattle.std.proofs.lemmas.Bool.{cases_Bool, cases_lt, both_ways, eqb-true, eq-eqb, or_cases}
@@ -61,7 +61,7 @@ GivenOnce-push (q ∷ qs) p once new =
     let parts = free_parts (eqb (number_of q) (number_of p)) (is_born qs (number_of p)) new in
     (birth_of-push qs p (number_of q) once.0 parts.0, GivenOnce-push qs p once.1 parts.1)
 
-pub Fits-birth : (capacity : ℕ) (content : Content) (changes : Changes) (p : Birth) → Fits capacity content changes → IsLowestFree content changes.births (number_of p) → number_of p ≤ capacity → Fits capacity content (record changes { births = changes.births ++ p ∷ [] })
+pub Fits-birth : (capacity : ℕ) (content : Content) (changes : Changes) (p : Birth) → Fits capacity content changes → IsLowestFree content changes.births (number_of p) → number_of p ≤ capacity + length changes.births + 1 → Fits capacity content (record changes { births = changes.births ++ p ∷ [] })
 Fits-birth capacity content changes p fits fresh low =
     let last : last_number (changes.births ++ p ∷ []) ≡ number_of p = last_number-push changes.births p in
     let above : last_number changes.births < number_of p = elim (cases_lt (last_number changes.births) (number_of p)) [
@@ -69,7 +69,7 @@ Fits-birth capacity content changes p fits fresh low =
       | inr h ↦ absurd (both_ways _ fresh.free (fits.taken (number_of p) fresh.positive h))
     ] in
     record {
-      inside = rw last low;
+      inside = omega (arith, last, low, length-append changes.births (p ∷ []));
       once = GivenOnce-push changes.births p fits.once (free_parts _ _ fresh.free).1;
       taken = λ v positive upto. elim (cases_lt v (number_of p)) [
         | inl h ↦ still_taken v (fresh.lowest v positive h)
@@ -196,7 +196,7 @@ Fits-with_page capacity content changes i page fits =
     let last = last_number-with_page i page changes.births in
     let born = is_born-with_page i page changes.births in
     record {
-      inside = let inside = fits.inside in omega arith;
+      inside = omega (arith, fits.inside, last, length-with_page i page changes.births);
       once = GivenOnce-with_page i page changes.births fits.once;
       taken = λ v positive upto. ap (λ t. is_some (content v) || t) (born v) ∙ fits.taken v positive (omega arith);
       unused = λ v is. fits.unused v (sym (born v) ∙ is);

@@ -17,7 +17,7 @@ use Rattle.nl_types.proofs.NextLogs.{tidy_with_log, has_active, has_lowest, plac
 use Rattle.nl_types.proofs.UsedParts.{all_in_row, all-append}
 use Rattle.nl_dat.specs.Stores.{is_closed, IsClosed, is_inside}
 
-active-open : (state : SegmentState) → is_active state ≡ true → is_closed state ≡ true → ⊥
+pub active-open : (state : SegmentState) → is_active state ≡ true → is_closed state ≡ true → ⊥
 active-open Clean a c = cc
 active-open Dirty a c = cc
 active-open Active a c = cc
@@ -30,7 +30,7 @@ clean-open Active a c = cc
 clean-open Error a c = cc
 
 -- the next log goes elsewhere
-next-elsewhere : (s : Segments) (segment : ℕ) (log : Log) → AreTidy s → IsClosed s segment → IsNextLog s log → log.segment ≢ segment
+pub next-elsewhere : (s : Segments) (segment : ℕ) (log : Log) → AreTidy s → IsClosed s segment → IsNextLog s log → log.segment ≢ segment
 next-elsewhere s segment log tidy closed next = λ same.
     let here : is_closed (info_of s.each log.segment).state ≡ true = ap (λ (i : ℕ). is_closed (info_of s.each i).state) same ∙ closed in
     elim next.at [
@@ -46,7 +46,7 @@ next-elsewhere s segment log tidy closed next = λ same.
         clean-open (info_of s.each log.segment).state (subst (λ i. is_clean (info_of s.each i).state ≡ true) same (has_lowest s x rest tidy is).clean) here
 
 -- and leaves the segment closed
-still-closed : (s : Segments) (segment stamp : ℕ) (log : Log) → IsClosed s segment → log.segment ≢ segment → IsClosed (with_log s log stamp) segment
+pub still-closed : (s : Segments) (segment stamp : ℕ) (log : Log) → IsClosed s segment → log.segment ≢ segment → IsClosed (with_log s log stamp) segment
 still-closed s segment stamp log closed other =
     ap (λ (i : SegmentInfo). is_closed i.state) (get_or-set_other (none_active s.each) log.segment segment _ clean_info (λ e. other (sym e)) ∙ get_or-map at_rest s.each segment clean_info) ∙ rest (info_of s.each segment) closed
   where

@@ -1,9 +1,11 @@
 -- The lowest free number, and why there is one where there is space.
 use Rattle.std.proofs.Common.{◌≡◌, ℕ, ◌+◌, ◌<◌, ◌≤◌, true, false, List, Some, None, Option, inl, inr, ⊎_elim, sym, refl, ap, ◌∙◌, length, is_some, arith}
-use Rattle.std.specs.Prelude.{◌||◌, max}
+use Rattle.std.specs.Prelude.{Bool, ◌||◌, max}
 use Rattle.std.specs.Option.{option_map}
 use Rattle.std.proofs.lemmas.Bool.{cases_Bool, cases_lt}
 use Rattle.nl_types.specs.Segments.{AreTidy, total_blocks}
+use Rattle.nl_types.specs.declared.segment.Log.{Log}
+use Rattle.nl_types.specs.Placing as placing
 use Rattle.nl_types.specs.PlacingLaws.{WhatFitsHasRoom}
 use Rattle.nl_types.specs.PartialMaps.{Partial}
 use Rattle.nl_types.specs.Entries.{Content}
@@ -65,3 +67,18 @@ module _ (table : List (Option DatEntry)) (lowest : ℕ) (space : Space) (failur
       (λ v. is_some-addresses_of (entry_in table) v ∙ sym (in_use v))
       (λ v low high. taken_to (length table) found v low (omega (arith, high, is_table.full))) in
       omega (arith, room, need, more)
+
+  -- where a list of logs fits the births, their numbers are among those that there are
+  pub numbers-inside : WhatFitsHasRoom → AreTidy space.segments → (reserve : Bool) (logs : List Log) → placing.Fits space.segments reserve (length changes.births) logs → last_number changes.births ≤ total_blocks space.segments
+  numbers-inside has_room tidy reserve logs that_fits =
+      let room = has_room space.segments reserve (length changes.births) logs tidy that_fits in
+      let need = taken-need-blocks space.segments (addresses_of (entry_in table)) content changes.births (last_number changes.births)
+      (λ v w b at_v at_w. IsSound-apart (addresses_of (entry_in table)) (births_in space) v w b is_table.sound at_v at_w)
+      is_table.used
+      (λ v. is_some-addresses_of (entry_in table) v ∙ sym (in_use v))
+      fits.taken in
+      omega (arith, room, need)
+
+  -- where no number from there on is free, each is taken
+  pub all-taken : AreInUse table (max lowest (last_number changes.births + 1)) (length table) → (v : ℕ) → 1 ≤ v → v ≤ total_blocks space.segments → is_taken content changes.births v ≡ true
+  all-taken found v low high = taken_to (length table) found v low (omega (arith, high, is_table.full))

@@ -13,3 +13,7 @@ pub mod Reclaiming
 pub mod Loading
 pub mod ClosedSegments
 pub mod Relocating
+pub mod MovedOut
+pub mod NumberAt
+pub mod MovedNumbers
+pub mod CountedRows

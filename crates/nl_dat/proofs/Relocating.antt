@@ -16,7 +16,7 @@ use Rattle.nl_segwriter.specs.Appended.{IsAppended, IsAppendError, IsBrokenOff a
 use Rattle.nl_dat.specs.declared.entries.DatEntry.{DatEntry}
 use Rattle.nl_dat.specs.Batches.{birth_of_item, births_of}
 use Rattle.nl_dat.specs.Table.{entry_in, addresses_of, block_of, content_of, moved_entry, stored_at, IsSound}
-use Rattle.nl_dat.specs.Stores.{IsMoved, IsMoveRefused, KeepsStored, IsClosed, is_inside, moved_to, address_in}
+use Rattle.nl_dat.specs.Stores.{IsMoved, IsMoveRefused, KeepsStored, IsClosed, is_inside, moved_to, address_in, tag_held}
 use Rattle.nl_dat.specs.Inside.{births_in, numbered_of, store_of, IsTable}
 use Rattle.nl_dat.proofs.Contents.{KeepsAt, content_of-KeepsAt, IsSound-KeepsAt, content_of-moves, addresses_of-moves, IsSound-moves}
 use Rattle.nl_dat.proofs.StoreOf.{content_in-store_of, address_in-store_of}
@@ -52,7 +52,7 @@ adjust_each-is_some f (k ∷ ks) (x ∷ xs) m v = adjust_each-is_some f ks xs (a
     same (Some y) = refl
 
 -- a number that is moved has one of the new blocks
-moved-in : (P : ℕ → Type 0) (ks bs : List ℕ) (m : Partial ℕ) (v : ℕ) → length ks ≡ length bs → AllByRecursion P bs → is_one_of ks v ≡ true → is_some (m v) ≡ true → (b : ℕ) × (adjust_each moved_to ks bs m v ≡ Some b) × P b
+pub moved-in : (P : ℕ → Type 0) (ks bs : List ℕ) (m : Partial ℕ) (v : ℕ) → length ks ≡ length bs → AllByRecursion P bs → is_one_of ks v ≡ true → is_some (m v) ≡ true → (b : ℕ) × (adjust_each moved_to ks bs m v ≡ Some b) × P b
 moved-in P [] bs m v len all among some = cc
 moved-in P (k ∷ ks) [] m v len all among some = absurd (omega (arith, len))
 moved-in P (k ∷ ks) (a ∷ bs) m v len all among some = elim (cases_Bool (is_one_of ks v)) [
@@ -85,7 +85,7 @@ moved-in P (k ∷ ks) (a ∷ bs) m v len all among some = elim (cases_Bool (is_o
       | inr e ↦ others js cs (adjust (moved_to c) n j) (sym (ap (λ t. t || is_one_of js v) e) ∙ none) ∙ rw e refl
     ]
 
-is_some-inside : (s : Rattle.nl_types.specs.Segments.Segments) (segment : ℕ) (o : Option ℕ) → is_inside s segment o ≡ true → is_some o ≡ true
+pub is_some-inside : (s : Rattle.nl_types.specs.Segments.Segments) (segment : ℕ) (o : Option ℕ) → is_inside s segment o ≡ true → is_some o ≡ true
 is_some-inside s segment None h = cc
 is_some-inside s segment (Some b) h = refl
 
@@ -185,6 +185,7 @@ keeps-stored table old later before after same = record {
   numbers = ap (λ (s : Space). map (numbered_of (births_in s)) table) same;
   segments = ap (λ (s : Space). s.segments) same;
   device = ap (λ (s : Space). map s.stored (range_with_len 0 (total_blocks s.segments))) same;
+  tags = ap (λ (s : Space). map (tag_held s) (range_with_len 0 (total_blocks s.segments))) same;
 }
 
 pub move-refused : (table : List (Option DatEntry)) (lowest : ℕ) (old later : Space) (before between after stamp checkpoint n : ℕ) (payload : List Payload) (e : VolError) → IsTable table lowest old → length payload ≡ n → KeepsUsed old.segments old later → before ≤ between

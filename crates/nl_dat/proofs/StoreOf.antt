@@ -5,7 +5,7 @@ use Rattle.std.specs.List.{range_with_len}
 use Rattle.std.specs.Option.{option_map, option_and_then}
 use Rattle.std.proofs.Math.ListN.{get_or-map}
 use Rattle.std.proofs.lemmas.List.FromFn.{get_or-map-range_with_len}
-use Rattle.std.proofs.lemmas.List.{get_or_past, length-replicate}
+use Rattle.std.proofs.lemmas.List.{get_or_past, length-map, length-replicate}
 use Rattle.std.proofs.lemmas.Bool.{cases_lt}
 use Rattle.nl_types.specs.Segments.{AreTidy, total_blocks}
 use Rattle.nl_types.specs.PartialMaps.{Partial}
@@ -15,7 +15,7 @@ use Rattle.nl_segwriter.specs.Content.{Payload, Content as Space, page_of as pay
 use Rattle.nl_dat.specs.declared.entries.DatEntry.{DatEntry}
 use Rattle.nl_dat.specs.Batches.{birth_of_item}
 use Rattle.nl_dat.specs.Table.{entry_in, addresses_of, block_of, content_of, meaning_of, meaning_at, period_of, period_of_entry, IsSound}
-use Rattle.nl_dat.specs.Stores.{Numbered, new_store, numbered_in, content_in, address_in, entry_of, block_of as block_now, dat_entry_of, IsStore}
+use Rattle.nl_dat.specs.Stores.{Numbered, new_store, numbered_in, content_in, address_in, entry_of, block_of as block_now, dat_entry_of, tag_held, IsStore}
 use Rattle.nl_dat.specs.Inside.{births_in, numbered_with, numbered_of, store_of, IsTable}
 use Rattle.nl_types.proofs.UsedParts.{used_inside}
 use Rattle.nl_dat.proofs.SoundTable.{stored_for, IsSound-apart}
@@ -108,10 +108,12 @@ module _ (table : List (Option DatEntry)) (lowest : ℕ) (space : Space) (failur
 
   pub is_store : IsStore (store_of table space failures)
   is_store = record {
+    full = length-map table (numbered_of (births_in space)) ∙ is_table.full;
     numbers = λ v b at. numbers v b (address_now v b at);
     used = λ v b at. is_table.used v b (address_now v b at);
     apart = λ v w b at_v at_w. IsSound-apart (addresses_of (entry_in table)) (births_in space) v w b is_table.sound (address_now v b at_v) (address_now w b at_w);
     on_device = on_device;
+    tidy = tidy;
   }
 
 -- ---- an empty table
@@ -122,7 +124,7 @@ map-empty stored (suc n) = ap (λ xs. None ∷ xs) (map-empty stored n)
 
 pub store_of-empty : (table : List (Option DatEntry)) (space : Space) (failures : ℕ) → table ≡ replicate (total_blocks space.segments + 1) None → store_of table space failures ≡ new_store space failures
 store_of-empty table space failures is =
-    ap (λ numbers. record { numbers = numbers; segments = space.segments; device = map space.stored (range_with_len 0 (total_blocks space.segments)); failures = failures })
+    ap (λ numbers. record { numbers = numbers; segments = space.segments; device = map space.stored (range_with_len 0 (total_blocks space.segments)); tags = map (tag_held space) (range_with_len 0 (total_blocks space.segments)); failures = failures })
     (ap (map (numbered_of (births_in space))) is ∙ map-empty (births_in space) (total_blocks space.segments + 1))
 
 get_or-empty : {A : Type 0} (n v : ℕ) → ◌≡◌ {A = Option A} (get_or (replicate n None) v None) None

@@ -138,7 +138,7 @@ table-kept table lowest old later is_table kept stays total = record {
 module _ (table new : List (Option DatEntry)) (lowest : ℕ) (old later : Space) (before after c now : ℕ) (changes : Changes) (items : List Payload) (at : List ℕ)
     (is_table : IsTable table lowest old) (fits : Fits (total_blocks old.segments) (content_in (store_of table old before)) changes)
     (items_are : births_of items ≡ changes.births) (appended : IsAppended old later true now c items at) (kept : KeepsUsed old.segments old later) (stays : StaysUsed old.segments later.segments)
-    (is_new : entry_in new ≡ put_each number_of (new_entry c) changes.births at (adjust_all (ended_entry c) changes.ends (entry_in table))) (size : length new ≡ length table) where
+    (is_new : entry_in new ≡ put_each number_of (new_entry c) changes.births at (adjust_all (ended_entry c) changes.ends (entry_in table))) (size : length new ≡ length table) (low : last_number changes.births ≤ total_blocks old.segments) where
   abbrev ended : Partial DatEntry
   ended = adjust_all (ended_entry c) changes.ends (entry_in table)
 
@@ -199,7 +199,7 @@ module _ (table new : List (Option DatEntry)) (lowest : ℕ) (old later : Space)
     stored = each_block (λ b. later.stored b ≡ option_map payload_page (later.held b)) (stand-stored at items later appended.held appended.stored)
         (λ v b is. let same = kept b (is_table.used v b is) in same.1 ∙ is_table.stored v b is ∙ sym (ap (option_map payload_page) same.0));
     positive = omega (arith, is_table.positive);
-    within = omega (arith, is_table.within, fits.inside, size, is_table.full);
+    within = omega (arith, is_table.within, low, size, is_table.full);
     below_lowest = in_use_now;
   }
 

@@ -1,5 +1,5 @@
 -- The changes of one checkpoint, and which of them a store can take.
-use Rattle.std.specs.Prelude.{◌≡◌, ℕ, zero, suc, ◌-◌, ◌≤◌, ◌<◌, ◌==◌, ◌||◌, Bool, true, false, List, [], ◌∷◌, ◌++◌, length, map, is_some, is_none, slice_get, Option, None, Some}
+use Rattle.std.specs.Prelude.{◌≡◌, ℕ, zero, suc, ◌+◌, ◌-◌, ◌≤◌, ◌<◌, ◌==◌, ◌||◌, Bool, true, false, List, [], ◌∷◌, ◌++◌, length, map, is_some, is_none, slice_get, Option, None, Some}
 use Rattle.std.specs.List.{list_any}
 use Rattle.std.specs.Option.{option_map_or}
 use Rattle.nl_types.specs.PartialMaps.{is_one_of}
@@ -71,7 +71,7 @@ is_live (Some e) = is_none e.end
 
 -- births take the lowest free numbers, none above the capacity; the numbers that end are live
 pub record Fits (capacity : ℕ) (content : Content) (changes : Changes) : Type 0 where
-  pub inside : last_number changes.births ≤ capacity
+  pub inside : last_number changes.births ≤ capacity + length changes.births
   pub once : GivenOnce changes.births
   pub taken : (v : ℕ) → 1 ≤ v → v ≤ last_number changes.births → is_taken content changes.births v ≡ true
   pub unused : (v : ℕ) → is_born changes.births v ≡ true → content v ≡ None

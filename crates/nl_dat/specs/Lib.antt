@@ -1,5 +1,6 @@
 pub mod Batches
 pub mod Table
 pub mod Stores
+pub mod Located
 pub mod Inside
 pub mod TakenOut

@@ -7,11 +7,12 @@ use Rattle.nl_types.specs.declared.error.VolError.TheVariants.{NoSpace, Fault, M
 use Rattle.nl_types.specs.declared.segment.Log.{Log}
 use Rattle.nl_types.specs.declared.segment.SegmentState.{SegmentState}
 use Rattle.nl_types.specs.declared.segment.SegmentState.TheVariants.{Clean, Dirty, Active, Error}
-use Rattle.nl_types.specs.Segments.{Segments, IsUsed, info_of, with_error, with_clean, total_blocks}
+use Rattle.nl_types.specs.Segments.{Segments, AreTidy, IsUsed, info_of, with_error, with_clean, total_blocks}
 use Rattle.nl_types.specs.Placing.{Fits, LacksSpace, addresses, with_logs}
 use Rattle.nl_types.specs.PartialMaps.{Partial, put_each, adjust_each, is_one_of, NoneTwice}
 use Rattle.nl_types.specs.Entries.{Entry, Content, number_of, written}
-use Rattle.nl_segwriter.specs.Content.{Content as Space}
+use Rattle.nl_layout.specs.declared.tag.Tag.{Tag}
+use Rattle.nl_segwriter.specs.Content.{Content as Space, tag_of}
 use Rattle.nl_dat.specs.Batches.{Changes}
 use Rattle.nl_dat.specs.declared.entries.DatEntry.{DatEntry}
 
@@ -26,8 +27,14 @@ pub record Store : Type 0 where
   pub segments : Segments
   -- the pages on the device, by block number
   pub device : List (Option (List ℕ))
+  -- what the summaries say of each block, none where it has no payload
+  pub tags : List (Option Tag)
   -- how often the device has failed
   pub failures : ℕ
+
+-- what the summaries of a space say of a block
+abbrev pub tag_held : Space → ℕ → Option Tag
+tag_held space b = option_map tag_of (space.held b)
 
 -- a store over a space, with no number in use
 abbrev pub new_store : Space → ℕ → Store
@@ -35,6 +42,7 @@ new_store space failures = record {
   numbers = replicate (total_blocks space.segments + 1) None;
   segments = space.segments;
   device = map space.stored (range_with_len 0 (total_blocks space.segments));
+  tags = map (tag_held space) (range_with_len 0 (total_blocks space.segments));
   failures = failures;
 }
 
@@ -65,12 +73,15 @@ capacity s = total_blocks s.segments
 
 -- ---- what is true of every store
 
--- each number in use has a used block of its own, and the device holds its page there
+-- There is a place for each number, and for 0, which is never used. Each number in use has a used block of its own, and
+-- the device holds its page there.
 pub record IsStore (s : Store) : Type 0 where
+  pub full : length s.numbers ≡ capacity s + 1
   pub numbers : (v b : ℕ) → address_in s v ≡ Some b → (1 ≤ v) × (v ≤ capacity s)
   pub used : (v b : ℕ) → address_in s v ≡ Some b → IsUsed s.segments b
   pub apart : (v w b : ℕ) → address_in s v ≡ Some b → address_in s w ≡ Some b → v ≡ w
   pub on_device : (v : ℕ) (n : Numbered) → numbered_in s v ≡ Some n → slice_index_or s.device n.block None ≡ Some n.entry.page
+  pub tidy : AreTidy s.segments
 
 -- ---- segments
 
@@ -138,6 +149,7 @@ pub record KeepsStored (old new : Store) : Type 0 where
   pub numbers : new.numbers ≡ old.numbers
   pub segments : new.segments ≡ old.segments
   pub device : new.device ≡ old.device
+  pub tags : new.tags ≡ old.tags
 
 -- Why numbers are not moved, and what is left then. A fault may come of a read, and then nothing else changes.
 abbrev pub IsMoveRefused : ℕ → ℕ → VolError → Store → Store → Type 0

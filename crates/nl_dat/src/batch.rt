@@ -1,5 +1,5 @@
 //! What one checkpoint changes.
-ghost use Rattle.std.specs.Prelude.{◌≡◌, ℕ, ◌≤◌, ◌<◌, ◌⊎◌, true, [], ◌∷◌, ◌++◌, length, take, OnOk, OnErr, IsErrOf};
+ghost use Rattle.std.specs.Prelude.{◌≡◌, ℕ, ◌+◌, ◌≤◌, ◌<◌, ◌⊎◌, true, [], ◌∷◌, ◌++◌, length, take, OnOk, OnErr, IsErrOf};
 ghost use Rattle.nl_dat.specs.Batches.{births_of, with_page};
 
 use nl_layout::Tag;
@@ -82,7 +82,7 @@ impl Batch {
     pub fn add_birth(&mut self, tag: Tag, page: Page) -> Result<(), VolError>
         ensures ok { OnOk result (self.new ≡ record self.old { births = self.old.births ++ birth_of_item (tag, page) ∷ [] }) }
         ensures fits { OnOk result ((capacity : ℕ) (content : Content) → Fits capacity content self.old
-            → IsLowestFree content self.old.births tag.number → tag.number ≤ capacity → Fits capacity content self.new) }
+            → IsLowestFree content self.old.births tag.number → tag.number ≤ capacity + length self.old.births + 1 → Fits capacity content self.new) }
         ensures err { OnErr result (self.new ≡ self.old) }
         ensures memory { OnErr result (result ≡ Err VolError.Memory) }
     {

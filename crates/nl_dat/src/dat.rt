@@ -1,13 +1,14 @@
 //! The table of virtual block numbers, over a space.
-ghost use Rattle.std.specs.Prelude.{◌≡◌, ◌≢◌, ◌↔◌, ◌⊎◌, ℕ, ◌+◌, ◌*◌, ◌<◌, ◌≤◌, Bool, true, false, length, is_some, IfOk, OnOk, OnErr, IsErr, IsOkUnless, Some, option_copied};
+ghost use Rattle.std.specs.Prelude.{◌≡◌, ◌≢◌, ◌↔◌, ◌⊎◌, ℕ, ◌+◌, ◌*◌, ◌<◌, ◌≤◌, Bool, true, false, length, is_some, MatchOption, IfOk, OnOk, OnErr, IsErr, IsOkUnless, Some, option_copied};
 ghost use Rattle.std.specs.Option.{option_map};
+ghost use Rattle.nl_types.specs.Segments.{block_at};
 
 use crate::batch::Batch;
 use crate::entries::{
     DatEntry, Period, empty_places, end_entries, enter_births, entry_at, first_free, move_entries,
     number_in,
 };
-use crate::moving::load_all;
+use crate::moving::{count_payload, load_all};
 use crate::reclaim::take_out;
 use crate::store::{VRead, Vstore};
 use nl_segwriter::Space;
@@ -79,6 +80,25 @@ impl<S: Space> Dat<S> {
         self.space.table()
     }
 
+    /// The number whose page stands at a position of a segment.
+    fn found_at(&self, segment: Segment, position: u32) -> Option<VirtualNumber>
+        requires segment { segment < length self.now.segments.each }
+        requires position { position < self.now.segments.blocks }
+        ensures { MatchOption result ((v : ℕ) → address_in self.now v ≢ Some (block_at self.now.segments.blocks (record { segment = segment; block = position })))
+            (λ v. address_in self.now v ≡ Some (block_at self.now.segments.blocks (record { segment = segment; block = position }))) }
+    {
+        let table = self.space.table();
+        table.limits_hold();
+        let block = segment.get() * table.blocks() + position;
+        let number = self.tagged(segment, position)?;
+        let entry = entry_at(self.table.as_slice(), number)?;
+        if entry.block.get() == block {
+            Some(number)
+        } else {
+            None
+        }
+    }
+
     /// The number that the payload at a position of a segment was written for: no other number's page can stand there.
     fn tagged(&self, segment: Segment, position: u32) -> Option<VirtualNumber>
         requires segment { segment < length self.now.segments.each }
@@ -92,9 +112,13 @@ impl<S: Space> Dat<S> {
 }
 
 impl<S: Space> VRead for Dat<S> {
+    ghost use Rattle.nl_types.specs.Roots.{pages_of};
     ghost use Rattle.nl_dat.specs.Stores.{content_in};
+    ghost use Rattle.nl_dat.specs.Table.{periods_of};
 
-    ghost content = { λ d. content_in d };
+    ghost pages = { λ d. pages_of (content_in d) };
+
+    ghost periods = { λ d. periods_of (content_in d) };
 
     fn page(&self, number: VirtualNumber) -> Option<&Page> {
         let entry = entry_at(self.table.as_slice(), number)?;
@@ -110,7 +134,9 @@ impl<S: Space> VRead for Dat<S> {
 impl<S: Space> Vstore for Dat<S> {
     ghost store = { λ d. d };
 
-    ghost contents = { λ d v. Rattle.std.specs.Prelude.refl };
+    ghost reads_pages = { λ d. Rattle.std.specs.Prelude.refl };
+
+    ghost reads_periods = { λ d. Rattle.std.specs.Prelude.refl };
 
     fn capacity(&self) -> u64 {
         // The table tells that no segment is used past its end.
@@ -122,6 +148,7 @@ impl<S: Space> Vstore for Dat<S> {
         // Where a list of logs fits, its payload finds blocks that no number has.
         payload_goes_to_unused_blocks();
         self.space.table().limits_hold();
+        prove!(batch.births().len() < 1 << 60);
         let first = self.filled.max(batch.last_number().get()) + 1;
         first_free(self.table.as_slice(), first).ok_or(VolError::NoSpace)
     }
@@ -133,6 +160,9 @@ impl<S: Space> Vstore for Dat<S> {
         checkpoint: CheckpointNumber,
         now: u64,
     ) -> Result<(), VolError> {
+        // Where a list of logs fits the births, no number is above those that there are.
+        payload_goes_to_unused_blocks();
+        self.space.table().limits_hold();
         let numbers = self
             .space
             .append(alloc, batch.births(), checkpoint, now, true)?;
@@ -143,16 +173,13 @@ impl<S: Space> Vstore for Dat<S> {
     }
 
     fn at(&self, segment: Segment, position: u32) -> Option<VirtualNumber> {
-        let table = self.space.table();
-        table.limits_hold();
-        let block = segment.get() * table.blocks() + position;
-        let number = self.tagged(segment, position)?;
-        let entry = entry_at(self.table.as_slice(), number)?;
-        if entry.block.get() == block {
-            Some(number)
-        } else {
-            None
-        }
+        self.space.table().limits_hold();
+        self.found_at(segment, position)
+    }
+
+    fn payload_count(&self, segment: Segment) -> u32 {
+        self.space.table().limits_hold();
+        count_payload(self.space.summary(segment))
     }
 
     fn relocate(

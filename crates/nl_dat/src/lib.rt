@@ -11,4 +11,4 @@ mod store;
 pub use batch::Batch;
 pub use dat::Dat;
 pub use entries::{DatEntry, Period};
-pub use store::{VRead, Vstore};
+pub use store::{VRead, Vstore, next_number};

@@ -6,6 +6,8 @@ ghost use Rattle.nl_segwriter.specs.Appended.{IsLoadError};
 ghost use Rattle.nl_dat.specs.Batches.{birth_of_item, births_of};
 ghost use Rattle.nl_dat.specs.Table.{entry_in, addresses_of, stored_at};
 ghost use Rattle.nl_dat.specs.Stores.{is_inside};
+ghost use Rattle.nl_dat.specs.Located.{block_if, in_row, onto, picked};
+ghost use Rattle.std.specs.Prelude.{◌^◌, []};
 ghost use Rattle.nl_dat.specs.Inside.{IsBacked, births_in};
 
 use crate::entries::{DatEntry, entry_at};
@@ -22,6 +24,29 @@ fn tag_in(row: &[Option<Payload>], position: u32) -> Option<Tag>
         Some(Some(payload)) => Some(payload.0),
         _ => None,
     }
+}
+
+/// The count with one more, where there is payload at the position of a row.
+fn counted(row: &[Option<Payload>], position: u32, count: u32) -> u32
+    requires { count + 1 < 2 ^ 32 }
+    ensures { result ≡ count + length (onto (block_if position (slice_index_or row.now position None)) []) }
+{
+    match row.get(position as usize) {
+        Some(Some(_)) => count + 1,
+        _ => count,
+    }
+}
+
+/// How many places of a row have payload.
+pub(crate) fn count_payload(row: &[Option<Payload>]) -> u32
+    requires { length row.now < 2 ^ 32 }
+    ensures { result ≡ length (picked (in_row row.now) 0 (length row.now)) }
+{
+    let mut count = 0;
+    for position in 0..row.len() as u32 {
+        count = counted(row, position, count);
+    }
+    count
 }
 
 /// The payload of a number that stands in a segment, with its page as the device has it.

@@ -1,12 +1,13 @@
 //! What the layers above know of pages under virtual block numbers.
 ghost use Rattle.std.specs.Prelude.{◌≡◌, ◌≢◌, ℕ, ◌+◌, ◌<◌, ◌≤◌, Bool, true, false, List, length, All, IfOk, IfErr, OnOk, OnErr, IsErrOf, MatchOption, MatchResult, Some, option_copied};
-ghost use Rattle.std.specs.Option.{option_map};
 ghost use Rattle.nl_types.specs.Segments.{block_at};
 ghost use Rattle.nl_types.specs.Placing.{LacksSpace};
-ghost use Rattle.nl_types.specs.Entries.{Content};
+ghost use Rattle.nl_types.specs.Roots.{Pages, pages_of};
 ghost use Rattle.nl_segwriter.specs.Appended.{IsAppendError};
-ghost use Rattle.nl_dat.specs.Batches.{IsLowestFree, LacksSpaceFrom, Fits};
-ghost use Rattle.nl_dat.specs.Table.{page_of, period_of};
+ghost use Rattle.std.specs.Prelude.{max, ◌^◌};
+ghost use Rattle.nl_dat.specs.Batches.{last_number, IsLowestFree, is_taken, LacksSpaceFrom, Fits};
+ghost use Rattle.nl_dat.specs.Table.{Periods, periods_of};
+ghost use Rattle.nl_dat.specs.Located.{number_at, payload_count};
 ghost use Rattle.nl_dat.specs.Stores.{Store, IsStore, IsWritten, IsMoved, IsMoveRefused, IsReclaimed, IsBrokenOff, IsClosed, is_inside, content_in, address_in, capacity};
 
 use crate::batch::Batch;
@@ -16,16 +17,19 @@ use std::alloc::Global;
 
 /// Pages under virtual block numbers, for reading.
 pub trait VRead {
-    /// Which numbers are in use, and what each stands for.
-    ghost content: { Self → Content };
+    /// The page of each number in use.
+    ghost pages: { Self → Pages };
+
+    /// The checkpoints that each number in use belongs to.
+    ghost periods: { Self → Periods };
 
     /// The page of a number, where it is in use.
     fn page(&self, number: VirtualNumber) -> Option<&Page>
-        ensures { option_copied result ≡ option_map page_of (content self.now number) };
+        ensures { option_copied result ≡ pages self.now number };
 
     /// The checkpoints that a number in use belongs to.
     fn period(&self, number: VirtualNumber) -> Option<Period>
-        ensures { result ≡ option_map period_of (content self.now number) };
+        ensures { result ≡ periods self.now number };
 }
 
 /// Pages under virtual block numbers, changed by a whole batch at a time. A number stays the same however often its page
@@ -38,14 +42,16 @@ pub trait Vstore: VRead {
     /// store.
     fn capacity(&self) -> u64
         ensures count { result ≡ capacity (store self.now) }
+        ensures small { result < 2 ^ 32 }
         ensures is_store { IsStore (store self.now) };
 
     /// The lowest number that is neither in use nor given to a birth of the batch. Refused by `NoSpace` alone, where no
     /// list of logs fits one block more than the batch has, or yet more. It takes no memory.
     fn fresh(&self, batch: &Batch) -> Result<VirtualNumber, VolError>
-        requires { Fits (capacity (store self.now)) (Self.content self.now) batch.now }
-        ensures lowest { IfOk result (IsLowestFree (Self.content self.now) batch.now.births) }
+        requires { Fits (capacity (store self.now)) (content_in (store self.now)) batch.now }
+        ensures lowest { IfOk result (IsLowestFree (content_in (store self.now)) batch.now.births) }
         ensures inside { IfOk result (λ v. v ≤ capacity (store self.now)) }
+        ensures all_taken { OnErr result ((v : ℕ) → 1 ≤ v → v ≤ capacity (store self.now) → is_taken (content_in (store self.now)) batch.now.births v ≡ true) }
         ensures no_space { OnErr result (result ≡ Err VolError.NoSpace) }
         ensures lacks_space { OnErr result (LacksSpaceFrom (store self.now).segments (length batch.now.births + 1)) };
 
@@ -60,7 +66,7 @@ pub trait Vstore: VRead {
         checkpoint: CheckpointNumber,
         now: u64,
     ) -> Result<(), VolError>
-        requires { Fits (capacity (store self.old)) (Self.content self.old) batch.now }
+        requires { Fits (capacity (store self.old)) (content_in (store self.old)) batch.now }
         ensures written { OnOk result (IsWritten checkpoint now batch.now (store self.old) (store self.new)) }
         ensures no_space { IsErrOf result VolError.NoSpace → LacksSpace (store self.old).segments true (length batch.now.births) }
         ensures no_space_same { IsErrOf result VolError.NoSpace → store self.new ≡ store self.old }
@@ -73,8 +79,14 @@ pub trait Vstore: VRead {
     fn at(&self, segment: Segment, position: u32) -> Option<VirtualNumber>
         requires segment { segment < length (store self.now).segments.each }
         requires position { position < (store self.now).segments.blocks }
-        ensures { MatchOption result ((v : ℕ) → address_in (store self.now) v ≢ Some (block_at (store self.now).segments.blocks (record { segment = segment; block = position })))
+        ensures is { result ≡ number_at (store self.now) (block_at (store self.now).segments.blocks (record { segment = segment; block = position })) }
+        ensures there { MatchOption result ((v : ℕ) → address_in (store self.now) v ≢ Some (block_at (store self.now).segments.blocks (record { segment = segment; block = position })))
             (λ v. address_in (store self.now) v ≡ Some (block_at (store self.now).segments.blocks (record { segment = segment; block = position }))) };
+
+    /// How many blocks of the logs of a segment have payload, be it that of a number in use or not.
+    fn payload_count(&self, segment: Segment) -> u32
+        requires { segment < length (store self.now).segments.each }
+        ensures { result ≡ payload_count (store self.now) segment };
 
     /// Moves the pages of numbers out of a segment that takes no more logs, in their order: each is read from the device and
     /// written elsewhere. The checkpoint is the latest one, and `now` the moment in whole seconds, for the logs' summaries.
@@ -102,5 +114,31 @@ pub trait Vstore: VRead {
         ensures counted { (store self.old).failures ≤ (store self.new).failures };
 
     /// What is read is what is stored.
-    ghost contents: { (s : Self) (v : ℕ) → Self.content s v ≡ content_in (store s) v };
+    ghost reads_pages: { (s : Self) → Self.pages s ≡ pages_of (content_in (store s)) };
+
+    ghost reads_periods: { (s : Self) → Self.periods s ≡ periods_of (content_in (store s)) };
+}
+
+/// The lowest number that is neither in use nor given to a birth of the batch, be it one that there is or one above: no
+/// store takes a batch with such a one.
+pub fn next_number<V: Vstore>(store: &V, batch: &Batch) -> VirtualNumber
+    requires { Fits (capacity (V.store store.now)) (content_in (V.store store.now)) batch.now }
+    ensures lowest { IsLowestFree (content_in (V.store store.now)) batch.now.births result }
+    ensures low { result ≤ capacity (V.store store.now) + length batch.now.births + 1 }
+{
+    match store.fresh(batch) {
+        Ok(number) => number,
+        Err(_) => above_all(store.capacity(), batch),
+    }
+}
+
+fn above_all(capacity: u64, batch: &Batch) -> VirtualNumber
+    requires last { last_number batch.now.births ≤ capacity + length batch.now.births }
+    requires small { capacity < 2 ^ 32 }
+    ensures { result ≡ max capacity (last_number batch.now.births) + 1 }
+{
+    let births = batch.births();
+    let count = births.len();
+    prove!(count < 1 << 60);
+    VirtualNumber::new(capacity.max(batch.last_number().get()) + 1)
 }

@@ -10,7 +10,7 @@ use Rattle.std.proofs.lemmas.Cmp.{nat_list_cmp_total}
 use Rattle.std.proofs.lemmas.Option.{get_or_from_slice_get, slice_get_within}
 use Rattle.nl_types.specs.Paths.{Name, name_cmp}
 use Rattle.nl_dirs.specs.declared.record.Record.{Record}
-use Rattle.nl_dirs.specs.Records.{AreAscending}
+use Rattle.nl_dirs.specs.Records.{NamesAscend}
 
 is_lt-Less : (o : Ordering) → is_lt o ≡ true → o ≡ Less
 is_lt-Less Less e = refl
@@ -22,7 +22,7 @@ abbrev pub IsBehind : Name → List Record → Type 0
 IsBehind name records = All (λ r. name_cmp r.name name ≡ Less) records
 
 -- a name comes behind those of records in ascending order, if it comes behind the last one
-pub behind_last : (records : List Record) (last : Record) (name : Name) → AreAscending records → slice_get records (length records - 1) ≡ Some last → is_lt (name_cmp last.name name) ≡ true → IsBehind name records
+pub behind_last : (records : List Record) (last : Record) (name : Name) → NamesAscend records → slice_get records (length records - 1) ≡ Some last → is_lt (name_cmp last.name name) ≡ true → IsBehind name records
 behind_last records last name ascending at less k d within = of_place (cases_lt k (length records - 1))
   where
     before : name_cmp last.name name ≡ Less

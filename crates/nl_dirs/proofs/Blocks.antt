@@ -8,7 +8,7 @@ use Rattle.std.proofs.lemmas.List.{append-nil}
 use Rattle.std.proofs.lemmas.List.Elements.{All-head, All-tail, All-weaker, All-cons, All-nil}
 use Rattle.nl_types.specs.Paths.{Name, name_cmp}
 use Rattle.nl_dirs.specs.declared.record.Record.{Record}
-use Rattle.nl_dirs.specs.Records.{AllFit, AreAscending, Holds, RecordFits, entry_of, page_of, size_of, sizes}
+use Rattle.nl_dirs.specs.Records.{AllFit, NamesAscend, HoldsList, RecordFits, entry_of, packed_block, size_of, sizes}
 use Rattle.nl_dirs.specs.Packing.{IsPacked, no_blocks, last_block, full_block}
 use Rattle.nl_dirs.specs.Listings.{first_name_of}
 use Rattle.nl_dirs.specs.Laws.{BlocksHoldTheirRecords, BytesHoldOneList, DirectoriesHoldOneList, EarlierNamesAreAbsent, IsBefore, IsNotBefore, NamesStandInOneBlock, PackingsAreOne}
@@ -53,7 +53,7 @@ one_packing _ _ _ _ (full_block r rs n rest blocks fits full more) (full_block s
 pub packings-one : PackingsAreOne
 packings-one xs ys blocks others a b h p q =
     let same : xs ≡ ys = same_records xs ys a b h in
-    p.pages ∙ (ap (map page_of) (one_packing xs ys p.packed q.packed p.is_packed q.is_packed same) ∙ sym q.pages)
+    p.pages ∙ (ap (map packed_block) (one_packing xs ys p.packed q.packed p.is_packed q.is_packed same) ∙ sym q.pages)
 
 -- ---- one list of a directory
 
@@ -66,33 +66,33 @@ all_of-packed _ _ (last_block r rs fits) = sym (append-nil (r ∷ rs))
 all_of-packed _ _ (full_block r rs n rest blocks fits full more) = ap (λ (xs : List Record). (r ∷ rs) ++ xs) (all_of-packed (n ∷ rest) blocks more)
 
 -- what has a spelling as a block
-abbrev IsSound : List Record → Type 0
-IsSound block = AllFit block × (sizes block ≤ 1024)
+abbrev IsSoundPacking : List Record → Type 0
+IsSoundPacking block = AllFit block × (sizes block ≤ 1024)
 
 all-left : (P : Record → Type 0) (xs ys : List Record) → All P (xs ++ ys) → All P xs
 all-left P [] ys h = All-nil P
 all-left P (x ∷ xs) ys h = All-cons P x xs (All-head P x (xs ++ ys) h) (all-left P xs ys (All-tail P x (xs ++ ys) h))
 
 -- the records of each block fit, and fit into the block
-blocks-sound : (xs : List Record) (p : List (List Record)) → IsPacked xs p → AllFit xs → All IsSound p
-blocks-sound _ _ no_blocks fit = All-nil IsSound
-blocks-sound _ _ (last_block r rs fits) fit = All-cons IsSound (r ∷ rs) [] (fit, fits) (All-nil IsSound)
+blocks-sound : (xs : List Record) (p : List (List Record)) → IsPacked xs p → AllFit xs → All IsSoundPacking p
+blocks-sound _ _ no_blocks fit = All-nil IsSoundPacking
+blocks-sound _ _ (last_block r rs fits) fit = All-cons IsSoundPacking (r ∷ rs) [] (fit, fits) (All-nil IsSoundPacking)
 blocks-sound _ _ (full_block r rs n rest blocks fits full more) fit =
-    All-cons IsSound (r ∷ rs) blocks (all-left RecordFits (r ∷ rs) (n ∷ rest) fit, fits) (blocks-sound (n ∷ rest) blocks more (all-right RecordFits (r ∷ rs) (n ∷ rest) fit))
+    All-cons IsSoundPacking (r ∷ rs) blocks (all-left RecordFits (r ∷ rs) (n ∷ rest) fit, fits) (blocks-sound (n ∷ rest) blocks more (all-right RecordFits (r ∷ rs) (n ∷ rest) fit))
 
 -- blocks with the same bytes have the same records
-same_pages : BytesHoldOneList → BlocksHoldTheirRecords → (p q : List (List Record)) → All IsSound p → All IsSound q
-    → ((i : ℕ) → option_map page_of (slice_get p i) ≡ option_map page_of (slice_get q i)) → p ≡ q
+same_pages : BytesHoldOneList → BlocksHoldTheirRecords → (p q : List (List Record)) → All IsSoundPacking p → All IsSoundPacking q
+    → ((i : ℕ) → option_map packed_block (slice_get p i) ≡ option_map packed_block (slice_get q i)) → p ≡ q
 same_pages one own [] [] sound sound' same = refl
-same_pages one own [] (b ∷ q) sound sound' same = let e : ◌≡◌ {A = Option (List ℕ)} None (Some (page_of b)) = same 0 in cc
-same_pages one own (a ∷ p) [] sound sound' same = let e : ◌≡◌ {A = Option (List ℕ)} (Some (page_of a)) None = same 0 in cc
+same_pages one own [] (b ∷ q) sound sound' same = let e : ◌≡◌ {A = Option (List ℕ)} None (Some (packed_block b)) = same 0 in cc
+same_pages one own (a ∷ p) [] sound sound' same = let e : ◌≡◌ {A = Option (List ℕ)} (Some (packed_block a)) None = same 0 in cc
 same_pages one own (a ∷ p) (b ∷ q) sound sound' same =
-    let e : ◌≡◌ {A = Option (List ℕ)} (Some (page_of a)) (Some (page_of b)) = same 0 in
-    let bytes : page_of a ≡ page_of b = cc in
-    let mine : AllFit a × (sizes a ≤ 1024) = All-head IsSound a p sound in
-    let other : AllFit b × (sizes b ≤ 1024) = All-head IsSound b q sound' in
-    let first : a ≡ b = one (page_of a) a b (own a mine.0 mine.1) (subst (λ (page : List ℕ). Holds page b) (sym bytes) (own b other.0 other.1)) in
-    let rest : p ≡ q = same_pages one own p q (All-tail IsSound a p sound) (All-tail IsSound b q sound') (λ i. same (suc i)) in
+    let e : ◌≡◌ {A = Option (List ℕ)} (Some (packed_block a)) (Some (packed_block b)) = same 0 in
+    let bytes : packed_block a ≡ packed_block b = cc in
+    let mine : AllFit a × (sizes a ≤ 1024) = All-head IsSoundPacking a p sound in
+    let other : AllFit b × (sizes b ≤ 1024) = All-head IsSoundPacking b q sound' in
+    let first : a ≡ b = one (packed_block a) a b (own a mine.0 mine.1) (subst (λ (page : List ℕ). HoldsList page b) (sym bytes) (own b other.0 other.1)) in
+    let rest : p ≡ q = same_pages one own p q (All-tail IsSoundPacking a p sound) (All-tail IsSoundPacking b q sound') (λ i. same (suc i)) in
     cc
 
 pub directories-one : BytesHoldOneList → BlocksHoldTheirRecords → DirectoriesHoldOneList
@@ -121,7 +121,7 @@ block_first P _ _ (suc i) block (full_block r rs n rest blocks fits full more) a
     block_first P (n ∷ rest) blocks i block more (all-right P (r ∷ rs) (n ∷ rest) all) at
 
 -- a name that isn't before a block's first isn't before the directory's first
-not_before_first : (name : Name) (n : Record) (rest : List Record) (p : List (List Record)) (i : ℕ) (block : List Record) → AreAscending (n ∷ rest) → IsPacked (n ∷ rest) p
+not_before_first : (name : Name) (n : Record) (rest : List Record) (p : List (List Record)) (i : ℕ) (block : List Record) → NamesAscend (n ∷ rest) → IsPacked (n ∷ rest) p
     → slice_get p i ≡ Some block → IsNotBefore name block → name_cmp name n.name ≢ Less
 not_before_first name n rest p i block ascending packed at not less =
     let first : (f : Record) × ((first_name_of block ≡ Some f.name) × (name_cmp name f.name ≡ Less)) =
@@ -129,13 +129,13 @@ not_before_first name n rest p i block ascending packed at not less =
     not first.0.name first.1.0 first.1.1
 
 -- a name before the first one is none of the records'
-absent : (name : Name) (n : Record) (rest : List Record) (p : List (List Record)) → AreAscending (n ∷ rest) → IsPacked (n ∷ rest) p → IsBefore name (slice_get p 0)
+absent : (name : Name) (n : Record) (rest : List Record) (p : List (List Record)) → NamesAscend (n ∷ rest) → IsPacked (n ∷ rest) p → IsBefore name (slice_get p 0)
     → entry_of name (n ∷ rest) ≡ None
 absent name n rest p ascending packed before =
     let first : (more : List Record) × (slice_get p 0 ≡ Some (n ∷ more)) = first_block (n ∷ rest) p n rest packed refl in
     entry_of-before name (n ∷ rest) (before_first name n rest ascending (before (n ∷ first.0) n.name first.1 refl))
 
-in_one_block : (records : List Record) (packed : List (List Record)) (name : Name) (i : ℕ) (block : List Record) → AreAscending records → IsPacked records packed
+in_one_block : (records : List Record) (packed : List (List Record)) (name : Name) (i : ℕ) (block : List Record) → NamesAscend records → IsPacked records packed
     → slice_get packed i ≡ Some block → IsNotBefore name block → IsBefore name (slice_get packed (suc i)) → entry_of name records ≡ entry_of name block
 in_one_block _ _ name i block ascending no_blocks at not before = absurd cc
 in_one_block _ _ name zero block ascending (last_block r rs fits) at not before = let same : (r ∷ rs) ≡ block = cc in ap (entry_of name) same
@@ -144,7 +144,7 @@ in_one_block _ _ name zero block ascending (full_block r rs n rest blocks fits f
     let same : (r ∷ rs) ≡ block = cc in
     entry_of-front name (r ∷ rs) (n ∷ rest) (absent name n rest blocks (ascending-right (r ∷ rs) (n ∷ rest) ascending) more before) ∙ ap (entry_of name) same
 in_one_block _ _ name (suc i) block ascending (full_block r rs n rest blocks fits full more) at not before =
-    let behind : AreAscending (n ∷ rest) = ascending-right (r ∷ rs) (n ∷ rest) ascending in
+    let behind : NamesAscend (n ∷ rest) = ascending-right (r ∷ rs) (n ∷ rest) ascending in
     let late : name_cmp name n.name ≢ Less = not_before_first name n rest blocks i block behind more at not in
     entry_of-behind name (r ∷ rs) (n ∷ rest)
     (All-weaker (λ (x : Record). name_cmp x.name n.name ≡ Less) (λ (x : Record). name_cmp x.name name ≡ Less) (λ x h. before_not_before x.name n.name name h late) (r ∷ rs)

@@ -9,7 +9,7 @@ use Rattle.byteorder.specs.Endian.{little_bytes}
 use Rattle.byteorder.specs.Numbers.{length-bytes_low_first}
 use borrow.Rule.Slice.PartMut.{mid_of, put_mid}
 use Rattle.nl_dirs.specs.declared.record.Record.{Record}
-use Rattle.nl_dirs.specs.Records.{kind_code, record_bytes, size_of, sizes, page_of}
+use Rattle.nl_dirs.specs.Records.{kind_code, record_bytes, size_of, sizes, packed_block}
 use Rattle.nl_dirs.specs.Packing.{IsFilled}
 
 pub sizes-append : (xs ys : List Record) → sizes (xs ++ ys) ≡ sizes xs + sizes ys
@@ -23,8 +23,8 @@ pub length-records : (rs : List Record) → length (flat_map record_bytes rs) �
 length-records [] = refl
 length-records (r ∷ rs) = omega (arith, length-append (record_bytes r) (flat_map record_bytes rs), length-record_bytes r, length-records rs)
 
-pub length-page_of : (rs : List Record) → sizes rs ≤ 1024 → length (page_of rs) ≡ 1024
-length-page_of rs room = omega (arith, length-append (flat_map record_bytes rs) (replicate (1024 - sizes rs) 0), length-records rs, length-replicate {A = ℕ} (1024 - sizes rs) 0)
+pub length-packed_block : (rs : List Record) → sizes rs ≤ 1024 → length (packed_block rs) ≡ 1024
+length-packed_block rs room = omega (arith, length-append (flat_map record_bytes rs) (replicate (1024 - sizes rs) 0), length-records rs, length-replicate {A = ℕ} (1024 - sizes rs) 0)
 
 -- what is written over the zeros behind a part
 put_mid-behind : (front zeros new : List ℕ) (n : ℕ) → n ≡ length zeros → put_mid (length front) n (front ++ zeros) new ≡ front ++ new

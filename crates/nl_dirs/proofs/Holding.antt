@@ -7,20 +7,20 @@ use Rattle.std.proofs.lemmas.List.Elements.{All-nil, All-cons}
 use Rattle.std.proofs.lemmas.Grind.{common_steps}
 use Rattle.byteorder.specs.Endian.{little_bytes, little_number}
 use Rattle.nl_types.specs.Paths.{Name, same_name}
-use Rattle.nl_dirs.specs.declared.record.EntryKind.{EntryKind}
-use Rattle.nl_dirs.specs.declared.record.EntryKind.TheVariants.{File, Directory}
+use Rattle.nl_types.specs.declared.kind.Kind.{Kind}
+use Rattle.nl_types.specs.declared.kind.Kind.TheVariants.{File, Directory}
 use Rattle.nl_dirs.specs.declared.record.Record.{Record}
-use Rattle.nl_dirs.specs.Records.{AreBytes, Begins, BeginsNone, Holds, entry_of, RecordFits, kind_code, record_bytes, size_of}
+use Rattle.nl_dirs.specs.Records.{AreBytes, Begins, BeginsNone, HoldsList, entry_of, RecordFits, kind_code, record_bytes, size_of}
 use Rattle.nl_dirs.specs.Listings.{first_name_of}
 use Rattle.nl_dirs.proofs.Spelling.{flat_map-record_bytes}
 
 -- ---- one record after the other
 
-pub Holds-none : (bytes : List ℕ) → BeginsNone bytes → Holds bytes []
-Holds-none bytes none = record { fit = All-nil RecordFits; rest = bytes; begins = refl; no_more = none }
+pub HoldsList-none : (bytes : List ℕ) → BeginsNone bytes → HoldsList bytes []
+HoldsList-none bytes none = record { fit = All-nil RecordFits; rest = bytes; begins = refl; no_more = none }
 
-pub Holds-more : (bytes behind : List ℕ) (r : Record) (records : List Record) → Begins bytes r behind → Holds behind records → Holds bytes (r ∷ records)
-Holds-more bytes behind r records begins holds = record {
+pub HoldsList-more : (bytes behind : List ℕ) (r : Record) (records : List Record) → Begins bytes r behind → HoldsList behind records → HoldsList bytes (r ∷ records)
+HoldsList-more bytes behind r records begins holds = record {
   fit = All-cons RecordFits r records begins.fits holds.fit;
   rest = holds.rest;
   begins = begins.spelling ∙ (ap (λ (xs : List ℕ). record_bytes r ++ xs) holds.begins ∙ sym (flat_map-record_bytes r records holds.rest));
@@ -36,15 +36,15 @@ IsSplit bytes = BeginsNone bytes ⊎ ((r : Record) × (behind : List ℕ) × Beg
 short-BeginsNone : (bytes : List ℕ) → length bytes < 6 → BeginsNone bytes
 short-BeginsNone bytes short r behind fits e = omega (arith, ap length e)
 
-of_kind : (k : ℕ) → ((kind : EntryKind) × (k ≡ kind_code kind)) ⊎ ((kind : EntryKind) → k ≢ kind_code kind)
+of_kind : (k : ℕ) → ((kind : Kind) × (k ≡ kind_code kind)) ⊎ ((kind : Kind) → k ≢ kind_code kind)
 of_kind k = cases_of (cases_eq k 1) (cases_eq k 2)
   where
-    cases_of : ((k ≡ 1) ⊎ (k ≢ 1)) → ((k ≡ 2) ⊎ (k ≢ 2)) → ((kind : EntryKind) × (k ≡ kind_code kind)) ⊎ ((kind : EntryKind) → k ≢ kind_code kind)
+    cases_of : ((k ≡ 1) ⊎ (k ≢ 1)) → ((k ≡ 2) ⊎ (k ≢ 2)) → ((kind : Kind) × (k ≡ kind_code kind)) ⊎ ((kind : Kind) → k ≢ kind_code kind)
     cases_of (inl e) q = inl (File, e)
     cases_of (inr n) (inl e) = inl (Directory, e)
     cases_of (inr n) (inr m) = inr other
       where
-        other : (kind : EntryKind) → k ≢ kind_code kind
+        other : (kind : Kind) → k ≢ kind_code kind
         other File = n
         other Directory = m
 
@@ -56,7 +56,7 @@ four-lt : (a b c d : ℕ) → a < 256 → b < 256 → c < 256 → d < 256 → li
 four-lt a b c d p q r s = omega arith
 
 -- the head of six bytes and its name
-spelled : (a b c d l : ℕ) (kind : EntryKind) (rest : List ℕ) → a < 256 → b < 256 → c < 256 → d < 256 → l < 256 → 0 < l → l ≤ length rest
+spelled : (a b c d l : ℕ) (kind : Kind) (rest : List ℕ) → a < 256 → b < 256 → c < 256 → d < 256 → l < 256 → 0 < l → l ≤ length rest
     → (r : Record) × (behind : List ℕ) × Begins (a ∷ b ∷ c ∷ d ∷ kind_code kind ∷ l ∷ rest) r behind
 spelled a b c d l kind rest p q r s small some long =
     let inode : ℕ = little_number 4 (a ∷ b ∷ c ∷ d ∷ []) in
@@ -72,7 +72,7 @@ spelled a b c d l kind rest p q r s small some long =
     join : {us vs names ms : List ℕ} {m n : ℕ} (k : ℕ) → us ≡ vs → n ≡ m → names ≡ ms → vs ++ k ∷ m ∷ ms ≡ us ++ k ∷ n ∷ names
     join k e f g = cc
 
-no_kind : (a b c d k l : ℕ) (rest : List ℕ) → ((kind : EntryKind) → k ≢ kind_code kind) → BeginsNone (a ∷ b ∷ c ∷ d ∷ k ∷ l ∷ rest)
+no_kind : (a b c d k l : ℕ) (rest : List ℕ) → ((kind : Kind) → k ≢ kind_code kind) → BeginsNone (a ∷ b ∷ c ∷ d ∷ k ∷ l ∷ rest)
 no_kind a b c d k l rest other r behind fits e = other r.kind (ap (λ (xs : List ℕ). slice_index xs 4) e)
 
 no_name : (a b c d k : ℕ) (rest : List ℕ) → BeginsNone (a ∷ b ∷ c ∷ d ∷ k ∷ 0 ∷ rest)
@@ -89,7 +89,7 @@ pub split : (bytes : List ℕ) → AreBytes bytes → IsSplit bytes
 split (a ∷ b ∷ c ∷ d ∷ k ∷ zero ∷ rest) small = inl (no_name a b c d k rest)
 split (a ∷ b ∷ c ∷ d ∷ k ∷ suc l ∷ rest) small = of_code (of_kind k) (cases_lt (length rest) (suc l))
   where
-    of_code : ((kind : EntryKind) × (k ≡ kind_code kind)) ⊎ ((kind : EntryKind) → k ≢ kind_code kind) → ((length rest < suc l) ⊎ (suc l ≤ length rest)) → IsSplit (a ∷ b ∷ c ∷ d ∷ k ∷ suc l ∷ rest)
+    of_code : ((kind : Kind) × (k ≡ kind_code kind)) ⊎ ((kind : Kind) → k ≢ kind_code kind) → ((length rest < suc l) ⊎ (suc l ≤ length rest)) → IsSplit (a ∷ b ∷ c ∷ d ∷ k ∷ suc l ∷ rest)
     of_code (inr other) q = inl (no_kind a b c d k (suc l) rest other)
     of_code (inl kind) (inl short) = inl (no_room a b c d k (suc l) rest short)
     of_code (inl kind) (inr long) = inr (subst (λ (code : ℕ). (r : Record) × (behind : List ℕ) × Begins (a ∷ b ∷ c ∷ d ∷ code ∷ suc l ∷ rest) r behind) (sym kind.1)
@@ -114,47 +114,47 @@ small_behind bytes behind r begins small i =
     subst (λ (b : ℕ). b < 256) (ap (λ (xs : List ℕ). slice_index xs (n + i)) begins.spelling ∙ at) (small (n + i))
 
 -- any bytes hold a list of records
-pub some_list : (fuel : ℕ) (bytes : List ℕ) → length bytes ≤ fuel → AreBytes bytes → (records : List Record) × Holds bytes records
-some_list zero bytes most small = ([], Holds-none bytes (short-BeginsNone bytes (omega arith)))
+pub some_list : (fuel : ℕ) (bytes : List ℕ) → length bytes ≤ fuel → AreBytes bytes → (records : List Record) × HoldsList bytes records
+some_list zero bytes most small = ([], HoldsList-none bytes (short-BeginsNone bytes (omega arith)))
 some_list (suc fuel) bytes most small = from_split (split bytes small) (λ behind less fine. some_list fuel behind (omega (arith, less)) fine)
   where
-    from_split : IsSplit bytes → ((behind : List ℕ) → length behind < length bytes → AreBytes behind → (records : List Record) × Holds behind records) → (records : List Record) × Holds bytes records
-    from_split (inl none) more = ([], Holds-none bytes none)
+    from_split : IsSplit bytes → ((behind : List ℕ) → length behind < length bytes → AreBytes behind → (records : List Record) × HoldsList behind records) → (records : List Record) × HoldsList bytes records
+    from_split (inl none) more = ([], HoldsList-none bytes none)
     from_split (inr (r, behind, begins)) more =
-        let others : (records : List Record) × Holds behind records = more behind (omega (arith, length-Begins bytes behind r begins)) (small_behind bytes behind r begins small) in
-        (r ∷ others.0, Holds-more bytes behind r others.0 begins others.1)
+        let others : (records : List Record) × HoldsList behind records = more behind (omega (arith, length-Begins bytes behind r begins)) (small_behind bytes behind r begins small) in
+        (r ∷ others.0, HoldsList-more bytes behind r others.0 begins others.1)
 
 -- ---- finding a name
 
 -- the rest is bytes, and any list that it holds stands behind records of the page that have other names
 pub record IsNotYetFound (page : List ℕ) (name : Name) (rest : List ℕ) : Type 0 where
   pub small : AreBytes rest
-  pub leads : (records : List Record) → Holds rest records → (all : List Record) × Holds page all × (entry_of name all ≡ entry_of name records)
+  pub leads : (records : List Record) → HoldsList rest records → (all : List Record) × HoldsList page all × (entry_of name all ≡ entry_of name records)
 
 pub not_found-none : (page : List ℕ) (name : Name) (rest : List ℕ) → AreBytes rest → rest ≡ page → IsNotYetFound page name rest
-not_found-none page name rest small e = record { small = small; leads = λ records holds. (records, subst (λ (bytes : List ℕ). Holds bytes records) e holds, refl) }
+not_found-none page name rest small e = record { small = small; leads = λ records holds. (records, subst (λ (bytes : List ℕ). HoldsList bytes records) e holds, refl) }
 
 pub not_found-more : (page : List ℕ) (name : Name) (rest behind : List ℕ) (r : Record) → IsNotYetFound page name rest → Begins rest r behind → same_name name r.name ≡ false → IsNotYetFound page name behind
 not_found-more page name rest behind r earlier begins other = record { small = small_behind rest behind r begins earlier.small; leads = leads }
   where
-    leads : (records : List Record) → Holds behind records → (all : List Record) × Holds page all × (entry_of name all ≡ entry_of name records)
+    leads : (records : List Record) → HoldsList behind records → (all : List Record) × HoldsList page all × (entry_of name all ≡ entry_of name records)
     leads records holds =
-        let found : (all : List Record) × Holds page all × (entry_of name all ≡ entry_of name (r ∷ records)) = earlier.leads (r ∷ records) (Holds-more rest behind r records begins holds) in
+        let found : (all : List Record) × HoldsList page all × (entry_of name all ≡ entry_of name (r ∷ records)) = earlier.leads (r ∷ records) (HoldsList-more rest behind r records begins holds) in
         (found.0, found.1, found.2 ∙ cond-false (same_name name r.name) (Some (r.inode, r.kind)) (entry_of name records) other)
 
 pub found_at : (page : List ℕ) (name : Name) (rest behind : List ℕ) (r : Record) → IsNotYetFound page name rest → Begins rest r behind → same_name name r.name ≡ true
-    → (records : List Record) × Holds page records × (Some (r.inode, r.kind) ≡ entry_of name records)
+    → (records : List Record) × HoldsList page records × (Some (r.inode, r.kind) ≡ entry_of name records)
 found_at page name rest behind r earlier begins same =
-    let others : (records : List Record) × Holds behind records = some_list (length behind) behind (omega arith) (small_behind rest behind r begins earlier.small) in
-    let found : (all : List Record) × Holds page all × (entry_of name all ≡ entry_of name (r ∷ others.0)) = earlier.leads (r ∷ others.0) (Holds-more rest behind r others.0 begins others.1) in
+    let others : (records : List Record) × HoldsList behind records = some_list (length behind) behind (omega arith) (small_behind rest behind r begins earlier.small) in
+    let found : (all : List Record) × HoldsList page all × (entry_of name all ≡ entry_of name (r ∷ others.0)) = earlier.leads (r ∷ others.0) (HoldsList-more rest behind r others.0 begins others.1) in
     (found.0, found.1, sym (found.2 ∙ cond-true (same_name name r.name) (Some (r.inode, r.kind)) (entry_of name others.0) same))
 
-pub found_nowhere : (page : List ℕ) (name : Name) (rest : List ℕ) → IsNotYetFound page name rest → BeginsNone rest → (records : List Record) × Holds page records × (None ≡ entry_of name records)
-found_nowhere page name rest earlier none = let found : (all : List Record) × Holds page all × (entry_of name all ≡ None) = earlier.leads [] (Holds-none rest none) in (found.0, found.1, sym found.2)
+pub found_nowhere : (page : List ℕ) (name : Name) (rest : List ℕ) → IsNotYetFound page name rest → BeginsNone rest → (records : List Record) × HoldsList page records × (None ≡ entry_of name records)
+found_nowhere page name rest earlier none = let found : (all : List Record) × HoldsList page all × (entry_of name all ≡ None) = earlier.leads [] (HoldsList-none rest none) in (found.0, found.1, sym found.2)
 
 -- ---- the first name
 
-pub first_at : (bytes behind : List ℕ) (r : Record) → AreBytes bytes → Begins bytes r behind → (records : List Record) × Holds bytes records × (Some r.name ≡ first_name_of records)
+pub first_at : (bytes behind : List ℕ) (r : Record) → AreBytes bytes → Begins bytes r behind → (records : List Record) × HoldsList bytes records × (Some r.name ≡ first_name_of records)
 first_at bytes behind r small begins =
-    let others : (records : List Record) × Holds behind records = some_list (length behind) behind (omega arith) (small_behind bytes behind r begins small) in
-    (r ∷ others.0, Holds-more bytes behind r others.0 begins others.1, refl)
+    let others : (records : List Record) × HoldsList behind records = some_list (length behind) behind (omega arith) (small_behind bytes behind r begins small) in
+    (r ∷ others.0, HoldsList-more bytes behind r others.0 begins others.1, refl)

@@ -1,6 +1,7 @@
 pub mod Spelling
 pub mod Holding
 pub mod Ascending
+pub mod Counting
 pub mod PageReading
 pub mod RecordOrder
 pub mod Packings

@@ -3,7 +3,7 @@ use Rattle.std.proofs.Common.{◌≡◌, ℕ, ◌+◌, ◌≤◌, ◌<◌, List,
 use Rattle.std.specs.Prelude.{map}
 use Rattle.std.proofs.lemmas.List.{append-nil, map-append}
 use Rattle.nl_dirs.specs.declared.record.Record.{Record}
-use Rattle.nl_dirs.specs.Records.{page_of, size_of, sizes}
+use Rattle.nl_dirs.specs.Records.{packed_block, size_of, sizes}
 use Rattle.nl_dirs.specs.Packing.{IsPacked, no_blocks, last_block, full_block, Packs, IsFilled}
 
 -- these records are those of the blocks that are done, and then those of the block that is being filled
@@ -13,7 +13,7 @@ pub record IsPackedSoFar (records : List Record) (blocks : List (List ℕ)) (byt
   pub current : List Record
   pub all : records ≡ done ++ current
   pub goes_on : (rest : List Record) (more : List (List Record)) → IsPacked (current ++ rest) more → IsPacked (done ++ (current ++ rest)) (packed ++ more)
-  pub pages : blocks ≡ map page_of packed
+  pub pages : blocks ≡ map packed_block packed
   pub has : IsFilled bytes used current
 
 pub so_far-begun : (bytes : List ℕ) (used : ℕ) → IsFilled bytes used [] → IsPackedSoFar [] [] bytes used
@@ -59,7 +59,7 @@ so_far-closed records blocks bytes empty filled used none new next was full smal
           (subst (λ (bs : List (List Record)). IsPacked (was.done ++ (was.current ++ next ∷ rest)) bs) (sym (append_assoc was.packed (was.current ∷ []) more))
           (was.goes_on (next ∷ rest) (was.current ∷ more) (full_blocks was.current next rest more room (omega arith) small h)));
       pages = ap (λ (bs : List (List ℕ)). bs ++ bytes ∷ []) was.pages
-          ∙ (ap (λ (page : List ℕ). map page_of was.packed ++ page ∷ []) was.has.spelled ∙ sym (map-append page_of was.packed (was.current ∷ [])));
+          ∙ (ap (λ (page : List ℕ). map packed_block was.packed ++ page ∷ []) was.has.spelled ∙ sym (map-append packed_block was.packed (was.current ∷ [])));
       has = add [] begun;
     }
 
@@ -99,5 +99,5 @@ so_far-ends_with records blocks bytes used was some =
       is_packed = subst (λ (rs : List Record). IsPacked rs (was.packed ++ was.current ∷ [])) (sym was.all)
           (ended was.done was.current [] was.packed (was.current ∷ []) refl (was.goes_on [] (was.current ∷ [])) (one_block was.current (omega arith) was.has.room));
       pages = ap (λ (bs : List (List ℕ)). bs ++ bytes ∷ []) was.pages
-          ∙ (ap (λ (page : List ℕ). map page_of was.packed ++ page ∷ []) was.has.spelled ∙ sym (map-append page_of was.packed (was.current ∷ [])));
+          ∙ (ap (λ (page : List ℕ). map packed_block was.packed ++ page ∷ []) was.has.spelled ∙ sym (map-append packed_block was.packed (was.current ∷ [])));
     }

@@ -10,9 +10,9 @@ use Rattle.std.proofs.lemmas.List.Elements.{All-append, All-nil, All-push}
 use Rattle.std.proofs.lemmas.List.Quantifiers.{all_pairs_push}
 use Rattle.nl_types.specs.Paths.{name_cmp}
 use Rattle.nl_dirs.specs.declared.record.Record.{Record}
-use Rattle.nl_dirs.specs.Records.{AllFit, AreAscending, AreBytes, Begins, BeginsNone, Holds, IsPageOf, RecordFits, page_of, record_bytes, size_of, sizes}
-use Rattle.nl_dirs.proofs.Spelling.{bytes_hold_one_list, page_of-Holds}
-use Rattle.nl_dirs.proofs.Holding.{Holds-more, small_behind, some_list}
+use Rattle.nl_dirs.specs.Records.{AllFit, NamesAscend, AreBytes, Begins, BeginsNone, HoldsList, IsPageOf, RecordFits, packed_block, record_bytes, size_of, sizes}
+use Rattle.nl_dirs.proofs.Spelling.{bytes_hold_one_list, packed_block-HoldsList}
+use Rattle.nl_dirs.proofs.Holding.{HoldsList-more, small_behind, some_list}
 use Rattle.nl_dirs.proofs.Ascending.{IsBehind}
 
 -- ---- records behind others
@@ -29,8 +29,8 @@ length-flat_map-record_bytes (r ∷ records) =
     omega (arith, more, size, length-append (record_bytes r) (flat_map record_bytes records))
 
 -- records that ascend with others behind them come before those
-AreAscending-behind : (records : List Record) (r : Record) (others : List Record) → AreAscending (records ++ r ∷ others) → IsBehind r.name records
-AreAscending-behind records r others ascending k d within =
+NamesAscend-behind : (records : List Record) (r : Record) (others : List Record) → NamesAscend (records ++ r ∷ others) → IsBehind r.name records
+NamesAscend-behind records r others ascending k d within =
     let longer : length records < length (records ++ r ∷ others) = omega (arith, length-append records (r ∷ others)) in
     let step : name_cmp (get_or (records ++ r ∷ others) k d).name (get_or (records ++ r ∷ others) (length records) d).name ≡ Less = ascending k (length records) d within longer in
     ap (λ (s : Record). name_cmp s.name r.name) (sym (get_or_append_left records (r ∷ others) d k within))
@@ -42,7 +42,7 @@ AreAscending-behind records r others ascending k d within =
 pub record IsReadSoFar (page : List ℕ) (records : List Record) (rest : List ℕ) : Type 0 where
   pub small : AreBytes rest
   pub fit : AllFit records
-  pub ascending : AreAscending records
+  pub ascending : NamesAscend records
   pub begins : page ≡ flat_map record_bytes records ++ rest
 
 pub read_none : (page rest : List ℕ) → AreBytes rest → rest ≡ page → IsReadSoFar page [] rest
@@ -60,16 +60,16 @@ read_more page records rest behind r read begins later = record {
     spelled = begins.spelling ∙ ap (λ (bytes : List ℕ). bytes ++ behind) (sym (append-nil (record_bytes r)))
 
 -- the page holds what has been read and what the rest holds
-read-Holds : (page : List ℕ) (records more : List Record) (rest : List ℕ) → IsReadSoFar page records rest → Holds rest more → Holds page (records ++ more)
-read-Holds page records more rest read holds = record {
+read-HoldsList : (page : List ℕ) (records more : List Record) (rest : List ℕ) → IsReadSoFar page records rest → HoldsList rest more → HoldsList page (records ++ more)
+read-HoldsList page records more rest read holds = record {
   fit = All-append RecordFits records more read.fit holds.fit;
   rest = holds.rest;
   begins = read.begins ∙ (ap (λ (bytes : List ℕ). flat_map record_bytes records ++ bytes) holds.begins ∙ sym (flat_map-record_bytes-append records more holds.rest));
   no_more = holds.no_more;
 }
 
-IsPageOf-Holds : (page : List ℕ) (list : List Record) → IsPageOf page list → Holds page list
-IsPageOf-Holds page list is = subst (λ (bytes : List ℕ). Holds bytes list) (sym is.spelling) (page_of-Holds list is.fit)
+IsPageOf-HoldsList : (page : List ℕ) (list : List Record) → IsPageOf page list → HoldsList page list
+IsPageOf-HoldsList page list is = subst (λ (bytes : List ℕ). HoldsList bytes list) (sym is.spelling) (packed_block-HoldsList list is.fit)
 
 -- ---- a page of a directory
 
@@ -82,12 +82,12 @@ all_read-IsPageOf page records rest count read some zeros = record { fit = read.
     left : length rest ≡ 1024 - sizes records
     left = omega (arith, whole)
 
-    spelling : page ≡ page_of records
+    spelling : page ≡ packed_block records
     spelling = read.begins ∙ ap (λ (bytes : List ℕ). flat_map record_bytes records ++ bytes) (zeros ∙ ap (λ (n : ℕ). replicate n 0) left)
 
 -- once no record begins the rest, what was read is the page's list
 pub all_read : (page : List ℕ) (records : List Record) (rest : List ℕ) (list : List Record) → IsReadSoFar page records rest → BeginsNone rest → IsPageOf page list → records ≡ list
-all_read page records rest list read none is = bytes_hold_one_list page records list (record { fit = read.fit; rest = rest; begins = read.begins; no_more = none }) (IsPageOf-Holds page list is)
+all_read page records rest list read none is = bytes_hold_one_list page records list (record { fit = read.fit; rest = rest; begins = read.begins; no_more = none }) (IsPageOf-HoldsList page list is)
 
 -- and the rest is zeros
 pub all_read-zeros : (page : List ℕ) (records : List Record) (rest : List ℕ) (list : List Record) → IsReadSoFar page records rest → BeginsNone rest → IsPageOf page list → rest ≡ replicate (length rest) 0
@@ -102,7 +102,7 @@ all_read-zeros page records rest list read none is =
 -- no record of such a page comes before an earlier one
 pub later_is_behind : (page : List ℕ) (records : List Record) (rest behind : List ℕ) (r : Record) (list : List Record) → IsReadSoFar page records rest → Begins rest r behind → IsPageOf page list → IsBehind r.name records
 later_is_behind page records rest behind r list read begins is =
-    let others : (more : List Record) × Holds behind more = some_list (length behind) behind (omega arith) (small_behind rest behind r begins read.small) in
-    let whole : Holds page (records ++ r ∷ others.0) = read-Holds page records (r ∷ others.0) rest read (Holds-more rest behind r others.0 begins others.1) in
-    let same : records ++ r ∷ others.0 ≡ list = bytes_hold_one_list page (records ++ r ∷ others.0) list whole (IsPageOf-Holds page list is) in
-    AreAscending-behind records r others.0 (subst AreAscending (sym same) is.ascending)
+    let others : (more : List Record) × HoldsList behind more = some_list (length behind) behind (omega arith) (small_behind rest behind r begins read.small) in
+    let whole : HoldsList page (records ++ r ∷ others.0) = read-HoldsList page records (r ∷ others.0) rest read (HoldsList-more rest behind r others.0 begins others.1) in
+    let same : records ++ r ∷ others.0 ≡ list = bytes_hold_one_list page (records ++ r ∷ others.0) list whole (IsPageOf-HoldsList page list is) in
+    NamesAscend-behind records r others.0 (subst NamesAscend (sym same) is.ascending)

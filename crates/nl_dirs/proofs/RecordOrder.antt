@@ -11,9 +11,9 @@ use Rattle.std.specs.declared.cmp.Ordering.TheVariants.{Less, Equal, Greater}
 use Rattle.std.proofs.lemmas.Bool.{cond-true, cond-false}
 use Rattle.std.proofs.lemmas.List.Elements.{All-head, All-tail, All-weaker, All-cons, All-nil}
 use Rattle.nl_types.specs.Paths.{Name, name_cmp, same_name}
-use Rattle.nl_dirs.specs.declared.record.EntryKind.{EntryKind}
+use Rattle.nl_types.specs.declared.kind.Kind.{Kind}
 use Rattle.nl_dirs.specs.declared.record.Record.{Record}
-use Rattle.nl_dirs.specs.Records.{AreAscending, entry_of}
+use Rattle.nl_dirs.specs.Records.{NamesAscend, entry_of}
 
 -- ---- names
 
@@ -39,13 +39,13 @@ before_not_before a b c h not = choose (name_cmp c b) refl
 abbrev pub IsBeforeAll : Name → List Record → Type 0
 IsBeforeAll name records = All (λ (r : Record). name_cmp name r.name ≡ Less) records
 
-pub ascending-head : (r : Record) (rs : List Record) → AreAscending (r ∷ rs) → IsBeforeAll r.name rs
+pub ascending-head : (r : Record) (rs : List Record) → NamesAscend (r ∷ rs) → IsBeforeAll r.name rs
 ascending-head r rs h k d l = h 0 (suc k) d (omega arith) (omega arith)
 
-pub ascending-tail : (r : Record) (rs : List Record) → AreAscending (r ∷ rs) → AreAscending rs
+pub ascending-tail : (r : Record) (rs : List Record) → NamesAscend (r ∷ rs) → NamesAscend rs
 ascending-tail r rs h i j d lt l = h (suc i) (suc j) d (omega arith) (omega arith)
 
-pub ascending-right : (xs ys : List Record) → AreAscending (xs ++ ys) → AreAscending ys
+pub ascending-right : (xs ys : List Record) → NamesAscend (xs ++ ys) → NamesAscend ys
 ascending-right [] ys h = h
 ascending-right (x ∷ xs) ys h = ascending-right xs ys (ascending-tail x (xs ++ ys) h)
 
@@ -54,7 +54,7 @@ all-right P [] ys h = h
 all-right P (x ∷ xs) ys h = all-right P xs ys (All-tail P x (xs ++ ys) h)
 
 -- the records of the front come before the one behind them
-pub ascending-across : (xs : List Record) (n : Record) (rest : List Record) → AreAscending (xs ++ n ∷ rest) → All (λ (x : Record). name_cmp x.name n.name ≡ Less) xs
+pub ascending-across : (xs : List Record) (n : Record) (rest : List Record) → NamesAscend (xs ++ n ∷ rest) → All (λ (x : Record). name_cmp x.name n.name ≡ Less) xs
 ascending-across [] n rest h = All-nil (λ (x : Record). name_cmp x.name n.name ≡ Less)
 ascending-across (x ∷ xs) n rest h =
     let here : IsBeforeAll x.name (n ∷ rest) = all-right (λ (r : Record). name_cmp x.name r.name ≡ Less) xs (n ∷ rest) (ascending-head x (xs ++ n ∷ rest) h) in
@@ -62,7 +62,7 @@ ascending-across (x ∷ xs) n rest h =
     (ascending-across xs n rest (ascending-tail x (xs ++ n ∷ rest) h))
 
 -- what comes before the first comes before all
-pub before_first : (name : Name) (r : Record) (rs : List Record) → AreAscending (r ∷ rs) → name_cmp name r.name ≡ Less → IsBeforeAll name (r ∷ rs)
+pub before_first : (name : Name) (r : Record) (rs : List Record) → NamesAscend (r ∷ rs) → name_cmp name r.name ≡ Less → IsBeforeAll name (r ∷ rs)
 before_first name r rs h less = All-cons (λ (s : Record). name_cmp name s.name ≡ Less) r rs less
     (All-weaker (λ (s : Record). name_cmp r.name s.name ≡ Less) (λ (s : Record). name_cmp name s.name ≡ Less) (λ s. nat_list_cmp_total.trans name r.name s.name less) rs (ascending-head r rs h))
 
@@ -91,18 +91,18 @@ entry_of-front name (x ∷ xs) ys h = ap (cond (same_name name x.name) (Some (x.
 
 -- ---- lists with the same map
 
-same_record : (x y : Record) → x.name ≡ y.name → ◌≡◌ {A = Option (ℕ × EntryKind)} (Some (x.inode, x.kind)) (Some (y.inode, y.kind)) → x ≡ y
+same_record : (x y : Record) → x.name ≡ y.name → ◌≡◌ {A = Option (ℕ × Kind)} (Some (x.inode, x.kind)) (Some (y.inode, y.kind)) → x ≡ y
 same_record x y n e =
-    let pairs : ◌≡◌ {A = ℕ × EntryKind} (x.inode, x.kind) (y.inode, y.kind) = cc in
-    let inodes : x.inode ≡ y.inode = ap (λ (p : ℕ × EntryKind). p.0) pairs in
-    let kinds : x.kind ≡ y.kind = ap (λ (p : ℕ × EntryKind). p.1) pairs in
+    let pairs : ◌≡◌ {A = ℕ × Kind} (x.inode, x.kind) (y.inode, y.kind) = cc in
+    let inodes : x.inode ≡ y.inode = ap (λ (p : ℕ × Kind). p.0) pairs in
+    let kinds : x.kind ≡ y.kind = ap (λ (p : ℕ × Kind). p.1) pairs in
     λ i. record { name = n i; inode = inodes i; kind = kinds i }
 
 -- two lists that ascend and have the same map are the same list
-pub same_records : (xs ys : List Record) → AreAscending xs → AreAscending ys → ((name : Name) → entry_of name xs ≡ entry_of name ys) → xs ≡ ys
+pub same_records : (xs ys : List Record) → NamesAscend xs → NamesAscend ys → ((name : Name) → entry_of name xs ≡ entry_of name ys) → xs ≡ ys
 same_records [] [] a b h = refl
-same_records [] (y ∷ ys) a b h = let e : ◌≡◌ {A = Option (ℕ × EntryKind)} None (Some (y.inode, y.kind)) = h y.name ∙ entry_of-first y ys in cc
-same_records (x ∷ xs) [] a b h = let e : ◌≡◌ {A = Option (ℕ × EntryKind)} (Some (x.inode, x.kind)) None = sym (entry_of-first x xs) ∙ h x.name in cc
+same_records [] (y ∷ ys) a b h = let e : ◌≡◌ {A = Option (ℕ × Kind)} None (Some (y.inode, y.kind)) = h y.name ∙ entry_of-first y ys in cc
+same_records (x ∷ xs) [] a b h = let e : ◌≡◌ {A = Option (ℕ × Kind)} (Some (x.inode, x.kind)) None = sym (entry_of-first x xs) ∙ h x.name in cc
 same_records (x ∷ xs) (y ∷ ys) a b h = choose (name_cmp x.name y.name) refl
     (λ n. same_records xs ys (ascending-tail x xs a) (ascending-tail y ys b) (λ name. tails n name (same_name name x.name) refl))
   where

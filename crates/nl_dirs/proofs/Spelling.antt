@@ -5,15 +5,15 @@ use Rattle.std.specs.List.{flat_map}
 use Rattle.std.proofs.lemmas.List.Elements.{All-head, All-tail}
 use Rattle.byteorder.specs.Endian.{little_bytes, little_number}
 use Rattle.byteorder.specs.Numbers.{little_number-reads_back}
-use Rattle.nl_dirs.specs.declared.record.EntryKind.{EntryKind}
-use Rattle.nl_dirs.specs.declared.record.EntryKind.TheVariants.{File, Directory}
+use Rattle.nl_types.specs.declared.kind.Kind.{Kind}
+use Rattle.nl_types.specs.declared.kind.Kind.TheVariants.{File, Directory}
 use Rattle.nl_dirs.specs.declared.record.Record.{Record}
-use Rattle.nl_dirs.specs.Records.{AllFit, BeginsNone, Holds, RecordFits, kind_code, page_of, record_bytes, sizes}
+use Rattle.nl_dirs.specs.Records.{AllFit, BeginsNone, HoldsList, RecordFits, kind_code, packed_block, record_bytes, sizes}
 use Rattle.nl_dirs.specs.Laws.{BlocksHoldTheirRecords, BytesHoldOneList}
 
 -- ---- one record
 
-pub kind_code-injective : (k l : EntryKind) → kind_code k ≡ kind_code l → k ≡ l
+pub kind_code-injective : (k l : Kind) → kind_code k ≡ kind_code l → k ≡ l
 kind_code-injective File File e = refl
 kind_code-injective File Directory e = absurd (omega arith)
 kind_code-injective Directory File e = absurd (omega arith)
@@ -85,12 +85,12 @@ pub zeros-BeginsNone : (n : ℕ) → BeginsNone (replicate n 0)
 zeros-BeginsNone n r behind fits e =
     no_code r.kind (sym (ap (λ (ns : List ℕ). get_or ns 4 0) e) ∙ slice_index-zeros n 4)
   where
-    no_code : (k : EntryKind) → kind_code k ≢ 0
+    no_code : (k : Kind) → kind_code k ≢ 0
     no_code File h = absurd (omega arith)
     no_code Directory h = absurd (omega arith)
 
-pub page_of-Holds : (records : List Record) → AllFit records → Holds (page_of records) records
-page_of-Holds records fit = record { fit = fit; rest = replicate (1024 - sizes records) 0; begins = refl; no_more = zeros-BeginsNone (1024 - sizes records) }
+pub packed_block-HoldsList : (records : List Record) → AllFit records → HoldsList (packed_block records) records
+packed_block-HoldsList records fit = record { fit = fit; rest = replicate (1024 - sizes records) 0; begins = refl; no_more = zeros-BeginsNone (1024 - sizes records) }
 
 pub blocks_hold_their_records : BlocksHoldTheirRecords
-blocks_hold_their_records records fit room = page_of-Holds records fit
+blocks_hold_their_records records fit room = packed_block-HoldsList records fit

@@ -4,7 +4,7 @@ use Rattle.std.specs.Option.{option_map}
 use Rattle.std.specs.List.{slice_get}
 use Rattle.nl_types.specs.Paths.{Name}
 use Rattle.nl_dirs.specs.declared.record.Record.{Record}
-use Rattle.nl_dirs.specs.Records.{AllFit, AreAscending, page_of}
+use Rattle.nl_dirs.specs.Records.{AllFit, NamesAscend, packed_block}
 use Rattle.nl_dirs.specs.Packing.{IsPacked}
 
 abbrev pub first_name_of : List Record → Option Name
@@ -14,8 +14,8 @@ first_name_of (r ∷ records) = Some r.name
 -- the blocks by index, and the size, of a directory with these records
 pub record HoldsRecords (blocks : ℕ → Option (List ℕ)) (size : ℕ) (records : List Record) : Type 0 where
   pub fit : AllFit records
-  pub ascending : AreAscending records
+  pub ascending : NamesAscend records
   pub packed : List (List Record)
   pub is_packed : IsPacked records packed
-  pub stored : (i : ℕ) → blocks i ≡ option_map page_of (slice_get packed i)
+  pub stored : (i : ℕ) → blocks i ≡ option_map packed_block (slice_get packed i)
   pub sized : size ≡ 1024 * length packed

@@ -1,7 +1,7 @@
 -- The blocks of a directory: records ascend over the whole directory, and each block has as many as fit.
 use Rattle.std.specs.Prelude.{◌≡◌, ℕ, ◌<◌, ◌≤◌, ◌+◌, List, [], ◌∷◌, ◌++◌, map}
 use Rattle.nl_dirs.specs.declared.record.Record.{Record}
-use Rattle.nl_dirs.specs.Records.{page_of, size_of, sizes}
+use Rattle.nl_dirs.specs.Records.{packed_block, size_of, sizes}
 
 -- the records block by block: each block is full for the first record of the next
 pub data IsPacked : List Record → List (List Record) → Type 0 where
@@ -15,10 +15,10 @@ pub data IsPacked : List Record → List (List Record) → Type 0 where
 pub record Packs (records : List Record) (blocks : List (List ℕ)) : Type 0 where
   pub packed : List (List Record)
   pub is_packed : IsPacked records packed
-  pub pages : blocks ≡ map page_of packed
+  pub pages : blocks ≡ map packed_block packed
 
 -- a block that is being filled: these records, one behind the other, and zeros behind them
 pub record IsFilled (bytes : List ℕ) (used : ℕ) (records : List Record) : Type 0 where
-  pub spelled : bytes ≡ page_of records
+  pub spelled : bytes ≡ packed_block records
   pub counted : used ≡ sizes records
   pub room : sizes records ≤ 1024

@@ -8,8 +8,8 @@ use Rattle.std.specs.List.{All, AllPairs, flat_map}
 use Rattle.std.specs.declared.cmp.Ordering.TheVariants.{Less}
 use Rattle.byteorder.specs.Endian.{little_bytes}
 use Rattle.nl_types.specs.Paths.{Name, name_cmp, same_name}
-use Rattle.nl_dirs.specs.declared.record.EntryKind.{EntryKind}
-use Rattle.nl_dirs.specs.declared.record.EntryKind.TheVariants.{File, Directory}
+use Rattle.nl_types.specs.declared.kind.Kind.{Kind}
+use Rattle.nl_types.specs.declared.kind.Kind.TheVariants.{File, Directory}
 use Rattle.nl_dirs.specs.declared.record.Record.{Record}
 
 -- what has a spelling: a name of 1 to 255 bytes, and an inode number of 4 bytes
@@ -18,7 +18,7 @@ pub record RecordFits (r : Record) : Type 0 where
   pub most : length r.name ≤ 255
   pub inode : r.inode < 2 ^ 32
 
-abbrev pub kind_code : EntryKind → ℕ
+abbrev pub kind_code : Kind → ℕ
 kind_code File = 1
 kind_code Directory = 2
 
@@ -34,19 +34,19 @@ sizes [] = 0
 sizes (r ∷ records) = size_of r + sizes records
 
 -- a block of these records: one behind the other, then zeros
-abbrev pub page_of : List Record → List ℕ
-page_of records = flat_map record_bytes records ++ replicate (1024 - sizes records) 0
+abbrev pub packed_block : List Record → List ℕ
+packed_block records = flat_map record_bytes records ++ replicate (1024 - sizes records) 0
 
 -- ---- a directory as a map
 
 -- what the name stands for: the inode and kind of the first record of it
-abbrev pub entry_of : Name → List Record → Option (ℕ × EntryKind)
+abbrev pub entry_of : Name → List Record → Option (ℕ × Kind)
 entry_of name [] = None
 entry_of name (r ∷ records) = cond (same_name name r.name) (Some (r.inode, r.kind)) (entry_of name records)
 
 -- names ascend by their bytes, so no name stands twice
-abbrev pub AreAscending : List Record → Type 0
-AreAscending records = AllPairs (λ a b. name_cmp a.name b.name ≡ Less) records
+abbrev pub NamesAscend : List Record → Type 0
+NamesAscend records = AllPairs (λ a b. name_cmp a.name b.name ≡ Less) records
 
 abbrev pub AllFit : List Record → Type 0
 AllFit records = All RecordFits records
@@ -66,7 +66,7 @@ abbrev pub BeginsNone : List ℕ → Type 0
 BeginsNone bytes = (r : Record) (behind : List ℕ) → RecordFits r → bytes ≢ record_bytes r ++ behind
 
 -- The records that bytes begin with, behind which no record begins. Each list of bytes holds exactly one list.
-pub record Holds (bytes : List ℕ) (records : List Record) : Type 0 where
+pub record HoldsList (bytes : List ℕ) (records : List Record) : Type 0 where
   pub fit : AllFit records
   pub rest : List ℕ
   pub begins : bytes ≡ flat_map record_bytes records ++ rest
@@ -76,6 +76,6 @@ pub record Holds (bytes : List ℕ) (records : List Record) : Type 0 where
 pub record IsPageOf (page : List ℕ) (records : List Record) : Type 0 where
   pub fit : AllFit records
   pub some : records ≢ []
-  pub ascending : AreAscending records
+  pub ascending : NamesAscend records
   pub room : sizes records ≤ 1024
-  pub spelling : page ≡ page_of records
+  pub spelling : page ≡ packed_block records

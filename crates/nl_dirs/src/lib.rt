@@ -7,5 +7,5 @@ mod reading;
 mod record;
 
 pub use packing::pack;
-pub use reading::{find, first_name, records};
-pub use record::{EntryKind, Record};
+pub use reading::{find, first_name, record_count, records};
+pub use record::Record;

@@ -5,11 +5,11 @@ ghost use Rattle.std.specs.declared.cmp.Ordering.TheVariants.{Less};
 ghost use Rattle.nl_types.specs.declared.error.VolError;
 ghost use Rattle.nl_types.specs.Paths.{name_cmp, same_name};
 ghost use Rattle.nl_dirs.specs.declared.record.Record.{Record};
-ghost use Rattle.nl_dirs.specs.Records.{AreAscending, AreBytes, Holds, IsPageOf, entry_of};
+ghost use Rattle.nl_dirs.specs.Records.{NamesAscend, AreBytes, HoldsList, IsPageOf, entry_of};
 ghost use Rattle.nl_dirs.specs.Listings.{first_name_of};
 
-use crate::record::{EntryKind, Record, split_record};
-use nl_types::{BLOCK_SIZE, InodeNumber, Page, VolError};
+use crate::record::{Record, split_record};
+use nl_types::{BLOCK_SIZE, InodeNumber, Kind, Page, VolError};
 use std::alloc::Global;
 
 /// The bytes of a page, as a slice whose length and range are known.
@@ -33,7 +33,7 @@ fn is_same(name: &[u8], other: &[u8]) -> bool
 
 /// Whether a name comes behind those of records in ascending order.
 fn is_behind(name: &[u8], records: &[Record]) -> bool
-    requires { AreAscending records.now }
+    requires { NamesAscend records.now }
     ensures { IsTrue result ↔ All (λ r. name_cmp r.name name.now ≡ Less) records.now }
 {
     match records.last() {
@@ -50,8 +50,8 @@ fn are_zeros(bytes: &[u8]) -> bool
 
 /// What the name stands for in a page of a directory, if the page has a record of it: the first one, on any page. It
 /// takes no memory.
-pub fn find(page: &Page, name: &[u8]) -> Option<(InodeNumber, EntryKind)>
-    ensures { (records : List Record) × Holds page.now records × (result ≡ entry_of name.now records) }
+pub fn find(page: &Page, name: &[u8]) -> Option<(InodeNumber, Kind)>
+    ensures { (records : List Record) × HoldsList page.now records × (result ≡ entry_of name.now records) }
 {
     let mut rest = bytes_of(page);
     while let Some((record, behind)) = split_record(rest) {
@@ -65,12 +65,25 @@ pub fn find(page: &Page, name: &[u8]) -> Option<(InodeNumber, EntryKind)>
 
 /// The first name of a page, if a record begins it. The first names of a directory's blocks tell which one has a name.
 pub fn first_name(page: &Page) -> Option<&[u8]>
-    ensures { (records : List Record) × Holds page.now records × (option_map (λ name. name.now) result ≡ first_name_of records) }
+    ensures { (records : List Record) × HoldsList page.now records × (option_map (λ name. name.now) result ≡ first_name_of records) }
 {
     match split_record(bytes_of(page)) {
         Some((record, _)) => Some(record.name),
         None => None,
     }
+}
+
+/// How many records a page begins with, on any page. It takes no memory.
+pub fn record_count(page: &Page) -> usize
+    ensures { (records : List Record) × HoldsList page.now records × (result ≡ length records) }
+{
+    let mut rest = bytes_of(page);
+    let mut count = 0;
+    while let Some((_, behind)) = split_record(rest) {
+        count += 1;
+        rest = behind;
+    }
+    count
 }
 
 /// The records of a page of a directory, in the order of their names. None where it isn't such a page: no record begins

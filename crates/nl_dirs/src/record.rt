@@ -1,21 +1,15 @@
 //! The records of a directory, and their bytes.
 ghost use Rattle.std.specs.Prelude.{◌≡◌, ◌≢◌, ◌++◌, ◌≤◌, length, drop, MatchOption, IfOk};
+ghost use Rattle.nl_types.specs.declared.kind.Kind.{Kind};
 ghost use Rattle.nl_dirs.specs.Stored.{stored};
 ghost use Rattle.nl_dirs.specs.Records.{Begins, BeginsNone, RecordFits, kind_code, record_bytes, size_of};
 
 use byteorder::{ByteOrder, LittleEndian};
-use nl_types::{InodeNumber, Items};
+use nl_types::{InodeNumber, Items, Kind};
 use std::alloc::{AllocError, Global};
 
 /// What stands in front of the name: the inode in 4 bytes, the kind in one, and the length of the name in one.
 const HEAD_SIZE: usize = 6;
-
-/// What a name of a directory stands for.
-#[derive(Clone, Copy, Debug, PartialEq, Eq)]
-pub enum EntryKind {
-    File,
-    Directory,
-}
 
 /// A record of a directory: a name of 1 to 255 bytes, and what it stands for. Inode numbers are below 2^32. Which names
 /// a path may have is for the caller to judge.
@@ -23,7 +17,7 @@ pub enum EntryKind {
 pub struct Record {
     pub name: Items<u8>,
     pub inode: InodeNumber,
-    pub kind: EntryKind,
+    pub kind: Kind,
 }
 
 /// A record as it stands in a block, with its name still there.
@@ -31,27 +25,25 @@ pub struct Record {
 pub(crate) struct StoredRecord<'a> {
     pub(crate) name: &'a [u8],
     pub(crate) inode: InodeNumber,
-    pub(crate) kind: EntryKind,
+    pub(crate) kind: Kind,
 }
 
-impl EntryKind {
-    fn code(self) -> u8
-        ensures { result ≡ kind_code self }
-    {
-        match self {
-            EntryKind::File => 1,
-            EntryKind::Directory => 2,
-        }
+fn code_of(kind: Kind) -> u8
+    ensures { result ≡ kind_code kind }
+{
+    match kind {
+        Kind::File => 1,
+        Kind::Directory => 2,
     }
+}
 
-    fn from_code(code: u8) -> Option<Self>
-        ensures { MatchOption result ((kind : EntryKind) → code ≢ kind_code kind) (λ kind. code ≡ kind_code kind) }
-    {
-        match code {
-            1 => Some(EntryKind::File),
-            2 => Some(EntryKind::Directory),
-            _ => None,
-        }
+fn kind_of(code: u8) -> Option<Kind>
+    ensures { MatchOption result ((kind : Kind) → code ≢ kind_code kind) (λ kind. code ≡ kind_code kind) }
+{
+    match code {
+        1 => Some(Kind::File),
+        2 => Some(Kind::Directory),
+        _ => None,
     }
 }
 
@@ -72,7 +64,7 @@ impl Record {
     {
         let name = self.name.as_slice();
         LittleEndian::write_u32(out, self.inode.get() as u32);
-        out[4] = self.kind.code();
+        out[4] = code_of(self.kind);
         out[5] = name.len() as u8;
         out[HEAD_SIZE..HEAD_SIZE + name.len()].copy_from_slice(name);
     }
@@ -99,7 +91,7 @@ pub(crate) fn split_record(bytes: &[u8]) -> Option<(StoredRecord<'_>, &[u8])>
         return None;
     }
     let (head, rest) = bytes.split_at(HEAD_SIZE);
-    let kind = EntryKind::from_code(head[4])?;
+    let kind = kind_of(head[4])?;
     let length = head[5] as usize;
     if length == 0 || rest.len() < length {
         return None;

@@ -12,7 +12,7 @@ use Rattle.nl_layout.specs.declared.inode.InodeKind.TheVariants.{File, Directory
 use Rattle.nl_layout.specs.declared.inode.InodeEntry.{InodeEntry}
 use Rattle.nl_layout.specs.declared.inode.InodeEntry.TheVariants.{Free, InUse}
 use Rattle.nl_layout.specs.Inode.{EntryFits, entry_bytes, kind_code}
-use Rattle.nl_ifile.specs.Inodes.{block_bytes, block_for, entry_for, in_use, inode_in, is_some, places, with_inode}
+use Rattle.nl_ifile.specs.Inodes.{block_bytes, block_for, entry_for, in_use, inode_in, is_some, block_places, with_inode}
 use Rattle.nl_ifile.proofs.Spelling.{inode_spelled-Spells}
 use borrow.Rule.Slice.PartMut.{put_mid}
 
@@ -69,7 +69,7 @@ entries-put f g (p ∷ ps) (suc k) l h =
 
 -- ---- a block
 
-place-at : (p : ℕ) → p < 8 → get_or places p 0 ≡ p
+place-at : (p : ℕ) → p < 8 → get_or block_places p 0 ≡ p
 place-at zero l = refl
 place-at (suc zero) l = refl
 place-at (suc (suc zero)) l = refl
@@ -80,22 +80,22 @@ place-at (suc (suc (suc (suc (suc (suc zero)))))) l = refl
 place-at (suc (suc (suc (suc (suc (suc (suc zero))))))) l = refl
 place-at (suc (suc (suc (suc (suc (suc (suc (suc p)))))))) l = absurd (omega arith)
 
-at-place : {f g : ℕ → Option Inode} → ((p : ℕ) → p < 8 → f p ≡ g p) → (k : ℕ) → k < length places → f (get_or places k 0) ≡ g (get_or places k 0)
+at-place : {f g : ℕ → Option Inode} → ((p : ℕ) → p < 8 → f p ≡ g p) → (k : ℕ) → k < length block_places → f (get_or block_places k 0) ≡ g (get_or block_places k 0)
 at-place {f} {g} h k l =
     let low : k < 8 = l in
     subst (λ (p : ℕ). f p ≡ g p) (sym (place-at k low)) (h k low)
 
 pub block_bytes-cong : (f g : ℕ → Option Inode) → ((p : ℕ) → p < 8 → f p ≡ g p) → block_bytes f ≡ block_bytes g
-block_bytes-cong f g h = entries-cong f g places (at-place {f = f} {g = g} h)
+block_bytes-cong f g h = entries-cong f g block_places (at-place {f = f} {g = g} h)
 
 pub block_for-cong : (f g : ℕ → Option Inode) → ((p : ℕ) → p < 8 → f p ≡ g p) → block_for f ≡ block_for g
 block_for-cong f g h =
-    ap (λ (b : Bool). cond b (Some (block_bytes f)) None) (any-cong f g places (at-place {f = f} {g = g} h))
-    ∙ ap (λ (bytes : List ℕ). cond (list_any (λ p. is_some (g p)) places) (Some bytes) None) (block_bytes-cong f g h)
+    ap (λ (b : Bool). cond b (Some (block_bytes f)) None) (any-cong f g block_places (at-place {f = f} {g = g} h))
+    ∙ ap (λ (bytes : List ℕ). cond (list_any (λ p. is_some (g p)) block_places) (Some bytes) None) (block_bytes-cong f g h)
 
 -- the bytes at a place of a block are its inode's
 block-piece : (f : ℕ → Option Inode) (p : ℕ) → p < 8 → take 128 (drop (128 * p) (block_bytes f)) ≡ entry_bytes (entry_for (f p))
-block-piece f p low = piece f places p low ∙ ap (bytes_at f) (place-at p low)
+block-piece f p low = piece f block_places p low ∙ ap (bytes_at f) (place-at p low)
 
 in_use-entry_for : (o : Option Inode) → in_use (entry_for o) ≡ o
 in_use-entry_for None = refl
@@ -108,11 +108,11 @@ inode_in-block f p low fits = inode_spelled-Spells _ (entry_for (f p)) (record {
 -- an entry that is written at a place changes the inode there
 pub block-put : (f : ℕ → Option Inode) (p : ℕ) (o : Option Inode) → p < 8 → put_mid (128 * p) 128 (block_bytes f) (entry_bytes (entry_for o)) ≡ block_bytes (with_inode f p o)
 block-put f p o low =
-    let here : get_or places p 0 ≡ p = place-at p low in
-    let new : with_inode f p o (get_or places p 0) ≡ o = ap (λ (b : Bool). cond b o (f (get_or places p 0))) (eq-eqb _ _ here) in
+    let here : get_or block_places p 0 ≡ p = place-at p low in
+    let new : with_inode f p o (get_or block_places p 0) ≡ o = ap (λ (b : Bool). cond b o (f (get_or block_places p 0))) (eq-eqb _ _ here) in
     ap (λ (x : Option Inode). put_mid (128 * p) 128 (block_bytes f) (entry_bytes (entry_for x))) (sym new)
-    ∙ entries-put f (with_inode f p o) places p low
-    (λ j l n. sym (ap (λ (b : Bool). cond b o (f (get_or places j 0))) (ne_eqb _ _ (λ e. n (sym (place-at j l) ∙ e)))))
+    ∙ entries-put f (with_inode f p o) block_places p low
+    (λ j l n. sym (ap (λ (b : Bool). cond b o (f (get_or block_places j 0))) (ne_eqb _ _ (λ e. n (sym (place-at j l) ∙ e)))))
 
 pub block-written : (f : ℕ → Option Inode) (p : ℕ) (o : Option Inode) (bytes out : List ℕ) (k : ℕ) → p < 8 → bytes ≡ block_bytes f → k ≡ 128 → out ≡ entry_bytes (entry_for o) →
     put_mid (p * 128) k bytes out ≡ block_bytes (with_inode f p o)
@@ -156,8 +156,8 @@ any-none f (p ∷ ps) e (suc k) l = any-none f ps (rest (f p) e) k (omega arith)
     rest None e = e
     rest (Some i) e = cc
 
-none-in-use : (f : ℕ → Option Inode) → list_any (λ p. is_some (f p)) places ≡ false → (p : ℕ) → p < 8 → f p ≡ None
-none-in-use f e p low = subst (λ (q : ℕ). f q ≡ None) (place-at p low) (any-none f places e p low)
+none-in-use : (f : ℕ → Option Inode) → list_any (λ p. is_some (f p)) block_places ≡ false → (p : ℕ) → p < 8 → f p ≡ None
+none-in-use f e p low = subst (λ (q : ℕ). f q ≡ None) (place-at p low) (any-none f block_places e p low)
 
 -- where no inode is in use there is no block
 pub block_for-none : (f : ℕ → Option Inode) → ((p : ℕ) → p < 8 → f p ≡ None) → block_for f ≡ None
@@ -169,24 +169,24 @@ block_for-zeros f e = block_for-cong f no_inode (all-free f e)
 
 -- any other block has one
 pub block_for-others : (f : ℕ → Option Inode) → block_bytes f ≢ replicate 1024 0 → block_for f ≡ Some (block_bytes f)
-block_for-others f n = by (list_any (λ p. is_some (f p)) places) refl
+block_for-others f n = by (list_any (λ p. is_some (f p)) block_places) refl
   where
-    by : (b : Bool) → list_any (λ p. is_some (f p)) places ≡ b → cond b (Some (block_bytes f)) None ≡ Some (block_bytes f)
+    by : (b : Bool) → list_any (λ p. is_some (f p)) block_places ≡ b → cond b (Some (block_bytes f)) None ≡ Some (block_bytes f)
     by true e = refl
     by false e = absurd (n (block_bytes-cong f no_inode (none-in-use f e) ∙ zeros))
 
 -- the inode at a place of the block that has to be there
 pub inode_in-block_for : (f : ℕ → Option Inode) (p : ℕ) → p < 8 → EntryFits (entry_for (f p)) → option_and_then (λ page. inode_in page p) (block_for f) ≡ f p
-inode_in-block_for f p low fits = by (list_any (λ q. is_some (f q)) places) refl
+inode_in-block_for f p low fits = by (list_any (λ q. is_some (f q)) block_places) refl
   where
-    by : (b : Bool) → list_any (λ q. is_some (f q)) places ≡ b → option_and_then (λ page. inode_in page p) (cond b (Some (block_bytes f)) None) ≡ f p
+    by : (b : Bool) → list_any (λ q. is_some (f q)) block_places ≡ b → option_and_then (λ page. inode_in page p) (cond b (Some (block_bytes f)) None) ≡ f p
     by true e = inode_in-block f p low fits
     by false e = sym (none-in-use f e p low)
 
 -- what the block that is there, or else zeros, has for bytes
 pub block_for-bytes : (f : ℕ → Option Inode) (o : Option (List ℕ)) → o ≡ block_for f → unwrap_or o (replicate 1024 0) ≡ block_bytes f
-block_for-bytes f o is = ap (λ (x : Option (List ℕ)). unwrap_or x (replicate 1024 0)) is ∙ by (list_any (λ q. is_some (f q)) places) refl
+block_for-bytes f o is = ap (λ (x : Option (List ℕ)). unwrap_or x (replicate 1024 0)) is ∙ by (list_any (λ q. is_some (f q)) block_places) refl
   where
-    by : (b : Bool) → list_any (λ q. is_some (f q)) places ≡ b → unwrap_or (cond b (Some (block_bytes f)) None) (replicate 1024 0) ≡ block_bytes f
+    by : (b : Bool) → list_any (λ q. is_some (f q)) block_places ≡ b → unwrap_or (cond b (Some (block_bytes f)) None) (replicate 1024 0) ≡ block_bytes f
     by true e = refl
     by false e = sym (block_bytes-cong f no_inode (none-in-use f e) ∙ zeros)

@@ -3,25 +3,25 @@ use Rattle.std.proofs.Common.{◌≡◌, ◌≢◌, ℕ, ◌+◌, ◌-◌, ◌*�
 use Rattle.std.proofs.Math.Seq.{take-add}
 use Rattle.std.specs.List.{All, Contains}
 use Rattle.std.proofs.lemmas.Bool.{cases_eq}
-use Rattle.std.proofs.lemmas.List.{get_or-drop, get_or-map, get_or-take, length-append, length-map, length-take, take_all}
+use Rattle.std.proofs.lemmas.List.{get_or-drop, get_or-map, get_or-take, length-map, length-take, take_all}
 use Rattle.std.proofs.lemmas.List.Elements.{All-append, All-push}
 use Rattle.std.proofs.lemmas.List.Quantifiers.{all_pairs_push}
 use Rattle.nl_layout.specs.Inode.{EntryFits}
 use Rattle.nl_blocktree.specs.declared.change.BlockChange.{BlockChange}
-use Rattle.nl_blocktree.specs.Changed as files
+use Rattle.nl_blocktree.specs.Changed.{blocks_with, indexes}
 use Rattle.nl_blocktree.proofs.HeldPages.{Sets}
 use Rattle.nl_blocktree.proofs.MoreChanges.{sets-one}
 use Rattle.nl_ifile.specs.declared.change.InodeChange.{InodeChange}
 use Rattle.nl_ifile.specs.Inodes.{Inodes, block_for, entry_for, in_block}
-use Rattle.nl_ifile.specs.Changing.{AreBlockChanges, AreFirstBlockChanges, changed}
+use Rattle.nl_ifile.specs.Changing.{AreBlockChanges, AreFirstBlockChanges, inodes_with}
 use Rattle.nl_ifile.proofs.BlockBytes.{block_for-cong}
-use Rattle.nl_ifile.proofs.Changes.{changed-absent, changed-append, changed-cong}
+use Rattle.nl_ifile.proofs.Changes.{inodes_with-absent, inodes_with-append, inodes_with-cong}
 
 -- before the first block
 pub block_changes-none : (pages : ℕ → Option (List ℕ)) (inodes : Inodes) (changes : List InodeChange) → ((i : ℕ) → pages i ≡ block_for (in_block inodes i)) → AreFirstBlockChanges pages inodes changes 0 []
 block_changes-none pages inodes changes file = record {
   within = omega arith;
-  blocks_are = record { ascending = λ i j d l m. absurd (omega arith); in_range = λ k d l. absurd (omega arith); become = file; fits = λ k d l. absurd (omega arith); few = omega arith; below = λ e h k d l. absurd (omega arith) };
+  blocks_are = record { ascending = λ i j d l m. absurd (omega arith); in_range = λ k d l. absurd (omega arith); become = file; fits = λ k d l. absurd (omega arith) };
   lower = λ next l k d m. absurd (omega arith);
   apart = λ next l k d m. absurd (omega arith);
 }
@@ -43,7 +43,7 @@ module _ (pages : ℕ → Option (List ℕ)) (inodes : Inodes) (changes : List I
     (before : AreFirstBlockChanges pages inodes changes start blocks) (low : start < end) (high : end ≤ length changes)
     (first : (next : InodeChange) → (get_or changes start next).number / 8 ≡ i)
     (in_range : i < 65536) (index : b.index ≡ i) (group : All (λ c. c.number / 8 ≡ i) (take (end - start) (drop start changes)))
-    (page : b.page ≡ block_for (in_block (changed (take (end - start) (drop start changes)) inodes) i))
+    (page : b.page ≡ block_for (in_block (inodes_with (take (end - start) (drop start changes)) inodes) i))
     (fits : All (λ c. EntryFits (entry_for c.inode)) (take (end - start) (drop start changes)))
     (stop : (next : InodeChange) → end < length changes → i < (get_or changes end next).number / 8) (none : InodeChange) where
   these : List InodeChange
@@ -61,54 +61,37 @@ module _ (pages : ℕ → Option (List ℕ)) (inodes : Inodes) (changes : List I
   lower_changes : All (λ c. c.number / 8 < i) (take start changes)
   lower_changes k d l = let less = before.apart none (omega arith) k d l in omega (arith, less, first none)
 
-  untold : Contains (files.indexes blocks) b.index → ⊥
+  untold : Contains (indexes blocks) b.index → ⊥
   untold c =
       let l : c.0 < length blocks = omega (arith, c.1, length-map {A = BlockChange} {B = ℕ} blocks) in
       let less = lower_blocks c.0 b l in
-      let same : (get_or blocks c.0 b).index ≡ get_or (files.indexes blocks) c.0 b.index = sym (get_or-map (λ (x : BlockChange). x.index) blocks c.0 b b.index l) in
+      let same : (get_or blocks c.0 b).index ≡ get_or (indexes blocks) c.0 b.index = sym (get_or-map (λ (x : BlockChange). x.index) blocks c.0 b b.index l) in
       omega (arith, less, same, c.2, index)
 
-  sets : Sets (files.changed blocks pages) (files.changed (blocks ++ b ∷ []) pages) b.index b.page
+  sets : Sets (blocks_with blocks pages) (blocks_with (blocks ++ b ∷ []) pages) b.index b.page
   sets = sets-one blocks b pages untold
 
-  inside : (n : ℕ) → n / 8 ≡ i → changed these inodes n ≡ changed (take end changes) inodes n
+  inside : (n : ℕ) → n / 8 ≡ i → inodes_with these inodes n ≡ inodes_with (take end changes) inodes n
   inside n e =
-      sym (ap (λ (cs : List InodeChange). changed cs inodes n) split ∙ (changed-append (take start changes) these inodes n
-      ∙ changed-absent (take start changes) (changed these inodes) n (λ k d l same. let less = lower_changes k d l in omega (arith, less, same, ap (λ (x : ℕ). x / 8) same))))
+      sym (ap (λ (cs : List InodeChange). inodes_with cs inodes n) split ∙ (inodes_with-append (take start changes) these inodes n
+      ∙ inodes_with-absent (take start changes) (inodes_with these inodes) n (λ k d l same. let less = lower_changes k d l in omega (arith, less, same, ap (λ (x : ℕ). x / 8) same))))
 
-  outside : (n : ℕ) → n / 8 ≢ i → changed (take start changes) inodes n ≡ changed (take end changes) inodes n
+  outside : (n : ℕ) → n / 8 ≢ i → inodes_with (take start changes) inodes n ≡ inodes_with (take end changes) inodes n
   unfolding these
   outside n e =
-      sym (ap (λ (cs : List InodeChange). changed cs inodes n) split ∙ (changed-append (take start changes) these inodes n
-      ∙ changed-cong (take start changes) (changed these inodes) inodes n (changed-absent these inodes n (λ k d l same. e (sym (ap (λ (x : ℕ). x / 8) same) ∙ group k d l)))))
+      sym (ap (λ (cs : List InodeChange). inodes_with cs inodes n) split ∙ (inodes_with-append (take start changes) these inodes n
+      ∙ inodes_with-cong (take start changes) (inodes_with these inodes) inodes n (inodes_with-absent these inodes n (λ k d l same. e (sym (ap (λ (x : ℕ). x / 8) same) ∙ group k d l)))))
 
-  become : (j : ℕ) → (j ≡ b.index) ⊎ (j ≡ b.index → ⊥) → files.changed (blocks ++ b ∷ []) pages j ≡ block_for (in_block (changed (take end changes) inodes) j)
+  become : (j : ℕ) → (j ≡ b.index) ⊎ (j ≡ b.index → ⊥) → blocks_with (blocks ++ b ∷ []) pages j ≡ block_for (in_block (inodes_with (take end changes) inodes) j)
   unfolding these
   become j (inl e) =
-      ap (files.changed (blocks ++ b ∷ []) pages) e
-      ∙ (sets.there ∙ (page ∙ (block_for-cong (in_block (changed these inodes) i) (in_block (changed (take end changes) inodes) i) (λ p l. inside (8 * i + p) (omega arith))
-      ∙ ap (λ (n : ℕ). block_for (in_block (changed (take end changes) inodes) n)) (sym (e ∙ index)))))
+      ap (blocks_with (blocks ++ b ∷ []) pages) e
+      ∙ (sets.there ∙ (page ∙ (block_for-cong (in_block (inodes_with these inodes) i) (in_block (inodes_with (take end changes) inodes) i) (λ p l. inside (8 * i + p) (omega arith))
+      ∙ ap (λ (n : ℕ). block_for (in_block (inodes_with (take end changes) inodes) n)) (sym (e ∙ index)))))
   become j (inr n) =
       sets.others j n
       ∙ (before.blocks_are.become j
-      ∙ block_for-cong (in_block (changed (take start changes) inodes) j) (in_block (changed (take end changes) inodes) j) (λ p l. outside (8 * j + p) (λ e. n (omega (arith, e, index)))))
-
-  few : length (blocks ++ b ∷ []) ≤ length (take end changes)
-  few = omega (arith, before.blocks_are.few, length-take start changes, length-take end changes, length-append blocks (b ∷ []))
-
-  -- the first changes are among more of them
-  earlier : (e : ℕ) → All (λ c. c.number < 8 * e) (take end changes) → All (λ c. c.number < 8 * e) (take start changes)
-  earlier e h k d l =
-      let near : k < start = omega (arith, l, length-take start changes) in
-      let less = h k d (omega (arith, near, length-take end changes)) in
-      let here : (get_or (take start changes) k d).number ≡ (get_or (take end changes) k d).number = ap (λ (c : InodeChange). c.number) (get_or-take start changes k d near ∙ sym (get_or-take end changes k d (omega arith))) in
-      omega (arith, less, here)
-
-  this : (e : ℕ) → All (λ c. c.number < 8 * e) (take end changes) → b.index < e
-  this e h =
-      let less = h start none (omega (arith, length-take end changes)) in
-      let here : (get_or (take end changes) start none).number ≡ (get_or changes start none).number = ap (λ (c : InodeChange). c.number) (get_or-take end changes start none low) in
-      omega (arith, less, here, first none, index)
+      ∙ block_for-cong (in_block (inodes_with (take start changes) inodes) j) (in_block (inodes_with (take end changes) inodes) j) (λ p l. outside (8 * j + p) (λ e. n (omega (arith, e, index)))))
 
   -- one more block
   pub block_changes-more : AreFirstBlockChanges pages inodes changes end (blocks ++ b ∷ [])
@@ -117,11 +100,9 @@ module _ (pages : ℕ → Option (List ℕ)) (inodes : Inodes) (changes : List I
     within = high;
     blocks_are = record {
       ascending = all_pairs_push (λ (x y : BlockChange). x.index < y.index) blocks b before.blocks_are.ascending (λ k d l. let less = lower_blocks k d l in omega (arith, less, index));
-      in_range = All-push (λ (x : BlockChange). x.index < 65536) blocks b before.blocks_are.in_range (omega (arith, index));
+      in_range = All-push (λ (x : BlockChange). x.index < 262144) blocks b before.blocks_are.in_range (omega (arith, index));
       become = λ j. become j (cases_eq j b.index);
       fits = subst (λ (cs : List InodeChange). All (λ c. EntryFits (entry_for c.inode)) cs) (sym split) (All-append (λ (c : InodeChange). EntryFits (entry_for c.inode)) (take start changes) these before.blocks_are.fits fits);
-      few = few;
-      below = λ e h. All-push (λ (x : BlockChange). x.index < e) blocks b (before.blocks_are.below e (earlier e h)) (this e h);
     };
     lower = λ next l. All-push (λ (x : BlockChange). x.index < (get_or changes end next).number / 8) blocks b (λ k d m. let less = lower_blocks k d m in omega (arith, less, stop next l)) (omega (arith, index, stop next l));
     apart = λ next l.

@@ -6,38 +6,38 @@ use Rattle.std.proofs.lemmas.List.{get_or-take, get_or_default, length-take, tak
 use Rattle.nl_layout.specs.declared.inode.Inode.{Inode}
 use Rattle.nl_ifile.specs.declared.change.InodeChange.{InodeChange}
 use Rattle.nl_ifile.specs.Inodes.{Inodes, block_bytes, in_block, with_inode}
-use Rattle.nl_ifile.specs.Changing.{AreAscending, changed}
+use Rattle.nl_ifile.specs.Changing.{NumbersAscend, inodes_with}
 use Rattle.nl_ifile.proofs.BlockBytes.{block_bytes-cong}
 
-pub changed-append : (xs ys : List InodeChange) (f : Inodes) (n : ℕ) → changed (xs ++ ys) f n ≡ changed xs (changed ys f) n
-changed-append [] ys f n = refl
-changed-append (c ∷ xs) ys f n = ap (λ (o : Option Inode). cond (n == c.number) c.inode o) (changed-append xs ys f n)
+pub inodes_with-append : (xs ys : List InodeChange) (f : Inodes) (n : ℕ) → inodes_with (xs ++ ys) f n ≡ inodes_with xs (inodes_with ys f) n
+inodes_with-append [] ys f n = refl
+inodes_with-append (c ∷ xs) ys f n = ap (λ (o : Option Inode). cond (n == c.number) c.inode o) (inodes_with-append xs ys f n)
 
-pub changed-absent : (xs : List InodeChange) (f : Inodes) (n : ℕ) → All (λ c. c.number ≢ n) xs → changed xs f n ≡ f n
-changed-absent [] f n h = refl
-changed-absent (c ∷ xs) f n h =
-    ap (λ (b : Bool). cond b c.inode (changed xs f n)) (ne_eqb n c.number (λ e. h 0 c (omega arith) (sym e)))
-    ∙ changed-absent xs f n (λ k d l. h (suc k) d (omega arith))
+pub inodes_with-absent : (xs : List InodeChange) (f : Inodes) (n : ℕ) → All (λ c. c.number ≢ n) xs → inodes_with xs f n ≡ f n
+inodes_with-absent [] f n h = refl
+inodes_with-absent (c ∷ xs) f n h =
+    ap (λ (b : Bool). cond b c.inode (inodes_with xs f n)) (ne_eqb n c.number (λ e. h 0 c (omega arith) (sym e)))
+    ∙ inodes_with-absent xs f n (λ k d l. h (suc k) d (omega arith))
 
-pub changed-cong : (xs : List InodeChange) (f g : Inodes) (n : ℕ) → f n ≡ g n → changed xs f n ≡ changed xs g n
-changed-cong [] f g n e = e
-changed-cong (c ∷ xs) f g n e = ap (λ (o : Option Inode). cond (n == c.number) c.inode o) (changed-cong xs f g n e)
+pub inodes_with-cong : (xs : List InodeChange) (f g : Inodes) (n : ℕ) → f n ≡ g n → inodes_with xs f n ≡ inodes_with xs g n
+inodes_with-cong [] f g n e = e
+inodes_with-cong (c ∷ xs) f g n e = ap (λ (o : Option Inode). cond (n == c.number) c.inode o) (inodes_with-cong xs f g n e)
 
 -- one more change, of a number that had none
-changed-push_here : (xs : List InodeChange) (c : InodeChange) (f : Inodes) (n : ℕ) → n ≡ c.number → All (λ x. x.number ≢ c.number) xs → changed (xs ++ c ∷ []) f n ≡ c.inode
-changed-push_here xs c f n e h =
-    ap (changed (xs ++ c ∷ []) f) e
-    ∙ (changed-append xs (c ∷ []) f c.number ∙ (changed-absent xs _ c.number h ∙ ap (λ (b : Bool). cond b c.inode (f c.number)) (eq-eqb c.number c.number refl)))
+inodes_with-push_here : (xs : List InodeChange) (c : InodeChange) (f : Inodes) (n : ℕ) → n ≡ c.number → All (λ x. x.number ≢ c.number) xs → inodes_with (xs ++ c ∷ []) f n ≡ c.inode
+inodes_with-push_here xs c f n e h =
+    ap (inodes_with (xs ++ c ∷ []) f) e
+    ∙ (inodes_with-append xs (c ∷ []) f c.number ∙ (inodes_with-absent xs _ c.number h ∙ ap (λ (b : Bool). cond b c.inode (f c.number)) (eq-eqb c.number c.number refl)))
 
-changed-push_other : (xs : List InodeChange) (c : InodeChange) (f : Inodes) (n : ℕ) → n ≢ c.number → changed (xs ++ c ∷ []) f n ≡ changed xs f n
-changed-push_other xs c f n h =
-    changed-append xs (c ∷ []) f n ∙ changed-cong xs (changed (c ∷ []) f) f n (ap (λ (b : Bool). cond b c.inode (f n)) (ne_eqb n c.number h))
+inodes_with-push_other : (xs : List InodeChange) (c : InodeChange) (f : Inodes) (n : ℕ) → n ≢ c.number → inodes_with (xs ++ c ∷ []) f n ≡ inodes_with xs f n
+inodes_with-push_other xs c f n h =
+    inodes_with-append xs (c ∷ []) f n ∙ inodes_with-cong xs (inodes_with (c ∷ []) f) f n (ap (λ (b : Bool). cond b c.inode (f n)) (ne_eqb n c.number h))
 
 -- a change that is written to its place of a block
-pub block_bytes-more : (changes : List InodeChange) (k : ℕ) (c : InodeChange) (f : Inodes) (i : ℕ) → AreAscending changes → k < length changes → get_or changes k c ≡ c → c.number / 8 ≡ i →
-    block_bytes (with_inode (in_block (changed (take k changes) f) i) (c.number % 8) c.inode) ≡ block_bytes (in_block (changed (take (k + 1) changes) f) i)
+pub block_bytes-more : (changes : List InodeChange) (k : ℕ) (c : InodeChange) (f : Inodes) (i : ℕ) → NumbersAscend changes → k < length changes → get_or changes k c ≡ c → c.number / 8 ≡ i →
+    block_bytes (with_inode (in_block (inodes_with (take k changes) f) i) (c.number % 8) c.inode) ≡ block_bytes (in_block (inodes_with (take (k + 1) changes) f) i)
 block_bytes-more changes k c f i ascending l is index =
-    block_bytes-cong (with_inode (in_block (changed (take k changes) f) i) (c.number % 8) c.inode) (in_block (changed (take (k + 1) changes) f) i)
+    block_bytes-cong (with_inode (in_block (inodes_with (take k changes) f) i) (c.number % 8) c.inode) (in_block (inodes_with (take (k + 1) changes) f) i)
     (λ p low. at p low (cases_eq p (c.number % 8)))
   where
     more : take (k + 1) changes ≡ take k changes ++ c ∷ []
@@ -51,12 +51,12 @@ block_bytes-more changes k c f i ascending l is index =
         let less = ascending j k d near l in
         omega (arith, less, e, ap (λ (x : InodeChange). x.number) here, ap (λ (x : InodeChange). x.number) there)
 
-    at : (p : ℕ) → p < 8 → (p ≡ c.number % 8) ⊎ (p ≡ c.number % 8 → ⊥) → with_inode (in_block (changed (take k changes) f) i) (c.number % 8) c.inode p ≡ changed (take (k + 1) changes) f (8 * i + p)
+    at : (p : ℕ) → p < 8 → (p ≡ c.number % 8) ⊎ (p ≡ c.number % 8 → ⊥) → with_inode (in_block (inodes_with (take k changes) f) i) (c.number % 8) c.inode p ≡ inodes_with (take (k + 1) changes) f (8 * i + p)
     at p low (inl e) =
         let number : 8 * i + p ≡ c.number = omega arith in
-        ap (λ (b : Bool). cond b c.inode (changed (take k changes) f (8 * i + p))) (eq-eqb p (c.number % 8) e)
-        ∙ sym (ap (λ (xs : List InodeChange). changed xs f (8 * i + p)) more ∙ changed-push_here (take k changes) c f (8 * i + p) number others)
+        ap (λ (b : Bool). cond b c.inode (inodes_with (take k changes) f (8 * i + p))) (eq-eqb p (c.number % 8) e)
+        ∙ sym (ap (λ (xs : List InodeChange). inodes_with xs f (8 * i + p)) more ∙ inodes_with-push_here (take k changes) c f (8 * i + p) number others)
     at p low (inr n) =
         let number : 8 * i + p ≢ c.number = λ e. n (omega arith) in
-        ap (λ (b : Bool). cond b c.inode (changed (take k changes) f (8 * i + p))) (ne_eqb p (c.number % 8) n)
-        ∙ sym (ap (λ (xs : List InodeChange). changed xs f (8 * i + p)) more ∙ changed-push_other (take k changes) c f (8 * i + p) number)
+        ap (λ (b : Bool). cond b c.inode (inodes_with (take k changes) f (8 * i + p))) (ne_eqb p (c.number % 8) n)
+        ∙ sym (ap (λ (xs : List InodeChange). inodes_with xs f (8 * i + p)) more ∙ inodes_with-push_other (take k changes) c f (8 * i + p) number)

@@ -5,7 +5,7 @@ use Rattle.std.specs.List.Sorted.{IsNonDecreasingBy, IsPartitionPoint}
 use Rattle.std.specs.Option.{option_map_or}
 use Rattle.nl_ifile.specs.declared.change.InodeChange.{InodeChange}
 use Rattle.nl_ifile.specs.Inodes.{Inodes}
-use Rattle.nl_ifile.specs.Changing.{AreAscending, changed}
+use Rattle.nl_ifile.specs.Changing.{NumbersAscend, inodes_with}
 use Rattle.nl_ifile.specs.Free.{change_at}
 
 -- a number that no change has
@@ -29,7 +29,7 @@ change_at-some (c ∷ changes) n (suc i) d lt here before =
     ] in
     ap (λ b. cond b (Some c) (change_at changes n)) other ∙ change_at-some changes n i d (omega arith) here (λ k low. before (suc k) (omega arith))
 
-pub ascending-rise : (changes : List InodeChange) → AreAscending changes → IsNonDecreasingBy (λ (c : InodeChange). c.number) changes
+pub ascending-rise : (changes : List InodeChange) → NumbersAscend changes → IsNonDecreasingBy (λ (c : InodeChange). c.number) changes
 ascending-rise changes ascending i j d le lt = elim (cases_lt i j) [
   | inl below ↦ omega (arith, ascending i j d below lt)
   | inr above ↦ let same : i ≡ j = omega arith in ap' same
@@ -49,7 +49,7 @@ change_at-here changes n i c place lt is same =
     (λ k low. λ e. let below = ltb-true _ _ (place.0 k c (omega arith) low) in absurd (omega (arith, below, e))) ∙ ap Some (sym is))
 
 -- it has another number, or there is none
-pub change_at-not_here : (changes : List InodeChange) (n i : ℕ) (d : InodeChange) → AreAscending changes → IsPlace changes n i → (i < length changes → (get_or changes i d).number ≢ n) → None ≡ change_at changes n
+pub change_at-not_here : (changes : List InodeChange) (n i : ℕ) (d : InodeChange) → NumbersAscend changes → IsPlace changes n i → (i < length changes → (get_or changes i d).number ≢ n) → None ≡ change_at changes n
 change_at-not_here changes n i d ascending place other = sym (change_at-none changes n d each)
   where
     each : (k : ℕ) → k < length changes → (get_or changes k d).number ≢ n
@@ -65,21 +65,21 @@ change_at-not_here changes n i d ascending place other = sym (change_at-none cha
     ]
 
 -- what changes make of a number hangs on what it was alone
-pub changed-at : (changes : List InodeChange) (before : Inodes) (n : ℕ) → changed changes before n ≡ option_map_or (λ (c : InodeChange). c.inode) (change_at changes n) (before n)
-changed-at [] before n = refl
-changed-at (c ∷ changes) before n = elim (cases_Bool (eqb n c.number)) [
-  | inl e ↦ ap (λ b. cond b c.inode (changed changes before n)) e ∙ sym (ap (λ b. option_map_or (λ (c : InodeChange). c.inode) (cond b (Some c) (change_at changes n)) (before n)) e)
-  | inr e ↦ ap (λ b. cond b c.inode (changed changes before n)) e ∙ (changed-at changes before n ∙ sym (ap (λ b. option_map_or (λ (c : InodeChange). c.inode) (cond b (Some c) (change_at changes n)) (before n)) e))
+pub inodes_with-at : (changes : List InodeChange) (before : Inodes) (n : ℕ) → inodes_with changes before n ≡ option_map_or (λ (c : InodeChange). c.inode) (change_at changes n) (before n)
+inodes_with-at [] before n = refl
+inodes_with-at (c ∷ changes) before n = elim (cases_Bool (eqb n c.number)) [
+  | inl e ↦ ap (λ b. cond b c.inode (inodes_with changes before n)) e ∙ sym (ap (λ b. option_map_or (λ (c : InodeChange). c.inode) (cond b (Some c) (change_at changes n)) (before n)) e)
+  | inr e ↦ ap (λ b. cond b c.inode (inodes_with changes before n)) e ∙ (inodes_with-at changes before n ∙ sym (ap (λ b. option_map_or (λ (c : InodeChange). c.inode) (cond b (Some c) (change_at changes n)) (before n)) e))
 ]
 
 -- what has a change is what the change says
-pub changed-Some : (changes : List InodeChange) (before : Inodes) (n : ℕ) (c : InodeChange) → Some c ≡ change_at changes n → c.inode ≡ changed changes before n
-changed-Some changes before n c is = sym (changed-at changes before n ∙ ap (λ (o : Option InodeChange). option_map_or (λ (x : InodeChange). x.inode) o (before n)) (sym is))
+pub inodes_with-Some : (changes : List InodeChange) (before : Inodes) (n : ℕ) (c : InodeChange) → Some c ≡ change_at changes n → c.inode ≡ inodes_with changes before n
+inodes_with-Some changes before n c is = sym (inodes_with-at changes before n ∙ ap (λ (o : Option InodeChange). option_map_or (λ (x : InodeChange). x.inode) o (before n)) (sym is))
 
 -- what has none is as before
-pub changed-None : (changes : List InodeChange) (before : Inodes) (n : ℕ) → None ≡ change_at changes n → before n ≡ changed changes before n
-changed-None changes before n is = sym (changed-at changes before n ∙ ap (λ (o : Option InodeChange). option_map_or (λ (x : InodeChange). x.inode) o (before n)) (sym is))
+pub inodes_with-None : (changes : List InodeChange) (before : Inodes) (n : ℕ) → None ≡ change_at changes n → before n ≡ inodes_with changes before n
+inodes_with-None changes before n is = sym (inodes_with-at changes before n ∙ ap (λ (o : Option InodeChange). option_map_or (λ (x : InodeChange). x.inode) o (before n)) (sym is))
 
 -- two maps that agree at a number do so with changes, too
-pub changed-same : (changes : List InodeChange) (a b : Inodes) (n : ℕ) → a n ≡ b n → changed changes a n ≡ changed changes b n
-changed-same changes a b n same = changed-at changes a n ∙ (ap (option_map_or (λ (x : InodeChange). x.inode) (change_at changes n)) same ∙ sym (changed-at changes b n))
+pub inodes_with-same : (changes : List InodeChange) (a b : Inodes) (n : ℕ) → a n ≡ b n → inodes_with changes a n ≡ inodes_with changes b n
+inodes_with-same changes a b n same = inodes_with-at changes a n ∙ (ap (option_map_or (λ (x : InodeChange). x.inode) (change_at changes n)) same ∙ sym (inodes_with-at changes b n))

@@ -3,6 +3,5 @@ pub mod BlockBytes
 pub mod Changes
 pub mod BlockChanges
 pub mod NewFile
-pub mod WholeBlocks
 pub mod Blocks
 pub mod Finding

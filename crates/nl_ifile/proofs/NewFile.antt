@@ -12,7 +12,7 @@ use Rattle.nl_blocktree.specs.declared.change.BlockChange.{BlockChange}
 use Rattle.nl_blocktree.specs.Putting.{PutsAll}
 use Rattle.nl_ifile.specs.declared.change.InodeChange.{InodeChange}
 use Rattle.nl_ifile.specs.Inodes.{Inodes, IsInodeFile, block_for, entry_for, in_block, inode_at, inode_in, inode_spelled}
-use Rattle.nl_ifile.specs.Changing.{AreBlockChanges, PutsInodes, changed}
+use Rattle.nl_ifile.specs.Changing.{AreBlockChanges, PutsInodes, inodes_with}
 use Rattle.nl_ifile.proofs.Spelling.{inode_spelled-fits}
 use Rattle.nl_ifile.proofs.BlockBytes.{block_for-cong, inode_in-block_for}
 
@@ -31,11 +31,11 @@ fits-read pages root n = of (page_at pages root (n / 8))
     of None = tt
     of (Some page) = spelled (take 128 (drop (128 * (n % 8)) page)) (inode_in page (n % 8)) refl
 
-fits-changed : (changes : List InodeChange) (inodes : Inodes) → All (λ c. EntryFits (entry_for c.inode)) changes → AllFit inodes → AllFit (changed changes inodes)
-fits-changed [] inodes h old n = old n
-fits-changed (c ∷ changes) inodes h old n = either (n == c.number) (fits-changed changes inodes (λ k d l. h (suc k) d (omega arith)) old n)
+fits-inodes_with : (changes : List InodeChange) (inodes : Inodes) → All (λ c. EntryFits (entry_for c.inode)) changes → AllFit inodes → AllFit (inodes_with changes inodes)
+fits-inodes_with [] inodes h old n = old n
+fits-inodes_with (c ∷ changes) inodes h old n = either (n == c.number) (fits-inodes_with changes inodes (λ k d l. h (suc k) d (omega arith)) old n)
   where
-    either : (b : Bool) → EntryFits (entry_for (changed changes inodes n)) → EntryFits (entry_for (cond b c.inode (changed changes inodes n)))
+    either : (b : Bool) → EntryFits (entry_for (inodes_with changes inodes n)) → EntryFits (entry_for (cond b c.inode (inodes_with changes inodes n)))
     either true rest = h 0 c (omega arith)
     either false rest = rest
 
@@ -54,8 +54,8 @@ module _ (pages : Pages) (new : Root) (inodes : Inodes) (blocks : (i : ℕ) → 
 pub puts-inodes : (content : Content) (root new : Root) (changes : List InodeChange) (blocks : List BlockChange) (before after : Changes) →
     AreBlockChanges (page_at (pages_of content) root) (inode_at (pages_of content) root) changes blocks → PutsAll content 6 root new blocks before after → PutsInodes content root new changes before after
 puts-inodes content root new changes blocks before after are puts =
-    let inodes : Inodes = changed changes (inode_at (pages_of content) root) in
-    let fits : AllFit inodes = fits-changed changes (inode_at (pages_of content) root) are.fits (fits-read (pages_of content) root) in
+    let inodes : Inodes = inodes_with changes (inode_at (pages_of content) root) in
+    let fits : AllFit inodes = fits-inodes_with changes (inode_at (pages_of content) root) are.fits (fits-read (pages_of content) root) in
     let become : (i : ℕ) → page_at (with_births after.births (pages_of content)) new i ≡ block_for (in_block inodes i) = λ i. puts.blocks i ∙ are.become i in
     record {
       blocks = blocks;

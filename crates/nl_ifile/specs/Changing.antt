@@ -1,46 +1,44 @@
 -- Changes of inodes.
-use Rattle.std.specs.Prelude.{◌≡◌, ℕ, ◌*◌, ◌==◌, ◌<◌, if◌then◌else◌, ◌/◌, ◌≤◌, get_or, length, take, Option, List, [], ◌∷◌}
+use Rattle.std.specs.Prelude.{◌≡◌, ℕ, ◌==◌, ◌<◌, if◌then◌else◌, ◌/◌, ◌≤◌, get_or, length, take, Option, List, [], ◌∷◌}
 use Rattle.std.specs.List.{All, AllPairs}
 use Rattle.nl_types.specs.Entries.{Content}
 use Rattle.nl_types.specs.Roots.{Root, pages_of}
 use Rattle.nl_types.specs.RootChanges.{with_births}
 use Rattle.nl_dat.specs.Batches.{Changes}
 use Rattle.nl_blocktree.specs.declared.change.BlockChange.{BlockChange}
-use Rattle.nl_blocktree.specs.Changed as files
+use Rattle.nl_blocktree.specs.Changed.{IndexesAreInRange, IndexesAscend, blocks_with}
 use Rattle.nl_blocktree.specs.Putting.{PutsAll}
 use Rattle.nl_layout.specs.Inode.{EntryFits}
 use Rattle.nl_ifile.specs.declared.change.InodeChange.{InodeChange}
 use Rattle.nl_ifile.specs.Inodes.{Inodes, IsInodeFile, block_for, entry_for, in_block, inode_at}
 
 -- each change gives its number its inode, or frees the number
-abbrev pub changed : List InodeChange → Inodes → Inodes
-changed [] inodes n = inodes n
-changed (c ∷ changes) inodes n = if n == c.number then c.inode else changed changes inodes n
+abbrev pub inodes_with : List InodeChange → Inodes → Inodes
+inodes_with [] inodes n = inodes n
+inodes_with (c ∷ changes) inodes n = if n == c.number then c.inode else inodes_with changes inodes n
 
-abbrev pub AreAscending : List InodeChange → Type 0
-AreAscending changes = AllPairs (λ a b. a.number < b.number) changes
+abbrev pub NumbersAscend : List InodeChange → Type 0
+NumbersAscend changes = AllPairs (λ a b. a.number < b.number) changes
 
-abbrev pub AreInRange : List InodeChange → Type 0
-AreInRange changes = All (λ change. change.number < 524288) changes
+abbrev pub NumbersAreInRange : List InodeChange → Type 0
+NumbersAreInRange changes = All (λ change. change.number < 524288) changes
 
 -- Changes turn a file of inodes into another: its blocks are changed as a file's are, the new root is the old map with the
 -- changes, and each of its blocks is the one of its inodes.
 pub record PutsInodes (content : Content) (root new : Root) (changes : List InodeChange) (before after : Changes) : Type 0 where
   pub blocks : List BlockChange
   pub puts : PutsAll content 6 root new blocks before after
-  pub inodes : (n : ℕ) → inode_at (with_births after.births (pages_of content)) new n ≡ changed changes (inode_at (pages_of content) root) n
+  pub inodes : (n : ℕ) → inode_at (with_births after.births (pages_of content)) new n ≡ inodes_with changes (inode_at (pages_of content) root) n
   pub file : IsInodeFile (with_births after.births (pages_of content)) new
 
 -- ---- on the way
 
 -- changes of blocks that changes of inodes are: each block becomes the one of the changed inodes
 pub record AreBlockChanges (pages : ℕ → Option (List ℕ)) (inodes : Inodes) (changes : List InodeChange) (blocks : List BlockChange) : Type 0 where
-  pub ascending : files.AreAscending blocks
-  pub in_range : files.AreInRange blocks
-  pub become : (i : ℕ) → files.changed blocks pages i ≡ block_for (in_block (changed changes inodes) i)
+  pub ascending : IndexesAscend blocks
+  pub in_range : IndexesAreInRange blocks
+  pub become : (i : ℕ) → blocks_with blocks pages i ≡ block_for (in_block (inodes_with changes inodes) i)
   pub fits : All (λ c. EntryFits (entry_for c.inode)) changes
-  pub few : length blocks ≤ length changes
-  pub below : (end : ℕ) → All (λ c. c.number < 8 * end) changes → All (λ b. b.index < end) blocks
 
 -- the same of the first changes, where none of the others is in a block that they touch
 pub record AreFirstBlockChanges (pages : ℕ → Option (List ℕ)) (inodes : Inodes) (changes : List InodeChange) (count : ℕ) (blocks : List BlockChange) : Type 0 where

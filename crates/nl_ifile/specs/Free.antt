@@ -1,25 +1,26 @@
--- Free inode numbers. Ordinary inodes have numbers from 11 to 524,287.
+-- Free inode numbers. No inode has a number above 524,287.
 use Rattle.std.specs.Prelude.{◌≡◌, ℕ, ◌+◌, ◌*◌, ◌/◌, ◌%◌, ◌≤◌, ◌<◌, ◌==◌, if◌then◌else◌, List, [], ◌∷◌, IsSome, Option, None, Some}
 use Rattle.std.specs.Option.{option_and_then}
 use Rattle.nl_ifile.specs.declared.change.InodeChange.{InodeChange}
 use Rattle.nl_ifile.specs.Inodes.{Inodes, inode_in}
 
--- all numbers from 11 up to, and without, this one are in use
-abbrev pub AreInUse : Inodes → ℕ → Type 0
-AreInUse inodes end = (n : ℕ) → 11 ≤ n → n < end → IsSome (inodes n)
-
--- the lowest number from 11 on that is free
-pub record IsLowestFree (inodes : Inodes) (n : ℕ) : Type 0 where
-  pub first : 11 ≤ n
-  pub last : n ≤ 524287
-  pub free : inodes n ≡ None
-  pub lowest : AreInUse inodes n
-
--- ---- within a block
-
 -- all numbers from one up to, and without, another are in use
 abbrev pub AreInUseFrom : Inodes → ℕ → ℕ → Type 0
-AreInUseFrom inodes first end = (n : ℕ) → first ≤ n → n < end → IsSome (inodes n)
+AreInUseFrom inodes from end = (n : ℕ) → from ≤ n → n < end → IsSome (inodes n)
+
+-- the lowest number from one on that is free
+pub record IsLowestFreeFrom (inodes : Inodes) (from n : ℕ) : Type 0 where
+  pub first : from ≤ n
+  pub last : n ≤ 524287
+  pub free : inodes n ≡ None
+  pub lowest : AreInUseFrom inodes from n
+
+-- what a search from a number finds: the lowest free one, or that none is
+abbrev pub FindsFree : Inodes → ℕ → Option ℕ → Type 0
+FindsFree inodes from None = AreInUseFrom inodes from 524288
+FindsFree inodes from (Some n) = IsLowestFreeFrom inodes from n
+
+-- ---- within a block
 
 -- the number behind those of the block of this one
 abbrev pub block_end : ℕ → ℕ
@@ -31,6 +32,11 @@ pub record IsFreeInBlock (inodes : Inodes) (first n : ℕ) : Type 0 where
   pub high : n < block_end first
   pub free : inodes n ≡ None
   pub lowest : AreInUseFrom inodes first n
+
+-- what a search from a number in its block finds
+abbrev pub FindsFreeInBlock : Inodes → ℕ → Option ℕ → Type 0
+FindsFreeInBlock inodes first None = AreInUseFrom inodes first (block_end first)
+FindsFreeInBlock inodes first (Some n) = IsFreeInBlock inodes first n
 
 -- the inode that a number has in its block, if that is there
 abbrev pub inode_of_page : Option (List ℕ) → Inodes

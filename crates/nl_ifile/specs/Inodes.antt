@@ -37,8 +37,8 @@ abbrev pub entry_for : Option Inode → InodeEntry
 entry_for None = Free
 entry_for (Some inode) = InUse inode
 
-abbrev pub places : List ℕ
-places = 0 ∷ 1 ∷ 2 ∷ 3 ∷ 4 ∷ 5 ∷ 6 ∷ 7 ∷ []
+abbrev pub block_places : List ℕ
+block_places = 0 ∷ 1 ∷ 2 ∷ 3 ∷ 4 ∷ 5 ∷ 6 ∷ 7 ∷ []
 
 -- the eight inodes of a block
 abbrev pub in_block : Inodes → ℕ → ℕ → Option Inode
@@ -46,7 +46,7 @@ in_block inodes i place = inodes (8 * i + place)
 
 -- the bytes of a block: eight entries
 abbrev pub block_bytes : (ℕ → Option Inode) → List ℕ
-block_bytes inodes = flat_map (λ place. entry_bytes (entry_for (inodes place))) places
+block_bytes inodes = flat_map (λ place. entry_bytes (entry_for (inodes place))) block_places
 
 abbrev pub is_some : {A : Type 0} → Option A → Bool
 is_some None = false
@@ -54,7 +54,7 @@ is_some (Some a) = true
 
 -- a block is there exactly where one of its eight inodes is in use
 abbrev pub block_for : (ℕ → Option Inode) → Option (List ℕ)
-block_for inodes = cond (list_any (λ place. is_some (inodes place)) places) (Some (block_bytes inodes)) None
+block_for inodes = cond (list_any (λ place. is_some (inodes place)) block_places) (Some (block_bytes inodes)) None
 
 -- each block of the file is the one of its eight inodes
 abbrev pub IsInodeFile : Pages → Root → Type 0

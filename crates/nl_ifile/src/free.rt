@@ -1,14 +1,13 @@
 //! Free inode numbers.
-ghost use Rattle.std.specs.Prelude.{◌≡◌, ◌<◌, ◌≤◌, MatchOption, option_copied};
-ghost use Rattle.nl_types.specs.Roots.{pages_of};
+ghost use Rattle.std.specs.Prelude.{◌≡◌, ◌<◌, option_copied};
 ghost use Rattle.nl_layout.specs.Root.{root_of};
 ghost use Rattle.nl_ifile.specs.Inodes.{inode_at};
-ghost use Rattle.nl_ifile.specs.Changing.{AreAscending, changed};
-ghost use Rattle.nl_ifile.specs.Free.{AreInUse, AreInUseFrom, IsFreeInBlock, IsLowestFree, change_at, block_end, inode_of_page};
+ghost use Rattle.nl_ifile.specs.Changing.{NumbersAscend, inodes_with};
+ghost use Rattle.nl_ifile.specs.Free.{FindsFree, FindsFreeInBlock, change_at, inode_of_page};
 
 use crate::change::InodeChange;
 use crate::read::{INODES_PER_BLOCK, inode_in_page};
-use nl_blocktree::get;
+use nl_blocktree::Cursor;
 use nl_dat::VRead;
 use nl_layout::{Inode, Root};
 use nl_types::{InodeNumber, Page};
@@ -19,24 +18,22 @@ pub const FIRST_INODE: u64 = 11;
 /// The greatest number of an inode.
 pub const LAST_INODE: u64 = 524_287;
 
-/// The lowest number from 11 on that is free when the changes are made, or none where all up to 524,287 are in use. The search
-/// begins at `from`, below which all of them have to be in use: a caller that takes one number after another begins
-/// behind the last one, and so reads each block once. It takes no memory.
+/// The lowest number from `from` on that is free when the changes are made, or none where all up to 524,287 are in use. It
+/// takes no memory.
 pub fn next_ino<V: VRead>(
     store: &V,
     root: Root,
     changes: &[InodeChange],
     from: InodeNumber,
 ) -> Option<InodeNumber>
-    requires ascending { AreAscending changes.now }
-    requires first { 11 ≤ from }
-    requires taken { AreInUse (changed changes.now (inode_at (pages_of (V.content store.now)) (root_of root))) from }
-    ensures { MatchOption result (AreInUse (changed changes.now (inode_at (pages_of (V.content store.now)) (root_of root))) 524288)
-        (IsLowestFree (changed changes.now (inode_at (pages_of (V.content store.now)) (root_of root)))) }
+    requires { NumbersAscend changes.now }
+    ensures { FindsFree
+        (inodes_with changes.now (inode_at (V.pages store.now) (root_of root))) from result }
 {
+    let mut cursor = Cursor::new(store, root);
     for block in from.get() / INODES_PER_BLOCK..LAST_INODE / INODES_PER_BLOCK + 1 {
         let first = from.get().max(block * INODES_PER_BLOCK);
-        let free = free_in_block(store, &root, changes, first);
+        let free = free_in_block(&mut cursor, changes, first);
         if free.is_some() {
             return free;
         }
@@ -46,25 +43,26 @@ pub fn next_ino<V: VRead>(
 
 /// The lowest free number from `first` on in the block of that number.
 fn free_in_block<V: VRead>(
-    store: &V,
-    root: &Root,
+    cursor: &mut Cursor<'_, V>,
     changes: &[InodeChange],
     first: u64,
 ) -> Option<InodeNumber>
-    requires ascending { AreAscending changes.now }
+    requires ascending { NumbersAscend changes.now }
     requires in_range { first < 524288 }
-    ensures { MatchOption result (AreInUseFrom (changed changes.now (inode_at (pages_of (V.content store.now)) (root_of root.now))) first (block_end first))
-        (IsFreeInBlock (changed changes.now (inode_at (pages_of (V.content store.now)) (root_of root.now))) first) }
+    ensures found { FindsFreeInBlock (inodes_with changes.now
+        (inode_at (V.pages cursor.old.store.now) (root_of cursor.old.root))) first result }
+    ensures store { cursor.new.store.now ≡ cursor.old.store.now }
+    ensures root { cursor.new.root ≡ cursor.old.root }
 {
-    free_on_page(get(store, *root, first / INODES_PER_BLOCK), changes, first)
+    free_on_page(cursor.page_at(first / INODES_PER_BLOCK), changes, first)
 }
 
 /// The lowest free number from `first` on in the block of that number, whose page is given where it is there.
 fn free_on_page(page: Option<&Page>, changes: &[InodeChange], first: u64) -> Option<InodeNumber>
-    requires ascending { AreAscending changes.now }
+    requires ascending { NumbersAscend changes.now }
     requires in_range { first < 524288 }
-    ensures { MatchOption result (AreInUseFrom (changed changes.now (inode_of_page (option_copied page.entry))) first (block_end first))
-        (IsFreeInBlock (changed changes.now (inode_of_page (option_copied page.entry))) first) }
+    ensures { FindsFreeInBlock
+        (inodes_with changes.now (inode_of_page (option_copied page.entry))) first result }
 {
     for number in first..(first / INODES_PER_BLOCK + 1) * INODES_PER_BLOCK {
         let number = InodeNumber::new(number);
@@ -77,8 +75,8 @@ fn free_on_page(page: Option<&Page>, changes: &[InodeChange], first: u64) -> Opt
 
 /// The inode that a number has when the changes are made, in the block whose page is given where it is there.
 fn changed_inode(page: Option<&Page>, changes: &[InodeChange], number: InodeNumber) -> Option<Inode>
-    requires ascending { AreAscending changes.now }
-    ensures { result ≡ changed changes.now (inode_of_page (option_copied page.entry)) number }
+    requires ascending { NumbersAscend changes.now }
+    ensures { result ≡ inodes_with changes.now (inode_of_page (option_copied page.entry)) number }
 {
     match change_of(changes, number) {
         Some(change) => change.inode,
@@ -88,7 +86,7 @@ fn changed_inode(page: Option<&Page>, changes: &[InodeChange], number: InodeNumb
 
 /// The change of a number, if there is one.
 fn change_of(changes: &[InodeChange], number: InodeNumber) -> Option<&InodeChange>
-    requires ascending { AreAscending changes.now }
+    requires ascending { NumbersAscend changes.now }
     ensures { option_copied result ≡ change_at changes.now number }
 {
     let index = changes.partition_point(|change| change.number < number);

@@ -1,14 +1,12 @@
 //! Changing inodes.
 ghost use Rattle.std.specs.Prelude.{◌≡◌, ◌<◌, ◌*◌, ℕ, length, All, OnErr, IfOk, IfErr};
 ghost use Rattle.nl_types.specs.Roots.{pages_of};
-ghost use Rattle.nl_types.specs.RootChanges.{IsSound};
 ghost use Rattle.nl_layout.specs.Root.{root_of};
-ghost use Rattle.nl_dat.specs.Batches.{Fits};
-ghost use Rattle.nl_dat.specs.Stores.{capacity};
-ghost use Rattle.nl_blocktree.specs.Numbering.{EndsBefore, IsLive, RunsOut};
-ghost use Rattle.nl_blocktree.specs.Putting.{IsPutError};
+ghost use Rattle.nl_dat.specs.Stores.{content_in};
+ghost use Rattle.nl_blocktree.specs.Numbering.{CanTake};
+ghost use Rattle.nl_blocktree.specs.Putting.{CanChange};
 ghost use Rattle.nl_ifile.specs.Inodes.{IsInodeFile};
-ghost use Rattle.nl_ifile.specs.Changing.{AreAscending, AreInRange, PutsInodes};
+ghost use Rattle.nl_ifile.specs.Changing.{NumbersAscend, NumbersAreInRange, PutsInodes};
 
 use crate::change::InodeChange;
 use crate::changed_block::changed_blocks;
@@ -24,8 +22,7 @@ pub const INODE_FILE: u64 = 6;
 /// Changes inodes: adds to the batch what is born and what ends by it, and answers the root of the changed file. A block of
 /// inodes is there exactly where one of its eight is in use, and one that has the same bytes afterwards isn't written.
 ///
-/// Refused by `NoSpace` where the store has no room for all that the changes may take, and by `Memory`; then the batch is as
-/// before.
+/// Refused by `Memory` alone; then the batch is as before.
 pub fn put_inodes<V: Vstore>(
     alloc: Global,
     store: &V,
@@ -33,18 +30,15 @@ pub fn put_inodes<V: Vstore>(
     root: Root,
     changes: &[InodeChange],
 ) -> Result<Root, VolError>
-    requires fits { Fits (capacity (V.store store.now)) (V.content store.now) batch.old }
-    requires sound { IsSound (pages_of (V.content store.now)) (root_of root) }
-    requires live { IsLive (V.content store.now) (root_of root) }
-    requires inodes { IsInodeFile (pages_of (V.content store.now)) (root_of root) }
-    requires ascending { AreAscending changes.now }
-    requires in_range { AreInRange changes.now }
-    ensures ok { IfOk result (λ new. PutsInodes (V.content store.now) (root_of root) (root_of new) changes.now batch.old batch.new) }
-    ensures fits { IfOk result (λ _. Fits (capacity (V.store store.now)) (V.content store.now) batch.new) }
+    requires file { CanChange (V.store store.now) (root_of root) batch.old }
+    requires inodes { IsInodeFile (pages_of (content_in (V.store store.now))) (root_of root) }
+    requires ascending { NumbersAscend changes.now }
+    requires in_range { NumbersAreInRange changes.now }
+    ensures ok { IfOk result (λ new. PutsInodes (content_in (V.store store.now))
+        (root_of root) (root_of new) changes.now batch.old batch.new) }
+    ensures fits { IfOk result (λ _. CanTake (V.store store.now) batch.new) }
     ensures same { OnErr result (batch.new ≡ batch.old) }
-    ensures refused { IfErr result (λ e. e ≡ VolError.NoSpace → (end : ℕ) → EndsBefore (pages_of (V.content store.now)) (root_of root) end → All (λ change. change.number < 8 * end) changes.now
-        → RunsOut (V.store store.now).segments (length batch.old.births) (length changes.now) end) }
-    ensures errors { IfErr result IsPutError }
+    ensures errors { IfErr result (λ e. e ≡ VolError.Memory) }
 {
     let blocks = changed_blocks(alloc, store, &root, changes)?;
     put_all(

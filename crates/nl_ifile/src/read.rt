@@ -1,6 +1,5 @@
 //! Reading inodes.
 ghost use Rattle.std.specs.Prelude.{◌≡◌, ◌<◌};
-ghost use Rattle.nl_types.specs.Roots.{pages_of};
 ghost use Rattle.nl_layout.specs.Root.{root_of};
 ghost use Rattle.nl_ifile.specs.Inodes.{inode_at, inode_in};
 
@@ -15,7 +14,7 @@ pub(crate) const INODES_PER_BLOCK: u64 = 8;
 /// The inode of a number. None where the number is free: its block isn't there, or its place in the block is free or spells
 /// no inode. It takes no memory, and answers on any pages.
 pub fn inode<V: VRead>(store: &V, root: Root, number: InodeNumber) -> Option<Inode>
-    ensures { result ≡ inode_at (pages_of (V.content store.now)) (root_of root) number }
+    ensures { result ≡ inode_at (V.pages store.now) (root_of root) number }
 {
     let page = get(store, root, number.get() / INODES_PER_BLOCK)?;
     inode_in_page(page, (number.get() % INODES_PER_BLOCK) as usize)

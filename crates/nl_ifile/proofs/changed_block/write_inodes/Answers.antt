@@ -5,7 +5,7 @@ use Rattle.std.specs.List.{All}
 use Rattle.nl_layout.specs.Inode.{EntryFits}
 use Rattle.nl_ifile.specs.declared.change.InodeChange.{InodeChange}
 use Rattle.nl_ifile.specs.Inodes.{block_bytes, entry_for, in_block, with_inode}
-use Rattle.nl_ifile.specs.Changing.{changed}
+use Rattle.nl_ifile.specs.Changing.{inodes_with}
 use Rattle.nl_ifile.proofs.Changes.{block_bytes-more}
 use Rattle.nl_ifile.proofs.changed_block.write_inodes.Goals as goal
 
@@ -19,8 +19,8 @@ loop-change-preserved c =
       written = λ inodes index inside was.
           let here : item.number / 8 ≡ index = ap (λ (x : InodeChange). x.number / 8) (sym is) ∙ inside k item l in
           let before = c.loop-change.invariant.written inodes index inside was in
-          let place = ap (λ (n : ℕ). block_bytes (with_inode (in_block (changed (take k c.args.changes.now) inodes) index) (n % 8) item.inode)) c.get.ensures in
-          c.write_inode.ensures.written (in_block (changed (take k c.args.changes.now) inodes) index) before ∙ (place ∙ block_bytes-more c.args.changes.now k item inodes index c.requires.ascending l is here);
+          let place = ap (λ (n : ℕ). block_bytes (with_inode (in_block (inodes_with (take k c.args.changes.now) inodes) index) (n % 8) item.inode)) c.get.ensures in
+          c.write_inode.ensures.written (in_block (inodes_with (take k c.args.changes.now) inodes) index) before ∙ (place ∙ block_bytes-more c.args.changes.now k item inodes index c.requires.ascending l is here);
       fits =
           subst (λ (cs : List InodeChange). All (λ x. EntryFits (entry_for x.inode)) cs) (sym (take_more c.args.changes.now k item l ∙ ap (λ (x : InodeChange). take k c.args.changes.now ++ x ∷ []) is))
           (All-push (λ (x : InodeChange). EntryFits (entry_for x.inode)) _ item c.loop-change.invariant.fits c.write_inode.ensures.fits);

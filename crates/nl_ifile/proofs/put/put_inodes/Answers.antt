@@ -1,31 +1,30 @@
-use Rattle.std.proofs.Common.{◌≡◌, ◌<◌, ◌≤◌, ℕ, List, length, ap, sym, subst, arith}
-use Rattle.std.specs.List.{All}
-use Rattle.std.proofs.lemmas.Result.{IfErr-weaker, IfOk-weaker}
+use Rattle.std.proofs.Common.{ℕ, List, sym, subst}
+use Rattle.std.proofs.lemmas.Result.{IfOk-weaker}
+use Rattle.nl_types.specs.Roots.{Pages, page_at, pages_of}
 use Rattle.nl_layout.specs.Root.{root_of}
+use Rattle.nl_dat.specs.Stores.{content_in}
 use Rattle.nl_blocktree.specs.declared.change.BlockChange.{BlockChange}
 use Rattle.nl_blocktree.specs.Putting.{PutsAll}
-use Rattle.nl_types.specs.Roots.{page_at, pages_of}
-use Rattle.nl_ifile.specs.Inodes.{inode_at}
+use Rattle.nl_ifile.specs.Inodes.{IsInodeFile, inode_at}
 use Rattle.nl_ifile.specs.Changing.{AreBlockChanges}
 use Rattle.nl_ifile.proofs.NewFile.{puts-inodes}
 use Rattle.nl_ifile.proofs.put.put_inodes.Goals as goal
 
+pub changed_blocks-requires-clause-inodes : goal.changed_blocks-requires-clause-inodes
+changed_blocks-requires-clause-inodes g c =
+    subst (λ (pages : Pages). IsInodeFile pages (root_of c.args.root)) (sym (g.met.V.Vstore.reads_pages c.args.store.now)) c.requires.inodes
+
 pub returns-clause-ok : goal.returns-clause-ok
 returns-clause-ok g c =
+    let root = root_of c.args.root in
+    let changes = c.args.changes.now in
+    let stored = content_in (g.V.Vstore.store c.args.store.now) in
+    let are : AreBlockChanges (page_at (pages_of stored) root) (inode_at (pages_of stored) root) changes c.in_ok-blocks.blocks.items =
+    subst (λ (pages : Pages). AreBlockChanges (page_at pages root) (inode_at pages root) changes c.in_ok-blocks.blocks.items)
+    (g.met.V.Vstore.reads_pages c.args.store.now) c.in_ok-blocks.ensures.ok in
     IfOk-weaker c.put_all.result _ _
     (λ new puts.
-    puts-inodes (g.V.VRead.content c.args.store.now) (root_of c.args.root) (root_of new) c.args.changes.now c.deref.result.now c.args.batch.now c.put_all.new.batch
-    (subst (λ (blocks : List BlockChange). AreBlockChanges (page_at (pages_of (g.V.VRead.content c.args.store.now)) (root_of c.args.root)) (inode_at (pages_of (g.V.VRead.content c.args.store.now)) (root_of c.args.root)) c.args.changes.now blocks) (sym c.deref.ensures.value) c.in_ok-blocks.ensures.ok)
-    (subst (λ (inode : ℕ). PutsAll (g.V.VRead.content c.args.store.now) inode (root_of c.args.root) (root_of new) c.deref.result.now c.args.batch.now c.put_all.new.batch) c.new.ensures puts))
+    puts-inodes stored root (root_of new) changes c.deref.result.now c.args.batch.now c.put_all.new.batch
+    (subst (λ (blocks : List BlockChange). AreBlockChanges (page_at (pages_of stored) root) (inode_at (pages_of stored) root) changes blocks) (sym c.deref.ensures.value) are)
+    (subst (λ (inode : ℕ). PutsAll stored inode root (root_of new) c.deref.result.now c.args.batch.now c.put_all.new.batch) c.new.ensures puts))
     c.put_all.ensures.ok
-
-pub returns-clause-refused : goal.returns-clause-refused
-returns-clause-refused g c =
-    IfErr-weaker c.put_all.result _ _
-    (λ e r no_space end before low.
-    let value : c.deref.result.now ≡ c.in_ok-blocks.blocks.items = c.deref.ensures.value in
-    let lacks = r no_space end before (subst (λ (blocks : List BlockChange). All (λ b. b.index < end) blocks) (sym value) (c.in_ok-blocks.ensures.ok.below end low)) in
-    let few : length c.in_ok-blocks.blocks.items ≤ length c.args.changes.now = c.in_ok-blocks.ensures.ok.few in
-    let count : length c.deref.result.now ≡ length c.in_ok-blocks.blocks.items = ap length value in
-    λ reserve m l. lacks reserve m (omega (arith, l, few, count)))
-    c.put_all.ensures.refused

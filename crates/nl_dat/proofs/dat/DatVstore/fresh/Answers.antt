@@ -1,13 +1,13 @@
-use Rattle.std.proofs.Common.{◌≡◌, ℕ, ◌+◌, Option, Some, None, sym, subst, length, IfOk, OnErr, arith}
+use Rattle.std.proofs.Common.{◌≡◌, true, ℕ, ◌+◌, ◌≤◌, Option, Some, None, sym, subst, length, IfOk, OnErr, arith}
 use Rattle.std.specs.Prelude.{MatchOption, max}
 use Rattle.std.specs.Option.{ok_or}
 use Rattle.nl_types.specs.declared.error.VolError.{VolError}
 use Rattle.nl_types.specs.declared.error.VolError.TheVariants.{NoSpace}
 use Rattle.nl_types.specs.Segments.{AreTidy}
-use Rattle.nl_dat.specs.Batches.{Fits, LacksSpaceFrom, IsLowestFree, last_number}
+use Rattle.nl_dat.specs.Batches.{Fits, LacksSpaceFrom, IsLowestFree, is_taken, last_number}
 use Rattle.nl_dat.specs.Table.{AreInUse, IsFirstFree}
 use Rattle.nl_dat.specs.Stores.{Store, content_in, capacity}
-use Rattle.nl_dat.proofs.FreeNumbers.{lowest-free, no_number-no_space}
+use Rattle.nl_dat.proofs.FreeNumbers.{all-taken, lowest-free, no_number-no_space}
 use Rattle.nl_dat.proofs.dat.DatVstore.fresh.Goals as goal
 
 found_or : (P : Type 0) (Q R : ℕ → Type 0) (o : Option ℕ) (e : VolError) → MatchOption o P Q → ((n : ℕ) → Q n → R n) → IfOk (ok_or o e) R
@@ -49,3 +49,19 @@ returns-clause-lacks_space g c =
     (subst (λ (s : Store). OnErr (ok_or c.first_free.result NoSpace) (LacksSpaceFrom s.segments (length changes.births + 1))) c.self.view_is
     (none_or _ _ _ c.first_free.result NoSpace found
     (no_number-no_space table lowest space (g.S.Space.failure_count c.self.inside.space) changes c.self.invariant fits c.payload_goes_to_unused_blocks.ensures.room tidy)))
+
+pub returns-clause-all_taken : goal.returns-clause-all_taken
+returns-clause-all_taken g c =
+    let table = c.self.inside.table in
+    let lowest = c.self.inside.filled + 1 in
+    let changes = c.args.batch.now in
+    let space = g.S.Space.content c.self.inside.space in
+    let first : c.max-first.result + 1 ≡ max lowest (last_number changes.births + 1) = omega (arith, c.max-first.ensures, c.get.ensures, c.last_number.ensures) in
+    let found : MatchOption c.first_free.result (AreInUse table (max lowest (last_number changes.births + 1)) (length table)) (IsFirstFree table (max lowest (last_number changes.births + 1))) =
+    subst (λ f. MatchOption c.first_free.result (AreInUse table f (length table)) (IsFirstFree table f)) first
+    (subst (λ t. MatchOption c.first_free.result (AreInUse t (c.max-first.result + 1) (length t)) (IsFirstFree t (c.max-first.result + 1))) c.as_slice.ensures c.first_free.ensures) in
+    let fits = subst (λ (s : Store). Fits (capacity s) (content_in s) changes) (sym c.self.view_is) c.requires in
+    subst (λ r. OnErr r ((v : ℕ) → 1 ≤ v → v ≤ capacity c.args.self.now → is_taken (content_in c.args.self.now) changes.births v ≡ true)) (sym c.ok_or.ensures.value)
+    (subst (λ (s : Store). OnErr (ok_or c.first_free.result NoSpace) ((v : ℕ) → 1 ≤ v → v ≤ capacity s → is_taken (content_in s) changes.births v ≡ true)) c.self.view_is
+    (none_or _ _ _ c.first_free.result NoSpace found
+    (all-taken table lowest space (g.S.Space.failure_count c.self.inside.space) changes c.self.invariant fits)))

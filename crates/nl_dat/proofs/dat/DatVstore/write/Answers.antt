@@ -14,7 +14,19 @@ use Rattle.nl_dat.specs.Stores.{Store, IsWritten, IsBrokenOff, content_in, capac
 use Rattle.nl_dat.specs.Inside.{store_of}
 use Rattle.nl_dat.proofs.Writing.{table-kept, table-written, is_written, live_inside, is_born_read}
 use Rattle.nl_dat.proofs.Refusals.{total-refused, broken_off}
+use Rattle.nl_types.specs.Segments.{AreTidy, total_blocks}
+use Rattle.nl_types.specs.Placing as placing
+use Rattle.nl_types.specs.PlacingLaws.{WhatFitsHasRoom}
+use Rattle.nl_segwriter.specs.Content.{Content as Space}
+use Rattle.nl_segwriter.specs.Appended.{IsAppended}
+use Rattle.nl_dat.specs.Inside.{IsTable}
+use Rattle.nl_dat.proofs.FreeNumbers.{numbers-inside}
 use Rattle.nl_dat.proofs.dat.DatVstore.write.Goals as goal
+
+inside_of : (table : List (Option DatEntry)) (lowest : ℕ) (space later : Space) (failures now c : ℕ) (changes : Changes) (items : List Payload) (at : List ℕ) → IsTable table lowest space → Fits (total_blocks space.segments) (content_in (store_of table space failures)) changes
+    → births_of items ≡ changes.births → WhatFitsHasRoom → AreTidy space.segments → IsAppended space later true now c items at → last_number changes.births ≤ total_blocks space.segments
+inside_of table lowest space later failures now c changes items at is_table fits items_are has_room tidy appended =
+    numbers-inside table lowest space failures changes is_table fits has_room tidy true appended.logs (subst (λ n. placing.Fits space.segments true n appended.logs) (sym (length-map items birth_of_item) ∙ ap length items_are) appended.fits)
 
 pub invariant_of-self : goal.invariant_of-self
 invariant_of-self g c =
@@ -47,9 +59,10 @@ pub enter_births-requires-clause-inside : goal.enter_births-requires-clause-insi
 enter_births-requires-clause-inside g c =
     let births = c.args.batch.now.births in
     let fits = subst (λ (s : Store). Fits (capacity s) (content_in s) c.args.batch.now) (sym c.self.view_is) c.requires in
+    let low = inside_of c.self.inside.table (c.self.inside.filled + 1) (g.S.Space.content c.self.inside.space) (g.S.Space.content c.append.new.self) (g.S.Space.failure_count c.self.inside.space) c.args.now c.args.checkpoint c.args.batch.now c.births.result.now c.in_ok-numbers.numbers.items c.self.invariant fits c.births.ensures c.payload_goes_to_unused_blocks.ensures.room (subst AreTidy c.table.ensures c.limits_hold.ensures.tidy) c.in_ok-numbers.ensures.appended in
     rw (c.births-2.ensures, c.end_entries.ensures.length) (λ k d within.
     let upto : number_of (get_or births k d) ≤ last_number births = fits.upto_last _ (is_born_read births k d within) in
-    omega (arith, upto, fits.inside, c.self.invariant.full))
+    omega (arith, upto, low, c.self.invariant.full))
 
 -- the table behind both changes
 both : (checkpoint : ℕ) (changes : Changes) (items : List Payload) (ends at deref : List ℕ) (table mid new : List (Option DatEntry)) → births_of items ≡ changes.births → ends ≡ changes.ends → deref ≡ at
@@ -68,8 +81,9 @@ invariant_of-self-2 g c =
     let fits = subst (λ (s : Store). Fits (capacity s) (content_in s) changes) (sym c.self.view_is) c.requires in
     let lowest : c.max-self-inside.result + 1 ≡ max (c.self.inside.filled + 1) (last_number changes.births + 1) = omega (arith, c.max-self-inside.ensures, c.get.ensures, c.last_number.ensures) in
     let is_new = both c.args.checkpoint changes c.births-2.result.now c.ends.result.now c.in_ok-numbers.numbers.items c.deref.result.now c.self.inside.table c.end_entries.new.table c.enter_births.new.table c.births-2.ensures c.ends.ensures c.deref.ensures.value c.end_entries.ensures.entries c.enter_births.ensures.entries in
+    let low = inside_of c.self.inside.table (c.self.inside.filled + 1) old later (g.S.Space.failure_count c.self.inside.space) c.args.now c.args.checkpoint changes c.births.result.now c.in_ok-numbers.numbers.items c.self.invariant fits c.births.ensures c.payload_goes_to_unused_blocks.ensures.room (subst AreTidy c.table.ensures c.limits_hold.ensures.tidy) e.appended in
     rw lowest (table-written c.self.inside.table c.enter_births.new.table (c.self.inside.filled + 1) old later (g.S.Space.failure_count c.self.inside.space) (g.S.Space.failure_count c.append.new.self) c.args.checkpoint c.args.now changes c.births.result.now c.in_ok-numbers.numbers.items
-    c.self.invariant fits c.births.ensures e.appended e.kept e.stays is_new (c.enter_births.ensures.length ∙ c.end_entries.ensures.length))
+    c.self.invariant fits c.births.ensures e.appended e.kept e.stays is_new (c.enter_births.ensures.length ∙ c.end_entries.ensures.length) low)
 
 pub returns-clause-written : goal.returns-clause-written
 returns-clause-written g c =
@@ -79,6 +93,7 @@ returns-clause-written g c =
     let e = c.in_ok-numbers.ensures in
     let fits = subst (λ (s : Store). Fits (capacity s) (content_in s) changes) (sym c.self.view_is) c.requires in
     let is_new = both c.args.checkpoint changes c.births-2.result.now c.ends.result.now c.in_ok-numbers.numbers.items c.deref.result.now c.self.inside.table c.end_entries.new.table c.enter_births.new.table c.births-2.ensures c.ends.ensures c.deref.ensures.value c.end_entries.ensures.entries c.enter_births.ensures.entries in
+    let low = inside_of c.self.inside.table (c.self.inside.filled + 1) old later (g.S.Space.failure_count c.self.inside.space) c.args.now c.args.checkpoint changes c.births.result.now c.in_ok-numbers.numbers.items c.self.invariant fits c.births.ensures c.payload_goes_to_unused_blocks.ensures.room (subst AreTidy c.table.ensures c.limits_hold.ensures.tidy) e.appended in
     subst (λ s. IsWritten c.args.checkpoint c.args.now changes s (store_of c.enter_births.new.table later (g.S.Space.failure_count c.append.new.self))) c.self.view_is
     (is_written c.self.inside.table c.enter_births.new.table (c.self.inside.filled + 1) old later (g.S.Space.failure_count c.self.inside.space) (g.S.Space.failure_count c.append.new.self) c.args.checkpoint c.args.now changes c.births.result.now c.in_ok-numbers.numbers.items
-    c.self.invariant fits c.births.ensures e.appended e.kept e.stays is_new (c.enter_births.ensures.length ∙ c.end_entries.ensures.length))
+    c.self.invariant fits c.births.ensures e.appended e.kept e.stays is_new (c.enter_births.ensures.length ∙ c.end_entries.ensures.length) low)

@@ -1,0 +1,5 @@
+use Rattle.nl_blocktree.proofs.Staying.{file-stays}
+use Rattle.nl_blocktree.proofs.laws.files_stay.Goals as goal
+
+pub returns : goal.returns
+returns c = file-stays
