@@ -5,12 +5,12 @@ use Rattle.std.specs.List.{AllByRecursion}
 use Rattle.std.proofs.Math.Nat.{mul-le-mul_right}
 use Rattle.std.proofs.lemmas.Bool.{cases_Bool, cases_eq, cases_lt, both_ways}
 use Rattle.nl_types.specs.declared.segment.Log.{Log}
-use Rattle.nl_types.specs.Segments.{Segments, AreTidy}
+use Rattle.nl_types.specs.Segments.{Segments, AreTidy, IsClosed}
 use Rattle.nl_types.specs.Placing.{row_of, with_log, with_logs}
 use Rattle.nl_types.specs.Entries.{Content, Entry}
 use Rattle.nl_types.specs.PartialMaps.{Partial, adjust, adjust_each, is_one_of}
 use Rattle.nl_types.proofs.UsedParts.{length-addresses}
-use Rattle.nl_dat.specs.Stores.{Store, IsStore, IsMoved, IsClosed, address_in, content_in, is_inside, moved_to}
+use Rattle.nl_dat.specs.Stores.{Store, IsStore, IsMoved, address_in, content_in, is_inside, moved_to}
 use Rattle.nl_dat.specs.Located.{number_at, pick, picked, if_needed, entry_needed, needs, needed_at, needed_in}
 use Rattle.nl_dat.proofs.ClosedSegments.{fits-outside}
 use Rattle.nl_dat.proofs.Relocating.{moved-in, is_some-inside}

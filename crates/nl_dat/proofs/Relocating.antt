@@ -7,7 +7,7 @@ use Rattle.std.proofs.lemmas.Bool.{cases_Bool, or_cases}
 use Rattle.std.proofs.lemmas.List.{length-map}
 use Rattle.nl_types.specs.declared.error.VolError.{VolError}
 use Rattle.nl_types.specs.declared.error.VolError.TheVariants.{NoSpace, Fault, Memory}
-use Rattle.nl_types.specs.Segments.{AreTidy, IsUsed, StaysUsed, total_blocks}
+use Rattle.nl_types.specs.Segments.{AreTidy, IsUsed, StaysUsed, total_blocks, IsClosed}
 use Rattle.nl_types.specs.Placing.{LacksSpace, Fits}
 use Rattle.nl_types.specs.PartialMaps.{Partial, adjust, adjust_each, is_one_of, Stands}
 use Rattle.nl_types.proofs.PartialMaps.{is_one_of-get_or}
@@ -16,7 +16,7 @@ use Rattle.nl_segwriter.specs.Appended.{IsAppended, IsAppendError, IsBrokenOff a
 use Rattle.nl_dat.specs.declared.entries.DatEntry.{DatEntry}
 use Rattle.nl_dat.specs.Batches.{birth_of_item, births_of}
 use Rattle.nl_dat.specs.Table.{entry_in, addresses_of, block_of, content_of, moved_entry, stored_at, IsSound}
-use Rattle.nl_dat.specs.Stores.{IsMoved, IsMoveRefused, KeepsStored, IsClosed, is_inside, moved_to, address_in, tag_held}
+use Rattle.nl_dat.specs.Stores.{IsMoved, IsMoveRefused, KeepsStored, is_inside, moved_to, address_in, tag_held}
 use Rattle.nl_dat.specs.Inside.{births_in, numbered_of, store_of, IsTable}
 use Rattle.nl_dat.proofs.Contents.{KeepsAt, content_of-KeepsAt, IsSound-KeepsAt, content_of-moves, addresses_of-moves, IsSound-moves}
 use Rattle.nl_dat.proofs.StoreOf.{content_in-store_of, address_in-store_of}

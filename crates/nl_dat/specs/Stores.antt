@@ -85,16 +85,6 @@ pub record IsStore (s : Store) : Type 0 where
 
 -- ---- segments
 
--- the segment has logs, and takes no more
-abbrev pub is_closed : SegmentState → Bool
-is_closed Clean = false
-is_closed Dirty = true
-is_closed Active = false
-is_closed Error = true
-
-abbrev pub IsClosed : Segments → ℕ → Type 0
-IsClosed s segment = is_closed (info_of s.each segment).state ≡ true
-
 -- whether the block, if there is one, lies in the segment
 abbrev pub is_inside : Segments → ℕ → Option ℕ → Bool
 is_inside s segment None = false

@@ -1,6 +1,6 @@
 //! What the layers above know of pages under virtual block numbers.
 ghost use Rattle.std.specs.Prelude.{◌≡◌, ◌≢◌, ℕ, ◌+◌, ◌<◌, ◌≤◌, Bool, true, false, List, length, All, IfOk, IfErr, OnOk, OnErr, IsErrOf, MatchOption, MatchResult, Some, option_copied};
-ghost use Rattle.nl_types.specs.Segments.{block_at};
+ghost use Rattle.nl_types.specs.Segments.{IsClosed, block_at};
 ghost use Rattle.nl_types.specs.Placing.{LacksSpace};
 ghost use Rattle.nl_types.specs.Roots.{Pages, pages_of};
 ghost use Rattle.nl_segwriter.specs.Appended.{IsAppendError};
@@ -8,7 +8,7 @@ ghost use Rattle.std.specs.Prelude.{max, ◌^◌};
 ghost use Rattle.nl_dat.specs.Batches.{last_number, IsLowestFree, is_taken, LacksSpaceFrom, Fits};
 ghost use Rattle.nl_dat.specs.Table.{Periods, periods_of};
 ghost use Rattle.nl_dat.specs.Located.{number_at, payload_count};
-ghost use Rattle.nl_dat.specs.Stores.{Store, IsStore, IsWritten, IsMoved, IsMoveRefused, IsReclaimed, IsBrokenOff, IsClosed, is_inside, content_in, address_in, capacity};
+ghost use Rattle.nl_dat.specs.Stores.{Store, IsStore, IsWritten, IsMoved, IsMoveRefused, IsReclaimed, IsBrokenOff, is_inside, content_in, address_in, capacity};
 
 use crate::batch::Batch;
 use crate::entries::Period;

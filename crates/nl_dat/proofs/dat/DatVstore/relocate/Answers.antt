@@ -3,14 +3,14 @@ use Rattle.std.specs.Prelude.{Err}
 use Rattle.std.specs.List.{All}
 use Rattle.std.proofs.lemmas.Result.{err_from_is_err_and}
 use Rattle.std.proofs.lemmas.List.{length-map}
-use Rattle.nl_types.specs.Segments.{AreTidy, StaysUsed}
+use Rattle.nl_types.specs.Segments.{AreTidy, IsClosed, StaysUsed}
 use Rattle.nl_types.specs.PartialMaps.{adjust_each}
 use Rattle.nl_segwriter.specs.Content.{Payload, Content as Space, KeepsUsed}
 use Rattle.nl_segwriter.specs.Appended.{IsAppended}
 use Rattle.nl_dat.specs.declared.entries.DatEntry.{DatEntry}
 use Rattle.nl_dat.specs.Batches.{births_of}
 use Rattle.nl_dat.specs.Table.{entry_in, stored_at, moved_entry}
-use Rattle.nl_dat.specs.Stores.{Store, IsMoved, IsMoveRefused, IsClosed, is_inside, address_in}
+use Rattle.nl_dat.specs.Stores.{Store, IsMoved, IsMoveRefused, is_inside, address_in}
 use Rattle.nl_dat.specs.Inside.{births_in, store_of, IsTable}
 use Rattle.nl_dat.proofs.Writing.{table-kept}
 use Rattle.nl_dat.proofs.Refusals.{total-refused}
