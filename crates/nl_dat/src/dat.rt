@@ -8,9 +8,10 @@ use crate::entries::{
     DatEntry, Period, empty_places, end_entries, enter_births, entry_at, first_free, move_entries,
     number_in,
 };
-use crate::moving::{count_payload, load_all};
+use crate::moving::{count_payload, load_all, row_tag};
 use crate::reclaim::take_out;
 use crate::store::{VRead, Vstore};
+use nl_layout::Tag;
 use nl_segwriter::Space;
 use nl_sufile::SegTable;
 use nl_types::laws::payload_goes_to_unused_blocks;
@@ -175,6 +176,11 @@ impl<S: Space> Vstore for Dat<S> {
     fn at(&self, segment: Segment, position: u32) -> Option<VirtualNumber> {
         self.space.table().limits_hold();
         self.found_at(segment, position)
+    }
+
+    fn tag(&self, segment: Segment, position: u32) -> Option<Tag> {
+        self.space.table().limits_hold();
+        row_tag(self.space.summary(segment), position)
     }
 
     fn payload_count(&self, segment: Segment) -> u32 {
