@@ -66,7 +66,6 @@ fn load_one<S: Space>(
     ensures errors { IfErr result IsLoadError }
 {
     let segments = space.table();
-    segments.limits_hold();
     let first = segment.get() * segments.blocks();
     let entry = match entry_at(table, number) {
         Some(entry) => entry,

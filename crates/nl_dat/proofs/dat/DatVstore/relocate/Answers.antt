@@ -52,7 +52,7 @@ returns-in_err-blocks-clause-refused g c =
     } in
     rw (p.1, p.2) (subst (λ s. IsMoveRefused c.args.checkpoint c.args.now c.args.numbers.now c.in_err-blocks.field-0.0 s (store_of table later after)) c.self.view_is
     (move-refused table (c.self.inside.filled + 1) old later before (g.S.Space.failure_count c.load_all.new.space) after c.args.checkpoint c.args.now c.args.numbers.now c.deref.result.now c.in_err-blocks.field-0.0
-    (subst AreTidy c.table.ensures c.limits_hold.ensures.tidy) c.self.invariant (theirs-of table (c.self.inside.filled + 1) old before c.args.numbers.now c.deref.result.now c.self.invariant loaded)
+    (g.met.S.Space.limits c.self.inside.space).tidy c.self.invariant (theirs-of table (c.self.inside.filled + 1) old before c.args.numbers.now c.deref.result.now c.self.invariant loaded)
     (subst (λ (m : Space). KeepsUsed m.segments m later) same e.kept) c.load_all.ensures.counted
     (subst (λ (m : Space). IsRefused false c.args.now c.args.checkpoint c.deref.result.now c.in_err-blocks.field-0.0 m later (g.S.Space.failure_count c.load_all.new.space) after) same refused)))
 
@@ -90,5 +90,5 @@ returns-clause-moved g c =
     c.self.invariant loaded (subst (λ m. IsAppended m later false c.args.now c.args.checkpoint c.deref.result.now c.in_ok-blocks.blocks.items) same e.appended)
     (subst (λ (m : Space). KeepsUsed m.segments m later) same e.kept) (subst (λ (m : Space). StaysUsed m.segments later.segments) same e.stays)
     (c.move_entries.ensures.entries ∙ ap (λ bs. adjust_each moved_entry c.args.numbers.now bs (entry_in table)) c.deref-2.ensures.value) c.move_entries.ensures.length
-    (subst AreTidy c.table.ensures c.limits_hold.ensures.tidy) (subst (λ (s : Store). IsClosed s.segments c.args.segment) (sym c.self.view_is) c.requires.closed)
+    (g.met.S.Space.limits c.self.inside.space).tidy (subst (λ (s : Store). IsClosed s.segments c.args.segment) (sym c.self.view_is) c.requires.closed)
     (subst (λ (s : Store). All (λ v. is_inside s.segments c.args.segment (address_in s v) ≡ true) c.args.numbers.now) (sym c.self.view_is) c.requires.inside))

@@ -48,7 +48,7 @@ returns-in_err-numbers-clause-fault g c =
     (subst (λ (payload : List Payload). IsFaulted true c.args.checkpoint c.args.now payload (store_of c.self.inside.table old (g.S.Space.failure_count c.self.inside.space)) (store_of c.self.inside.table later (g.S.Space.failure_count c.append.new.self)))
     (items_back c.births.result.now ∙ ap items_of c.births.ensures)
     (is_faulted c.self.inside.table (c.self.inside.filled + 1) old later (g.S.Space.failure_count c.self.inside.space) (g.S.Space.failure_count c.append.new.self) true c.args.now c.args.checkpoint c.births.result.now
-    (subst AreTidy c.table.ensures c.limits_hold.ensures.tidy) c.self.invariant e.kept (e.fault (ap Err fault)) (e.broken_off (ap Err fault)))))
+    (g.met.S.Space.limits c.self.inside.space).tidy c.self.invariant e.kept (e.fault (ap Err fault)) (e.broken_off (ap Err fault)))))
 
 pub end_entries-requires : goal.end_entries-requires
 end_entries-requires g c =
@@ -61,7 +61,7 @@ pub enter_births-requires-clause-inside : goal.enter_births-requires-clause-insi
 enter_births-requires-clause-inside g c =
     let births = c.args.batch.now.births in
     let fits = subst (λ (s : Store). Fits (capacity s) (content_in s) c.args.batch.now) (sym c.self.view_is) c.requires in
-    let low = inside_of c.self.inside.table (c.self.inside.filled + 1) (g.S.Space.content c.self.inside.space) (g.S.Space.content c.append.new.self) (g.S.Space.failure_count c.self.inside.space) c.args.now c.args.checkpoint c.args.batch.now c.births.result.now c.in_ok-numbers.numbers.items c.self.invariant fits c.births.ensures c.payload_goes_to_unused_blocks.ensures.room (subst AreTidy c.table.ensures c.limits_hold.ensures.tidy) c.in_ok-numbers.ensures.appended in
+    let low = inside_of c.self.inside.table (c.self.inside.filled + 1) (g.S.Space.content c.self.inside.space) (g.S.Space.content c.append.new.self) (g.S.Space.failure_count c.self.inside.space) c.args.now c.args.checkpoint c.args.batch.now c.births.result.now c.in_ok-numbers.numbers.items c.self.invariant fits c.births.ensures c.payload_goes_to_unused_blocks.ensures.room (g.met.S.Space.limits c.self.inside.space).tidy c.in_ok-numbers.ensures.appended in
     rw (c.births-2.ensures, c.end_entries.ensures.length) (λ k d within.
     let upto : number_of (get_or births k d) ≤ last_number births = fits.upto_last _ (is_born_read births k d within) in
     omega (arith, upto, low, c.self.invariant.full))
@@ -83,7 +83,7 @@ invariant_of-self-2 g c =
     let fits = subst (λ (s : Store). Fits (capacity s) (content_in s) changes) (sym c.self.view_is) c.requires in
     let lowest : c.max-self-inside.result + 1 ≡ max (c.self.inside.filled + 1) (last_number changes.births + 1) = omega (arith, c.max-self-inside.ensures, c.get.ensures, c.last_number.ensures) in
     let is_new = both c.args.checkpoint changes c.births-2.result.now c.ends.result.now c.in_ok-numbers.numbers.items c.deref.result.now c.self.inside.table c.end_entries.new.table c.enter_births.new.table c.births-2.ensures c.ends.ensures c.deref.ensures.value c.end_entries.ensures.entries c.enter_births.ensures.entries in
-    let low = inside_of c.self.inside.table (c.self.inside.filled + 1) old later (g.S.Space.failure_count c.self.inside.space) c.args.now c.args.checkpoint changes c.births.result.now c.in_ok-numbers.numbers.items c.self.invariant fits c.births.ensures c.payload_goes_to_unused_blocks.ensures.room (subst AreTidy c.table.ensures c.limits_hold.ensures.tidy) e.appended in
+    let low = inside_of c.self.inside.table (c.self.inside.filled + 1) old later (g.S.Space.failure_count c.self.inside.space) c.args.now c.args.checkpoint changes c.births.result.now c.in_ok-numbers.numbers.items c.self.invariant fits c.births.ensures c.payload_goes_to_unused_blocks.ensures.room (g.met.S.Space.limits c.self.inside.space).tidy e.appended in
     rw lowest (table-written c.self.inside.table c.enter_births.new.table (c.self.inside.filled + 1) old later (g.S.Space.failure_count c.self.inside.space) (g.S.Space.failure_count c.append.new.self) c.args.checkpoint c.args.now changes c.births.result.now c.in_ok-numbers.numbers.items
     c.self.invariant fits c.births.ensures e.appended e.kept e.stays is_new (c.enter_births.ensures.length ∙ c.end_entries.ensures.length) low)
 
@@ -95,7 +95,7 @@ returns-clause-written g c =
     let e = c.in_ok-numbers.ensures in
     let fits = subst (λ (s : Store). Fits (capacity s) (content_in s) changes) (sym c.self.view_is) c.requires in
     let is_new = both c.args.checkpoint changes c.births-2.result.now c.ends.result.now c.in_ok-numbers.numbers.items c.deref.result.now c.self.inside.table c.end_entries.new.table c.enter_births.new.table c.births-2.ensures c.ends.ensures c.deref.ensures.value c.end_entries.ensures.entries c.enter_births.ensures.entries in
-    let low = inside_of c.self.inside.table (c.self.inside.filled + 1) old later (g.S.Space.failure_count c.self.inside.space) c.args.now c.args.checkpoint changes c.births.result.now c.in_ok-numbers.numbers.items c.self.invariant fits c.births.ensures c.payload_goes_to_unused_blocks.ensures.room (subst AreTidy c.table.ensures c.limits_hold.ensures.tidy) e.appended in
+    let low = inside_of c.self.inside.table (c.self.inside.filled + 1) old later (g.S.Space.failure_count c.self.inside.space) c.args.now c.args.checkpoint changes c.births.result.now c.in_ok-numbers.numbers.items c.self.invariant fits c.births.ensures c.payload_goes_to_unused_blocks.ensures.room (g.met.S.Space.limits c.self.inside.space).tidy e.appended in
     subst (λ s. IsWritten c.args.checkpoint c.args.now changes s (store_of c.enter_births.new.table later (g.S.Space.failure_count c.append.new.self))) c.self.view_is
     (is_written c.self.inside.table c.enter_births.new.table (c.self.inside.filled + 1) old later (g.S.Space.failure_count c.self.inside.space) (g.S.Space.failure_count c.append.new.self) c.args.checkpoint c.args.now changes c.births.result.now c.in_ok-numbers.numbers.items
-    c.self.invariant fits c.births.ensures e.appended e.kept e.stays is_new (c.enter_births.ensures.length ∙ c.end_entries.ensures.length) low (subst AreTidy c.table.ensures c.limits_hold.ensures.tidy))
+    c.self.invariant fits c.births.ensures e.appended e.kept e.stays is_new (c.enter_births.ensures.length ∙ c.end_entries.ensures.length) low (g.met.S.Space.limits c.self.inside.space).tidy)
