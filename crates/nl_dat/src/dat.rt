@@ -43,10 +43,11 @@ impl<S: Space> Model for Dat<S> {
 }
 
 impl<S: Space> Dat<S> {
-    ghost use Rattle.nl_dat.specs.Stores.{new_store, address_in, capacity, numbered_in, dat_entry_of};
+    ghost use Rattle.nl_dat.specs.Stores.{IsStore, new_store, address_in, capacity, numbered_in, dat_entry_of};
 
     /// The table over a space, with no number in use. Refused by `Memory` alone; the space is dropped then.
     pub fn new(alloc: Global, space: S) -> Result<Dat<S>, VolError>
+        ensures is_store { IfOk result IsStore }
         ensures new { IfOk result (λ dat. dat ≡ new_store (S.content space) (S.failure_count space)) }
         ensures refused { IsOkUnless result VolError.Memory }
     {

@@ -69,6 +69,7 @@ pub trait Vstore: VRead {
         now: u64,
     ) -> Result<(), VolError>
         requires { Fits (capacity (store self.old)) (content_in (store self.old)) batch.now }
+        ensures is_store { IsStore (store self.new) }
         ensures written { OnOk result (IsWritten checkpoint now batch.now (store self.old) (store self.new)) }
         ensures no_space { IsErrOf result VolError.NoSpace → LacksSpace (store self.old).segments true (length batch.now.births) }
         ensures no_space_same { IsErrOf result VolError.NoSpace → store self.new ≡ store self.old }
@@ -113,6 +114,7 @@ pub trait Vstore: VRead {
         requires segment { segment < length (store self.old).segments.each }
         requires closed { IsClosed (store self.old).segments segment }
         requires inside { All (λ v. is_inside (store self.old).segments segment (address_in (store self.old) v) ≡ true) numbers.now }
+        ensures is_store { IsStore (store self.new) }
         ensures moved { OnOk result (IsMoved segment checkpoint now numbers.now (store self.old) (store self.new)) }
         ensures refused { IfErr result (λ e. IsMoveRefused checkpoint now numbers.now e (store self.old) (store self.new)) }
         ensures counted { (store self.old).failures ≤ (store self.new).failures };
@@ -121,6 +123,7 @@ pub trait Vstore: VRead {
     /// It takes no memory.
     fn reclaim(&mut self, segment: Segment) -> u32
         requires { segment < length (store self.old).segments.each }
+        ensures is_store { IsStore (store self.new) }
         ensures reclaimed { IsReclaimed segment result (store self.old) (store self.new) }
         ensures counted { (store self.old).failures ≤ (store self.new).failures };
 

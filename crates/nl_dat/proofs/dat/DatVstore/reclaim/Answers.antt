@@ -11,6 +11,7 @@ use Rattle.nl_dat.specs.TakenOut.{HasTakenOut}
 use Rattle.nl_dat.proofs.SoundTable.{IsSound-apart}
 use Rattle.nl_dat.proofs.Positions.{tagged-row}
 use Rattle.nl_dat.proofs.Reclaiming.{table-reclaimed, is_reclaimed}
+use Rattle.nl_dat.proofs.StoreOf.{is_store}
 use Rattle.nl_dat.proofs.dat.DatVstore.reclaim.Goals as goal
 
 -- the row of a segment begins at its first block
@@ -54,3 +55,7 @@ returns-clause-reclaimed g c =
     subst (λ s. IsReclaimed c.args.segment c.take_out-taken.result.count s (store_of c.take_out-taken.new.table later (g.S.Space.failure_count c.free.new.self))) c.self.view_is
     (is_reclaimed c.self.inside.table c.take_out-taken.new.table c.self.inside.filled c.filled_after-self-inside.result c.args.segment old later (g.S.Space.failure_count c.self.inside.space) (g.S.Space.failure_count c.free.new.self) c.take_out-taken.result
     c.self.invariant tidy c.free.ensures.freed out c.filled_after-self-inside.ensures.most c.filled_after-self-inside.ensures.below)
+
+pub returns-clause-is_store : goal.returns-clause-is_store
+returns-clause-is_store g c =
+    is_store c.take_out-taken.new.table (c.filled_after-self-inside.result + 1) (g.S.Space.content c.free.new.self) (g.S.Space.failure_count c.free.new.self) (invariant_of-self g c) (g.met.S.Space.limits c.free.new.self).tidy (g.met.S.Space.whole_logs c.free.new.self) (g.met.S.Space.holds_only_used c.free.new.self) (g.met.S.Space.have_logs c.free.new.self)

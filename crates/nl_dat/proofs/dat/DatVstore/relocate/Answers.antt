@@ -15,6 +15,7 @@ use Rattle.nl_dat.specs.Inside.{births_in, store_of, IsTable}
 use Rattle.nl_dat.proofs.Writing.{table-kept}
 use Rattle.nl_dat.proofs.Refusals.{total-refused}
 use Rattle.nl_dat.proofs.Relocating.{IsRefused, table-moved, is_moved, move-refused, theirs-of}
+use Rattle.nl_dat.proofs.StoreOf.{is_store}
 use Rattle.nl_dat.proofs.dat.DatVstore.relocate.Goals as goal
 
 pub invariant_of-self-in_err-blocks : goal.invariant_of-self-in_err-blocks
@@ -92,3 +93,16 @@ returns-clause-moved g c =
     (c.move_entries.ensures.entries ∙ ap (λ bs. adjust_each moved_entry c.args.numbers.now bs (entry_in table)) c.deref-2.ensures.value) c.move_entries.ensures.length
     (g.met.S.Space.limits c.self.inside.space).tidy (subst (λ (s : Store). IsClosed s.segments c.args.segment) (sym c.self.view_is) c.requires.closed)
     (subst (λ (s : Store). All (λ v. is_inside s.segments c.args.segment (address_in s v) ≡ true) c.args.numbers.now) (sym c.self.view_is) c.requires.inside))
+
+pub returns-in_err-payload-clause-is_store : goal.returns-in_err-payload-clause-is_store
+returns-in_err-payload-clause-is_store g c =
+    is_store c.self.inside.table (c.self.inside.filled + 1) (g.S.Space.content c.load_all.new.space) (g.S.Space.failure_count c.load_all.new.space)
+    (subst (IsTable c.self.inside.table (c.self.inside.filled + 1)) (sym c.load_all.ensures.same) c.self.invariant) (g.met.S.Space.limits c.load_all.new.space).tidy (g.met.S.Space.whole_logs c.load_all.new.space) (g.met.S.Space.holds_only_used c.load_all.new.space) (g.met.S.Space.have_logs c.load_all.new.space)
+
+pub returns-in_err-blocks-clause-is_store : goal.returns-in_err-blocks-clause-is_store
+returns-in_err-blocks-clause-is_store g c =
+    is_store c.self.inside.table (c.self.inside.filled + 1) (g.S.Space.content c.append.new.self) (g.S.Space.failure_count c.append.new.self) (invariant_of-self-in_err-blocks g c) (g.met.S.Space.limits c.append.new.self).tidy (g.met.S.Space.whole_logs c.append.new.self) (g.met.S.Space.holds_only_used c.append.new.self) (g.met.S.Space.have_logs c.append.new.self)
+
+pub returns-clause-is_store : goal.returns-clause-is_store
+returns-clause-is_store g c =
+    is_store c.move_entries.new.table (c.self.inside.filled + 1) (g.S.Space.content c.append.new.self) (g.S.Space.failure_count c.append.new.self) (invariant_of-self-2 g c) (g.met.S.Space.limits c.append.new.self).tidy (g.met.S.Space.whole_logs c.append.new.self) (g.met.S.Space.holds_only_used c.append.new.self) (g.met.S.Space.have_logs c.append.new.self)

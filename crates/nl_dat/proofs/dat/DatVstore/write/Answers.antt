@@ -21,6 +21,7 @@ use Rattle.nl_segwriter.specs.Content.{Content as Space}
 use Rattle.nl_segwriter.specs.Appended.{IsAppended}
 use Rattle.nl_dat.specs.Inside.{IsTable}
 use Rattle.nl_dat.proofs.FreeNumbers.{numbers-inside}
+use Rattle.nl_dat.proofs.StoreOf.{is_store}
 use Rattle.nl_dat.proofs.dat.DatVstore.write.Goals as goal
 
 inside_of : (table : List (Option DatEntry)) (lowest : ℕ) (space later : Space) (failures now c : ℕ) (changes : Changes) (items : List Payload) (at : List ℕ) → IsTable table lowest space → Fits (total_blocks space.segments) (content_in (store_of table space failures)) changes
@@ -99,3 +100,11 @@ returns-clause-written g c =
     subst (λ s. IsWritten c.args.checkpoint c.args.now changes s (store_of c.enter_births.new.table later (g.S.Space.failure_count c.append.new.self))) c.self.view_is
     (is_written c.self.inside.table c.enter_births.new.table (c.self.inside.filled + 1) old later (g.S.Space.failure_count c.self.inside.space) (g.S.Space.failure_count c.append.new.self) c.args.checkpoint c.args.now changes c.births.result.now c.in_ok-numbers.numbers.items
     c.self.invariant fits c.births.ensures e.appended e.kept e.stays is_new (c.enter_births.ensures.length ∙ c.end_entries.ensures.length) low (g.met.S.Space.limits c.self.inside.space).tidy)
+
+pub returns-in_err-numbers-clause-is_store : goal.returns-in_err-numbers-clause-is_store
+returns-in_err-numbers-clause-is_store g c =
+    is_store c.self.inside.table (c.self.inside.filled + 1) (g.S.Space.content c.append.new.self) (g.S.Space.failure_count c.append.new.self) (invariant_of-self g c) (g.met.S.Space.limits c.append.new.self).tidy (g.met.S.Space.whole_logs c.append.new.self) (g.met.S.Space.holds_only_used c.append.new.self) (g.met.S.Space.have_logs c.append.new.self)
+
+pub returns-clause-is_store : goal.returns-clause-is_store
+returns-clause-is_store g c =
+    is_store c.enter_births.new.table (c.max-self-inside.result + 1) (g.S.Space.content c.append.new.self) (g.S.Space.failure_count c.append.new.self) (invariant_of-self-2 g c) (g.met.S.Space.limits c.append.new.self).tidy (g.met.S.Space.whole_logs c.append.new.self) (g.met.S.Space.holds_only_used c.append.new.self) (g.met.S.Space.have_logs c.append.new.self)
