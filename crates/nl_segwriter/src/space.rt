@@ -3,6 +3,7 @@ ghost use Rattle.std.specs.Prelude.{◌≡◌, ℕ, ◌+◌, ◌*◌, ◌<◌, �
 ghost use Rattle.std.specs.Option.{option_map};
 ghost use Rattle.nl_types.specs.Segments.{IsUsed, StaysUsed, info_of};
 ghost use Rattle.nl_types.specs.Placing.{LacksSpace};
+ghost use Rattle.nl_sufile.specs.Table.{IsSegTable};
 ghost use Rattle.nl_segwriter.specs.Content.{Content, HoldsOnlyUsed, KeepsUsed, IsFreed, page_of};
 ghost use Rattle.nl_segwriter.specs.Logs.{AreWholeLogs, HaveLogs};
 ghost use Rattle.nl_segwriter.specs.Appended.{IsAppended, IsBrokenOff, IsAppendError, IsLoadError};
@@ -79,6 +80,9 @@ pub trait Space: Drop {
         requires { segment < length (content self.old).segments.each }
         ensures freed { IsFreed segment (content self.old) (content self.new) }
         ensures counted { failure_count self.old ≤ failure_count self.new };
+
+    /// The segments are within the limits of a volume, and tidy.
+    ghost limits: { (s : Self) → IsSegTable (content s).segments };
 
     /// Memory has payload in used blocks alone.
     ghost holds_only_used: { (s : Self) → HoldsOnlyUsed (content s) };
