@@ -3,6 +3,7 @@ use Rattle.std.specs.Prelude.{◌≡◌, ℕ, ◌*◌, List, [], ◌∷◌, leng
 use Rattle.std.specs.Option.{option_map}
 use Rattle.std.specs.List.{slice_get}
 use Rattle.nl_types.specs.Paths.{Name}
+use Rattle.nl_types.specs.Roots.{Blocks}
 use Rattle.nl_dirs.specs.declared.record.Record.{Record}
 use Rattle.nl_dirs.specs.Records.{AllFit, NamesAscend, packed_block}
 use Rattle.nl_dirs.specs.Packing.{IsPacked}
@@ -12,7 +13,7 @@ first_name_of [] = None
 first_name_of (r ∷ records) = Some r.name
 
 -- the blocks by index, and the size, of a directory with these records
-pub record HoldsRecords (blocks : ℕ → Option (List ℕ)) (size : ℕ) (records : List Record) : Type 0 where
+pub record HoldsRecords (blocks : Blocks) (size : ℕ) (records : List Record) : Type 0 where
   pub fit : AllFit records
   pub ascending : NamesAscend records
   pub packed : List (List Record)

@@ -1,8 +1,8 @@
 -- The records of a directory, and their bytes.
 --     record_bytes r         the spelling of a record
---     page_of records        the block of these records
+--     packed_block records   the block of these records
 --     entry_of name records  what the name stands for, if there is a record of it
---     Holds bytes records    the records that the bytes begin with, as many as there are
+--     HoldsList bytes records  the records that the bytes begin with, as many as there are
 use Rattle.std.specs.Prelude.{◌≡◌, ◌≢◌, ℕ, ◌+◌, ◌-◌, ◌<◌, ◌≤◌, ◌^◌, cond, List, [], ◌∷◌, ◌++◌, length, slice_index, replicate, Option, None, Some}
 use Rattle.std.specs.List.{All, AllPairs, flat_map}
 use Rattle.std.specs.declared.cmp.Ordering.TheVariants.{Less}

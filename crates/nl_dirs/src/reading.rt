@@ -51,7 +51,8 @@ fn are_zeros(bytes: &[u8]) -> bool
 /// What the name stands for in a page of a directory, if the page has a record of it: the first one, on any page. It
 /// takes no memory.
 pub fn find(page: &Page, name: &[u8]) -> Option<(InodeNumber, Kind)>
-    ensures { (records : List Record) × HoldsList page.now records × (result ≡ entry_of name.now records) }
+    ensures { (records : List Record) × HoldsList page.now records ×
+        (result ≡ entry_of name.now records) }
 {
     let mut rest = bytes_of(page);
     while let Some((record, behind)) = split_record(rest) {
@@ -65,7 +66,8 @@ pub fn find(page: &Page, name: &[u8]) -> Option<(InodeNumber, Kind)>
 
 /// The first name of a page, if a record begins it. The first names of a directory's blocks tell which one has a name.
 pub fn first_name(page: &Page) -> Option<&[u8]>
-    ensures { (records : List Record) × HoldsList page.now records × (option_map (λ name. name.now) result ≡ first_name_of records) }
+    ensures { (records : List Record) × HoldsList page.now records ×
+        (option_map (λ name. name.now) result ≡ first_name_of records) }
 {
     match split_record(bytes_of(page)) {
         Some((record, _)) => Some(record.name),

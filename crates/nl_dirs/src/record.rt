@@ -38,7 +38,8 @@ fn code_of(kind: Kind) -> u8
 }
 
 fn kind_of(code: u8) -> Option<Kind>
-    ensures { MatchOption result ((kind : Kind) → code ≢ kind_code kind) (λ kind. code ≡ kind_code kind) }
+    ensures { MatchOption result ((kind : Kind) → code ≢ kind_code kind)
+        (λ kind. code ≡ kind_code kind) }
 {
     match code {
         1 => Some(Kind::File),
@@ -85,7 +86,8 @@ impl StoredRecord<'_> {
 
 /// Takes the record off the front of the bytes, if one begins them.
 pub(crate) fn split_record(bytes: &[u8]) -> Option<(StoredRecord<'_>, &[u8])>
-    ensures { MatchOption result (BeginsNone bytes.now) (λ split. Begins bytes.now (stored split.0) split.1.now) }
+    ensures { MatchOption result (BeginsNone bytes.now)
+        (λ split. Begins bytes.now (stored split.0) split.1.now) }
 {
     if bytes.len() < HEAD_SIZE {
         return None;

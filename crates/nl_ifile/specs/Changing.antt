@@ -1,13 +1,12 @@
 -- Changes of inodes.
-use Rattle.std.specs.Prelude.{◌≡◌, ℕ, ◌==◌, ◌<◌, if◌then◌else◌, ◌/◌, ◌≤◌, get_or, length, take, Option, List, [], ◌∷◌}
+use Rattle.std.specs.Prelude.{◌≡◌, ℕ, ◌==◌, ◌<◌, if◌then◌else◌, ◌/◌, ◌≤◌, get_or, length, take, List, [], ◌∷◌}
 use Rattle.std.specs.List.{All, AllPairs}
 use Rattle.nl_types.specs.Entries.{Content}
-use Rattle.nl_types.specs.Roots.{Root, pages_of}
-use Rattle.nl_types.specs.RootChanges.{with_births}
+use Rattle.nl_types.specs.Roots.{Blocks, Root, pages_of}
 use Rattle.nl_dat.specs.Batches.{Changes}
 use Rattle.nl_blocktree.specs.declared.change.BlockChange.{BlockChange}
 use Rattle.nl_blocktree.specs.Changed.{IndexesAreInRange, IndexesAscend, blocks_with}
-use Rattle.nl_blocktree.specs.Putting.{PutsAll}
+use Rattle.nl_blocktree.specs.Putting.{PutsAll, pages_after}
 use Rattle.nl_layout.specs.Inode.{EntryFits}
 use Rattle.nl_ifile.specs.declared.change.InodeChange.{InodeChange}
 use Rattle.nl_ifile.specs.Inodes.{Inodes, IsInodeFile, block_for, entry_for, in_block, inode_at}
@@ -25,24 +24,30 @@ NumbersAreInRange changes = All (λ change. change.number < 524288) changes
 
 -- Changes turn a file of inodes into another: its blocks are changed as a file's are, the new root is the old map with the
 -- changes, and each of its blocks is the one of its inodes.
-pub record PutsInodes (content : Content) (root new : Root) (changes : List InodeChange) (before after : Changes) : Type 0 where
+pub record PutsInodes (content : Content) (root new : Root) (changes : List InodeChange)
+    (before after : Changes) : Type 0 where
   pub blocks : List BlockChange
   pub puts : PutsAll content 6 root new blocks before after
-  pub inodes : (n : ℕ) → inode_at (with_births after.births (pages_of content)) new n ≡ inodes_with changes (inode_at (pages_of content) root) n
-  pub file : IsInodeFile (with_births after.births (pages_of content)) new
+  pub inodes : (n : ℕ) →
+      inode_at (pages_after content after) new n ≡ inodes_with changes (inode_at (pages_of content) root) n
+  pub file : IsInodeFile (pages_after content after) new
 
 -- ---- on the way
 
 -- changes of blocks that changes of inodes are: each block becomes the one of the changed inodes
-pub record AreBlockChanges (pages : ℕ → Option (List ℕ)) (inodes : Inodes) (changes : List InodeChange) (blocks : List BlockChange) : Type 0 where
+pub record AreBlockChanges (old : Blocks) (inodes : Inodes) (changes : List InodeChange)
+    (blocks : List BlockChange) : Type 0 where
   pub ascending : IndexesAscend blocks
   pub in_range : IndexesAreInRange blocks
-  pub become : (i : ℕ) → blocks_with blocks pages i ≡ block_for (in_block (inodes_with changes inodes) i)
+  pub become : (i : ℕ) → blocks_with blocks old i ≡ block_for (in_block (inodes_with changes inodes) i)
   pub fits : All (λ c. EntryFits (entry_for c.inode)) changes
 
 -- the same of the first changes, where none of the others is in a block that they touch
-pub record AreFirstBlockChanges (pages : ℕ → Option (List ℕ)) (inodes : Inodes) (changes : List InodeChange) (count : ℕ) (blocks : List BlockChange) : Type 0 where
+pub record AreFirstBlockChanges (old : Blocks) (inodes : Inodes) (changes : List InodeChange) (count : ℕ)
+    (blocks : List BlockChange) : Type 0 where
   pub within : count ≤ length changes
-  pub blocks_are : AreBlockChanges pages inodes (take count changes) blocks
-  pub lower : (next : InodeChange) → count < length changes → All (λ b. b.index < (get_or changes count next).number / 8) blocks
-  pub apart : (next : InodeChange) → count < length changes → All (λ c. c.number / 8 < (get_or changes count next).number / 8) (take count changes)
+  pub blocks_are : AreBlockChanges old inodes (take count changes) blocks
+  pub lower : (next : InodeChange) → count < length changes →
+      All (λ b. b.index < (get_or changes count next).number / 8) blocks
+  pub apart : (next : InodeChange) → count < length changes →
+      All (λ c. c.number / 8 < (get_or changes count next).number / 8) (take count changes)

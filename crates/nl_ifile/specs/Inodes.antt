@@ -21,7 +21,8 @@ in_use (InUse inode) = Some inode
 
 -- the inode that bytes spell, if they spell one
 abbrev pub inode_spelled : List ℕ → Option Inode
-inode_spelled bytes = option_and_then (λ entry. cond (bytes_eq (entry_bytes entry) bytes) (in_use entry) None) (entry_at bytes)
+inode_spelled bytes =
+    option_and_then (λ entry. cond (bytes_eq (entry_bytes entry) bytes) (in_use entry) None) (entry_at bytes)
 
 -- the inode at a place of a block
 abbrev pub inode_in : List ℕ → ℕ → Option Inode
@@ -54,7 +55,8 @@ is_some (Some a) = true
 
 -- a block is there exactly where one of its eight inodes is in use
 abbrev pub block_for : (ℕ → Option Inode) → Option (List ℕ)
-block_for inodes = cond (list_any (λ place. is_some (inodes place)) block_places) (Some (block_bytes inodes)) None
+block_for inodes =
+    cond (list_any (λ place. is_some (inodes place)) block_places) (Some (block_bytes inodes)) None
 
 -- each block of the file is the one of its eight inodes
 abbrev pub IsInodeFile : Pages → Root → Type 0
