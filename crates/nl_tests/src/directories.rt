@@ -2,8 +2,8 @@
 ghost use Rattle.std.specs.Prelude.{◌≡◌, IsTrue};
 ghost use Rattle.nl_dirs.specs.Records.{AllFit};
 
-use nl_dirs::{EntryKind, Record, find, first_name, pack, records};
-use nl_types::{Block, InodeNumber, Items, Page, VolError};
+use nl_dirs::{Record, find, first_name, pack, record_count, records};
+use nl_types::{Block, InodeNumber, Items, Kind, Page, VolError};
 use std::alloc::{AllocError, Global};
 use std::test::Fail;
 
@@ -29,7 +29,7 @@ fn packed(alloc: Global, records: &[Record]) -> Result<Vec<Block>, VolError> {
 }
 
 /// Name, inode and kind of a record.
-type Entry = (&'static [u8], u64, EntryKind);
+type Entry = (&'static [u8], u64, Kind);
 
 fn records_of(alloc: Global, entries: &[Entry]) -> Result<Vec<Record>, AllocError> {
     let mut records = Vec::new(alloc);
@@ -44,10 +44,10 @@ fn records_of(alloc: Global, entries: &[Entry]) -> Result<Vec<Record>, AllocErro
 }
 
 const FOUR: [Entry; 4] = [
-    (b"a", 0x0102_0304, EntryKind::File),
-    (b"b/", 5, EntryKind::Directory),
-    (&[0x7f, 0x80, 0xff], 0xffff_ffff, EntryKind::File),
-    (&[0xff; 255], 0x8000_0000, EntryKind::Directory),
+    (b"a", 0x0102_0304, Kind::File),
+    (b"b/", 5, Kind::Directory),
+    (&[0x7f, 0x80, 0xff], 0xffff_ffff, Kind::File),
+    (&[0xff; 255], 0x8000_0000, Kind::Directory),
 ];
 
 /// The four records up to the last one's name.
@@ -75,7 +75,7 @@ fn records_are_spelled_and_found(rt: HostRuntime) -> Result<(), Fail> {
     let Some(read) = records(alloc, &page)? else {
         panic!(rt; "no page of a directory");
     };
-    assert_eq!(rt; read.len(), 4);
+    assert_eq!(rt; (read.len(), record_count(&page)), (4, 4));
     for (record, entry) in read.iter().zip(FOUR.as_slice()) {
         let found = find(&page, entry.0);
         assert!(rt; is_entry(record, entry) && found == Some((record.inode, record.kind)));
@@ -99,7 +99,7 @@ fn seventy(alloc: Global) -> Result<Vec<Record>, AllocError> {
         records.push(Record {
             name: Items::from_slice(alloc, &numbered(number))?,
             inode: InodeNumber::new(number.into()),
-            kind: EntryKind::File,
+            kind: Kind::File,
         })?;
     }
     Ok(records)

@@ -3,10 +3,10 @@ ghost use Rattle.std.specs.Prelude.{◌≡◌, true, IsTrue, IfOk, OnOk, All};
 ghost use Rattle.nl_types.specs.Roots.{pages_of};
 ghost use Rattle.nl_types.specs.RootChanges.{IsSound};
 ghost use Rattle.nl_layout.specs.Root.{root_of};
-ghost use Rattle.nl_dat.specs.Batches.{Fits, is_live};
-ghost use Rattle.nl_dat.specs.Stores.{capacity};
-ghost use Rattle.nl_blocktree.specs.Changed.{AreAscending, AreInRange};
-ghost use Rattle.nl_blocktree.specs.Numbering.{IsLive};
+ghost use Rattle.nl_dat.specs.Batches.{is_live};
+ghost use Rattle.nl_dat.specs.Stores.{content_in};
+ghost use Rattle.nl_blocktree.specs.Changed.{IndexesAscend, IndexesAreInRange};
+ghost use Rattle.nl_blocktree.specs.Numbering.{CanTake, IsLive};
 ghost use Rattle.nl_blocktree.specs.Walked.{AreAllBlocks};
 
 use nl_blocktree::{BlockChange, PlacedBlock, WalkError, get, put_all, walk};
@@ -40,8 +40,8 @@ type Run = (u64, u64, Option<u8>);
 
 /// A file, and what its last checkpoint wrote and ended.
 #[derive(Drop)]
-struct File<S: Vstore + Drop> {
-    store: S,
+struct File<S: Space> {
+    store: Dat<S>,
     root: Root,
     batch: Batch,
     checkpoint: u64,
@@ -51,12 +51,12 @@ struct File<S: Vstore + Drop> {
 
 /// Whether the changes ascend, all below the first index that no block may have.
 fn are_in_order(changes: &[BlockChange]) -> bool
-    ensures ascending { IsTrue result → AreAscending changes.now }
-    ensures in_range { IsTrue result → AreInRange changes.now }
+    ensures ascending { IsTrue result → IndexesAscend changes.now }
+    ensures in_range { IsTrue result → IndexesAreInRange changes.now }
 {
     let mut next = 0;
     for change in changes {
-        if change.index < next || change.index >= 65_536 {
+        if change.index < next || change.index >= 262_144 {
             return false;
         }
         next = change.index + 1;
@@ -65,8 +65,8 @@ fn are_in_order(changes: &[BlockChange]) -> bool
 }
 
 /// Whether a number is in use and has not ended.
-fn is_live_in<V: VRead>(store: &V, number: VirtualNumber) -> bool
-    ensures { result ≡ is_live (V.content store.now number) }
+fn is_live_in<S: Space>(store: &Dat<S>, number: VirtualNumber) -> bool
+    ensures { result ≡ is_live (content_in store.now number) }
 {
     match store.period(number) {
         Some(period) => period.end.is_none(),
@@ -74,8 +74,8 @@ fn is_live_in<V: VRead>(store: &V, number: VirtualNumber) -> bool
     }
 }
 
-fn are_live<V: VRead>(store: &V, blocks: &[PlacedBlock]) -> bool
-    ensures { IsTrue result → All (λ b. is_live (V.content store.now b.number) ≡ true) blocks.now }
+fn are_live<S: Space>(store: &Dat<S>, blocks: &[PlacedBlock]) -> bool
+    ensures { IsTrue result → All (λ b. is_live (content_in store.now b.number) ≡ true) blocks.now }
 {
     for block in blocks {
         if !is_live_in(store, block.number) {
@@ -86,9 +86,14 @@ fn are_live<V: VRead>(store: &V, blocks: &[PlacedBlock]) -> bool
 }
 
 /// All blocks of a root. Refused by `BadImage` where the root can't be in use.
-fn walked<V: VRead>(alloc: Global, store: &V, root: &Root) -> Result<Vec<PlacedBlock>, VolError>
-    ensures blocks { IfOk result (λ blocks. AreAllBlocks (pages_of (V.content store.now)) (root_of root.now) blocks.items) }
-    ensures sound { OnOk result (IsSound (pages_of (V.content store.now)) (root_of root.now)) }
+fn walked<S: Space>(
+    alloc: Global,
+    store: &Dat<S>,
+    root: &Root,
+) -> Result<Vec<PlacedBlock>, VolError>
+    ensures blocks { IfOk result (λ blocks.
+        AreAllBlocks (pages_of (content_in store.now)) (root_of root.now) blocks.items) }
+    ensures sound { OnOk result (IsSound (pages_of (content_in store.now)) (root_of root.now)) }
 {
     match walk(alloc, store, *root) {
         Ok(blocks) => Ok(blocks),
@@ -98,9 +103,9 @@ fn walked<V: VRead>(alloc: Global, store: &V, root: &Root) -> Result<Vec<PlacedB
 }
 
 /// Looks whether all of a root's numbers are in use, as a put asks.
-fn check_root<V: VRead>(alloc: Global, store: &V, root: &Root) -> Result<(), VolError>
-    ensures sound { OnOk result (IsSound (pages_of (V.content store.now)) (root_of root.now)) }
-    ensures live { OnOk result (IsLive (V.content store.now) (root_of root.now)) }
+fn check_root<S: Space>(alloc: Global, store: &Dat<S>, root: &Root) -> Result<(), VolError>
+    ensures sound { OnOk result (IsSound (pages_of (content_in store.now)) (root_of root.now)) }
+    ensures live { OnOk result (IsLive (content_in store.now) (root_of root.now)) }
 {
     let blocks = walked(alloc, store, root)?;
     if are_live(store, &blocks) {
@@ -111,15 +116,15 @@ fn check_root<V: VRead>(alloc: Global, store: &V, root: &Root) -> Result<(), Vol
 }
 
 /// Puts changes into file 11, once it is seen that this may be asked.
-fn put_into<S: Vstore>(
+fn put_into<S: Space>(
     alloc: Global,
-    store: &S,
+    store: &Dat<S>,
     batch: &mut Batch,
     root: &Root,
     changes: &[BlockChange],
 ) -> Result<Root, VolError>
-    requires { Fits (capacity (S.store store.now)) (S.VRead.content store.now) batch.old }
-    ensures { Fits (capacity (S.store store.now)) (S.VRead.content store.now) batch.new }
+    requires { CanTake store.now batch.old }
+    ensures { CanTake store.now batch.new }
 {
     check_root(alloc, store, root)?;
     if !are_in_order(changes) {
@@ -149,15 +154,15 @@ fn change_of(alloc: Global, index: u64, byte: Option<u8>) -> Result<BlockChange,
 }
 
 /// Puts changes, again where memory was refused. Refused by `BadImage` where the batch isn't empty then.
-fn insist<S: Vstore>(
+fn insist<S: Space>(
     alloc: Global,
-    store: &S,
+    store: &Dat<S>,
     batch: &mut Batch,
     root: &Root,
     changes: &[BlockChange],
 ) -> Result<Root, VolError>
-    requires { Fits (capacity (S.store store.now)) (S.VRead.content store.now) batch.old }
-    ensures { Fits (capacity (S.store store.now)) (S.VRead.content store.now) batch.new }
+    requires { CanTake store.now batch.old }
+    ensures { CanTake store.now batch.new }
 {
     match put_into(alloc, store, batch, root, changes) {
         Err(VolError::Memory) => {}
@@ -170,9 +175,9 @@ fn insist<S: Vstore>(
 }
 
 /// The changed root with what the change wrote and ended, after it was written as a checkpoint.
-fn put_and_write<S: Vstore>(
+fn put_and_write<S: Space>(
     alloc: Global,
-    store: &mut S,
+    store: &mut Dat<S>,
     checkpoint: u64,
     root: &Root,
     changes: &[BlockChange],
@@ -183,7 +188,7 @@ fn put_and_write<S: Vstore>(
     Ok((root, batch))
 }
 
-impl<S: Vstore + Drop> File<S> {
+impl<S: Space> File<S> {
     fn put(&mut self, alloc: Global, runs: &[Run]) -> Result<(), VolError> {
         let changes = changes_of(alloc, runs)?;
         self.checkpoint = self.checkpoint.saturating_add(1);
@@ -296,9 +301,13 @@ fn chains_are_put(rt: HostRuntime) -> Result<(), Fail> {
 const INODE_BIRTHS: [(u64, u8, u64); 5] = [(1, 0, 0), (2, 0, 1), (3, 0, 127), (4, 1, 0), (5, 1, 1)];
 
 /// Puts empty files with these inode numbers, each with its number as its size, into a new file of inodes.
-fn put_inodes_of<S: Vstore>(alloc: Global, store: &S, batch: &mut Batch) -> Result<Root, VolError>
-    requires { Fits (capacity (S.store store.now)) (S.VRead.content store.now) batch.old }
-    ensures { OnOk result (Fits (capacity (S.store store.now)) (S.VRead.content store.now) batch.new) }
+fn put_inodes_of<S: Space>(
+    alloc: Global,
+    store: &Dat<S>,
+    batch: &mut Batch,
+) -> Result<Root, VolError>
+    requires { CanTake store.now batch.old }
+    ensures { OnOk result (CanTake store.now batch.new) }
 {
     check_root(alloc, store, &Root::Empty)?;
     let changes = [file_at(2), file_at(11), file_at(12), file_at(1016)];
@@ -354,7 +363,7 @@ const SIZES: [(u64, Option<u64>); 6] = [
 ];
 
 /// A file of inodes, written as checkpoint 2.
-fn new_inodes<S: Vstore>(alloc: Global, store: &mut S) -> Result<(Root, Batch), VolError> {
+fn new_inodes<S: Space>(alloc: Global, store: &mut Dat<S>) -> Result<(Root, Batch), VolError> {
     let mut batch = Batch::new(alloc);
     let root = put_inodes_of(alloc, store, &mut batch)?;
     store.write(alloc, &batch, CheckpointNumber::new(2), 0)?;

@@ -132,7 +132,6 @@ fn byte_in_memory<S: Space>(space: &S, number: u32) -> Option<u8> {
 
 /// A segment's block from the device, if that is used.
 fn load_block<S: Space>(space: &mut S, segment: u32, block: u32) -> Result<Option<Page>, VolError> {
-    space.table().limits_hold();
     let blocks = space.table().blocks();
     let info = space.table().suinfo(Segment::new(segment))?;
     if info.used <= block {

@@ -2,10 +2,10 @@
 //! and what a refusal leaves.
 ghost use Rattle.std.specs.Prelude.{◌≡◌, OnOk, IfOk, IfSome, All, true};
 ghost use Rattle.nl_dat.specs.Batches.{Fits};
-ghost use Rattle.nl_dat.specs.Stores.{capacity, is_inside, address_in};
+ghost use Rattle.nl_dat.specs.Stores.{capacity, content_in, is_inside, address_in};
 
 use crate::logs::are_segments;
-use nl_dat::{Batch, Dat, DatEntry, Period, VRead, Vstore};
+use nl_dat::{Batch, Dat, DatEntry, Period, VRead, Vstore, next_number};
 use nl_device::{FaultyDevice, MemDevice};
 use nl_layout::{Level, Tag};
 use nl_segwriter::{LogSpace, Space};
@@ -33,6 +33,10 @@ enum Step<'a> {
     Page(u64, Option<u8>),
     /// The number whose page stands at a block of a segment, where there is one.
     At(u32, u32, Option<u64>),
+    /// The number that the summary of its log tells of the block of a segment, where it has payload.
+    Tagged(u32, u32, Option<u64>),
+    /// How many blocks of a segment have payload.
+    Payload(u32, u32),
     /// State, stamp and used blocks of the first segments. All others are clean.
     Segments(&'a [(SegmentState, u64, u32)]),
     /// How many segments are clean.
@@ -71,8 +75,8 @@ fn page(alloc: Global, byte: u8) -> Result<Page, VolError> {
 
 /// Adds the birth of a page of one byte throughout, under the lowest free number.
 fn bear<S: Vstore>(alloc: Global, store: &S, batch: &mut Batch, byte: u8) -> Result<(), VolError>
-    requires { Fits (capacity (S.store store.now)) (S.VRead.content store.now) batch.old }
-    ensures { OnOk result (Fits (capacity (S.store store.now)) (S.VRead.content store.now) batch.new) }
+    requires { Fits (capacity (S.store store.now)) (content_in (S.store store.now)) batch.old }
+    ensures { OnOk result (Fits (capacity (S.store store.now)) (content_in (S.store store.now)) batch.new) }
 {
     let number = store.fresh(batch)?;
     batch.add_birth(tag(number), page(alloc, byte)?)?;
@@ -81,8 +85,8 @@ fn bear<S: Vstore>(alloc: Global, store: &S, batch: &mut Batch, byte: u8) -> Res
 
 /// Adds the end of a number. Refused by `BadRange` where it is not in use or has ended.
 fn end<S: Vstore>(store: &S, batch: &mut Batch, number: u64) -> Result<(), VolError>
-    requires { Fits (capacity (S.store store.now)) (S.VRead.content store.now) batch.old }
-    ensures { OnOk result (Fits (capacity (S.store store.now)) (S.VRead.content store.now) batch.new) }
+    requires { Fits (capacity (S.store store.now)) (content_in (S.store store.now)) batch.old }
+    ensures { OnOk result (Fits (capacity (S.store store.now)) (content_in (S.store store.now)) batch.new) }
 {
     let number = VirtualNumber::new(number);
     match store.period(number) {
@@ -98,7 +102,7 @@ fn batch_of<S: Vstore>(
     bytes: &[u8],
     ends: &[u64],
 ) -> Result<Batch, VolError>
-    ensures { IfOk result (λ batch. Fits (capacity (S.store store.now)) (S.VRead.content store.now) batch) }
+    ensures { IfOk result (λ batch. Fits (capacity (S.store store.now)) (content_in (S.store store.now)) batch) }
 {
     let mut batch = Batch::new(alloc);
     for byte in bytes {
@@ -130,6 +134,22 @@ fn number_at<S: Space>(dat: &Dat<S>, segment: Segment, block: u32) -> Option<Vir
         return None;
     }
     dat.at(segment, block)
+}
+
+/// The number that the summary tells of a block of a segment, where there is such a block and it has payload.
+fn tagged<S: Space>(dat: &Dat<S>, segment: Segment, block: u32) -> Option<u64> {
+    if dat.table().suinfo(segment).is_err() || dat.table().blocks() <= block {
+        return None;
+    }
+    Some(dat.tag(segment, block)?.number.get())
+}
+
+/// How many blocks of a segment have payload, if there is such a one.
+fn payload_count<S: Space>(dat: &Dat<S>, segment: Segment) -> Option<u32> {
+    if dat.table().suinfo(segment).is_err() {
+        return None;
+    }
+    Some(dat.payload_count(segment))
 }
 
 /// The numbers whose pages stand at these blocks of a segment. Refused by `BadRange` where there is none.
@@ -239,6 +259,10 @@ fn does<S: Space>(alloc: Global, dat: &mut Dat<S>, step: Step<'_>) -> Result<boo
             let number = number_at(dat, Segment::new(segment), block);
             Ok(number.map(VirtualNumber::get) == due)
         }
+        Step::Tagged(segment, block, due) => {
+            Ok(tagged(dat, Segment::new(segment), block) == due)
+        }
+        Step::Payload(segment, due) => Ok(payload_count(dat, Segment::new(segment)) == Some(due)),
         Step::Segments(due) => Ok(are_segments(dat.table(), due)),
         Step::Clean(due) => Ok(dat.table().sustat().clean == due),
     }
@@ -317,6 +341,12 @@ const HAS_ROW: &[Step<'static>] = &[
     Step::At(1, 1, Some(3)),
     Step::At(1, 2, None),
     Step::At(7, 3, None),
+    Step::Tagged(0, 0, None),
+    Step::Tagged(0, 3, Some(2)),
+    Step::Tagged(1, 2, None),
+    Step::Payload(0, 2),
+    Step::Payload(1, 1),
+    Step::Payload(2, 0),
 ];
 
 /// Numbers 2 and 1 are moved to the places behind the row. An active segment is not closed.
@@ -327,12 +357,16 @@ const MOVED: &[Step<'static>] = &[
     Step::Segments(&[(Dirty, 30, 4), (Dirty, 50, 4), (Active, 50, 2)]),
     Step::At(0, 1, None),
     Step::At(0, 3, None),
+    Step::Tagged(0, 3, Some(2)),
+    Step::Payload(0, 2),
     Step::At(1, 3, Some(2)),
     Step::At(2, 1, Some(1)),
     Step::Page(1, Some(b'A')),
     Step::Page(2, Some(b'B')),
     Step::Reclaim(0, 0),
     HAS_MOVED,
+    Step::Tagged(0, 3, None),
+    Step::Payload(0, 0),
     Step::Segments(&[CLEAN, (Dirty, 50, 4), (Active, 50, 2)]),
 ];
 
@@ -452,5 +486,6 @@ fn numbers_are_those_of_the_device(rt: HostRuntime) -> Result<(), Fail> {
     let batch = batch_of(alloc, &dat, &[7; 32], &[])?;
     assert_eq!(rt; batch.last_number(), VirtualNumber::new(32));
     assert_eq!(rt; dat.fresh(&batch), Err(VolError::NoSpace));
+    assert_eq!(rt; next_number(&dat, &batch), VirtualNumber::new(33));
     Ok(())
 }

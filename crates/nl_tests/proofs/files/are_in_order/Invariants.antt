@@ -6,5 +6,5 @@ abbrev pub invariant-loop-change : goal.invariant-loop-change
 invariant-loop-change l = record {
   below : (k : ℕ) (d : BlockChange) → k < l.change-index → (slice_index_or l.changes k d).index < l.next;
   ordered : (j k : ℕ) (d : BlockChange) → j < k → k < l.change-index → (slice_index_or l.changes j d).index < (slice_index_or l.changes k d).index;
-  in_range : (k : ℕ) (d : BlockChange) → k < l.change-index → (slice_index_or l.changes k d).index < 65536;
+  in_range : (k : ℕ) (d : BlockChange) → k < l.change-index → (slice_index_or l.changes k d).index < 262144;
 }

@@ -1,9 +1,9 @@
 use Rattle.nl_dat.specs.Batches.{Fits}
-use Rattle.nl_dat.specs.Stores.{capacity}
+use Rattle.nl_dat.specs.Stores.{capacity, content_in}
 use Rattle.nl_tests.proofs.numbers.batch_of.Given as goal
 
 abbrev pub invariant-loop-byte : goal.invariant-loop-byte
-invariant-loop-byte g l = Fits (capacity (g.S.Vstore.store l.store)) (g.S.VRead.content l.store) l.batch
+invariant-loop-byte g l = Fits (capacity (g.S.Vstore.store l.store)) (content_in (g.S.Vstore.store l.store)) l.batch
 
 abbrev pub invariant-loop-number : goal.invariant-loop-number
-invariant-loop-number g l = Fits (capacity (g.S.Vstore.store l.store)) (g.S.VRead.content l.store) l.batch
+invariant-loop-number g l = Fits (capacity (g.S.Vstore.store l.store)) (content_in (g.S.Vstore.store l.store)) l.batch
