@@ -1,17 +1,18 @@
 -- What an append that is refused leaves.
 use Rattle.std.proofs.Common.{◌≡◌, ℕ, ◌<◌, ◌++◌, ◌∷◌, List, Option, Some, None, inl, inr, sym, refl, ap, subst, ◌∙◌, map, length}
-use Rattle.std.specs.Prelude.{Bool}
+use Rattle.std.specs.Prelude.{Bool, true}
 use Rattle.std.specs.Option.{option_map}
 use Rattle.std.proofs.lemmas.List.{ext_get_or, length-map}
 use Rattle.nl_types.specs.declared.error.VolError.{VolError}
 use Rattle.nl_types.specs.declared.error.VolError.TheVariants.{NoSpace, Fault, Memory}
 use Rattle.nl_types.specs.Segments.{AreTidy, total_blocks}
-use Rattle.nl_types.specs.Placing.{with_logs}
+use Rattle.nl_types.specs.Placing.{LacksSpace, with_logs}
 use Rattle.nl_segwriter.specs.Content.{Payload, Content as Space, KeepsUsed}
 use Rattle.nl_segwriter.specs.Appended.{IsAppendError, IsBrokenOff}
+use Rattle.nl_dat.specs.Batches.{Changes, items_of}
 use Rattle.nl_dat.specs.declared.entries.DatEntry.{DatEntry}
 use Rattle.nl_dat.specs.Table.{entry_in, addresses_of, block_of}
-use Rattle.nl_dat.specs.Stores.{IsFaulted}
+use Rattle.nl_dat.specs.Stores.{Store, IsFaulted, IsWriteRefused}
 use Rattle.nl_dat.specs.Inside.{births_in, numbered_of, numbered_with, store_of, IsTable}
 use Rattle.nl_dat.proofs.Contents.{KeepsAt}
 use Rattle.nl_dat.proofs.StoreOf.{numbered_in-store_of}
@@ -51,3 +52,13 @@ is_faulted table lowest old later before after reserve stamp checkpoint payload 
   broken_off = broken-shown table table old later before after reserve stamp checkpoint payload tidy broken;
   kept = kept-shown table table old later before after (total-broken old later reserve stamp checkpoint payload broken) old.segments kept;
 }
+
+pub write-refused : (checkpoint stamp : ℕ) (changes : Changes) (old new : Store) (e : VolError) → IsAppendError e → (e ≡ NoSpace → LacksSpace old.segments true (length changes.births)) → (e ≡ NoSpace → new ≡ old) → (e ≡ Memory → new ≡ old)
+    → (e ≡ Fault → IsFaulted true checkpoint stamp (items_of changes.births) old new) → IsWriteRefused checkpoint stamp changes old new e
+write-refused checkpoint stamp changes old new e why lacks no_space memory fault = elim why [
+  | inl is ↦ subst (IsWriteRefused checkpoint stamp changes old new) (sym is) (lacks is, no_space is)
+  | inr or ↦ elim or [
+    | inl is ↦ subst (IsWriteRefused checkpoint stamp changes old new) (sym is) (fault is)
+    | inr is ↦ subst (IsWriteRefused checkpoint stamp changes old new) (sym is) (memory is)
+  ]
+]

@@ -13,7 +13,7 @@ use Rattle.nl_types.specs.Entries.{Birth, Content}
 use Rattle.nl_types.specs.PartialMaps.{Partial, adjust, adjust_each, is_one_of, Stands}
 use Rattle.nl_types.proofs.PartialMaps.{is_one_of-get_or}
 use Rattle.nl_segwriter.specs.Content.{Payload, Content as Space, KeepsUsed, page_of as payload_page}
-use Rattle.nl_segwriter.specs.Appended.{IsAppended, IsAppendError, IsBrokenOff}
+use Rattle.nl_segwriter.specs.Appended.{IsAppended, IsAppendError, IsLoadError, IsBrokenOff}
 use Rattle.nl_dat.specs.declared.entries.DatEntry.{DatEntry}
 use Rattle.nl_dat.specs.Batches.{birth_of_item, births_of, item_of_birth, items_of, tag_for}
 use Rattle.nl_dat.specs.Table.{entry_in, addresses_of, block_of, content_of, meaning_at, meaning_of, moved_entry, stored_at, IsSound}
@@ -228,16 +228,24 @@ pub record IsRefused (reserve : Bool) (stamp checkpoint : ℕ) (payload : List P
 
 pub move-refused : (table : List (Option DatEntry)) (lowest : ℕ) (old later : Space) (before between after checkpoint stamp : ℕ) (numbers : List ℕ) (payload : List Payload) (e : VolError) → AreTidy old.segments → IsTable table lowest old
     → IsPayloadOf (store_of table old before) numbers payload → KeepsUsed old.segments old later → before ≤ between → IsRefused false stamp checkpoint payload e old later between after
-    → IsMoveRefused checkpoint stamp numbers e (store_of table old before) (store_of table later after)
+    → IsMoveRefused checkpoint stamp numbers (store_of table old before) (store_of table later after) e
 move-refused table lowest old later before between after checkpoint stamp numbers payload e tidy is_table theirs kept more refused = elim refused.why [
-  | inl is ↦ subst (λ d. IsMoveRefused checkpoint stamp numbers d (store_of table old before) (store_of table later after)) (sym is)
+  | inl is ↦ subst (IsMoveRefused checkpoint stamp numbers (store_of table old before) (store_of table later after)) (sym is)
       (subst (LacksSpace old.segments false) count (refused.lacks is), keeps-stored table old later before after (refused.no_space is))
   | inr or ↦ elim or [
-    | inl is ↦ subst (λ d. IsMoveRefused checkpoint stamp numbers d (store_of table old before) (store_of table later after)) (sym is)
+    | inl is ↦ subst (IsMoveRefused checkpoint stamp numbers (store_of table old before) (store_of table later after)) (sym is)
         (inr (payload, theirs, is_faulted table lowest old later before after false stamp checkpoint payload tidy is_table kept (omega (arith, more, refused.risen is)) (refused.broken is)))
-    | inr is ↦ subst (λ d. IsMoveRefused checkpoint stamp numbers d (store_of table old before) (store_of table later after)) (sym is) (keeps-stored table old later before after (refused.memory is))
+    | inr is ↦ subst (IsMoveRefused checkpoint stamp numbers (store_of table old before) (store_of table later after)) (sym is) (keeps-stored table old later before after (refused.memory is))
   ]
 ]
   where
     count : length payload ≡ length numbers
     count = sym (length-map payload Some) ∙ sym (ap length theirs) ∙ length-map numbers (payload_under (store_of table old before))
+
+-- a page was not read
+pub load-refused : (table : List (Option DatEntry)) (old later : Space) (before after checkpoint stamp : ℕ) (numbers : List ℕ) (e : VolError) → later ≡ old → IsLoadError e → (e ≡ Fault → before < after)
+    → IsMoveRefused checkpoint stamp numbers (store_of table old before) (store_of table later after) e
+load-refused table old later before after checkpoint stamp numbers e same why risen = elim why [
+  | inl is ↦ subst (IsMoveRefused checkpoint stamp numbers (store_of table old before) (store_of table later after)) (sym is) (inl (risen is, keeps-stored table old later before after same))
+  | inr is ↦ subst (IsMoveRefused checkpoint stamp numbers (store_of table old before) (store_of table later after)) (sym is) (keeps-stored table old later before after same)
+]

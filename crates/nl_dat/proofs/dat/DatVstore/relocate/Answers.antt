@@ -14,7 +14,7 @@ use Rattle.nl_dat.specs.Stores.{Store, IsMoved, IsMoveRefused, is_inside, addres
 use Rattle.nl_dat.specs.Inside.{births_in, store_of, IsTable}
 use Rattle.nl_dat.proofs.Writing.{table-kept}
 use Rattle.nl_dat.proofs.Refusals.{total-refused}
-use Rattle.nl_dat.proofs.Relocating.{IsRefused, table-moved, is_moved, move-refused, theirs-of}
+use Rattle.nl_dat.proofs.Relocating.{IsRefused, table-moved, is_moved, move-refused, load-refused, theirs-of}
 use Rattle.nl_dat.proofs.StoreOf.{is_store}
 use Rattle.nl_dat.proofs.dat.DatVstore.relocate.Goals as goal
 
@@ -51,7 +51,7 @@ returns-in_err-blocks-clause-refused g c =
       risen = λ is. e.fault (ap Err is);
       broken = λ is. e.broken_off (ap Err is);
     } in
-    rw (p.1, p.2) (subst (λ s. IsMoveRefused c.args.checkpoint c.args.now c.args.numbers.now c.in_err-blocks.field-0.0 s (store_of table later after)) c.self.view_is
+    rw (p.1, p.2) (subst (λ s. IsMoveRefused c.args.checkpoint c.args.now c.args.numbers.now s (store_of table later after) c.in_err-blocks.field-0.0) c.self.view_is
     (move-refused table (c.self.inside.filled + 1) old later before (g.S.Space.failure_count c.load_all.new.space) after c.args.checkpoint c.args.now c.args.numbers.now c.deref.result.now c.in_err-blocks.field-0.0
     (g.met.S.Space.limits c.self.inside.space).tidy c.self.invariant (theirs-of table (c.self.inside.filled + 1) old before c.args.numbers.now c.deref.result.now c.self.invariant loaded)
     (subst (λ (m : Space). KeepsUsed m.segments m later) same e.kept) c.load_all.ensures.counted
@@ -106,3 +106,12 @@ returns-in_err-blocks-clause-is_store g c =
 pub returns-clause-is_store : goal.returns-clause-is_store
 returns-clause-is_store g c =
     is_store c.move_entries.new.table (c.self.inside.filled + 1) (g.S.Space.content c.append.new.self) (g.S.Space.failure_count c.append.new.self) (invariant_of-self-2 g c) (g.met.S.Space.limits c.append.new.self).tidy (g.met.S.Space.whole_logs c.append.new.self) (g.met.S.Space.holds_only_used c.append.new.self) (g.met.S.Space.have_logs c.append.new.self)
+
+pub returns-in_err-payload-clause-refused : goal.returns-in_err-payload-clause-refused
+returns-in_err-payload-clause-refused g c =
+    let p = err_from_is_err_and c.from_residual.result c.from_residual.ensures.1 in
+    let e = c.in_err-payload.ensures in
+    let later = g.S.Space.content c.load_all.new.space in
+    let after = g.S.Space.failure_count c.load_all.new.space in
+    rw (p.1, p.2) (subst (λ s. IsMoveRefused c.args.checkpoint c.args.now c.args.numbers.now s (store_of c.self.inside.table later after) c.in_err-payload.field-0.0) c.self.view_is
+    (load-refused c.self.inside.table (g.S.Space.content c.self.inside.space) later (g.S.Space.failure_count c.self.inside.space) after c.args.checkpoint c.args.now c.args.numbers.now c.in_err-payload.field-0.0 e.same e.errors (λ is. e.fault (ap Err is))))
