@@ -4,7 +4,7 @@ use Rattle.std.specs.Prelude.{slice_get, slice_index_or}
 use Rattle.std.proofs.Math.Nat.{mul-le-mul_right}
 use Rattle.nl_types.specs.Segments.{AreTidy, info_of}
 use Rattle.nl_types.proofs.SegmentChanges.{room_of}
-use Rattle.nl_segwriter.specs.Content.{Payload, Content as Space}
+use Rattle.nl_segwriter.specs.Content.{Payload, SpaceContent as Space}
 use Rattle.nl_dat.specs.declared.entries.DatEntry.{DatEntry}
 use Rattle.nl_dat.specs.Inside.{store_of}
 use Rattle.nl_dat.specs.Located.{AreCounted, block_if, in_row, onto, picked, payload_block, payload_count_in}

@@ -9,7 +9,7 @@ use Rattle.std.proofs.lemmas.Option.{get_or_from_slice_get}
 use Rattle.nl_types.specs.Segments.{Segments, AreTidy, IsUsed, info_of}
 use Rattle.nl_types.proofs.SegmentChanges.{room_of}
 use Rattle.nl_types.specs.Entries.{number_of}
-use Rattle.nl_segwriter.specs.Content.{Payload, Content as Space, HoldsOnlyUsed, tag_of}
+use Rattle.nl_segwriter.specs.Content.{Payload, SpaceContent as Space, HoldsOnlyUsed, payload_tag}
 use Rattle.nl_dat.specs.declared.entries.DatEntry.{DatEntry}
 use Rattle.nl_dat.specs.Batches.{birth_of_item, number_of_payload}
 use Rattle.nl_dat.specs.Table.{entry_in, addresses_of}
@@ -55,11 +55,11 @@ tagged-row table lowest space row segment position v tidy is_table count each wi
 -- and what it says of each block
 pub tag-row : (table : List (Option DatEntry)) (space : Space) (failures : ℕ) (row : List (Option Payload)) (segment position : ℕ) → AreTidy space.segments → HoldsOnlyUsed space → segment < length space.segments.each → position < space.segments.blocks
     → length row ≡ (info_of space.segments.each segment).used → ((k : ℕ) → k < length row → slice_get row k ≡ Some (space.held (segment * space.segments.blocks + k)))
-    → option_map tag_of (slice_index_or row position None) ≡ tag_in (store_of table space failures) (segment * space.segments.blocks + position)
+    → option_map payload_tag (slice_index_or row position None) ≡ tag_in (store_of table space failures) (segment * space.segments.blocks + position)
 tag-row table space failures row segment position tidy only within low count each =
     let m : (segment + 1) * space.segments.blocks ≤ length space.segments.each * space.segments.blocks = mul-le-mul_right space.segments.blocks (omega (arith, within)) in
     let b = segment * space.segments.blocks + position in
-    ap (option_map tag_of) (by_row (cases_lt position (length row)) ∙ sym (shown table space failures b (omega (arith, m, low))).0)
+    ap (option_map payload_tag) (by_row (cases_lt position (length row)) ∙ sym (shown table space failures b (omega (arith, m, low))).0)
   where
     by_row : (position < length row) ⊎ (length row ≤ position) → slice_index_or row position None ≡ space.held (segment * space.segments.blocks + position)
     by_row (inl h) = held-row row space segment position each h

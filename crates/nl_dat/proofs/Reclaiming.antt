@@ -9,7 +9,7 @@ use Rattle.nl_types.specs.Segments.{Segments, AreTidy, IsUsed, info_of, clean_in
 use Rattle.nl_types.proofs.SegmentChanges.{room_of}
 use Rattle.nl_types.specs.PartialMaps.{Partial}
 use Rattle.nl_types.specs.Entries.{number_of}
-use Rattle.nl_segwriter.specs.Content.{Content as Space, IsFreed, page_of as payload_page}
+use Rattle.nl_segwriter.specs.Content.{SpaceContent as Space, IsFreed, payload_page}
 use Rattle.nl_dat.specs.declared.entries.DatEntry.{DatEntry}
 use Rattle.nl_dat.specs.declared.reclaim.TakenOut.{TakenOut}
 use Rattle.nl_dat.specs.Batches.{birth_of_item}

@@ -7,7 +7,7 @@ use Rattle.nl_types.specs.declared.error.VolError.{VolError}
 use Rattle.nl_types.specs.declared.error.VolError.TheVariants.{NoSpace, Fault, Memory}
 use Rattle.nl_types.specs.Segments.{AreTidy, total_blocks}
 use Rattle.nl_types.specs.Placing.{LacksSpace, with_logs}
-use Rattle.nl_segwriter.specs.Content.{Payload, Content as Space, KeepsUsed}
+use Rattle.nl_segwriter.specs.Content.{Payload, SpaceContent as Space, KeepsUsed}
 use Rattle.nl_segwriter.specs.Appended.{IsAppendError, IsBrokenOff}
 use Rattle.nl_dat.specs.Batches.{Changes, items_of}
 use Rattle.nl_dat.specs.declared.entries.DatEntry.{DatEntry}

@@ -12,14 +12,14 @@ use Rattle.nl_types.specs.Placing.{LacksSpace}
 use Rattle.nl_types.specs.Entries.{Birth, Content}
 use Rattle.nl_types.specs.PartialMaps.{Partial, adjust, adjust_each, is_one_of, Stands}
 use Rattle.nl_types.proofs.PartialMaps.{is_one_of-get_or}
-use Rattle.nl_segwriter.specs.Content.{Payload, Content as Space, KeepsUsed, page_of as payload_page}
+use Rattle.nl_segwriter.specs.Content.{Payload, SpaceContent as Space, KeepsUsed, payload_page}
 use Rattle.nl_segwriter.specs.Appended.{IsAppended, IsAppendError, IsLoadError, IsBrokenOff}
 use Rattle.nl_dat.specs.declared.entries.DatEntry.{DatEntry}
 use Rattle.nl_dat.specs.Batches.{birth_of_item, births_of, item_of_birth, items_of, tag_for}
-use Rattle.nl_dat.specs.Table.{entry_in, addresses_of, block_of, content_of, meaning_at, meaning_of, moved_entry, stored_at, IsSound}
+use Rattle.nl_dat.specs.Table.{entry_in, addresses_of, block_of, content_of, meaning_at, meaning_of, moved_entry, stored_at, HaveOwnPayload}
 use Rattle.nl_dat.specs.Stores.{IsMoved, IsMoveRefused, IsPayloadOf, KeepsStored, is_inside, moved_to, address_in, payload_for, payload_under}
 use Rattle.nl_dat.specs.Inside.{births_in, numbered_of, store_of, IsTable}
-use Rattle.nl_dat.proofs.Contents.{KeepsAt, content_of-KeepsAt, IsSound-KeepsAt, content_of-moves, addresses_of-moves, IsSound-moves}
+use Rattle.nl_dat.proofs.Contents.{KeepsAt, content_of-KeepsAt, HaveOwnPayload-KeepsAt, content_of-moves, addresses_of-moves, HaveOwnPayload-moves}
 use Rattle.nl_dat.proofs.StoreOf.{content_in-store_of, address_in-store_of}
 use Rattle.nl_dat.proofs.ClosedSegments.{fits-outside}
 use Rattle.nl_dat.proofs.SoundTable.{stored_for}
@@ -156,11 +156,11 @@ module _ (table new : List (Option DatEntry)) (lowest : ℕ) (old later : Space)
   loaded-later : map Some (births_of items) ≡ map (stored_at (entry_in table) (births_in later)) numbers
   loaded-later = sym loaded ∙ sym (map-still numbers)
 
-  sound-later : IsSound (addresses_of (entry_in table)) (births_in later)
-  sound-later = IsSound-KeepsAt (addresses_of (entry_in table)) (births_in old) (births_in later) is_table.sound keeps
+  sound-later : HaveOwnPayload (addresses_of (entry_in table)) (births_in later)
+  sound-later = HaveOwnPayload-KeepsAt (addresses_of (entry_in table)) (births_in old) (births_in later) is_table.sound keeps
 
-  sound-now : IsSound (addresses_of (entry_in new)) (births_in later)
-  sound-now = subst (λ m. IsSound (addresses_of m) (births_in later)) (sym is_new) (IsSound-moves numbers at (births_of items) (entry_in table) (births_in later) stands loaded-later sound-later)
+  sound-now : HaveOwnPayload (addresses_of (entry_in new)) (births_in later)
+  sound-now = subst (λ m. HaveOwnPayload (addresses_of m) (births_in later)) (sym is_new) (HaveOwnPayload-moves numbers at (births_of items) (entry_in table) (births_in later) stands loaded-later sound-later)
 
   addresses-moved : addresses_of (entry_in new) ≡ adjust_each moved_to numbers at (addresses_of (entry_in table))
   addresses-moved = ap addresses_of is_new ∙ addresses_of-moves numbers at (entry_in table)

@@ -10,9 +10,9 @@ use Rattle.nl_types.specs.Segments.{Segments, AreTidy, total_blocks}
 use Rattle.nl_types.specs.Placing.{first_block, with_logs}
 use Rattle.nl_types.proofs.NextLogs.{placed}
 use Rattle.nl_types.proofs.UsedParts.{used_inside}
-use Rattle.nl_segwriter.specs.Content.{Content as Space, Payload, StandAt, IsSameAt, IsFreed, KeepsUsed, HoldsOnlyUsed, page_of}
+use Rattle.nl_segwriter.specs.Content.{SpaceContent as Space, Payload, StandAt, IsSameAt, IsFreed, KeepsUsed, HoldsOnlyUsed, payload_page}
 use Rattle.nl_segwriter.specs.Logs.{AreWholeLogs}
-use Rattle.nl_segwriter.specs.Appended.{StandInLogs, KeepsOthers, IsAppended, IsBrokenOff}
+use Rattle.nl_segwriter.specs.Appended.{StandInLogs, KeepsOtherBlocks, IsAppended, IsBrokenOff}
 use Rattle.nl_segwriter.proofs.AppendedLogs.{logs_inside}
 use Rattle.nl_segwriter.proofs.WholeLogs.{filled_same, stands_kept}
 use Rattle.nl_dat.specs.declared.entries.DatEntry.{DatEntry}
@@ -92,7 +92,7 @@ module _ (table new : List (Option DatEntry)) (old later : Space) (before after 
   pub kept-shown : (s : Segments) → KeepsUsed s old later → KeepsUsed s (space_in (store_of table old before)) (space_in (store_of new later after))
   kept-shown s kept b used = same-shown b (kept b used)
 
-  pub others-shown : (blocks : ℕ) (logs : List Log) → KeepsOthers blocks logs old later → KeepsOthers blocks logs (space_in (store_of table old before)) (space_in (store_of new later after))
+  pub others-shown : (blocks : ℕ) (logs : List Log) → KeepsOtherBlocks blocks logs old later → KeepsOtherBlocks blocks logs (space_in (store_of table old before)) (space_in (store_of new later after))
   others-shown blocks logs others b outside = same-shown b (others b outside)
 
   pub freed-shown : (segment : ℕ) → IsFreed segment old later → IsFreed segment (space_in (store_of table old before)) (space_in (store_of new later after))
@@ -135,7 +135,7 @@ module _ (table new : List (Option DatEntry)) (old later : Space) (before after 
     unused_before = a.unused_before;
     used_now = a.used_now;
     held = stand_at-shown new later after at payload inside a.held;
-    stored = stored_at-shown new later after at (map page_of payload) inside a.stored;
+    stored = stored_at-shown new later after at (map payload_page payload) inside a.stored;
     others = others-shown table new old later before after total old.segments.blocks a.logs a.others;
   }
     where

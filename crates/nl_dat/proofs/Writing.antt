@@ -10,14 +10,14 @@ use Rattle.nl_types.specs.Segments.{AreTidy, IsUsed, StaysUsed, total_blocks}
 use Rattle.nl_types.specs.PartialMaps.{Partial, put, put_each, put_all, adjust, adjust_all, Stands}
 use Rattle.nl_types.specs.Entries.{Birth, Content, number_of, born_at, ended_at, written}
 use Rattle.nl_types.proofs.PartialMaps.{put-other, put-same}
-use Rattle.nl_segwriter.specs.Content.{Payload, Content as Space, KeepsUsed, StandAt, page_of as payload_page}
+use Rattle.nl_segwriter.specs.Content.{Payload, SpaceContent as Space, KeepsUsed, StandAt, payload_page}
 use Rattle.nl_segwriter.specs.Appended.{IsAppended}
 use Rattle.nl_dat.specs.declared.entries.DatEntry.{DatEntry}
 use Rattle.nl_dat.specs.Batches.{Changes, Fits, birth_of_item, births_of, items_of, is_born, is_live, last_number}
-use Rattle.nl_dat.specs.Table.{entry_in, addresses_of, content_of, meaning_at, new_entry, ended_entry, IsSound}
+use Rattle.nl_dat.specs.Table.{entry_in, addresses_of, content_of, meaning_at, new_entry, ended_entry, HaveOwnPayload}
 use Rattle.nl_dat.specs.Stores.{IsWritten, content_in, space_in}
 use Rattle.nl_dat.specs.Inside.{births_in, store_of, IsTable}
-use Rattle.nl_dat.proofs.Contents.{KeepsAt, content_of-KeepsAt, IsSound-KeepsAt, content_of-births, addresses_of-births, IsSound-births, content_of-ends, addresses_of-ends}
+use Rattle.nl_dat.proofs.Contents.{KeepsAt, content_of-KeepsAt, HaveOwnPayload-KeepsAt, content_of-births, addresses_of-births, HaveOwnPayload-births, content_of-ends, addresses_of-ends}
 use Rattle.nl_dat.proofs.StoreOf.{content_in-store_of, address_in-store_of}
 use Rattle.nl_dat.proofs.FreeNumbers.{in_use}
 use Rattle.nl_dat.proofs.BlockCounts.{total-with_logs}
@@ -119,7 +119,7 @@ pub table-kept : (table : List (Option DatEntry)) (lowest : ℕ) (old later : Sp
 table-kept table lowest old later is_table kept stays total = record {
   full = is_table.full ∙ ap (λ n. n + 1) (sym total);
   zero_unused = is_table.zero_unused;
-  sound = IsSound-KeepsAt (addresses_of (entry_in table)) (births_in old) (births_in later) is_table.sound (keeps_at table lowest old later is_table kept);
+  sound = HaveOwnPayload-KeepsAt (addresses_of (entry_in table)) (births_in old) (births_in later) is_table.sound (keeps_at table lowest old later is_table kept);
   used = λ v b is. stays b (is_table.used v b is);
   stored = λ v b is. let same = kept b (is_table.used v b is) in same.1 ∙ is_table.stored v b is ∙ sym (ap (option_map payload_page) same.0);
   positive = is_table.positive;
@@ -158,9 +158,9 @@ module _ (table new : List (Option DatEntry)) (lowest : ℕ) (old later : Space)
   total : total_blocks later.segments ≡ total_blocks old.segments
   total = ap total_blocks appended.segments ∙ total-with_logs old.segments appended.logs now
 
-  sound_now : IsSound (addresses_of (entry_in new)) (births_in later)
-  sound_now = subst (λ m. IsSound m (births_in later)) (sym addresses_of-written)
-      (IsSound-births changes.births at (addresses_of (entry_in table)) (births_in later) stands (IsSound-KeepsAt (addresses_of (entry_in table)) (births_in old) (births_in later) is_table.sound keeps))
+  sound_now : HaveOwnPayload (addresses_of (entry_in new)) (births_in later)
+  sound_now = subst (λ m. HaveOwnPayload m (births_in later)) (sym addresses_of-written)
+      (HaveOwnPayload-births changes.births at (addresses_of (entry_in table)) (births_in later) stands (HaveOwnPayload-KeepsAt (addresses_of (entry_in table)) (births_in old) (births_in later) is_table.sound keeps))
 
   -- what holds of the blocks of before and of the append holds of all
   each_block : (P : ℕ → Type 0) → AllByRecursion P at → ((v b : ℕ) → addresses_of (entry_in table) v ≡ Some b → P b) → (v b : ℕ) → addresses_of (entry_in new) v ≡ Some b → P b

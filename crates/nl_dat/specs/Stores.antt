@@ -9,7 +9,7 @@ use Rattle.nl_types.specs.Placing.{LacksSpace}
 use Rattle.nl_types.specs.PartialMaps.{Partial, put_each, adjust_each, is_one_of, NoneTwice}
 use Rattle.nl_types.specs.Entries.{Birth, Entry, Content, number_of, written}
 use Rattle.nl_layout.specs.declared.tag.Tag.{Tag}
-use Rattle.nl_segwriter.specs.Content.{Content as Space, Payload, HoldsOnlyUsed, KeepsUsed, IsFreed, tag_of}
+use Rattle.nl_segwriter.specs.Content.{SpaceContent as Space, Payload, HoldsOnlyUsed, KeepsUsed, IsFreed, payload_tag}
 use Rattle.nl_segwriter.specs.Logs.{AreWholeLogs, HaveLogs}
 use Rattle.nl_segwriter.specs.Appended.{IsAppended, IsBrokenOff}
 use Rattle.nl_dat.specs.Batches.{Changes, is_taken, items_of, tag_for}
@@ -47,8 +47,8 @@ numbered_in s v = slice_index_or s.numbers v None
 abbrev pub entry_of : Numbered → Entry
 entry_of n = n.entry
 
-abbrev pub block_of : Numbered → ℕ
-block_of n = n.block
+abbrev pub block_now : Numbered → ℕ
+block_now n = n.block
 
 -- the same as an entry of the table
 abbrev pub dat_entry_of : Numbered → DatEntry
@@ -60,7 +60,7 @@ content_in s v = option_map entry_of (numbered_in s v)
 
 -- the block of each number in use
 abbrev pub address_in : Store → Partial ℕ
-address_in s v = option_map block_of (numbered_in s v)
+address_in s v = option_map block_now (numbered_in s v)
 
 -- how many numbers there are: 1 to this
 abbrev pub capacity : Store → ℕ
@@ -78,7 +78,7 @@ payload_in s b = slice_index_or s.payload b None
 
 -- what the summary of its log says of a payload block
 abbrev pub tag_in : Store → Partial Tag
-tag_in s b = option_map tag_of (payload_in s b)
+tag_in s b = option_map payload_tag (payload_in s b)
 
 -- a store as the space that it lies in
 abbrev pub space_in : Store → Space

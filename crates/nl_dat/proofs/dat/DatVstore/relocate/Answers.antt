@@ -5,7 +5,7 @@ use Rattle.std.proofs.lemmas.Result.{err_from_is_err_and}
 use Rattle.std.proofs.lemmas.List.{length-map}
 use Rattle.nl_types.specs.Segments.{AreTidy, IsClosed, StaysUsed}
 use Rattle.nl_types.specs.PartialMaps.{adjust_each}
-use Rattle.nl_segwriter.specs.Content.{Payload, Content as Space, KeepsUsed}
+use Rattle.nl_segwriter.specs.Content.{Payload, SpaceContent as Space, KeepsUsed}
 use Rattle.nl_segwriter.specs.Appended.{IsAppended}
 use Rattle.nl_dat.specs.declared.entries.DatEntry.{DatEntry}
 use Rattle.nl_dat.specs.Batches.{births_of}
