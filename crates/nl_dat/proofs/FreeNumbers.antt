@@ -9,7 +9,7 @@ use Rattle.nl_types.specs.Placing as placing
 use Rattle.nl_types.specs.PlacingLaws.{WhatFitsHasRoom}
 use Rattle.nl_types.specs.PartialMaps.{Partial}
 use Rattle.nl_types.specs.Entries.{Content}
-use Rattle.nl_segwriter.specs.Content.{SpaceContent as Space}
+use Rattle.nl_segwriter.specs.Content.{SpaceContent}
 use Rattle.nl_dat.specs.declared.entries.DatEntry.{DatEntry}
 use Rattle.nl_dat.specs.Batches.{LacksSpaceFrom, Changes, Fits, IsLowestFree, is_born, is_taken, last_number}
 use Rattle.nl_dat.specs.Table.{AreInUse, IsFirstFree, entry_in, addresses_of, block_of}
@@ -26,7 +26,7 @@ is_some-addresses_of entries v = of_entry (entries v)
     of_entry None = refl
     of_entry (Some e) = refl
 
-module _ (table : List (Option DatEntry)) (lowest : ℕ) (space : Space) (failures : ℕ) (changes : Changes) (is_table : IsTable table lowest space) (fits : Fits (total_blocks space.segments) (content_in (store_of table space failures)) changes) where
+module _ (table : List (Option DatEntry)) (lowest : ℕ) (space : SpaceContent) (failures : ℕ) (changes : Changes) (is_table : IsTable table lowest space) (fits : Fits (total_blocks space.segments) (content_in (store_of table space failures)) changes) where
   abbrev pub content : Content
   content = content_in (store_of table space failures)
 

@@ -7,7 +7,7 @@ use Rattle.std.proofs.lemmas.Bool.Decides.{nat_tests}
 use Rattle.nl_types.specs.Segments.{Segments, AreTidy, info_of}
 use Rattle.nl_types.specs.Entries.{number_of}
 use Rattle.nl_layout.specs.declared.tag.Tag.{Tag}
-use Rattle.nl_segwriter.specs.Content.{Payload, SpaceContent as Space, payload_tag, payload_page}
+use Rattle.nl_segwriter.specs.Content.{Payload, SpaceContent, payload_tag, payload_page}
 use Rattle.nl_dat.specs.declared.entries.DatEntry.{DatEntry}
 use Rattle.nl_dat.specs.Batches.{birth_of_item}
 use Rattle.nl_dat.specs.Table.{entry_in, addresses_of, block_of, stored_at}
@@ -29,14 +29,14 @@ inside-bounds s segment b inside = (
 )
 
 -- the payload of a number stands in the row of its segment
-pub record Found (table : List (Option DatEntry)) (space : Space) (row : List (Option Payload)) (first : ℕ) (e : DatEntry) : Type 0 where
+pub record Found (table : List (Option DatEntry)) (space : SpaceContent) (row : List (Option Payload)) (first : ℕ) (e : DatEntry) : Type 0 where
   pub payload : Payload
   pub low : first ≤ e.block
   pub in_row : slice_index_or row (e.block - first) None ≡ Some payload
   pub held : space.held e.block ≡ Some payload
   pub stored : space.stored e.block ≡ Some (payload_page payload)
 
-pub found : (table : List (Option DatEntry)) (space : Space) (row : List (Option Payload)) (segment v : ℕ) (e : DatEntry) → AreTidy space.segments → IsBacked table space → entry_in table v ≡ Some e → is_inside space.segments segment (addresses_of (entry_in table) v) ≡ true
+pub found : (table : List (Option DatEntry)) (space : SpaceContent) (row : List (Option Payload)) (segment v : ℕ) (e : DatEntry) → AreTidy space.segments → IsBacked table space → entry_in table v ≡ Some e → is_inside space.segments segment (addresses_of (entry_in table) v) ≡ true
     → length row ≡ (info_of space.segments.each segment).used → ((k : ℕ) → k < length row → slice_get row k ≡ Some (space.held (segment * space.segments.blocks + k))) → Found table space row (segment * space.segments.blocks) e
 found table space row segment v e tidy backed there inside count each = held (space.held e.block) refl (backed.sound v e.block at)
   where
@@ -66,7 +66,7 @@ found table space row segment v e tidy backed there inside count each = held (sp
     }
 
 -- a tag from the row and a page from the device are the payload
-pub loaded : (table : List (Option DatEntry)) (space : Space) (row : List (Option Payload)) (first v : ℕ) (e : DatEntry) (tag : Tag) (page : List ℕ) → entry_in table v ≡ Some e → Found table space row first e
+pub loaded : (table : List (Option DatEntry)) (space : SpaceContent) (row : List (Option Payload)) (first v : ℕ) (e : DatEntry) (tag : Tag) (page : List ℕ) → entry_in table v ≡ Some e → Found table space row first e
     → option_map payload_tag (slice_index_or row (e.block - first) None) ≡ Some tag → space.stored e.block ≡ Some page → stored_at (entry_in table) (births_in space) v ≡ Some (birth_of_item (tag, page))
 loaded table space row first v e tag page there f tagged read =
     let tag_is : Some (payload_tag f.payload) ≡ Some tag = sym (ap (option_map payload_tag) f.in_row) ∙ tagged in

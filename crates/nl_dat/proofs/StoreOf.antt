@@ -10,7 +10,7 @@ use Rattle.nl_types.specs.Segments.{AreTidy, total_blocks}
 use Rattle.nl_types.specs.PartialMaps.{Partial}
 use Rattle.nl_types.specs.Entries.{Birth, number_of}
 use Rattle.nl_types.proofs.PartialMaps.{same_at_all}
-use Rattle.nl_segwriter.specs.Content.{Payload, SpaceContent as Space, HoldsOnlyUsed, payload_page}
+use Rattle.nl_segwriter.specs.Content.{Payload, SpaceContent, HoldsOnlyUsed, payload_page}
 use Rattle.nl_segwriter.specs.Logs.{AreWholeLogs, HaveLogs}
 use Rattle.nl_dat.specs.declared.entries.DatEntry.{DatEntry}
 use Rattle.nl_dat.specs.Batches.{birth_of_item, tag_place, tag_for}
@@ -21,7 +21,7 @@ use Rattle.nl_types.proofs.UsedParts.{used_inside}
 use Rattle.nl_dat.proofs.SoundTable.{stored_for, HaveOwnPayload-apart}
 use Rattle.nl_dat.proofs.ShownSpace.{shown, whole-shown, only-shown}
 
-module _ (table : List (Option DatEntry)) (space : Space) (failures : ℕ) where
+module _ (table : List (Option DatEntry)) (space : SpaceContent) (failures : ℕ) where
   pub numbered_in-store_of : (v : ℕ) → numbered_in (store_of table space failures) v ≡ numbered_of (births_in space) (entry_in table v)
   numbered_in-store_of v = get_or-map (numbered_of (births_in space)) table v None
 
@@ -67,7 +67,7 @@ module _ (table : List (Option DatEntry)) (space : Space) (failures : ℕ) where
 
 -- ---- what is true of every store
 
-module _ (table : List (Option DatEntry)) (lowest : ℕ) (space : Space) (failures : ℕ) (is_table : IsTable table lowest space) (tidy : AreTidy space.segments) where
+module _ (table : List (Option DatEntry)) (lowest : ℕ) (space : SpaceContent) (failures : ℕ) (is_table : IsTable table lowest space) (tidy : AreTidy space.segments) where
   address_now : (v b : ℕ) → address_in (store_of table space failures) v ≡ Some b → addresses_of (entry_in table) v ≡ Some b
   address_now v b at = sym (ap (λ (m : Partial ℕ). m v) (address_in-store_of table space failures is_table.sound)) ∙ at
 
@@ -135,7 +135,7 @@ map-empty : (stored : Partial Birth) (n : ℕ) → map (numbered_of stored) (rep
 map-empty stored zero = refl
 map-empty stored (suc n) = ap (λ xs. None ∷ xs) (map-empty stored n)
 
-pub store_of-empty : (table : List (Option DatEntry)) (space : Space) (failures : ℕ) → table ≡ replicate (total_blocks space.segments + 1) None → store_of table space failures ≡ new_store space failures
+pub store_of-empty : (table : List (Option DatEntry)) (space : SpaceContent) (failures : ℕ) → table ≡ replicate (total_blocks space.segments + 1) None → store_of table space failures ≡ new_store space failures
 store_of-empty table space failures is =
     ap (λ numbers. record { numbers = numbers; segments = space.segments; device = map space.stored (range_with_len 0 (total_blocks space.segments)); payload = map space.held (range_with_len 0 (total_blocks space.segments)); failures = failures })
     (ap (map (numbered_of (births_in space))) is ∙ map-empty (births_in space) (total_blocks space.segments + 1))
@@ -145,7 +145,7 @@ get_or-empty zero v = refl
 get_or-empty (suc n) zero = refl
 get_or-empty (suc n) (suc v) = get_or-empty n v
 
-pub table-empty : (table : List (Option DatEntry)) (space : Space) → table ≡ replicate (total_blocks space.segments + 1) None → IsTable table 1 space
+pub table-empty : (table : List (Option DatEntry)) (space : SpaceContent) → table ≡ replicate (total_blocks space.segments + 1) None → IsTable table 1 space
 table-empty table space is = record {
   full = ap length is ∙ length-replicate (total_blocks space.segments + 1) None;
   zero_unused = none 0;

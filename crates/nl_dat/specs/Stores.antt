@@ -9,7 +9,7 @@ use Rattle.nl_types.specs.Placing.{LacksSpace}
 use Rattle.nl_types.specs.PartialMaps.{Partial, put_each, adjust_each, is_one_of, NoneTwice}
 use Rattle.nl_types.specs.Entries.{Birth, Entry, Content, number_of, written}
 use Rattle.nl_layout.specs.declared.tag.Tag.{Tag}
-use Rattle.nl_segwriter.specs.Content.{SpaceContent as Space, Payload, HoldsOnlyUsed, KeepsUsed, IsFreed, payload_tag}
+use Rattle.nl_segwriter.specs.Content.{SpaceContent, Payload, HoldsOnlyUsed, KeepsUsed, IsFreed, payload_tag}
 use Rattle.nl_segwriter.specs.Logs.{AreWholeLogs, HaveLogs}
 use Rattle.nl_segwriter.specs.Appended.{IsAppended, IsBrokenOff}
 use Rattle.nl_dat.specs.Batches.{Changes, is_taken, items_of, tag_for}
@@ -32,7 +32,7 @@ pub record Store : Type 0 where
   pub failures : ℕ
 
 -- a store over a space, with no number in use
-abbrev pub new_store : Space → ℕ → Store
+abbrev pub new_store : SpaceContent → ℕ → Store
 new_store space failures = record {
   numbers = replicate (total_blocks space.segments + 1) None;
   segments = space.segments;
@@ -81,7 +81,7 @@ abbrev pub tag_in : Store → Partial Tag
 tag_in s b = option_map payload_tag (payload_in s b)
 
 -- a store as the space that it lies in
-abbrev pub space_in : Store → Space
+abbrev pub space_in : Store → SpaceContent
 space_in s = record { segments = s.segments; held = payload_in s; stored = device_in s }
 
 -- the payload that is written for a number

@@ -3,12 +3,12 @@ use Rattle.std.specs.Prelude.{slice_index_or}
 use Rattle.std.specs.Option.{option_map}
 use Rattle.nl_types.specs.Segments.{Segments, AreTidy}
 use Rattle.nl_layout.specs.declared.tag.Tag.{Tag}
-use Rattle.nl_segwriter.specs.Content.{Payload, SpaceContent as Space, payload_tag}
+use Rattle.nl_segwriter.specs.Content.{Payload, SpaceContent, payload_tag}
 use Rattle.nl_dat.proofs.Loading.{found, loaded}
 use Rattle.nl_dat.proofs.moving.load_one.Goals as goal
 
 -- where the block is read from: the row of the segment at the block's position
-read_at : (space : Space) (lent : Segments) (segment read blocks block read_block : ℕ) (row : List (Option Payload)) (o : Option Tag) → read ≡ segment → blocks ≡ lent.blocks → lent ≡ space.segments → read_block ≡ block
+read_at : (space : SpaceContent) (lent : Segments) (segment read blocks block read_block : ℕ) (row : List (Option Payload)) (o : Option Tag) → read ≡ segment → blocks ≡ lent.blocks → lent ≡ space.segments → read_block ≡ block
     → o ≡ option_map payload_tag (slice_index_or row (read_block - read * blocks) None) → option_map payload_tag (slice_index_or row (block - segment * space.segments.blocks) None) ≡ o
 read_at space lent segment read blocks block read_block row o read_is blocks_is lent_is block_is is =
     let first : read * blocks ≡ segment * space.segments.blocks = ap (λ n. n * blocks) read_is ∙ ap (λ n. segment * n) (blocks_is ∙ ap (λ (s : Segments). s.blocks) lent_is) in

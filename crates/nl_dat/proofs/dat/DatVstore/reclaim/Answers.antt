@@ -1,7 +1,7 @@
 use Rattle.std.proofs.Common.{◌≡◌, ℕ, ◌+◌, ◌*◌, ◌≤◌, Some, List, Option, ap, subst, ◌∙◌, length, arith}
 use Rattle.nl_types.specs.Segments.{Segments, AreTidy, info_of}
 use Rattle.nl_types.proofs.SegmentChanges.{room_of}
-use Rattle.nl_segwriter.specs.Content.{SpaceContent as Space}
+use Rattle.nl_segwriter.specs.Content.{SpaceContent}
 use Rattle.nl_dat.specs.declared.entries.DatEntry.{DatEntry}
 use Rattle.nl_dat.specs.declared.reclaim.TakenOut.{TakenOut}
 use Rattle.nl_dat.specs.Table.{entry_in, addresses_of}
@@ -15,7 +15,7 @@ use Rattle.nl_dat.proofs.StoreOf.{is_store}
 use Rattle.nl_dat.proofs.dat.DatVstore.reclaim.Goals as goal
 
 -- the row of a segment begins at its first block
-first_of : (space : Space) (lent : Segments) (segment read blocks : ℕ) → read ≡ segment → blocks ≡ lent.blocks → lent ≡ space.segments → read * blocks ≡ segment * space.segments.blocks
+first_of : (space : SpaceContent) (lent : Segments) (segment read blocks : ℕ) → read ≡ segment → blocks ≡ lent.blocks → lent ≡ space.segments → read * blocks ≡ segment * space.segments.blocks
 first_of space lent segment read blocks read_is blocks_is lent_is = ap (λ n. n * blocks) read_is ∙ ap (λ n. segment * n) (blocks_is ∙ ap (λ (s : Segments). s.blocks) lent_is)
 
 -- what was taken out, by the first block and the length of the row

@@ -16,14 +16,14 @@ use Rattle.nl_dat.proofs.Refusals.{total-refused, is_faulted, write-refused}
 use Rattle.nl_types.specs.Segments.{AreTidy, total_blocks}
 use Rattle.nl_types.specs.Placing as placing
 use Rattle.nl_types.specs.PlacingLaws.{WhatFitsHasRoom}
-use Rattle.nl_segwriter.specs.Content.{SpaceContent as Space}
+use Rattle.nl_segwriter.specs.Content.{SpaceContent}
 use Rattle.nl_segwriter.specs.Appended.{IsAppended}
 use Rattle.nl_dat.specs.Inside.{IsTable}
 use Rattle.nl_dat.proofs.FreeNumbers.{numbers-inside}
 use Rattle.nl_dat.proofs.StoreOf.{is_store}
 use Rattle.nl_dat.proofs.dat.DatVstore.write.Goals as goal
 
-inside_of : (table : List (Option DatEntry)) (lowest : ℕ) (space later : Space) (failures now c : ℕ) (changes : Changes) (items : List Payload) (at : List ℕ) → IsTable table lowest space → Fits (total_blocks space.segments) (content_in (store_of table space failures)) changes
+inside_of : (table : List (Option DatEntry)) (lowest : ℕ) (space later : SpaceContent) (failures now c : ℕ) (changes : Changes) (items : List Payload) (at : List ℕ) → IsTable table lowest space → Fits (total_blocks space.segments) (content_in (store_of table space failures)) changes
     → births_of items ≡ changes.births → WhatFitsHasRoom → AreTidy space.segments → IsAppended space later true now c items at → last_number changes.births ≤ total_blocks space.segments
 inside_of table lowest space later failures now c changes items at is_table fits items_are has_room tidy appended =
     numbers-inside table lowest space failures changes is_table fits has_room tidy true appended.logs (subst (λ n. placing.LogsFit space.segments true n appended.logs) (sym (length-map items birth_of_item) ∙ ap length items_are) appended.fits)
