@@ -9,7 +9,7 @@ use Rattle.nl_types.specs.Segments.{Segments, AreTidy, IsUsed, info_of, clean_in
 use Rattle.nl_types.proofs.SegmentChanges.{room_of}
 use Rattle.nl_types.specs.PartialMaps.{Partial}
 use Rattle.nl_types.specs.Entries.{number_of}
-use Rattle.nl_segwriter.specs.Content.{Content as Space, IsFreed, page_of as payload_page}
+use Rattle.nl_segwriter.specs.Content.{SpaceContent, IsFreed, payload_page}
 use Rattle.nl_dat.specs.declared.entries.DatEntry.{DatEntry}
 use Rattle.nl_dat.specs.declared.reclaim.TakenOut.{TakenOut}
 use Rattle.nl_dat.specs.Batches.{birth_of_item}
@@ -19,6 +19,7 @@ use Rattle.nl_dat.specs.Inside.{births_in, numbered_of, numbered_with, store_of,
 use Rattle.nl_dat.specs.TakenOut.{HasTakenOut, IsAtMost, is_in_row}
 use Rattle.nl_dat.proofs.StoreOf.{numbered_in-store_of, address_in-store_of}
 use Rattle.nl_dat.proofs.Positions.{position-used}
+use Rattle.nl_dat.proofs.ShownSpace.{freed-shown}
 
 -- a used block lies in the row of a segment's used part exactly where it lies in the segment
 row-inside : (s : Segments) (segment b : ℕ) → AreTidy s → IsUsed s b → is_in_row (segment * s.blocks) (info_of s.each segment).used (Some b) ≡ is_inside s segment (Some b)
@@ -48,7 +49,7 @@ used-elsewhere s segment b tidy (place, at, used) outside = elim (cases_eq place
     true_false : true ≡ false → ⊥
     true_false h = cc
 
-module _ (table new : List (Option DatEntry)) (filled filled' segment : ℕ) (old later : Space) (before after : ℕ) (taken : TakenOut)
+module _ (table new : List (Option DatEntry)) (filled filled' segment : ℕ) (old later : SpaceContent) (before after : ℕ) (taken : TakenOut)
     (is_table : IsTable table (filled + 1) old) (tidy : AreTidy old.segments) (freed : IsFreed segment old later)
     (out : HasTakenOut (segment * old.segments.blocks) (info_of old.segments.each segment).used table new taken)
     (most : filled' ≤ filled) (least : IfSome taken.least (λ l. filled' ≤ l - 1)) where
@@ -130,7 +131,7 @@ module _ (table new : List (Option DatEntry)) (filled filled' segment : ℕ) (ol
               ∙ sym (numbered_in-store_of table old before v)
               ∙ sym (ap (λ t. cond t None (numbered_in (store_of table old before) v)) (ap (λ (m : Partial ℕ). is_inside old.segments segment (m v)) (address_in-store_of table old before is_table.sound) ∙ e))
         ];
-    segments = freed.segments;
+    freed = freed-shown table new old later before after total segment freed;
     gone = out.gone;
     each_once = out.each_once;
     gone_are = λ v. out.gone_are v ∙ in_row v ∙ sym (ap (λ (m : Partial ℕ). is_inside old.segments segment (m v)) (address_in-store_of table old before is_table.sound));

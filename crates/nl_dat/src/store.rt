@@ -1,17 +1,15 @@
 //! What the layers above know of pages under virtual block numbers.
-ghost use Rattle.std.specs.Prelude.{◌≡◌, ◌≢◌, ℕ, ◌+◌, ◌<◌, ◌≤◌, Bool, true, false, List, length, All, IfOk, IfErr, OnOk, OnErr, IsErrOf, MatchOption, MatchResult, Some, option_copied};
-ghost use Rattle.nl_types.specs.Segments.{block_at};
-ghost use Rattle.nl_types.specs.Placing.{LacksSpace};
+ghost use Rattle.std.specs.Prelude.{◌≡◌, ◌+◌, ◌<◌, ◌≤◌, ◌^◌, length, max, IfOk, IfErr, OnOk, OnErr, option_copied};
+ghost use Rattle.nl_types.specs.Segments.{IsClosed};
 ghost use Rattle.nl_types.specs.Roots.{Pages, pages_of};
-ghost use Rattle.nl_segwriter.specs.Appended.{IsAppendError};
-ghost use Rattle.std.specs.Prelude.{max, ◌^◌};
-ghost use Rattle.nl_dat.specs.Batches.{last_number, IsLowestFree, is_taken, LacksSpaceFrom, Fits};
+ghost use Rattle.nl_dat.specs.Batches.{Fits, IsLowestFree, LacksSpaceFrom, last_number};
 ghost use Rattle.nl_dat.specs.Table.{Periods, periods_of};
-ghost use Rattle.nl_dat.specs.Located.{number_at, payload_count};
-ghost use Rattle.nl_dat.specs.Stores.{Store, IsStore, IsWritten, IsMoved, IsMoveRefused, IsReclaimed, IsBrokenOff, IsClosed, is_inside, content_in, address_in, capacity};
+ghost use Rattle.nl_dat.specs.Located.{IsNumberAt, number_at, payload_count_in};
+ghost use Rattle.nl_dat.specs.Stores.{Store, IsStore, HasNoneFree, IsWritten, IsWriteRefused, AreInside, IsMoved, IsMoveRefused, IsReclaimed, block_in, capacity, content_in, tag_in};
 
 use crate::batch::Batch;
 use crate::entries::Period;
+use nl_layout::Tag;
 use nl_types::{CheckpointNumber, Page, Segment, VirtualNumber, VolError};
 use std::alloc::Global;
 
@@ -51,12 +49,13 @@ pub trait Vstore: VRead {
         requires { Fits (capacity (store self.now)) (content_in (store self.now)) batch.now }
         ensures lowest { IfOk result (IsLowestFree (content_in (store self.now)) batch.now.births) }
         ensures inside { IfOk result (λ v. v ≤ capacity (store self.now)) }
-        ensures all_taken { OnErr result ((v : ℕ) → 1 ≤ v → v ≤ capacity (store self.now) → is_taken (content_in (store self.now)) batch.now.births v ≡ true) }
+        ensures all_taken { OnErr result (HasNoneFree (store self.now) batch.now.births) }
         ensures no_space { OnErr result (result ≡ Err VolError.NoSpace) }
         ensures lacks_space { OnErr result (LacksSpaceFrom (store self.now).segments (length batch.now.births + 1)) };
 
     /// Writes the births of a batch, which begin at the checkpoint, and sets its ends there, or changes no number. `now` is
-    /// the moment in whole seconds that the segments get as their stamp.
+    /// the moment in whole seconds that the segments get as their stamp. It goes into the logs' summaries with the
+    /// checkpoint's number.
     ///
     /// Refused by `NoSpace` where no list of logs fits, by `Memory`, and by `Fault` where the device failed.
     fn write(
@@ -67,29 +66,33 @@ pub trait Vstore: VRead {
         now: u64,
     ) -> Result<(), VolError>
         requires { Fits (capacity (store self.old)) (content_in (store self.old)) batch.now }
+        ensures is_store { IsStore (store self.new) }
         ensures written { OnOk result (IsWritten checkpoint now batch.now (store self.old) (store self.new)) }
-        ensures no_space { IsErrOf result VolError.NoSpace → LacksSpace (store self.old).segments true (length batch.now.births) }
-        ensures no_space_same { IsErrOf result VolError.NoSpace → store self.new ≡ store self.old }
-        ensures memory_same { IsErrOf result VolError.Memory → store self.new ≡ store self.old }
-        ensures fault { IsErrOf result VolError.Fault → IsBrokenOff true now (length batch.now.births) (store self.old) (store self.new) }
-        ensures errors { IfErr result IsAppendError }
+        ensures refused { IfErr result (IsWriteRefused checkpoint now batch.now (store self.old) (store self.new)) }
         ensures counted { (store self.old).failures ≤ (store self.new).failures };
 
     /// The number whose page stands at a position of a segment, counted from 0 with the summary blocks.
     fn at(&self, segment: Segment, position: u32) -> Option<VirtualNumber>
         requires segment { segment < length (store self.now).segments.each }
         requires position { position < (store self.now).segments.blocks }
-        ensures is { result ≡ number_at (store self.now) (block_at (store self.now).segments.blocks (record { segment = segment; block = position })) }
-        ensures there { MatchOption result ((v : ℕ) → address_in (store self.now) v ≢ Some (block_at (store self.now).segments.blocks (record { segment = segment; block = position })))
-            (λ v. address_in (store self.now) v ≡ Some (block_at (store self.now).segments.blocks (record { segment = segment; block = position }))) };
+        ensures is { result ≡ number_at (store self.now) (block_in (store self.now) segment position) }
+        ensures there { IsNumberAt (store self.now) (block_in (store self.now) segment position) result };
 
-    /// How many blocks of the logs of a segment have payload, be it that of a number in use or not.
+    /// What the summary of its log says of the block at a position of a segment, be its number in use or not. None where
+    /// the block has no payload.
+    fn tag(&self, segment: Segment, position: u32) -> Option<Tag>
+        requires segment { segment < length (store self.now).segments.each }
+        requires position { position < (store self.now).segments.blocks }
+        ensures { result ≡ tag_in (store self.now) (block_in (store self.now) segment position) };
+
+    /// How many blocks of the logs of a segment have payload, be their numbers in use or not.
     fn payload_count(&self, segment: Segment) -> u32
         requires { segment < length (store self.now).segments.each }
-        ensures { result ≡ payload_count (store self.now) segment };
+        ensures { result ≡ payload_count_in (store self.now) segment };
 
     /// Moves the pages of numbers out of a segment that takes no more logs, in their order: each is read from the device and
-    /// written elsewhere. The checkpoint is the latest one, and `now` the moment in whole seconds, for the logs' summaries.
+    /// written elsewhere. The checkpoint is the latest one, and `now` the moment in whole seconds: both go into the logs'
+    /// summaries.
     ///
     /// Refused by `NoSpace` where no list of logs fits, by `Memory`, and by `Fault` where the device failed.
     fn relocate(
@@ -102,14 +105,17 @@ pub trait Vstore: VRead {
     ) -> Result<(), VolError>
         requires segment { segment < length (store self.old).segments.each }
         requires closed { IsClosed (store self.old).segments segment }
-        requires inside { All (λ v. is_inside (store self.old).segments segment (address_in (store self.old) v) ≡ true) numbers.now }
-        ensures moved { MatchResult result (λ _. IsMoved segment now numbers.now (store self.old) (store self.new)) (λ e. IsMoveRefused now (length numbers.now) e (store self.old) (store self.new)) }
+        requires inside { AreInside (store self.old) segment numbers.now }
+        ensures is_store { IsStore (store self.new) }
+        ensures moved { OnOk result (IsMoved segment checkpoint now numbers.now (store self.old) (store self.new)) }
+        ensures refused { IfErr result (IsMoveRefused checkpoint now numbers.now (store self.old) (store self.new)) }
         ensures counted { (store self.old).failures ≤ (store self.new).failures };
 
     /// Takes the numbers out of use whose pages stand in a segment, and empties the segment. It answers how many they were.
     /// It takes no memory.
     fn reclaim(&mut self, segment: Segment) -> u32
         requires { segment < length (store self.old).segments.each }
+        ensures is_store { IsStore (store self.new) }
         ensures reclaimed { IsReclaimed segment result (store self.old) (store self.new) }
         ensures counted { (store self.old).failures ≤ (store self.new).failures };
 

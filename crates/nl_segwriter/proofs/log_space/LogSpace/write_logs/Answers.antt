@@ -1,17 +1,18 @@
 use Rattle.std.proofs.Common.{◌≡◌, ℕ, List, [], ◌∷◌, length, arith, ap, sym, ◌∙◌, subst, refl, inr}
 use Rattle.std.specs.List.{AllByRecursion}
 use Rattle.std.specs.Vec.Iter.{into_iter_items}
+use Rattle.std.proofs.lemmas.Result.{err_from_is_err_and}
 use Rattle.nl_types.specs.Segments.{Segments, StaysUsed, AreTidy}
 use Rattle.nl_types.specs.Placing.{AreNextLogs, IsNextLog, first_block, with_log, with_logs}
 use Rattle.nl_types.proofs.NextLogs.{tidy_with_log}
 use Rattle.nl_types.proofs.UsedParts.{stays_with_log, stays_with_error}
-use Rattle.nl_segwriter.specs.Content.{Content, KeepsUsed, IsSameAt}
+use Rattle.nl_segwriter.specs.Content.{SpaceContent, KeepsUsed, IsSameAt}
 use Rattle.nl_segwriter.specs.Logs.{StandsFrom}
 use Rattle.nl_segwriter.specs.Appended.{IsOutside}
 use Rattle.nl_segwriter.specs.declared.staging.Staged.{Staged}
 use Rattle.nl_segwriter.specs.Staging.{IsReady, logs_of, whole_of}
 use Rattle.nl_segwriter.specs.Writing.{content_of, LogsStand, BreaksOff}
-use Rattle.nl_segwriter.proofs.LogsWritten.{same_outside, log_keeps, keeps_on, stays_on, log_stays}
+use Rattle.nl_segwriter.proofs.LogsWritten.{same_outside, log_keeps, keeps_on, stays_on, log_stays, breaks_here, breaks_on}
 use Rattle.nl_segwriter.proofs.log_space.LogSpace.write_logs.Goals as goal
 
 no_items : (xs : List Staged) → length xs ≡ 0 → xs ≡ []
@@ -24,10 +25,24 @@ returns-in_err-write_log-clause-kept g c =
     let s : Segments = c.loop-staged.self.table in
     let next = subst (λ (r : List Staged). AreNextLogs s c.args.now (logs_of r)) c.in-Some.ensures.steps.0 inv.next in
     let device = g.D.Device in
-    let before : Content = content_of c.args.self.now.table c.args.self.now.payload (device.pages c.args.self.now.device) in
-    let then : Content = content_of s c.loop-staged.self.payload (device.pages c.loop-staged.self.device) in
-    let now : Content = content_of c.write_log.new.self.table c.write_log.new.self.payload (device.pages c.write_log.new.self.device) in
+    let before : SpaceContent = content_of c.args.self.now.table c.args.self.now.payload (device.pages c.args.self.now.device) in
+    let then : SpaceContent = content_of s c.loop-staged.self.payload (device.pages c.loop-staged.self.device) in
+    let now : SpaceContent = content_of c.write_log.new.self.table c.write_log.new.self.payload (device.pages c.write_log.new.self.device) in
     keeps_on c.args.self.now.table s before then now inv.kept inv.stays (log_keeps s c.in-Some.staged.log then now inv.tidy next.0 c.in_err-write_log.ensures.others)
+
+pub returns-in_err-write_log-clause-broken : goal.returns-in_err-write_log-clause-broken
+returns-in_err-write_log-clause-broken g c =
+    let inv = c.loop-staged.invariant in
+    let s : Segments = c.loop-staged.self.table in
+    let next = subst (λ (r : List Staged). AreNextLogs s c.args.now (logs_of r)) c.in-Some.ensures.steps.0 inv.next in
+    let device = g.D.Device in
+    let before : SpaceContent = content_of c.args.self.now.table c.args.self.now.payload (device.pages c.args.self.now.device) in
+    let then : SpaceContent = content_of s c.loop-staged.self.payload (device.pages c.loop-staged.self.device) in
+    let now : SpaceContent = content_of c.write_log.new.self.table c.write_log.new.self.payload (device.pages c.write_log.new.self.device) in
+    let p = err_from_is_err_and c.from_residual.result c.from_residual.ensures.1 in
+    rw p.1 (inv.broken now (log_keeps s c.in-Some.staged.log then now inv.tidy next.0 c.in_err-write_log.ensures.others)
+    (subst (λ (r : List Staged). BreaksOff c.args.now r then now) (sym c.in-Some.ensures.steps.0)
+    (breaks_here c.args.now c.in-Some.staged (into_iter_items c.next.new.self) then now c.in_err-write_log.ensures.broken c.in_err-write_log.ensures.others)))
 
 pub returns-in_err-write_log-clause-stays : goal.returns-in_err-write_log-clause-stays
 returns-in_err-write_log-clause-stays g c =
@@ -40,7 +55,7 @@ pub returns-clause-stand : goal.returns-clause-stand
 returns-clause-stand g c =
     let inv = c.loop-staged.invariant in
     let start : Segments = c.args.self.now.table in
-    let now : Content = content_of c.loop-staged.self.table c.loop-staged.self.payload (g.D.Device.pages c.loop-staged.self.device) in
+    let now : SpaceContent = content_of c.loop-staged.self.table c.loop-staged.self.payload (g.D.Device.pages c.loop-staged.self.device) in
     let none : into_iter_items c.loop-staged.staged-iterator ≡ [] = no_items (into_iter_items c.loop-staged.staged-iterator) (sym inv.long ∙ c.in-None.ensures.steps.0) in
     inv.stand now (λ b used. (refl, refl)) (subst (λ (r : List Staged). LogsStand start.blocks r now.held now.stored) (sym none) tt)
 
@@ -55,9 +70,9 @@ loop-staged-preserved g c =
     let stamp : ℕ = c.args.now in
     let start : Segments = c.args.self.now.table in
     let blocks : ℕ = start.blocks in
-    let before : Content = content_of start c.args.self.now.payload (device.pages c.args.self.now.device) in
-    let then : Content = content_of s c.loop-staged.self.payload (device.pages c.loop-staged.self.device) in
-    let now : Content = content_of t c.write_log.new.self.payload (device.pages c.write_log.new.self.device) in
+    let before : SpaceContent = content_of start c.args.self.now.payload (device.pages c.args.self.now.device) in
+    let then : SpaceContent = content_of s c.loop-staged.self.payload (device.pages c.loop-staged.self.device) in
+    let now : SpaceContent = content_of t c.write_log.new.self.payload (device.pages c.write_log.new.self.device) in
     let first : into_iter_items c.loop-staged.staged-iterator ≡ x ∷ rest = c.in-Some.ensures.steps.0 in
     let next : IsNextLog s x.log × AreNextLogs (with_log s x.log stamp) stamp (logs_of rest) = subst (λ (r : List Staged). AreNextLogs s stamp (logs_of r)) first inv.next in
     let ready : IsReady x × AllByRecursion IsReady rest = subst (λ (r : List Staged). AllByRecursion IsReady r) first inv.ready in
@@ -77,7 +92,8 @@ loop-staged-preserved g c =
       ready = ready.1;
       stamps = stamps.1;
       table = ap (λ (u : Segments). with_logs u (logs_of rest) stamp) table ∙ tables;
-      broken = λ u h. inv.broken u (subst (λ (r : List Staged). BreaksOff s u stamp (logs_of r)) (sym first) (inr (subst (λ (v : Segments). BreaksOff v u stamp (logs_of rest)) table h)));
+      broken = λ later keeps h. inv.broken later (keeps_on s t then now later kept stays keeps) (subst (λ (r : List Staged). BreaksOff stamp r then later) (sym first)
+          (breaks_on stamp x rest then now later next.0 table ready.0.count c.in_ok-write_log.ensures.stands c.in_ok-write_log.ensures.others keeps h));
       counted = omega (arith, inv.counted, c.in_ok-write_log.ensures.counted);
       kept = keeps_on start s before then now inv.kept inv.stays kept;
       stays = stays_on start s t inv.stays stays;
