@@ -7,7 +7,7 @@ ghost use Rattle.std.proofs.Props.{props};
 ghost use Rattle.nl_sufile.specs.Table.{IsSegTable};
 ghost use Rattle.nl_segwriter.specs.Content.{HoldsOnlyUsed, KeepsUsed, new_content};
 ghost use Rattle.nl_segwriter.specs.Logs.{AreWholeLogs, HaveLogs, StandsFrom};
-ghost use Rattle.nl_segwriter.specs.Appended.{KeepsOthers};
+ghost use Rattle.nl_segwriter.specs.Appended.{KeepsOtherBlocks};
 ghost use Rattle.nl_segwriter.specs.Staging.{IsReady, logs_of, whole_of};
 ghost use Rattle.nl_segwriter.specs.Writing.{held_in, content_of, SameOutsideLog, LogsStand, BreaksOff};
 
@@ -100,7 +100,7 @@ impl<D: Device> LogSpace<D> {
         ensures broken { OnErr result (BreaksOff now all.items (content_of self.old.table self.old.payload (D.pages self.old.device)) (content_of self.new.table self.new.payload (D.pages self.new.device))) }
         ensures failed { OnErr result (D.failure_count self.old.device < D.failure_count self.new.device) }
         ensures counted { D.failure_count self.old.device ≤ D.failure_count self.new.device }
-        ensures others { KeepsOthers self.old.table.blocks (logs_of all.items) (content_of self.old.table self.old.payload (D.pages self.old.device)) (content_of self.new.table self.new.payload (D.pages self.new.device)) }
+        ensures others { KeepsOtherBlocks self.old.table.blocks (logs_of all.items) (content_of self.old.table self.old.payload (D.pages self.old.device)) (content_of self.new.table self.new.payload (D.pages self.new.device)) }
         ensures kept { KeepsUsed self.old.table (content_of self.old.table self.old.payload (D.pages self.old.device)) (content_of self.new.table self.new.payload (D.pages self.new.device)) }
         ensures stays { StaysUsed self.old.table self.new.table }
     {

@@ -3,7 +3,7 @@ ghost use Rattle.std.specs.Prelude.{◌≡◌, ◌<◌, ◌≤◌, ◌+◌, leng
 ghost use Rattle.std.specs.Option.{ok_or};
 ghost use Rattle.nl_types.specs.declared.segment.SegmentState.TheVariants.{Active};
 ghost use Rattle.nl_types.specs.Segments.{active_place, clean_from, clean_segments as clean_numbers, clean_info, info_of, lowest_clean, none_active, with_active, with_clean, with_error};
-ghost use Rattle.nl_types.specs.Placing.{Fits, LacksSpace, end_of, with_log};
+ghost use Rattle.nl_types.specs.Placing.{LogsFit, LacksSpace, end_of, with_log};
 ghost use Rattle.nl_sufile.specs.Table.{IsSegTable, IsActiveIn, IsNoSpaceOrMemory};
 
 use crate::placing::{clean_segments, place_on};
@@ -105,7 +105,7 @@ impl SegTable {
     /// at most 30. A checkpoint, with `reserve`, leaves two clean segments where it takes any. Refused by `NoSpace` where
     /// no list of logs fits, and by `Memory`.
     pub fn place(&self, alloc: Global, n: usize, reserve: bool) -> Result<Vec<Log>, VolError>
-        ensures fits { IfOk result (λ logs. Fits self.now reserve n logs.items) }
+        ensures fits { IfOk result (λ logs. LogsFit self.now reserve n logs.items) }
         ensures no_space { IsErrOf result VolError.NoSpace → LacksSpace self.now reserve n }
         ensures errors { IfErr result IsNoSpaceOrMemory }
     {

@@ -1,21 +1,21 @@
 use Rattle.std.proofs.Common.{◌≡◌, ℕ, ◌+◌, ◌*◌, ◌≤◌, Some, List, Option, ap, subst, ◌∙◌, length, arith}
 use Rattle.nl_types.specs.Segments.{Segments, AreTidy, info_of}
 use Rattle.nl_types.proofs.SegmentChanges.{room_of}
-use Rattle.nl_segwriter.specs.Content.{Content as Space}
+use Rattle.nl_segwriter.specs.Content.{SpaceContent}
 use Rattle.nl_dat.specs.declared.entries.DatEntry.{DatEntry}
 use Rattle.nl_dat.specs.declared.reclaim.TakenOut.{TakenOut}
 use Rattle.nl_dat.specs.Table.{entry_in, addresses_of}
 use Rattle.nl_dat.specs.Stores.{IsReclaimed}
 use Rattle.nl_dat.specs.Inside.{births_in, store_of}
 use Rattle.nl_dat.specs.TakenOut.{HasTakenOut}
-use Rattle.nl_dat.proofs.SoundTable.{IsSound-apart}
+use Rattle.nl_dat.proofs.SoundTable.{HaveOwnPayload-apart}
 use Rattle.nl_dat.proofs.Positions.{tagged-row}
 use Rattle.nl_dat.proofs.Reclaiming.{table-reclaimed, is_reclaimed}
 use Rattle.nl_dat.proofs.StoreOf.{is_store}
 use Rattle.nl_dat.proofs.dat.DatVstore.reclaim.Goals as goal
 
 -- the row of a segment begins at its first block
-first_of : (space : Space) (lent : Segments) (segment read blocks : ℕ) → read ≡ segment → blocks ≡ lent.blocks → lent ≡ space.segments → read * blocks ≡ segment * space.segments.blocks
+first_of : (space : SpaceContent) (lent : Segments) (segment read blocks : ℕ) → read ≡ segment → blocks ≡ lent.blocks → lent ≡ space.segments → read * blocks ≡ segment * space.segments.blocks
 first_of space lent segment read blocks read_is blocks_is lent_is = ap (λ n. n * blocks) read_is ∙ ap (λ n. segment * n) (blocks_is ∙ ap (λ (s : Segments). s.blocks) lent_is)
 
 -- what was taken out, by the first block and the length of the row
@@ -24,7 +24,7 @@ taken_from first other count used old new taken at as_many h = subst (λ n. HasT
 
 pub take_out-taken-requires-clause-apart : goal.take_out-taken-requires-clause-apart
 take_out-taken-requires-clause-apart g c = λ v w b at_v at_w.
-    IsSound-apart (addresses_of (entry_in c.self.inside.table)) (births_in (g.S.Space.content c.self.inside.space)) v w b c.self.invariant.sound at_v at_w
+    HaveOwnPayload-apart (addresses_of (entry_in c.self.inside.table)) (births_in (g.S.Space.content c.self.inside.space)) v w b c.self.invariant.sound at_v at_w
 
 pub take_out-taken-requires-clause-tagged : goal.take_out-taken-requires-clause-tagged
 take_out-taken-requires-clause-tagged g c = λ k v within at.

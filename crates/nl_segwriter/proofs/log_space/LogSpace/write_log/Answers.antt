@@ -5,7 +5,7 @@ use Rattle.nl_types.specs.Segments.{Segments, with_error}
 use Rattle.nl_types.specs.Placing.{end_of, first_block, with_log}
 use Rattle.nl_types.proofs.NextLogs.{length-with_log}
 use Rattle.nl_segwriter.specs.declared.staging.Staged.{Staged}
-use Rattle.nl_segwriter.specs.Content.{Content, Payload, SameOutside, StandInRow, HoldsOnlyUsed}
+use Rattle.nl_segwriter.specs.Content.{SpaceContent, Payload, SameOutside, StandInRow, HoldsOnlyUsed}
 use Rattle.nl_segwriter.specs.Logs.{AreWholeLogs, HaveLogs}
 use Rattle.nl_segwriter.specs.Staging.{whole_of}
 use Rattle.nl_segwriter.specs.Writing.{HasPut, HasTried, held_in, content_of}
@@ -20,7 +20,7 @@ invariant_of-self g c =
     let log : Log = x.log in
     let table : List (Option Payload) = c.hold_row.new.table in
     let stored = g.D.Device.pages c.put_row.new.device in
-    let old : Content = content_of s c.args.self.now.payload (g.D.Device.pages c.args.self.now.device) in
+    let old : SpaceContent = content_of s c.args.self.now.payload (g.D.Device.pages c.args.self.now.device) in
     let at : c.get.result * c.blocks-2.result + log.first ≡ first_block s.blocks log = rw (c.get.ensures, c.blocks-2.ensures.blocks) refl in
     let put : HasPut (first_block s.blocks log) x.pages old.stored stored = subst (λ (n : ℕ). HasPut n x.pages old.stored stored) at c.in-Ok.ensures.put in
     let row : StandInRow (first_block s.blocks log + 1) x.payload (held_in table) = subst (λ (n : ℕ). StandInRow (n + 1) x.payload (held_in table)) at c.hold_row.ensures.there in
@@ -48,7 +48,7 @@ invariant_of-self-in-Err g c =
     let log : Log = x.log in
     let table : List (Option Payload) = c.args.self.now.payload in
     let stored = g.D.Device.pages c.put_row.new.device in
-    let old : Content = content_of s table (g.D.Device.pages c.args.self.now.device) in
+    let old : SpaceContent = content_of s table (g.D.Device.pages c.args.self.now.device) in
     let at : c.get.result * c.blocks-2.result + log.first ≡ first_block s.blocks log = rw (c.get.ensures, c.blocks-2.ensures.blocks) refl in
     let put : HasTried (first_block s.blocks log) c.in-Err.field-0.tried x.pages old.stored stored = subst (λ (n : ℕ). HasTried n c.in-Err.field-0.tried x.pages old.stored stored) at c.in-Err.ensures.tried in
     let is : c.mark_error.new.self ≡ with_error s log.segment = c.mark_error.ensures.error ∙ c.take_segment.ensures.with_error in
@@ -72,7 +72,7 @@ returns-in-Ok-clause-stands g c =
     let log : Log = x.log in
     let table : List (Option Payload) = c.hold_row.new.table in
     let stored = g.D.Device.pages c.put_row.new.device in
-    let old : Content = content_of s c.args.self.now.payload (g.D.Device.pages c.args.self.now.device) in
+    let old : SpaceContent = content_of s c.args.self.now.payload (g.D.Device.pages c.args.self.now.device) in
     let at : c.get.result * c.blocks-2.result + log.first ≡ first_block s.blocks log = rw (c.get.ensures, c.blocks-2.ensures.blocks) refl in
     let put : HasPut (first_block s.blocks log) x.pages old.stored stored = subst (λ (n : ℕ). HasPut n x.pages old.stored stored) at c.in-Ok.ensures.put in
     let row : StandInRow (first_block s.blocks log + 1) x.payload (held_in table) = subst (λ (n : ℕ). StandInRow (n + 1) x.payload (held_in table)) at c.hold_row.ensures.there in

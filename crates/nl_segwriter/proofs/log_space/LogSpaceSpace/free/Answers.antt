@@ -2,7 +2,7 @@ use Rattle.std.proofs.Common.{◌≡◌, ℕ, ◌*◌, length, List, Option, ap,
 use Rattle.std.proofs.lemmas.List.{length-set}
 use Rattle.nl_types.specs.declared.geometry.Geometry.{Geometry}
 use Rattle.nl_types.specs.Segments.{Segments, clean_info, with_clean}
-use Rattle.nl_segwriter.specs.Content.{Content, Payload, HoldsOnlyUsed, IsEmptied, IsFreed}
+use Rattle.nl_segwriter.specs.Content.{SpaceContent, Payload, HoldsOnlyUsed, IsEmptied, IsFreed}
 use Rattle.nl_segwriter.specs.Logs.{AreWholeLogs, HaveLogs}
 use Rattle.nl_segwriter.specs.Writing.{content_of, held_in}
 use Rattle.nl_segwriter.proofs.WholeLogs.{whole_with_clean, logs_with_clean, held_with_clean, is_freed, cleared}
@@ -14,7 +14,7 @@ invariant_of-self g c =
     let k : ℕ = c.args.segment in
     let table : List (Option Payload) = c.drop_row.new.table in
     let stored = g.D.Device.pages c.clear.new.self in
-    let old : Content = content_of s c.args.self.now.payload (g.D.Device.pages c.args.self.now.device) in
+    let old : SpaceContent = content_of s c.args.self.now.payload (g.D.Device.pages c.args.self.now.device) in
     let is : c.mark_clean.new.self ≡ with_clean s k = c.mark_clean.ensures.clean in
     let shape : g.D.Device.shape c.args.self.now.device ≡ g.D.Device.shape c.clear.new.self = sym c.clear.ensures.shape in
     let held : IsEmptied (k * s.blocks) s.blocks old.held (held_in table) = rw (c.get.ensures, c.blocks-blocks.ensures.blocks) at c.drop_row.ensures.emptied in
@@ -36,7 +36,7 @@ returns-clause-freed g c =
     let k : ℕ = c.args.segment in
     let table : List (Option Payload) = c.drop_row.new.table in
     let stored = g.D.Device.pages c.clear.new.self in
-    let old : Content = content_of s c.args.self.now.payload (g.D.Device.pages c.args.self.now.device) in
+    let old : SpaceContent = content_of s c.args.self.now.payload (g.D.Device.pages c.args.self.now.device) in
     let held : IsEmptied (k * s.blocks) s.blocks old.held (held_in table) = rw (c.get.ensures, c.blocks-blocks.ensures.blocks) at c.drop_row.ensures.emptied in
     let pages : IsEmptied (k * s.blocks) s.blocks old.stored stored = cleared k s.blocks _ old.stored stored c.args.self.now.segment_size c.clear.ensures.cleared in
     subst (λ (t : Segments). IsFreed k old (content_of t table stored)) (sym c.mark_clean.ensures.clean)

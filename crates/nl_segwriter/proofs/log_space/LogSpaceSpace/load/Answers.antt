@@ -2,7 +2,7 @@ use Rattle.std.proofs.Common.{◌≡◌, ◌*◌, ◌<◌, length, ap, sym, ◌�
 use Rattle.nl_types.specs.declared.geometry.Geometry.{Geometry}
 use Rattle.nl_types.specs.Segments.{Segments}
 use Rattle.nl_types.proofs.UsedParts.{used_inside}
-use Rattle.nl_device.specs.Pages.{Pages}
+use Rattle.nl_device.specs.Pages.{DevicePages}
 use Rattle.nl_segwriter.specs.Logs.{AreWholeLogs}
 use Rattle.nl_segwriter.specs.Writing.{content_of}
 use Rattle.nl_segwriter.proofs.WholeLogs.{used_stored}
@@ -27,7 +27,7 @@ invariant_of-self g c =
       sized = c.args.self.now.sized ∙ ap (λ (x : Geometry). x.segments * x.blocks) shape;
       unheld = c.args.self.now.unheld;
       logged = c.args.self.now.logged;
-      whole = subst (λ (pages : Pages). AreWholeLogs (content_of s table pages)) same c.args.self.now.whole;
+      whole = subst (λ (pages : DevicePages). AreWholeLogs (content_of s table pages)) same c.args.self.now.whole;
     }
 
 pub unreachable-requires : goal.unreachable-requires
