@@ -11,7 +11,7 @@ use Rattle.nl_core.specs.Content.{file_in, no_file, slot_at, slot_in, IsTidy, Is
 use Rattle.nl_core.specs.Changes.{empty_file}
 use Rattle.nl_core.specs.Over.{IsWritten}
 use Rattle.nl_core.specs.Tables.{KeepsBlocks}
-use Rattle.nl_core.specs.Volume.{Lists, Volume, IsSound, kept_by, over}
+use Rattle.nl_core.specs.Volume.{Lists, Volume, IsSoundVolume, kept_by, over}
 use Rattle.nl_core.specs.declared.file.File.{File}
 use Rattle.nl_core.specs.declared.file.Slot.{Slot}
 use Rattle.nl_core.specs.declared.checkpoint.Mounted.{Mounted}
@@ -39,7 +39,7 @@ each_file-set P files index f within here each k = ⊎_elim
 
 -- ---- a new file
 
-pub sound-created : (v : Volume) (name : Name) → length v.files < path_limit → IsSound v → IsSound (record v { files = v.files ++ empty_file name ∷ []; dirty = true })
+pub sound-created : (v : Volume) (name : Name) → length v.files < path_limit → IsSoundVolume v → IsSoundVolume (record v { files = v.files ++ empty_file name ∷ []; dirty = true })
 sound-created v name room sound =
     let f = empty_file name in
     let more : length (v.files ++ f ∷ []) ≡ length v.files + 1 = length_push v.files f in
@@ -61,8 +61,8 @@ sound-created v name room sound =
 
 -- ---- a written file
 
-pub sound-written : (v : Volume) (index offset : ℕ) (bytes : List ℕ) (f : File) → index < length v.files → IsSound v → IsWritten v.pages (file_in v.latest.files index).slots offset bytes (file_in v.files index) f
-    → IsSound (record v { files = set v.files index f; dirty = true })
+pub sound-written : (v : Volume) (index offset : ℕ) (bytes : List ℕ) (f : File) → index < length v.files → IsSoundVolume v → IsWritten v.pages (file_in v.latest.files index).slots offset bytes (file_in v.files index) f
+    → IsSoundVolume (record v { files = set v.files index f; dirty = true })
 sound-written v index offset bytes f within sound written = record {
   few = omega (arith, length-set v.files index f, sound.few);
   tidy = each_file-set (λ k file. IsTidy v.pages file) v.files index f within written.tidy sound.tidy;
@@ -110,11 +110,11 @@ with_mount l old mounts mount given is told = ap (λ ms. record l { mounts = ms;
 
 -- ---- what is true of the fields then
 
-pub sound-with_file : (pages : Pages) (l : Lists) (files : List File) (name : Name) → files ≡ l.files ++ empty_file name ∷ [] → length l.files < path_limit → IsSound (over pages l) → IsSound (over pages (record l { files = files; dirty = true }))
-sound-with_file pages l files name told room sound = subst (λ fs. IsSound (over pages (record l { files = fs; dirty = true }))) (sym told) (sound-created (over pages l) name room sound)
+pub sound-with_file : (pages : Pages) (l : Lists) (files : List File) (name : Name) → files ≡ l.files ++ empty_file name ∷ [] → length l.files < path_limit → IsSoundVolume (over pages l) → IsSoundVolume (over pages (record l { files = files; dirty = true }))
+sound-with_file pages l files name told room sound = subst (λ fs. IsSoundVolume (over pages (record l { files = fs; dirty = true }))) (sym told) (sound-created (over pages l) name room sound)
 
 -- mounts play no part
-sound-with_mounts : (pages : Pages) (l : Lists) (mounts : List Mounted) (given : ℕ) → IsSound (over pages l) → IsSound (over pages (record l { mounts = mounts; given = given }))
+sound-with_mounts : (pages : Pages) (l : Lists) (mounts : List Mounted) (given : ℕ) → IsSoundVolume (over pages l) → IsSoundVolume (over pages (record l { mounts = mounts; given = given }))
 sound-with_mounts pages l mounts given sound = record {
   few = sound.few;
   tidy = sound.tidy;
@@ -128,7 +128,7 @@ sound-with_mounts pages l mounts given sound = record {
 }
 
 -- an event that is done touches no block
-pub keeps_blocks : (pages : Pages) (l old new : Lists) (a : Answer) → l ≡ old → kept_by new ≡ kept_by l → new.latest ≡ l.latest → IsSound (over pages new) → KeepsBlocks pages old (Ok a) new
+pub keeps_blocks : (pages : Pages) (l old new : Lists) (a : Answer) → l ≡ old → kept_by new ≡ kept_by l → new.latest ≡ l.latest → IsSoundVolume (over pages new) → KeepsBlocks pages old (Ok a) new
 keeps_blocks pages l old new a is kept latest sound = record {
   kept = kept ∙ ap kept_by is;
   latest = latest ∙ ap (λ (u : Lists). u.latest) is;
@@ -136,5 +136,5 @@ keeps_blocks pages l old new a is kept latest sound = record {
   sound = sound;
 }
 
-pub keeps_mounted : (pages : Pages) (l old : Lists) (mounts : List Mounted) (given : ℕ) (a : Answer) → l ≡ old → IsSound (over pages old) → KeepsBlocks pages old (Ok a) (record l { mounts = mounts; given = given })
-keeps_mounted pages l old mounts given a is sound = keeps_blocks pages l old (record l { mounts = mounts; given = given }) a is refl refl (sound-with_mounts pages l mounts given (subst (λ (u : Lists). IsSound (over pages u)) (sym is) sound))
+pub keeps_mounted : (pages : Pages) (l old : Lists) (mounts : List Mounted) (given : ℕ) (a : Answer) → l ≡ old → IsSoundVolume (over pages old) → KeepsBlocks pages old (Ok a) (record l { mounts = mounts; given = given })
+keeps_mounted pages l old mounts given a is sound = keeps_blocks pages l old (record l { mounts = mounts; given = given }) a is refl refl (sound-with_mounts pages l mounts given (subst (λ (u : Lists). IsSoundVolume (over pages u)) (sym is) sound))

@@ -3,7 +3,7 @@ use Rattle.std.specs.Prelude.{◌≡◌, ℕ, false, [], IsErr}
 use Rattle.nl_types.specs.declared.event.Mode.TheVariants.{Plain}
 use Rattle.nl_types.specs.Roots.{Pages}
 use Rattle.nl_types.specs.Worlds.{Reply}
-use Rattle.nl_core.specs.Volume.{Lists, IsSound, kept_by, over}
+use Rattle.nl_core.specs.Volume.{Lists, IsSoundVolume, kept_by, over}
 
 pub record Roomy : Type 0 where
   pub lists : Lists
@@ -26,4 +26,4 @@ pub record KeepsBlocks (pages : Pages) (old : Lists) (reply : Reply) (new : List
   pub kept : kept_by new ≡ kept_by old
   pub latest : new.latest ≡ old.latest
   pub refused : IsErr reply → new ≡ old
-  pub sound : IsSound (over pages new)
+  pub sound : IsSoundVolume (over pages new)

@@ -5,7 +5,7 @@ ghost use Rattle.std.specs.Ordering.{nat_cmp};
 ghost use Rattle.std.specs.FinMap.{find};
 ghost use Rattle.nl_types.specs.Roots.{Pages, pages_of};
 ghost use Rattle.nl_core.specs.Content.{slot_in, file_in};
-ghost use Rattle.nl_core.specs.Means.{mount_of, numbered};
+ghost use Rattle.nl_core.specs.Means.{mount_of, by_number};
 ghost use Rattle.nl_core.specs.Named.{NoneNamed, IsFirstNamed};
 ghost use Rattle.nl_core.specs.Place.{FindsFile, FindsFree, ReadsFrom, AnswersFrom, RefusesBelow};
 
@@ -117,7 +117,7 @@ pub fn slots_of(files: &[File], index: usize) -> &[Slot]
 
 /// The checkpoint of a number.
 pub fn find_checkpoint(kept: &[Checkpoint], number: CheckpointNumber) -> Option<&Checkpoint>
-    ensures { option_copied result ≡ find nat_cmp number (map numbered kept.now) }
+    ensures { option_copied result ≡ find nat_cmp number (map by_number kept.now) }
 {
     kept.iter().find(|checkpoint| checkpoint.number == number)
 }

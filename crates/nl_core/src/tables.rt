@@ -51,8 +51,8 @@ impl Model for Tables {
 impl Tables {
     ghost use Rattle.nl_types.specs.declared.event.Event.TheVariants.{Apply, Read, Mount, MountRead};
     ghost use Rattle.nl_types.specs.declared.event.Change.TheVariants.{Create, Write};
-    ghost use Rattle.nl_core.specs.Volume.{IsSound, kept_by, over, published};
-    ghost use Rattle.nl_core.specs.Means.{Means, Follows, numbered};
+    ghost use Rattle.nl_core.specs.Volume.{IsSoundVolume, kept_by, over, published};
+    ghost use Rattle.nl_core.specs.Means.{Means, FollowsInMemory, by_number};
     ghost use Rattle.nl_core.specs.Draft.{IsDraftRefusal, IsNextDraft};
     ghost use Rattle.nl_core.specs.Changes.{HasCreated, HasWritten, HasChanged};
     ghost use Rattle.nl_core.specs.Tables.{KeepsBlocks, new_lists};
@@ -77,9 +77,9 @@ impl Tables {
     }
 
     fn create(&mut self, alloc: Global, path: &[u8]) -> Reply
-        ensures follows { (pages : Pages) → Follows (over pages self.old.lists) (Apply (Create path.now)) result (over pages self.new.lists) }
+        ensures follows { (pages : Pages) → FollowsInMemory (over pages self.old.lists) (Apply (Create path.now)) result (over pages self.new.lists) }
         ensures changed { IfOk result (λ _. HasCreated path.now self.old.lists.files self.new.lists.files) }
-        ensures blocks { (pages : Pages) → IsSound (over pages self.old.lists) → KeepsBlocks pages self.old.lists result self.new.lists }
+        ensures blocks { (pages : Pages) → IsSoundVolume (over pages self.old.lists) → KeepsBlocks pages self.old.lists result self.new.lists }
     {
         let name = find_free(alloc, &self.files, path)?;
         self.files.push(File {
@@ -99,8 +99,8 @@ impl Tables {
         offset: u64,
         bytes: &[u8],
     ) -> Reply
-        requires sound { IsSound (over (pages_of (V.content store.now)) self.old.lists) }
-        ensures follows { Follows (over (pages_of (V.content store.now)) self.old.lists) (Apply (Write path.now offset bytes.now)) result (over (pages_of (V.content store.now)) self.new.lists) }
+        requires sound { IsSoundVolume (over (pages_of (V.content store.now)) self.old.lists) }
+        ensures follows { FollowsInMemory (over (pages_of (V.content store.now)) self.old.lists) (Apply (Write path.now offset bytes.now)) result (over (pages_of (V.content store.now)) self.new.lists) }
         ensures changed { IfOk result (λ _. HasWritten path.now offset (length bytes.now) self.old.lists.files self.new.lists.files) }
         ensures blocks { KeepsBlocks (pages_of (V.content store.now)) self.old.lists result self.new.lists }
     {
@@ -120,8 +120,8 @@ impl Tables {
 
     /// A change of the current tree.
     pub fn change<V: VRead>(&mut self, alloc: Global, store: &V, change: &Change) -> Reply
-        requires sound { IsSound (over (pages_of (V.content store.now)) self.old.lists) }
-        ensures follows { Follows (over (pages_of (V.content store.now)) self.old.lists) (Apply change.now) result (over (pages_of (V.content store.now)) self.new.lists) }
+        requires sound { IsSoundVolume (over (pages_of (V.content store.now)) self.old.lists) }
+        ensures follows { FollowsInMemory (over (pages_of (V.content store.now)) self.old.lists) (Apply change.now) result (over (pages_of (V.content store.now)) self.new.lists) }
         ensures changed { IfOk result (λ _. HasChanged change.now self.old.lists.files self.new.lists.files) }
         ensures blocks { KeepsBlocks (pages_of (V.content store.now)) self.old.lists result self.new.lists }
     {
@@ -137,14 +137,14 @@ impl Tables {
 
     /// What the current tree answers.
     pub fn read<V: VRead>(&self, alloc: Global, store: &V, ask: &Ask) -> Reply
-        ensures { Follows (over (pages_of (V.content store.now)) self.now.lists) (Read ask.now) result (over (pages_of (V.content store.now)) self.now.lists) }
+        ensures { FollowsInMemory (over (pages_of (V.content store.now)) self.now.lists) (Read ask.now) result (over (pages_of (V.content store.now)) self.now.lists) }
     {
         answer(alloc, &self.files, store, ask)
     }
 
     /// The kept checkpoint of a number.
     fn kept(&self, number: CheckpointNumber) -> Option<&Checkpoint>
-        ensures { option_copied result ≡ find nat_cmp number (map numbered (kept_by self.now.lists)) }
+        ensures { option_copied result ≡ find nat_cmp number (map by_number (kept_by self.now.lists)) }
     {
         match find_checkpoint(&self.earlier, number) {
             Some(checkpoint) => Some(checkpoint),
@@ -155,9 +155,9 @@ impl Tables {
 
     /// Mounts a snapshot.
     pub fn mount(&mut self, number: CheckpointNumber) -> Reply
-        ensures follows { (pages : Pages) → Follows (over pages self.old.lists) (Mount number) result (over pages self.new.lists) }
+        ensures follows { (pages : Pages) → FollowsInMemory (over pages self.old.lists) (Mount number) result (over pages self.new.lists) }
         ensures files { self.new.lists.files ≡ self.old.lists.files }
-        ensures blocks { (pages : Pages) → IsSound (over pages self.old.lists) → KeepsBlocks pages self.old.lists result self.new.lists }
+        ensures blocks { (pages : Pages) → IsSoundVolume (over pages self.old.lists) → KeepsBlocks pages self.old.lists result self.new.lists }
     {
         match self.kept(number) {
             None => return Err(VolError::NoCheckpoint),
@@ -186,7 +186,7 @@ impl Tables {
         mount: MountNumber,
         ask: &Ask,
     ) -> Reply
-        ensures { Follows (over (pages_of (V.content store.now)) self.now.lists) (MountRead mount ask.now) result (over (pages_of (V.content store.now)) self.now.lists) }
+        ensures { FollowsInMemory (over (pages_of (V.content store.now)) self.now.lists) (MountRead mount ask.now) result (over (pages_of (V.content store.now)) self.now.lists) }
     {
         let Some(number) = find_mounted(&self.mounts, mount) else {
             return Err(VolError::BadMount);
@@ -197,7 +197,7 @@ impl Tables {
         answer(alloc, checkpoint.files.as_slice(), store, ask)
     }
 
-    /// The next checkpoint, with all the memory that it takes. Refused by `NumbersSpent`, `NoSpace` and `Memory`.
+    /// The next checkpoint, with all the memory that it takes. Refused by `NumbersSpent` and `Memory`.
     pub fn draft<V: Vstore>(
         &mut self,
         alloc: Global,
@@ -209,7 +209,7 @@ impl Tables {
         requires live { (k i v : ℕ) → number_in (slot_at self.old.lists.latest.files k i) ≡ Some v → is_live (V.content store.now v) ≡ true }
         ensures same { self.new.lists ≡ self.old.lists }
         ensures drafted { IfOk result (IsNextDraft (capacity (V.store store.now)) (V.content store.now) mode moment self.old.lists) }
-        ensures refused { IfErr result (IsDraftRefusal (V.store store.now).segments self.old.lists) }
+        ensures refused { IfErr result (IsDraftRefusal self.old.lists) }
         ensures room { OnOk result (0 < self.new.room) }
     {
         if self.latest.number.get() >= LAST_CHECKPOINT {

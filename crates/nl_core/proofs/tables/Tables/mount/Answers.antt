@@ -10,18 +10,18 @@ use Rattle.nl_core.proofs.Changes.{with_mount, keeps_mounted}
 use Rattle.nl_core.proofs.tables.Tables.mount.Goals as goal
 
 pub returns-in-None-clause-follows : goal.returns-in-None-clause-follows
-returns-in-None-clause-follows c = λ pages w m. mounts_none (over pages c.args.self.now.lists) w c.args.number m (sym c.in-None.ensures)
+returns-in-None-clause-follows c = λ pages cleaned w m. mounts_none cleaned (over pages c.args.self.now.lists) w c.args.number m (sym c.in-None.ensures)
 
 pub returns-in-Plain-clause-follows : goal.returns-in-Plain-clause-follows
-returns-in-Plain-clause-follows c = λ pages w m. mounts_plain (over pages c.args.self.now.lists) w c.args.number c.in-Some.checkpoint.now m (sym c.in-Some.ensures) c.in-Plain.is
+returns-in-Plain-clause-follows c = λ pages cleaned w m. mounts_plain cleaned (over pages c.args.self.now.lists) w c.args.number c.in-Some.checkpoint.now m (sym c.in-Some.ensures) c.in-Plain.is
 
 pub returns-then-self-clause-follows : goal.returns-then-self-clause-follows
-returns-then-self-clause-follows c = λ pages w m.
+returns-then-self-clause-follows c = λ pages cleaned w m.
     let given : c.self.inside.given ≡ c.args.self.now.lists.given = ap (λ (r : Roomy). r.lists.given) c.self.view_is in
-    mounts_spent (over pages c.args.self.now.lists) w c.args.number c.in-Some.checkpoint.now m (sym c.in-Some.ensures) c.in-Snapshot.is (omega (arith, given, c.if-self.true))
+    mounts_spent cleaned (over pages c.args.self.now.lists) w c.args.number c.in-Some.checkpoint.now m (sym c.in-Some.ensures) c.in-Snapshot.is (omega (arith, given, c.if-self.true))
 
 pub returns-clause-follows : goal.returns-clause-follows
-returns-clause-follows c = λ pages w m.
+returns-clause-follows c = λ pages cleaned w m.
     let old = c.args.self.now.lists in
     let n = c.args.number in
     let before = ap (λ (r : Roomy). r.lists) c.self.view_is in
@@ -30,9 +30,9 @@ returns-clause-follows c = λ pages w m.
     let mounted : ℕ → Mounted = λ k. record { number = k; checkpoint = n } in
     let pushed = c.in_ok-push.ensures.items ∙ ap (λ k. c.self.inside.mounts.items ++ mounted k ∷ []) number in
     let told = with_mount _ old c.push.new.self.items (mounted (old.given + 1)) (c.self.inside.given + 1) before pushed ∙ ap (λ g. record old { mounts = old.mounts ++ mounted (old.given + 1) ∷ []; given = g }) given in
-    subst (λ (l : Lists). Leads w (Mount n) (Ok (answer.Mount c.new-mount.result)) (over pages l)) (sym told)
-    (subst (λ k. Leads w (Mount n) (Ok (answer.Mount k)) (over pages (record old { mounts = old.mounts ++ mounted (old.given + 1) ∷ []; given = old.given + 1 }))) (sym number)
-    (mounts (over pages old) w n c.in-Some.checkpoint.now m (sym c.in-Some.ensures) c.in-Snapshot.is (omega (arith, given, c.if-self.false))))
+    subst (λ (l : Lists). Leads cleaned w (Mount n) (Ok (answer.Mount c.new-mount.result)) (over pages l)) (sym told)
+    (subst (λ k. Leads cleaned w (Mount n) (Ok (answer.Mount k)) (over pages (record old { mounts = old.mounts ++ mounted (old.given + 1) ∷ []; given = old.given + 1 }))) (sym number)
+    (mounts cleaned (over pages old) w n c.in-Some.checkpoint.now m (sym c.in-Some.ensures) c.in-Snapshot.is (omega (arith, given, c.if-self.false))))
 
 pub returns-clause-blocks : goal.returns-clause-blocks
 returns-clause-blocks c = λ pages sound. keeps_mounted pages _ c.args.self.now.lists c.push.new.self.items (c.self.inside.given + 1) (answer.Mount c.new-mount.result) (ap (λ (r : Roomy). r.lists) c.self.view_is) sound
