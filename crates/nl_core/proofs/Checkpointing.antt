@@ -20,13 +20,13 @@ use Rattle.nl_types.specs.Worlds.{World, Reply, step, latest}
 use Rattle.nl_types.specs.Placing as placing
 use Rattle.nl_types.proofs.Births.{pages-written}
 use Rattle.nl_segwriter.specs.Appended.{IsAppendError}
-use Rattle.nl_dat.specs.Batches.{Changes, Fits}
-use Rattle.nl_dat.specs.Stores.{Store, IsStore, IsWritten, IsBrokenOff, content_in, entry_of}
+use Rattle.nl_dat.specs.Batches.{Changes, Fits, items_of, item_of_birth}
+use Rattle.nl_dat.specs.Stores.{Store, IsStore, IsWritten, IsFaulted, content_in, entry_of}
 use Rattle.nl_core.specs.declared.file.File.{File}
 use Rattle.nl_core.specs.declared.checkpoint.Checkpoint.{Checkpoint}
 use Rattle.nl_core.specs.Draft.{IsDraftRefusal}
 use Rattle.nl_core.specs.Settled.{WritesChanged, AreSettled, block_of, changed_blocks}
-use Rattle.nl_core.specs.Volume.{Volume, IsSoundVolume, changed_count, next_checkpoint, over, published}
+use Rattle.nl_core.specs.Volume.{Volume, IsSoundVolume, next_checkpoint, over, published}
 use Rattle.nl_core.specs.Means.{Means, Follows}
 use Rattle.nl_core.specs.Layout.{Layout, IsPen, IsCheckpointRefusal, Touches, Does, cleaned, layout_of, ledger_of, unshared, volume_of}
 use Rattle.nl_core.proofs.Events.{step-IsWorld}
@@ -110,23 +110,31 @@ refused-draft l _ why = absurd why
 pub count-births : (content : Content) (former current : List File) (changes : Changes) → WritesChanged content former current changes → length changes.births ≡ length (changed_blocks current)
 count-births content former current changes writes = sym (length-map changes.births block_of) ∙ ap length writes.births
 
+-- and as many blocks are written
+pub count-items : (content : Content) (former current : List File) (changes : Changes) → WritesChanged content former current changes → length (items_of changes.births) ≡ length (changed_blocks current)
+count-items content former current changes writes = length-map changes.births item_of_birth ∙ count-births content former current changes writes
+
 -- a store with the same numbers has the same content
 same-content : (old new : Store) → new.numbers ≡ old.numbers → content_in new ≡ content_in old
 same-content old new same i v = option_map entry_of (get_or (same i) v None)
 
 -- by a fault of the device
-pub does-faulted : (old : Layout) (store : Store) (mode : Mode) (moment n : ℕ) → IsPen old → n ≡ changed_count old.lists → IsBrokenOff true (max moment old.lists.latest.stamp) n old.store store → IsStore store
+pub does-faulted : (old : Layout) (store : Store) (mode : Mode) (moment : ℕ) (changes : Changes) → IsPen old → WritesChanged (content_in old.store) old.lists.latest.files old.lists.files changes
+    → IsFaulted true (old.lists.latest.number + 1) (max moment old.lists.latest.stamp) (items_of changes.births) old.store store → IsStore store
     → Does unshared old (event.Checkpoint mode moment) (Err error.Fault) (layout_of old.lists store)
-does-faulted old store mode moment n held count broken is_store =
+does-faulted old store mode moment changes held writes fault is_store =
     let new = layout_of old.lists store in
-    let content = same-content old.store store broken.numbers in
+    let content = same-content old.store store fault.numbers in
+    let broken = fault.broken_off in
+    let logs = broken.written ++ broken.failed ∷ broken.left in
+    let fits = subst (λ k. placing.Fits old.store.segments true k logs) (count-items (content_in old.store) old.lists.latest.files old.lists.files changes writes) broken.fits in
     record {
       follows = λ w m. record {
         after = w;
         means = subst (λ (c : Content). Means (over (pages_of c) old.lists) w) (sym content) m;
-        step = inr (record { error = error.Fault; reply_is = refl; may_be = (tt, ((λ lacks. lacks (broken.done ++ broken.failed ∷ broken.left) (subst (λ k. placing.Fits old.store.segments true k (broken.done ++ broken.failed ∷ broken.left)) count broken.fits)), broken.failures)); unchanged = refl });
+        step = inr (record { error = error.Fault; reply_is = refl; may_be = (tt, ((λ lacks. lacks logs fits), fault.failures)); unchanged = refl });
       };
-      touches = record { lists = refl; store = subst (λ k. IsBrokenOff true (max moment old.lists.latest.stamp) k old.store store) count broken };
+      touches = record { lists = refl; changes = changes; writes = writes; store = fault };
       numbers = same-numbers old new (ledger-same content);
       pen = record {
         sound = subst (λ (c : Content). IsSoundVolume (over (pages_of c) old.lists)) (sym content) held.sound;
@@ -140,15 +148,16 @@ does-faulted old store mode moment n held count broken is_store =
     ledger-same content = ap (λ (c : Content). record (ledger_of old) { content = c }) content
 
 -- by a write that is refused
-pub does-unwritten : (old : Layout) (store : Store) (mode : Mode) (moment n : ℕ) (e : VolError) → IsPen old → old.lists.latest.number + 1 < checkpoint_number_limit → n ≡ changed_count old.lists → IsAppendError e
-    → (e ≡ error.NoSpace → placing.LacksSpace old.store.segments true n) → (e ≡ error.NoSpace → store ≡ old.store) → (e ≡ error.Memory → store ≡ old.store)
-    → (e ≡ error.Fault → IsBrokenOff true (max moment old.lists.latest.stamp) n old.store store) → IsStore store → Does unshared old (event.Checkpoint mode moment) (Err e) (layout_of old.lists store)
-does-unwritten old store mode moment n e held left count is lacks same memory fault is_store =
+pub does-unwritten : (old : Layout) (store : Store) (mode : Mode) (moment : ℕ) (changes : Changes) (e : VolError) → IsPen old → old.lists.latest.number + 1 < checkpoint_number_limit → WritesChanged (content_in old.store) old.lists.latest.files old.lists.files changes → IsAppendError e
+    → (e ≡ error.NoSpace → placing.LacksSpace old.store.segments true (length changes.births)) → (e ≡ error.NoSpace → store ≡ old.store) → (e ≡ error.Memory → store ≡ old.store)
+    → (e ≡ error.Fault → IsFaulted true (old.lists.latest.number + 1) (max moment old.lists.latest.stamp) (items_of changes.births) old.store store) → IsStore store → Does unshared old (event.Checkpoint mode moment) (Err e) (layout_of old.lists store)
+does-unwritten old store mode moment changes e held left writes is lacks same memory fault is_store =
+    let count = count-births (content_in old.store) old.lists.latest.files old.lists.files changes writes in
     let reply : VolError → Type 0 = λ x. Does unshared old (event.Checkpoint mode moment) (Err x) (layout_of old.lists store) in
     elim is [
       | inl no_space ↦ subst reply (sym no_space) (does-refused old (layout_of old.lists store) mode moment error.NoSpace held (left, subst (placing.LacksSpace old.store.segments true) count (lacks no_space)) (ap (layout_of old.lists) (same no_space)))
       | inr other ↦ elim other [
-        | inl failed ↦ subst reply (sym failed) (does-faulted old store mode moment n held count (fault failed) is_store)
+        | inl failed ↦ subst reply (sym failed) (does-faulted old store mode moment changes held writes (fault failed) is_store)
         | inr refused ↦ subst reply (sym refused) (does-refused old (layout_of old.lists store) mode moment error.Memory held left (ap (layout_of old.lists) (memory refused)))
       ]
     ]

@@ -8,7 +8,7 @@ use Rattle.nl_types.specs.declared.event.Event.TheVariants.{Apply, Read, Checkpo
 use Rattle.nl_types.specs.Placing.{Fits}
 use Rattle.nl_core.specs.Laws.{RefusalsKeepPens, NoSpaceIsTrue, NoSpaceIsSaid}
 use Rattle.nl_core.specs.Layout.{Layout, HasRefused}
-use Rattle.nl_core.proofs.Checkpointing.{count-births}
+use Rattle.nl_core.proofs.Checkpointing.{count-items}
 
 -- what is refused but for a fault is as it was
 refused_same : (event : Event) (e : VolError) (old new : Layout) → HasRefused event e old new → (e ≢ error.Fault) → new ≡ old
@@ -30,9 +30,13 @@ no_space_is_true old new mode moment does = does.touches.1.1
 pub no_space_is_said : NoSpaceIsSaid
 no_space_is_said old new mode moment (Ok answer) lacks does =
     let published = does.touches in
-    let count = count-births _ old.lists.latest.files old.lists.files published.changes published.writes in
-    absurd (lacks published.written.placed.logs (subst (λ n. Fits old.store.segments true n published.written.placed.logs) count published.written.placed.fits))
+    let appended = published.written.appended in
+    let count = count-items _ old.lists.latest.files old.lists.files published.changes published.writes in
+    absurd (lacks appended.logs (subst (λ n. Fits old.store.segments true n appended.logs) count appended.fits))
 no_space_is_said old new mode moment (Err error.Fault) lacks does =
-    let broken = does.touches.store in
-    absurd (lacks (broken.done ++ broken.failed ∷ broken.left) broken.fits)
+    let faulted = does.touches in
+    let broken = faulted.store.broken_off in
+    let logs = broken.written ++ broken.failed ∷ broken.left in
+    let count = count-items _ old.lists.latest.files old.lists.files faulted.changes faulted.writes in
+    absurd (lacks logs (subst (λ n. Fits old.store.segments true n logs) count broken.fits))
 no_space_is_said old new mode moment (Err e) lacks does = (e, refl, λ same. cc)

@@ -18,8 +18,8 @@ use Rattle.nl_types.specs.Worlds.{World, Reply}
 use Rattle.nl_types.specs.Runs.{Step, Run, alone}
 use Rattle.nl_segwriter.specs.Content.{new_content}
 use Rattle.nl_device.specs.Pages.{Pages as DevicePages}
-use Rattle.nl_dat.specs.Batches.{Changes}
-use Rattle.nl_dat.specs.Stores.{Store, IsStore, IsWritten, IsBrokenOff, content_in, new_store}
+use Rattle.nl_dat.specs.Batches.{Changes, items_of}
+use Rattle.nl_dat.specs.Stores.{Store, IsStore, IsWritten, IsFaulted, content_in, new_store}
 use Rattle.nl_core.specs.Changes.{HasChanged}
 use Rattle.nl_core.specs.Draft.{HasNextNumber}
 use Rattle.nl_core.specs.Settled.{numbers_of, WritesChanged, AreSettled}
@@ -94,10 +94,12 @@ HasDone old event new = WritesNothing old new × (new.lists.files ≡ old.lists.
 
 -- ---- and a refused one
 
--- the device failed before all logs were written, and no number has changed
+-- the device failed before all logs with the changed blocks were written, and no number has changed
 pub record HasFaulted (moment : ℕ) (old new : Layout) : Type 0 where
   pub lists : new.lists ≡ old.lists
-  pub store : IsBrokenOff true moment (changed_count old.lists) old.store new.store
+  pub changes : Changes
+  pub writes : WritesChanged (content_in old.store) old.lists.latest.files old.lists.files changes
+  pub store : IsFaulted true (old.lists.latest.number + 1) moment (items_of changes.births) old.store new.store
 
 -- why a checkpoint is refused before anything is written: numbers are judged first, then memory, then space
 abbrev pub IsCheckpointRefusal : Layout → VolError → Type 0

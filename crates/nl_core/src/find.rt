@@ -3,7 +3,7 @@ ghost use Rattle.std.specs.Prelude.{◌≡◌, ◌↔◌, ◌<◌, ℕ, IsTrue, 
 ghost use Rattle.std.specs.Option.{option_copied};
 ghost use Rattle.std.specs.Ordering.{nat_cmp};
 ghost use Rattle.std.specs.FinMap.{find};
-ghost use Rattle.nl_types.specs.Roots.{Pages, pages_of};
+ghost use Rattle.nl_types.specs.Roots.{Pages};
 ghost use Rattle.nl_core.specs.Content.{slot_in, file_in};
 ghost use Rattle.nl_core.specs.Means.{mount_of, by_number};
 ghost use Rattle.nl_core.specs.Named.{NoneNamed, IsFirstNamed};
@@ -87,7 +87,7 @@ fn read_at<V: VRead>(
     offset: u64,
     len: u64,
 ) -> Result<Items<u8>, VolError>
-    ensures { ReadsFrom (pages_of (V.content store.now)) files.now path.now offset len result }
+    ensures { ReadsFrom (V.pages store.now) files.now path.now offset len result }
 {
     let index = find_file(files, path)?;
     Ok(files[index].read(alloc, store, offset, len)?)
@@ -95,7 +95,7 @@ fn read_at<V: VRead>(
 
 /// What the tree of these files answers.
 pub fn answer<V: VRead>(alloc: Global, files: &[File], store: &V, ask: &Ask) -> Reply
-    ensures { AnswersFrom (pages_of (V.content store.now)) files.now ask.now result }
+    ensures { AnswersFrom (V.pages store.now) files.now ask.now result }
 {
     match ask {
         Ask::Bytes { path, offset, len } => {

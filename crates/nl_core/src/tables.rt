@@ -4,9 +4,9 @@ ghost use Rattle.std.specs.Option.{option_copied};
 ghost use Rattle.std.specs.Ordering.{nat_cmp};
 ghost use Rattle.std.specs.FinMap.{find};
 ghost use Rattle.nl_types.specs.Limits.{path_limit};
-ghost use Rattle.nl_types.specs.Roots.{Pages, pages_of};
+ghost use Rattle.nl_types.specs.Roots.{Pages};
 ghost use Rattle.nl_dat.specs.Batches.{is_live};
-ghost use Rattle.nl_dat.specs.Stores.{capacity};
+ghost use Rattle.nl_dat.specs.Stores.{capacity, content_in};
 ghost use Rattle.nl_core.specs.Content.{slot_at};
 ghost use Rattle.nl_core.specs.Settled.{number_in};
 ghost use Rattle.nl_types.specs.Worlds.{IsWorld, formatted};
@@ -99,10 +99,10 @@ impl Tables {
         offset: u64,
         bytes: &[u8],
     ) -> Reply
-        requires sound { IsSoundVolume (over (pages_of (V.content store.now)) self.old.lists) }
-        ensures follows { FollowsInMemory (over (pages_of (V.content store.now)) self.old.lists) (Apply (Write path.now offset bytes.now)) result (over (pages_of (V.content store.now)) self.new.lists) }
+        requires sound { IsSoundVolume (over (V.pages store.now) self.old.lists) }
+        ensures follows { FollowsInMemory (over (V.pages store.now) self.old.lists) (Apply (Write path.now offset bytes.now)) result (over (V.pages store.now) self.new.lists) }
         ensures changed { IfOk result (λ _. HasWritten path.now offset (length bytes.now) self.old.lists.files self.new.lists.files) }
-        ensures blocks { KeepsBlocks (pages_of (V.content store.now)) self.old.lists result self.new.lists }
+        ensures blocks { KeepsBlocks (V.pages store.now) self.old.lists result self.new.lists }
     {
         let index = find_file(&self.files, path)?;
         let len = bytes.len() as u64;
@@ -120,10 +120,10 @@ impl Tables {
 
     /// A change of the current tree.
     pub fn change<V: VRead>(&mut self, alloc: Global, store: &V, change: &Change) -> Reply
-        requires sound { IsSoundVolume (over (pages_of (V.content store.now)) self.old.lists) }
-        ensures follows { FollowsInMemory (over (pages_of (V.content store.now)) self.old.lists) (Apply change.now) result (over (pages_of (V.content store.now)) self.new.lists) }
+        requires sound { IsSoundVolume (over (V.pages store.now) self.old.lists) }
+        ensures follows { FollowsInMemory (over (V.pages store.now) self.old.lists) (Apply change.now) result (over (V.pages store.now) self.new.lists) }
         ensures changed { IfOk result (λ _. HasChanged change.now self.old.lists.files self.new.lists.files) }
-        ensures blocks { KeepsBlocks (pages_of (V.content store.now)) self.old.lists result self.new.lists }
+        ensures blocks { KeepsBlocks (V.pages store.now) self.old.lists result self.new.lists }
     {
         match change {
             Change::Create { path } => self.create(alloc, path.as_slice()),
@@ -137,7 +137,7 @@ impl Tables {
 
     /// What the current tree answers.
     pub fn read<V: VRead>(&self, alloc: Global, store: &V, ask: &Ask) -> Reply
-        ensures { FollowsInMemory (over (pages_of (V.content store.now)) self.now.lists) (Read ask.now) result (over (pages_of (V.content store.now)) self.now.lists) }
+        ensures { FollowsInMemory (over (V.pages store.now) self.now.lists) (Read ask.now) result (over (V.pages store.now) self.now.lists) }
     {
         answer(alloc, &self.files, store, ask)
     }
@@ -186,7 +186,7 @@ impl Tables {
         mount: MountNumber,
         ask: &Ask,
     ) -> Reply
-        ensures { FollowsInMemory (over (pages_of (V.content store.now)) self.now.lists) (MountRead mount ask.now) result (over (pages_of (V.content store.now)) self.now.lists) }
+        ensures { FollowsInMemory (over (V.pages store.now) self.now.lists) (MountRead mount ask.now) result (over (V.pages store.now) self.now.lists) }
     {
         let Some(number) = find_mounted(&self.mounts, mount) else {
             return Err(VolError::BadMount);
@@ -206,9 +206,9 @@ impl Tables {
         moment: u64,
     ) -> Result<Draft, VolError>
         requires few { length self.old.lists.files ≤ path_limit }
-        requires live { (k i v : ℕ) → number_in (slot_at self.old.lists.latest.files k i) ≡ Some v → is_live (V.content store.now v) ≡ true }
+        requires live { (k i v : ℕ) → number_in (slot_at self.old.lists.latest.files k i) ≡ Some v → is_live (content_in (V.store store.now) v) ≡ true }
         ensures same { self.new.lists ≡ self.old.lists }
-        ensures drafted { IfOk result (IsNextDraft (capacity (V.store store.now)) (V.content store.now) mode moment self.old.lists) }
+        ensures drafted { IfOk result (IsNextDraft (capacity (V.store store.now)) (content_in (V.store store.now)) mode moment self.old.lists) }
         ensures refused { IfErr result (IsDraftRefusal self.old.lists) }
         ensures room { OnOk result (0 < self.new.room) }
     {

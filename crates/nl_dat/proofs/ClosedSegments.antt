@@ -11,51 +11,14 @@ use Rattle.nl_types.specs.declared.segment.Log.{Log}
 use Rattle.nl_types.specs.declared.segment.SegmentInfo.{SegmentInfo}
 use Rattle.nl_types.specs.declared.segment.SegmentState.{SegmentState}
 use Rattle.nl_types.specs.declared.segment.SegmentState.TheVariants.{Clean, Dirty, Active, Error}
-use Rattle.nl_types.specs.Segments.{Segments, AreTidy, info_of, clean_info, is_clean, is_active, at_rest, none_active, clean_segments}
+use Rattle.nl_types.specs.Segments.{Segments, AreTidy, info_of, clean_info, is_clean, is_active, at_rest, none_active, clean_segments, IsClosed}
 use Rattle.nl_types.specs.Placing.{Fits, IsNextLog, AreNextLogs, with_log, start_of, end_of, first_block, row_of, addresses}
 use Rattle.nl_types.proofs.NextLogs.{tidy_with_log, has_active, has_lowest, placed}
 use Rattle.nl_types.proofs.UsedParts.{all_in_row, all-append}
-use Rattle.nl_dat.specs.Stores.{is_closed, IsClosed, is_inside}
+use Rattle.nl_types.proofs.ClosedSegments.{next-elsewhere, still-closed}
+use Rattle.nl_dat.specs.Stores.{is_inside}
 
-pub active-open : (state : SegmentState) → is_active state ≡ true → is_closed state ≡ true → ⊥
-active-open Clean a c = cc
-active-open Dirty a c = cc
-active-open Active a c = cc
-active-open Error a c = cc
-
-clean-open : (state : SegmentState) → is_clean state ≡ true → is_closed state ≡ true → ⊥
-clean-open Clean a c = cc
-clean-open Dirty a c = cc
-clean-open Active a c = cc
-clean-open Error a c = cc
-
--- the next log goes elsewhere
-pub next-elsewhere : (s : Segments) (segment : ℕ) (log : Log) → AreTidy s → IsClosed s segment → IsNextLog s log → log.segment ≢ segment
-next-elsewhere s segment log tidy closed next = λ same.
-    let here : is_closed (info_of s.each log.segment).state ≡ true = ap (λ (i : ℕ). is_closed (info_of s.each i).state) same ∙ closed in
-    elim next.at [
-      | inl at ↦ active-open (info_of s.each log.segment).state (has_active s (start_of log) at).active here
-      | inr at ↦ lowest (clean_segments s) refl at here
-    ]
-  where
-    lowest : (free : List ℕ) → clean_segments s ≡ free → slice_get (clean_segments s) 0 ≡ Some log.segment → is_closed (info_of s.each log.segment).state ≡ true → ⊥
-    lowest [] is at here = let none : None ≡ Some log.segment = sym (ap (λ xs. slice_get xs 0) is) ∙ at in cc
-    lowest (x ∷ rest) is at here =
-        let some : Some x ≡ Some log.segment = sym (ap (λ xs. slice_get xs 0) is) ∙ at in
-        let same : x ≡ log.segment = cc in
-        clean-open (info_of s.each log.segment).state (subst (λ i. is_clean (info_of s.each i).state ≡ true) same (has_lowest s x rest tidy is).clean) here
-
--- and leaves the segment closed
-pub still-closed : (s : Segments) (segment stamp : ℕ) (log : Log) → IsClosed s segment → log.segment ≢ segment → IsClosed (with_log s log stamp) segment
-still-closed s segment stamp log closed other =
-    ap (λ (i : SegmentInfo). is_closed i.state) (get_or-set_other (none_active s.each) log.segment segment _ clean_info (λ e. other (sym e)) ∙ get_or-map at_rest s.each segment clean_info) ∙ rest (info_of s.each segment) closed
-  where
-    rest : (info : SegmentInfo) → is_closed info.state ≡ true → is_closed (at_rest info).state ≡ true
-    rest info c = elim (cases_Bool (is_active info.state)) [
-      | inl a ↦ absurd (active-open info.state a c)
-      | inr a ↦ ap (λ b. is_closed (cond b (record info { state = Dirty }) info).state) a ∙ c
-    ]
-
+-- the blocks of a log elsewhere
 outside-log : (s : Segments) (segment k : ℕ) (log : Log) → log.segment ≢ segment → end_of log ≤ s.blocks → k < log.count → is_inside s segment (Some (first_block s.blocks log + 1 + k)) ≡ false
 outside-log s segment k log other fits low = elim (cases_lt log.segment segment) [
   | inl h ↦ let m : (log.segment + 1) * s.blocks ≤ segment * s.blocks = mul-le-mul_right s.blocks (omega arith) in below (omega (arith, m, fits, low))

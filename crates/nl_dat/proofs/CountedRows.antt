@@ -1,18 +1,15 @@
 -- Rows of blocks that grow at their end, and payload that is counted.
 use Rattle.std.proofs.Common.{◌≡◌, ◌≤◌, ◌<◌, ℕ, zero, suc, ◌+◌, ◌*◌, List, [], ◌++◌, Option, Some, None, sym, refl, ap, ◌∙◌, length, is_some, map, length-append, arith}
 use Rattle.std.specs.Prelude.{slice_get, slice_index_or}
-use Rattle.std.specs.List.{range_with_len}
-use Rattle.std.specs.Option.{option_map}
 use Rattle.std.proofs.Math.Nat.{mul-le-mul_right}
-use Rattle.std.proofs.lemmas.List.FromFn.{get_or-map-range_with_len}
-use Rattle.nl_types.specs.Segments.{AreTidy, info_of, total_blocks}
+use Rattle.nl_types.specs.Segments.{AreTidy, info_of}
 use Rattle.nl_types.proofs.SegmentChanges.{room_of}
-use Rattle.nl_segwriter.specs.Content.{Payload, Content as Space, tag_of}
+use Rattle.nl_segwriter.specs.Content.{Payload, Content as Space}
 use Rattle.nl_dat.specs.declared.entries.DatEntry.{DatEntry}
-use Rattle.nl_dat.specs.Stores.{tag_held}
 use Rattle.nl_dat.specs.Inside.{store_of}
-use Rattle.nl_dat.specs.Located.{AreCounted, block_if, in_row, onto, picked, payload_at, payload_count}
+use Rattle.nl_dat.specs.Located.{AreCounted, block_if, in_row, onto, picked, payload_block, payload_count_in}
 use Rattle.nl_dat.proofs.Positions.{held-row}
+use Rattle.nl_dat.proofs.ShownSpace.{shown}
 
 onto-append : (o : Option ℕ) (xs ys : List ℕ) → onto o (xs ++ ys) ≡ onto o xs ++ ys
 onto-append None xs ys = refl
@@ -61,22 +58,21 @@ count-same f g b c (suc n) each =
     one (Some v) None xs ys e same = cc
     one (Some v) (Some w) xs ys e same = ap suc same
 
-some-tag : (b k : ℕ) (o : Option Payload) → is_some (block_if b (option_map tag_of o)) ≡ is_some (block_if k o)
-some-tag b k None = refl
-some-tag b k (Some p) = refl
+some-payload : (b k : ℕ) (o : Option Payload) → is_some (block_if b o) ≡ is_some (block_if k o)
+some-payload b k None = refl
+some-payload b k (Some p) = refl
 
 pub payload-counted : (table : List (Option DatEntry)) (space : Space) (failures segment : ℕ) (row : List (Option Payload)) → AreTidy space.segments → segment < length space.segments.each → length row ≡ (info_of space.segments.each segment).used
-    → ((k : ℕ) → k < length row → slice_get row k ≡ Some (space.held (segment * space.segments.blocks + k))) → length (picked (in_row row) 0 (length row)) ≡ payload_count (store_of table space failures) segment
+    → ((k : ℕ) → k < length row → slice_get row k ≡ Some (space.held (segment * space.segments.blocks + k))) → length (picked (in_row row) 0 (length row)) ≡ payload_count_in (store_of table space failures) segment
 payload-counted table space failures segment row tidy within size each =
-    count-same (in_row row) (payload_at (store_of table space failures)) 0 (segment * space.segments.blocks) (length row) at ∙ ap (λ n. length (picked (payload_at (store_of table space failures)) (segment * space.segments.blocks) n)) size
+    count-same (in_row row) (payload_block (store_of table space failures)) 0 (segment * space.segments.blocks) (length row) at ∙ ap (λ n. length (picked (payload_block (store_of table space failures)) (segment * space.segments.blocks) n)) size
   where
-    at : (k : ℕ) → k < length row → is_some (in_row row (0 + k)) ≡ is_some (payload_at (store_of table space failures) (segment * space.segments.blocks + k))
+    at : (k : ℕ) → k < length row → is_some (in_row row (0 + k)) ≡ is_some (payload_block (store_of table space failures) (segment * space.segments.blocks + k))
     at k low =
         let here : 0 + k ≡ k = omega arith in
         let room = room_of space.segments.blocks space.segments.each tidy.each segment in
         let whole : (segment + 1) * space.segments.blocks ≤ length space.segments.each * space.segments.blocks = mul-le-mul_right space.segments.blocks (omega (arith, within)) in
         let held : slice_index_or row k None ≡ space.held (segment * space.segments.blocks + k) = held-row row space segment k each low in
-        let tag : slice_index_or (map (tag_held space) (range_with_len 0 (total_blocks space.segments))) (segment * space.segments.blocks + k) None ≡ tag_held space (segment * space.segments.blocks + k) =
-        get_or-map-range_with_len (tag_held space) 0 (total_blocks space.segments) (segment * space.segments.blocks + k) (segment * space.segments.blocks + k) None (omega (arith, low, size, room, whole)) (omega arith) in
-        ap (λ i. is_some (in_row row i)) here ∙ ap (λ o. is_some (block_if k o)) held ∙ sym (some-tag (segment * space.segments.blocks + k) k (space.held (segment * space.segments.blocks + k)))
-        ∙ ap (λ o. is_some (block_if (segment * space.segments.blocks + k) o)) (sym tag)
+        let shows = (shown table space failures (segment * space.segments.blocks + k) (omega (arith, low, size, room, whole))).0 in
+        ap (λ i. is_some (in_row row i)) here ∙ ap (λ o. is_some (block_if k o)) held ∙ sym (some-payload (segment * space.segments.blocks + k) k (space.held (segment * space.segments.blocks + k)))
+        ∙ ap (λ o. is_some (block_if (segment * space.segments.blocks + k) o)) (sym shows)

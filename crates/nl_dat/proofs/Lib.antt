@@ -3,6 +3,8 @@ pub mod Tables
 pub mod Counting
 pub mod SoundTable
 pub mod Contents
+pub mod BlockCounts
+pub mod ShownSpace
 pub mod StoreOf
 pub mod FreeNumbers
 pub mod Writing

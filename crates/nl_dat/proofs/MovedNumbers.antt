@@ -5,12 +5,13 @@ use Rattle.std.specs.List.{AllByRecursion}
 use Rattle.std.proofs.Math.Nat.{mul-le-mul_right}
 use Rattle.std.proofs.lemmas.Bool.{cases_Bool, cases_eq, cases_lt, both_ways}
 use Rattle.nl_types.specs.declared.segment.Log.{Log}
-use Rattle.nl_types.specs.Segments.{Segments, AreTidy}
+use Rattle.std.proofs.lemmas.List.{length-map}
+use Rattle.nl_types.specs.Segments.{Segments, AreTidy, IsClosed}
 use Rattle.nl_types.specs.Placing.{row_of, with_log, with_logs}
 use Rattle.nl_types.specs.Entries.{Content, Entry}
 use Rattle.nl_types.specs.PartialMaps.{Partial, adjust, adjust_each, is_one_of}
 use Rattle.nl_types.proofs.UsedParts.{length-addresses}
-use Rattle.nl_dat.specs.Stores.{Store, IsStore, IsMoved, IsClosed, address_in, content_in, is_inside, moved_to}
+use Rattle.nl_dat.specs.Stores.{Store, IsStore, IsMoved, payload_under, address_in, content_in, is_inside, moved_to}
 use Rattle.nl_dat.specs.Located.{number_at, pick, picked, if_needed, entry_needed, needs, needed_at, needed_in}
 use Rattle.nl_dat.proofs.ClosedSegments.{fits-outside}
 use Rattle.nl_dat.proofs.Relocating.{moved-in, is_some-inside}
@@ -70,19 +71,22 @@ inside-one s i j b in_i in_j = elim (cases_eq i j) [
 
 -- ---- numbers that are moved
 
-module _ (segment stamp : ℕ) (numbers : List ℕ) (old new : Store) (is_old : IsStore old) (is_new : IsStore new) (tidy : AreTidy old.segments) (moved : IsMoved segment stamp numbers old new)
+module _ (segment checkpoint stamp : ℕ) (numbers : List ℕ) (old new : Store) (is_old : IsStore old) (is_new : IsStore new) (tidy : AreTidy old.segments) (moved : IsMoved segment checkpoint stamp numbers old new)
     (inside : (v : ℕ) → is_one_of numbers v ≡ true → is_inside old.segments segment (address_in old v) ≡ true) where
+  count : length numbers ≡ length moved.payload
+  count = sym (length-map numbers (payload_under old)) ∙ ap length moved.theirs ∙ length-map moved.payload Some
+
   lengths : length numbers ≡ length moved.at
-  lengths = sym moved.placed.fits.total ∙ sym (length-addresses old.segments.blocks moved.placed.logs) ∙ ap length (sym moved.placed.at_is)
+  lengths = count ∙ sym moved.appended.fits.total ∙ sym (length-addresses old.segments.blocks moved.appended.logs) ∙ ap length (sym moved.appended.at)
 
   pub blocks-moved : new.segments.blocks ≡ old.segments.blocks
-  blocks-moved = ap (λ (s : Segments). s.blocks) moved.placed.segments ∙ blocks-with_logs moved.placed.logs old.segments stamp
+  blocks-moved = ap (λ (s : Segments). s.blocks) moved.appended.segments ∙ blocks-with_logs moved.appended.logs old.segments stamp
 
   -- none of them comes into a closed segment
   out-of : (j : ℕ) → IsClosed old.segments j → (v : ℕ) → is_one_of numbers v ≡ true → is_inside old.segments j (address_in new v) ≡ false
   out-of j closed v h =
       let outside : AllByRecursion (λ b. is_inside old.segments j (Some b) ≡ false) moved.at =
-      subst (AllByRecursion (λ b. is_inside old.segments j (Some b) ≡ false)) (sym moved.placed.at_is) (fits-outside old.segments false (length numbers) j moved.placed.logs tidy closed moved.placed.fits) in
+      subst (AllByRecursion (λ b. is_inside old.segments j (Some b) ≡ false)) (sym moved.appended.at) (fits-outside old.segments false (length moved.payload) j moved.appended.logs tidy closed moved.appended.fits) in
       let there = moved-in (λ b. is_inside old.segments j (Some b) ≡ false) numbers moved.at (address_in old) v lengths outside h (is_some-inside old.segments segment (address_in old v) (inside v h)) in
       ap (λ (m : Partial ℕ). is_inside old.segments j (m v)) moved.address ∙ ap (is_inside old.segments j) there.1 ∙ there.2
 
@@ -158,15 +162,15 @@ module _ (segment stamp : ℕ) (numbers : List ℕ) (old new : Store) (is_old : 
         ]
 
 -- the first needed ones are moved, and the rest is left
-pub first-moved : (segment stamp m : ℕ) (old new : Store) (needed needed' : Entry → Bool) → IsStore old → IsStore new → AreTidy old.segments → IsClosed old.segments segment
-    → ((v : ℕ) (e : Entry) → content_in old v ≡ Some e → needed' e ≡ needed e) → IsMoved segment stamp (take m (needed_in old needed segment)) old new
+pub first-moved : (segment checkpoint stamp m : ℕ) (old new : Store) (needed needed' : Entry → Bool) → IsStore old → IsStore new → AreTidy old.segments → IsClosed old.segments segment
+    → ((v : ℕ) (e : Entry) → content_in old v ≡ Some e → needed' e ≡ needed e) → IsMoved segment checkpoint stamp (take m (needed_in old needed segment)) old new
     → needed_in new needed' segment ≡ drop m (needed_in old needed segment)
-first-moved segment stamp m old new needed needed' is_old is_new tidy closed keeps moved =
-    row-moved segment stamp (take m (needed_in old needed segment)) old new is_old is_new tidy moved (λ v h. needed-inside old needed segment v (among-front m (needed_in old needed segment) v h)) needed needed' keeps segment closed
+first-moved segment checkpoint stamp m old new needed needed' is_old is_new tidy closed keeps moved =
+    row-moved segment checkpoint stamp (take m (needed_in old needed segment)) old new is_old is_new tidy moved (λ v h. needed-inside old needed segment v (among-front m (needed_in old needed segment) v h)) needed needed' keeps segment closed
     ∙ moved_out (map (needed_at old needed) (row_of (segment * old.segments.blocks) old.segments.blocks)) m (needed-once old needed segment)
 
-pub others-kept : (segment stamp m : ℕ) (old new : Store) (needed needed' : Entry → Bool) → IsStore old → IsStore new → AreTidy old.segments
-    → ((v : ℕ) (e : Entry) → content_in old v ≡ Some e → needed' e ≡ needed e) → IsMoved segment stamp (take m (needed_in old needed segment)) old new
+pub others-kept : (segment checkpoint stamp m : ℕ) (old new : Store) (needed needed' : Entry → Bool) → IsStore old → IsStore new → AreTidy old.segments
+    → ((v : ℕ) (e : Entry) → content_in old v ≡ Some e → needed' e ≡ needed e) → IsMoved segment checkpoint stamp (take m (needed_in old needed segment)) old new
     → (j : ℕ) → IsClosed old.segments j → j ≢ segment → needed_in new needed' j ≡ needed_in old needed j
-others-kept segment stamp m old new needed needed' is_old is_new tidy keeps moved =
-    others-stay segment stamp (take m (needed_in old needed segment)) old new is_old is_new tidy moved (λ v h. needed-inside old needed segment v (among-front m (needed_in old needed segment) v h)) needed needed' keeps
+others-kept segment checkpoint stamp m old new needed needed' is_old is_new tidy keeps moved =
+    others-stay segment checkpoint stamp (take m (needed_in old needed segment)) old new is_old is_new tidy moved (λ v h. needed-inside old needed segment v (among-front m (needed_in old needed segment) v h)) needed needed' keeps

@@ -1,18 +1,21 @@
 -- Which number's page may stand at a position of a segment.
-use Rattle.std.proofs.Common.{◌≡◌, ℕ, ◌+◌, ◌*◌, ◌<◌, ◌≤◌, ◌⊎◌, List, Some, None, Option, inl, inr, refl, ap, subst, ◌∙◌, length, arith}
+use Rattle.std.proofs.Common.{◌≡◌, ℕ, ◌+◌, ◌*◌, ◌<◌, ◌≤◌, ◌⊎◌, List, Some, None, Option, inl, inr, sym, refl, ap, subst, ◌∙◌, length, arith}
 use Rattle.std.specs.Prelude.{slice_get, slice_index_or}
 use Rattle.std.specs.Option.{option_map}
 use Rattle.std.proofs.Math.Nat.{mul-le-mul_right}
 use Rattle.std.proofs.lemmas.Bool.{cases_eq, cases_lt}
+use Rattle.std.proofs.lemmas.List.{get_or_past}
 use Rattle.std.proofs.lemmas.Option.{get_or_from_slice_get}
 use Rattle.nl_types.specs.Segments.{Segments, AreTidy, IsUsed, info_of}
 use Rattle.nl_types.proofs.SegmentChanges.{room_of}
 use Rattle.nl_types.specs.Entries.{number_of}
-use Rattle.nl_segwriter.specs.Content.{Payload, Content as Space}
+use Rattle.nl_segwriter.specs.Content.{Payload, Content as Space, HoldsOnlyUsed, tag_of}
 use Rattle.nl_dat.specs.declared.entries.DatEntry.{DatEntry}
 use Rattle.nl_dat.specs.Batches.{birth_of_item, number_of_payload}
 use Rattle.nl_dat.specs.Table.{entry_in, addresses_of}
-use Rattle.nl_dat.specs.Inside.{IsTable}
+use Rattle.nl_dat.specs.Stores.{tag_in}
+use Rattle.nl_dat.specs.Inside.{store_of, IsTable}
+use Rattle.nl_dat.proofs.ShownSpace.{shown}
 
 -- a used block of a segment lies in its used part
 pub position-used : (s : Segments) (segment position b : ℕ) → AreTidy s → IsUsed s b → b ≡ segment * s.blocks + position → position < s.blocks → position < (info_of s.each segment).used
@@ -48,3 +51,18 @@ tagged-row table lowest space row segment position v tidy is_table count each wi
     let used = position-used space.segments segment position b tidy (is_table.used v b at) refl within in
     let tag = tagged_with table lowest space v b is_table at in
     ap (option_map number_of_payload) (held-row row space segment position each (omega (arith, used, count)) ∙ tag.1) ∙ ap Some tag.2
+
+-- and what it says of each block
+pub tag-row : (table : List (Option DatEntry)) (space : Space) (failures : ℕ) (row : List (Option Payload)) (segment position : ℕ) → AreTidy space.segments → HoldsOnlyUsed space → segment < length space.segments.each → position < space.segments.blocks
+    → length row ≡ (info_of space.segments.each segment).used → ((k : ℕ) → k < length row → slice_get row k ≡ Some (space.held (segment * space.segments.blocks + k)))
+    → option_map tag_of (slice_index_or row position None) ≡ tag_in (store_of table space failures) (segment * space.segments.blocks + position)
+tag-row table space failures row segment position tidy only within low count each =
+    let m : (segment + 1) * space.segments.blocks ≤ length space.segments.each * space.segments.blocks = mul-le-mul_right space.segments.blocks (omega (arith, within)) in
+    let b = segment * space.segments.blocks + position in
+    ap (option_map tag_of) (by_row (cases_lt position (length row)) ∙ sym (shown table space failures b (omega (arith, m, low))).0)
+  where
+    by_row : (position < length row) ⊎ (length row ≤ position) → slice_index_or row position None ≡ space.held (segment * space.segments.blocks + position)
+    by_row (inl h) = held-row row space segment position each h
+    by_row (inr h) =
+        get_or_past row position None h
+        ∙ sym (only (segment * space.segments.blocks + position) (λ used. let past = position-used space.segments segment position (segment * space.segments.blocks + position) tidy used refl low in omega (arith, past, h, count)))

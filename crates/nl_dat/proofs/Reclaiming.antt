@@ -19,6 +19,7 @@ use Rattle.nl_dat.specs.Inside.{births_in, numbered_of, numbered_with, store_of,
 use Rattle.nl_dat.specs.TakenOut.{HasTakenOut, IsAtMost, is_in_row}
 use Rattle.nl_dat.proofs.StoreOf.{numbered_in-store_of, address_in-store_of}
 use Rattle.nl_dat.proofs.Positions.{position-used}
+use Rattle.nl_dat.proofs.ShownSpace.{freed-shown}
 
 -- a used block lies in the row of a segment's used part exactly where it lies in the segment
 row-inside : (s : Segments) (segment b : ℕ) → AreTidy s → IsUsed s b → is_in_row (segment * s.blocks) (info_of s.each segment).used (Some b) ≡ is_inside s segment (Some b)
@@ -130,7 +131,7 @@ module _ (table new : List (Option DatEntry)) (filled filled' segment : ℕ) (ol
               ∙ sym (numbered_in-store_of table old before v)
               ∙ sym (ap (λ t. cond t None (numbered_in (store_of table old before) v)) (ap (λ (m : Partial ℕ). is_inside old.segments segment (m v)) (address_in-store_of table old before is_table.sound) ∙ e))
         ];
-    segments = freed.segments;
+    freed = freed-shown table new old later before after total segment freed;
     gone = out.gone;
     each_once = out.each_once;
     gone_are = λ v. out.gone_are v ∙ in_row v ∙ sym (ap (λ (m : Partial ℕ). is_inside old.segments segment (m v)) (address_in-store_of table old before is_table.sound));

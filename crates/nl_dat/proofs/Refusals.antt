@@ -5,26 +5,31 @@ use Rattle.std.specs.Option.{option_map}
 use Rattle.std.proofs.lemmas.List.{ext_get_or, length-map}
 use Rattle.nl_types.specs.declared.error.VolError.{VolError}
 use Rattle.nl_types.specs.declared.error.VolError.TheVariants.{NoSpace, Fault, Memory}
-use Rattle.nl_types.specs.Segments.{total_blocks}
+use Rattle.nl_types.specs.Segments.{AreTidy, total_blocks}
 use Rattle.nl_types.specs.Placing.{with_logs}
 use Rattle.nl_segwriter.specs.Content.{Payload, Content as Space, KeepsUsed}
-use Rattle.nl_segwriter.specs.Appended.{IsAppendError, IsBrokenOff as BreaksOff}
+use Rattle.nl_segwriter.specs.Appended.{IsAppendError, IsBrokenOff}
 use Rattle.nl_dat.specs.declared.entries.DatEntry.{DatEntry}
 use Rattle.nl_dat.specs.Table.{entry_in, addresses_of, block_of}
-use Rattle.nl_dat.specs.Stores.{IsBrokenOff}
+use Rattle.nl_dat.specs.Stores.{IsFaulted}
 use Rattle.nl_dat.specs.Inside.{births_in, numbered_of, numbered_with, store_of, IsTable}
 use Rattle.nl_dat.proofs.Contents.{KeepsAt}
 use Rattle.nl_dat.proofs.StoreOf.{numbered_in-store_of}
-use Rattle.nl_dat.proofs.Writing.{total-with_logs, total-with_error, keeps_at}
+use Rattle.nl_dat.proofs.BlockCounts.{total-with_logs, total-with_error}
+use Rattle.nl_dat.proofs.ShownSpace.{broken-shown, kept-shown}
+use Rattle.nl_dat.proofs.Writing.{keeps_at}
 
 -- there are as many blocks as before
-pub total-refused : (old later : Space) (reserve : Bool) (stamp checkpoint : ℕ) (payload : List Payload) (e : VolError) → IsAppendError e → (e ≡ NoSpace → later ≡ old) → (e ≡ Memory → later ≡ old) → (e ≡ Fault → BreaksOff old later reserve stamp checkpoint payload)
+total-broken : (old later : Space) (reserve : Bool) (stamp checkpoint : ℕ) (payload : List Payload) → IsBrokenOff old later reserve stamp checkpoint payload → total_blocks later.segments ≡ total_blocks old.segments
+total-broken old later reserve stamp checkpoint payload broken =
+    ap total_blocks broken.segments ∙ total-with_error (with_logs old.segments broken.written stamp) broken.failed.segment ∙ total-with_logs old.segments broken.written stamp
+
+pub total-refused : (old later : Space) (reserve : Bool) (stamp checkpoint : ℕ) (payload : List Payload) (e : VolError) → IsAppendError e → (e ≡ NoSpace → later ≡ old) → (e ≡ Memory → later ≡ old) → (e ≡ Fault → IsBrokenOff old later reserve stamp checkpoint payload)
     → total_blocks later.segments ≡ total_blocks old.segments
 total-refused old later reserve stamp checkpoint payload e why no_space memory fault = elim why [
   | inl is ↦ ap (λ (s : Space). total_blocks s.segments) (no_space is)
   | inr or ↦ elim or [
-    | inl is ↦ let broken = fault is in
-        ap total_blocks broken.segments ∙ total-with_error (with_logs old.segments broken.written stamp) broken.failed.segment ∙ total-with_logs old.segments broken.written stamp
+    | inl is ↦ total-broken old later reserve stamp checkpoint payload (fault is)
     | inr is ↦ ap (λ (s : Space). total_blocks s.segments) (memory is)
   ]
 ]
@@ -38,14 +43,11 @@ numbers-kept table old later keeps = ext_get_or None _ _ (length-map table (numb
     same v None is = refl
     same v (Some e) is = ap (option_map (numbered_with e)) (keeps v e.block (ap (option_map block_of) is))
 
-pub broken_off : (table : List (Option DatEntry)) (lowest : ℕ) (old later : Space) (before after : ℕ) (reserve : Bool) (stamp checkpoint n : ℕ) (payload : List Payload) → IsTable table lowest old → length payload ≡ n → KeepsUsed old.segments old later → before < after
-    → BreaksOff old later reserve stamp checkpoint payload → IsBrokenOff reserve stamp n (store_of table old before) (store_of table later after)
-broken_off table lowest old later before after reserve stamp checkpoint n payload is_table count kept risen broken = record {
+pub is_faulted : (table : List (Option DatEntry)) (lowest : ℕ) (old later : Space) (before after : ℕ) (reserve : Bool) (stamp checkpoint : ℕ) (payload : List Payload) → AreTidy old.segments → IsTable table lowest old → KeepsUsed old.segments old later → before < after
+    → IsBrokenOff old later reserve stamp checkpoint payload → IsFaulted reserve checkpoint stamp payload (store_of table old before) (store_of table later after)
+is_faulted table lowest old later before after reserve stamp checkpoint payload tidy is_table kept risen broken = record {
   failures = risen;
   numbers = numbers-kept table old later (keeps_at table lowest old later is_table kept);
-  done = broken.written;
-  failed = broken.failed;
-  left = broken.left;
-  fits = subst (λ k. Rattle.nl_types.specs.Placing.Fits old.segments reserve k (broken.written ++ broken.failed ∷ broken.left)) count broken.fits;
-  segments = broken.segments;
+  broken_off = broken-shown table table old later before after reserve stamp checkpoint payload tidy broken;
+  kept = kept-shown table table old later before after (total-broken old later reserve stamp checkpoint payload broken) old.segments kept;
 }

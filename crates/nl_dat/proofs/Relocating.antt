@@ -2,29 +2,44 @@
 use Rattle.std.proofs.Common.{◌≡◌, ℕ, ◌+◌, ◌<◌, ◌≤◌, Bool, true, false, eqb, List, [], ◌∷◌, Some, None, Option, inl, inr, sym, refl, ap, subst, ◌∙◌, map, get_or, length, is_some, arith}
 use Rattle.std.specs.Prelude.{◌||◌}
 use Rattle.std.specs.List.{All, AllByRecursion, range_with_len}
-use Rattle.std.specs.Option.{option_map}
+use Rattle.std.specs.Option.{option_map, option_and_then}
 use Rattle.std.proofs.lemmas.Bool.{cases_Bool, or_cases}
 use Rattle.std.proofs.lemmas.List.{length-map}
 use Rattle.nl_types.specs.declared.error.VolError.{VolError}
 use Rattle.nl_types.specs.declared.error.VolError.TheVariants.{NoSpace, Fault, Memory}
-use Rattle.nl_types.specs.Segments.{AreTidy, IsUsed, StaysUsed, total_blocks}
-use Rattle.nl_types.specs.Placing.{LacksSpace, Fits}
+use Rattle.nl_types.specs.Segments.{AreTidy, IsUsed, StaysUsed, total_blocks, IsClosed}
+use Rattle.nl_types.specs.Placing.{LacksSpace}
+use Rattle.nl_types.specs.Entries.{Birth, Content}
 use Rattle.nl_types.specs.PartialMaps.{Partial, adjust, adjust_each, is_one_of, Stands}
 use Rattle.nl_types.proofs.PartialMaps.{is_one_of-get_or}
 use Rattle.nl_segwriter.specs.Content.{Payload, Content as Space, KeepsUsed, page_of as payload_page}
-use Rattle.nl_segwriter.specs.Appended.{IsAppended, IsAppendError, IsBrokenOff as BreaksOff}
+use Rattle.nl_segwriter.specs.Appended.{IsAppended, IsAppendError, IsBrokenOff}
 use Rattle.nl_dat.specs.declared.entries.DatEntry.{DatEntry}
-use Rattle.nl_dat.specs.Batches.{birth_of_item, births_of}
-use Rattle.nl_dat.specs.Table.{entry_in, addresses_of, block_of, content_of, moved_entry, stored_at, IsSound}
-use Rattle.nl_dat.specs.Stores.{IsMoved, IsMoveRefused, KeepsStored, IsClosed, is_inside, moved_to, address_in, tag_held}
+use Rattle.nl_dat.specs.Batches.{birth_of_item, births_of, item_of_birth, items_of, tag_for}
+use Rattle.nl_dat.specs.Table.{entry_in, addresses_of, block_of, content_of, meaning_at, meaning_of, moved_entry, stored_at, IsSound}
+use Rattle.nl_dat.specs.Stores.{IsMoved, IsMoveRefused, IsPayloadOf, KeepsStored, is_inside, moved_to, address_in, payload_for, payload_under}
 use Rattle.nl_dat.specs.Inside.{births_in, numbered_of, store_of, IsTable}
 use Rattle.nl_dat.proofs.Contents.{KeepsAt, content_of-KeepsAt, IsSound-KeepsAt, content_of-moves, addresses_of-moves, IsSound-moves}
 use Rattle.nl_dat.proofs.StoreOf.{content_in-store_of, address_in-store_of}
 use Rattle.nl_dat.proofs.ClosedSegments.{fits-outside}
-use Rattle.nl_dat.proofs.Writing.{total-with_logs, stand-births, stand-stored, length-StandAt, keeps_at}
-use Rattle.nl_dat.proofs.Refusals.{broken_off}
+use Rattle.nl_dat.proofs.SoundTable.{stored_for}
+use Rattle.nl_dat.proofs.ShownSpace.{appended-shown}
+use Rattle.nl_dat.proofs.BlockCounts.{total-with_logs}
+use Rattle.nl_dat.proofs.Writing.{items_back, stand-births, stand-stored, length-StandAt, keeps_at}
+use Rattle.nl_dat.proofs.Refusals.{is_faulted}
 
 -- ---- numbers that are moved
+
+-- the payload of numbers, where each was read
+payloads : (f : ℕ → Option Payload) (g : ℕ → Option Birth) → ((v : ℕ) → f v ≡ option_map item_of_birth (g v)) → (numbers : List ℕ) (births : List Birth) → map g numbers ≡ map Some births → map f numbers ≡ map Some (items_of births)
+payloads f g same [] [] e = refl
+payloads f g same [] (b ∷ births) e = cc
+payloads f g same (v ∷ numbers) [] e = cc
+payloads f g same (v ∷ numbers) (b ∷ births) e =
+    let first : g v ≡ Some b = cc in
+    let rest : map g numbers ≡ map Some births = cc in
+    let here : f v ≡ Some (item_of_birth b) = same v ∙ ap (option_map item_of_birth) first in
+    ap (λ (o : Option Payload). o ∷ map f numbers) here ∙ ap (λ (os : List (Option Payload)). Some (item_of_birth b) ∷ os) (payloads f g same numbers births rest)
 
 -- what holds of each block of before, and of each new one
 adjust_each-each : (P : ℕ → Type 0) (ks bs : List ℕ) (m : Partial ℕ) → AllByRecursion P bs → ((v b : ℕ) → m v ≡ Some b → P b) → (v b : ℕ) → adjust_each moved_to ks bs m v ≡ Some b → P b
@@ -93,6 +108,23 @@ none_of : {A : Type 0} (o : Option A) → is_some o ≡ false → o ≡ None
 none_of None h = refl
 none_of (Some x) h = cc
 
+-- what was read is what the numbers stand for
+pub theirs-of : (table : List (Option DatEntry)) (lowest : ℕ) (space : Space) (failures : ℕ) (numbers : List ℕ) (items : List Payload) → IsTable table lowest space → map (stored_at (entry_in table) (births_in space)) numbers ≡ map Some (births_of items)
+    → IsPayloadOf (store_of table space failures) numbers items
+theirs-of table lowest space failures numbers items is_table loaded =
+    payloads (payload_under (store_of table space failures)) (stored_at (entry_in table) (births_in space)) under numbers (births_of items) loaded ∙ ap (map Some) (sym (items_back items))
+  where
+    of_entry : (v : ℕ) (o : Option DatEntry) → entry_in table v ≡ o → option_map (payload_for v) (option_and_then (meaning_at (births_in space)) o) ≡ option_map item_of_birth (option_and_then (λ (s : DatEntry). births_in space s.block) o)
+    of_entry v None is = refl
+    of_entry v (Some e) is =
+        let p = stored_for (entry_in table) (births_in space) v e is_table.sound is in
+        ap (λ (o : Option Birth). option_map (payload_for v) (option_map (meaning_of e) o)) p.1
+        ∙ ap (λ (n : ℕ). Some (tag_for n p.0.place, p.0.page)) (sym p.2)
+        ∙ sym (ap (option_map item_of_birth) p.1)
+
+    under : (v : ℕ) → payload_under (store_of table space failures) v ≡ option_map item_of_birth (stored_at (entry_in table) (births_in space) v)
+    under v = ap (λ (m : Content). option_map (payload_for v) (m v)) (content_in-store_of table space failures) ∙ of_entry v (entry_in table v) refl
+
 module _ (table new : List (Option DatEntry)) (lowest : ℕ) (old later : Space) (before after c now segment : ℕ) (numbers at : List ℕ) (items : List Payload)
     (is_table : IsTable table lowest old) (loaded : map (stored_at (entry_in table) (births_in old)) numbers ≡ map Some (births_of items))
     (appended : IsAppended old later false now c items at) (kept : KeepsUsed old.segments old later) (stays : StaysUsed old.segments later.segments)
@@ -156,17 +188,14 @@ module _ (table new : List (Option DatEntry)) (lowest : ℕ) (old later : Space)
   }
 
   pub is_moved : AreTidy old.segments → IsClosed old.segments segment → All (λ v. is_inside old.segments segment (address_in (store_of table old before) v) ≡ true) numbers
-      → IsMoved segment now numbers (store_of table old before) (store_of new later after)
+      → IsMoved segment c now numbers (store_of table old before) (store_of new later after)
   is_moved tidy closed inside = record {
     content = content_in-store_of new later after ∙ ap (λ m. content_of m (births_in later)) is_new ∙ content_of-moves numbers at (births_of items) (entry_in table) (births_in later) stands loaded-later
         ∙ content_of-KeepsAt (entry_in table) (births_in old) (births_in later) keeps ∙ sym (content_in-store_of table old before);
+    payload = items;
+    theirs = theirs-of table lowest old before numbers items is_table loaded;
     at = at;
-    placed = record {
-      logs = appended.logs;
-      fits = subst (λ n. Fits old.segments false n appended.logs) (sym moved-count) appended.fits;
-      at_is = appended.at;
-      segments = appended.segments;
-    };
+    appended = appended-shown table new old later before after false now c items tidy at appended;
     address = address_in-store_of new later after sound-now ∙ addresses-moved ∙ ap (adjust_each moved_to numbers at) (sym (address_in-store_of table old before is_table.sound));
     out = λ k d within.
         let v = get_or numbers k d in
@@ -185,18 +214,30 @@ keeps-stored table old later before after same = record {
   numbers = ap (λ (s : Space). map (numbered_of (births_in s)) table) same;
   segments = ap (λ (s : Space). s.segments) same;
   device = ap (λ (s : Space). map s.stored (range_with_len 0 (total_blocks s.segments))) same;
-  tags = ap (λ (s : Space). map (tag_held s) (range_with_len 0 (total_blocks s.segments))) same;
+  payload = ap (λ (s : Space). map s.held (range_with_len 0 (total_blocks s.segments))) same;
 }
 
-pub move-refused : (table : List (Option DatEntry)) (lowest : ℕ) (old later : Space) (before between after stamp checkpoint n : ℕ) (payload : List Payload) (e : VolError) → IsTable table lowest old → length payload ≡ n → KeepsUsed old.segments old later → before ≤ between
-    → IsAppendError e → (e ≡ NoSpace → later ≡ old) → (e ≡ NoSpace → LacksSpace old.segments false (length payload)) → (e ≡ Memory → later ≡ old) → (e ≡ Fault → between < after) → (e ≡ Fault → BreaksOff old later false stamp checkpoint payload)
-    → IsMoveRefused stamp n e (store_of table old before) (store_of table later after)
-move-refused table lowest old later before between after stamp checkpoint n payload e is_table count kept more why no_space lacks memory risen broken = elim why [
-  | inl is ↦ subst (λ d. IsMoveRefused stamp n d (store_of table old before) (store_of table later after)) (sym is)
-      (subst (LacksSpace old.segments false) count (lacks is), keeps-stored table old later before after (no_space is))
+-- what an append says where it is refused
+pub record IsRefused (reserve : Bool) (stamp checkpoint : ℕ) (payload : List Payload) (e : VolError) (old later : Space) (before after : ℕ) : Type 0 where
+  pub why : IsAppendError e
+  pub no_space : e ≡ NoSpace → later ≡ old
+  pub lacks : e ≡ NoSpace → LacksSpace old.segments reserve (length payload)
+  pub memory : e ≡ Memory → later ≡ old
+  pub risen : e ≡ Fault → before < after
+  pub broken : e ≡ Fault → IsBrokenOff old later reserve stamp checkpoint payload
+
+pub move-refused : (table : List (Option DatEntry)) (lowest : ℕ) (old later : Space) (before between after checkpoint stamp : ℕ) (numbers : List ℕ) (payload : List Payload) (e : VolError) → AreTidy old.segments → IsTable table lowest old
+    → IsPayloadOf (store_of table old before) numbers payload → KeepsUsed old.segments old later → before ≤ between → IsRefused false stamp checkpoint payload e old later between after
+    → IsMoveRefused checkpoint stamp numbers e (store_of table old before) (store_of table later after)
+move-refused table lowest old later before between after checkpoint stamp numbers payload e tidy is_table theirs kept more refused = elim refused.why [
+  | inl is ↦ subst (λ d. IsMoveRefused checkpoint stamp numbers d (store_of table old before) (store_of table later after)) (sym is)
+      (subst (LacksSpace old.segments false) count (refused.lacks is), keeps-stored table old later before after (refused.no_space is))
   | inr or ↦ elim or [
-    | inl is ↦ subst (λ d. IsMoveRefused stamp n d (store_of table old before) (store_of table later after)) (sym is)
-        (inr (broken_off table lowest old later before after false stamp checkpoint n payload is_table count kept (omega (arith, more, risen is)) (broken is)))
-    | inr is ↦ subst (λ d. IsMoveRefused stamp n d (store_of table old before) (store_of table later after)) (sym is) (keeps-stored table old later before after (memory is))
+    | inl is ↦ subst (λ d. IsMoveRefused checkpoint stamp numbers d (store_of table old before) (store_of table later after)) (sym is)
+        (inr (payload, theirs, is_faulted table lowest old later before after false stamp checkpoint payload tidy is_table kept (omega (arith, more, refused.risen is)) (refused.broken is)))
+    | inr is ↦ subst (λ d. IsMoveRefused checkpoint stamp numbers d (store_of table old before) (store_of table later after)) (sym is) (keeps-stored table old later before after (refused.memory is))
   ]
 ]
+  where
+    count : length payload ≡ length numbers
+    count = sym (length-map payload Some) ∙ sym (ap length theirs) ∙ length-map numbers (payload_under (store_of table old before))

@@ -1,24 +1,25 @@
 -- What callers see of a table over a space.
-use Rattle.std.proofs.Common.{◌≡◌, ℕ, zero, suc, ◌∷◌, replicate, ◌+◌, ◌≤◌, inl, inr, subst, List, Some, None, Option, sym, refl, ap, ◌∙◌, map, get_or, length, arith}
+use Rattle.std.proofs.Common.{◌≡◌, ℕ, zero, suc, ◌∷◌, replicate, ◌+◌, ◌<◌, ◌≤◌, inl, inr, subst, List, Some, None, Option, sym, refl, ap, ◌∙◌, map, get_or, length, arith}
 use Rattle.std.specs.Prelude.{slice_index_or}
 use Rattle.std.specs.List.{range_with_len}
 use Rattle.std.specs.Option.{option_map, option_and_then}
 use Rattle.std.proofs.Math.ListN.{get_or-map}
-use Rattle.std.proofs.lemmas.List.FromFn.{get_or-map-range_with_len}
-use Rattle.std.proofs.lemmas.List.{get_or_past, length-replicate}
+use Rattle.std.proofs.lemmas.List.{get_or_past, length-map, length-replicate}
 use Rattle.std.proofs.lemmas.Bool.{cases_lt}
 use Rattle.nl_types.specs.Segments.{AreTidy, total_blocks}
 use Rattle.nl_types.specs.PartialMaps.{Partial}
 use Rattle.nl_types.specs.Entries.{Birth, number_of}
 use Rattle.nl_types.proofs.PartialMaps.{same_at_all}
-use Rattle.nl_segwriter.specs.Content.{Payload, Content as Space, page_of as payload_page}
+use Rattle.nl_segwriter.specs.Content.{Payload, Content as Space, HoldsOnlyUsed, page_of as payload_page}
+use Rattle.nl_segwriter.specs.Logs.{AreWholeLogs, HaveLogs}
 use Rattle.nl_dat.specs.declared.entries.DatEntry.{DatEntry}
-use Rattle.nl_dat.specs.Batches.{birth_of_item}
+use Rattle.nl_dat.specs.Batches.{birth_of_item, place_of, tag_for}
 use Rattle.nl_dat.specs.Table.{entry_in, addresses_of, block_of, content_of, meaning_of, meaning_at, period_of, period_of_entry, IsSound}
-use Rattle.nl_dat.specs.Stores.{Numbered, new_store, numbered_in, content_in, address_in, entry_of, block_of as block_now, dat_entry_of, tag_held, IsStore}
+use Rattle.nl_dat.specs.Stores.{Numbered, new_store, numbered_in, content_in, address_in, entry_of, block_of as block_now, dat_entry_of, payload_for, IsStore}
 use Rattle.nl_dat.specs.Inside.{births_in, numbered_with, numbered_of, store_of, IsTable}
 use Rattle.nl_types.proofs.UsedParts.{used_inside}
 use Rattle.nl_dat.proofs.SoundTable.{stored_for, IsSound-apart}
+use Rattle.nl_dat.proofs.ShownSpace.{shown, whole-shown, only-shown}
 
 module _ (table : List (Option DatEntry)) (space : Space) (failures : ℕ) where
   pub numbered_in-store_of : (v : ℕ) → numbered_in (store_of table space failures) v ≡ numbered_of (births_in space) (entry_in table v)
@@ -89,29 +90,42 @@ module _ (table : List (Option DatEntry)) (lowest : ℕ) (space : Space) (failur
       none_some : {b : ℕ} → None ≡ Some b → ⊥
       none_some h = cc
 
-  -- the page of a number in use is stored on the device
-  on_device : (v : ℕ) (n : Numbered) → numbered_in (store_of table space failures) v ≡ Some n → slice_index_or (map space.stored (range_with_len 0 (total_blocks space.segments))) n.block None ≡ Some n.entry.page
-  on_device v n is = of_entry (entry_in table v) refl (sym (numbered_in-store_of table space failures v) ∙ is)
+  -- the payload at the block of a number in use is its own
+  own : (v : ℕ) (n : Numbered) → numbered_in (store_of table space failures) v ≡ Some n → (n.block < total_blocks space.segments) × (space.held n.block ≡ Some (payload_for v n.entry)) × (space.stored n.block ≡ Some n.entry.page)
+  own v n is = of_entry (entry_in table v) refl (sym (numbered_in-store_of table space failures v) ∙ is)
     where
-      of_entry : (o : Option DatEntry) → entry_in table v ≡ o → numbered_of (births_in space) o ≡ Some n → slice_index_or (map space.stored (range_with_len 0 (total_blocks space.segments))) n.block None ≡ Some n.entry.page
-      of_entry None there h = cc
-      of_entry (Some e) there h = of_payload (space.held e.block) refl h
-        where
-          of_payload : (o : Option Payload) → space.held e.block ≡ o → option_map (numbered_with e) (option_map birth_of_item o) ≡ Some n → slice_index_or (map space.stored (range_with_len 0 (total_blocks space.segments))) n.block None ≡ Some n.entry.page
-          of_payload None held g = cc
-          of_payload (Some payload) held g =
-              let same : numbered_with e (birth_of_item payload) ≡ n = cc in
-              let at : addresses_of (entry_in table) v ≡ Some e.block = ap (option_map block_of) there in
-              subst (λ (m : Numbered). slice_index_or (map space.stored (range_with_len 0 (total_blocks space.segments))) m.block None ≡ Some m.entry.page) same
-              (get_or-map-range_with_len space.stored 0 (total_blocks space.segments) e.block e.block None (used_inside space.segments e.block tidy (is_table.used v e.block at)) (omega arith)
-              ∙ is_table.stored v e.block at ∙ ap (option_map payload_page) held)
+      Own : Numbered → Type 0
+      Own m = (m.block < total_blocks space.segments) × (space.held m.block ≡ Some (payload_for v m.entry)) × (space.stored m.block ≡ Some m.entry.page)
 
-  pub is_store : IsStore (store_of table space failures)
-  is_store = record {
+      of_payload : (e : DatEntry) (o : Option Payload) → addresses_of (entry_in table) v ≡ Some e.block → space.held e.block ≡ o → option_map (numbered_with e) (option_map birth_of_item o) ≡ Some n → Own n
+      of_payload e None at held g = cc
+      of_payload e (Some payload) at held g =
+          let same : numbered_with e (birth_of_item payload) ≡ n = cc in
+          let number : payload.0.number ≡ v = some_same (sym (ap (λ (o : Option Payload). option_map number_of (option_map birth_of_item o)) held) ∙ is_table.sound v e.block at) in
+          subst Own same (
+            used_inside space.segments e.block tidy (is_table.used v e.block at),
+            held ∙ ap (λ (k : ℕ). Some (tag_for k (place_of payload.0), payload.1)) number,
+            is_table.stored v e.block at ∙ ap (option_map payload_page) held,
+          )
+        where
+          some_same : {a b : ℕ} → Some a ≡ Some b → a ≡ b
+          some_same h = cc
+
+      of_entry : (o : Option DatEntry) → entry_in table v ≡ o → numbered_of (births_in space) o ≡ Some n → Own n
+      of_entry None there h = cc
+      of_entry (Some e) there h = of_payload e (space.held e.block) (ap (option_map block_of) there) refl h
+
+  pub is_store : AreWholeLogs space → HoldsOnlyUsed space → HaveLogs space.segments → IsStore (store_of table space failures)
+  is_store whole only have = record {
+    full = length-map table (numbered_of (births_in space)) ∙ is_table.full;
     numbers = λ v b at. numbers v b (address_now v b at);
     used = λ v b at. is_table.used v b (address_now v b at);
     apart = λ v w b at_v at_w. IsSound-apart (addresses_of (entry_in table)) (births_in space) v w b is_table.sound (address_now v b at_v) (address_now w b at_w);
-    on_device = on_device;
+    on_device = λ v n is. let o = own v n is in (shown table space failures n.block o.0).1 ∙ o.2;
+    own_payload = λ v n is. let o = own v n is in (shown table space failures n.block o.0).0 ∙ o.1;
+    whole_logs = whole-shown table space failures tidy whole;
+    only_used = only-shown table space failures only;
+    have_logs = have;
     tidy = tidy;
   }
 
@@ -123,7 +137,7 @@ map-empty stored (suc n) = ap (λ xs. None ∷ xs) (map-empty stored n)
 
 pub store_of-empty : (table : List (Option DatEntry)) (space : Space) (failures : ℕ) → table ≡ replicate (total_blocks space.segments + 1) None → store_of table space failures ≡ new_store space failures
 store_of-empty table space failures is =
-    ap (λ numbers. record { numbers = numbers; segments = space.segments; device = map space.stored (range_with_len 0 (total_blocks space.segments)); tags = map (tag_held space) (range_with_len 0 (total_blocks space.segments)); failures = failures })
+    ap (λ numbers. record { numbers = numbers; segments = space.segments; device = map space.stored (range_with_len 0 (total_blocks space.segments)); payload = map space.held (range_with_len 0 (total_blocks space.segments)); failures = failures })
     (ap (map (numbered_of (births_in space))) is ∙ map-empty (births_in space) (total_blocks space.segments + 1))
 
 get_or-empty : {A : Type 0} (n v : ℕ) → ◌≡◌ {A = Option A} (get_or (replicate n None) v None) None

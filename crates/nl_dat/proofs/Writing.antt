@@ -6,32 +6,22 @@ use Rattle.std.specs.Option.{option_map, option_and_then}
 use Rattle.std.proofs.lemmas.Bool.{cases_Bool, cases_lt, eqb-true, eq-eqb, or_cases, both_ways}
 use Rattle.std.proofs.lemmas.List.{length-map, length-set, get_or_past}
 use Rattle.std.proofs.lemmas.List.Folds.{list_any_at}
-use Rattle.nl_types.specs.declared.segment.Log.{Log}
-use Rattle.nl_types.specs.Segments.{Segments, IsUsed, StaysUsed, with_error, none_active, at_rest, total_blocks}
-use Rattle.nl_types.specs.Placing.{with_log, with_logs}
-use Rattle.nl_types.proofs.NextLogs.{length-with_log}
+use Rattle.nl_types.specs.Segments.{AreTidy, IsUsed, StaysUsed, total_blocks}
 use Rattle.nl_types.specs.PartialMaps.{Partial, put, put_each, put_all, adjust, adjust_all, Stands}
 use Rattle.nl_types.specs.Entries.{Birth, Content, number_of, born_at, ended_at, written}
 use Rattle.nl_types.proofs.PartialMaps.{put-other, put-same}
 use Rattle.nl_segwriter.specs.Content.{Payload, Content as Space, KeepsUsed, StandAt, page_of as payload_page}
 use Rattle.nl_segwriter.specs.Appended.{IsAppended}
 use Rattle.nl_dat.specs.declared.entries.DatEntry.{DatEntry}
-use Rattle.nl_dat.specs.Batches.{Changes, Fits, birth_of_item, births_of, is_born, is_live, last_number}
+use Rattle.nl_dat.specs.Batches.{Changes, Fits, birth_of_item, births_of, items_of, is_born, is_live, last_number}
 use Rattle.nl_dat.specs.Table.{entry_in, addresses_of, content_of, meaning_at, new_entry, ended_entry, IsSound}
-use Rattle.nl_dat.specs.Stores.{IsWritten, content_in}
+use Rattle.nl_dat.specs.Stores.{IsWritten, content_in, space_in}
 use Rattle.nl_dat.specs.Inside.{births_in, store_of, IsTable}
 use Rattle.nl_dat.proofs.Contents.{KeepsAt, content_of-KeepsAt, IsSound-KeepsAt, content_of-births, addresses_of-births, IsSound-births, content_of-ends, addresses_of-ends}
 use Rattle.nl_dat.proofs.StoreOf.{content_in-store_of, address_in-store_of}
 use Rattle.nl_dat.proofs.FreeNumbers.{in_use}
-
--- ---- how many blocks there are
-
-pub total-with_logs : (s : Segments) (logs : List Log) (stamp : ℕ) → total_blocks (with_logs s logs stamp) ≡ total_blocks s
-total-with_logs s [] stamp = refl
-total-with_logs s (log ∷ logs) stamp = total-with_logs (with_log s log stamp) logs stamp ∙ ap (λ (n : ℕ). n * s.blocks) (length-with_log s log stamp)
-
-pub total-with_error : (s : Segments) (segment : ℕ) → total_blocks (with_error s segment) ≡ total_blocks s
-total-with_error s segment = ap (λ (n : ℕ). n * s.blocks) (length-set (none_active s.each) segment _ ∙ length-map s.each at_rest)
+use Rattle.nl_dat.proofs.BlockCounts.{total-with_logs}
+use Rattle.nl_dat.proofs.ShownSpace.{appended-shown}
 
 -- ---- what is put at the numbers of births
 
@@ -97,6 +87,10 @@ none_of None h = refl
 none_of (Some x) h = cc
 
 -- ---- what stands at the blocks of an append
+
+pub items_back : (items : List Payload) → items ≡ items_of (births_of items)
+items_back [] = refl
+items_back (item ∷ items) = ap (λ (rest : List Payload). item ∷ rest) (items_back items)
 
 pub stand-births : (at : List ℕ) (items : List Payload) (space : Space) → StandAt at items space.held → Stands (births_in space) at (births_of items)
 stand-births [] [] space stand = tt
@@ -203,16 +197,12 @@ module _ (table new : List (Option DatEntry)) (lowest : ℕ) (old later : Space)
     below_lowest = in_use_now;
   }
 
-  pub is_written : IsWritten c now changes (store_of table old before) (store_of new later after)
-  is_written = record {
+  pub is_written : AreTidy old.segments → IsWritten c now changes (store_of table old before) (store_of new later after)
+  is_written tidy = record {
     content = content_in-store_of new later after ∙ content_of-written ∙ ap (written changes.births changes.ends c) (sym (content_in-store_of table old before));
     at = at;
-    placed = record {
-      logs = appended.logs;
-      fits = subst (λ n. Rattle.nl_types.specs.Placing.Fits old.segments true n appended.logs) (sym (length-map items birth_of_item) ∙ ap length items_are) appended.fits;
-      at_is = appended.at;
-      segments = appended.segments;
-    };
+    appended = subst (λ (payload : List Payload). IsAppended (space_in (store_of table old before)) (space_in (store_of new later after)) true now c payload at) (items_back items ∙ ap items_of items_are)
+        (appended-shown table new old later before after true now c items tidy at appended);
     address = address_in-store_of new later after sound_now ∙ addresses_of-written ∙ ap (put_each number_of (λ b. b) changes.births at) (sym (address_in-store_of table old before is_table.sound));
   }
 

@@ -27,6 +27,16 @@ birth_of_item item = record { number = item.0.number; place = place_of item.0; p
 abbrev pub births_of : List (Tag × List ℕ) → List Birth
 births_of items = map birth_of_item items
 
+-- and back
+abbrev pub tag_for : ℕ → Place → Tag
+tag_for v place = record { number = v; inode = place.inode; level = place.level; offset = place.offset }
+
+abbrev pub item_of_birth : Birth → Tag × List ℕ
+item_of_birth b = (tag_for b.number b.place, b.page)
+
+abbrev pub items_of : List Birth → List (Tag × List ℕ)
+items_of births = map item_of_birth births
+
 -- the births with another page at an index
 abbrev pub with_page : ℕ → List ℕ → List Birth → List Birth
 with_page i page [] = []

@@ -9,7 +9,7 @@ use Rattle.nl_segwriter.specs.Content.{Content, page_of}
 use Rattle.nl_dat.specs.declared.entries.DatEntry.{DatEntry}
 use Rattle.nl_dat.specs.Batches.{birth_of_item}
 use Rattle.nl_dat.specs.Table.{AreInUse, entry_in, addresses_of, meaning_of, IsSound}
-use Rattle.nl_dat.specs.Stores.{Numbered, Store, tag_held}
+use Rattle.nl_dat.specs.Stores.{Numbered, Store}
 
 -- the payload of a space as births, by block number
 abbrev pub births_in : Content → Partial Birth
@@ -30,7 +30,7 @@ store_of table space failures = record {
   numbers = map (numbered_of (births_in space)) table;
   segments = space.segments;
   device = map space.stored (range_with_len 0 (total_blocks space.segments));
-  tags = map (tag_held space) (range_with_len 0 (total_blocks space.segments));
+  payload = map space.held (range_with_len 0 (total_blocks space.segments));
   failures = failures;
 }
 

@@ -6,7 +6,7 @@ use Rattle.nl_types.specs.Placing.{row_of}
 use Rattle.nl_types.specs.Entries.{Content, Entry}
 use Rattle.nl_dat.specs.declared.entries.Period.{Period}
 use Rattle.nl_dat.specs.Table.{period_of}
-use Rattle.nl_dat.specs.Stores.{Numbered, Store, content_in}
+use Rattle.nl_dat.specs.Stores.{Numbered, Store, content_in, payload_in}
 
 -- whether a page stands at the block
 abbrev pub stands_at : ℕ → Option Numbered → Bool
@@ -48,8 +48,8 @@ abbrev pub block_if : {X : Type 0} → ℕ → Option X → Option ℕ
 block_if b None = None
 block_if b (Some x) = Some b
 
-abbrev pub payload_at : Store → ℕ → Option ℕ
-payload_at s b = block_if b (slice_index_or s.tags b None)
+abbrev pub payload_block : Store → ℕ → Option ℕ
+payload_block s b = block_if b (payload_in s b)
 
 -- the place of a row, where there is payload
 abbrev pub in_row : {X : Type 0} → List (Option X) → ℕ → Option ℕ
@@ -61,8 +61,8 @@ pub record AreCounted (f : ℕ → Option ℕ) (b position count : ℕ) : Type 0
   pub few : count ≤ position
 
 -- how many blocks of the logs of a segment have payload, be it a number's or not
-abbrev pub payload_count : Store → ℕ → ℕ
-payload_count s segment = length (picked (payload_at s) (segment * s.segments.blocks) (info_of s.segments.each segment).used)
+abbrev pub payload_count_in : Store → ℕ → ℕ
+payload_count_in s segment = length (picked (payload_block s) (segment * s.segments.blocks) (info_of s.segments.each segment).used)
 
 -- ---- those that are needed
 

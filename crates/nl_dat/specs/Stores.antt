@@ -1,19 +1,18 @@
 -- What a store of numbered pages holds, and what its calls do to it.
-use Rattle.std.specs.Prelude.{◌≡◌, ◌⊎◌, All, ℕ, ◌+◌, ◌*◌, ◌<◌, ◌≤◌, ◌&&◌, nat_le, nat_lt, if◌then◌else◌, Bool, true, false, List, ◌∷◌, ◌++◌, length, map, replicate, slice_index_or, Option, None, Some}
+use Rattle.std.specs.Prelude.{◌≡◌, ◌⊎◌, All, ℕ, ◌+◌, ◌*◌, ◌<◌, ◌≤◌, ◌&&◌, nat_le, nat_lt, if◌then◌else◌, Bool, true, false, List, length, map, replicate, slice_index_or, Option, None, Some}
 use Rattle.std.specs.List.{range_with_len}
 use Rattle.std.specs.Option.{option_map}
 use Rattle.nl_types.specs.declared.error.VolError.{VolError}
 use Rattle.nl_types.specs.declared.error.VolError.TheVariants.{NoSpace, Fault, Memory}
-use Rattle.nl_types.specs.declared.segment.Log.{Log}
-use Rattle.nl_types.specs.declared.segment.SegmentState.{SegmentState}
-use Rattle.nl_types.specs.declared.segment.SegmentState.TheVariants.{Clean, Dirty, Active, Error}
-use Rattle.nl_types.specs.Segments.{Segments, AreTidy, IsUsed, info_of, with_error, with_clean, total_blocks}
-use Rattle.nl_types.specs.Placing.{Fits, LacksSpace, addresses, with_logs}
+use Rattle.nl_types.specs.Segments.{Segments, AreTidy, IsUsed, total_blocks}
+use Rattle.nl_types.specs.Placing.{LacksSpace}
 use Rattle.nl_types.specs.PartialMaps.{Partial, put_each, adjust_each, is_one_of, NoneTwice}
 use Rattle.nl_types.specs.Entries.{Entry, Content, number_of, written}
 use Rattle.nl_layout.specs.declared.tag.Tag.{Tag}
-use Rattle.nl_segwriter.specs.Content.{Content as Space, tag_of}
-use Rattle.nl_dat.specs.Batches.{Changes}
+use Rattle.nl_segwriter.specs.Content.{Content as Space, Payload, HoldsOnlyUsed, KeepsUsed, IsFreed, tag_of}
+use Rattle.nl_segwriter.specs.Logs.{AreWholeLogs, HaveLogs}
+use Rattle.nl_segwriter.specs.Appended.{IsAppended, IsBrokenOff}
+use Rattle.nl_dat.specs.Batches.{Changes, items_of, tag_for}
 use Rattle.nl_dat.specs.declared.entries.DatEntry.{DatEntry}
 
 -- what a number in use stands for, and the block where its page is now
@@ -27,14 +26,10 @@ pub record Store : Type 0 where
   pub segments : Segments
   -- the pages on the device, by block number
   pub device : List (Option (List ℕ))
-  -- what the summaries say of each block, none where it has no payload
-  pub tags : List (Option Tag)
+  -- the payload of all logs by block number, each with what its log's summary says of it
+  pub payload : List (Option Payload)
   -- how often the device has failed
   pub failures : ℕ
-
--- what the summaries of a space say of a block
-abbrev pub tag_held : Space → ℕ → Option Tag
-tag_held space b = option_map tag_of (space.held b)
 
 -- a store over a space, with no number in use
 abbrev pub new_store : Space → ℕ → Store
@@ -42,7 +37,7 @@ new_store space failures = record {
   numbers = replicate (total_blocks space.segments + 1) None;
   segments = space.segments;
   device = map space.stored (range_with_len 0 (total_blocks space.segments));
-  tags = map (tag_held space) (range_with_len 0 (total_blocks space.segments));
+  payload = map space.held (range_with_len 0 (total_blocks space.segments));
   failures = failures;
 }
 
@@ -71,27 +66,49 @@ address_in s v = option_map block_of (numbered_in s v)
 abbrev pub capacity : Store → ℕ
 capacity s = total_blocks s.segments
 
+-- ---- logs
+
+-- what the device has at a block
+abbrev pub device_in : Store → Partial (List ℕ)
+device_in s b = slice_index_or s.device b None
+
+-- the payload at a block
+abbrev pub payload_in : Store → Partial Payload
+payload_in s b = slice_index_or s.payload b None
+
+-- what the summary of its log says of a payload block
+abbrev pub tag_in : Store → Partial Tag
+tag_in s b = option_map tag_of (payload_in s b)
+
+-- a store as the space that it lies in
+abbrev pub space_in : Store → Space
+space_in s = record { segments = s.segments; held = payload_in s; stored = device_in s }
+
+-- the payload that is written for a number
+abbrev pub payload_for : ℕ → Entry → Payload
+payload_for v e = (tag_for v e.place, e.page)
+
+abbrev pub payload_under : Store → Partial Payload
+payload_under s v = option_map (payload_for v) (content_in s v)
+
 -- ---- what is true of every store
 
--- each number in use has a used block of its own, and the device holds its page there
+-- There is a place for each number, and for 0, which is never used. Each number in use has a used block of its own, where
+-- the device holds its page, and its log's summary tells its number and place. The used part of each segment is whole
+-- logs, and no other block has payload.
 pub record IsStore (s : Store) : Type 0 where
+  pub full : length s.numbers ≡ capacity s + 1
   pub numbers : (v b : ℕ) → address_in s v ≡ Some b → (1 ≤ v) × (v ≤ capacity s)
   pub used : (v b : ℕ) → address_in s v ≡ Some b → IsUsed s.segments b
   pub apart : (v w b : ℕ) → address_in s v ≡ Some b → address_in s w ≡ Some b → v ≡ w
-  pub on_device : (v : ℕ) (n : Numbered) → numbered_in s v ≡ Some n → slice_index_or s.device n.block None ≡ Some n.entry.page
+  pub on_device : (v : ℕ) (n : Numbered) → numbered_in s v ≡ Some n → device_in s n.block ≡ Some n.entry.page
+  pub own_payload : (v : ℕ) (n : Numbered) → numbered_in s v ≡ Some n → payload_in s n.block ≡ Some (payload_for v n.entry)
+  pub whole_logs : AreWholeLogs (space_in s)
+  pub only_used : HoldsOnlyUsed (space_in s)
+  pub have_logs : HaveLogs s.segments
   pub tidy : AreTidy s.segments
 
 -- ---- segments
-
--- the segment has logs, and takes no more
-abbrev pub is_closed : SegmentState → Bool
-is_closed Clean = false
-is_closed Dirty = true
-is_closed Active = false
-is_closed Error = true
-
-abbrev pub IsClosed : Segments → ℕ → Type 0
-IsClosed s segment = is_closed (info_of s.each segment).state ≡ true
 
 -- whether the block, if there is one, lies in the segment
 abbrev pub is_inside : Segments → ℕ → Option ℕ → Bool
@@ -104,41 +121,38 @@ left_outside s segment address m v = if is_inside s segment (address v) then Non
 
 -- ---- what the calls do
 
--- so many payload blocks were written in the logs that fit, at these numbers
-pub record ArePlaced (reserve : Bool) (stamp n : ℕ) (old new : Segments) (at : List ℕ) : Type 0 where
-  pub logs : List Log
-  pub fits : Fits old reserve n logs
-  pub at_is : at ≡ addresses old.blocks logs
-  pub segments : new ≡ with_logs old logs stamp
-
--- births stand at the blocks that placing gives, in their order; numbers end; all else stays where it was
+-- The births are written in logs of this moment and checkpoint number, and stand at the blocks that placing gives, in their
+-- order. Numbers end, and all else stays where it was.
 pub record IsWritten (checkpoint stamp : ℕ) (changes : Changes) (old new : Store) : Type 0 where
   pub content : content_in new ≡ written changes.births changes.ends checkpoint (content_in old)
   pub at : List ℕ
-  pub placed : ArePlaced true stamp (length changes.births) old.segments new.segments at
+  pub appended : IsAppended (space_in old) (space_in new) true stamp checkpoint (items_of changes.births) at
   pub address : address_in new ≡ put_each number_of (λ b. b) changes.births at (address_in old)
 
 -- the block that a number is moved to, in place of its old one
 abbrev pub moved_to : ℕ → ℕ → ℕ
 moved_to new old = new
 
--- The device failed before all logs were written. The segment of the first that was not is in error, and those before it
--- are written. No number has changed.
-pub record IsBrokenOff (reserve : Bool) (stamp n : ℕ) (old new : Store) : Type 0 where
+-- The device failed before all logs with the payload were written. Those before it stand, and what was used stays as it
+-- was. No number has changed.
+pub record IsFaulted (reserve : Bool) (checkpoint stamp : ℕ) (payload : List Payload) (old new : Store) : Type 0 where
   pub failures : old.failures < new.failures
   pub numbers : new.numbers ≡ old.numbers
-  pub done : List Log
-  pub failed : Log
-  pub left : List Log
-  pub fits : Fits old.segments reserve n (done ++ failed ∷ left)
-  pub segments : new.segments ≡ with_error (with_logs old.segments done stamp) failed.segment
+  pub broken_off : IsBrokenOff (space_in old) (space_in new) reserve stamp checkpoint payload
+  pub kept : KeepsUsed old.segments (space_in old) (space_in new)
 
--- Numbers stand at the blocks that placing gives, in their order, outside of the segment; all else stays where it was. What
--- numbers stand for stays.
-pub record IsMoved (segment stamp : ℕ) (numbers : List ℕ) (old new : Store) : Type 0 where
+-- the payload is that of the numbers, in their order
+abbrev pub IsPayloadOf : Store → List ℕ → List Payload → Type 0
+IsPayloadOf s numbers payload = map (payload_under s) numbers ≡ map Some payload
+
+-- The payload of numbers is written anew in logs of this moment and checkpoint number, at the blocks that placing gives, in
+-- their order, outside of the segment. All else stays where it was, and what numbers stand for stays.
+pub record IsMoved (segment checkpoint stamp : ℕ) (numbers : List ℕ) (old new : Store) : Type 0 where
   pub content : content_in new ≡ content_in old
+  pub payload : List Payload
+  pub theirs : IsPayloadOf old numbers payload
   pub at : List ℕ
-  pub placed : ArePlaced false stamp (length numbers) old.segments new.segments at
+  pub appended : IsAppended (space_in old) (space_in new) false stamp checkpoint payload at
   pub address : address_in new ≡ adjust_each moved_to numbers at (address_in old)
   pub out : All (λ v. is_inside old.segments segment (address_in new v) ≡ false) numbers
 
@@ -147,19 +161,25 @@ pub record KeepsStored (old new : Store) : Type 0 where
   pub numbers : new.numbers ≡ old.numbers
   pub segments : new.segments ≡ old.segments
   pub device : new.device ≡ old.device
-  pub tags : new.tags ≡ old.tags
+  pub payload : new.payload ≡ old.payload
 
--- Why numbers are not moved, and what is left then. A fault may come of a read, and then nothing else changes.
-abbrev pub IsMoveRefused : ℕ → ℕ → VolError → Store → Store → Type 0
-IsMoveRefused stamp n NoSpace old new = LacksSpace old.segments false n × KeepsStored old new
-IsMoveRefused stamp n Memory old new = KeepsStored old new
-IsMoveRefused stamp n Fault old new = ((old.failures < new.failures) × KeepsStored old new) ⊎ IsBrokenOff false stamp n old new
-IsMoveRefused stamp n e old new = ⊥
+-- a fault may come of a read, and then nothing else changes
+abbrev pub IsMoveFaulted : ℕ → ℕ → List ℕ → Store → Store → Type 0
+IsMoveFaulted checkpoint stamp numbers old new =
+    ((old.failures < new.failures) × KeepsStored old new) ⊎ ((payload : List Payload) × IsPayloadOf old numbers payload × IsFaulted false checkpoint stamp payload old new)
 
--- The segment is clean. The numbers whose page stood in it are taken out, and counted; all others stay as they were.
+-- why numbers are not moved, and what is left then
+abbrev pub IsMoveRefused : ℕ → ℕ → List ℕ → VolError → Store → Store → Type 0
+IsMoveRefused checkpoint stamp numbers NoSpace old new = LacksSpace old.segments false (length numbers) × KeepsStored old new
+IsMoveRefused checkpoint stamp numbers Memory old new = KeepsStored old new
+IsMoveRefused checkpoint stamp numbers Fault old new = IsMoveFaulted checkpoint stamp numbers old new
+IsMoveRefused checkpoint stamp numbers e old new = ⊥
+
+-- The segment is clean and empty. The numbers whose page stood in it are taken out, and counted; all others stay as they
+-- were, and so do all other blocks.
 pub record IsReclaimed (segment count : ℕ) (old new : Store) : Type 0 where
   pub numbers : (v : ℕ) → numbered_in new v ≡ left_outside old.segments segment (address_in old) (numbered_in old) v
-  pub segments : new.segments ≡ with_clean old.segments segment
+  pub freed : IsFreed segment (space_in old) (space_in new)
   pub gone : List ℕ
   pub each_once : NoneTwice gone
   pub gone_are : (v : ℕ) → is_one_of gone v ≡ is_inside old.segments segment (address_in old v)

@@ -13,12 +13,16 @@ entry_in table v = slice_index_or table v None
 abbrev pub period_of_entry : DatEntry → Period
 period_of_entry entry = record { start = entry.start; end = entry.end }
 
-abbrev pub page_of : Entry → List ℕ
-page_of e = e.page
-
 -- the period of what a number stands for
 abbrev pub period_of : Entry → Period
 period_of e = record { start = e.start; end = e.end }
+
+-- the period of each number in use
+abbrev pub Periods : Type 0
+Periods = Partial Period
+
+abbrev pub periods_of : Content → Periods
+periods_of content v = option_map period_of (content v)
 
 -- ---- which numbers are in use
 

@@ -8,9 +8,10 @@ use crate::entries::{
     DatEntry, Period, empty_places, end_entries, enter_births, entry_at, first_free, move_entries,
     number_in,
 };
-use crate::moving::{count_payload, load_all};
+use crate::moving::{count_payload, load_all, row_tag};
 use crate::reclaim::take_out;
 use crate::store::{VRead, Vstore};
+use nl_layout::Tag;
 use nl_segwriter::Space;
 use nl_sufile::SegTable;
 use nl_types::laws::payload_goes_to_unused_blocks;
@@ -112,9 +113,13 @@ impl<S: Space> Dat<S> {
 }
 
 impl<S: Space> VRead for Dat<S> {
+    ghost use Rattle.nl_types.specs.Roots.{pages_of};
     ghost use Rattle.nl_dat.specs.Stores.{content_in};
+    ghost use Rattle.nl_dat.specs.Table.{periods_of};
 
-    ghost content = { λ d. content_in d };
+    ghost pages = { λ d. pages_of (content_in d) };
+
+    ghost periods = { λ d. periods_of (content_in d) };
 
     fn page(&self, number: VirtualNumber) -> Option<&Page> {
         let entry = entry_at(self.table.as_slice(), number)?;
@@ -130,7 +135,9 @@ impl<S: Space> VRead for Dat<S> {
 impl<S: Space> Vstore for Dat<S> {
     ghost store = { λ d. d };
 
-    ghost contents = { λ d v. Rattle.std.specs.Prelude.refl };
+    ghost reads_pages = { λ d. Rattle.std.specs.Prelude.refl };
+
+    ghost reads_periods = { λ d. Rattle.std.specs.Prelude.refl };
 
     fn capacity(&self) -> u64 {
         // The table tells that no segment is used past its end.
@@ -169,6 +176,11 @@ impl<S: Space> Vstore for Dat<S> {
     fn at(&self, segment: Segment, position: u32) -> Option<VirtualNumber> {
         self.space.table().limits_hold();
         self.found_at(segment, position)
+    }
+
+    fn tag(&self, segment: Segment, position: u32) -> Option<Tag> {
+        self.space.table().limits_hold();
+        row_tag(self.space.summary(segment), position)
     }
 
     fn payload_count(&self, segment: Segment) -> u32 {

@@ -13,6 +13,5 @@ pub use dat::Dat;
 pub use entries::{DatEntry, Period};
 pub use store::{VRead, Vstore, next_number};
 
-
 #[cfg(test)]
 mod tests;

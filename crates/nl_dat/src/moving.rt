@@ -17,7 +17,7 @@ use nl_types::{Segment, VirtualNumber, VolError};
 use std::alloc::Global;
 
 /// What the summary says of the payload at a position of a row, if there is payload.
-fn tag_in(row: &[Option<Payload>], position: u32) -> Option<Tag>
+pub(crate) fn row_tag(row: &[Option<Payload>], position: u32) -> Option<Tag>
     ensures { result ≡ option_map tag_of (slice_index_or row.now position None) }
 {
     match row.get(position as usize) {
@@ -73,7 +73,7 @@ fn load_one<S: Space>(
         None => unreachable!(),
     };
     let position = entry.block.get() - first;
-    let tag = match tag_in(space.summary(segment), position) {
+    let tag = match row_tag(space.summary(segment), position) {
         Some(tag) => tag,
         None => unreachable!(),
     };

@@ -1,33 +1,36 @@
 //! What the layers above know of pages under virtual block numbers.
-ghost use Rattle.std.specs.Prelude.{◌≡◌, ◌≢◌, ℕ, ◌+◌, ◌<◌, ◌≤◌, Bool, true, false, List, length, All, IfOk, IfErr, OnOk, OnErr, IsErrOf, MatchOption, MatchResult, Some, option_copied};
-ghost use Rattle.std.specs.Option.{option_map};
-ghost use Rattle.nl_types.specs.Segments.{block_at};
+ghost use Rattle.std.specs.Prelude.{◌≡◌, ◌≢◌, ℕ, ◌+◌, ◌<◌, ◌≤◌, Bool, true, false, List, length, All, IfOk, IfErr, OnOk, OnErr, IsErrOf, MatchOption, Some, option_copied};
+ghost use Rattle.nl_types.specs.Segments.{IsClosed, block_at};
 ghost use Rattle.nl_types.specs.Placing.{LacksSpace};
-ghost use Rattle.nl_types.specs.Entries.{Content};
+ghost use Rattle.nl_types.specs.Roots.{Pages, pages_of};
 ghost use Rattle.nl_segwriter.specs.Appended.{IsAppendError};
 ghost use Rattle.std.specs.Prelude.{max, ◌^◌};
-ghost use Rattle.nl_dat.specs.Batches.{last_number, IsLowestFree, is_taken, LacksSpaceFrom, Fits};
-ghost use Rattle.nl_dat.specs.Table.{page_of, period_of};
-ghost use Rattle.nl_dat.specs.Located.{number_at, payload_count};
-ghost use Rattle.nl_dat.specs.Stores.{Store, IsStore, IsWritten, IsMoved, IsMoveRefused, IsReclaimed, IsBrokenOff, IsClosed, is_inside, content_in, address_in, capacity};
+ghost use Rattle.nl_dat.specs.Batches.{last_number, IsLowestFree, is_taken, LacksSpaceFrom, Fits, items_of};
+ghost use Rattle.nl_dat.specs.Table.{Periods, periods_of};
+ghost use Rattle.nl_dat.specs.Located.{number_at, payload_count_in};
+ghost use Rattle.nl_dat.specs.Stores.{Store, IsStore, IsWritten, IsMoved, IsMoveRefused, IsReclaimed, IsFaulted, is_inside, content_in, address_in, tag_in, capacity};
 
 use crate::batch::Batch;
 use crate::entries::Period;
+use nl_layout::Tag;
 use nl_types::{CheckpointNumber, Page, Segment, VirtualNumber, VolError};
 use std::alloc::Global;
 
 /// Pages under virtual block numbers, for reading.
 pub trait VRead {
-    /// Which numbers are in use, and what each stands for.
-    ghost content: { Self → Content };
+    /// The page of each number in use.
+    ghost pages: { Self → Pages };
+
+    /// The checkpoints that each number in use belongs to.
+    ghost periods: { Self → Periods };
 
     /// The page of a number, where it is in use.
     fn page(&self, number: VirtualNumber) -> Option<&Page>
-        ensures { option_copied result ≡ option_map page_of (content self.now number) };
+        ensures { option_copied result ≡ pages self.now number };
 
     /// The checkpoints that a number in use belongs to.
     fn period(&self, number: VirtualNumber) -> Option<Period>
-        ensures { result ≡ option_map period_of (content self.now number) };
+        ensures { result ≡ periods self.now number };
 }
 
 /// Pages under virtual block numbers, changed by a whole batch at a time. A number stays the same however often its page
@@ -46,15 +49,16 @@ pub trait Vstore: VRead {
     /// The lowest number that is neither in use nor given to a birth of the batch. Refused by `NoSpace` alone, where no
     /// list of logs fits one block more than the batch has, or yet more. It takes no memory.
     fn fresh(&self, batch: &Batch) -> Result<VirtualNumber, VolError>
-        requires { Fits (capacity (store self.now)) (Self.content self.now) batch.now }
-        ensures lowest { IfOk result (IsLowestFree (Self.content self.now) batch.now.births) }
+        requires { Fits (capacity (store self.now)) (content_in (store self.now)) batch.now }
+        ensures lowest { IfOk result (IsLowestFree (content_in (store self.now)) batch.now.births) }
         ensures inside { IfOk result (λ v. v ≤ capacity (store self.now)) }
-        ensures all_taken { OnErr result ((v : ℕ) → 1 ≤ v → v ≤ capacity (store self.now) → is_taken (Self.content self.now) batch.now.births v ≡ true) }
+        ensures all_taken { OnErr result ((v : ℕ) → 1 ≤ v → v ≤ capacity (store self.now) → is_taken (content_in (store self.now)) batch.now.births v ≡ true) }
         ensures no_space { OnErr result (result ≡ Err VolError.NoSpace) }
         ensures lacks_space { OnErr result (LacksSpaceFrom (store self.now).segments (length batch.now.births + 1)) };
 
     /// Writes the births of a batch, which begin at the checkpoint, and sets its ends there, or changes no number. `now` is
-    /// the moment in whole seconds that the segments get as their stamp.
+    /// the moment in whole seconds that the segments get as their stamp. It goes into the logs' summaries with the
+    /// checkpoint's number.
     ///
     /// Refused by `NoSpace` where no list of logs fits, by `Memory`, and by `Fault` where the device failed.
     fn write(
@@ -64,12 +68,12 @@ pub trait Vstore: VRead {
         checkpoint: CheckpointNumber,
         now: u64,
     ) -> Result<(), VolError>
-        requires { Fits (capacity (store self.old)) (Self.content self.old) batch.now }
+        requires { Fits (capacity (store self.old)) (content_in (store self.old)) batch.now }
         ensures written { OnOk result (IsWritten checkpoint now batch.now (store self.old) (store self.new)) }
         ensures no_space { IsErrOf result VolError.NoSpace → LacksSpace (store self.old).segments true (length batch.now.births) }
         ensures no_space_same { IsErrOf result VolError.NoSpace → store self.new ≡ store self.old }
         ensures memory_same { IsErrOf result VolError.Memory → store self.new ≡ store self.old }
-        ensures fault { IsErrOf result VolError.Fault → IsBrokenOff true now (length batch.now.births) (store self.old) (store self.new) }
+        ensures fault { IsErrOf result VolError.Fault → IsFaulted true checkpoint now (items_of batch.now.births) (store self.old) (store self.new) }
         ensures errors { IfErr result IsAppendError }
         ensures counted { (store self.old).failures ≤ (store self.new).failures };
 
@@ -81,13 +85,21 @@ pub trait Vstore: VRead {
         ensures there { MatchOption result ((v : ℕ) → address_in (store self.now) v ≢ Some (block_at (store self.now).segments.blocks (record { segment = segment; block = position })))
             (λ v. address_in (store self.now) v ≡ Some (block_at (store self.now).segments.blocks (record { segment = segment; block = position }))) };
 
-    /// How many blocks of the logs of a segment have payload, be it that of a number in use or not.
+    /// What the summary of its log says of the block at a position of a segment, be its number in use or not. None where
+    /// the block has no payload.
+    fn tag(&self, segment: Segment, position: u32) -> Option<Tag>
+        requires segment { segment < length (store self.now).segments.each }
+        requires position { position < (store self.now).segments.blocks }
+        ensures { result ≡ tag_in (store self.now) (block_at (store self.now).segments.blocks (record { segment = segment; block = position })) };
+
+    /// How many blocks of the logs of a segment have payload, be their numbers in use or not.
     fn payload_count(&self, segment: Segment) -> u32
         requires { segment < length (store self.now).segments.each }
-        ensures { result ≡ payload_count (store self.now) segment };
+        ensures { result ≡ payload_count_in (store self.now) segment };
 
     /// Moves the pages of numbers out of a segment that takes no more logs, in their order: each is read from the device and
-    /// written elsewhere. The checkpoint is the latest one, and `now` the moment in whole seconds, for the logs' summaries.
+    /// written elsewhere. The checkpoint is the latest one, and `now` the moment in whole seconds: both go into the logs'
+    /// summaries.
     ///
     /// Refused by `NoSpace` where no list of logs fits, by `Memory`, and by `Fault` where the device failed.
     fn relocate(
@@ -101,7 +113,8 @@ pub trait Vstore: VRead {
         requires segment { segment < length (store self.old).segments.each }
         requires closed { IsClosed (store self.old).segments segment }
         requires inside { All (λ v. is_inside (store self.old).segments segment (address_in (store self.old) v) ≡ true) numbers.now }
-        ensures moved { MatchResult result (λ _. IsMoved segment now numbers.now (store self.old) (store self.new)) (λ e. IsMoveRefused now (length numbers.now) e (store self.old) (store self.new)) }
+        ensures moved { OnOk result (IsMoved segment checkpoint now numbers.now (store self.old) (store self.new)) }
+        ensures refused { IfErr result (λ e. IsMoveRefused checkpoint now numbers.now e (store self.old) (store self.new)) }
         ensures counted { (store self.old).failures ≤ (store self.new).failures };
 
     /// Takes the numbers out of use whose pages stand in a segment, and empties the segment. It answers how many they were.
@@ -112,14 +125,16 @@ pub trait Vstore: VRead {
         ensures counted { (store self.old).failures ≤ (store self.new).failures };
 
     /// What is read is what is stored.
-    ghost contents: { (s : Self) (v : ℕ) → Self.content s v ≡ content_in (store s) v };
+    ghost reads_pages: { (s : Self) → Self.pages s ≡ pages_of (content_in (store s)) };
+
+    ghost reads_periods: { (s : Self) → Self.periods s ≡ periods_of (content_in (store s)) };
 }
 
 /// The lowest number that is neither in use nor given to a birth of the batch, be it one that there is or one above: no
 /// store takes a batch with such a one.
 pub fn next_number<V: Vstore>(store: &V, batch: &Batch) -> VirtualNumber
-    requires { Fits (capacity (V.store store.now)) (V.content store.now) batch.now }
-    ensures lowest { IsLowestFree (V.content store.now) batch.now.births result }
+    requires { Fits (capacity (V.store store.now)) (content_in (V.store store.now)) batch.now }
+    ensures lowest { IsLowestFree (content_in (V.store store.now)) batch.now.births result }
     ensures low { result ≤ capacity (V.store store.now) + length batch.now.births + 1 }
 {
     match store.fresh(batch) {

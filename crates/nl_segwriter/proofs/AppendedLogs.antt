@@ -1,5 +1,5 @@
 -- From staged logs to what an append leaves.
-use Rattle.std.proofs.Common.{◌≡◌, ℕ, ◌+◌, ◌*◌, ◌≤◌, List, [], ◌∷◌, ◌++◌, length, map, take, drop, Bool, ap, sym, ◌∙◌, arith, subst}
+use Rattle.std.proofs.Common.{◌≡◌, ℕ, ◌+◌, ◌*◌, ◌≤◌, List, [], ◌∷◌, ◌++◌, length, map, take, drop, Bool, refl, ap, sym, ◌∙◌, arith, subst}
 use Rattle.std.proofs.Math.Nat.{mul-le-mul_right}
 use Rattle.std.proofs.lemmas.List.{length-map, map-append, length-take-le, take-append-drop, length-drop}
 use Rattle.std.specs.List.{AllByRecursion}
@@ -16,7 +16,6 @@ use Rattle.nl_segwriter.specs.Appended.{StandInLogs, KeepsOthers, IsAppended, Is
 use Rattle.nl_segwriter.specs.Staging.{IsReady, AreStaged, AreSized, logs_of, whole_of}
 use Rattle.nl_segwriter.specs.Writing.{LogsStand, BreaksOff}
 use Rattle.nl_segwriter.proofs.Rows.{stand_row, stand-append}
-use Rattle.nl_segwriter.proofs.LogsWritten.{parts_of}
 
 pub sized : (blocks : ℕ) (logs : List Log) → AllByRecursion (IsLog blocks) logs → AreSized logs
 sized blocks [] h = tt
@@ -54,12 +53,29 @@ staged_stamps stamp checkpoint (log ∷ logs) items (x ∷ xs) h =
 
 stand_in_logs : (stamp checkpoint blocks : ℕ) (logs : List Log) (items : List Payload) (xs : List Staged) (held : Held) (stored : Pages) → AreStaged stamp checkpoint logs items xs → LogsStand blocks xs held stored
     → StandInLogs blocks stamp checkpoint logs items held stored
-stand_in_logs stamp checkpoint blocks [] items xs held stored h stand = h.0
+stand_in_logs stamp checkpoint blocks [] items xs held stored h stand = tt
 stand_in_logs stamp checkpoint blocks (log ∷ logs) items [] held stored h stand = absurd h
 stand_in_logs stamp checkpoint blocks (log ∷ logs) items (x ∷ xs) held stored h stand =
     let whole : WholeLog = record { stamp = stamp; checkpoint = checkpoint; payload = take log.count items } in
     let at : StandsFrom (first_block blocks log) (whole_of x) held stored = subst (λ (l : Log). StandsFrom (first_block blocks l) (whole_of x) held stored) h.0.log_is stand.0 in
     (subst (λ (w : WholeLog). StandsFrom (first_block blocks log) w held stored) h.0.whole_is at, stand_in_logs stamp checkpoint blocks logs (drop log.count items) xs held stored h.1 stand.1)
+
+-- the first of the logs that were staged
+stand_in_front : (stamp checkpoint blocks : ℕ) (logs : List Log) (items : List Payload) (xs rest : List Staged) (held : Held) (stored : Pages) → AreStaged stamp checkpoint logs items (xs ++ rest) → LogsStand blocks xs held stored
+    → StandInLogs blocks stamp checkpoint (logs_of xs) items held stored
+stand_in_front stamp checkpoint blocks logs items [] rest held stored h stand = tt
+stand_in_front stamp checkpoint blocks [] items (x ∷ xs) rest held stored h stand = let e = h.1 in absurd (cc)
+stand_in_front stamp checkpoint blocks (log ∷ logs) items (x ∷ xs) rest held stored h stand =
+    let whole : Log → WholeLog = λ l. record { stamp = stamp; checkpoint = checkpoint; payload = take l.count items } in
+    let at : StandsFrom (first_block blocks x.log) (whole log) held stored = subst (λ (w : WholeLog). StandsFrom (first_block blocks x.log) w held stored) h.0.whole_is stand.0 in
+    let count : drop x.log.count items ≡ drop log.count items = ap (λ (l : Log). drop l.count items) h.0.log_is in (
+      subst (λ (l : Log). StandsFrom (first_block blocks x.log) (whole l) held stored) (sym h.0.log_is) at,
+      subst (λ (ps : List Payload). StandInLogs blocks stamp checkpoint (logs_of xs) ps held stored) (sym count) (stand_in_front stamp checkpoint blocks logs (drop log.count items) xs rest held stored h.1 stand.1),
+    )
+
+logs_of-append : (xs : List Staged) (x : Staged) (rest : List Staged) → logs_of (xs ++ x ∷ rest) ≡ logs_of xs ++ x.log ∷ logs_of rest
+logs_of-append [] x rest = refl
+logs_of-append (y ∷ ys) x rest = ap (λ (l : List Log). y.log ∷ l) (logs_of-append ys x rest)
 
 -- ---- where the payload stands
 
@@ -68,7 +84,8 @@ rest_count log logs items e = let l = length-drop log.count items in omega (arit
 
 held_at : (stamp checkpoint blocks : ℕ) (logs : List Log) (items : List Payload) (held : Held) (stored : Pages) → StandInLogs blocks stamp checkpoint logs items held stored → payload_count logs ≡ length items
     → StandAt (addresses blocks logs) items held
-held_at stamp checkpoint blocks [] items held stored h e = subst (λ (xs : List Payload). StandAt [] xs held) (sym h) tt
+held_at stamp checkpoint blocks [] [] held stored h e = tt
+held_at stamp checkpoint blocks [] (item ∷ items) held stored h e = absurd (omega (arith, e))
 held_at stamp checkpoint blocks (log ∷ logs) items held stored h e =
     let long : length (take log.count items) ≡ log.count = length-take-le log.count items (omega (arith, e)) in
     let row = stand_row (first_block blocks log + 1) log.count (take log.count items) held long h.0.payload in
@@ -78,7 +95,8 @@ held_at stamp checkpoint blocks (log ∷ logs) items held stored h e =
 
 stored_at : (stamp checkpoint blocks : ℕ) (logs : List Log) (items : List Payload) (held : Held) (stored : Pages) → StandInLogs blocks stamp checkpoint logs items held stored → payload_count logs ≡ length items
     → StandAt (addresses blocks logs) (map page_of items) stored
-stored_at stamp checkpoint blocks [] items held stored h e = subst (λ (xs : List Payload). StandAt [] (map page_of xs) stored) (sym h) tt
+stored_at stamp checkpoint blocks [] [] held stored h e = tt
+stored_at stamp checkpoint blocks [] (item ∷ items) held stored h e = absurd (omega (arith, e))
 stored_at stamp checkpoint blocks (log ∷ logs) items held stored h e =
     let front : List Payload = take log.count items in
     let rest : List Payload = drop log.count items in
@@ -128,15 +146,17 @@ is_appended old new reserve stamp checkpoint items logs xs numbers plan at table
     }
 
 pub is_broken_off : (old new : Content) (reserve : Bool) (stamp checkpoint : ℕ) (items : List Payload) (logs : List Log) (xs : List Staged) → Plan old.segments reserve stamp checkpoint items logs xs
-    → BreaksOff old.segments new.segments stamp (logs_of xs) → KeepsOthers old.segments.blocks (logs_of xs) old new → IsBrokenOff old new reserve stamp checkpoint items
-is_broken_off old new reserve stamp checkpoint items logs xs plan broken others =
+    → BreaksOff stamp xs old new → IsBrokenOff old new reserve stamp checkpoint items
+is_broken_off old new reserve stamp checkpoint items logs xs plan broken =
     let same : logs_of xs ≡ logs = staged_logs stamp checkpoint logs items xs plan.staged in
-    let parts = parts_of (logs_of xs) old.segments new.segments stamp broken in
+    let all : logs ≡ logs_of broken.written ++ broken.failed.log ∷ logs_of broken.left = sym same ∙ ap logs_of broken.all_are ∙ logs_of-append broken.written broken.failed broken.left in
     record {
-      written = parts.written;
-      failed = parts.failed;
-      left = parts.left;
-      fits = subst (Fits old.segments reserve (length items)) (sym same ∙ parts.all) plan.fits;
-      segments = parts.segments;
-      others = subst (λ (l : List Log). KeepsOthers old.segments.blocks l old new) parts.all others;
+      written = logs_of broken.written;
+      failed = broken.failed.log;
+      left = logs_of broken.left;
+      fits = subst (Fits old.segments reserve (length items)) all plan.fits;
+      segments = broken.segments;
+      logs_stand = stand_in_front stamp checkpoint old.segments.blocks logs items broken.written (broken.failed ∷ broken.left) new.held new.stored
+          (subst (λ (ys : List Staged). AreStaged stamp checkpoint logs items ys) broken.all_are plan.staged) broken.stand;
+      others = broken.others;
     }

@@ -6,8 +6,10 @@ use Rattle.nl_types.specs.Placing.{first_block, IsNextLog, with_log, with_logs}
 use Rattle.nl_types.proofs.UsedParts.{outside_row, used_row}
 use Rattle.nl_segwriter.specs.Content.{Content, KeepsUsed, IsSameAt}
 use Rattle.nl_segwriter.specs.Logs.{WholeLog, StandsFrom}
-use Rattle.nl_segwriter.specs.Appended.{IsOutside}
-use Rattle.nl_segwriter.specs.Writing.{SameOutsideLog, BreaksOff}
+use Rattle.nl_segwriter.specs.Appended.{IsOutside, KeepsOthers}
+use Rattle.nl_segwriter.specs.declared.staging.Staged.{Staged}
+use Rattle.nl_segwriter.specs.Staging.{logs_of, whole_of}
+use Rattle.nl_segwriter.specs.Writing.{SameOutsideLog, LogsStand, BreaksOff}
 use Rattle.nl_segwriter.proofs.WholeLogs.{stands_kept}
 
 pub same_outside : (blocks : ℕ) (log : Log) (old new : Content) (b : ℕ) → SameOutsideLog blocks log old new → IsOutside blocks b log → IsSameAt old new b
@@ -33,17 +35,33 @@ log_stays s t log stamp whole now later next table count stands keeps =
     (let at : first_block s.blocks log + (c - first_block s.blocks log) ≡ c = omega (arith, low) in
     subst (IsUsed (with_log s log stamp)) at (used_row s log stamp (c - first_block s.blocks log) next (omega (arith, low, high, count)))))) stands
 
--- what broke off, by the logs before, the one that failed and those left
-pub record Parts (old new : Segments) (stamp : ℕ) (logs : List Log) : Type 0 where
-  pub written : List Log
-  pub failed : Log
-  pub left : List Log
-  pub all : logs ≡ written ++ failed ∷ left
-  pub segments : new ≡ with_error (with_logs old written stamp) failed.segment
+-- the first log breaks off
+pub breaks_here : (stamp : ℕ) (x : Staged) (rest : List Staged) (old new : Content) → new.segments ≡ with_error old.segments x.log.segment → SameOutsideLog old.segments.blocks x.log old new → BreaksOff stamp (x ∷ rest) old new
+breaks_here stamp x rest old new is same = record {
+  written = [];
+  failed = x;
+  left = rest;
+  all_are = refl;
+  segments = is;
+  stand = tt;
+  others = λ b outside. same_outside old.segments.blocks x.log old new b same outside.0;
+}
 
-pub parts_of : (logs : List Log) (old new : Segments) (stamp : ℕ) → BreaksOff old new stamp logs → Parts old new stamp logs
-parts_of [] old new stamp h = absurd h
-parts_of (log ∷ logs) old new stamp (inl e) = record { written = []; failed = log; left = logs; all = refl; segments = e }
-parts_of (log ∷ logs) old new stamp (inr h) =
-    let p = parts_of logs (with_log old log stamp) new stamp h in
-    record { written = log ∷ p.written; failed = p.failed; left = p.left; all = ap (λ (rest : List Log). log ∷ rest) p.all; segments = p.segments }
+-- one behind the first breaks off
+pub breaks_on : (stamp : ℕ) (x : Staged) (rest : List Staged) (then now later : Content) → IsNextLog then.segments x.log → now.segments ≡ with_log then.segments x.log stamp → length x.payload ≡ x.log.count
+    → StandsFrom (first_block then.segments.blocks x.log) (whole_of x) now.held now.stored → SameOutsideLog then.segments.blocks x.log then now → KeepsUsed now.segments now later
+    → BreaksOff stamp rest now later → BreaksOff stamp (x ∷ rest) then later
+breaks_on stamp x rest then now later next table count stands same keeps h =
+    let blocks : now.segments.blocks ≡ then.segments.blocks = ap (λ (s : Segments). s.blocks) table in
+    record {
+      written = x ∷ h.written;
+      failed = h.failed;
+      left = h.left;
+      all_are = ap (λ (xs : List Staged). x ∷ xs) h.all_are;
+      segments = h.segments ∙ ap (λ (s : Segments). with_error (with_logs s (logs_of h.written) stamp) h.failed.log.segment) table;
+      stand = (log_stays then.segments now.segments x.log stamp (whole_of x) now later next table count stands keeps, subst (λ (n : ℕ). LogsStand n h.written later.held later.stored) blocks h.stand);
+      others = λ b outside.
+          let here = same_outside then.segments.blocks x.log then now b same outside.0 in
+          let more = subst (λ (n : ℕ). KeepsOthers n (logs_of h.written ++ h.failed.log ∷ []) now later) blocks h.others b outside.1 in
+          (more.0 ∙ here.0, more.1 ∙ here.1);
+    }

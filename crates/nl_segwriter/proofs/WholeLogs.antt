@@ -49,7 +49,7 @@ fill_push b end [] log held stored h s =
 fill_push b end (first ∷ logs) log held stored h s = (h.0, fill_push (b + 1 + length first.payload) end logs log held stored h.1 s)
 
 -- a segment whose blocks and used part stay
-filled_same : (old new : Content) (i : ℕ) → new.segments.blocks ≡ old.segments.blocks → (info_of new.segments.each i).used ≡ (info_of old.segments.each i).used
+pub filled_same : (old new : Content) (i : ℕ) → new.segments.blocks ≡ old.segments.blocks → (info_of new.segments.each i).used ≡ (info_of old.segments.each i).used
     → ((c : ℕ) → IsUsed old.segments c → IsSameAt old new c) → (logs : List WholeLog) × IsFilledBy old i logs → (logs : List WholeLog) × IsFilledBy new i logs
 filled_same old new i size used same (logs, h) =
     let start : ℕ = i * old.segments.blocks in

@@ -11,9 +11,9 @@ use Rattle.nl_device.specs.Pages.{Pages}
 use Rattle.nl_segwriter.specs.Content.{Payload, Held, Content, page_of, StandAt, IsSameAt}
 use Rattle.nl_segwriter.specs.Logs.{StandsFrom}
 
--- the payload stands in the logs, shared out in order
+-- The logs stand, with the payload shared out to them in order, each behind a summary of this moment and checkpoint number.
 abbrev pub StandInLogs : ℕ → ℕ → ℕ → List Log → List Payload → Held → Pages → Type 0
-StandInLogs blocks stamp checkpoint [] payload held stored = payload ≡ []
+StandInLogs blocks stamp checkpoint [] payload held stored = Unit {0}
 StandInLogs blocks stamp checkpoint (log ∷ logs) payload held stored =
     StandsFrom (first_block blocks log) (record { stamp = stamp; checkpoint = checkpoint; payload = take log.count payload }) held stored
     × StandInLogs blocks stamp checkpoint logs (drop log.count payload) held stored
@@ -39,14 +39,16 @@ pub record IsAppended (old new : Content) (reserve : Bool) (stamp checkpoint : �
   pub stored : StandAt numbers (map page_of payload) new.stored
   pub others : KeepsOthers old.segments.blocks logs old new
 
--- One of the logs that fit was not written whole: its segment is in error, and none is active. Those before it are written.
+-- One of the logs that fit was not written whole: its segment is in error, and none is active. Those before it are written,
+-- and no block changed but theirs and its own.
 pub record IsBrokenOff (old new : Content) (reserve : Bool) (stamp checkpoint : ℕ) (payload : List Payload) : Type 0 where
   pub written : List Log
   pub failed : Log
   pub left : List Log
   pub fits : Fits old.segments reserve (length payload) (written ++ failed ∷ left)
   pub segments : new.segments ≡ with_error (with_logs old.segments written stamp) failed.segment
-  pub others : KeepsOthers old.segments.blocks (written ++ failed ∷ left) old new
+  pub logs_stand : StandInLogs old.segments.blocks stamp checkpoint written payload new.held new.stored
+  pub others : KeepsOthers old.segments.blocks (written ++ failed ∷ []) old new
 
 -- why an append is refused
 abbrev pub IsAppendError : VolError → Type 0

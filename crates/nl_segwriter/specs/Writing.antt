@@ -1,13 +1,14 @@
 -- Logs that are written, one after another.
-use Rattle.std.specs.Prelude.{◌≡◌, ℕ, ◌+◌, ◌<◌, ◌≤◌, ◌⊎◌, List, [], ◌∷◌, length, slice_get, slice_index_or, Option, None}
+use Rattle.std.specs.Prelude.{◌≡◌, ℕ, ◌+◌, ◌<◌, ◌≤◌, List, [], ◌∷◌, ◌++◌, length, slice_get, slice_index_or, Option, None}
 use Rattle.nl_types.specs.declared.segment.Log.{Log}
 use Rattle.nl_types.specs.Segments.{Segments, with_error}
-use Rattle.nl_types.specs.Placing.{first_block, with_log}
+use Rattle.nl_types.specs.Placing.{first_block, with_logs}
 use Rattle.nl_device.specs.Pages.{Pages}
 use Rattle.nl_segwriter.specs.declared.staging.Staged.{Staged}
 use Rattle.nl_segwriter.specs.Content.{Payload, Held, Content, SameOutside, StandInRow}
 use Rattle.nl_segwriter.specs.Logs.{StandsFrom}
-use Rattle.nl_segwriter.specs.Staging.{whole_of}
+use Rattle.nl_segwriter.specs.Appended.{KeepsOthers}
+use Rattle.nl_segwriter.specs.Staging.{logs_of, whole_of}
 
 -- what a table of blocks has at a number
 abbrev pub held_in : List (Option Payload) → Held
@@ -39,7 +40,13 @@ abbrev pub LogsStand : ℕ → List Staged → Held → Pages → Type 0
 LogsStand blocks [] held stored = Unit {0}
 LogsStand blocks (x ∷ xs) held stored = StandsFrom (first_block blocks x.log) (whole_of x) held stored × LogsStand blocks xs held stored
 
--- One of the logs was not written, and its segment is in error. Those before it are written.
-abbrev pub BreaksOff : Segments → Segments → ℕ → List Log → Type 0
-BreaksOff old new stamp [] = ⊥
-BreaksOff old new stamp (log ∷ logs) = (new ≡ with_error old log.segment) ⊎ BreaksOff (with_log old log stamp) new stamp logs
+-- One of the logs was not written, and its segment is in error. Those before it stand, and no block changed but theirs and
+-- its own.
+pub record BreaksOff (stamp : ℕ) (all : List Staged) (old new : Content) : Type 0 where
+  pub written : List Staged
+  pub failed : Staged
+  pub left : List Staged
+  pub all_are : all ≡ written ++ failed ∷ left
+  pub segments : new.segments ≡ with_error (with_logs old.segments (logs_of written) stamp) failed.log.segment
+  pub stand : LogsStand old.segments.blocks written new.held new.stored
+  pub others : KeepsOthers old.segments.blocks (logs_of written ++ failed.log ∷ []) old new

@@ -95,7 +95,7 @@ impl<D: Device> LogSpace<D> {
         requires stamps { AllByRecursion (λ x. x.stamp ≡ now) all.items }
         ensures table { OnOk result (self.new.table ≡ with_logs self.old.table (logs_of all.items) now) }
         ensures stand { OnOk result (LogsStand self.old.table.blocks all.items (held_in self.new.payload) (D.pages self.new.device)) }
-        ensures broken { OnErr result (BreaksOff self.old.table self.new.table now (logs_of all.items)) }
+        ensures broken { OnErr result (BreaksOff now all.items (content_of self.old.table self.old.payload (D.pages self.old.device)) (content_of self.new.table self.new.payload (D.pages self.new.device))) }
         ensures failed { OnErr result (D.failure_count self.old.device < D.failure_count self.new.device) }
         ensures counted { D.failure_count self.old.device ≤ D.failure_count self.new.device }
         ensures others { KeepsOthers self.old.table.blocks (logs_of all.items) (content_of self.old.table self.old.payload (D.pages self.old.device)) (content_of self.new.table self.new.payload (D.pages self.new.device)) }

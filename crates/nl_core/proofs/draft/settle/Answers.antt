@@ -1,6 +1,7 @@
 use Rattle.std.proofs.Common.{◌≡◌, ℕ, ◌+◌, ◌<◌, List, length, refl, ap, sym, subst, ◌∙◌, arith}
 use Rattle.std.proofs.lemmas.List.{length_push}
 use Rattle.nl_types.specs.Entries.{Place}
+use Rattle.nl_dat.specs.Stores.{content_in}
 use Rattle.nl_core.specs.Content.{file_in, no_file}
 use Rattle.nl_core.specs.Settled.{number_in, numbers_of, changed_slots, IsSettledFile}
 use Rattle.nl_core.specs.Gains.{Gains}
@@ -10,7 +11,7 @@ use Rattle.nl_core.proofs.draft.settle.Goals as goal
 
 pub loop-index-preserved : goal.loop-index-preserved
 loop-index-preserved g c =
-    let content = g.V.VRead.content c.args.store.now in
+    let content = content_in (g.V.Vstore.store c.args.store.now) in
     let numbers = numbers_of c.args.latest.now in
     let files = c.args.files.now in
     let i = c.loop-index.index in

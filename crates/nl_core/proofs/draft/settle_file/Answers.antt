@@ -3,6 +3,7 @@ use Rattle.std.specs.Prelude.{map}
 use Rattle.std.proofs.lemmas.List.{take_all, length_push}
 use Rattle.nl_types.specs.Entries.{Place}
 use Rattle.nl_types.specs.Lifetimes.{Numbers}
+use Rattle.nl_dat.specs.Stores.{content_in}
 use Rattle.nl_core.specs.Content.{slot_in}
 use Rattle.nl_core.specs.Settled.{file_place, number_in, unwritten, changed_slots, IsSettled}
 use Rattle.nl_core.specs.Gains.{Gains}
@@ -13,7 +14,7 @@ use Rattle.nl_core.proofs.draft.settle_file.Goals as goal
 
 pub loop-block-preserved : goal.loop-block-preserved
 loop-block-preserved g c =
-    let content = g.V.VRead.content c.args.store.now in
+    let content = content_in (g.V.Vstore.store c.args.store.now) in
     let latest = c.args.latest.now in
     let slots = c.args.file.now.slots in
     let k = c.args.index in
@@ -39,4 +40,4 @@ pub returns-clause-gains : goal.returns-clause-gains
 returns-clause-gains g c = λ numbers same.
     let slots = c.args.file.now.slots in
     let all : take c.loop-block.block slots ≡ slots = take_all c.loop-block.block slots (omega (arith, ap length c.as_slice-slot-items.ensures)) in
-    subst (λ (xs : List Slot). Gains (g.V.VRead.content c.args.store.now) numbers (changed_slots c.args.index 0 xs) c.args.batch.now c.loop-block.batch) all (c.loop-block.invariant.gains numbers same)
+    subst (λ (xs : List Slot). Gains (content_in (g.V.Vstore.store c.args.store.now)) numbers (changed_slots c.args.index 0 xs) c.args.batch.now c.loop-block.batch) all (c.loop-block.invariant.gains numbers same)

@@ -1,14 +1,15 @@
-use Rattle.std.proofs.Common.{◌≡◌, true, length, sym, ap, ◌∙◌, subst}
+use Rattle.std.proofs.Common.{◌≡◌, true, sym, ap, ◌∙◌, subst}
 use Rattle.std.specs.Prelude.{Ok, Err}
 use Rattle.std.proofs.lemmas.Result.{err_from_is_err_and}
 use Rattle.nl_types.specs.declared.event.Event.TheVariants as event
 use Rattle.nl_types.specs.declared.reply.Answer.TheVariants as answer
-use Rattle.nl_dat.specs.Stores.{IsWritten, IsBrokenOff, capacity}
+use Rattle.nl_dat.specs.Batches.{items_of}
+use Rattle.nl_dat.specs.Stores.{IsWritten, IsFaulted, capacity}
 use Rattle.nl_core.specs.Volume.{next_checkpoint, published}
 use Rattle.nl_types.proofs.ExactLifetimes.{ledger-after, covered_kept_all, ends_once}
 use Rattle.nl_core.specs.Layout.{Does, layout_of, unshared}
 use Rattle.nl_core.specs.declared.checkpoint.Checkpoint.{Checkpoint}
-use Rattle.nl_core.proofs.Checkpointing.{count-births, refused-draft, does-published, does-refused, does-unwritten}
+use Rattle.nl_core.proofs.Checkpointing.{refused-draft, does-published, does-refused, does-unwritten}
 use Rattle.nl_core.proofs.Ledgers.{latest-live}
 use Rattle.nl_core.proofs.pen.checkpoint.Goals as goal
 
@@ -28,10 +29,10 @@ returns-in_err-written g c =
     let drafted = c.in_ok-draft.ensures.drafted in
     let told = c.in_err-written.ensures in
     rw (p.1, p.2) (subst (λ ls. Does unshared (layout_of lists c.args.store.now) (event.Checkpoint c.args.mode c.args.moment) (Err c.in_err-written.field-0.0) (layout_of ls c.write-written.new.self)) (sym c.draft.ensures.same)
-    (does-unwritten (layout_of lists c.args.store.now) c.write-written.new.self c.args.mode c.args.moment (length c.in_ok-draft.draft.batch.births) c.in_err-written.field-0.0 c.requires.held drafted.left
-    (count-births _ lists.latest.files lists.files c.in_ok-draft.draft.batch drafted.writes) told.errors
+    (does-unwritten (layout_of lists c.args.store.now) c.write-written.new.self c.args.mode c.args.moment c.in_ok-draft.draft.batch c.in_err-written.field-0.0 c.requires.held drafted.left
+    drafted.writes told.errors
     (λ is. told.no_space (ap Err is)) (λ is. told.no_space_same (ap Err is)) (λ is. told.memory_same (ap Err is))
-    (λ is. subst (λ (k : Checkpoint). IsBrokenOff true k.stamp (length c.in_ok-draft.draft.batch.births) c.args.store.now c.write-written.new.self) drafted.checkpoint (told.fault (ap Err is)))
+    (λ is. subst (λ (k : Checkpoint). IsFaulted true k.number k.stamp (items_of c.in_ok-draft.draft.batch.births) c.args.store.now c.write-written.new.self) drafted.checkpoint (told.fault (ap Err is)))
     c.capacity.ensures.is_store))
 
 pub returns : goal.returns

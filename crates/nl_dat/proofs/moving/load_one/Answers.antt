@@ -14,13 +14,13 @@ read_at space lent segment read blocks block read_block row o read_is blocks_is 
     let first : read * blocks ≡ segment * space.segments.blocks = ap (λ n. n * blocks) read_is ∙ ap (λ n. segment * n) (blocks_is ∙ ap (λ (s : Segments). s.blocks) lent_is) in
     sym (is ∙ ap (λ n. option_map tag_of (slice_index_or row (n - read * blocks) None)) block_is ∙ ap (λ n. option_map tag_of (slice_index_or row (block - n) None)) first)
 
-pub unreachable-requires-in-None-tag_in : goal.unreachable-requires-in-None-tag_in
-unreachable-requires-in-None-tag_in g c =
+pub unreachable-requires-in-None-row_tag : goal.unreachable-requires-in-None-row_tag
+unreachable-requires-in-None-row_tag g c =
     let space = g.S.Space.content c.args.space.now in
     let there = sym c.entry_at.ensures ∙ c.in-Some.is in
     let f = found c.args.table.now space c.summary.result.now c.args.segment c.args.number c.in-Some.entry (subst AreTidy c.table-segments.ensures c.limits_hold.ensures.tidy) c.requires.backed there c.requires.inside c.summary.ensures.count c.summary.ensures.each in
-    let tag = read_at space c.table-segments.result.now c.args.segment c.get.result c.blocks-2.result c.in-Some.entry.block c.get-2.result c.summary.result.now c.tag_in.result c.get.ensures c.blocks-2.ensures c.table-segments.ensures c.get-2.ensures c.tag_in.ensures in
-    let some_none : Some (tag_of f.payload) ≡ None = sym (ap (option_map tag_of) f.in_row) ∙ tag ∙ c.in-None-tag_in.is in
+    let tag = read_at space c.table-segments.result.now c.args.segment c.get.result c.blocks-2.result c.in-Some.entry.block c.get-2.result c.summary.result.now c.row_tag.result c.get.ensures c.blocks-2.ensures c.table-segments.ensures c.get-2.ensures c.row_tag.ensures in
+    let some_none : Some (tag_of f.payload) ≡ None = sym (ap (option_map tag_of) f.in_row) ∙ tag ∙ c.in-None-row_tag.is in
     cc
 
 pub returns-clause-payload : goal.returns-clause-payload
@@ -28,5 +28,5 @@ returns-clause-payload g c =
     let space = g.S.Space.content c.args.space.now in
     let there = sym c.entry_at.ensures ∙ c.in-Some.is in
     let f = found c.args.table.now space c.summary.result.now c.args.segment c.args.number c.in-Some.entry (subst AreTidy c.table-segments.ensures c.limits_hold.ensures.tidy) c.requires.backed there c.requires.inside c.summary.ensures.count c.summary.ensures.each in
-    let tag = read_at space c.table-segments.result.now c.args.segment c.get.result c.blocks-2.result c.in-Some.entry.block c.get-2.result c.summary.result.now c.tag_in.result c.get.ensures c.blocks-2.ensures c.table-segments.ensures c.get-2.ensures c.tag_in.ensures in
-    loaded c.args.table.now space c.summary.result.now (c.args.segment * space.segments.blocks) c.args.number c.in-Some.entry c.in-Some-tag_in.tag c.in_ok-page.page there f (tag ∙ c.in-Some-tag_in.is) c.in_ok-page.ensures.page
+    let tag = read_at space c.table-segments.result.now c.args.segment c.get.result c.blocks-2.result c.in-Some.entry.block c.get-2.result c.summary.result.now c.row_tag.result c.get.ensures c.blocks-2.ensures c.table-segments.ensures c.get-2.ensures c.row_tag.ensures in
+    loaded c.args.table.now space c.summary.result.now (c.args.segment * space.segments.blocks) c.args.number c.in-Some.entry c.in-Some-row_tag.tag c.in_ok-page.page there f (tag ∙ c.in-Some-row_tag.is) c.in_ok-page.ensures.page

@@ -2,7 +2,6 @@ use Rattle.std.proofs.Common.{◌≡◌, ℕ, ◌+◌, ◌<◌, ◌≤◌, true,
 use Rattle.std.specs.Prelude.{Bool, ◌||◌}
 use Rattle.std.specs.Option.{option_map}
 use Rattle.std.proofs.lemmas.Bool.{cases_Bool, cases_lt}
-use Rattle.nl_types.specs.Entries.{Content}
 use Rattle.nl_dat.specs.Batches.{Changes, Fits, IsLowestFree, is_born, is_taken, last_number}
 use Rattle.nl_dat.specs.Stores.{Numbered, Store, IsStore, block_of, entry_of, numbered_in, content_in, capacity}
 use Rattle.nl_dat.proofs.store.next_number.Goals as goal
@@ -14,11 +13,11 @@ nothing_above s v is above = of (numbered_in s v) refl
     of None e = refl
     of (Some n) e = absurd (let k = is.numbers v n.block (ap (option_map block_of) e) in omega (arith, k.1, above))
 
-lowest_above : (s : Store) (content : Content) (changes : Changes) → ((v : ℕ) → content v ≡ content_in s v) → IsStore s → Fits (capacity s) content changes
-    → ((v : ℕ) → 1 ≤ v → v ≤ capacity s → is_taken content changes.births v ≡ true) → IsLowestFree content changes.births (max (capacity s) (last_number changes.births) + 1)
-lowest_above s content changes same is fits taken = record {
+lowest_above : (s : Store) (changes : Changes) → IsStore s → Fits (capacity s) (content_in s) changes
+    → ((v : ℕ) → 1 ≤ v → v ≤ capacity s → is_taken (content_in s) changes.births v ≡ true) → IsLowestFree (content_in s) changes.births (max (capacity s) (last_number changes.births) + 1)
+lowest_above s changes is fits taken = record {
   positive = omega arith;
-  free = ap (λ (t : Bool). t || is_born changes.births top) (ap is_some (same top) ∙ nothing_above s top is (omega arith)) ∙ unborn;
+  free = ap (λ (t : Bool). t || is_born changes.births top) (nothing_above s top is (omega arith)) ∙ unborn;
   lowest = λ w low high. elim (cases_lt (capacity s) w) [
     | inl above ↦ fits.taken w low (omega (arith, above, high))
     | inr below ↦ taken w low below
@@ -37,4 +36,4 @@ lowest_above s content changes same is fits taken = record {
 pub returns-in-Err-clause-lowest : goal.returns-in-Err-clause-lowest
 returns-in-Err-clause-lowest g c =
     rw (c.above_all.ensures, c.capacity.ensures.count)
-    (lowest_above (g.V.Vstore.store c.args.store.now) (g.V.VRead.content c.args.store.now) c.args.batch.now (g.met.V.Vstore.contents c.args.store.now) c.capacity.ensures.is_store c.requires c.in-Err.ensures.all_taken)
+    (lowest_above (g.V.Vstore.store c.args.store.now) c.args.batch.now c.capacity.ensures.is_store c.requires c.in-Err.ensures.all_taken)

@@ -7,7 +7,7 @@ use Rattle.nl_types.specs.declared.event.Change.TheVariants.{Write}
 use Rattle.nl_types.specs.declared.error.VolError.TheVariants.{Memory}
 use Rattle.nl_types.specs.declared.reply.Answer.TheVariants.{Written}
 use Rattle.nl_types.specs.Limits.{file_limit}
-use Rattle.nl_types.specs.Roots.{Pages, pages_of}
+use Rattle.nl_types.specs.Roots.{Pages}
 use Rattle.nl_core.specs.Content.{file_in, no_file, slot_in, slot_at, IsTidy, IsKept}
 use Rattle.nl_core.specs.Over.{HasMade, IsWritten}
 use Rattle.nl_core.specs.Changes.{HasWritten}
@@ -26,7 +26,7 @@ use Rattle.nl_core.proofs.tables.Tables.write.Goals as goal
 pub returns-in_err-index-clause-follows : goal.returns-in_err-index-clause-follows
 returns-in_err-index-clause-follows g c = λ cleaned w m.
     let p = err_from_is_err_and c.from_residual.result c.from_residual.ensures.1 in
-    let pages = pages_of (g.V.VRead.content c.args.store.now) in
+    let pages = g.V.VRead.pages c.args.store.now in
     let old = c.args.self.now.lists in
     let files : c.deref.result.now ≡ old.files = c.deref.ensures.value ∙ ap (λ (r : Roomy). r.lists.files) c.self.view_is in
     rw (p.1, p.2) (writes_refused cleaned (over pages old) w c.args.path.now c.args.offset c.args.bytes.now c.in_err-index.field-0.0 m
@@ -34,7 +34,7 @@ returns-in_err-index-clause-follows g c = λ cleaned w m.
 
 pub returns-then-len-eq0-clause-follows : goal.returns-then-len-eq0-clause-follows
 returns-then-len-eq0-clause-follows g c = λ cleaned w m.
-    let pages = pages_of (g.V.VRead.content c.args.store.now) in
+    let pages = g.V.VRead.pages c.args.store.now in
     let old = c.args.self.now.lists in
     let files : c.deref.result.now ≡ old.files = c.deref.ensures.value ∙ ap (λ (r : Roomy). r.lists.files) c.self.view_is in
     let found : FindsFile pages old.files c.args.path.now (Ok c.in_ok-index.index) = subst (λ fs. FindsFile pages fs c.args.path.now (Ok c.in_ok-index.index)) files (c.in_ok-index.ensures pages) in
@@ -42,7 +42,7 @@ returns-then-len-eq0-clause-follows g c = λ cleaned w m.
 
 pub returns-then-len-gt-FILE_LIMIT-clause-follows : goal.returns-then-len-gt-FILE_LIMIT-clause-follows
 returns-then-len-gt-FILE_LIMIT-clause-follows g c = λ cleaned w m.
-    let pages = pages_of (g.V.VRead.content c.args.store.now) in
+    let pages = g.V.VRead.pages c.args.store.now in
     let old = c.args.self.now.lists in
     let files : c.deref.result.now ≡ old.files = c.deref.ensures.value ∙ ap (λ (r : Roomy). r.lists.files) c.self.view_is in
     let found : FindsFile pages old.files c.args.path.now (Ok c.in_ok-index.index) = subst (λ fs. FindsFile pages fs c.args.path.now (Ok c.in_ok-index.index)) files (c.in_ok-index.ensures pages) in
@@ -54,7 +54,7 @@ returns-then-len-gt-FILE_LIMIT-clause-follows g c = λ cleaned w m.
 
 pub index_mut-requires : goal.index_mut-requires
 index_mut-requires g c =
-    let pages = pages_of (g.V.VRead.content c.args.store.now) in
+    let pages = g.V.VRead.pages c.args.store.now in
     let found : FindsFile pages c.deref.result.now c.args.path.now (Ok c.in_ok-index.index) = c.in_ok-index.ensures pages in
     omega (arith, found.2.within, c.deref.ensures.len)
 
@@ -88,7 +88,7 @@ sound-found pages l lent path index latest slots offset bytes old new sound foun
 
 pub write-requires-clause-tidy : goal.write-requires-clause-tidy
 write-requires-clause-tidy g c =
-    let pages = pages_of (g.V.VRead.content c.args.store.now) in
+    let pages = g.V.VRead.pages c.args.store.now in
     let index = c.in_ok-index.index in
     let sound : IsSoundVolume (over pages (lists_of c.self.inside)) = subst (λ (l : Lists). IsSoundVolume (over pages l)) (sym (ap (λ (r : Roomy). r.lists) c.self.view_is)) c.requires.sound in
     let file = file_there pages c.self.inside.files.items c.deref.result.now c.args.path.now index c.index_mut.result.now (c.in_ok-index.ensures pages) c.deref.ensures.value c.index_mut.ensures.value in
@@ -96,7 +96,7 @@ write-requires-clause-tidy g c =
 
 pub write-requires-clause-count : goal.write-requires-clause-count
 write-requires-clause-count g c =
-    let pages = pages_of (g.V.VRead.content c.args.store.now) in
+    let pages = g.V.VRead.pages c.args.store.now in
     let index = c.in_ok-index.index in
     let sound : IsSoundVolume (over pages (lists_of c.self.inside)) = subst (λ (l : Lists). IsSoundVolume (over pages l)) (sym (ap (λ (r : Roomy). r.lists) c.self.view_is)) c.requires.sound in
     let file = file_there pages c.self.inside.files.items c.deref.result.now c.args.path.now index c.index_mut.result.now (c.in_ok-index.ensures pages) c.deref.ensures.value c.index_mut.ensures.value in
@@ -104,7 +104,7 @@ write-requires-clause-count g c =
 
 pub write-requires-clause-kept : goal.write-requires-clause-kept
 write-requires-clause-kept g c = λ i.
-    let pages = pages_of (g.V.VRead.content c.args.store.now) in
+    let pages = g.V.VRead.pages c.args.store.now in
     let sound : IsSoundVolume (over pages (lists_of c.self.inside)) = subst (λ (l : Lists). IsSoundVolume (over pages l)) (sym (ap (λ (r : Roomy). r.lists) c.self.view_is)) c.requires.sound in
     subst (IsKept pages) (sym (latest_slots c.self.inside.latest.files c.as_slice.result.now c.slots_of-latest.result.now c.in_ok-index.index c.as_slice.ensures c.slots_of-latest.ensures i))
     (sound.latest c.in_ok-index.index i)
@@ -117,14 +117,14 @@ put_back l old index file lent is same read =
 pub returns-in_err-write-clause-follows : goal.returns-in_err-write-clause-follows
 returns-in_err-write-clause-follows g c = λ cleaned w m.
     let p = err_from_is_err_and c.from_residual-in_err-write.result c.from_residual-in_err-write.ensures.1 in
-    let pages = pages_of (g.V.VRead.content c.args.store.now) in
+    let pages = g.V.VRead.pages c.args.store.now in
     let old = c.args.self.now.lists in
     let same = put_back (lists_of c.self.inside) old c.in_ok-index.index c.write.new.self c.index_mut.result.now (ap (λ (r : Roomy). r.lists) c.self.view_is) c.in_err-write.ensures.err c.index_mut.ensures.value in
     rw (p.1, p.2) (subst (λ (l : Lists). Leads cleaned w (Apply (Write c.args.path.now c.args.offset c.args.bytes.now)) (Err Memory) (over pages l)) (sym same) (lacks_memory cleaned (over pages old) w (Apply (Write c.args.path.now c.args.offset c.args.bytes.now)) m))
 
 pub returns-clause-follows : goal.returns-clause-follows
 returns-clause-follows g c = λ cleaned w m.
-    let pages = pages_of (g.V.VRead.content c.args.store.now) in
+    let pages = g.V.VRead.pages c.args.store.now in
     let l = lists_of c.self.inside in
     let before : l ≡ c.args.self.now.lists = ap (λ (r : Roomy). r.lists) c.self.view_is in
     let index = c.in_ok-index.index in
@@ -136,7 +136,7 @@ returns-clause-follows g c = λ cleaned w m.
 
 pub returns-clause-blocks : goal.returns-clause-blocks
 returns-clause-blocks g c =
-    let pages = pages_of (g.V.VRead.content c.args.store.now) in
+    let pages = g.V.VRead.pages c.args.store.now in
     let l = lists_of c.self.inside in
     let before : l ≡ c.args.self.now.lists = ap (λ (r : Roomy). r.lists) c.self.view_is in
     let sound : IsSoundVolume (over pages l) = subst (λ (u : Lists). IsSoundVolume (over pages u)) (sym before) c.requires.sound in
@@ -146,7 +146,7 @@ returns-clause-blocks g c =
 
 pub returns-then-len-eq0-clause-changed : goal.returns-then-len-eq0-clause-changed
 returns-then-len-eq0-clause-changed g c =
-    let pages = pages_of (g.V.VRead.content c.args.store.now) in
+    let pages = g.V.VRead.pages c.args.store.now in
     let old = c.args.self.now.lists in
     let files : c.deref.result.now ≡ old.files = c.deref.ensures.value ∙ ap (λ (r : Roomy). r.lists.files) c.self.view_is in
     let found : FindsFile pages old.files c.args.path.now (Ok c.in_ok-index.index) = subst (λ fs. FindsFile pages fs c.args.path.now (Ok c.in_ok-index.index)) files (c.in_ok-index.ensures pages) in
@@ -154,7 +154,7 @@ returns-then-len-eq0-clause-changed g c =
 
 pub returns-clause-changed : goal.returns-clause-changed
 returns-clause-changed g c =
-    let pages = pages_of (g.V.VRead.content c.args.store.now) in
+    let pages = g.V.VRead.pages c.args.store.now in
     let l = lists_of c.self.inside in
     let old = c.args.self.now.lists in
     let index = c.in_ok-index.index in

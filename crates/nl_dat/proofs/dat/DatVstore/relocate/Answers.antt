@@ -3,18 +3,18 @@ use Rattle.std.specs.Prelude.{Err}
 use Rattle.std.specs.List.{All}
 use Rattle.std.proofs.lemmas.Result.{err_from_is_err_and}
 use Rattle.std.proofs.lemmas.List.{length-map}
-use Rattle.nl_types.specs.Segments.{AreTidy, StaysUsed}
+use Rattle.nl_types.specs.Segments.{AreTidy, IsClosed, StaysUsed}
 use Rattle.nl_types.specs.PartialMaps.{adjust_each}
 use Rattle.nl_segwriter.specs.Content.{Payload, Content as Space, KeepsUsed}
 use Rattle.nl_segwriter.specs.Appended.{IsAppended}
 use Rattle.nl_dat.specs.declared.entries.DatEntry.{DatEntry}
 use Rattle.nl_dat.specs.Batches.{births_of}
 use Rattle.nl_dat.specs.Table.{entry_in, stored_at, moved_entry}
-use Rattle.nl_dat.specs.Stores.{Store, IsMoved, IsMoveRefused, IsClosed, is_inside, address_in}
+use Rattle.nl_dat.specs.Stores.{Store, IsMoved, IsMoveRefused, is_inside, address_in}
 use Rattle.nl_dat.specs.Inside.{births_in, store_of, IsTable}
 use Rattle.nl_dat.proofs.Writing.{table-kept}
 use Rattle.nl_dat.proofs.Refusals.{total-refused}
-use Rattle.nl_dat.proofs.Relocating.{table-moved, is_moved, move-refused}
+use Rattle.nl_dat.proofs.Relocating.{IsRefused, table-moved, is_moved, move-refused, theirs-of}
 use Rattle.nl_dat.proofs.dat.DatVstore.relocate.Goals as goal
 
 pub invariant_of-self-in_err-blocks : goal.invariant_of-self-in_err-blocks
@@ -30,20 +30,31 @@ read-count : (table : List (Option DatEntry)) (space : Space) (numbers : List �
 read-count table space numbers payload read loaded is =
     ap length is ∙ sym (length-map payload Rattle.nl_dat.specs.Batches.birth_of_item) ∙ sym (length-map (births_of payload) Some) ∙ sym (ap length loaded) ∙ length-map numbers (stored_at (entry_in table) (births_in space))
 
-pub returns-in_err-blocks-clause-moved : goal.returns-in_err-blocks-clause-moved
-returns-in_err-blocks-clause-moved g c =
+pub returns-in_err-blocks-clause-refused : goal.returns-in_err-blocks-clause-refused
+returns-in_err-blocks-clause-refused g c =
     let p = err_from_is_err_and c.from_residual-in_err-blocks.result c.from_residual-in_err-blocks.ensures.1 in
     let table = c.self.inside.table in
     let old = g.S.Space.content c.self.inside.space in
     let mid = g.S.Space.content c.load_all.new.space in
     let later = g.S.Space.content c.append.new.self in
+    let before = g.S.Space.failure_count c.self.inside.space in
+    let after = g.S.Space.failure_count c.append.new.self in
     let e = c.in_err-blocks.ensures in
-    let count = read-count table old c.args.numbers.now c.in_ok-payload.payload.items c.deref.result.now (ap (λ t. map (stored_at (entry_in t) (births_in old)) c.args.numbers.now) (sym c.as_slice.ensures) ∙ c.in_ok-payload.ensures.payload) c.deref.ensures.value in
-    rw (p.1, p.2) (subst (λ s. IsMoveRefused c.args.now (length c.args.numbers.now) c.in_err-blocks.field-0.0 s (store_of table later (g.S.Space.failure_count c.append.new.self))) c.self.view_is
-    (subst (λ m. IsMoveRefused c.args.now (length c.args.numbers.now) c.in_err-blocks.field-0.0 (store_of table m (g.S.Space.failure_count c.self.inside.space)) (store_of table later (g.S.Space.failure_count c.append.new.self))) c.in_ok-payload.ensures.same
-    (move-refused table (c.self.inside.filled + 1) mid later (g.S.Space.failure_count c.self.inside.space) (g.S.Space.failure_count c.load_all.new.space) (g.S.Space.failure_count c.append.new.self) c.args.now c.args.checkpoint (length c.args.numbers.now) c.deref.result.now c.in_err-blocks.field-0.0
-    (subst (IsTable table (c.self.inside.filled + 1)) (sym c.in_ok-payload.ensures.same) c.self.invariant) count e.kept c.load_all.ensures.counted e.errors
-    (λ is. ap g.S.Space.content (e.no_space_same (ap Err is))) (λ is. e.no_space (ap Err is)) (λ is. ap g.S.Space.content (e.memory_same (ap Err is))) (λ is. e.fault (ap Err is)) (λ is. e.broken_off (ap Err is)))))
+    let same : mid ≡ old = c.in_ok-payload.ensures.same in
+    let loaded = ap (λ t. map (stored_at (entry_in t) (births_in old)) c.args.numbers.now) (sym c.as_slice.ensures) ∙ c.in_ok-payload.ensures.payload ∙ ap (λ items. map Some (births_of items)) (sym c.deref.ensures.value) in
+    let refused : IsRefused false c.args.now c.args.checkpoint c.deref.result.now c.in_err-blocks.field-0.0 mid later (g.S.Space.failure_count c.load_all.new.space) after = record {
+      why = e.errors;
+      no_space = λ is. ap g.S.Space.content (e.no_space_same (ap Err is));
+      lacks = λ is. e.no_space (ap Err is);
+      memory = λ is. ap g.S.Space.content (e.memory_same (ap Err is));
+      risen = λ is. e.fault (ap Err is);
+      broken = λ is. e.broken_off (ap Err is);
+    } in
+    rw (p.1, p.2) (subst (λ s. IsMoveRefused c.args.checkpoint c.args.now c.args.numbers.now c.in_err-blocks.field-0.0 s (store_of table later after)) c.self.view_is
+    (move-refused table (c.self.inside.filled + 1) old later before (g.S.Space.failure_count c.load_all.new.space) after c.args.checkpoint c.args.now c.args.numbers.now c.deref.result.now c.in_err-blocks.field-0.0
+    (subst AreTidy c.table.ensures c.limits_hold.ensures.tidy) c.self.invariant (theirs-of table (c.self.inside.filled + 1) old before c.args.numbers.now c.deref.result.now c.self.invariant loaded)
+    (subst (λ (m : Space). KeepsUsed m.segments m later) same e.kept) c.load_all.ensures.counted
+    (subst (λ (m : Space). IsRefused false c.args.now c.args.checkpoint c.deref.result.now c.in_err-blocks.field-0.0 m later (g.S.Space.failure_count c.load_all.new.space) after) same refused)))
 
 -- as many blocks were answered as there are numbers
 pub move_entries-requires-clause-each : goal.move_entries-requires-clause-each
@@ -74,7 +85,7 @@ returns-clause-moved g c =
     let e = c.in_ok-blocks.ensures in
     let same = c.in_ok-payload.ensures.same in
     let loaded = ap (λ t. map (stored_at (entry_in t) (births_in old)) c.args.numbers.now) (sym c.as_slice.ensures) ∙ c.in_ok-payload.ensures.payload ∙ ap (λ items. map Some (births_of items)) (sym c.deref.ensures.value) in
-    subst (λ s. IsMoved c.args.segment c.args.now c.args.numbers.now s (store_of c.move_entries.new.table later (g.S.Space.failure_count c.append.new.self))) c.self.view_is
+    subst (λ s. IsMoved c.args.segment c.args.checkpoint c.args.now c.args.numbers.now s (store_of c.move_entries.new.table later (g.S.Space.failure_count c.append.new.self))) c.self.view_is
     (is_moved table c.move_entries.new.table (c.self.inside.filled + 1) old later (g.S.Space.failure_count c.self.inside.space) (g.S.Space.failure_count c.append.new.self) c.args.checkpoint c.args.now c.args.segment c.args.numbers.now c.in_ok-blocks.blocks.items c.deref.result.now
     c.self.invariant loaded (subst (λ m. IsAppended m later false c.args.now c.args.checkpoint c.deref.result.now c.in_ok-blocks.blocks.items) same e.appended)
     (subst (λ (m : Space). KeepsUsed m.segments m later) same e.kept) (subst (λ (m : Space). StaysUsed m.segments later.segments) same e.stays)

@@ -8,12 +8,12 @@ use Rattle.nl_types.specs.PartialMaps.{put_each, adjust_all}
 use Rattle.nl_types.proofs.PartialMaps.{is_one_of-get_or}
 use Rattle.nl_segwriter.specs.Content.{Payload}
 use Rattle.nl_dat.specs.declared.entries.DatEntry.{DatEntry}
-use Rattle.nl_dat.specs.Batches.{Changes, Fits, birth_of_item, births_of, last_number}
+use Rattle.nl_dat.specs.Batches.{Changes, Fits, birth_of_item, births_of, items_of, last_number}
 use Rattle.nl_dat.specs.Table.{entry_in, new_entry, ended_entry}
-use Rattle.nl_dat.specs.Stores.{Store, IsWritten, IsBrokenOff, content_in, capacity}
+use Rattle.nl_dat.specs.Stores.{Store, IsWritten, IsFaulted, content_in, capacity}
 use Rattle.nl_dat.specs.Inside.{store_of}
-use Rattle.nl_dat.proofs.Writing.{table-kept, table-written, is_written, live_inside, is_born_read}
-use Rattle.nl_dat.proofs.Refusals.{total-refused, broken_off}
+use Rattle.nl_dat.proofs.Writing.{items_back, table-kept, table-written, is_written, live_inside, is_born_read}
+use Rattle.nl_dat.proofs.Refusals.{total-refused, is_faulted}
 use Rattle.nl_types.specs.Segments.{AreTidy, total_blocks}
 use Rattle.nl_types.specs.Placing as placing
 use Rattle.nl_types.specs.PlacingLaws.{WhatFitsHasRoom}
@@ -44,9 +44,11 @@ returns-in_err-numbers-clause-fault g c =
     let e = c.in_err-numbers.ensures in
     rw (p.1, p.2) (λ is.
     let fault : c.in_err-numbers.field-0.0 ≡ Fault = cc in
-    subst (λ s. IsBrokenOff true c.args.now (length c.args.batch.now.births) s (store_of c.self.inside.table later (g.S.Space.failure_count c.append.new.self))) c.self.view_is
-    (broken_off c.self.inside.table (c.self.inside.filled + 1) old later (g.S.Space.failure_count c.self.inside.space) (g.S.Space.failure_count c.append.new.self) true c.args.now c.args.checkpoint (length c.args.batch.now.births) c.births.result.now
-    c.self.invariant (sym (length-map c.births.result.now birth_of_item) ∙ ap length c.births.ensures) e.kept (e.fault (ap Err fault)) (e.broken_off (ap Err fault))))
+    subst (λ s. IsFaulted true c.args.checkpoint c.args.now (items_of c.args.batch.now.births) s (store_of c.self.inside.table later (g.S.Space.failure_count c.append.new.self))) c.self.view_is
+    (subst (λ (payload : List Payload). IsFaulted true c.args.checkpoint c.args.now payload (store_of c.self.inside.table old (g.S.Space.failure_count c.self.inside.space)) (store_of c.self.inside.table later (g.S.Space.failure_count c.append.new.self)))
+    (items_back c.births.result.now ∙ ap items_of c.births.ensures)
+    (is_faulted c.self.inside.table (c.self.inside.filled + 1) old later (g.S.Space.failure_count c.self.inside.space) (g.S.Space.failure_count c.append.new.self) true c.args.now c.args.checkpoint c.births.result.now
+    (subst AreTidy c.table.ensures c.limits_hold.ensures.tidy) c.self.invariant e.kept (e.fault (ap Err fault)) (e.broken_off (ap Err fault)))))
 
 pub end_entries-requires : goal.end_entries-requires
 end_entries-requires g c =
@@ -96,4 +98,4 @@ returns-clause-written g c =
     let low = inside_of c.self.inside.table (c.self.inside.filled + 1) old later (g.S.Space.failure_count c.self.inside.space) c.args.now c.args.checkpoint changes c.births.result.now c.in_ok-numbers.numbers.items c.self.invariant fits c.births.ensures c.payload_goes_to_unused_blocks.ensures.room (subst AreTidy c.table.ensures c.limits_hold.ensures.tidy) e.appended in
     subst (λ s. IsWritten c.args.checkpoint c.args.now changes s (store_of c.enter_births.new.table later (g.S.Space.failure_count c.append.new.self))) c.self.view_is
     (is_written c.self.inside.table c.enter_births.new.table (c.self.inside.filled + 1) old later (g.S.Space.failure_count c.self.inside.space) (g.S.Space.failure_count c.append.new.self) c.args.checkpoint c.args.now changes c.births.result.now c.in_ok-numbers.numbers.items
-    c.self.invariant fits c.births.ensures e.appended e.kept e.stays is_new (c.enter_births.ensures.length ∙ c.end_entries.ensures.length) low)
+    c.self.invariant fits c.births.ensures e.appended e.kept e.stays is_new (c.enter_births.ensures.length ∙ c.end_entries.ensures.length) low (subst AreTidy c.table.ensures c.limits_hold.ensures.tidy))

@@ -1,6 +1,7 @@
 use Rattle.std.proofs.Common.{◌≡◌, ℕ, List, [], ◌∷◌, length, arith, ap, sym, ◌∙◌, subst, refl, inr}
 use Rattle.std.specs.List.{AllByRecursion}
 use Rattle.std.specs.Vec.Iter.{into_iter_items}
+use Rattle.std.proofs.lemmas.Result.{err_from_is_err_and}
 use Rattle.nl_types.specs.Segments.{Segments, StaysUsed, AreTidy}
 use Rattle.nl_types.specs.Placing.{AreNextLogs, IsNextLog, first_block, with_log, with_logs}
 use Rattle.nl_types.proofs.NextLogs.{tidy_with_log}
@@ -11,7 +12,7 @@ use Rattle.nl_segwriter.specs.Appended.{IsOutside}
 use Rattle.nl_segwriter.specs.declared.staging.Staged.{Staged}
 use Rattle.nl_segwriter.specs.Staging.{IsReady, logs_of, whole_of}
 use Rattle.nl_segwriter.specs.Writing.{content_of, LogsStand, BreaksOff}
-use Rattle.nl_segwriter.proofs.LogsWritten.{same_outside, log_keeps, keeps_on, stays_on, log_stays}
+use Rattle.nl_segwriter.proofs.LogsWritten.{same_outside, log_keeps, keeps_on, stays_on, log_stays, breaks_here, breaks_on}
 use Rattle.nl_segwriter.proofs.log_space.LogSpace.write_logs.Goals as goal
 
 no_items : (xs : List Staged) → length xs ≡ 0 → xs ≡ []
@@ -28,6 +29,20 @@ returns-in_err-write_log-clause-kept g c =
     let then : Content = content_of s c.loop-staged.self.payload (device.pages c.loop-staged.self.device) in
     let now : Content = content_of c.write_log.new.self.table c.write_log.new.self.payload (device.pages c.write_log.new.self.device) in
     keeps_on c.args.self.now.table s before then now inv.kept inv.stays (log_keeps s c.in-Some.staged.log then now inv.tidy next.0 c.in_err-write_log.ensures.others)
+
+pub returns-in_err-write_log-clause-broken : goal.returns-in_err-write_log-clause-broken
+returns-in_err-write_log-clause-broken g c =
+    let inv = c.loop-staged.invariant in
+    let s : Segments = c.loop-staged.self.table in
+    let next = subst (λ (r : List Staged). AreNextLogs s c.args.now (logs_of r)) c.in-Some.ensures.steps.0 inv.next in
+    let device = g.D.Device in
+    let before : Content = content_of c.args.self.now.table c.args.self.now.payload (device.pages c.args.self.now.device) in
+    let then : Content = content_of s c.loop-staged.self.payload (device.pages c.loop-staged.self.device) in
+    let now : Content = content_of c.write_log.new.self.table c.write_log.new.self.payload (device.pages c.write_log.new.self.device) in
+    let p = err_from_is_err_and c.from_residual.result c.from_residual.ensures.1 in
+    rw p.1 (inv.broken now (log_keeps s c.in-Some.staged.log then now inv.tidy next.0 c.in_err-write_log.ensures.others)
+    (subst (λ (r : List Staged). BreaksOff c.args.now r then now) (sym c.in-Some.ensures.steps.0)
+    (breaks_here c.args.now c.in-Some.staged (into_iter_items c.next.new.self) then now c.in_err-write_log.ensures.broken c.in_err-write_log.ensures.others)))
 
 pub returns-in_err-write_log-clause-stays : goal.returns-in_err-write_log-clause-stays
 returns-in_err-write_log-clause-stays g c =
@@ -77,7 +92,8 @@ loop-staged-preserved g c =
       ready = ready.1;
       stamps = stamps.1;
       table = ap (λ (u : Segments). with_logs u (logs_of rest) stamp) table ∙ tables;
-      broken = λ u h. inv.broken u (subst (λ (r : List Staged). BreaksOff s u stamp (logs_of r)) (sym first) (inr (subst (λ (v : Segments). BreaksOff v u stamp (logs_of rest)) table h)));
+      broken = λ later keeps h. inv.broken later (keeps_on s t then now later kept stays keeps) (subst (λ (r : List Staged). BreaksOff stamp r then later) (sym first)
+          (breaks_on stamp x rest then now later next.0 table ready.0.count c.in_ok-write_log.ensures.stands c.in_ok-write_log.ensures.others keeps h));
       counted = omega (arith, inv.counted, c.in_ok-write_log.ensures.counted);
       kept = keeps_on start s before then now inv.kept inv.stays kept;
       stays = stays_on start s t inv.stays stays;

@@ -29,7 +29,7 @@ invariant-loop-staged g l =
       ready : AllByRecursion IsReady rest;
       stamps : AllByRecursion (λ x. x.stamp ≡ l.now) rest;
       table : with_logs l.self.table (logs_of rest) l.now ≡ with_logs start.table (logs_of all) l.now;
-      broken : (t : Segments) → BreaksOff l.self.table t l.now (logs_of rest) → BreaksOff start.table t l.now (logs_of all);
+      broken : (later : Content) → KeepsUsed l.self.table now later → BreaksOff l.now rest now later → BreaksOff l.now all before later;
       counted : device.failure_count start.device ≤ device.failure_count l.self.device;
       kept : KeepsUsed start.table before now;
       stays : StaysUsed start.table l.self.table;

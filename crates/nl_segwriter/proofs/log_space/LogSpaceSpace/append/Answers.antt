@@ -57,4 +57,4 @@ returns-clause-broken_off g c = λ _.
     let new : Content = content_of c.write_logs.new.self.table c.write_logs.new.self.payload (g.D.Device.pages c.write_logs.new.self.device) in
     let staged : AreStaged c.args.now c.args.checkpoint logs c.args.items.now c.in_ok-all.all.items = subst (λ (l : List Log). AreStaged c.args.now c.args.checkpoint l c.args.items.now c.in_ok-all.all.items) c.as_slice-logs.ensures.value c.in_ok-all.ensures in
     is_broken_off old new c.args.reserve c.args.now c.args.checkpoint c.args.items.now logs c.in_ok-all.all.items
-    (record { tidy = c.limits_hold.ensures.tidy; fits = c.in_ok-planned.ensures.fits; staged = staged }) c.in-Err.ensures.broken c.in-Err.ensures.others
+    (record { tidy = c.limits_hold.ensures.tidy; fits = c.in_ok-planned.ensures.fits; staged = staged }) c.in-Err.ensures.broken
