@@ -105,8 +105,8 @@ pub with_file : (l old : Lists) (files : List File) (f : File) → l ≡ old →
 with_file l old files f is told = ap (λ fs. record l { files = fs; dirty = true }) told ∙ ap (λ (u : Lists). record u { files = u.files ++ f ∷ []; dirty = true }) is
 
 -- a mount was pushed
-pub with_mount : (l old : Lists) (mounts : List Mounted) (mount : Mounted) (given : ℕ) → l ≡ old → mounts ≡ l.mounts ++ mount ∷ [] → record l { mounts = mounts; given = given } ≡ record old { mounts = old.mounts ++ mount ∷ []; given = given }
-with_mount l old mounts mount given is told = ap (λ ms. record l { mounts = ms; given = given }) told ∙ ap (λ (u : Lists). record u { mounts = u.mounts ++ mount ∷ []; given = given }) is
+pub lists_with_mount : (l old : Lists) (mounts : List Mounted) (mount : Mounted) (given : ℕ) → l ≡ old → mounts ≡ l.mounts ++ mount ∷ [] → record l { mounts = mounts; given = given } ≡ record old { mounts = old.mounts ++ mount ∷ []; given = given }
+lists_with_mount l old mounts mount given is told = ap (λ ms. record l { mounts = ms; given = given }) told ∙ ap (λ (u : Lists). record u { mounts = u.mounts ++ mount ∷ []; given = given }) is
 
 -- ---- what is true of the fields then
 

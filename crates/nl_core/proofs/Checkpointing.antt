@@ -56,18 +56,23 @@ module _ (old : Layout) (held : IsPen old) (mode : Mode) (moment capacity : ℕ)
   stand : Stand (pages_of (content_in store)) changes.births
   stand = subst (λ (pages : Pages). Stand pages changes.births) (sym pages-behind) (births_stand (content_in old.store) capacity next.number old.lists.latest.files old.lists.files changes writes fits)
 
+  -- where it leads from a world
+  follows-published : Follows (unshared old behind) (cleaned old (event.Checkpoint mode moment)) (volume_of old) (event.Checkpoint mode moment) (Ok (answer.Checkpoint next.number)) (volume_of behind)
+  follows-published = λ w m.
+      let event = event.Checkpoint mode moment in
+      let reply = Ok (answer.Checkpoint next.number) in
+      let after = means-published old.lists (pages_of (content_in old.store)) (pages_of (content_in store)) changes.births files held.sound keeps stand settled (cleaned old event) w mode moment left m in
+      let step : Step (unshared old behind) (cleaned old event) w event reply after.0 = inl after.2 in
+      record { after = after.0; means = after.1 (step-IsWorld (unshared old behind) (cleaned old event) reply w after.0 event m.world step); step = step }
+
   -- all that it does
   pub does-published : EventsKeepLedgers → CoveredNumbersStay → NumbersEndOnce → IsStore store → Does unshared old (event.Checkpoint mode moment) (Ok (answer.Checkpoint next.number)) behind
   does-published ledgers stay once is_store = record {
-    follows = λ w m.
-        let event = event.Checkpoint mode moment in
-        let reply = Ok (answer.Checkpoint next.number) in
-        let after = means-published old.lists (pages_of (content_in old.store)) (pages_of (content_in store)) changes.births files held.sound keeps stand settled (cleaned old event) w mode moment left m in
-        let step : Step (unshared old behind) (cleaned old event) w event reply after.0 = inl after.2 in
-        record { after = after.0; means = after.1 (step-IsWorld (unshared old behind) (cleaned old event) reply w after.0 event m.world step); step = step };
+    follows = follows-published;
     touches = record { changes = changes; writes = writes; settled = settled; lists = refl; written = written };
     numbers = numbers-behind old held capacity changes next store writes fits settled refl written.content stay once;
     pen = record {
+      world = let next = follows-published held.world.0 held.world.1 in (next.after, next.means);
       sound = sound-published old.lists (pages_of (content_in old.store)) (pages_of (content_in store)) changes.births files held.sound keeps stand settled mode moment left;
       ledger = is_ledger-behind old held capacity changes next store writes fits settled refl written.content ledgers;
       latest = latest-found old held capacity changes next store writes fits settled refl written.content;
@@ -137,6 +142,7 @@ does-faulted old store mode moment changes held writes fault is_store =
       touches = record { lists = refl; changes = changes; writes = writes; store = fault };
       numbers = same-numbers old new (ledger-same content);
       pen = record {
+        world = (held.world.0, subst (λ (c : Content). Means (over (pages_of c) old.lists) held.world.0) (sym content) held.world.1);
         sound = subst (λ (c : Content). IsSoundVolume (over (pages_of c) old.lists)) (sym content) held.sound;
         ledger = subst IsLedger (sym (ledger-same content)) held.ledger;
         latest = held.latest;

@@ -16,7 +16,7 @@ use Rattle.nl_types.specs.Worlds.{World, Reply}
 use Rattle.nl_types.specs.Runs.{Step, memory_alone}
 use Rattle.nl_dat.specs.Stores.{Store, content_in}
 use Rattle.nl_core.specs.Changes.{HasChanged}
-use Rattle.nl_core.specs.Volume.{Lists, Volume, kept_by, over}
+use Rattle.nl_core.specs.Volume.{Lists, Volume, kept_by, over, with_mount}
 use Rattle.nl_core.specs.Tables.{KeepsBlocks}
 use Rattle.nl_core.specs.Laws.{EventsLeadOn, RunsLeadOn}
 use Rattle.nl_core.specs.Means.{Means, Follows, FollowsInMemory, by_number}
@@ -75,13 +75,16 @@ module _ (l : Lists) (new : Lists) (store : Store) (held : IsPen (layout_of l st
   }
 
   -- all that is true of a pen stays true
-  held-kept : (reply : Reply) → KeepsBlocks pages l reply new → IsPen (layout_of new store)
-  held-kept reply keeps = record {
-    sound = keeps.sound;
-    ledger = subst IsLedger (sym (ledger-kept reply keeps)) held.ledger;
-    latest = found (keeps.latest) (keeps.kept);
-    store = held.store;
-  }
+  held-kept : (event : Event) (reply : Reply) → KeepsBlocks pages l reply new → FollowsInMemory (over pages l) event reply (over pages new) → IsPen (layout_of new store)
+  held-kept event reply keeps follows =
+      let next = follows (cleaned (layout_of l store) event) held.world.0 held.world.1 in
+      record {
+        world = (next.after, next.means);
+        sound = keeps.sound;
+        ledger = subst IsLedger (sym (ledger-kept reply keeps)) held.ledger;
+        latest = found (keeps.latest) (keeps.kept);
+        store = held.store;
+      }
     where
       found : new.latest ≡ l.latest → kept_by new ≡ kept_by l → find nat_cmp new.latest.number (map by_number (kept_by new)) ≡ Some new.latest
       found latest kept =
@@ -93,7 +96,7 @@ module _ (l : Lists) (new : Lists) (store : Store) (held : IsPen (layout_of l st
     follows = follows-more (layout_of l store) (layout_of new store) (over pages l) (over pages new) event reply follows;
     touches = touches;
     numbers = same-numbers (layout_of l store) (layout_of new store) (ledger-kept reply keeps);
-    pen = held-kept reply keeps;
+    pen = held-kept event reply keeps follows;
   }
 
   refused-kept : (e : VolError) → KeepsBlocks pages l (Err e) new → layout_of new store ≡ layout_of l store
@@ -105,9 +108,9 @@ module _ (l : Lists) (new : Lists) (store : Store) (held : IsPen (layout_of l st
   does-Apply c (Err e) keeps follows changed = does-follows (Apply c) (Err e) keeps follows (refused-kept e keeps)
 
   -- a mount
-  pub does-Mount : (n : ℕ) (reply : Reply) → KeepsBlocks pages l reply new → FollowsInMemory (over pages l) (Mount n) reply (over pages new) → new.files ≡ l.files → Does unshared (layout_of l store) (Mount n) reply (layout_of new store)
-  does-Mount n (Ok a) keeps follows same = does-follows (Mount n) (Ok a) keeps follows (record { store = refl; kept = keeps.kept }, same)
-  does-Mount n (Err e) keeps follows same = does-follows (Mount n) (Err e) keeps follows (refused-kept e keeps)
+  pub does-Mount : (n : ℕ) (reply : Reply) → KeepsBlocks pages l reply new → FollowsInMemory (over pages l) (Mount n) reply (over pages new) → IfOk reply (λ _. new ≡ with_mount n l) → Does unshared (layout_of l store) (Mount n) reply (layout_of new store)
+  does-Mount n (Ok a) keeps follows is = does-follows (Mount n) (Ok a) keeps follows (ap (λ lists. layout_of lists store) is)
+  does-Mount n (Err e) keeps follows is = does-follows (Mount n) (Err e) keeps follows (refused-kept e keeps)
 
 -- an event that leaves all as it was
 does-nothing : (l : Layout) (event : Event) (reply : Reply) → IsPen l → FollowsInMemory (volume_of l) event reply (volume_of l) → Touches l event reply l → Does unshared l event reply l
@@ -120,10 +123,10 @@ does-nothing l event reply held follows touches = record {
 
 -- a read of the current tree
 pub does-Read : (l : Layout) (a : Ask) (reply : Reply) → IsPen l → FollowsInMemory (volume_of l) (Read a) reply (volume_of l) → Does unshared l (Read a) reply l
-does-Read l a (Ok answer) held follows = does-nothing l (Read a) (Ok answer) held follows (record { store = refl; kept = refl }, refl)
+does-Read l a (Ok answer) held follows = does-nothing l (Read a) (Ok answer) held follows refl
 does-Read l a (Err e) held follows = does-nothing l (Read a) (Err e) held follows refl
 
 -- a read of a mount
 pub does-MountRead : (l : Layout) (mount : ℕ) (a : Ask) (reply : Reply) → IsPen l → FollowsInMemory (volume_of l) (MountRead mount a) reply (volume_of l) → Does unshared l (MountRead mount a) reply l
-does-MountRead l mount a (Ok answer) held follows = does-nothing l (MountRead mount a) (Ok answer) held follows (record { store = refl; kept = refl }, refl)
+does-MountRead l mount a (Ok answer) held follows = does-nothing l (MountRead mount a) (Ok answer) held follows refl
 does-MountRead l mount a (Err e) held follows = does-nothing l (MountRead mount a) (Err e) held follows refl

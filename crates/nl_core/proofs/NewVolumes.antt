@@ -12,6 +12,7 @@ use Rattle.nl_types.specs.Paths.{Path}
 use Rattle.nl_types.specs.Roots.{Pages}
 use Rattle.nl_types.specs.Trees.{root_alone, lookup}
 use Rattle.nl_types.specs.Worlds.{IsWorld, formatted}
+use Rattle.nl_types.proofs.WorldLaws.{formatted_is_world}
 use Rattle.nl_dat.specs.Stores.{Store, IsStore, Numbered, entry_of}
 use Rattle.nl_core.specs.Content.{node_of, TreeMeans}
 use Rattle.nl_core.specs.Settled.{numbers_of}
@@ -119,6 +120,7 @@ module _ (store : Store) (total now : ℕ) (unused : store.numbers ≡ replicate
 
   held-new : IsStore store → IsPen fresh
   held-new sound = record {
+    world = (formatted now, means-new _ now (formatted_is_world now));
     sound = sound-new _ now;
     ledger = subst IsLedger (sym ledger-new) first_is_ledger;
     latest = refl;

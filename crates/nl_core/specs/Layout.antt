@@ -7,7 +7,7 @@ use Rattle.nl_types.specs.declared.error.VolError.{VolError}
 use Rattle.nl_types.specs.declared.error.VolError.TheVariants.{NoSpace, Fault, Memory, NumbersSpent}
 use Rattle.nl_types.specs.declared.event.Event.{Event}
 use Rattle.nl_types.specs.declared.event.Mode.{Mode}
-use Rattle.nl_types.specs.declared.event.Event.TheVariants.{Apply, Checkpoint}
+use Rattle.nl_types.specs.declared.event.Event.TheVariants.{Apply, Checkpoint, Mount}
 use Rattle.nl_types.specs.declared.geometry.Geometry.{Geometry}
 use Rattle.nl_types.specs.declared.reply.Answer.TheVariants.{Done}
 use Rattle.nl_types.specs.Lifetimes.{Numbers, Ledger, IsLedger, KeepsCovered, EndsOnce, Write, Remove, after_all, blank}
@@ -23,7 +23,7 @@ use Rattle.nl_dat.specs.Stores.{Store, IsStore, IsWritten, IsFaulted, content_in
 use Rattle.nl_core.specs.Changes.{HasChanged}
 use Rattle.nl_core.specs.Draft.{HasNextNumber}
 use Rattle.nl_core.specs.Settled.{numbers_of, WritesChanged, AreSettled}
-use Rattle.nl_core.specs.Volume.{Lists, Volume, IsSoundVolume, kept_by, over, changed_count, published, next_checkpoint}
+use Rattle.nl_core.specs.Volume.{Lists, Volume, IsSoundVolume, kept_by, over, changed_count, published, next_checkpoint, with_mount}
 use Rattle.nl_core.specs.Means.{Means, Follows, by_number}
 use Rattle.nl_core.specs.declared.checkpoint.Checkpoint.{Checkpoint as Kept}
 
@@ -50,8 +50,9 @@ ledger_of l = record {
   kept = λ c. option_map reached_by (find nat_cmp c (map by_number (kept_by l.lists)));
 }
 
--- What is true of every pen. The ledger: what each kept checkpoint reaches is exactly the numbers in use that cover it, each at its one place. The store: each number in use has a block of its own, and the device holds its page there.
+-- What is true of every pen. It means a world. The ledger: what each kept checkpoint reaches is exactly the numbers in use that cover it, each at its one place. The store: each number in use has a block of its own, and the device holds its page there.
 pub record IsPen (l : Layout) : Type 0 where
+  pub world : (w : World) × Means (volume_of l) w
   pub sound : IsSoundVolume (volume_of l)
   pub ledger : IsLedger (ledger_of l)
   pub latest : find nat_cmp l.lists.latest.number (map by_number (kept_by l.lists)) ≡ Some l.lists.latest
@@ -90,7 +91,8 @@ pub record WritesNothing (old new : Layout) : Type 0 where
 abbrev pub HasDone : Layout → Event → Layout → Type 0
 HasDone old (Checkpoint mode moment) new = HasPublished mode moment old new
 HasDone old (Apply change) new = WritesNothing old new × HasChanged change old.lists.files new.lists.files
-HasDone old event new = WritesNothing old new × (new.lists.files ≡ old.lists.files)
+HasDone old (Mount n) new = new ≡ layout_of (with_mount n old.lists) old.store
+HasDone old event new = new ≡ old
 
 -- ---- and a refused one
 

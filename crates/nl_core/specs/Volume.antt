@@ -73,6 +73,15 @@ pub record IsSoundVolume (v : Volume) : Type 0 where
   pub marked : (k i : ℕ) → IsMarkedOver v.pages (slot_at v.latest.files k i) (slot_at v.files k i)
   pub last : v.latest.number < checkpoint_number_limit
 
+-- ---- a mount
+
+-- the lists with one more mount, which has the next number
+abbrev pub with_mount : ℕ → Lists → Lists
+with_mount checkpoint l = record l {
+  mounts = l.mounts ++ record { number = l.given + 1; checkpoint = checkpoint } ∷ [];
+  given = l.given + 1;
+}
+
 -- ---- a checkpoint
 
 -- the checkpoint that comes next, with these files

@@ -51,7 +51,7 @@ impl Model for Tables {
 impl Tables {
     ghost use Rattle.nl_types.specs.declared.event.Event.TheVariants.{Apply, Read, Mount, MountRead};
     ghost use Rattle.nl_types.specs.declared.event.Change.TheVariants.{Create, Write};
-    ghost use Rattle.nl_core.specs.Volume.{IsSoundVolume, kept_by, over, published};
+    ghost use Rattle.nl_core.specs.Volume.{IsSoundVolume, kept_by, over, published, with_mount};
     ghost use Rattle.nl_core.specs.Means.{Means, FollowsInMemory, by_number};
     ghost use Rattle.nl_core.specs.Draft.{IsDraftRefusal, IsNextDraft};
     ghost use Rattle.nl_core.specs.Changes.{HasCreated, HasWritten, HasChanged};
@@ -156,7 +156,7 @@ impl Tables {
     /// Mounts a snapshot.
     pub fn mount(&mut self, number: CheckpointNumber) -> Reply
         ensures follows { (pages : Pages) → FollowsInMemory (over pages self.old.lists) (Mount number) result (over pages self.new.lists) }
-        ensures files { self.new.lists.files ≡ self.old.lists.files }
+        ensures mounted { IfOk result (λ _. self.new.lists ≡ with_mount number self.old.lists) }
         ensures blocks { (pages : Pages) → IsSoundVolume (over pages self.old.lists) → KeepsBlocks pages self.old.lists result self.new.lists }
     {
         match self.kept(number) {

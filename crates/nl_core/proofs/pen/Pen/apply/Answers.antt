@@ -22,7 +22,7 @@ returns-in-Mount g c =
     let pages = pages_of (content_in store) in
     subst (λ o. Does unshared o c.args.event.now c.mount.result (layout_of new store)) c.self.view_is
     (subst (λ e. Does unshared (layout_of l store) e c.mount.result (layout_of new store)) (sym c.in-Mount.is)
-    (does-Mount l new store c.self.invariant c.in-Mount.number c.mount.result (c.mount.ensures.blocks pages c.self.invariant.sound) (c.mount.ensures.follows pages) c.mount.ensures.files))
+    (does-Mount l new store c.self.invariant c.in-Mount.number c.mount.result (c.mount.ensures.blocks pages c.self.invariant.sound) (c.mount.ensures.follows pages) c.mount.ensures.mounted))
 
 pub returns-in-Read : goal.returns-in-Read
 returns-in-Read g c =
@@ -43,7 +43,7 @@ invariant_of-self-in-Mount g c =
     let l = c.self.inside.tables.lists in
     let store = c.self.inside.store in
     let pages = pages_of (content_in store) in
-    (does-Mount l c.mount.new.self.lists store c.self.invariant c.in-Mount.number c.mount.result (c.mount.ensures.blocks pages c.self.invariant.sound) (c.mount.ensures.follows pages) c.mount.ensures.files).pen
+    (does-Mount l c.mount.new.self.lists store c.self.invariant c.in-Mount.number c.mount.result (c.mount.ensures.blocks pages c.self.invariant.sound) (c.mount.ensures.follows pages) c.mount.ensures.mounted).pen
 
 pub returns-in-Checkpoint : goal.returns-in-Checkpoint
 returns-in-Checkpoint g c =
@@ -51,3 +51,7 @@ returns-in-Checkpoint g c =
     let new = layout_of c.checkpoint.new.tables.lists c.checkpoint.new.store in
     subst (λ o. Does unshared o c.args.event.now c.checkpoint.result new) c.self.view_is
     (subst (λ e. Does unshared l e c.checkpoint.result new) (sym c.in-Checkpoint.is) c.checkpoint.ensures)
+
+pub invariant_of-self : goal.invariant_of-self
+invariant_of-self g c =
+    (does-Apply c.self.inside.tables.lists c.change.new.self.lists c.self.inside.store c.self.invariant c.in-Apply.change c.change.result c.change.ensures.blocks c.change.ensures.follows c.change.ensures.changed).pen
