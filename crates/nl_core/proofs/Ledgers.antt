@@ -30,7 +30,7 @@ same-numbers old new same = record {
 }
   where
     kept : (l : Ledger) → KeepsCovered l l × EndsOnce l l
-    kept l = (λ c before now v e kept_before kept_now in_use cover. (e, in_use, refl, refl, refl, cover), λ v e f is_e is_f. let same = sym is_f ∙ is_e in inl cc)
+    kept l = (λ c before now v e kept_before kept_now in_use cover. record { entry = e; in_use = in_use; place = refl; page = refl; start = refl; covering = cover }, λ v e f is_e is_f. let same = sym is_f ∙ is_e in inl cc)
 
 -- ---- the latest checkpoint
 
