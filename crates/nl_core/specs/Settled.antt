@@ -1,9 +1,9 @@
 -- What a checkpoint makes of the files: each changed block gets a number, and the one that it replaces ends.
-use Rattle.std.specs.Prelude.{◌≡◌, ℕ, ◌+◌, ◌-◌, ◌<◌, ◌==◌, ◌&&◌, nat_le, if◌then◌else◌, List, [], ◌∷◌, ◌++◌, map, length, flat_map, Option, None, Some}
+use Rattle.std.specs.Prelude.{◌≡◌, ℕ, ◌+◌, ◌-◌, ◌<◌, ◌==◌, ◌&&◌, nat_le, true, if◌then◌else◌, List, [], ◌∷◌, ◌++◌, map, length, flat_map, Option, None, Some}
 use Rattle.std.specs.List.{Contains}
 use Rattle.nl_types.specs.Entries.{Place, Birth, Content}
 use Rattle.nl_types.specs.Lifetimes.{Numbers}
-use Rattle.nl_dat.specs.Batches.{Changes, TakeLowestFree}
+use Rattle.nl_dat.specs.Batches.{Changes, TakeLowestFree, is_live}
 use Rattle.nl_core.specs.Content.{slot_in, slot_at, file_in}
 use Rattle.nl_core.specs.declared.file.Slot.{Slot}
 use Rattle.nl_core.specs.declared.file.Slot.TheVariants.{Hole, Stored, Changed}
@@ -65,6 +65,11 @@ pub record WritesChanged (content : Content) (latest current : List File) (chang
   pub births : map block_of changes.births ≡ changed_blocks current
   pub numbers : TakeLowestFree content [] changes.births
   pub ends : changes.ends ≡ replaced (numbers_of latest) changes.births
+
+-- the numbers that the files name have not ended
+abbrev pub AreLive : Content → List File → Type 0
+AreLive content files =
+    (k i v : ℕ) → number_in (slot_at files k i) ≡ Some v → is_live (content v) ≡ true
 
 -- ---- the files behind it
 

@@ -5,7 +5,7 @@ ghost use Rattle.nl_types.specs.Limits.{path_limit};
 ghost use Rattle.nl_dat.specs.Batches.{Fits, IsLowestFree, is_live};
 ghost use Rattle.nl_dat.specs.Stores.{capacity, content_in};
 ghost use Rattle.nl_core.specs.Content.{slot_in, slot_at};
-ghost use Rattle.nl_core.specs.Settled.{file_place, number_in, numbers_of, listed, unwritten, changed_slots, changed_blocks, IsSettled, IsSettledFile, AreSettled, WritesChanged};
+ghost use Rattle.nl_core.specs.Settled.{file_place, number_in, numbers_of, listed, unwritten, changed_slots, changed_blocks, IsSettled, IsSettledFile, AreSettled, WritesChanged, AreLive};
 ghost use Rattle.nl_core.specs.Gains.{Gains};
 
 use crate::checkpoint::Checkpoint;
@@ -133,7 +133,7 @@ fn settle<V: Vstore>(
 ) -> Result<Items<File>, VolError>
     requires few { length files.now ≤ path_limit }
     requires fits { Fits (capacity (V.store store.now)) (content_in (V.store store.now)) batch.old }
-    requires live { (k i v : ℕ) → number_in (slot_at latest.now k i) ≡ Some v → is_live (content_in (V.store store.now) v) ≡ true }
+    requires live { AreLive (content_in (V.store store.now)) latest.now }
     ensures files { IfOk result (AreSettled batch.new.births files.now) }
     ensures gains { OnOk result (Gains (content_in (V.store store.now)) (numbers_of latest.now) (changed_blocks files.now) batch.old batch.new) }
     ensures fits { OnOk result (Fits (capacity (V.store store.now)) (content_in (V.store store.now)) batch.new) }
@@ -180,7 +180,7 @@ impl Draft {
         checkpoint: Checkpoint,
     ) -> Result<Draft, VolError>
         requires few { length files.now ≤ path_limit }
-        requires live { (k i v : ℕ) → number_in (slot_at latest.now k i) ≡ Some v → is_live (content_in (V.store store.now) v) ≡ true }
+        requires live { AreLive (content_in (V.store store.now)) latest.now }
         ensures checkpoint { IfOk result (λ draft. draft.checkpoint ≡ record checkpoint { files = draft.files }) }
         ensures writes { IfOk result (λ draft. WritesChanged (content_in (V.store store.now)) latest.now files.now draft.batch) }
         ensures settled { IfOk result (λ draft. AreSettled draft.batch.births files.now draft.files) }

@@ -46,7 +46,8 @@ fn checkpoint<S: Space>(
     moment: u64,
 ) -> Reply
     requires held { IsPen (layout_of tables.old.lists store.old) }
-    ensures { Does unshared (layout_of tables.old.lists store.old) (Checkpoint mode moment) result (layout_of tables.new.lists store.new) }
+    ensures { Does unshared (layout_of tables.old.lists store.old)
+        (Checkpoint mode moment) result (layout_of tables.new.lists store.new) }
 {
     let draft = tables.draft(alloc, store, mode, moment)?;
     let Draft {
@@ -91,7 +92,8 @@ impl<D: Device> Pen<D> {
     pub fn entry(&self, number: VirtualNumber) -> Result<Option<DatEntry>, VolError>
         ensures range { IsErr result ↔ ((number ≡ 0) ⊎ (capacity self.now.store < number)) }
         ensures kind { OnErr result (result ≡ Err VolError.BadRange) }
-        ensures entry { IfOk result (λ entry. entry ≡ option_map dat_entry_of (numbered_in self.now.store number)) }
+        ensures entry { IfOk result (λ entry.
+            entry ≡ option_map dat_entry_of (numbered_in self.now.store number)) }
     {
         self.store.entry(number)
     }
@@ -136,8 +138,10 @@ pub fn run<D: Device>(
     pen: &mut Pen<D>,
     events: &[Event],
 ) -> Result<Vec<Reply>, VolError>
-    ensures run { IfOk result (λ replies. Run (Does unshared) pen.old events.now replies.items pen.new) }
-    ensures worlds { IfOk result (λ replies. Runs unshared pen.old events.now replies.items pen.new) }
+    ensures run { IfOk result (λ replies.
+        Run (Does unshared) pen.old events.now replies.items pen.new) }
+    ensures worlds { IfOk result (λ replies.
+        Runs unshared pen.old events.now replies.items pen.new) }
     ensures refused { IsOkUnless result VolError.Memory }
     ensures err { OnErr result (pen.new ≡ pen.old) }
 {
