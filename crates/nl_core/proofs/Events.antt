@@ -24,7 +24,7 @@ use Rattle.nl_types.specs.Paths.{Name, Path, path_of}
 use Rattle.nl_types.specs.Trees.{Tree, insert}
 use Rattle.nl_types.specs.Calls.{after, file_at, create, write, change, reply_to, overwritten, refuse_if, is_dirtying, Changed}
 use Rattle.nl_types.specs.Worlds.{World, Copy, Reply, Outcome, IsWorld, step, either, refused_if, copy_at, is_snapshot, mount, mount_read}
-use Rattle.nl_types.specs.Runs.{Step, memory_alone}
+use Rattle.nl_types.specs.Runs.{AllowedRefusals, Step, memory_alone}
 use Rattle.nl_types.proofs.WorldLaws.{steps_keep_worlds}
 use Rattle.nl_types.specs.Roots.{Pages}
 use Rattle.nl_core.specs.Content.{content, file_in, no_file}
@@ -66,7 +66,7 @@ copy_of v w n o m is = subst (λ c. HasCopy v.pages c (copy_at w n)) is (find_co
 -- ---- refusals and steps
 
 -- a step leaves a world
-pub step-IsWorld : (allowed : Event → VolError → Type 0) (cleaned reply : Reply) (old new : World) (event : Event) → IsWorld old → Step allowed cleaned old event reply new → IsWorld new
+pub step-IsWorld : (allowed : AllowedRefusals) (cleaned reply : Reply) (old new : World) (event : Event) → IsWorld old → Step allowed cleaned old event reply new → IsWorld new
 step-IsWorld allowed cleaned reply old new event world step = elim step [
   | inl is ↦ steps_keep_worlds cleaned reply old new event world is
   | inr refused ↦ subst IsWorld (sym refused.unchanged) world

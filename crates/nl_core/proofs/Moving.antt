@@ -20,7 +20,7 @@ use Rattle.nl_core.specs.Volume.{Lists, Volume, kept_by, over, with_mount}
 use Rattle.nl_core.specs.Tables.{KeepsBlocks}
 use Rattle.nl_core.specs.Laws.{EventsLeadOn, RunsLeadOn}
 use Rattle.nl_core.specs.Means.{Means, Follows, FollowsInMemory, by_number}
-use Rattle.nl_core.specs.Layout.{Layout, IsPen, Touches, Does, cleaned, layout_of, ledger_of, reached_by, unshared, volume_of}
+use Rattle.nl_core.specs.Layout.{AllowedBetween, Layout, IsPen, Touches, Does, cleaned, layout_of, ledger_of, reached_by, unshared, volume_of}
 use Rattle.nl_core.specs.declared.checkpoint.Checkpoint.{Checkpoint}
 use Rattle.nl_core.proofs.Ledgers.{same-numbers}
 
@@ -45,20 +45,20 @@ follows-more old new v u event reply follows = λ w m.
     ]
 
 -- what an event does to a layout is what it does beside a world too
-pub leads_on : EventsLeadOn
-leads_on old new event reply w does means =
+pub leads_on : (allowed : AllowedBetween) → EventsLeadOn allowed
+leads_on allowed old new event reply w does means =
     let next = does.follows w means in
     (next.after, record { does = does; means = next.means; step = next.step })
 
 -- so does a list of events
-pub runs_lead_on : RunsLeadOn
-runs_lead_on old new [] [] run = λ w means. record { after = w; means = subst (λ (l : Layout). Means (volume_of l) w) (sym run) means; run = ap (λ l. (l, w)) run }
-runs_lead_on old new (e ∷ es) (r ∷ rs) run = λ w means.
-    let next = leads_on old run.0 e r w run.1 means in
-    let rest = runs_lead_on run.0 new es rs run.2 next.0 next.1.means in
+pub runs_lead_on : (allowed : AllowedBetween) → RunsLeadOn allowed
+runs_lead_on allowed old new [] [] run = λ w means. record { after = w; means = subst (λ (l : Layout). Means (volume_of l) w) (sym run) means; run = ap (λ l. (l, w)) run }
+runs_lead_on allowed old new (e ∷ es) (r ∷ rs) run = λ w means.
+    let next = leads_on allowed old run.0 e r w run.1 means in
+    let rest = runs_lead_on allowed run.0 new es rs run.2 next.0 next.1.means in
     record { after = rest.after; means = rest.means; run = ((run.0, next.0), next.1, rest.run) }
-runs_lead_on old new [] (r ∷ rs) run = absurd run
-runs_lead_on old new (e ∷ es) [] run = absurd run
+runs_lead_on allowed old new [] (r ∷ rs) run = absurd run
+runs_lead_on allowed old new (e ∷ es) [] run = absurd run
 
 -- ---- events that write no block
 

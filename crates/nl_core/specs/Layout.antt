@@ -15,7 +15,7 @@ use Rattle.nl_types.specs.Limits.{checkpoint_number_limit}
 use Rattle.nl_types.specs.Placing.{LacksSpace}
 use Rattle.nl_types.specs.Roots.{pages_of}
 use Rattle.nl_types.specs.Worlds.{World, Reply}
-use Rattle.nl_types.specs.Runs.{Step, Run, alone}
+use Rattle.nl_types.specs.Runs.{AllowedRefusals, Step, Run, alone}
 use Rattle.nl_segwriter.specs.Content.{new_content}
 use Rattle.nl_device.specs.Pages.{Pages as DevicePages}
 use Rattle.nl_dat.specs.Batches.{Changes, items_of}
@@ -90,7 +90,8 @@ pub record WritesNothing (old new : Layout) : Type 0 where
 
 abbrev pub HasDone : Layout → Event → Layout → Type 0
 HasDone old (Checkpoint mode moment) new = HasPublished mode moment old new
-HasDone old (Apply change) new = WritesNothing old new × HasChanged change old.lists.files new.lists.files
+HasDone old (Apply change) new =
+    WritesNothing old new × HasChanged change old.lists.files new.lists.files
 HasDone old (Mount n) new = new ≡ layout_of (with_mount n old.lists) old.store
 HasDone old event new = new ≡ old
 
@@ -111,12 +112,14 @@ IsCheckpointRefusal l NoSpace = HasNextNumber l.lists × LacksSpace l.store.segm
 IsCheckpointRefusal l e = ⊥
 
 abbrev pub HasRefused : Event → VolError → Layout → Layout → Type 0
-HasRefused (Checkpoint mode moment) Fault old new = HasFaulted (max moment old.lists.latest.stamp) old new
+HasRefused (Checkpoint mode moment) Fault old new =
+    HasFaulted (max moment old.lists.latest.stamp) old new
 HasRefused (Checkpoint mode moment) e old new = (new ≡ old) × IsCheckpointRefusal old e
 HasRefused event e old new = new ≡ old
 
 abbrev pub Touches : Layout → Event → Reply → Layout → Type 0
-Touches old event reply new = MatchResult reply (λ _. HasDone old event new) (λ e. HasRefused event e old new)
+Touches old event reply new =
+    MatchResult reply (λ _. HasDone old event new) (λ e. HasRefused event e old new)
 
 -- ---- refusals in the place of an event
 
@@ -129,8 +132,12 @@ LacksSpaceFor l event = ⊥
 abbrev pub FailsIn : Layout → Layout → Event → Type 0
 FailsIn old new event = (LacksSpaceFor old event → ⊥) × (old.store.failures < new.store.failures)
 
--- what may be refused to a pen that no reader shares
-abbrev pub unshared : Layout → Layout → Event → VolError → Type 0
+-- which refusals are allowed from one layout to the next
+abbrev pub AllowedBetween : Type 1
+AllowedBetween = Layout → Layout → AllowedRefusals
+
+-- on a pen that no reader shares
+abbrev pub unshared : AllowedBetween
 unshared old new = alone (LacksSpaceFor old) (FailsIn old new)
 
 -- what an event answers that only moves or frees blocks: there is none yet, so this is not looked at
@@ -140,24 +147,25 @@ cleaned l event = Ok Done
 -- ---- the whole
 
 -- What an event does to a pen. In each world that the pen means, the event is done whole as the definitions say, or it is refused by what is allowed in its place (`follows`). The lists and the blocks become what is due (`touches`). Numbers keep what they stand for (`numbers`), and what is true of every pen still is (`pen`).
-pub record Does (allowed : Layout → Layout → Event → VolError → Type 0) (old : Layout) (event : Event) (reply : Reply) (new : Layout) : Type 0 where
+pub record Does (allowed : AllowedBetween) (old : Layout) (event : Event) (reply : Reply) (new : Layout) : Type 0 where
   pub follows : Follows (allowed old new) (cleaned old event) (volume_of old) event reply (volume_of new)
   pub touches : Touches old event reply new
   pub numbers : KeepsNumbers old new
   pub pen : IsPen new
 
 -- the same beside one world that the pen means
-pub record DoesIn (allowed : Layout → Layout → Event → VolError → Type 0) (old : Layout × World) (event : Event) (reply : Reply) (new : Layout × World) : Type 0 where
+pub record DoesIn (allowed : AllowedBetween) (old : Layout × World) (event : Event) (reply : Reply) (new : Layout × World) : Type 0 where
   pub does : Does allowed old.0 event reply new.0
   pub means : Means (volume_of new.0) new.1
   pub step : Step (allowed old.0 new.0) (cleaned old.0 event) old.1 event reply new.1
 
 -- from a world, a list of events leads to one that the new pen means
-pub record RunsFrom (allowed : Layout → Layout → Event → VolError → Type 0) (w : World) (old : Layout) (events : List Event) (replies : List Reply) (new : Layout) : Type 0 where
+pub record RunsFrom (allowed : AllowedBetween) (w : World) (old : Layout) (events : List Event) (replies : List Reply) (new : Layout) : Type 0 where
   pub after : World
   pub means : Means (volume_of new) after
   pub run : Run (DoesIn allowed) (old, w) events replies (new, after)
 
 -- so from whatever world the old pen means
-abbrev pub Runs : (allowed : Layout → Layout → Event → VolError → Type 0) → Layout → List Event → List Reply → Layout → Type 0
-Runs allowed old events replies new = (w : World) → Means (volume_of old) w → RunsFrom allowed w old events replies new
+abbrev pub Runs : (allowed : AllowedBetween) → Layout → List Event → List Reply → Layout → Type 0
+Runs allowed old events replies new =
+    (w : World) → Means (volume_of old) w → RunsFrom allowed w old events replies new

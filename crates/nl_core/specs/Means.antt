@@ -2,9 +2,8 @@
 use Rattle.std.specs.Prelude.{◌≡◌, ℕ, map}
 use Rattle.std.specs.List.{AllZip}
 use Rattle.nl_types.specs.declared.event.Event.{Event}
-use Rattle.nl_types.specs.declared.error.VolError.{VolError}
 use Rattle.nl_types.specs.Worlds.{World, Copy, IsWorld, Reply}
-use Rattle.nl_types.specs.Runs.{Step, memory_alone}
+use Rattle.nl_types.specs.Runs.{AllowedRefusals, Step, memory_alone}
 use Rattle.nl_types.specs.Roots.{Pages}
 use Rattle.nl_core.specs.Content.{TreeMeans}
 use Rattle.nl_core.specs.Volume.{Volume, kept_in}
@@ -35,13 +34,13 @@ pub record Means (v : Volume) (w : World) : Type 0 where
 -- ---- what an event does to the world
 
 -- From a world the event leads to one that the new volume means. It is done whole, or refused by what is allowed in its place.
-pub record LeadsOn (allowed : Event → VolError → Type 0) (cleaned : Reply) (w : World) (event : Event) (reply : Reply) (new : Volume) : Type 0 where
+pub record LeadsOn (allowed : AllowedRefusals) (cleaned : Reply) (w : World) (event : Event) (reply : Reply) (new : Volume) : Type 0 where
   pub after : World
   pub means : Means new after
   pub step : Step allowed cleaned w event reply after
 
 -- so from whatever world the old volume means
-abbrev pub Follows : (allowed : Event → VolError → Type 0) (cleaned : Reply) → Volume → Event → Reply → Volume → Type 0
+abbrev pub Follows : (allowed : AllowedRefusals) (cleaned : Reply) → Volume → Event → Reply → Volume → Type 0
 Follows allowed cleaned old event reply new =
     (w : World) → Means old w → LeadsOn allowed cleaned w event reply new
 

@@ -27,5 +27,5 @@ pub returns-clause-worlds : goal.returns-clause-worlds
 returns-clause-worlds g c =
     let events = c.args.events.now in
     let all : take c.loop-event.event-index events ≡ events = take_all c.loop-event.event-index events (omega arith) in
-    runs_lead_on c.args.pen.now c.loop-event.pen events c.loop-event.replies.items
+    runs_lead_on unshared c.args.pen.now c.loop-event.pen events c.loop-event.replies.items
     (subst (λ (es : List Event). Run (Does unshared) c.args.pen.now es c.loop-event.replies.items c.loop-event.pen) all c.loop-event.invariant.so_far)
