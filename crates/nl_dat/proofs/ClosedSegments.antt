@@ -12,7 +12,7 @@ use Rattle.nl_types.specs.declared.segment.SegmentInfo.{SegmentInfo}
 use Rattle.nl_types.specs.declared.segment.SegmentState.{SegmentState}
 use Rattle.nl_types.specs.declared.segment.SegmentState.TheVariants.{Clean, Dirty, Active, Error}
 use Rattle.nl_types.specs.Segments.{Segments, AreTidy, info_of, clean_info, is_clean, is_active, at_rest, none_active, clean_segments, IsClosed}
-use Rattle.nl_types.specs.Placing.{Fits, IsNextLog, AreNextLogs, with_log, start_of, end_of, first_block, row_of, addresses}
+use Rattle.nl_types.specs.Placing.{LogsFit, IsNextLog, AreNextLogs, with_log, start_of, end_of, first_block, row_of, addresses}
 use Rattle.nl_types.proofs.NextLogs.{tidy_with_log, has_active, has_lowest, placed}
 use Rattle.nl_types.proofs.UsedParts.{all_in_row, all-append}
 use Rattle.nl_types.proofs.ClosedSegments.{next-elsewhere, still-closed}
@@ -40,5 +40,5 @@ outside-logs (log ∷ logs) s segment stamp tidy closed next =
     (outside-logs logs (with_log s log stamp) segment stamp (tidy_with_log s log stamp tidy next.0.is_log.inside) (still-closed s segment stamp log closed other) next.1)
 
 -- the payload of a list that fits goes elsewhere
-pub fits-outside : (s : Segments) (reserve : Bool) (n segment : ℕ) (logs : List Log) → AreTidy s → IsClosed s segment → Fits s reserve n logs → AllByRecursion (λ b. is_inside s segment (Some b) ≡ false) (addresses s.blocks logs)
+pub fits-outside : (s : Segments) (reserve : Bool) (n segment : ℕ) (logs : List Log) → AreTidy s → IsClosed s segment → LogsFit s reserve n logs → AllByRecursion (λ b. is_inside s segment (Some b) ≡ false) (addresses s.blocks logs)
 fits-outside s reserve n segment logs tidy closed fits = outside-logs logs s segment 0 tidy closed (placed s reserve n 0 logs tidy fits).next

@@ -7,7 +7,7 @@ use Rattle.nl_types.specs.PartialMaps.{Partial, put, put_all, put_each, adjust, 
 use Rattle.nl_types.specs.Entries.{Birth, number_of, born_at, ended_at}
 use Rattle.nl_types.proofs.PartialMaps.{same_at_all, put-other}
 use Rattle.nl_dat.specs.declared.entries.DatEntry.{DatEntry}
-use Rattle.nl_dat.specs.Table.{block_of, addresses_of, meaning_of, meaning_at, content_of, IsSound, new_entry, ended_entry, moved_entry, stored_at}
+use Rattle.nl_dat.specs.Table.{block_of, addresses_of, meaning_of, meaning_at, content_of, HaveOwnPayload, new_entry, ended_entry, moved_entry, stored_at}
 
 put-at : {X : Type 0} (m : Partial X) (k q : ℕ) (x : X) → eqb q k ≡ true → put m k x q ≡ Some x
 put-at m k q x h = rw h refl
@@ -23,8 +23,8 @@ content_of-KeepsAt entries stored later keeps = same_at_all _ _ (λ v.
       | Some s ↦ λ is. ap (option_map (meaning_of s)) (keeps v s.block (ap (option_map block_of) is))
     ] refl)
 
-pub IsSound-KeepsAt : (addresses : Partial ℕ) (stored later : Partial Birth) → IsSound addresses stored → KeepsAt addresses stored later → IsSound addresses later
-IsSound-KeepsAt addresses stored later sound keeps v b is = ap (option_map number_of) (keeps v b is) ∙ sound v b is
+pub HaveOwnPayload-KeepsAt : (addresses : Partial ℕ) (stored later : Partial Birth) → HaveOwnPayload addresses stored → KeepsAt addresses stored later → HaveOwnPayload addresses later
+HaveOwnPayload-KeepsAt addresses stored later sound keeps v b is = ap (option_map number_of) (keeps v b is) ∙ sound v b is
 
 content_of-put : (entries : Partial DatEntry) (stored : Partial Birth) (k : ℕ) (s : DatEntry) (p : Birth) → stored s.block ≡ Some p → content_of (put entries k s) stored ≡ put (content_of entries stored) k (meaning_of s p)
 content_of-put entries stored k s p is = same_at_all _ _ (λ q. elim (cases_Bool (eqb q k)) [
@@ -53,8 +53,8 @@ addresses_of-births c (p ∷ ps) (b ∷ bs) entries =
     addresses_of-births c ps bs (put entries (number_of p) (new_entry c b))
     ∙ ap (put_each number_of (λ b. b) ps bs) (addresses_of-put entries (number_of p) (new_entry c b))
 
-IsSound-put : (addresses : Partial ℕ) (stored : Partial Birth) (k b : ℕ) (p : Birth) → IsSound addresses stored → stored b ≡ Some p → number_of p ≡ k → IsSound (put addresses k b) stored
-IsSound-put addresses stored k b p sound is named v a at = elim (cases_Bool (eqb v k)) [
+HaveOwnPayload-put : (addresses : Partial ℕ) (stored : Partial Birth) (k b : ℕ) (p : Birth) → HaveOwnPayload addresses stored → stored b ≡ Some p → number_of p ≡ k → HaveOwnPayload (put addresses k b) stored
+HaveOwnPayload-put addresses stored k b p sound is named v a at = elim (cases_Bool (eqb v k)) [
   | inl e ↦
       let here : Some b ≡ Some a = sym (put-at addresses k v b e) ∙ at in
       let same : a ≡ b = cc in
@@ -62,11 +62,11 @@ IsSound-put addresses stored k b p sound is named v a at = elim (cases_Bool (eqb
   | inr e ↦ sound v a (sym (put-other addresses k v b e) ∙ at)
 ]
 
-pub IsSound-births : (births : List Birth) (blocks : List ℕ) (addresses : Partial ℕ) (stored : Partial Birth) → Stands stored blocks births → IsSound addresses stored → IsSound (put_each number_of (λ b. b) births blocks addresses) stored
-IsSound-births [] blocks addresses stored stands sound = sound
-IsSound-births (p ∷ ps) [] addresses stored stands sound = absurd stands
-IsSound-births (p ∷ ps) (b ∷ bs) addresses stored stands sound =
-    IsSound-births ps bs (put addresses (number_of p) b) stored stands.1 (IsSound-put addresses stored (number_of p) b p sound stands.0 refl)
+pub HaveOwnPayload-births : (births : List Birth) (blocks : List ℕ) (addresses : Partial ℕ) (stored : Partial Birth) → Stands stored blocks births → HaveOwnPayload addresses stored → HaveOwnPayload (put_each number_of (λ b. b) births blocks addresses) stored
+HaveOwnPayload-births [] blocks addresses stored stands sound = sound
+HaveOwnPayload-births (p ∷ ps) [] addresses stored stands sound = absurd stands
+HaveOwnPayload-births (p ∷ ps) (b ∷ bs) addresses stored stands sound =
+    HaveOwnPayload-births ps bs (put addresses (number_of p) b) stored stands.1 (HaveOwnPayload-put addresses stored (number_of p) b p sound stands.0 refl)
 
 -- an end leaves the page and the block
 content_of-end : (c k : ℕ) (entries : Partial DatEntry) (stored : Partial Birth) → content_of (adjust (ended_entry c) entries k) stored ≡ adjust (ended_at c) (content_of entries stored) k
@@ -150,8 +150,8 @@ content_of-moves (k ∷ ks) (b ∷ bs) (p ∷ ps) entries stored stands same =
     content_of-moves ks bs ps (adjust (moved_entry b) entries k) stored stands.1 (rest ∙ ap (λ m. map m ks) (sym (stored_at-move entries stored k b p stands.0 here)))
     ∙ content_of-move entries stored k b p stands.0 here
 
-IsSound-move : (entries : Partial DatEntry) (stored : Partial Birth) (k b : ℕ) (p : Birth) → IsSound (addresses_of entries) stored → stored b ≡ Some p → stored_at entries stored k ≡ Some p → IsSound (addresses_of (adjust (moved_entry b) entries k)) stored
-IsSound-move entries stored k b p sound there here v a at = elim (cases_Bool (eqb v k)) [
+HaveOwnPayload-move : (entries : Partial DatEntry) (stored : Partial Birth) (k b : ℕ) (p : Birth) → HaveOwnPayload (addresses_of entries) stored → stored b ≡ Some p → stored_at entries stored k ≡ Some p → HaveOwnPayload (addresses_of (adjust (moved_entry b) entries k)) stored
+HaveOwnPayload-move entries stored k b p sound there here v a at = elim (cases_Bool (eqb v k)) [
   | inl e ↦
       let at_k : v ≡ k = eqb-true v k e in
       of_slot (entries v) refl (rw e at at) (ap (stored_at entries stored) at_k ∙ here)
@@ -164,12 +164,12 @@ IsSound-move entries stored k b p sound there here v a at = elim (cases_Bool (eq
         let same : b ≡ a = cc in
         ap (λ x. option_map number_of (stored x)) (sym same) ∙ ap (option_map number_of) (there ∙ sym i) ∙ sound v s.block (ap (option_map block_of) is)
 
-pub IsSound-moves : (ks bs : List ℕ) (ps : List Birth) (entries : Partial DatEntry) (stored : Partial Birth) → Stands stored bs ps → map Some ps ≡ map (stored_at entries stored) ks → IsSound (addresses_of entries) stored → IsSound (addresses_of (adjust_each moved_entry ks bs entries)) stored
-IsSound-moves [] bs ps entries stored stands same sound = sound
-IsSound-moves (k ∷ ks) [] ps entries stored stands same sound = sound
-IsSound-moves (k ∷ ks) (b ∷ bs) [] entries stored stands same sound = absurd stands
-IsSound-moves (k ∷ ks) (b ∷ bs) (p ∷ ps) entries stored stands same sound =
+pub HaveOwnPayload-moves : (ks bs : List ℕ) (ps : List Birth) (entries : Partial DatEntry) (stored : Partial Birth) → Stands stored bs ps → map Some ps ≡ map (stored_at entries stored) ks → HaveOwnPayload (addresses_of entries) stored → HaveOwnPayload (addresses_of (adjust_each moved_entry ks bs entries)) stored
+HaveOwnPayload-moves [] bs ps entries stored stands same sound = sound
+HaveOwnPayload-moves (k ∷ ks) [] ps entries stored stands same sound = sound
+HaveOwnPayload-moves (k ∷ ks) (b ∷ bs) [] entries stored stands same sound = absurd stands
+HaveOwnPayload-moves (k ∷ ks) (b ∷ bs) (p ∷ ps) entries stored stands same sound =
     let here : stored_at entries stored k ≡ Some p = cc in
     let rest : map Some ps ≡ map (stored_at entries stored) ks = cc in
-    IsSound-moves ks bs ps (adjust (moved_entry b) entries k) stored stands.1 (rest ∙ ap (λ m. map m ks) (sym (stored_at-move entries stored k b p stands.0 here)))
-    (IsSound-move entries stored k b p sound stands.0 here)
+    HaveOwnPayload-moves ks bs ps (adjust (moved_entry b) entries k) stored stands.1 (rest ∙ ap (λ m. map m ks) (sym (stored_at-move entries stored k b p stands.0 here)))
+    (HaveOwnPayload-move entries stored k b p sound stands.0 here)

@@ -9,13 +9,13 @@ use Rattle.nl_types.specs.Placing as placing
 use Rattle.nl_types.specs.PlacingLaws.{WhatFitsHasRoom}
 use Rattle.nl_types.specs.PartialMaps.{Partial}
 use Rattle.nl_types.specs.Entries.{Content}
-use Rattle.nl_segwriter.specs.Content.{Content as Space}
+use Rattle.nl_segwriter.specs.Content.{SpaceContent}
 use Rattle.nl_dat.specs.declared.entries.DatEntry.{DatEntry}
 use Rattle.nl_dat.specs.Batches.{LacksSpaceFrom, Changes, Fits, IsLowestFree, is_born, is_taken, last_number}
 use Rattle.nl_dat.specs.Table.{AreInUse, IsFirstFree, entry_in, addresses_of, block_of}
 use Rattle.nl_dat.specs.Stores.{content_in}
 use Rattle.nl_dat.specs.Inside.{births_in, store_of, IsTable}
-use Rattle.nl_dat.proofs.SoundTable.{is_some-content_of, IsSound-apart}
+use Rattle.nl_dat.proofs.SoundTable.{is_some-content_of, HaveOwnPayload-apart}
 use Rattle.nl_dat.proofs.StoreOf.{content_in-store_of}
 use Rattle.nl_dat.proofs.Counting.{taken-need-blocks}
 
@@ -26,7 +26,7 @@ is_some-addresses_of entries v = of_entry (entries v)
     of_entry None = refl
     of_entry (Some e) = refl
 
-module _ (table : List (Option DatEntry)) (lowest : ℕ) (space : Space) (failures : ℕ) (changes : Changes) (is_table : IsTable table lowest space) (fits : Fits (total_blocks space.segments) (content_in (store_of table space failures)) changes) where
+module _ (table : List (Option DatEntry)) (lowest : ℕ) (space : SpaceContent) (failures : ℕ) (changes : Changes) (is_table : IsTable table lowest space) (fits : Fits (total_blocks space.segments) (content_in (store_of table space failures)) changes) where
   abbrev pub content : Content
   content = content_in (store_of table space failures)
 
@@ -62,18 +62,18 @@ module _ (table : List (Option DatEntry)) (lowest : ℕ) (space : Space) (failur
   no_number-no_space has_room tidy found = λ reserve m more logs that_fits.
       let room = has_room space.segments reserve m logs tidy that_fits in
       let need = taken-need-blocks space.segments (addresses_of (entry_in table)) content changes.births (total_blocks space.segments)
-      (λ v w b at_v at_w. IsSound-apart (addresses_of (entry_in table)) (births_in space) v w b is_table.sound at_v at_w)
+      (λ v w b at_v at_w. HaveOwnPayload-apart (addresses_of (entry_in table)) (births_in space) v w b is_table.sound at_v at_w)
       is_table.used
       (λ v. is_some-addresses_of (entry_in table) v ∙ sym (in_use v))
       (λ v low high. taken_to (length table) found v low (omega (arith, high, is_table.full))) in
       omega (arith, room, need, more)
 
   -- where a list of logs fits the births, their numbers are among those that there are
-  pub numbers-inside : WhatFitsHasRoom → AreTidy space.segments → (reserve : Bool) (logs : List Log) → placing.Fits space.segments reserve (length changes.births) logs → last_number changes.births ≤ total_blocks space.segments
+  pub numbers-inside : WhatFitsHasRoom → AreTidy space.segments → (reserve : Bool) (logs : List Log) → placing.LogsFit space.segments reserve (length changes.births) logs → last_number changes.births ≤ total_blocks space.segments
   numbers-inside has_room tidy reserve logs that_fits =
       let room = has_room space.segments reserve (length changes.births) logs tidy that_fits in
       let need = taken-need-blocks space.segments (addresses_of (entry_in table)) content changes.births (last_number changes.births)
-      (λ v w b at_v at_w. IsSound-apart (addresses_of (entry_in table)) (births_in space) v w b is_table.sound at_v at_w)
+      (λ v w b at_v at_w. HaveOwnPayload-apart (addresses_of (entry_in table)) (births_in space) v w b is_table.sound at_v at_w)
       is_table.used
       (λ v. is_some-addresses_of (entry_in table) v ∙ sym (in_use v))
       fits.taken in

@@ -7,7 +7,7 @@ use Rattle.std.proofs.lemmas.Bool.Decides.{nat_tests}
 use Rattle.nl_types.specs.Segments.{Segments, AreTidy, info_of}
 use Rattle.nl_types.specs.Entries.{number_of}
 use Rattle.nl_layout.specs.declared.tag.Tag.{Tag}
-use Rattle.nl_segwriter.specs.Content.{Payload, Content as Space, tag_of, page_of as payload_page}
+use Rattle.nl_segwriter.specs.Content.{Payload, SpaceContent, payload_tag, payload_page}
 use Rattle.nl_dat.specs.declared.entries.DatEntry.{DatEntry}
 use Rattle.nl_dat.specs.Batches.{birth_of_item}
 use Rattle.nl_dat.specs.Table.{entry_in, addresses_of, block_of, stored_at}
@@ -29,14 +29,14 @@ inside-bounds s segment b inside = (
 )
 
 -- the payload of a number stands in the row of its segment
-pub record Found (table : List (Option DatEntry)) (space : Space) (row : List (Option Payload)) (first : ℕ) (e : DatEntry) : Type 0 where
+pub record Found (table : List (Option DatEntry)) (space : SpaceContent) (row : List (Option Payload)) (first : ℕ) (e : DatEntry) : Type 0 where
   pub payload : Payload
   pub low : first ≤ e.block
   pub in_row : slice_index_or row (e.block - first) None ≡ Some payload
   pub held : space.held e.block ≡ Some payload
   pub stored : space.stored e.block ≡ Some (payload_page payload)
 
-pub found : (table : List (Option DatEntry)) (space : Space) (row : List (Option Payload)) (segment v : ℕ) (e : DatEntry) → AreTidy space.segments → IsBacked table space → entry_in table v ≡ Some e → is_inside space.segments segment (addresses_of (entry_in table) v) ≡ true
+pub found : (table : List (Option DatEntry)) (space : SpaceContent) (row : List (Option Payload)) (segment v : ℕ) (e : DatEntry) → AreTidy space.segments → IsBacked table space → entry_in table v ≡ Some e → is_inside space.segments segment (addresses_of (entry_in table) v) ≡ true
     → length row ≡ (info_of space.segments.each segment).used → ((k : ℕ) → k < length row → slice_get row k ≡ Some (space.held (segment * space.segments.blocks + k))) → Found table space row (segment * space.segments.blocks) e
 found table space row segment v e tidy backed there inside count each = held (space.held e.block) refl (backed.sound v e.block at)
   where
@@ -66,11 +66,11 @@ found table space row segment v e tidy backed there inside count each = held (sp
     }
 
 -- a tag from the row and a page from the device are the payload
-pub loaded : (table : List (Option DatEntry)) (space : Space) (row : List (Option Payload)) (first v : ℕ) (e : DatEntry) (tag : Tag) (page : List ℕ) → entry_in table v ≡ Some e → Found table space row first e
-    → option_map tag_of (slice_index_or row (e.block - first) None) ≡ Some tag → space.stored e.block ≡ Some page → stored_at (entry_in table) (births_in space) v ≡ Some (birth_of_item (tag, page))
+pub loaded : (table : List (Option DatEntry)) (space : SpaceContent) (row : List (Option Payload)) (first v : ℕ) (e : DatEntry) (tag : Tag) (page : List ℕ) → entry_in table v ≡ Some e → Found table space row first e
+    → option_map payload_tag (slice_index_or row (e.block - first) None) ≡ Some tag → space.stored e.block ≡ Some page → stored_at (entry_in table) (births_in space) v ≡ Some (birth_of_item (tag, page))
 loaded table space row first v e tag page there f tagged read =
-    let tag_is : Some (tag_of f.payload) ≡ Some tag = sym (ap (option_map tag_of) f.in_row) ∙ tagged in
+    let tag_is : Some (payload_tag f.payload) ≡ Some tag = sym (ap (option_map payload_tag) f.in_row) ∙ tagged in
     let page_is : Some (payload_page f.payload) ≡ Some page = sym f.stored ∙ read in
-    let tag_same : tag_of f.payload ≡ tag = cc in
+    let tag_same : payload_tag f.payload ≡ tag = cc in
     let page_same : payload_page f.payload ≡ page = cc in
     ap (option_and_then (λ (s : DatEntry). births_in space s.block)) there ∙ ap (option_map birth_of_item) f.held ∙ ap (λ (t : Tag). Some (birth_of_item (t, payload_page f.payload))) tag_same ∙ ap (λ (p : List ℕ). Some (birth_of_item (tag, p))) page_same

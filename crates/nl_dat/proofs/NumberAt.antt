@@ -11,7 +11,7 @@ use Rattle.std.proofs.lemmas.Map.Made.{length-le_from_is_member}
 use Rattle.nl_types.specs.Segments.{Segments}
 use Rattle.nl_types.specs.Entries.{Entry}
 use Rattle.nl_types.specs.PartialMaps.{Partial, is_one_of, NoneTwice}
-use Rattle.nl_dat.specs.Stores.{Numbered, Store, IsStore, IsReclaimed, block_of, address_in, content_in, numbered_in, is_inside}
+use Rattle.nl_dat.specs.Stores.{Numbered, Store, IsStore, IsReclaimed, block_now, address_in, content_in, numbered_in, is_inside}
 use Rattle.nl_dat.specs.Located.{stands_at, first_at, number_at, onto, picked, numbers_in, if_needed, needs, needed_at, needed_in}
 
 -- ---- the first place of a list
@@ -48,11 +48,11 @@ first_at-none b (o ∷ os) v is = elim (cases_Bool (stands_at b o)) [
     at_place zero e more = e
     at_place (suc w) e more = more w
 
-addressed : (o : Option Numbered) (b : ℕ) → option_map block_of o ≡ Some b → stands_at b o ≡ true
+addressed : (o : Option Numbered) (b : ℕ) → option_map block_now o ≡ Some b → stands_at b o ≡ true
 addressed None b h = cc
 addressed (Some n) b h = let same : n.block ≡ b = cc in eq-eqb n.block b same
 
-standing : (o : Option Numbered) (b : ℕ) → stands_at b o ≡ true → option_map block_of o ≡ Some b
+standing : (o : Option Numbered) (b : ℕ) → stands_at b o ≡ true → option_map block_now o ≡ Some b
 standing None b h = cc
 standing (Some n) b h = ap Some (eqb-true n.block b h)
 

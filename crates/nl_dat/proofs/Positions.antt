@@ -9,7 +9,7 @@ use Rattle.std.proofs.lemmas.Option.{get_or_from_slice_get}
 use Rattle.nl_types.specs.Segments.{Segments, AreTidy, IsUsed, info_of}
 use Rattle.nl_types.proofs.SegmentChanges.{room_of}
 use Rattle.nl_types.specs.Entries.{number_of}
-use Rattle.nl_segwriter.specs.Content.{Payload, Content as Space, HoldsOnlyUsed, tag_of}
+use Rattle.nl_segwriter.specs.Content.{Payload, SpaceContent, HoldsOnlyUsed, payload_tag}
 use Rattle.nl_dat.specs.declared.entries.DatEntry.{DatEntry}
 use Rattle.nl_dat.specs.Batches.{birth_of_item, number_of_payload}
 use Rattle.nl_dat.specs.Table.{entry_in, addresses_of}
@@ -32,7 +32,7 @@ position-used s segment position b tidy (place, at, used) is within = by_segment
     by_segment (inr n) (inr h) = let m : (segment + 1) * s.blocks ≤ place.segment * s.blocks = mul-le-mul_right s.blocks (omega arith) in absurd (omega (arith, m, at, is, within))
 
 -- only the number that a block's payload was written for may have it
-pub tagged_with : (table : List (Option DatEntry)) (lowest : ℕ) (space : Space) (v b : ℕ) → IsTable table lowest space → addresses_of (entry_in table) v ≡ Some b → (payload : Payload) × (space.held b ≡ Some payload) × (payload.0.number ≡ v)
+pub tagged_with : (table : List (Option DatEntry)) (lowest : ℕ) (space : SpaceContent) (v b : ℕ) → IsTable table lowest space → addresses_of (entry_in table) v ≡ Some b → (payload : Payload) × (space.held b ≡ Some payload) × (payload.0.number ≡ v)
 tagged_with table lowest space v b is_table at = named (space.held b) refl (is_table.sound v b at)
   where
     named : (o : Option Payload) → space.held b ≡ o → option_map number_of (option_map birth_of_item o) ≡ Some v → (payload : Payload) × (space.held b ≡ Some payload) × (payload.0.number ≡ v)
@@ -40,11 +40,11 @@ tagged_with table lowest space v b is_table at = named (space.held b) refl (is_t
     named (Some payload) is h = (payload, is, cc)
 
 -- what stands in the row of a segment is the payload that is held there
-pub held-row : (row : List (Option Payload)) (space : Space) (segment position : ℕ) → ((k : ℕ) → k < length row → slice_get row k ≡ Some (space.held (segment * space.segments.blocks + k))) → position < length row → slice_index_or row position None ≡ space.held (segment * space.segments.blocks + position)
+pub held-row : (row : List (Option Payload)) (space : SpaceContent) (segment position : ℕ) → ((k : ℕ) → k < length row → slice_get row k ≡ Some (space.held (segment * space.segments.blocks + k))) → position < length row → slice_index_or row position None ≡ space.held (segment * space.segments.blocks + position)
 held-row row space segment position each within = get_or_from_slice_get row position (space.held (segment * space.segments.blocks + position)) None (each position within)
 
 -- so a row tells which number may have a block
-pub tagged-row : (table : List (Option DatEntry)) (lowest : ℕ) (space : Space) (row : List (Option Payload)) (segment position v : ℕ) → AreTidy space.segments → IsTable table lowest space → length row ≡ (info_of space.segments.each segment).used
+pub tagged-row : (table : List (Option DatEntry)) (lowest : ℕ) (space : SpaceContent) (row : List (Option Payload)) (segment position v : ℕ) → AreTidy space.segments → IsTable table lowest space → length row ≡ (info_of space.segments.each segment).used
     → ((k : ℕ) → k < length row → slice_get row k ≡ Some (space.held (segment * space.segments.blocks + k))) → position < space.segments.blocks → addresses_of (entry_in table) v ≡ Some (segment * space.segments.blocks + position) → option_map number_of_payload (slice_index_or row position None) ≡ Some v
 tagged-row table lowest space row segment position v tidy is_table count each within at =
     let b = segment * space.segments.blocks + position in
@@ -53,13 +53,13 @@ tagged-row table lowest space row segment position v tidy is_table count each wi
     ap (option_map number_of_payload) (held-row row space segment position each (omega (arith, used, count)) ∙ tag.1) ∙ ap Some tag.2
 
 -- and what it says of each block
-pub tag-row : (table : List (Option DatEntry)) (space : Space) (failures : ℕ) (row : List (Option Payload)) (segment position : ℕ) → AreTidy space.segments → HoldsOnlyUsed space → segment < length space.segments.each → position < space.segments.blocks
+pub tag-row : (table : List (Option DatEntry)) (space : SpaceContent) (failures : ℕ) (row : List (Option Payload)) (segment position : ℕ) → AreTidy space.segments → HoldsOnlyUsed space → segment < length space.segments.each → position < space.segments.blocks
     → length row ≡ (info_of space.segments.each segment).used → ((k : ℕ) → k < length row → slice_get row k ≡ Some (space.held (segment * space.segments.blocks + k)))
-    → option_map tag_of (slice_index_or row position None) ≡ tag_in (store_of table space failures) (segment * space.segments.blocks + position)
+    → option_map payload_tag (slice_index_or row position None) ≡ tag_in (store_of table space failures) (segment * space.segments.blocks + position)
 tag-row table space failures row segment position tidy only within low count each =
     let m : (segment + 1) * space.segments.blocks ≤ length space.segments.each * space.segments.blocks = mul-le-mul_right space.segments.blocks (omega (arith, within)) in
     let b = segment * space.segments.blocks + position in
-    ap (option_map tag_of) (by_row (cases_lt position (length row)) ∙ sym (shown table space failures b (omega (arith, m, low))).0)
+    ap (option_map payload_tag) (by_row (cases_lt position (length row)) ∙ sym (shown table space failures b (omega (arith, m, low))).0)
   where
     by_row : (position < length row) ⊎ (length row ≤ position) → slice_index_or row position None ≡ space.held (segment * space.segments.blocks + position)
     by_row (inl h) = held-row row space segment position each h

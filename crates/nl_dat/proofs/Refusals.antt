@@ -1,17 +1,18 @@
 -- What an append that is refused leaves.
 use Rattle.std.proofs.Common.{◌≡◌, ℕ, ◌<◌, ◌++◌, ◌∷◌, List, Option, Some, None, inl, inr, sym, refl, ap, subst, ◌∙◌, map, length}
-use Rattle.std.specs.Prelude.{Bool}
+use Rattle.std.specs.Prelude.{Bool, true}
 use Rattle.std.specs.Option.{option_map}
 use Rattle.std.proofs.lemmas.List.{ext_get_or, length-map}
 use Rattle.nl_types.specs.declared.error.VolError.{VolError}
 use Rattle.nl_types.specs.declared.error.VolError.TheVariants.{NoSpace, Fault, Memory}
 use Rattle.nl_types.specs.Segments.{AreTidy, total_blocks}
-use Rattle.nl_types.specs.Placing.{with_logs}
-use Rattle.nl_segwriter.specs.Content.{Payload, Content as Space, KeepsUsed}
+use Rattle.nl_types.specs.Placing.{LacksSpace, with_logs}
+use Rattle.nl_segwriter.specs.Content.{Payload, SpaceContent, KeepsUsed}
 use Rattle.nl_segwriter.specs.Appended.{IsAppendError, IsBrokenOff}
+use Rattle.nl_dat.specs.Batches.{Changes, items_of}
 use Rattle.nl_dat.specs.declared.entries.DatEntry.{DatEntry}
 use Rattle.nl_dat.specs.Table.{entry_in, addresses_of, block_of}
-use Rattle.nl_dat.specs.Stores.{IsFaulted}
+use Rattle.nl_dat.specs.Stores.{Store, IsFaulted, IsWriteRefused}
 use Rattle.nl_dat.specs.Inside.{births_in, numbered_of, numbered_with, store_of, IsTable}
 use Rattle.nl_dat.proofs.Contents.{KeepsAt}
 use Rattle.nl_dat.proofs.StoreOf.{numbered_in-store_of}
@@ -20,22 +21,22 @@ use Rattle.nl_dat.proofs.ShownSpace.{broken-shown, kept-shown}
 use Rattle.nl_dat.proofs.Writing.{keeps_at}
 
 -- there are as many blocks as before
-total-broken : (old later : Space) (reserve : Bool) (stamp checkpoint : ℕ) (payload : List Payload) → IsBrokenOff old later reserve stamp checkpoint payload → total_blocks later.segments ≡ total_blocks old.segments
+total-broken : (old later : SpaceContent) (reserve : Bool) (stamp checkpoint : ℕ) (payload : List Payload) → IsBrokenOff old later reserve stamp checkpoint payload → total_blocks later.segments ≡ total_blocks old.segments
 total-broken old later reserve stamp checkpoint payload broken =
     ap total_blocks broken.segments ∙ total-with_error (with_logs old.segments broken.written stamp) broken.failed.segment ∙ total-with_logs old.segments broken.written stamp
 
-pub total-refused : (old later : Space) (reserve : Bool) (stamp checkpoint : ℕ) (payload : List Payload) (e : VolError) → IsAppendError e → (e ≡ NoSpace → later ≡ old) → (e ≡ Memory → later ≡ old) → (e ≡ Fault → IsBrokenOff old later reserve stamp checkpoint payload)
+pub total-refused : (old later : SpaceContent) (reserve : Bool) (stamp checkpoint : ℕ) (payload : List Payload) (e : VolError) → IsAppendError e → (e ≡ NoSpace → later ≡ old) → (e ≡ Memory → later ≡ old) → (e ≡ Fault → IsBrokenOff old later reserve stamp checkpoint payload)
     → total_blocks later.segments ≡ total_blocks old.segments
 total-refused old later reserve stamp checkpoint payload e why no_space memory fault = elim why [
-  | inl is ↦ ap (λ (s : Space). total_blocks s.segments) (no_space is)
+  | inl is ↦ ap (λ (s : SpaceContent). total_blocks s.segments) (no_space is)
   | inr or ↦ elim or [
     | inl is ↦ total-broken old later reserve stamp checkpoint payload (fault is)
-    | inr is ↦ ap (λ (s : Space). total_blocks s.segments) (memory is)
+    | inr is ↦ ap (λ (s : SpaceContent). total_blocks s.segments) (memory is)
   ]
 ]
 
 -- and each number is seen as before
-pub numbers-kept : (table : List (Option DatEntry)) (old later : Space) → KeepsAt (addresses_of (entry_in table)) (births_in old) (births_in later) → map (numbered_of (births_in later)) table ≡ map (numbered_of (births_in old)) table
+pub numbers-kept : (table : List (Option DatEntry)) (old later : SpaceContent) → KeepsAt (addresses_of (entry_in table)) (births_in old) (births_in later) → map (numbered_of (births_in later)) table ≡ map (numbered_of (births_in old)) table
 numbers-kept table old later keeps = ext_get_or None _ _ (length-map table (numbered_of (births_in later)) ∙ sym (length-map table (numbered_of (births_in old)))) (λ v h.
     numbered_in-store_of table later 0 v ∙ same v (entry_in table v) refl ∙ sym (numbered_in-store_of table old 0 v))
   where
@@ -43,7 +44,7 @@ numbers-kept table old later keeps = ext_get_or None _ _ (length-map table (numb
     same v None is = refl
     same v (Some e) is = ap (option_map (numbered_with e)) (keeps v e.block (ap (option_map block_of) is))
 
-pub is_faulted : (table : List (Option DatEntry)) (lowest : ℕ) (old later : Space) (before after : ℕ) (reserve : Bool) (stamp checkpoint : ℕ) (payload : List Payload) → AreTidy old.segments → IsTable table lowest old → KeepsUsed old.segments old later → before < after
+pub is_faulted : (table : List (Option DatEntry)) (lowest : ℕ) (old later : SpaceContent) (before after : ℕ) (reserve : Bool) (stamp checkpoint : ℕ) (payload : List Payload) → AreTidy old.segments → IsTable table lowest old → KeepsUsed old.segments old later → before < after
     → IsBrokenOff old later reserve stamp checkpoint payload → IsFaulted reserve checkpoint stamp payload (store_of table old before) (store_of table later after)
 is_faulted table lowest old later before after reserve stamp checkpoint payload tidy is_table kept risen broken = record {
   failures = risen;
@@ -51,3 +52,13 @@ is_faulted table lowest old later before after reserve stamp checkpoint payload 
   broken_off = broken-shown table table old later before after reserve stamp checkpoint payload tidy broken;
   kept = kept-shown table table old later before after (total-broken old later reserve stamp checkpoint payload broken) old.segments kept;
 }
+
+pub write-refused : (checkpoint stamp : ℕ) (changes : Changes) (old new : Store) (e : VolError) → IsAppendError e → (e ≡ NoSpace → LacksSpace old.segments true (length changes.births)) → (e ≡ NoSpace → new ≡ old) → (e ≡ Memory → new ≡ old)
+    → (e ≡ Fault → IsFaulted true checkpoint stamp (items_of changes.births) old new) → IsWriteRefused checkpoint stamp changes old new e
+write-refused checkpoint stamp changes old new e why lacks no_space memory fault = elim why [
+  | inl is ↦ subst (IsWriteRefused checkpoint stamp changes old new) (sym is) (lacks is, no_space is)
+  | inr or ↦ elim or [
+    | inl is ↦ subst (IsWriteRefused checkpoint stamp changes old new) (sym is) (fault is)
+    | inr is ↦ subst (IsWriteRefused checkpoint stamp changes old new) (sym is) (memory is)
+  ]
+]

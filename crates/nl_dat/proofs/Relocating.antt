@@ -12,14 +12,14 @@ use Rattle.nl_types.specs.Placing.{LacksSpace}
 use Rattle.nl_types.specs.Entries.{Birth, Content}
 use Rattle.nl_types.specs.PartialMaps.{Partial, adjust, adjust_each, is_one_of, Stands}
 use Rattle.nl_types.proofs.PartialMaps.{is_one_of-get_or}
-use Rattle.nl_segwriter.specs.Content.{Payload, Content as Space, KeepsUsed, page_of as payload_page}
-use Rattle.nl_segwriter.specs.Appended.{IsAppended, IsAppendError, IsBrokenOff}
+use Rattle.nl_segwriter.specs.Content.{Payload, SpaceContent, KeepsUsed, payload_page}
+use Rattle.nl_segwriter.specs.Appended.{IsAppended, IsAppendError, IsLoadError, IsBrokenOff}
 use Rattle.nl_dat.specs.declared.entries.DatEntry.{DatEntry}
 use Rattle.nl_dat.specs.Batches.{birth_of_item, births_of, item_of_birth, items_of, tag_for}
-use Rattle.nl_dat.specs.Table.{entry_in, addresses_of, block_of, content_of, meaning_at, meaning_of, moved_entry, stored_at, IsSound}
+use Rattle.nl_dat.specs.Table.{entry_in, addresses_of, block_of, content_of, meaning_at, meaning_of, moved_entry, stored_at, HaveOwnPayload}
 use Rattle.nl_dat.specs.Stores.{IsMoved, IsMoveRefused, IsPayloadOf, KeepsStored, is_inside, moved_to, address_in, payload_for, payload_under}
 use Rattle.nl_dat.specs.Inside.{births_in, numbered_of, store_of, IsTable}
-use Rattle.nl_dat.proofs.Contents.{KeepsAt, content_of-KeepsAt, IsSound-KeepsAt, content_of-moves, addresses_of-moves, IsSound-moves}
+use Rattle.nl_dat.proofs.Contents.{KeepsAt, content_of-KeepsAt, HaveOwnPayload-KeepsAt, content_of-moves, addresses_of-moves, HaveOwnPayload-moves}
 use Rattle.nl_dat.proofs.StoreOf.{content_in-store_of, address_in-store_of}
 use Rattle.nl_dat.proofs.ClosedSegments.{fits-outside}
 use Rattle.nl_dat.proofs.SoundTable.{stored_for}
@@ -109,7 +109,7 @@ none_of None h = refl
 none_of (Some x) h = cc
 
 -- what was read is what the numbers stand for
-pub theirs-of : (table : List (Option DatEntry)) (lowest : ℕ) (space : Space) (failures : ℕ) (numbers : List ℕ) (items : List Payload) → IsTable table lowest space → map (stored_at (entry_in table) (births_in space)) numbers ≡ map Some (births_of items)
+pub theirs-of : (table : List (Option DatEntry)) (lowest : ℕ) (space : SpaceContent) (failures : ℕ) (numbers : List ℕ) (items : List Payload) → IsTable table lowest space → map (stored_at (entry_in table) (births_in space)) numbers ≡ map Some (births_of items)
     → IsPayloadOf (store_of table space failures) numbers items
 theirs-of table lowest space failures numbers items is_table loaded =
     payloads (payload_under (store_of table space failures)) (stored_at (entry_in table) (births_in space)) under numbers (births_of items) loaded ∙ ap (map Some) (sym (items_back items))
@@ -125,7 +125,7 @@ theirs-of table lowest space failures numbers items is_table loaded =
     under : (v : ℕ) → payload_under (store_of table space failures) v ≡ option_map item_of_birth (stored_at (entry_in table) (births_in space) v)
     under v = ap (λ (m : Content). option_map (payload_for v) (m v)) (content_in-store_of table space failures) ∙ of_entry v (entry_in table v) refl
 
-module _ (table new : List (Option DatEntry)) (lowest : ℕ) (old later : Space) (before after c now segment : ℕ) (numbers at : List ℕ) (items : List Payload)
+module _ (table new : List (Option DatEntry)) (lowest : ℕ) (old later : SpaceContent) (before after c now segment : ℕ) (numbers at : List ℕ) (items : List Payload)
     (is_table : IsTable table lowest old) (loaded : map (stored_at (entry_in table) (births_in old)) numbers ≡ map Some (births_of items))
     (appended : IsAppended old later false now c items at) (kept : KeepsUsed old.segments old later) (stays : StaysUsed old.segments later.segments)
     (is_new : entry_in new ≡ adjust_each moved_entry numbers at (entry_in table)) (size : length new ≡ length table) where
@@ -156,11 +156,11 @@ module _ (table new : List (Option DatEntry)) (lowest : ℕ) (old later : Space)
   loaded-later : map Some (births_of items) ≡ map (stored_at (entry_in table) (births_in later)) numbers
   loaded-later = sym loaded ∙ sym (map-still numbers)
 
-  sound-later : IsSound (addresses_of (entry_in table)) (births_in later)
-  sound-later = IsSound-KeepsAt (addresses_of (entry_in table)) (births_in old) (births_in later) is_table.sound keeps
+  sound-later : HaveOwnPayload (addresses_of (entry_in table)) (births_in later)
+  sound-later = HaveOwnPayload-KeepsAt (addresses_of (entry_in table)) (births_in old) (births_in later) is_table.sound keeps
 
-  sound-now : IsSound (addresses_of (entry_in new)) (births_in later)
-  sound-now = subst (λ m. IsSound (addresses_of m) (births_in later)) (sym is_new) (IsSound-moves numbers at (births_of items) (entry_in table) (births_in later) stands loaded-later sound-later)
+  sound-now : HaveOwnPayload (addresses_of (entry_in new)) (births_in later)
+  sound-now = subst (λ m. HaveOwnPayload (addresses_of m) (births_in later)) (sym is_new) (HaveOwnPayload-moves numbers at (births_of items) (entry_in table) (births_in later) stands loaded-later sound-later)
 
   addresses-moved : addresses_of (entry_in new) ≡ adjust_each moved_to numbers at (addresses_of (entry_in table))
   addresses-moved = ap addresses_of is_new ∙ addresses_of-moves numbers at (entry_in table)
@@ -209,16 +209,16 @@ module _ (table new : List (Option DatEntry)) (lowest : ℕ) (old later : Space)
 
 -- ---- a refusal
 
-keeps-stored : (table : List (Option DatEntry)) (old later : Space) (before after : ℕ) → later ≡ old → KeepsStored (store_of table old before) (store_of table later after)
+keeps-stored : (table : List (Option DatEntry)) (old later : SpaceContent) (before after : ℕ) → later ≡ old → KeepsStored (store_of table old before) (store_of table later after)
 keeps-stored table old later before after same = record {
-  numbers = ap (λ (s : Space). map (numbered_of (births_in s)) table) same;
-  segments = ap (λ (s : Space). s.segments) same;
-  device = ap (λ (s : Space). map s.stored (range_with_len 0 (total_blocks s.segments))) same;
-  payload = ap (λ (s : Space). map s.held (range_with_len 0 (total_blocks s.segments))) same;
+  numbers = ap (λ (s : SpaceContent). map (numbered_of (births_in s)) table) same;
+  segments = ap (λ (s : SpaceContent). s.segments) same;
+  device = ap (λ (s : SpaceContent). map s.stored (range_with_len 0 (total_blocks s.segments))) same;
+  payload = ap (λ (s : SpaceContent). map s.held (range_with_len 0 (total_blocks s.segments))) same;
 }
 
 -- what an append says where it is refused
-pub record IsRefused (reserve : Bool) (stamp checkpoint : ℕ) (payload : List Payload) (e : VolError) (old later : Space) (before after : ℕ) : Type 0 where
+pub record IsRefused (reserve : Bool) (stamp checkpoint : ℕ) (payload : List Payload) (e : VolError) (old later : SpaceContent) (before after : ℕ) : Type 0 where
   pub why : IsAppendError e
   pub no_space : e ≡ NoSpace → later ≡ old
   pub lacks : e ≡ NoSpace → LacksSpace old.segments reserve (length payload)
@@ -226,18 +226,26 @@ pub record IsRefused (reserve : Bool) (stamp checkpoint : ℕ) (payload : List P
   pub risen : e ≡ Fault → before < after
   pub broken : e ≡ Fault → IsBrokenOff old later reserve stamp checkpoint payload
 
-pub move-refused : (table : List (Option DatEntry)) (lowest : ℕ) (old later : Space) (before between after checkpoint stamp : ℕ) (numbers : List ℕ) (payload : List Payload) (e : VolError) → AreTidy old.segments → IsTable table lowest old
+pub move-refused : (table : List (Option DatEntry)) (lowest : ℕ) (old later : SpaceContent) (before between after checkpoint stamp : ℕ) (numbers : List ℕ) (payload : List Payload) (e : VolError) → AreTidy old.segments → IsTable table lowest old
     → IsPayloadOf (store_of table old before) numbers payload → KeepsUsed old.segments old later → before ≤ between → IsRefused false stamp checkpoint payload e old later between after
-    → IsMoveRefused checkpoint stamp numbers e (store_of table old before) (store_of table later after)
+    → IsMoveRefused checkpoint stamp numbers (store_of table old before) (store_of table later after) e
 move-refused table lowest old later before between after checkpoint stamp numbers payload e tidy is_table theirs kept more refused = elim refused.why [
-  | inl is ↦ subst (λ d. IsMoveRefused checkpoint stamp numbers d (store_of table old before) (store_of table later after)) (sym is)
+  | inl is ↦ subst (IsMoveRefused checkpoint stamp numbers (store_of table old before) (store_of table later after)) (sym is)
       (subst (LacksSpace old.segments false) count (refused.lacks is), keeps-stored table old later before after (refused.no_space is))
   | inr or ↦ elim or [
-    | inl is ↦ subst (λ d. IsMoveRefused checkpoint stamp numbers d (store_of table old before) (store_of table later after)) (sym is)
+    | inl is ↦ subst (IsMoveRefused checkpoint stamp numbers (store_of table old before) (store_of table later after)) (sym is)
         (inr (payload, theirs, is_faulted table lowest old later before after false stamp checkpoint payload tidy is_table kept (omega (arith, more, refused.risen is)) (refused.broken is)))
-    | inr is ↦ subst (λ d. IsMoveRefused checkpoint stamp numbers d (store_of table old before) (store_of table later after)) (sym is) (keeps-stored table old later before after (refused.memory is))
+    | inr is ↦ subst (IsMoveRefused checkpoint stamp numbers (store_of table old before) (store_of table later after)) (sym is) (keeps-stored table old later before after (refused.memory is))
   ]
 ]
   where
     count : length payload ≡ length numbers
     count = sym (length-map payload Some) ∙ sym (ap length theirs) ∙ length-map numbers (payload_under (store_of table old before))
+
+-- a page was not read
+pub load-refused : (table : List (Option DatEntry)) (old later : SpaceContent) (before after checkpoint stamp : ℕ) (numbers : List ℕ) (e : VolError) → later ≡ old → IsLoadError e → (e ≡ Fault → before < after)
+    → IsMoveRefused checkpoint stamp numbers (store_of table old before) (store_of table later after) e
+load-refused table old later before after checkpoint stamp numbers e same why risen = elim why [
+  | inl is ↦ subst (IsMoveRefused checkpoint stamp numbers (store_of table old before) (store_of table later after)) (sym is) (inl (risen is, keeps-stored table old later before after same))
+  | inr is ↦ subst (IsMoveRefused checkpoint stamp numbers (store_of table old before) (store_of table later after)) (sym is) (keeps-stored table old later before after same)
+]

@@ -10,9 +10,9 @@ use Rattle.nl_types.specs.Segments.{Segments, AreTidy, total_blocks}
 use Rattle.nl_types.specs.Placing.{first_block, with_logs}
 use Rattle.nl_types.proofs.NextLogs.{placed}
 use Rattle.nl_types.proofs.UsedParts.{used_inside}
-use Rattle.nl_segwriter.specs.Content.{Content as Space, Payload, StandAt, IsSameAt, IsFreed, KeepsUsed, HoldsOnlyUsed, page_of}
+use Rattle.nl_segwriter.specs.Content.{SpaceContent, Payload, StandAt, IsSameAt, IsFreed, KeepsUsed, HoldsOnlyUsed, payload_page}
 use Rattle.nl_segwriter.specs.Logs.{AreWholeLogs}
-use Rattle.nl_segwriter.specs.Appended.{StandInLogs, KeepsOthers, IsAppended, IsBrokenOff}
+use Rattle.nl_segwriter.specs.Appended.{StandInLogs, KeepsOtherBlocks, IsAppended, IsBrokenOff}
 use Rattle.nl_segwriter.proofs.AppendedLogs.{logs_inside}
 use Rattle.nl_segwriter.proofs.WholeLogs.{filled_same, stands_kept}
 use Rattle.nl_dat.specs.declared.entries.DatEntry.{DatEntry}
@@ -20,7 +20,7 @@ use Rattle.nl_dat.specs.Stores.{payload_in, device_in, space_in}
 use Rattle.nl_dat.specs.Inside.{store_of}
 use Rattle.nl_dat.proofs.BlockCounts.{total-with_logs, total-with_error}
 
-module _ (table : List (Option DatEntry)) (space : Space) (failures : ℕ) where
+module _ (table : List (Option DatEntry)) (space : SpaceContent) (failures : ℕ) where
   pub shown : (b : ℕ) → b < total_blocks space.segments → IsSameAt space (space_in (store_of table space failures)) b
   shown b low = (
     get_or-map-range_with_len space.held 0 (total_blocks space.segments) b b None low (omega arith),
@@ -76,7 +76,7 @@ module _ (table : List (Option DatEntry)) (space : Space) (failures : ℕ) where
 
 -- ---- what changes
 
-module _ (table new : List (Option DatEntry)) (old later : Space) (before after : ℕ) (total : total_blocks later.segments ≡ total_blocks old.segments) where
+module _ (table new : List (Option DatEntry)) (old later : SpaceContent) (before after : ℕ) (total : total_blocks later.segments ≡ total_blocks old.segments) where
   pub same-shown : (b : ℕ) → IsSameAt old later b → IsSameAt (space_in (store_of table old before)) (space_in (store_of new later after)) b
   same-shown b same = elim (cases_lt b (total_blocks old.segments)) [
     | inl low ↦
@@ -92,7 +92,7 @@ module _ (table new : List (Option DatEntry)) (old later : Space) (before after 
   pub kept-shown : (s : Segments) → KeepsUsed s old later → KeepsUsed s (space_in (store_of table old before)) (space_in (store_of new later after))
   kept-shown s kept b used = same-shown b (kept b used)
 
-  pub others-shown : (blocks : ℕ) (logs : List Log) → KeepsOthers blocks logs old later → KeepsOthers blocks logs (space_in (store_of table old before)) (space_in (store_of new later after))
+  pub others-shown : (blocks : ℕ) (logs : List Log) → KeepsOtherBlocks blocks logs old later → KeepsOtherBlocks blocks logs (space_in (store_of table old before)) (space_in (store_of new later after))
   others-shown blocks logs others b outside = same-shown b (others b outside)
 
   pub freed-shown : (segment : ℕ) → IsFreed segment old later → IsFreed segment (space_in (store_of table old before)) (space_in (store_of new later after))
@@ -124,7 +124,7 @@ module _ (table new : List (Option DatEntry)) (old later : Space) (before after 
 
 -- ---- an append
 
-module _ (table new : List (Option DatEntry)) (old later : Space) (before after : ℕ) (reserve : Bool) (stamp checkpoint : ℕ) (payload : List Payload) (tidy : AreTidy old.segments) where
+module _ (table new : List (Option DatEntry)) (old later : SpaceContent) (before after : ℕ) (reserve : Bool) (stamp checkpoint : ℕ) (payload : List Payload) (tidy : AreTidy old.segments) where
   pub appended-shown : (at : List ℕ) → IsAppended old later reserve stamp checkpoint payload at → IsAppended (space_in (store_of table old before)) (space_in (store_of new later after)) reserve stamp checkpoint payload at
   appended-shown at a = record {
     logs = a.logs;
@@ -135,7 +135,7 @@ module _ (table new : List (Option DatEntry)) (old later : Space) (before after 
     unused_before = a.unused_before;
     used_now = a.used_now;
     held = stand_at-shown new later after at payload inside a.held;
-    stored = stored_at-shown new later after at (map page_of payload) inside a.stored;
+    stored = stored_at-shown new later after at (map payload_page payload) inside a.stored;
     others = others-shown table new old later before after total old.segments.blocks a.logs a.others;
   }
     where

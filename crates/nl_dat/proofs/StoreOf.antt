@@ -10,18 +10,18 @@ use Rattle.nl_types.specs.Segments.{AreTidy, total_blocks}
 use Rattle.nl_types.specs.PartialMaps.{Partial}
 use Rattle.nl_types.specs.Entries.{Birth, number_of}
 use Rattle.nl_types.proofs.PartialMaps.{same_at_all}
-use Rattle.nl_segwriter.specs.Content.{Payload, Content as Space, HoldsOnlyUsed, page_of as payload_page}
+use Rattle.nl_segwriter.specs.Content.{Payload, SpaceContent, HoldsOnlyUsed, payload_page}
 use Rattle.nl_segwriter.specs.Logs.{AreWholeLogs, HaveLogs}
 use Rattle.nl_dat.specs.declared.entries.DatEntry.{DatEntry}
-use Rattle.nl_dat.specs.Batches.{birth_of_item, place_of, tag_for}
-use Rattle.nl_dat.specs.Table.{entry_in, addresses_of, block_of, content_of, meaning_of, meaning_at, period_of, period_of_entry, IsSound}
-use Rattle.nl_dat.specs.Stores.{Numbered, new_store, numbered_in, content_in, address_in, entry_of, block_of as block_now, dat_entry_of, payload_for, IsStore}
+use Rattle.nl_dat.specs.Batches.{birth_of_item, tag_place, tag_for}
+use Rattle.nl_dat.specs.Table.{entry_in, addresses_of, block_of, content_of, meaning_of, meaning_at, period_of, period_of_entry, HaveOwnPayload}
+use Rattle.nl_dat.specs.Stores.{Numbered, new_store, numbered_in, content_in, address_in, entry_of, block_now, dat_entry_of, payload_for, IsStore}
 use Rattle.nl_dat.specs.Inside.{births_in, numbered_with, numbered_of, store_of, IsTable}
 use Rattle.nl_types.proofs.UsedParts.{used_inside}
-use Rattle.nl_dat.proofs.SoundTable.{stored_for, IsSound-apart}
+use Rattle.nl_dat.proofs.SoundTable.{stored_for, HaveOwnPayload-apart}
 use Rattle.nl_dat.proofs.ShownSpace.{shown, whole-shown, only-shown}
 
-module _ (table : List (Option DatEntry)) (space : Space) (failures : ℕ) where
+module _ (table : List (Option DatEntry)) (space : SpaceContent) (failures : ℕ) where
   pub numbered_in-store_of : (v : ℕ) → numbered_in (store_of table space failures) v ≡ numbered_of (births_in space) (entry_in table v)
   numbered_in-store_of v = get_or-map (numbered_of (births_in space)) table v None
 
@@ -38,11 +38,11 @@ module _ (table : List (Option DatEntry)) (space : Space) (failures : ℕ) where
       of_entry (Some e) = of_birth e (births_in space e.block)
 
   -- what is stored for an entry is its own
-  stored_of : IsSound (addresses_of (entry_in table)) (births_in space) → (v : ℕ) (e : DatEntry) → entry_in table v ≡ Some e → (p : Birth) × (births_in space e.block ≡ Some p) × (number_of p ≡ v)
+  stored_of : HaveOwnPayload (addresses_of (entry_in table)) (births_in space) → (v : ℕ) (e : DatEntry) → entry_in table v ≡ Some e → (p : Birth) × (births_in space e.block ≡ Some p) × (number_of p ≡ v)
   stored_of sound v e is = stored_for (entry_in table) (births_in space) v e sound is
 
   -- an entry is seen as it is
-  pub entry-store_of : IsSound (addresses_of (entry_in table)) (births_in space) → (v : ℕ) → entry_in table v ≡ option_map dat_entry_of (numbered_in (store_of table space failures) v)
+  pub entry-store_of : HaveOwnPayload (addresses_of (entry_in table)) (births_in space) → (v : ℕ) → entry_in table v ≡ option_map dat_entry_of (numbered_in (store_of table space failures) v)
   entry-store_of sound v =
       elim (entry_in table v) as (λ o. entry_in table v ≡ o → o ≡ option_map dat_entry_of (numbered_of (births_in space) o)) [
         | None ↦ λ is. refl
@@ -51,7 +51,7 @@ module _ (table : List (Option DatEntry)) (space : Space) (failures : ℕ) where
       ∙ sym (ap (option_map dat_entry_of) (numbered_in-store_of v))
 
   -- and its block
-  pub address_in-store_of : IsSound (addresses_of (entry_in table)) (births_in space) → address_in (store_of table space failures) ≡ addresses_of (entry_in table)
+  pub address_in-store_of : HaveOwnPayload (addresses_of (entry_in table)) (births_in space) → address_in (store_of table space failures) ≡ addresses_of (entry_in table)
   address_in-store_of sound = same_at_all _ _ (λ v.
       ap (option_map block_now) (numbered_in-store_of v)
       ∙ elim (entry_in table v) as (λ o. entry_in table v ≡ o → option_map block_now (numbered_of (births_in space) o) ≡ option_map block_of o) [
@@ -60,14 +60,14 @@ module _ (table : List (Option DatEntry)) (space : Space) (failures : ℕ) where
       ] refl)
 
   -- and its period
-  pub period-store_of : IsSound (addresses_of (entry_in table)) (births_in space) → (v : ℕ) (e : DatEntry) → entry_in table v ≡ Some e → Some (period_of_entry e) ≡ option_map period_of (content_in (store_of table space failures) v)
+  pub period-store_of : HaveOwnPayload (addresses_of (entry_in table)) (births_in space) → (v : ℕ) (e : DatEntry) → entry_in table v ≡ Some e → Some (period_of_entry e) ≡ option_map period_of (content_in (store_of table space failures) v)
   period-store_of sound v e is =
       let p = stored_of sound v e is in
       sym (ap (λ f. option_map period_of (f v)) content_in-store_of ∙ ap (λ o. option_map period_of (option_and_then (meaning_at (births_in space)) o)) is ∙ ap (λ o. option_map period_of (option_map (meaning_of e) o)) p.1)
 
 -- ---- what is true of every store
 
-module _ (table : List (Option DatEntry)) (lowest : ℕ) (space : Space) (failures : ℕ) (is_table : IsTable table lowest space) (tidy : AreTidy space.segments) where
+module _ (table : List (Option DatEntry)) (lowest : ℕ) (space : SpaceContent) (failures : ℕ) (is_table : IsTable table lowest space) (tidy : AreTidy space.segments) where
   address_now : (v b : ℕ) → address_in (store_of table space failures) v ≡ Some b → addresses_of (entry_in table) v ≡ Some b
   address_now v b at = sym (ap (λ (m : Partial ℕ). m v) (address_in-store_of table space failures is_table.sound)) ∙ at
 
@@ -104,7 +104,7 @@ module _ (table : List (Option DatEntry)) (lowest : ℕ) (space : Space) (failur
           let number : payload.0.number ≡ v = some_same (sym (ap (λ (o : Option Payload). option_map number_of (option_map birth_of_item o)) held) ∙ is_table.sound v e.block at) in
           subst Own same (
             used_inside space.segments e.block tidy (is_table.used v e.block at),
-            held ∙ ap (λ (k : ℕ). Some (tag_for k (place_of payload.0), payload.1)) number,
+            held ∙ ap (λ (k : ℕ). Some (tag_for k (tag_place payload.0), payload.1)) number,
             is_table.stored v e.block at ∙ ap (option_map payload_page) held,
           )
         where
@@ -120,7 +120,7 @@ module _ (table : List (Option DatEntry)) (lowest : ℕ) (space : Space) (failur
     full = length-map table (numbered_of (births_in space)) ∙ is_table.full;
     numbers = λ v b at. numbers v b (address_now v b at);
     used = λ v b at. is_table.used v b (address_now v b at);
-    apart = λ v w b at_v at_w. IsSound-apart (addresses_of (entry_in table)) (births_in space) v w b is_table.sound (address_now v b at_v) (address_now w b at_w);
+    apart = λ v w b at_v at_w. HaveOwnPayload-apart (addresses_of (entry_in table)) (births_in space) v w b is_table.sound (address_now v b at_v) (address_now w b at_w);
     on_device = λ v n is. let o = own v n is in (shown table space failures n.block o.0).1 ∙ o.2;
     own_payload = λ v n is. let o = own v n is in (shown table space failures n.block o.0).0 ∙ o.1;
     whole_logs = whole-shown table space failures tidy whole;
@@ -135,7 +135,7 @@ map-empty : (stored : Partial Birth) (n : ℕ) → map (numbered_of stored) (rep
 map-empty stored zero = refl
 map-empty stored (suc n) = ap (λ xs. None ∷ xs) (map-empty stored n)
 
-pub store_of-empty : (table : List (Option DatEntry)) (space : Space) (failures : ℕ) → table ≡ replicate (total_blocks space.segments + 1) None → store_of table space failures ≡ new_store space failures
+pub store_of-empty : (table : List (Option DatEntry)) (space : SpaceContent) (failures : ℕ) → table ≡ replicate (total_blocks space.segments + 1) None → store_of table space failures ≡ new_store space failures
 store_of-empty table space failures is =
     ap (λ numbers. record { numbers = numbers; segments = space.segments; device = map space.stored (range_with_len 0 (total_blocks space.segments)); payload = map space.held (range_with_len 0 (total_blocks space.segments)); failures = failures })
     (ap (map (numbered_of (births_in space))) is ∙ map-empty (births_in space) (total_blocks space.segments + 1))
@@ -145,7 +145,7 @@ get_or-empty zero v = refl
 get_or-empty (suc n) zero = refl
 get_or-empty (suc n) (suc v) = get_or-empty n v
 
-pub table-empty : (table : List (Option DatEntry)) (space : Space) → table ≡ replicate (total_blocks space.segments + 1) None → IsTable table 1 space
+pub table-empty : (table : List (Option DatEntry)) (space : SpaceContent) → table ≡ replicate (total_blocks space.segments + 1) None → IsTable table 1 space
 table-empty table space is = record {
   full = ap length is ∙ length-replicate (total_blocks space.segments + 1) None;
   zero_unused = none 0;

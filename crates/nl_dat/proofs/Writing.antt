@@ -10,14 +10,14 @@ use Rattle.nl_types.specs.Segments.{AreTidy, IsUsed, StaysUsed, total_blocks}
 use Rattle.nl_types.specs.PartialMaps.{Partial, put, put_each, put_all, adjust, adjust_all, Stands}
 use Rattle.nl_types.specs.Entries.{Birth, Content, number_of, born_at, ended_at, written}
 use Rattle.nl_types.proofs.PartialMaps.{put-other, put-same}
-use Rattle.nl_segwriter.specs.Content.{Payload, Content as Space, KeepsUsed, StandAt, page_of as payload_page}
+use Rattle.nl_segwriter.specs.Content.{Payload, SpaceContent, KeepsUsed, StandAt, payload_page}
 use Rattle.nl_segwriter.specs.Appended.{IsAppended}
 use Rattle.nl_dat.specs.declared.entries.DatEntry.{DatEntry}
 use Rattle.nl_dat.specs.Batches.{Changes, Fits, birth_of_item, births_of, items_of, is_born, is_live, last_number}
-use Rattle.nl_dat.specs.Table.{entry_in, addresses_of, content_of, meaning_at, new_entry, ended_entry, IsSound}
+use Rattle.nl_dat.specs.Table.{entry_in, addresses_of, content_of, meaning_at, new_entry, ended_entry, HaveOwnPayload}
 use Rattle.nl_dat.specs.Stores.{IsWritten, content_in, space_in}
 use Rattle.nl_dat.specs.Inside.{births_in, store_of, IsTable}
-use Rattle.nl_dat.proofs.Contents.{KeepsAt, content_of-KeepsAt, IsSound-KeepsAt, content_of-births, addresses_of-births, IsSound-births, content_of-ends, addresses_of-ends}
+use Rattle.nl_dat.proofs.Contents.{KeepsAt, content_of-KeepsAt, HaveOwnPayload-KeepsAt, content_of-births, addresses_of-births, HaveOwnPayload-births, content_of-ends, addresses_of-ends}
 use Rattle.nl_dat.proofs.StoreOf.{content_in-store_of, address_in-store_of}
 use Rattle.nl_dat.proofs.FreeNumbers.{in_use}
 use Rattle.nl_dat.proofs.BlockCounts.{total-with_logs}
@@ -92,13 +92,13 @@ pub items_back : (items : List Payload) → items ≡ items_of (births_of items)
 items_back [] = refl
 items_back (item ∷ items) = ap (λ (rest : List Payload). item ∷ rest) (items_back items)
 
-pub stand-births : (at : List ℕ) (items : List Payload) (space : Space) → StandAt at items space.held → Stands (births_in space) at (births_of items)
+pub stand-births : (at : List ℕ) (items : List Payload) (space : SpaceContent) → StandAt at items space.held → Stands (births_in space) at (births_of items)
 stand-births [] [] space stand = tt
 stand-births [] (item ∷ items) space stand = absurd stand
 stand-births (b ∷ at) [] space stand = absurd stand
 stand-births (b ∷ at) (item ∷ items) space stand = (ap (option_map birth_of_item) stand.0, stand-births at items space stand.1)
 
-pub stand-stored : (at : List ℕ) (items : List Payload) (space : Space) → StandAt at items space.held → StandAt at (map payload_page items) space.stored → AllByRecursion (λ b. space.stored b ≡ option_map payload_page (space.held b)) at
+pub stand-stored : (at : List ℕ) (items : List Payload) (space : SpaceContent) → StandAt at items space.held → StandAt at (map payload_page items) space.stored → AllByRecursion (λ b. space.stored b ≡ option_map payload_page (space.held b)) at
 stand-stored [] [] space held stored = tt
 stand-stored [] (item ∷ items) space held stored = absurd held
 stand-stored (b ∷ at) [] space held stored = absurd held
@@ -112,14 +112,14 @@ length-StandAt (b ∷ at) (v ∷ values) f stand = ap suc (length-StandAt at val
 
 -- ---- a table over a space that keeps what is used
 
-pub keeps_at : (table : List (Option DatEntry)) (lowest : ℕ) (old later : Space) → IsTable table lowest old → KeepsUsed old.segments old later → KeepsAt (addresses_of (entry_in table)) (births_in old) (births_in later)
+pub keeps_at : (table : List (Option DatEntry)) (lowest : ℕ) (old later : SpaceContent) → IsTable table lowest old → KeepsUsed old.segments old later → KeepsAt (addresses_of (entry_in table)) (births_in old) (births_in later)
 keeps_at table lowest old later is_table kept v b is = ap (option_map birth_of_item) (kept b (is_table.used v b is)).0
 
-pub table-kept : (table : List (Option DatEntry)) (lowest : ℕ) (old later : Space) → IsTable table lowest old → KeepsUsed old.segments old later → StaysUsed old.segments later.segments → total_blocks later.segments ≡ total_blocks old.segments → IsTable table lowest later
+pub table-kept : (table : List (Option DatEntry)) (lowest : ℕ) (old later : SpaceContent) → IsTable table lowest old → KeepsUsed old.segments old later → StaysUsed old.segments later.segments → total_blocks later.segments ≡ total_blocks old.segments → IsTable table lowest later
 table-kept table lowest old later is_table kept stays total = record {
   full = is_table.full ∙ ap (λ n. n + 1) (sym total);
   zero_unused = is_table.zero_unused;
-  sound = IsSound-KeepsAt (addresses_of (entry_in table)) (births_in old) (births_in later) is_table.sound (keeps_at table lowest old later is_table kept);
+  sound = HaveOwnPayload-KeepsAt (addresses_of (entry_in table)) (births_in old) (births_in later) is_table.sound (keeps_at table lowest old later is_table kept);
   used = λ v b is. stays b (is_table.used v b is);
   stored = λ v b is. let same = kept b (is_table.used v b is) in same.1 ∙ is_table.stored v b is ∙ sym (ap (option_map payload_page) same.0);
   positive = is_table.positive;
@@ -129,7 +129,7 @@ table-kept table lowest old later is_table kept stays total = record {
 
 -- ---- a batch that is written
 
-module _ (table new : List (Option DatEntry)) (lowest : ℕ) (old later : Space) (before after c now : ℕ) (changes : Changes) (items : List Payload) (at : List ℕ)
+module _ (table new : List (Option DatEntry)) (lowest : ℕ) (old later : SpaceContent) (before after c now : ℕ) (changes : Changes) (items : List Payload) (at : List ℕ)
     (is_table : IsTable table lowest old) (fits : Fits (total_blocks old.segments) (content_in (store_of table old before)) changes)
     (items_are : births_of items ≡ changes.births) (appended : IsAppended old later true now c items at) (kept : KeepsUsed old.segments old later) (stays : StaysUsed old.segments later.segments)
     (is_new : entry_in new ≡ put_each number_of (new_entry c) changes.births at (adjust_all (ended_entry c) changes.ends (entry_in table))) (size : length new ≡ length table) (low : last_number changes.births ≤ total_blocks old.segments) where
@@ -158,9 +158,9 @@ module _ (table new : List (Option DatEntry)) (lowest : ℕ) (old later : Space)
   total : total_blocks later.segments ≡ total_blocks old.segments
   total = ap total_blocks appended.segments ∙ total-with_logs old.segments appended.logs now
 
-  sound_now : IsSound (addresses_of (entry_in new)) (births_in later)
-  sound_now = subst (λ m. IsSound m (births_in later)) (sym addresses_of-written)
-      (IsSound-births changes.births at (addresses_of (entry_in table)) (births_in later) stands (IsSound-KeepsAt (addresses_of (entry_in table)) (births_in old) (births_in later) is_table.sound keeps))
+  sound_now : HaveOwnPayload (addresses_of (entry_in new)) (births_in later)
+  sound_now = subst (λ m. HaveOwnPayload m (births_in later)) (sym addresses_of-written)
+      (HaveOwnPayload-births changes.births at (addresses_of (entry_in table)) (births_in later) stands (HaveOwnPayload-KeepsAt (addresses_of (entry_in table)) (births_in old) (births_in later) is_table.sound keeps))
 
   -- what holds of the blocks of before and of the append holds of all
   each_block : (P : ℕ → Type 0) → AllByRecursion P at → ((v b : ℕ) → addresses_of (entry_in table) v ≡ Some b → P b) → (v b : ℕ) → addresses_of (entry_in new) v ≡ Some b → P b
@@ -209,7 +209,7 @@ module _ (table new : List (Option DatEntry)) (lowest : ℕ) (old later : Space)
 -- ---- what a write asks of its batch
 
 -- a live number is in the table
-pub live_inside : (table : List (Option DatEntry)) (space : Space) (failures : ℕ) (v : ℕ) → is_live (content_in (store_of table space failures) v) ≡ true → v < length table
+pub live_inside : (table : List (Option DatEntry)) (space : SpaceContent) (failures : ℕ) (v : ℕ) → is_live (content_in (store_of table space failures) v) ≡ true → v < length table
 live_inside table space failures v live = elim (cases_lt v (length table)) [
   | inl h ↦ h
   | inr h ↦

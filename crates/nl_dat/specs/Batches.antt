@@ -15,14 +15,14 @@ pub record Changes : Type 0 where
 -- ---- births as tags and pages
 
 -- where the block of a tag belongs
-abbrev pub place_of : Tag → Place
-place_of tag = record { inode = tag.inode; level = tag.level; offset = tag.offset }
+abbrev pub tag_place : Tag → Place
+tag_place tag = record { inode = tag.inode; level = tag.level; offset = tag.offset }
 
 abbrev pub number_of_payload : Tag × List ℕ → ℕ
 number_of_payload item = item.0.number
 
 abbrev pub birth_of_item : Tag × List ℕ → Birth
-birth_of_item item = record { number = item.0.number; place = place_of item.0; page = item.1 }
+birth_of_item item = record { number = item.0.number; place = tag_place item.0; page = item.1 }
 
 abbrev pub births_of : List (Tag × List ℕ) → List Birth
 births_of items = map birth_of_item items

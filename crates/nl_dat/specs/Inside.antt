@@ -5,14 +5,14 @@ use Rattle.std.specs.Option.{option_map, option_and_then}
 use Rattle.nl_types.specs.Segments.{IsUsed, total_blocks}
 use Rattle.nl_types.specs.PartialMaps.{Partial}
 use Rattle.nl_types.specs.Entries.{Birth}
-use Rattle.nl_segwriter.specs.Content.{Content, page_of}
+use Rattle.nl_segwriter.specs.Content.{SpaceContent, payload_page}
 use Rattle.nl_dat.specs.declared.entries.DatEntry.{DatEntry}
 use Rattle.nl_dat.specs.Batches.{birth_of_item}
-use Rattle.nl_dat.specs.Table.{AreInUse, entry_in, addresses_of, meaning_of, IsSound}
+use Rattle.nl_dat.specs.Table.{AreInUse, entry_in, addresses_of, meaning_of, HaveOwnPayload}
 use Rattle.nl_dat.specs.Stores.{Numbered, Store}
 
 -- the payload of a space as births, by block number
-abbrev pub births_in : Content → Partial Birth
+abbrev pub births_in : SpaceContent → Partial Birth
 births_in space b = option_map birth_of_item (space.held b)
 
 -- what an entry of the table stands for, and where
@@ -25,7 +25,7 @@ numbered_at stored entry = option_map (numbered_with entry) (stored entry.block)
 abbrev pub numbered_of : Partial Birth → Option DatEntry → Option Numbered
 numbered_of stored entry = option_and_then (numbered_at stored) entry
 
-abbrev pub store_of : List (Option DatEntry) → Content → ℕ → Store
+abbrev pub store_of : List (Option DatEntry) → SpaceContent → ℕ → Store
 store_of table space failures = record {
   numbers = map (numbered_of (births_in space)) table;
   segments = space.segments;
@@ -35,19 +35,19 @@ store_of table space failures = record {
 }
 
 -- the payload at the block of each number in use is its own, in memory and on the device
-pub record IsBacked (table : List (Option DatEntry)) (space : Content) : Type 0 where
-  pub sound : IsSound (addresses_of (entry_in table)) (births_in space)
+pub record IsBacked (table : List (Option DatEntry)) (space : SpaceContent) : Type 0 where
+  pub sound : HaveOwnPayload (addresses_of (entry_in table)) (births_in space)
   pub used : (v b : ℕ) → addresses_of (entry_in table) v ≡ Some b → IsUsed space.segments b
-  pub stored : (v b : ℕ) → addresses_of (entry_in table) v ≡ Some b → space.stored b ≡ option_map page_of (space.held b)
+  pub stored : (v b : ℕ) → addresses_of (entry_in table) v ≡ Some b → space.stored b ≡ option_map payload_page (space.held b)
 
 -- The table has a place for 0, which is never used, and for each number. The payload at the block of a number is its own,
 -- in memory and on the device. Below the lowest number that may be free all are in use.
-pub record IsTable (table : List (Option DatEntry)) (lowest : ℕ) (space : Content) : Type 0 where
+pub record IsTable (table : List (Option DatEntry)) (lowest : ℕ) (space : SpaceContent) : Type 0 where
   pub full : length table ≡ total_blocks space.segments + 1
   pub zero_unused : entry_in table 0 ≡ None
-  pub sound : IsSound (addresses_of (entry_in table)) (births_in space)
+  pub sound : HaveOwnPayload (addresses_of (entry_in table)) (births_in space)
   pub used : (v b : ℕ) → addresses_of (entry_in table) v ≡ Some b → IsUsed space.segments b
-  pub stored : (v b : ℕ) → addresses_of (entry_in table) v ≡ Some b → space.stored b ≡ option_map page_of (space.held b)
+  pub stored : (v b : ℕ) → addresses_of (entry_in table) v ≡ Some b → space.stored b ≡ option_map payload_page (space.held b)
   pub positive : 1 ≤ lowest
   pub within : lowest ≤ length table
   pub below_lowest : AreInUse table 1 lowest

@@ -1,12 +1,12 @@
 -- The numbers of a store by the blocks where their pages stand.
-use Rattle.std.specs.Prelude.{◌≡◌, ℕ, suc, ◌*◌, ◌≤◌, ◌==◌, if◌then◌else◌, Bool, false, List, [], ◌∷◌, length, map, slice_index_or, Option, None, Some}
+use Rattle.std.specs.Prelude.{◌≡◌, ◌≢◌, ℕ, suc, ◌*◌, ◌≤◌, ◌==◌, if◌then◌else◌, Bool, false, List, [], ◌∷◌, length, map, slice_index_or, MatchOption, Option, None, Some}
 use Rattle.std.specs.Option.{option_map}
 use Rattle.nl_types.specs.Segments.{info_of}
 use Rattle.nl_types.specs.Placing.{row_of}
 use Rattle.nl_types.specs.Entries.{Content, Entry}
 use Rattle.nl_dat.specs.declared.entries.Period.{Period}
 use Rattle.nl_dat.specs.Table.{period_of}
-use Rattle.nl_dat.specs.Stores.{Numbered, Store, content_in, payload_in}
+use Rattle.nl_dat.specs.Stores.{Numbered, Store, address_in, content_in, payload_in}
 
 -- whether a page stands at the block
 abbrev pub stands_at : ℕ → Option Numbered → Bool
@@ -21,6 +21,10 @@ first_at b (o ∷ os) = if stands_at b o then Some 0 else option_map suc (first_
 -- the least number whose page stands at a block
 abbrev pub number_at : Store → ℕ → Option ℕ
 number_at s b = first_at b s.numbers
+
+-- the number, if there is one, has its page at the block, and else none has
+abbrev pub IsNumberAt : Store → ℕ → Option ℕ → Type 0
+IsNumberAt s b found = MatchOption found ((v : ℕ) → address_in s v ≢ Some b) (λ v. address_in s v ≡ Some b)
 
 -- ---- rows of blocks
 

@@ -7,12 +7,12 @@ use Rattle.nl_types.specs.declared.error.VolError.TheVariants.{NoSpace, Fault, M
 use Rattle.nl_types.specs.Segments.{Segments, AreTidy, IsUsed, total_blocks}
 use Rattle.nl_types.specs.Placing.{LacksSpace}
 use Rattle.nl_types.specs.PartialMaps.{Partial, put_each, adjust_each, is_one_of, NoneTwice}
-use Rattle.nl_types.specs.Entries.{Entry, Content, number_of, written}
+use Rattle.nl_types.specs.Entries.{Birth, Entry, Content, number_of, written}
 use Rattle.nl_layout.specs.declared.tag.Tag.{Tag}
-use Rattle.nl_segwriter.specs.Content.{Content as Space, Payload, HoldsOnlyUsed, KeepsUsed, IsFreed, tag_of}
+use Rattle.nl_segwriter.specs.Content.{SpaceContent, Payload, HoldsOnlyUsed, KeepsUsed, IsFreed, payload_tag}
 use Rattle.nl_segwriter.specs.Logs.{AreWholeLogs, HaveLogs}
 use Rattle.nl_segwriter.specs.Appended.{IsAppended, IsBrokenOff}
-use Rattle.nl_dat.specs.Batches.{Changes, items_of, tag_for}
+use Rattle.nl_dat.specs.Batches.{Changes, is_taken, items_of, tag_for}
 use Rattle.nl_dat.specs.declared.entries.DatEntry.{DatEntry}
 
 -- what a number in use stands for, and the block where its page is now
@@ -32,7 +32,7 @@ pub record Store : Type 0 where
   pub failures : ℕ
 
 -- a store over a space, with no number in use
-abbrev pub new_store : Space → ℕ → Store
+abbrev pub new_store : SpaceContent → ℕ → Store
 new_store space failures = record {
   numbers = replicate (total_blocks space.segments + 1) None;
   segments = space.segments;
@@ -47,8 +47,8 @@ numbered_in s v = slice_index_or s.numbers v None
 abbrev pub entry_of : Numbered → Entry
 entry_of n = n.entry
 
-abbrev pub block_of : Numbered → ℕ
-block_of n = n.block
+abbrev pub block_now : Numbered → ℕ
+block_now n = n.block
 
 -- the same as an entry of the table
 abbrev pub dat_entry_of : Numbered → DatEntry
@@ -60,7 +60,7 @@ content_in s v = option_map entry_of (numbered_in s v)
 
 -- the block of each number in use
 abbrev pub address_in : Store → Partial ℕ
-address_in s v = option_map block_of (numbered_in s v)
+address_in s v = option_map block_now (numbered_in s v)
 
 -- how many numbers there are: 1 to this
 abbrev pub capacity : Store → ℕ
@@ -78,10 +78,10 @@ payload_in s b = slice_index_or s.payload b None
 
 -- what the summary of its log says of a payload block
 abbrev pub tag_in : Store → Partial Tag
-tag_in s b = option_map tag_of (payload_in s b)
+tag_in s b = option_map payload_tag (payload_in s b)
 
 -- a store as the space that it lies in
-abbrev pub space_in : Store → Space
+abbrev pub space_in : Store → SpaceContent
 space_in s = record { segments = s.segments; held = payload_in s; stored = device_in s }
 
 -- the payload that is written for a number
@@ -90,6 +90,14 @@ payload_for v e = (tag_for v e.place, e.page)
 
 abbrev pub payload_under : Store → Partial Payload
 payload_under s v = option_map (payload_for v) (content_in s v)
+
+-- the number of the block at a position of a segment
+abbrev pub block_in : Store → ℕ → ℕ → ℕ
+block_in s segment position = segment * s.segments.blocks + position
+
+-- every number that there is, is in use or given to a birth
+abbrev pub HasNoneFree : Store → List Birth → Type 0
+HasNoneFree s births = (v : ℕ) → 1 ≤ v → v ≤ capacity s → is_taken (content_in s) births v ≡ true
 
 -- ---- what is true of every store
 
@@ -114,6 +122,10 @@ pub record IsStore (s : Store) : Type 0 where
 abbrev pub is_inside : Segments → ℕ → Option ℕ → Bool
 is_inside s segment None = false
 is_inside s segment (Some b) = nat_le (segment * s.blocks) b && nat_lt b (segment * s.blocks + s.blocks)
+
+-- the pages of all the numbers stand in the segment
+abbrev pub AreInside : Store → ℕ → List ℕ → Type 0
+AreInside s segment numbers = All (λ v. is_inside s.segments segment (address_in s v) ≡ true) numbers
 
 -- what is left of the numbers whose block is not in the segment
 abbrev pub left_outside : {X : Type 0} → Segments → ℕ → Partial ℕ → Partial X → Partial X
@@ -140,6 +152,13 @@ pub record IsFaulted (reserve : Bool) (checkpoint stamp : ℕ) (payload : List P
   pub numbers : new.numbers ≡ old.numbers
   pub broken_off : IsBrokenOff (space_in old) (space_in new) reserve stamp checkpoint payload
   pub kept : KeepsUsed old.segments (space_in old) (space_in new)
+
+-- why a batch is not written, and what is left then
+abbrev pub IsWriteRefused : ℕ → ℕ → Changes → Store → Store → VolError → Type 0
+IsWriteRefused checkpoint stamp changes old new NoSpace = LacksSpace old.segments true (length changes.births) × (new ≡ old)
+IsWriteRefused checkpoint stamp changes old new Memory = new ≡ old
+IsWriteRefused checkpoint stamp changes old new Fault = IsFaulted true checkpoint stamp (items_of changes.births) old new
+IsWriteRefused checkpoint stamp changes old new e = ⊥
 
 -- the payload is that of the numbers, in their order
 abbrev pub IsPayloadOf : Store → List ℕ → List Payload → Type 0
@@ -169,11 +188,11 @@ IsMoveFaulted checkpoint stamp numbers old new =
     ((old.failures < new.failures) × KeepsStored old new) ⊎ ((payload : List Payload) × IsPayloadOf old numbers payload × IsFaulted false checkpoint stamp payload old new)
 
 -- why numbers are not moved, and what is left then
-abbrev pub IsMoveRefused : ℕ → ℕ → List ℕ → VolError → Store → Store → Type 0
-IsMoveRefused checkpoint stamp numbers NoSpace old new = LacksSpace old.segments false (length numbers) × KeepsStored old new
-IsMoveRefused checkpoint stamp numbers Memory old new = KeepsStored old new
-IsMoveRefused checkpoint stamp numbers Fault old new = IsMoveFaulted checkpoint stamp numbers old new
-IsMoveRefused checkpoint stamp numbers e old new = ⊥
+abbrev pub IsMoveRefused : ℕ → ℕ → List ℕ → Store → Store → VolError → Type 0
+IsMoveRefused checkpoint stamp numbers old new NoSpace = LacksSpace old.segments false (length numbers) × KeepsStored old new
+IsMoveRefused checkpoint stamp numbers old new Memory = KeepsStored old new
+IsMoveRefused checkpoint stamp numbers old new Fault = IsMoveFaulted checkpoint stamp numbers old new
+IsMoveRefused checkpoint stamp numbers old new e = ⊥
 
 -- The segment is clean and empty. The numbers whose page stood in it are taken out, and counted; all others stay as they
 -- were, and so do all other blocks.

@@ -56,8 +56,8 @@ abbrev pub content_of : Partial DatEntry → Partial Birth → Content
 content_of entries stored v = option_and_then (meaning_at stored) (entries v)
 
 -- the payload at the block of each number in use is its own
-abbrev pub IsSound : Partial ℕ → Partial Birth → Type 0
-IsSound addresses stored = (v b : ℕ) → addresses v ≡ Some b → option_map number_of (stored b) ≡ Some v
+abbrev pub HaveOwnPayload : Partial ℕ → Partial Birth → Type 0
+HaveOwnPayload addresses stored = (v b : ℕ) → addresses v ≡ Some b → option_map number_of (stored b) ≡ Some v
 
 -- whether an entry, if there is one, has this block
 abbrev pub has_block : ℕ → Option DatEntry → Bool

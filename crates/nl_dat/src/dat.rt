@@ -6,7 +6,7 @@ ghost use Rattle.nl_types.specs.Segments.{block_at};
 use crate::batch::Batch;
 use crate::entries::{
     DatEntry, Period, empty_places, end_entries, enter_births, entry_at, first_free, move_entries,
-    number_in,
+    number_in, number_with,
 };
 use crate::moving::{count_payload, load_all, row_tag};
 use crate::reclaim::take_out;
@@ -43,15 +43,15 @@ impl<S: Space> Model for Dat<S> {
 }
 
 impl<S: Space> Dat<S> {
-    ghost use Rattle.nl_dat.specs.Stores.{new_store, address_in, capacity, numbered_in, dat_entry_of};
+    ghost use Rattle.nl_dat.specs.Stores.{IsStore, new_store, address_in, capacity, numbered_in, dat_entry_of};
 
     /// The table over a space, with no number in use. Refused by `Memory` alone; the space is dropped then.
     pub fn new(alloc: Global, space: S) -> Result<Dat<S>, VolError>
+        ensures is_store { IfOk result IsStore }
         ensures new { IfOk result (λ dat. dat ≡ new_store (S.content space) (S.failure_count space)) }
         ensures refused { IsOkUnless result VolError.Memory }
     {
         let table = space.table();
-        table.limits_hold();
         let count = table.sustat().segments * table.blocks() as usize;
         let table = empty_places(alloc, count + 1)?;
         Ok(Dat {
@@ -81,33 +81,12 @@ impl<S: Space> Dat<S> {
         self.space.table()
     }
 
-    /// The number whose page stands at a position of a segment.
-    fn found_at(&self, segment: Segment, position: u32) -> Option<VirtualNumber>
-        requires segment { segment < length self.now.segments.each }
-        requires position { position < self.now.segments.blocks }
-        ensures { MatchOption result ((v : ℕ) → address_in self.now v ≢ Some (block_at self.now.segments.blocks (record { segment = segment; block = position })))
-            (λ v. address_in self.now v ≡ Some (block_at self.now.segments.blocks (record { segment = segment; block = position }))) }
-    {
-        let table = self.space.table();
-        table.limits_hold();
-        let block = segment.get() * table.blocks() + position;
-        let number = self.tagged(segment, position)?;
-        let entry = entry_at(self.table.as_slice(), number)?;
-        if entry.block.get() == block {
-            Some(number)
-        } else {
-            None
-        }
-    }
-
     /// The number that the payload at a position of a segment was written for: no other number's page can stand there.
     fn tagged(&self, segment: Segment, position: u32) -> Option<VirtualNumber>
         requires segment { segment < length self.now.segments.each }
         requires position { position < self.now.segments.blocks }
         ensures { (v : ℕ) → address_in self.now v ≡ Some (segment * self.now.segments.blocks + position) → result ≡ Some v }
     {
-        // The table tells that no segment is used past its end.
-        self.space.table().limits_hold();
         number_in(self.space.summary(segment), position)
     }
 }
@@ -140,15 +119,12 @@ impl<S: Space> Vstore for Dat<S> {
     ghost reads_periods = { λ d. Rattle.std.specs.Prelude.refl };
 
     fn capacity(&self) -> u64 {
-        // The table tells that no segment is used past its end.
-        self.space.table().limits_hold();
         self.table.len() as u64 - 1
     }
 
     fn fresh(&self, batch: &Batch) -> Result<VirtualNumber, VolError> {
         // Where a list of logs fits, its payload finds blocks that no number has.
         payload_goes_to_unused_blocks();
-        self.space.table().limits_hold();
         prove!(batch.births().len() < 1 << 60);
         let first = self.filled.max(batch.last_number().get()) + 1;
         first_free(self.table.as_slice(), first).ok_or(VolError::NoSpace)
@@ -163,7 +139,6 @@ impl<S: Space> Vstore for Dat<S> {
     ) -> Result<(), VolError> {
         // Where a list of logs fits the births, no number is above those that there are.
         payload_goes_to_unused_blocks();
-        self.space.table().limits_hold();
         let numbers = self
             .space
             .append(alloc, batch.births(), checkpoint, now, true)?;
@@ -174,17 +149,17 @@ impl<S: Space> Vstore for Dat<S> {
     }
 
     fn at(&self, segment: Segment, position: u32) -> Option<VirtualNumber> {
-        self.space.table().limits_hold();
-        self.found_at(segment, position)
+        let table = self.space.table();
+        let block = segment.get() * table.blocks() + position;
+        let number = self.tagged(segment, position);
+        number_with(self.table.as_slice(), number, block)
     }
 
     fn tag(&self, segment: Segment, position: u32) -> Option<Tag> {
-        self.space.table().limits_hold();
         row_tag(self.space.summary(segment), position)
     }
 
     fn payload_count(&self, segment: Segment) -> u32 {
-        self.space.table().limits_hold();
         count_payload(self.space.summary(segment))
     }
 
@@ -196,7 +171,6 @@ impl<S: Space> Vstore for Dat<S> {
         checkpoint: CheckpointNumber,
         now: u64,
     ) -> Result<(), VolError> {
-        self.space.table().limits_hold();
         let payload = load_all(
             alloc,
             &mut self.space,
@@ -211,7 +185,6 @@ impl<S: Space> Vstore for Dat<S> {
 
     fn reclaim(&mut self, segment: Segment) -> u32 {
         let segments = self.space.table();
-        segments.limits_hold();
         let first = segment.get() * segments.blocks();
         let row = self.space.summary(segment);
         let taken = take_out(&mut self.table, row, first);

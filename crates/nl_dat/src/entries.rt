@@ -1,11 +1,11 @@
 //! The table of virtual block numbers, as a slice.
-ghost use Rattle.std.specs.Prelude.{◌≡◌, ◌<◌, length, replicate, slice_index_or, MatchOption, IfOk, None};
+ghost use Rattle.std.specs.Prelude.{◌≡◌, ◌≢◌, ℕ, ◌<◌, length, replicate, slice_index_or, MatchOption, IfOk, None, Some};
 ghost use Rattle.std.specs.List.{All};
 ghost use Rattle.nl_types.specs.PartialMaps.{put, put_each, adjust, adjust_all, adjust_each};
 ghost use Rattle.nl_types.specs.Entries.{number_of};
 ghost use Rattle.nl_dat.specs.Batches.{births_of, number_of_payload};
 ghost use Rattle.std.specs.Option.{option_map};
-ghost use Rattle.nl_dat.specs.Table.{AreInUse, IsFirstFree, entry_in, new_entry, ended_entry, moved_entry};
+ghost use Rattle.nl_dat.specs.Table.{AreInUse, addresses_of, IsFirstFree, entry_in, new_entry, ended_entry, moved_entry};
 
 use nl_segwriter::Payload;
 use nl_types::{BlockNumber, CheckpointNumber, Items, VirtualNumber};
@@ -73,6 +73,23 @@ pub(crate) fn number_in(row: &[Option<Payload>], position: u32) -> Option<Virtua
     match row.get(position as usize) {
         Some(Some(payload)) => Some(payload.0.number),
         _ => None,
+    }
+}
+
+/// The number, where the table has its page at a block.
+pub(crate) fn number_with(
+    table: &[Option<DatEntry>],
+    number: Option<VirtualNumber>,
+    block: u32,
+) -> Option<VirtualNumber>
+    ensures { MatchOption result ((v : ℕ) → number ≡ Some v → addresses_of (entry_in table.now) v ≢ Some block) (λ v. addresses_of (entry_in table.now) v ≡ Some block) }
+{
+    let number = number?;
+    let entry = entry_at(table, number)?;
+    if entry.block.get() == block {
+        Some(number)
+    } else {
+        None
     }
 }
 

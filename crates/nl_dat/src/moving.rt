@@ -1,7 +1,7 @@
 //! Pages read from the device, to be written elsewhere.
 ghost use Rattle.std.specs.Prelude.{◌≡◌, ℕ, ◌+◌, ◌<◌, ◌≤◌, true, map, length, All, IfOk, IfErr, IsErrOf, slice_index_or, None, Some};
 ghost use Rattle.std.specs.Option.{option_map};
-ghost use Rattle.nl_segwriter.specs.Content.{tag_of};
+ghost use Rattle.nl_segwriter.specs.Content.{payload_tag};
 ghost use Rattle.nl_segwriter.specs.Appended.{IsLoadError};
 ghost use Rattle.nl_dat.specs.Batches.{birth_of_item, births_of};
 ghost use Rattle.nl_dat.specs.Table.{entry_in, addresses_of, stored_at};
@@ -18,7 +18,7 @@ use std::alloc::Global;
 
 /// What the summary says of the payload at a position of a row, if there is payload.
 pub(crate) fn row_tag(row: &[Option<Payload>], position: u32) -> Option<Tag>
-    ensures { result ≡ option_map tag_of (slice_index_or row.now position None) }
+    ensures { result ≡ option_map payload_tag (slice_index_or row.now position None) }
 {
     match row.get(position as usize) {
         Some(Some(payload)) => Some(payload.0),
@@ -66,7 +66,6 @@ fn load_one<S: Space>(
     ensures errors { IfErr result IsLoadError }
 {
     let segments = space.table();
-    segments.limits_hold();
     let first = segment.get() * segments.blocks();
     let entry = match entry_at(table, number) {
         Some(entry) => entry,

@@ -1,14 +1,11 @@
 //! What the layers above know of pages under virtual block numbers.
-ghost use Rattle.std.specs.Prelude.{◌≡◌, ◌≢◌, ℕ, ◌+◌, ◌<◌, ◌≤◌, Bool, true, false, List, length, All, IfOk, IfErr, OnOk, OnErr, IsErrOf, MatchOption, Some, option_copied};
-ghost use Rattle.nl_types.specs.Segments.{IsClosed, block_at};
-ghost use Rattle.nl_types.specs.Placing.{LacksSpace};
+ghost use Rattle.std.specs.Prelude.{◌≡◌, ◌+◌, ◌<◌, ◌≤◌, ◌^◌, length, max, IfOk, IfErr, OnOk, OnErr, option_copied};
+ghost use Rattle.nl_types.specs.Segments.{IsClosed};
 ghost use Rattle.nl_types.specs.Roots.{Pages, pages_of};
-ghost use Rattle.nl_segwriter.specs.Appended.{IsAppendError};
-ghost use Rattle.std.specs.Prelude.{max, ◌^◌};
-ghost use Rattle.nl_dat.specs.Batches.{last_number, IsLowestFree, is_taken, LacksSpaceFrom, Fits, items_of};
+ghost use Rattle.nl_dat.specs.Batches.{Fits, IsLowestFree, LacksSpaceFrom, last_number};
 ghost use Rattle.nl_dat.specs.Table.{Periods, periods_of};
-ghost use Rattle.nl_dat.specs.Located.{number_at, payload_count_in};
-ghost use Rattle.nl_dat.specs.Stores.{Store, IsStore, IsWritten, IsMoved, IsMoveRefused, IsReclaimed, IsFaulted, is_inside, content_in, address_in, tag_in, capacity};
+ghost use Rattle.nl_dat.specs.Located.{IsNumberAt, number_at, payload_count_in};
+ghost use Rattle.nl_dat.specs.Stores.{Store, IsStore, HasNoneFree, IsWritten, IsWriteRefused, AreInside, IsMoved, IsMoveRefused, IsReclaimed, block_in, capacity, content_in, tag_in};
 
 use crate::batch::Batch;
 use crate::entries::Period;
@@ -52,7 +49,7 @@ pub trait Vstore: VRead {
         requires { Fits (capacity (store self.now)) (content_in (store self.now)) batch.now }
         ensures lowest { IfOk result (IsLowestFree (content_in (store self.now)) batch.now.births) }
         ensures inside { IfOk result (λ v. v ≤ capacity (store self.now)) }
-        ensures all_taken { OnErr result ((v : ℕ) → 1 ≤ v → v ≤ capacity (store self.now) → is_taken (content_in (store self.now)) batch.now.births v ≡ true) }
+        ensures all_taken { OnErr result (HasNoneFree (store self.now) batch.now.births) }
         ensures no_space { OnErr result (result ≡ Err VolError.NoSpace) }
         ensures lacks_space { OnErr result (LacksSpaceFrom (store self.now).segments (length batch.now.births + 1)) };
 
@@ -69,28 +66,24 @@ pub trait Vstore: VRead {
         now: u64,
     ) -> Result<(), VolError>
         requires { Fits (capacity (store self.old)) (content_in (store self.old)) batch.now }
+        ensures is_store { IsStore (store self.new) }
         ensures written { OnOk result (IsWritten checkpoint now batch.now (store self.old) (store self.new)) }
-        ensures no_space { IsErrOf result VolError.NoSpace → LacksSpace (store self.old).segments true (length batch.now.births) }
-        ensures no_space_same { IsErrOf result VolError.NoSpace → store self.new ≡ store self.old }
-        ensures memory_same { IsErrOf result VolError.Memory → store self.new ≡ store self.old }
-        ensures fault { IsErrOf result VolError.Fault → IsFaulted true checkpoint now (items_of batch.now.births) (store self.old) (store self.new) }
-        ensures errors { IfErr result IsAppendError }
+        ensures refused { IfErr result (IsWriteRefused checkpoint now batch.now (store self.old) (store self.new)) }
         ensures counted { (store self.old).failures ≤ (store self.new).failures };
 
     /// The number whose page stands at a position of a segment, counted from 0 with the summary blocks.
     fn at(&self, segment: Segment, position: u32) -> Option<VirtualNumber>
         requires segment { segment < length (store self.now).segments.each }
         requires position { position < (store self.now).segments.blocks }
-        ensures is { result ≡ number_at (store self.now) (block_at (store self.now).segments.blocks (record { segment = segment; block = position })) }
-        ensures there { MatchOption result ((v : ℕ) → address_in (store self.now) v ≢ Some (block_at (store self.now).segments.blocks (record { segment = segment; block = position })))
-            (λ v. address_in (store self.now) v ≡ Some (block_at (store self.now).segments.blocks (record { segment = segment; block = position }))) };
+        ensures is { result ≡ number_at (store self.now) (block_in (store self.now) segment position) }
+        ensures there { IsNumberAt (store self.now) (block_in (store self.now) segment position) result };
 
     /// What the summary of its log says of the block at a position of a segment, be its number in use or not. None where
     /// the block has no payload.
     fn tag(&self, segment: Segment, position: u32) -> Option<Tag>
         requires segment { segment < length (store self.now).segments.each }
         requires position { position < (store self.now).segments.blocks }
-        ensures { result ≡ tag_in (store self.now) (block_at (store self.now).segments.blocks (record { segment = segment; block = position })) };
+        ensures { result ≡ tag_in (store self.now) (block_in (store self.now) segment position) };
 
     /// How many blocks of the logs of a segment have payload, be their numbers in use or not.
     fn payload_count(&self, segment: Segment) -> u32
@@ -112,15 +105,17 @@ pub trait Vstore: VRead {
     ) -> Result<(), VolError>
         requires segment { segment < length (store self.old).segments.each }
         requires closed { IsClosed (store self.old).segments segment }
-        requires inside { All (λ v. is_inside (store self.old).segments segment (address_in (store self.old) v) ≡ true) numbers.now }
+        requires inside { AreInside (store self.old) segment numbers.now }
+        ensures is_store { IsStore (store self.new) }
         ensures moved { OnOk result (IsMoved segment checkpoint now numbers.now (store self.old) (store self.new)) }
-        ensures refused { IfErr result (λ e. IsMoveRefused checkpoint now numbers.now e (store self.old) (store self.new)) }
+        ensures refused { IfErr result (IsMoveRefused checkpoint now numbers.now (store self.old) (store self.new)) }
         ensures counted { (store self.old).failures ≤ (store self.new).failures };
 
     /// Takes the numbers out of use whose pages stand in a segment, and empties the segment. It answers how many they were.
     /// It takes no memory.
     fn reclaim(&mut self, segment: Segment) -> u32
         requires { segment < length (store self.old).segments.each }
+        ensures is_store { IsStore (store self.new) }
         ensures reclaimed { IsReclaimed segment result (store self.old) (store self.new) }
         ensures counted { (store self.old).failures ≤ (store self.new).failures };
 

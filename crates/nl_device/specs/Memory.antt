@@ -1,7 +1,7 @@
 -- What the devices in memory hold.
 use Rattle.std.specs.Prelude.{None, slice_index_or}
-use Rattle.nl_device.specs.Pages.{Pages}
+use Rattle.nl_device.specs.Pages.{DevicePages}
 use Rattle.nl_device.specs.declared.memory.MemDevice.{MemDevice}
 
-abbrev pub pages_of : MemDevice → Pages
+abbrev pub pages_of : MemDevice → DevicePages
 pages_of d b = slice_index_or d.blocks.items b None

@@ -1,7 +1,7 @@
 //! What the layers above know of a device.
 ghost use Rattle.std.specs.Prelude.{◌≡◌, ℕ, ◌*◌, ◌<◌, ◌≤◌, Some, OnOk, OnErr, IfOk, IsErrOf};
 ghost use Rattle.nl_types.specs.declared.geometry.Geometry.{Geometry};
-ghost use Rattle.nl_device.specs.Pages.{Pages, KeepsOthers, ClearsBlocks, SamePages};
+ghost use Rattle.nl_device.specs.Pages.{DevicePages, KeepsOthers, ClearsBlocks, SamePages};
 
 use nl_types::{BlockNumber, Page, Segment};
 
@@ -21,7 +21,7 @@ pub enum DeviceError {
 /// Blocks by number. A device gives back what was put, and counts its failures.
 pub trait Device: Drop {
     /// The page at each block number, if there is one.
-    ghost pages: { Self → Pages };
+    ghost pages: { Self → DevicePages };
 
     /// How often the device has failed.
     ghost failure_count: { Self → ℕ };

@@ -5,14 +5,14 @@ use Rattle.std.proofs.lemmas.List.{length-map, map-append, length-take-le, take-
 use Rattle.std.specs.List.{AllByRecursion}
 use Rattle.nl_types.specs.declared.segment.Log.{Log}
 use Rattle.nl_types.specs.Segments.{Segments, AreTidy, total_blocks}
-use Rattle.nl_types.specs.Placing.{IsLog, AreNextLogs, Fits, first_block, addresses, payload_count, row_of, with_log, with_logs}
+use Rattle.nl_types.specs.Placing.{IsLog, AreNextLogs, LogsFit, first_block, addresses, payload_count, row_of, with_log, with_logs}
 use Rattle.nl_types.proofs.NextLogs.{placed, length-with_log}
 use Rattle.nl_types.proofs.UsedParts.{are_unused, payload_used}
-use Rattle.nl_device.specs.Pages.{Pages}
+use Rattle.nl_device.specs.Pages.{DevicePages}
 use Rattle.nl_segwriter.specs.declared.staging.Staged.{Staged}
-use Rattle.nl_segwriter.specs.Content.{Content, Held, Payload, page_of, StandAt}
+use Rattle.nl_segwriter.specs.Content.{SpaceContent, Held, Payload, payload_page, StandAt}
 use Rattle.nl_segwriter.specs.Logs.{WholeLog, StandsFrom}
-use Rattle.nl_segwriter.specs.Appended.{StandInLogs, KeepsOthers, IsAppended, IsBrokenOff}
+use Rattle.nl_segwriter.specs.Appended.{StandInLogs, KeepsOtherBlocks, IsAppended, IsBrokenOff}
 use Rattle.nl_segwriter.specs.Staging.{IsReady, AreStaged, AreSized, logs_of, whole_of}
 use Rattle.nl_segwriter.specs.Writing.{LogsStand, BreaksOff}
 use Rattle.nl_segwriter.proofs.Rows.{stand_row, stand-append}
@@ -51,7 +51,7 @@ staged_stamps stamp checkpoint (log ∷ logs) items [] h = absurd h
 staged_stamps stamp checkpoint (log ∷ logs) items (x ∷ xs) h =
     (ap (λ (w : WholeLog). w.stamp) h.0.whole_is, staged_stamps stamp checkpoint logs (drop log.count items) xs h.1)
 
-stand_in_logs : (stamp checkpoint blocks : ℕ) (logs : List Log) (items : List Payload) (xs : List Staged) (held : Held) (stored : Pages) → AreStaged stamp checkpoint logs items xs → LogsStand blocks xs held stored
+stand_in_logs : (stamp checkpoint blocks : ℕ) (logs : List Log) (items : List Payload) (xs : List Staged) (held : Held) (stored : DevicePages) → AreStaged stamp checkpoint logs items xs → LogsStand blocks xs held stored
     → StandInLogs blocks stamp checkpoint logs items held stored
 stand_in_logs stamp checkpoint blocks [] items xs held stored h stand = tt
 stand_in_logs stamp checkpoint blocks (log ∷ logs) items [] held stored h stand = absurd h
@@ -61,7 +61,7 @@ stand_in_logs stamp checkpoint blocks (log ∷ logs) items (x ∷ xs) held store
     (subst (λ (w : WholeLog). StandsFrom (first_block blocks log) w held stored) h.0.whole_is at, stand_in_logs stamp checkpoint blocks logs (drop log.count items) xs held stored h.1 stand.1)
 
 -- the first of the logs that were staged
-stand_in_front : (stamp checkpoint blocks : ℕ) (logs : List Log) (items : List Payload) (xs rest : List Staged) (held : Held) (stored : Pages) → AreStaged stamp checkpoint logs items (xs ++ rest) → LogsStand blocks xs held stored
+stand_in_front : (stamp checkpoint blocks : ℕ) (logs : List Log) (items : List Payload) (xs rest : List Staged) (held : Held) (stored : DevicePages) → AreStaged stamp checkpoint logs items (xs ++ rest) → LogsStand blocks xs held stored
     → StandInLogs blocks stamp checkpoint (logs_of xs) items held stored
 stand_in_front stamp checkpoint blocks logs items [] rest held stored h stand = tt
 stand_in_front stamp checkpoint blocks [] items (x ∷ xs) rest held stored h stand = let e = h.1 in absurd (cc)
@@ -82,7 +82,7 @@ logs_of-append (y ∷ ys) x rest = ap (λ (l : List Log). y.log ∷ l) (logs_of-
 rest_count : (log : Log) (logs : List Log) (items : List Payload) → payload_count (log ∷ logs) ≡ length items → payload_count logs ≡ length (drop log.count items)
 rest_count log logs items e = let l = length-drop log.count items in omega (arith, l, e)
 
-held_at : (stamp checkpoint blocks : ℕ) (logs : List Log) (items : List Payload) (held : Held) (stored : Pages) → StandInLogs blocks stamp checkpoint logs items held stored → payload_count logs ≡ length items
+held_at : (stamp checkpoint blocks : ℕ) (logs : List Log) (items : List Payload) (held : Held) (stored : DevicePages) → StandInLogs blocks stamp checkpoint logs items held stored → payload_count logs ≡ length items
     → StandAt (addresses blocks logs) items held
 held_at stamp checkpoint blocks [] [] held stored h e = tt
 held_at stamp checkpoint blocks [] (item ∷ items) held stored h e = absurd (omega (arith, e))
@@ -93,18 +93,18 @@ held_at stamp checkpoint blocks (log ∷ logs) items held stored h e =
     subst (λ (xs : List Payload). StandAt (row_of (first_block blocks log + 1) log.count ++ addresses blocks logs) xs held) (take-append-drop log.count items)
     (stand-append (row_of (first_block blocks log + 1) log.count) (addresses blocks logs) _ _ held row more)
 
-stored_at : (stamp checkpoint blocks : ℕ) (logs : List Log) (items : List Payload) (held : Held) (stored : Pages) → StandInLogs blocks stamp checkpoint logs items held stored → payload_count logs ≡ length items
-    → StandAt (addresses blocks logs) (map page_of items) stored
+stored_at : (stamp checkpoint blocks : ℕ) (logs : List Log) (items : List Payload) (held : Held) (stored : DevicePages) → StandInLogs blocks stamp checkpoint logs items held stored → payload_count logs ≡ length items
+    → StandAt (addresses blocks logs) (map payload_page items) stored
 stored_at stamp checkpoint blocks [] [] held stored h e = tt
 stored_at stamp checkpoint blocks [] (item ∷ items) held stored h e = absurd (omega (arith, e))
 stored_at stamp checkpoint blocks (log ∷ logs) items held stored h e =
     let front : List Payload = take log.count items in
     let rest : List Payload = drop log.count items in
-    let long : length (map page_of front) ≡ log.count = length-map front page_of ∙ length-take-le log.count items (omega (arith, e)) in
-    let row = stand_row (first_block blocks log + 1) log.count (map page_of front) stored long h.0.pages in
+    let long : length (map payload_page front) ≡ log.count = length-map front payload_page ∙ length-take-le log.count items (omega (arith, e)) in
+    let row = stand_row (first_block blocks log + 1) log.count (map payload_page front) stored long h.0.pages in
     let more = stored_at stamp checkpoint blocks logs rest held stored h.1 (rest_count log logs items e) in
     subst (λ (xs : List (List ℕ)). StandAt (row_of (first_block blocks log + 1) log.count ++ addresses blocks logs) xs stored)
-    (sym (map-append page_of front rest) ∙ ap (map page_of) (take-append-drop log.count items))
+    (sym (map-append payload_page front rest) ∙ ap (map payload_page) (take-append-drop log.count items))
     (stand-append (row_of (first_block blocks log + 1) log.count) (addresses blocks logs) _ _ stored row more)
 
 -- ---- what an append leaves
@@ -112,7 +112,7 @@ stored_at stamp checkpoint blocks (log ∷ logs) items held stored h e =
 -- the logs of an append, planned and staged
 pub record Plan (s : Segments) (reserve : Bool) (stamp checkpoint : ℕ) (items : List Payload) (logs : List Log) (xs : List Staged) : Type 0 where
   pub tidy : AreTidy s
-  pub fits : Fits s reserve (length items) logs
+  pub fits : LogsFit s reserve (length items) logs
   pub staged : AreStaged stamp checkpoint logs items xs
 
 pub next_logs : (s : Segments) (reserve : Bool) (stamp checkpoint : ℕ) (items : List Payload) (logs : List Log) (xs : List Staged) → Plan s reserve stamp checkpoint items logs xs → AreNextLogs s stamp logs
@@ -122,8 +122,8 @@ pub next_staged : (s : Segments) (reserve : Bool) (stamp checkpoint : ℕ) (item
 next_staged s reserve stamp checkpoint items logs xs plan =
     subst (AreNextLogs s stamp) (sym (staged_logs stamp checkpoint logs items xs plan.staged)) (next_logs s reserve stamp checkpoint items logs xs plan)
 
-pub is_appended : (old new : Content) (reserve : Bool) (stamp checkpoint : ℕ) (items : List Payload) (logs : List Log) (xs : List Staged) (numbers : List ℕ) → Plan old.segments reserve stamp checkpoint items logs xs
-    → numbers ≡ addresses old.segments.blocks logs → new.segments ≡ with_logs old.segments (logs_of xs) stamp → LogsStand old.segments.blocks xs new.held new.stored → KeepsOthers old.segments.blocks (logs_of xs) old new
+pub is_appended : (old new : SpaceContent) (reserve : Bool) (stamp checkpoint : ℕ) (items : List Payload) (logs : List Log) (xs : List Staged) (numbers : List ℕ) → Plan old.segments reserve stamp checkpoint items logs xs
+    → numbers ≡ addresses old.segments.blocks logs → new.segments ≡ with_logs old.segments (logs_of xs) stamp → LogsStand old.segments.blocks xs new.held new.stored → KeepsOtherBlocks old.segments.blocks (logs_of xs) old new
     → IsAppended old new reserve stamp checkpoint items numbers
 is_appended old new reserve stamp checkpoint items logs xs numbers plan at table stand others =
     let s : Segments = old.segments in
@@ -142,10 +142,10 @@ is_appended old new reserve stamp checkpoint items logs xs numbers plan at table
       used_now = rw (at, segments) used.1;
       held = rw at (held_at stamp checkpoint s.blocks logs items new.held new.stored in_logs plan.fits.total);
       stored = rw at (stored_at stamp checkpoint s.blocks logs items new.held new.stored in_logs plan.fits.total);
-      others = subst (λ (l : List Log). KeepsOthers s.blocks l old new) same others;
+      others = subst (λ (l : List Log). KeepsOtherBlocks s.blocks l old new) same others;
     }
 
-pub is_broken_off : (old new : Content) (reserve : Bool) (stamp checkpoint : ℕ) (items : List Payload) (logs : List Log) (xs : List Staged) → Plan old.segments reserve stamp checkpoint items logs xs
+pub is_broken_off : (old new : SpaceContent) (reserve : Bool) (stamp checkpoint : ℕ) (items : List Payload) (logs : List Log) (xs : List Staged) → Plan old.segments reserve stamp checkpoint items logs xs
     → BreaksOff stamp xs old new → IsBrokenOff old new reserve stamp checkpoint items
 is_broken_off old new reserve stamp checkpoint items logs xs plan broken =
     let same : logs_of xs ≡ logs = staged_logs stamp checkpoint logs items xs plan.staged in
@@ -154,7 +154,7 @@ is_broken_off old new reserve stamp checkpoint items logs xs plan broken =
       written = logs_of broken.written;
       failed = broken.failed.log;
       left = logs_of broken.left;
-      fits = subst (Fits old.segments reserve (length items)) all plan.fits;
+      fits = subst (LogsFit old.segments reserve (length items)) all plan.fits;
       segments = broken.segments;
       logs_stand = stand_in_front stamp checkpoint old.segments.blocks logs items broken.written (broken.failed ∷ broken.left) new.held new.stored
           (subst (λ (ys : List Staged). AreStaged stamp checkpoint logs items ys) broken.all_are plan.staged) broken.stand;

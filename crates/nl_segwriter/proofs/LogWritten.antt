@@ -5,25 +5,25 @@ use Rattle.std.specs.Prelude.{slice_get}
 use Rattle.nl_types.specs.Segments.{AreTidy}
 use Rattle.nl_types.specs.Placing.{first_block, IsNextLog}
 use Rattle.nl_types.proofs.UsedParts.{outside_row}
-use Rattle.nl_device.specs.Pages.{Pages}
+use Rattle.nl_device.specs.Pages.{DevicePages}
 use Rattle.nl_layout.specs.Summary.{summary_bytes}
 use Rattle.nl_segwriter.specs.declared.staging.Staged.{Staged}
-use Rattle.nl_segwriter.specs.Content.{Content, Held, page_of, SameOutside, StandInRow, HoldsOnlyUsed}
+use Rattle.nl_segwriter.specs.Content.{SpaceContent, Held, payload_page, SameOutside, StandInRow, HoldsOnlyUsed}
 use Rattle.nl_segwriter.specs.Logs.{StandsFrom, contents_of}
 use Rattle.nl_segwriter.specs.Staging.{IsReady, whole_of}
 use Rattle.nl_segwriter.specs.Writing.{HasPut, HasTried}
 
 pages_long : (x : Staged) → IsReady x → length x.pages ≡ x.log.count + 1
 pages_long x ready =
-    let l = length-map x.payload page_of in
+    let l = length-map x.payload payload_page in
     let n = ready.count in
     ap length ready.pages ∙ omega (arith, l, n)
 
 -- the log's blocks alone change on the device, also where a put failed
-pub put_outside : (first : ℕ) (x : Staged) (old new : Pages) → IsReady x → HasPut first x.pages old new → SameOutside first (x.log.count + 1) old new
+pub put_outside : (first : ℕ) (x : Staged) (old new : DevicePages) → IsReady x → HasPut first x.pages old new → SameOutside first (x.log.count + 1) old new
 put_outside first x old new ready put = subst (λ (n : ℕ). SameOutside first n old new) (pages_long x ready) put.others
 
-pub tried_outside : (first tried : ℕ) (x : Staged) (old new : Pages) → IsReady x → HasTried first tried x.pages old new → SameOutside first (x.log.count + 1) old new
+pub tried_outside : (first tried : ℕ) (x : Staged) (old new : DevicePages) → IsReady x → HasTried first tried x.pages old new → SameOutside first (x.log.count + 1) old new
 tried_outside first tried x old new ready put =
     let long = pages_long x ready in
     let most = put.most in
@@ -35,7 +35,7 @@ held_outside first x old new ready same =
     let n = ready.count in
     record { below = λ b h. same.below b (omega (arith, h)); above = λ b h. same.above b (omega (arith, h, n)) }
 
-pub log_stands : (old : Content) (x : Staged) (held : Held) (stored : Pages) → AreTidy old.segments → IsNextLog old.segments x.log → HoldsOnlyUsed old → IsReady x
+pub log_stands : (old : SpaceContent) (x : Staged) (held : Held) (stored : DevicePages) → AreTidy old.segments → IsNextLog old.segments x.log → HoldsOnlyUsed old → IsReady x
     → HasPut (first_block old.segments.blocks x.log) x.pages old.stored stored → StandInRow (first_block old.segments.blocks x.log + 1) x.payload held
     → SameOutside (first_block old.segments.blocks x.log + 1) (length x.payload) old.held held → StandsFrom (first_block old.segments.blocks x.log) (whole_of x) held stored
 log_stands old x held stored tidy next only ready put row same = record {
@@ -45,7 +45,7 @@ log_stands old x held stored tidy next only ready put row same = record {
   payload = row;
   pages = λ j h.
       let e : first + 1 + j ≡ first + suc j = omega arith in
-      let l = length-map x.payload page_of in
+      let l = length-map x.payload payload_page in
       let n = ready.count in
       let long = pages_long x ready in
       ap stored e ∙ at (suc j) (omega (arith, h, l, n, long));
@@ -54,5 +54,5 @@ log_stands old x held stored tidy next only ready put row same = record {
     first : ℕ
     first = first_block old.segments.blocks x.log
 
-    at : (j : ℕ) → j < length x.pages → stored (first + j) ≡ slice_get (summary_bytes (contents_of (whole_of x)) ∷ map page_of x.payload) j
+    at : (j : ℕ) → j < length x.pages → stored (first + j) ≡ slice_get (summary_bytes (contents_of (whole_of x)) ∷ map payload_page x.payload) j
     at j h = put.stand j h ∙ ap (λ (ps : List (List ℕ)). slice_get ps j) ready.pages

@@ -14,26 +14,26 @@ use Rattle.nl_types.specs.Segments.{Segments, at_rest, none_active, info_of, cle
 use Rattle.nl_types.specs.Placing.{end_of, first_block, IsNextLog, with_log}
 use Rattle.nl_types.proofs.SegmentChanges.{length-none_active, info_same, used_same, used_other, room_of}
 use Rattle.nl_types.proofs.UsedParts.{outside_row, outside_segment, used_row, stays_with_log, stays_with_error}
-use Rattle.nl_device.specs.Pages.{Pages, ClearsBlocks}
-use Rattle.nl_segwriter.specs.Content.{Content, Held, page_of, SameOutside, IsSameAt, HoldsOnlyUsed, IsEmptied, IsFreed}
+use Rattle.nl_device.specs.Pages.{DevicePages, ClearsBlocks}
+use Rattle.nl_segwriter.specs.Content.{SpaceContent, Held, payload_page, SameOutside, IsSameAt, HoldsOnlyUsed, IsEmptied, IsFreed}
 use Rattle.nl_segwriter.specs.Logs.{WholeLog, StandsFrom, FillUpTo, IsFilledBy, AreWholeLogs, has_logs, HaveLogs}
 use Rattle.nl_segwriter.specs.Writing.{SameOutsideLog, held_in}
 
 -- a log stays where its blocks do
-pub stands_kept : (b : ℕ) (log : WholeLog) (old new : Content) → ((c : ℕ) → b ≤ c → c < b + 1 + length log.payload → IsSameAt old new c) → StandsFrom b log old.held old.stored → StandsFrom b log new.held new.stored
+pub stands_kept : (b : ℕ) (log : WholeLog) (old new : SpaceContent) → ((c : ℕ) → b ≤ c → c < b + 1 + length log.payload → IsSameAt old new c) → StandsFrom b log old.held old.stored → StandsFrom b log new.held new.stored
 stands_kept b log old new same s = record {
   fits = s.fits;
   summary = (same b (omega arith) (omega arith)).1 ∙ s.summary;
   no_payload = (same b (omega arith) (omega arith)).0 ∙ s.no_payload;
   payload = λ j h. (same (b + 1 + j) (omega arith) (omega (arith, h))).0 ∙ s.payload j h;
-  pages = λ j h. (same (b + 1 + j) (omega arith) (let l = length-map log.payload page_of in omega (arith, h, l))).1 ∙ s.pages j h;
+  pages = λ j h. (same (b + 1 + j) (omega arith) (let l = length-map log.payload payload_page in omega (arith, h, l))).1 ∙ s.pages j h;
 }
 
-fill_up : (b end : ℕ) (logs : List WholeLog) (held : Held) (stored : Pages) → FillUpTo b end logs held stored → b ≤ end
+fill_up : (b end : ℕ) (logs : List WholeLog) (held : Held) (stored : DevicePages) → FillUpTo b end logs held stored → b ≤ end
 fill_up b end [] held stored h = omega (arith, h)
 fill_up b end (log ∷ logs) held stored h = let rest = fill_up (b + 1 + length log.payload) end logs held stored h.1 in omega (arith, rest)
 
-fill_kept : (b end : ℕ) (logs : List WholeLog) (old new : Content) → ((c : ℕ) → b ≤ c → c < end → IsSameAt old new c) → FillUpTo b end logs old.held old.stored → FillUpTo b end logs new.held new.stored
+fill_kept : (b end : ℕ) (logs : List WholeLog) (old new : SpaceContent) → ((c : ℕ) → b ≤ c → c < end → IsSameAt old new c) → FillUpTo b end logs old.held old.stored → FillUpTo b end logs new.held new.stored
 fill_kept b end [] old new same h = h
 fill_kept b end (log ∷ logs) old new same h =
     let more = fill_up (b + 1 + length log.payload) end logs old.held old.stored h.1 in (
@@ -42,14 +42,14 @@ fill_kept b end (log ∷ logs) old new same h =
     )
 
 -- one more log behind the others
-fill_push : (b end : ℕ) (logs : List WholeLog) (log : WholeLog) (held : Held) (stored : Pages) → FillUpTo b end logs held stored → StandsFrom end log held stored
+fill_push : (b end : ℕ) (logs : List WholeLog) (log : WholeLog) (held : Held) (stored : DevicePages) → FillUpTo b end logs held stored → StandsFrom end log held stored
     → FillUpTo b (end + 1 + length log.payload) (logs ++ log ∷ []) held stored
 fill_push b end [] log held stored h s =
     (subst (λ (k : ℕ). StandsFrom k log held stored) (sym h) s, ap (λ (k : ℕ). k + 1 + length log.payload) h)
 fill_push b end (first ∷ logs) log held stored h s = (h.0, fill_push (b + 1 + length first.payload) end logs log held stored h.1 s)
 
 -- a segment whose blocks and used part stay
-pub filled_same : (old new : Content) (i : ℕ) → new.segments.blocks ≡ old.segments.blocks → (info_of new.segments.each i).used ≡ (info_of old.segments.each i).used
+pub filled_same : (old new : SpaceContent) (i : ℕ) → new.segments.blocks ≡ old.segments.blocks → (info_of new.segments.each i).used ≡ (info_of old.segments.each i).used
     → ((c : ℕ) → IsUsed old.segments c → IsSameAt old new c) → (logs : List WholeLog) × IsFilledBy old i logs → (logs : List WholeLog) × IsFilledBy new i logs
 filled_same old new i size used same (logs, h) =
     let start : ℕ = i * old.segments.blocks in
@@ -60,32 +60,32 @@ filled_same old new i size used same (logs, h) =
     (logs, rw (size, used) kept)
 
 -- a page of whole logs
-fill_has : (b end c : ℕ) (logs : List WholeLog) (held : Held) (stored : Pages) → FillUpTo b end logs held stored → b ≤ c → c < end → (page : List ℕ) × (stored c ≡ Some page)
+fill_has : (b end c : ℕ) (logs : List WholeLog) (held : Held) (stored : DevicePages) → FillUpTo b end logs held stored → b ≤ c → c < end → (page : List ℕ) × (stored c ≡ Some page)
 fill_has b end c [] held stored h low high = absurd (omega (arith, h, low, high))
 fill_has b end c (log ∷ logs) held stored h low high =
     elim (cases_eq c b) [
       | inl e ↦ (_, ap stored e ∙ h.0.summary)
       | inr apart ↦ elim (cases_lt c (b + 1 + length log.payload)) [
-        | inl inside ↦ (let pages : List (List ℕ) = map page_of log.payload in
+        | inl inside ↦ (let pages : List (List ℕ) = map payload_page log.payload in
             let far : b < c = omega arith in
             let j : ℕ = c - (b + 1) in
             let at : b + 1 + j ≡ c = omega (arith, far) in
-            let within : j < length pages = (let l = length-map log.payload page_of in omega (arith, inside, far, l)) in
+            let within : j < length pages = (let l = length-map log.payload payload_page in omega (arith, inside, far, l)) in
             (get_or pages j [], ap stored (sym at) ∙ h.0.pages j within ∙ slice_get-get_or pages j [] within))
         | inr behind ↦ fill_has (b + 1 + length log.payload) end c logs held stored h.1 behind high
       ]
     ]
 
 -- each used block has a page on the device
-pub used_stored : (c : Content) (b : ℕ) → AreWholeLogs c → IsUsed c.segments b → c.stored b ≡ None → ⊥
+pub used_stored : (c : SpaceContent) (b : ℕ) → AreWholeLogs c → IsUsed c.segments b → c.stored b ≡ None → ⊥
 used_stored c b whole (place, at, used) none =
     ∥∥₁_elim (whole place.segment) ⊥_prop
     (λ filled. let page = fill_has (place.segment * c.segments.blocks) _ b filled.0 c.held c.stored filled.1 (omega (arith, at)) (omega (arith, at, used)) in let there = page.1 in cc)
 
 -- ---- after a log, a failed one, and without a segment
 
-pub whole_with_log : (old : Content) (log : Log) (stamp : ℕ) (whole : WholeLog) (held : Held) (stored : Pages) → AreTidy old.segments → IsNextLog old.segments log → AreWholeLogs old
-    → (let new : Content = record { segments = with_log old.segments log stamp; held = held; stored = stored } in
+pub whole_with_log : (old : SpaceContent) (log : Log) (stamp : ℕ) (whole : WholeLog) (held : Held) (stored : DevicePages) → AreTidy old.segments → IsNextLog old.segments log → AreWholeLogs old
+    → (let new : SpaceContent = record { segments = with_log old.segments log stamp; held = held; stored = stored } in
     length whole.payload ≡ log.count → StandsFrom (first_block old.segments.blocks log) whole held stored → SameOutsideLog old.segments.blocks log old new → AreWholeLogs new)
 whole_with_log old log stamp whole held stored tidy next logs count stands same i =
     elim (cases_eq i log.segment) [
@@ -96,7 +96,7 @@ whole_with_log old log stamp whole held stored tidy next logs count stands same 
     info : SegmentInfo
     info = record { state = Active; stamp = stamp; used = end_of log }
 
-    new : Content
+    new : SpaceContent
     new = record { segments = with_log old.segments log stamp; held = held; stored = stored }
 
     kept : (c : ℕ) → IsUsed old.segments c → IsSameAt old new c
@@ -117,11 +117,11 @@ whole_with_log old log stamp whole held stored tidy next logs count stands same 
         let end : first_block old.segments.blocks log + 1 + length whole.payload ≡ start + (info_of new.segments.each log.segment).used = omega (arith, count, used) in
         (ls ++ whole ∷ [], subst (λ (k : ℕ). IsFilledBy new k (ls ++ whole ∷ [])) (sym e) (subst (λ (k : ℕ). FillUpTo start k (ls ++ whole ∷ []) held stored) end all))
 
-pub whole_with_error : (old : Content) (log : Log) (held : Held) (stored : Pages) → AreTidy old.segments → IsNextLog old.segments log → AreWholeLogs old
-    → (let new : Content = record { segments = with_error old.segments log.segment; held = held; stored = stored } in SameOutsideLog old.segments.blocks log old new → AreWholeLogs new)
+pub whole_with_error : (old : SpaceContent) (log : Log) (held : Held) (stored : DevicePages) → AreTidy old.segments → IsNextLog old.segments log → AreWholeLogs old
+    → (let new : SpaceContent = record { segments = with_error old.segments log.segment; held = held; stored = stored } in SameOutsideLog old.segments.blocks log old new → AreWholeLogs new)
 whole_with_error old log held stored tidy next logs same i = ∥∥₁_map (logs i) (filled_same old new i refl used kept)
   where
-    new : Content
+    new : SpaceContent
     new = record { segments = with_error old.segments log.segment; held = held; stored = stored }
 
     info : SegmentInfo
@@ -140,15 +140,15 @@ whole_with_error old log held stored tidy next logs same i = ∥∥₁_map (logs
     ]
 
 -- what stays where a segment is emptied
-pub whole_with_clean : (old : Content) (segment : ℕ) (held : Held) (stored : Pages) → segment < length old.segments.each → AreWholeLogs old
-    → (let new : Content = record { segments = with_clean old.segments segment; held = held; stored = stored } in ((c : ℕ) → IsUsed new.segments c → IsSameAt old new c) → AreWholeLogs new)
+pub whole_with_clean : (old : SpaceContent) (segment : ℕ) (held : Held) (stored : DevicePages) → segment < length old.segments.each → AreWholeLogs old
+    → (let new : SpaceContent = record { segments = with_clean old.segments segment; held = held; stored = stored } in ((c : ℕ) → IsUsed new.segments c → IsSameAt old new c) → AreWholeLogs new)
 whole_with_clean old segment held stored within logs kept i =
     elim (cases_eq i segment) [
       | inl e ↦ ∣ ([], (let none : (info_of new.segments.each i).used ≡ 0 = subst (λ (k : ℕ). (info_of new.segments.each k).used ≡ 0) (sym e) clean in omega (arith, none))) ∣₁
       | inr apart ↦ ∥∥₁_map (logs i) (λ filled. there (other apart) filled)
     ]
   where
-    new : Content
+    new : SpaceContent
     new = record { segments = with_clean old.segments segment; held = held; stored = stored }
 
     clean : (info_of new.segments.each segment).used ≡ 0
@@ -167,8 +167,8 @@ whole_with_clean old segment held stored within logs kept i =
 
 -- ---- what memory has
 
-pub held_with_log : (old : Content) (log : Log) (stamp : ℕ) (held : Held) (stored : Pages) → IsNextLog old.segments log → HoldsOnlyUsed old
-    → (let new : Content = record { segments = with_log old.segments log stamp; held = held; stored = stored } in SameOutside (first_block old.segments.blocks log) (log.count + 1) old.held held → HoldsOnlyUsed new)
+pub held_with_log : (old : SpaceContent) (log : Log) (stamp : ℕ) (held : Held) (stored : DevicePages) → IsNextLog old.segments log → HoldsOnlyUsed old
+    → (let new : SpaceContent = record { segments = with_log old.segments log stamp; held = held; stored = stored } in SameOutside (first_block old.segments.blocks log) (log.count + 1) old.held held → HoldsOnlyUsed new)
 held_with_log old log stamp held stored next only same b unused =
     elim (cases_lt b first) [
       | inl h ↦ same.below b h ∙ only b before
@@ -185,8 +185,8 @@ held_with_log old log stamp held stored next only same b unused =
     before : IsUsed old.segments b → ⊥
     before used = unused (stays_with_log old.segments log stamp next b used)
 
-pub held_with_error : (old : Content) (segment : ℕ) (stored : Pages) → segment < length old.segments.each → HoldsOnlyUsed old
-    → (let new : Content = record { segments = with_error old.segments segment; held = old.held; stored = stored } in HoldsOnlyUsed new)
+pub held_with_error : (old : SpaceContent) (segment : ℕ) (stored : DevicePages) → segment < length old.segments.each → HoldsOnlyUsed old
+    → (let new : SpaceContent = record { segments = with_error old.segments segment; held = old.held; stored = stored } in HoldsOnlyUsed new)
 held_with_error old segment stored within only b unused = only b (λ used. unused (stays_with_error old.segments segment within b used))
 
 -- what is used elsewhere stays used
@@ -198,8 +198,8 @@ stays_elsewhere s segment b tidy (place, at, used) outside =
     elim outside [ inl h ↦ omega (arith, m, at, h) | inr h ↦ omega (arith, m, at, h, used, room) ]) in
     (place, at, subst (λ (x : SegmentInfo). place.block < x.used) (sym (get_or-set_other s.each segment place.segment clean_info clean_info apart)) used)
 
-pub held_with_clean : (old : Content) (segment : ℕ) (held : Held) (stored : Pages) → AreTidy old.segments → HoldsOnlyUsed old
-    → (let new : Content = record { segments = with_clean old.segments segment; held = held; stored = stored } in IsEmptied (segment * old.segments.blocks) old.segments.blocks old.held held → HoldsOnlyUsed new)
+pub held_with_clean : (old : SpaceContent) (segment : ℕ) (held : Held) (stored : DevicePages) → AreTidy old.segments → HoldsOnlyUsed old
+    → (let new : SpaceContent = record { segments = with_clean old.segments segment; held = held; stored = stored } in IsEmptied (segment * old.segments.blocks) old.segments.blocks old.held held → HoldsOnlyUsed new)
 held_with_clean old segment held stored tidy only emptied b unused =
     elim (cases_lt b first) [
       | inl h ↦ emptied.outside.below b h ∙ only b (λ used. unused (stays_elsewhere old.segments segment b tidy used (inl h)))
@@ -270,7 +270,7 @@ clean_new zero i = refl
 clean_new (suc n) zero = refl
 clean_new (suc n) (suc i) = clean_new n i
 
-pub whole_new : (blocks n : ℕ) (held : Held) (stored : Pages) → (let new : Content = record { segments = record { blocks = blocks; each = replicate n clean_info }; held = held; stored = stored } in AreWholeLogs new)
+pub whole_new : (blocks n : ℕ) (held : Held) (stored : DevicePages) → (let new : SpaceContent = record { segments = record { blocks = blocks; each = replicate n clean_info }; held = held; stored = stored } in AreWholeLogs new)
 whole_new blocks n held stored i = ∣ ([], (let none = ap (λ (x : SegmentInfo). x.used) (clean_new n i) in omega (arith, none))) ∣₁
 
 pub logs_new : (blocks n : ℕ) → (let s : Segments = record { blocks = blocks; each = replicate n clean_info } in HaveLogs s)
@@ -286,12 +286,12 @@ none_held (suc n) (suc b) = none_held n b
 
 -- ---- a segment that is emptied
 
-pub cleared : (segment blocks count : ℕ) (old new : Pages) → blocks ≡ count → ClearsBlocks (segment * count) count old new → IsEmptied (segment * blocks) blocks old new
+pub cleared : (segment blocks count : ℕ) (old new : DevicePages) → blocks ≡ count → ClearsBlocks (segment * count) count old new → IsEmptied (segment * blocks) blocks old new
 cleared segment blocks count old new e h = rw e (record { inside = h.inside; outside = record { below = h.below; above = h.above } })
 
-pub is_freed : (old : Content) (segment : ℕ) (held : Held) (stored : Pages) → AreTidy old.segments → segment < length old.segments.each
+pub is_freed : (old : SpaceContent) (segment : ℕ) (held : Held) (stored : DevicePages) → AreTidy old.segments → segment < length old.segments.each
     → IsEmptied (segment * old.segments.blocks) old.segments.blocks old.held held → IsEmptied (segment * old.segments.blocks) old.segments.blocks old.stored stored
-    → (let new : Content = record { segments = with_clean old.segments segment; held = held; stored = stored } in IsFreed segment old new)
+    → (let new : SpaceContent = record { segments = with_clean old.segments segment; held = held; stored = stored } in IsFreed segment old new)
 is_freed old segment held stored tidy within in_memory on_device = record {
   segments = refl;
   held = in_memory;

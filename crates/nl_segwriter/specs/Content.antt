@@ -2,28 +2,28 @@
 use Rattle.std.specs.Prelude.{◌≡◌, ℕ, ◌+◌, ◌*◌, ◌<◌, ◌≤◌, ◌⊎◌, List, [], ◌∷◌, length, replicate, slice_get, Option, Some, None}
 use Rattle.nl_types.specs.declared.geometry.Geometry.{Geometry}
 use Rattle.nl_types.specs.Segments.{Segments, IsUsed, clean_info, with_clean}
-use Rattle.nl_device.specs.Pages.{Pages}
+use Rattle.nl_device.specs.Pages.{DevicePages}
 use Rattle.nl_layout.specs.declared.tag.Tag.{Tag}
 
 -- a payload block: what its log's summary says of it, and its bytes
 abbrev pub Payload : Type 0
 Payload = Tag × List ℕ
 
-abbrev pub tag_of : Payload → Tag
-tag_of payload = payload.0
+abbrev pub payload_tag : Payload → Tag
+payload_tag payload = payload.0
 
-abbrev pub page_of : Payload → List ℕ
-page_of payload = payload.1
+abbrev pub payload_page : Payload → List ℕ
+payload_page payload = payload.1
 
 -- the payload in memory, by block number
 abbrev pub Held : Type 0
 Held = ℕ → Option Payload
 
-pub record Content : Type 0 where
+pub record SpaceContent : Type 0 where
   pub segments : Segments
   pub held : Held
   -- what the device holds
-  pub stored : Pages
+  pub stored : DevicePages
 
 -- ---- what stands where
 
@@ -46,21 +46,21 @@ pub record SameOutside {V : Type 0} (first count : ℕ) (old new : ℕ → Optio
   pub above : (b : ℕ) → first + count ≤ b → new b ≡ old b
 
 -- the block has in memory and on the device what it had
-abbrev pub IsSameAt : Content → Content → ℕ → Type 0
+abbrev pub IsSameAt : SpaceContent → SpaceContent → ℕ → Type 0
 IsSameAt old new b = (new.held b ≡ old.held b) × (new.stored b ≡ old.stored b)
 
 -- the used part of each of these segments stays as it is
-abbrev pub KeepsUsed : Segments → Content → Content → Type 0
+abbrev pub KeepsUsed : Segments → SpaceContent → SpaceContent → Type 0
 KeepsUsed s old new = (b : ℕ) → IsUsed s b → IsSameAt old new b
 
 -- memory has payload in used blocks alone
-abbrev pub HoldsOnlyUsed : Content → Type 0
+abbrev pub HoldsOnlyUsed : SpaceContent → Type 0
 HoldsOnlyUsed c = (b : ℕ) → (IsUsed c.segments b → ⊥) → c.held b ≡ None
 
 -- ---- a new space, and a segment less
 
 -- nothing is in memory, and all segments are clean
-abbrev pub new_content : Geometry → Pages → Content
+abbrev pub new_content : Geometry → DevicePages → SpaceContent
 new_content g pages = record { segments = record { blocks = g.blocks; each = replicate g.segments clean_info }; held = λ b. None; stored = pages }
 
 -- so many blocks from a number on are empty, and all others stay
@@ -69,7 +69,7 @@ pub record IsEmptied {V : Type 0} (first count : ℕ) (old new : ℕ → Option 
   pub outside : SameOutside first count old new
 
 -- The segment is clean, and nothing is left in its blocks. What is used elsewhere is still used, and stays.
-pub record IsFreed (segment : ℕ) (old new : Content) : Type 0 where
+pub record IsFreed (segment : ℕ) (old new : SpaceContent) : Type 0 where
   pub segments : new.segments ≡ with_clean old.segments segment
   pub held : IsEmptied (segment * old.segments.blocks) old.segments.blocks old.held new.held
   pub stored : IsEmptied (segment * old.segments.blocks) old.segments.blocks old.stored new.stored

@@ -3,9 +3,9 @@ use Rattle.std.specs.Prelude.{◌≡◌, ℕ, ◌+◌, ◌*◌, ◌<◌, Bool, t
 use Rattle.nl_types.specs.declared.segment.SegmentState.{SegmentState}
 use Rattle.nl_types.specs.declared.segment.SegmentState.TheVariants.{Clean, Dirty, Active, Error}
 use Rattle.nl_types.specs.Segments.{Segments, info_of}
-use Rattle.nl_device.specs.Pages.{Pages}
+use Rattle.nl_device.specs.Pages.{DevicePages}
 use Rattle.nl_layout.specs.Summary.{Contents, SummaryFits, summary_bytes}
-use Rattle.nl_segwriter.specs.Content.{Payload, Held, Content, tag_of, page_of, StandInRow}
+use Rattle.nl_segwriter.specs.Content.{Payload, Held, SpaceContent, payload_tag, payload_page, StandInRow}
 
 -- what a log says: its moment, a checkpoint number, and its payload
 pub record WholeLog : Type 0 where
@@ -15,28 +15,28 @@ pub record WholeLog : Type 0 where
 
 -- what its summary says
 abbrev pub contents_of : WholeLog → Contents
-contents_of log = record { stamp = log.stamp; checkpoint = log.checkpoint; tags = map tag_of log.payload }
+contents_of log = record { stamp = log.stamp; checkpoint = log.checkpoint; tags = map payload_tag log.payload }
 
 -- The log stands from block b on. The device has its summary there, where memory has no payload. Behind it the payload
 -- stands in memory, and its pages on the device.
-pub record StandsFrom (b : ℕ) (log : WholeLog) (held : Held) (stored : Pages) : Type 0 where
+pub record StandsFrom (b : ℕ) (log : WholeLog) (held : Held) (stored : DevicePages) : Type 0 where
   pub fits : SummaryFits (contents_of log)
   pub summary : stored b ≡ Some (summary_bytes (contents_of log))
   pub no_payload : held b ≡ None
   pub payload : StandInRow (b + 1) log.payload held
-  pub pages : StandInRow (b + 1) (map page_of log.payload) stored
+  pub pages : StandInRow (b + 1) (map payload_page log.payload) stored
 
 -- the logs stand one right behind another, from block b up to the end
-abbrev pub FillUpTo : ℕ → ℕ → List WholeLog → Held → Pages → Type 0
+abbrev pub FillUpTo : ℕ → ℕ → List WholeLog → Held → DevicePages → Type 0
 FillUpTo b end [] held stored = b ≡ end
 FillUpTo b end (log ∷ logs) held stored = StandsFrom b log held stored × FillUpTo (b + 1 + length log.payload) end logs held stored
 
 -- the used part of a segment is these logs
-abbrev pub IsFilledBy : Content → ℕ → List WholeLog → Type 0
+abbrev pub IsFilledBy : SpaceContent → ℕ → List WholeLog → Type 0
 IsFilledBy c i logs = FillUpTo (i * c.segments.blocks) (i * c.segments.blocks + (info_of c.segments.each i).used) logs c.held c.stored
 
 -- the used part of each segment is whole logs
-abbrev pub AreWholeLogs : Content → Type 0
+abbrev pub AreWholeLogs : SpaceContent → Type 0
 AreWholeLogs c = (i : ℕ) → ∥ ((logs : List WholeLog) × IsFilledBy c i logs) ∥₁
 
 -- a segment in such a state has a log

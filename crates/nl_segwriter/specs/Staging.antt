@@ -3,7 +3,7 @@ use Rattle.std.specs.Prelude.{◌≡◌, ℕ, ◌≤◌, List, [], ◌∷◌, le
 use Rattle.nl_types.specs.declared.segment.Log.{Log}
 use Rattle.nl_layout.specs.Summary.{SummaryFits, summary_bytes}
 use Rattle.nl_segwriter.specs.declared.staging.Staged.{Staged}
-use Rattle.nl_segwriter.specs.Content.{Payload, page_of}
+use Rattle.nl_segwriter.specs.Content.{Payload, payload_page}
 use Rattle.nl_segwriter.specs.Logs.{WholeLog, contents_of}
 
 -- the log that is to stand
@@ -13,7 +13,7 @@ whole_of x = record { stamp = x.stamp; checkpoint = x.checkpoint; payload = x.pa
 -- the pages for the device are the summary's and those of the payload
 pub record IsReady (x : Staged) : Type 0 where
   pub fits : SummaryFits (contents_of (whole_of x))
-  pub pages : x.pages ≡ summary_bytes (contents_of (whole_of x)) ∷ map page_of x.payload
+  pub pages : x.pages ≡ summary_bytes (contents_of (whole_of x)) ∷ map payload_page x.payload
   pub count : length x.payload ≡ x.log.count
 
 -- a log with its payload is staged

@@ -3,50 +3,50 @@ use Rattle.std.specs.Prelude.{◌≡◌, ℕ, ◌+◌, ◌<◌, ◌≤◌, List,
 use Rattle.nl_types.specs.declared.segment.Log.{Log}
 use Rattle.nl_types.specs.Segments.{Segments, with_error}
 use Rattle.nl_types.specs.Placing.{first_block, with_logs}
-use Rattle.nl_device.specs.Pages.{Pages}
+use Rattle.nl_device.specs.Pages.{DevicePages}
 use Rattle.nl_segwriter.specs.declared.staging.Staged.{Staged}
-use Rattle.nl_segwriter.specs.Content.{Payload, Held, Content, SameOutside, StandInRow}
+use Rattle.nl_segwriter.specs.Content.{Payload, Held, SpaceContent, SameOutside, StandInRow}
 use Rattle.nl_segwriter.specs.Logs.{StandsFrom}
-use Rattle.nl_segwriter.specs.Appended.{KeepsOthers}
+use Rattle.nl_segwriter.specs.Appended.{KeepsOtherBlocks}
 use Rattle.nl_segwriter.specs.Staging.{logs_of, whole_of}
 
 -- what a table of blocks has at a number
 abbrev pub held_in : List (Option Payload) → Held
 held_in table b = slice_index_or table b None
 
-abbrev pub content_of : Segments → List (Option Payload) → Pages → Content
+abbrev pub content_of : Segments → List (Option Payload) → DevicePages → SpaceContent
 content_of segments table pages = record { segments = segments; held = held_in table; stored = pages }
 
 -- the pages stand at the numbers from the first on, and all other blocks stay
-pub record HasPut (first : ℕ) (pages : List (List ℕ)) (old new : Pages) : Type 0 where
+pub record HasPut (first : ℕ) (pages : List (List ℕ)) (old new : DevicePages) : Type 0 where
   pub stand : StandInRow first pages new
   pub others : SameOutside first (length pages) old new
 
 -- A put failed: so many were tried, in order. The pages before the failed one stand, its block may have anything, and
 -- all other blocks stay.
-pub record HasTried (first tried : ℕ) (pages : List (List ℕ)) (old new : Pages) : Type 0 where
+pub record HasTried (first tried : ℕ) (pages : List (List ℕ)) (old new : DevicePages) : Type 0 where
   pub some : 0 < tried
   pub most : tried ≤ length pages
   pub stand : (j : ℕ) → j + 1 < tried → new (first + j) ≡ slice_get pages j
   pub others : SameOutside first tried old new
 
 -- all but the log's blocks stay
-pub record SameOutsideLog (blocks : ℕ) (log : Log) (old new : Content) : Type 0 where
+pub record SameOutsideLog (blocks : ℕ) (log : Log) (old new : SpaceContent) : Type 0 where
   pub held : SameOutside (first_block blocks log) (log.count + 1) old.held new.held
   pub stored : SameOutside (first_block blocks log) (log.count + 1) old.stored new.stored
 
 -- the logs stand
-abbrev pub LogsStand : ℕ → List Staged → Held → Pages → Type 0
+abbrev pub LogsStand : ℕ → List Staged → Held → DevicePages → Type 0
 LogsStand blocks [] held stored = Unit {0}
 LogsStand blocks (x ∷ xs) held stored = StandsFrom (first_block blocks x.log) (whole_of x) held stored × LogsStand blocks xs held stored
 
 -- One of the logs was not written, and its segment is in error. Those before it stand, and no block changed but theirs and
 -- its own.
-pub record BreaksOff (stamp : ℕ) (all : List Staged) (old new : Content) : Type 0 where
+pub record BreaksOff (stamp : ℕ) (all : List Staged) (old new : SpaceContent) : Type 0 where
   pub written : List Staged
   pub failed : Staged
   pub left : List Staged
   pub all_are : all ≡ written ++ failed ∷ left
   pub segments : new.segments ≡ with_error (with_logs old.segments (logs_of written) stamp) failed.log.segment
   pub stand : LogsStand old.segments.blocks written new.held new.stored
-  pub others : KeepsOthers old.segments.blocks (logs_of written ++ failed.log ∷ []) old new
+  pub others : KeepsOtherBlocks old.segments.blocks (logs_of written ++ failed.log ∷ []) old new

@@ -3,9 +3,11 @@ ghost use Rattle.std.specs.Prelude.{◌≡◌, ◌+◌, ◌*◌, ◌<◌, ◌≤
 ghost use Rattle.std.specs.List.{AllByRecursion};
 ghost use Rattle.nl_types.specs.Segments.{StaysUsed, active_place, info_of, lowest_clean, with_active, with_error};
 ghost use Rattle.nl_types.specs.Placing.{IsNextLog, AreNextLogs, first_block, with_log, with_logs};
+ghost use Rattle.std.proofs.Props.{props};
+ghost use Rattle.nl_sufile.specs.Table.{IsSegTable};
 ghost use Rattle.nl_segwriter.specs.Content.{HoldsOnlyUsed, KeepsUsed, new_content};
 ghost use Rattle.nl_segwriter.specs.Logs.{AreWholeLogs, HaveLogs, StandsFrom};
-ghost use Rattle.nl_segwriter.specs.Appended.{KeepsOthers};
+ghost use Rattle.nl_segwriter.specs.Appended.{KeepsOtherBlocks};
 ghost use Rattle.nl_segwriter.specs.Staging.{IsReady, logs_of, whole_of};
 ghost use Rattle.nl_segwriter.specs.Writing.{held_in, content_of, SameOutsideLog, LogsStand, BreaksOff};
 
@@ -27,6 +29,7 @@ pub struct LogSpace<D: Device> {
     payload: Items<Option<Payload>>,
     ghost segment_size: { table.blocks ≡ (D.shape device).blocks },
     ghost segment_count: { length table.each ≡ (D.shape device).segments },
+    ghost limits: { IsSegTable table } by { Prim.hlevel props },
     ghost sized: { length payload ≡ (D.shape device).segments * (D.shape device).blocks },
     ghost unheld: { HoldsOnlyUsed (content_of table payload (D.pages device)) },
     ghost logged: { HaveLogs table },
@@ -68,7 +71,6 @@ impl<D: Device> LogSpace<D> {
             pages,
             payload,
         } = staged;
-        self.table.limits_hold();
         let first = log.segment.get() * self.table.blocks() + log.first;
         let start = Position {
             segment: log.segment,
@@ -98,11 +100,10 @@ impl<D: Device> LogSpace<D> {
         ensures broken { OnErr result (BreaksOff now all.items (content_of self.old.table self.old.payload (D.pages self.old.device)) (content_of self.new.table self.new.payload (D.pages self.new.device))) }
         ensures failed { OnErr result (D.failure_count self.old.device < D.failure_count self.new.device) }
         ensures counted { D.failure_count self.old.device ≤ D.failure_count self.new.device }
-        ensures others { KeepsOthers self.old.table.blocks (logs_of all.items) (content_of self.old.table self.old.payload (D.pages self.old.device)) (content_of self.new.table self.new.payload (D.pages self.new.device)) }
+        ensures others { KeepsOtherBlocks self.old.table.blocks (logs_of all.items) (content_of self.old.table self.old.payload (D.pages self.old.device)) (content_of self.new.table self.new.payload (D.pages self.new.device)) }
         ensures kept { KeepsUsed self.old.table (content_of self.old.table self.old.payload (D.pages self.old.device)) (content_of self.new.table self.new.payload (D.pages self.new.device)) }
         ensures stays { StaysUsed self.old.table self.new.table }
     {
-        self.table.limits_hold();
         for staged in all {
             self.write_log(staged)?;
         }
@@ -112,14 +113,14 @@ impl<D: Device> LogSpace<D> {
 
 // Takes the segment of a log that is to start there, where it doesn't go on in the active one.
 fn take_segment(table: &mut SegTable, start: Position)
-    requires { (active_place table.old ≡ Some start) ⊎ (lowest_clean table.old ≡ Some start.segment) }
+    requires place { (active_place table.old ≡ Some start) ⊎ (lowest_clean table.old ≡ Some start.segment) }
+    requires limits { IsSegTable table.old }
     ensures with_active { (stamp used : ℕ) → with_active table.new start.segment stamp used ≡ with_active table.old start.segment stamp used }
     ensures with_error { with_error table.new start.segment ≡ with_error table.old start.segment }
     ensures size { (table.new.blocks ≡ table.old.blocks) × (length table.new.each ≡ length table.old.each) }
 {
-    table.limits_hold();
     if table.active_place() != Some(start) {
-        let _ = table.take_clean();
+        table.take_clean();
     }
 }
 
@@ -147,7 +148,6 @@ impl<D: Device> Space for LogSpace<D> {
         now: u64,
         reserve: bool,
     ) -> Result<Vec<BlockNumber>, VolError> {
-        self.table.limits_hold();
         let planned = self.table.place(alloc, items.len(), reserve)?;
         let logs = planned.as_slice();
         let numbers = numbers_of(alloc, self.table.blocks(), logs)?;
@@ -166,7 +166,6 @@ impl<D: Device> Space for LogSpace<D> {
     }
 
     fn load(&mut self, number: BlockNumber) -> Result<Page, VolError> {
-        self.table.limits_hold();
         match self.device.get(number) {
             Ok(Some(page)) => Ok(page),
             Ok(None) => unreachable!(),
@@ -180,19 +179,19 @@ impl<D: Device> Space for LogSpace<D> {
     }
 
     fn summary(&self, segment: Segment) -> &[Option<Payload>] {
-        self.table.limits_hold();
         let used = used_of(&self.table, segment) as usize;
         let first = segment.get() as usize * self.table.blocks() as usize;
         &self.payload.as_slice()[first..first + used]
     }
 
     fn free(&mut self, segment: Segment) {
-        self.table.limits_hold();
         let blocks = self.table.blocks() as usize;
         self.device.clear(segment);
         drop_row(&mut self.payload, segment.get() as usize * blocks, blocks);
         self.table.mark_clean(segment);
     }
+
+    ghost limits = { λ s. s.limits };
 
     ghost holds_only_used = { λ s. s.unheld };
 

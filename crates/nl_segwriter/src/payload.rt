@@ -28,8 +28,6 @@ pub fn hold_row(table: &mut Items<Option<Payload>>, first: usize, payload: Items
     ensures others { SameOutside first (length payload) (held_in table.old) (held_in table.new) }
     ensures size { length table.new ≡ length table.old }
 {
-    // As the table's length is a number, so is each index.
-    let _ = table.len();
     let mut number = first;
     for item in payload.into_vec() {
         table.set(number, Some(item));
@@ -43,9 +41,9 @@ pub fn drop_row(table: &mut Items<Option<Payload>>, first: usize, count: usize)
     ensures emptied { IsEmptied first count (held_in table.old) (held_in table.new) }
     ensures size { length table.new ≡ length table.old }
 {
-    // As the table's length is a number, so is each index.
-    let _ = table.len();
-    for number in first..first + count {
+    let mut number = first;
+    for _ in 0..count {
         table.set(number, None);
+        number += 1;
     }
 }

@@ -1,4 +1,4 @@
-//! Pages put on the device, one after another.
+//! DevicePages put on the device, one after another.
 ghost use Rattle.std.specs.Prelude.{◌≡◌, ◌+◌, ◌*◌, ◌<◌, ◌≤◌, length, OnOk, OnErr, IfErr};
 ghost use Rattle.nl_segwriter.specs.Writing.{HasPut, HasTried};
 

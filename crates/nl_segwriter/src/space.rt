@@ -3,7 +3,8 @@ ghost use Rattle.std.specs.Prelude.{◌≡◌, ℕ, ◌+◌, ◌*◌, ◌<◌, �
 ghost use Rattle.std.specs.Option.{option_map};
 ghost use Rattle.nl_types.specs.Segments.{IsUsed, StaysUsed, info_of};
 ghost use Rattle.nl_types.specs.Placing.{LacksSpace};
-ghost use Rattle.nl_segwriter.specs.Content.{Content, HoldsOnlyUsed, KeepsUsed, IsFreed, page_of};
+ghost use Rattle.nl_sufile.specs.Table.{IsSegTable};
+ghost use Rattle.nl_segwriter.specs.Content.{SpaceContent, HoldsOnlyUsed, KeepsUsed, IsFreed, payload_page};
 ghost use Rattle.nl_segwriter.specs.Logs.{AreWholeLogs, HaveLogs};
 ghost use Rattle.nl_segwriter.specs.Appended.{IsAppended, IsBrokenOff, IsAppendError, IsLoadError};
 
@@ -16,7 +17,7 @@ use std::alloc::Global;
 /// segment is freed.
 pub trait Space: Drop {
     /// The segments, the payload in memory, and the pages on the device. Only what lies in used blocks is promised.
-    ghost content: { Self → Content };
+    ghost content: { Self → SpaceContent };
 
     /// How often the device has failed.
     ghost failure_count: { Self → ℕ };
@@ -52,7 +53,7 @@ pub trait Space: Drop {
 
     /// The page in memory at a block number. None at a summary block, and at a number that is none of the device's.
     fn page(&self, number: BlockNumber) -> Option<&Page>
-        ensures { option_copied result ≡ option_map page_of ((content self.now).held number) };
+        ensures { option_copied result ≡ option_map payload_page ((content self.now).held number) };
 
     /// Reads a used block from the device, a summary block too. Refused by `Fault` where the device failed, and by
     /// `Memory`; nothing changes either way.
@@ -79,6 +80,9 @@ pub trait Space: Drop {
         requires { segment < length (content self.old).segments.each }
         ensures freed { IsFreed segment (content self.old) (content self.new) }
         ensures counted { failure_count self.old ≤ failure_count self.new };
+
+    /// The segments are within the limits of a volume, and tidy.
+    ghost limits: { (s : Self) → IsSegTable (content s).segments };
 
     /// Memory has payload in used blocks alone.
     ghost holds_only_used: { (s : Self) → HoldsOnlyUsed (content s) };

@@ -2,7 +2,7 @@
 ghost use Rattle.std.specs.Prelude.{◌≡◌, ◌≤◌, length, map, IfOk};
 ghost use Rattle.nl_types.specs.Placing.{payload_count};
 ghost use Rattle.nl_layout.specs.Summary.{Spells};
-ghost use Rattle.nl_segwriter.specs.Content.{tag_of};
+ghost use Rattle.nl_segwriter.specs.Content.{payload_tag};
 
 use crate::payload::Payload;
 use nl_layout::{Summary, Tag};
@@ -25,7 +25,7 @@ ghost use Rattle.nl_segwriter.specs.Staging.{IsStaged, AreStaged, AreSized};
 
 // What a summary says of the items.
 fn tags_of(alloc: Global, items: &[Payload]) -> Result<Vec<Tag>, AllocError>
-    ensures { IfOk result (λ tags. tags.items ≡ map tag_of items.now) }
+    ensures { IfOk result (λ tags. tags.items ≡ map payload_tag items.now) }
 {
     let mut tags = Vec::new(alloc);
     for (tag, _) in items {
@@ -43,7 +43,7 @@ fn summary_page(
 ) -> Result<Page, AllocError>
     requires some { 1 ≤ length items.now }
     requires most { length items.now ≤ 30 }
-    ensures { IfOk result (λ page. Spells page (record { stamp = stamp; checkpoint = checkpoint; tags = map tag_of items.now })) }
+    ensures { IfOk result (λ page. Spells page (record { stamp = stamp; checkpoint = checkpoint; tags = map payload_tag items.now })) }
 {
     let tags = tags_of(alloc, items)?;
     let mut bytes = [0; BLOCK_SIZE];

@@ -14,7 +14,7 @@ use Rattle.std.specs.List.{AllByRecursion}
 use Rattle.std.specs.Option.{IfSome}
 use Rattle.std.specs.Prelude.{slice_get}
 use Rattle.nl_types.specs.declared.geometry.Geometry.{Geometry}
-use Rattle.nl_sufile.specs.Table.{IsTable, IsActiveIn}
+use Rattle.nl_sufile.specs.Table.{IsSegTable, IsActiveIn}
 
 -- a test that isn't true is false
 not_true : (b : Bool) → (b ≡ true → ⊥) → b ≡ false
@@ -74,7 +74,7 @@ active_here each a h =
 
 -- ---- what a change keeps
 
-is_table : (s : Segments) (i : ℕ) (info : SegmentInfo) → IsTable s → IsTidy s.blocks info → IsTable (record s { each = set (none_active s.each) i info })
+is_table : (s : Segments) (i : ℕ) (info : SegmentInfo) → IsSegTable s → IsTidy s.blocks info → IsSegTable (record s { each = set (none_active s.each) i info })
 is_table s i info h tidy = record {
   few_blocks = h.few_blocks;
   many_blocks = h.many_blocks;
@@ -82,7 +82,7 @@ is_table s i info h tidy = record {
   tidy = tidy_changed s i info h.tidy tidy;
 }
 
-pub table_active : (s : Segments) (i stamp used : ℕ) → IsTable s → i < length s.each → used ≤ s.blocks → IsTable (with_active s i stamp used) × IsActiveIn (with_active s i stamp used).each (Some i)
+pub table_active : (s : Segments) (i stamp used : ℕ) → IsSegTable s → i < length s.each → used ≤ s.blocks → IsSegTable (with_active s i stamp used) × IsActiveIn (with_active s i stamp used).each (Some i)
 table_active s i stamp used h within room =
     let info : SegmentInfo = record { state = Active; stamp = stamp; used = used } in (
       is_table s i info h (record { room = room; clean = λ e. absurd (cc) }),
@@ -95,7 +95,7 @@ table_active s i stamp used h within room =
       },
     )
 
-pub table_error : (s : Segments) (i : ℕ) → IsTable s → i < length s.each → IsTable (with_error s i) × IsActiveIn (with_error s i).each None
+pub table_error : (s : Segments) (i : ℕ) → IsSegTable s → i < length s.each → IsSegTable (with_error s i) × IsActiveIn (with_error s i).each None
 table_error s i h within =
     let info : SegmentInfo = record (info_of s.each i) { state = Error } in (
       is_table s i info h (record { room = (tidy_at s.blocks s.each h.tidy.each i).room; clean = λ e. absurd (cc) }),
@@ -110,7 +110,7 @@ table_error s i h within =
       },
     )
 
-clean_table : (s : Segments) (i : ℕ) → IsTable s → IsTable (with_clean s i)
+clean_table : (s : Segments) (i : ℕ) → IsSegTable s → IsSegTable (with_clean s i)
 clean_table s i h = record {
   few_blocks = h.few_blocks;
   many_blocks = h.many_blocks;
@@ -119,7 +119,7 @@ clean_table s i h = record {
 }
 
 -- the active one was emptied
-pub table_clean_active : (s : Segments) (i : ℕ) → IsTable s → IsActiveIn s.each (Some i) → IsTable (with_clean s i) × IsActiveIn (with_clean s i).each None
+pub table_clean_active : (s : Segments) (i : ℕ) → IsSegTable s → IsActiveIn s.each (Some i) → IsSegTable (with_clean s i) × IsActiveIn (with_clean s i).each None
 table_clean_active s i h active = (
   clean_table s i h,
   record {
@@ -140,7 +140,7 @@ table_clean_active s i h active = (
 )
 
 -- another one was emptied
-pub table_clean_other : (s : Segments) (i : ℕ) (active : Option ℕ) → IsTable s → i < length s.each → IsActiveIn s.each active → (active ≡ Some i → ⊥) → IsTable (with_clean s i) × IsActiveIn (with_clean s i).each active
+pub table_clean_other : (s : Segments) (i : ℕ) (active : Option ℕ) → IsSegTable s → i < length s.each → IsActiveIn s.each active → (active ≡ Some i → ⊥) → IsSegTable (with_clean s i) × IsActiveIn (with_clean s i).each active
 table_clean_other s i active h within is other = (
   clean_table s i h,
   record {
@@ -161,7 +161,7 @@ table_clean_other s i active h within is other = (
 )
 
 -- the active segment is used no further than it goes
-pub active_inside : (s : Segments) → IsTable s → IfSome (active_place s) (λ place. place.block ≤ s.blocks)
+pub active_inside : (s : Segments) → IsSegTable s → IfSome (active_place s) (λ place. place.block ≤ s.blocks)
 active_inside s h = inside (active_place s) refl
   where
     inside : (left : Option Position) → active_place s ≡ left → IfSome left (λ place. place.block ≤ s.blocks)
@@ -178,7 +178,7 @@ none_new zero i = refl
 none_new (suc n) zero = refl
 none_new (suc n) (suc i) = none_new n i
 
-pub table_new : (g : Geometry) → (let s : Segments = record { blocks = g.blocks; each = replicate g.segments clean_info } in IsTable s × IsActiveIn s.each None)
+pub table_new : (g : Geometry) → (let s : Segments = record { blocks = g.blocks; each = replicate g.segments clean_info } in IsSegTable s × IsActiveIn s.each None)
 table_new g = (
   record {
     few_blocks = g.least_blocks;

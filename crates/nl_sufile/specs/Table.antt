@@ -6,7 +6,7 @@ use Rattle.nl_types.specs.declared.segment.SegmentInfo.{SegmentInfo}
 use Rattle.nl_types.specs.Segments.{Segments, AreTidy, info_of, is_active}
 
 -- what is true of every table
-pub record IsTable (s : Segments) : Type 0 where
+pub record IsSegTable (s : Segments) : Type 0 where
   pub few_blocks : 4 ≤ s.blocks
   pub many_blocks : s.blocks ≤ 2048
   pub many_segments : length s.each ≤ 4096

@@ -58,7 +58,9 @@ pub fn place_on(
     ensures none { IsErrOf result VolError.NoSpace → (logs : List Log) → GoOn blocks left free.now n logs → ⊥ }
     ensures errors { IfErr result IsNoSpaceOrMemory }
 {
-    let mut logs = Vec::new(alloc);
+    // A log that is shorter than the others ends its segment, or the list.
+    let most = n / MAX_PAYLOAD as usize + free.len() + 2;
+    let mut logs = Vec::with_capacity(alloc, most.min(n))?;
     let mut left = left;
     let mut free = free;
     let mut rest = n;

@@ -1,9 +1,10 @@
 //! The table of segments.
-ghost use Rattle.std.specs.Prelude.{◌≡◌, ◌<◌, ◌≤◌, ◌+◌, length, IfOk, IfErr, IsErrOf, IfSome, IfNone, IsOkUnless, OnOk, slice_get, replicate};
+ghost use Rattle.std.specs.Prelude.{◌≡◌, ◌<◌, ◌≤◌, ◌+◌, length, IfOk, IfErr, IsErrOf, IfSome, IfNone, IsOkUnless, OnOk, slice_get, slice_set, replicate};
 ghost use Rattle.std.specs.Option.{ok_or};
+ghost use Rattle.nl_types.specs.declared.segment.SegmentState.TheVariants.{Active};
 ghost use Rattle.nl_types.specs.Segments.{active_place, clean_from, clean_segments as clean_numbers, clean_info, info_of, lowest_clean, none_active, with_active, with_clean, with_error};
-ghost use Rattle.nl_types.specs.Placing.{Fits, LacksSpace, end_of, with_log};
-ghost use Rattle.nl_sufile.specs.Table.{IsTable, IsActiveIn, IsNoSpaceOrMemory};
+ghost use Rattle.nl_types.specs.Placing.{LogsFit, LacksSpace, end_of, with_log};
+ghost use Rattle.nl_sufile.specs.Table.{IsSegTable, IsActiveIn, IsNoSpaceOrMemory};
 
 use crate::placing::{clean_segments, place_on};
 use nl_types::{Geometry, Items, Log, Position, Segment, SegmentInfo, SegmentState, VolError};
@@ -20,13 +21,13 @@ pub struct SegTable {
 
 impl Model for SegTable {
     ghost use Rattle.nl_types.specs.Segments.{Segments};
-    ghost use Rattle.nl_sufile.specs.Table.{IsTable, IsActiveIn};
+    ghost use Rattle.nl_sufile.specs.Table.{IsSegTable, IsActiveIn};
 
     ghost Value = { Segments };
 
     ghost view = { λ table. record { blocks = table.blocks; each = table.each } };
 
-    ghost invariant = { λ table. IsTable (record { blocks = table.blocks; each = table.each }) × IsActiveIn table.each table.active };
+    ghost invariant = { λ table. IsSegTable (record { blocks = table.blocks; each = table.each }) × IsActiveIn table.each table.active };
 }
 
 /// How many segments there are, and of them how many are clean, and how many dirty. An active segment and one in error
@@ -42,6 +43,7 @@ impl SegTable {
     /// A table of clean segments, refused by `Memory` alone.
     pub fn new(alloc: Global, geometry: Geometry) -> Result<SegTable, VolError>
         ensures clean { IfOk result (λ table. table ≡ record { blocks = geometry.blocks; each = replicate geometry.segments clean_info }) }
+        ensures limits { IfOk result IsSegTable }
         ensures refused { IsOkUnless result VolError.Memory }
     {
         let each = clean_table(alloc, geometry.segments)?;
@@ -52,16 +54,10 @@ impl SegTable {
         })
     }
 
-    /// Does nothing: its contract tells what is true of every table.
-    pub fn limits_hold(&self)
-        ensures { IsTable self.now }
-    {
-        let _ = &self.blocks;
-    }
-
     /// How many blocks a segment has.
     pub fn blocks(&self) -> u32
-        ensures { result ≡ self.now.blocks }
+        ensures blocks { result ≡ self.now.blocks }
+        ensures limits { IsSegTable self.now }
     {
         self.blocks
     }
@@ -109,7 +105,7 @@ impl SegTable {
     /// at most 30. A checkpoint, with `reserve`, leaves two clean segments where it takes any. Refused by `NoSpace` where
     /// no list of logs fits, and by `Memory`.
     pub fn place(&self, alloc: Global, n: usize, reserve: bool) -> Result<Vec<Log>, VolError>
-        ensures fits { IfOk result (λ logs. Fits self.now reserve n logs.items) }
+        ensures fits { IfOk result (λ logs. LogsFit self.now reserve n logs.items) }
         ensures no_space { IsErrOf result VolError.NoSpace → LacksSpace self.now reserve n }
         ensures errors { IfErr result IsNoSpaceOrMemory }
     {
@@ -130,7 +126,9 @@ impl SegTable {
         ensures none { IfNone result (self.new ≡ self.old) }
     {
         let segment = first_clean(self.each.as_slice())?;
-        self.make_active(segment, 0, 0);
+        let active = self.active;
+        make_active(&mut self.each, active, segment, 0, 0);
+        self.active = Some(segment);
         Some(segment)
     }
 
@@ -138,34 +136,21 @@ impl SegTable {
     pub fn add_log(&mut self, log: Log, stamp: u64)
         requires segment { log.segment < length self.old.each }
         requires inside { end_of log ≤ self.old.blocks }
-        ensures { self.new ≡ with_log self.old log stamp }
+        ensures log { self.new ≡ with_log self.old log stamp }
+        ensures limits { IsSegTable self.new }
     {
-        // The table knows that its segments are small, so that the end is a number.
-        let _ = &self.blocks;
-        self.make_active(log.segment, stamp, log.end());
-    }
-
-    // A segment alone is active, with this stamp and so many used blocks.
-    fn make_active(&mut self, segment: Segment, stamp: u64, used: u32)
-        requires segment { segment < length self.old.each }
-        requires inside { used ≤ self.old.blocks }
-        ensures { self.new ≡ with_active self.old segment stamp used }
-    {
-        let info = SegmentInfo {
-            state: SegmentState::Active,
-            stamp,
-            used,
-        };
         let active = self.active;
-        rest_active(&mut self.each, active);
-        self.each.set(segment.get() as usize, info);
+        let segment = log.segment;
+        let used = log.end();
+        make_active(&mut self.each, active, segment, stamp, used);
         self.active = Some(segment);
     }
 
     /// A write to a segment failed: it is in error and keeps its logs, and no segment is active.
     pub fn mark_error(&mut self, segment: Segment)
         requires { segment < length self.old.each }
-        ensures { self.new ≡ with_error self.old segment }
+        ensures error { self.new ≡ with_error self.old segment }
+        ensures limits { IsSegTable self.new }
     {
         let at = segment.get() as usize;
         let info = SegmentInfo {
@@ -181,7 +166,8 @@ impl SegTable {
     /// A segment was emptied: it is clean, whatever it was before.
     pub fn mark_clean(&mut self, segment: Segment)
         requires { segment < length self.old.each }
-        ensures { self.new ≡ with_clean self.old segment }
+        ensures clean { self.new ≡ with_clean self.old segment }
+        ensures limits { IsSegTable self.new }
     {
         self.each.set(segment.get() as usize, SegmentInfo::clean());
         if self.active == Some(segment) {
@@ -240,4 +226,21 @@ fn rest_active(each: &mut Items<SegmentInfo>, active: Option<Segment>)
         };
         each.set(at, info);
     }
+}
+
+// A segment alone is active now, with this stamp and so many used blocks.
+fn make_active(
+    each: &mut Items<SegmentInfo>,
+    active: Option<Segment>,
+    segment: Segment,
+    stamp: u64,
+    used: u32,
+)
+    requires segment { segment < length each.old }
+    requires active { IsActiveIn each.old active }
+    ensures { each.new ≡ slice_set (none_active each.old) segment (record { state = Active; stamp = stamp; used = used }) }
+{
+    rest_active(each, active);
+    let state = SegmentState::Active;
+    each.set(segment.get() as usize, SegmentInfo { state, stamp, used });
 }

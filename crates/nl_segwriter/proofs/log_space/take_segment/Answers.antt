@@ -11,15 +11,15 @@ taken_is old new result segment a b taken = subst (λ (o : Option ℕ). IfSome o
 pub returns-then-ne-clause-with_active : goal.returns-then-ne-clause-with_active
 returns-then-ne-clause-with_active c = λ stamp used.
     let s : Segments = c.args.table.now in
-    let lowest : lowest_clean s ≡ Some c.args.start.segment = active_or_lowest s c.args.start c.limits_hold.ensures.tidy
-    (λ e. let h = rw (c.active_place.ensures, e) at (c.if-ne.ensures) in absurd (search rules)) c.requires in
+    let lowest : lowest_clean s ≡ Some c.args.start.segment = active_or_lowest s c.args.start c.requires.limits.tidy
+    (λ e. let h = rw (c.active_place.ensures, e) at (c.if-ne.ensures) in absurd (search rules)) c.requires.place in
     let taken = taken_is s c.take_clean.new.self c.take_clean.result c.args.start.segment c.take_clean.ensures.lowest lowest c.take_clean.ensures.taken in
     rw taken (active_again s c.args.start.segment 0 0 stamp used)
 
 pub returns-then-ne-clause-with_error : goal.returns-then-ne-clause-with_error
 returns-then-ne-clause-with_error c =
     let s : Segments = c.args.table.now in
-    let lowest : lowest_clean s ≡ Some c.args.start.segment = active_or_lowest s c.args.start c.limits_hold.ensures.tidy
-    (λ e. let h = rw (c.active_place.ensures, e) at (c.if-ne.ensures) in absurd (search rules)) c.requires in
+    let lowest : lowest_clean s ≡ Some c.args.start.segment = active_or_lowest s c.args.start c.requires.limits.tidy
+    (λ e. let h = rw (c.active_place.ensures, e) at (c.if-ne.ensures) in absurd (search rules)) c.requires.place in
     let taken = taken_is s c.take_clean.new.self c.take_clean.result c.args.start.segment c.take_clean.ensures.lowest lowest c.take_clean.ensures.taken in
-    rw taken (error_again s c.args.start.segment c.limits_hold.ensures.tidy (lowest_has s c.args.start.segment c.limits_hold.ensures.tidy lowest))
+    rw taken (error_again s c.args.start.segment c.requires.limits.tidy (lowest_has s c.args.start.segment c.requires.limits.tidy lowest))

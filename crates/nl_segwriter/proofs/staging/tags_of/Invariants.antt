@@ -1,6 +1,6 @@
 use Rattle.std.proofs.Common.{◌≡◌, map, take}
-use Rattle.nl_segwriter.specs.Content.{tag_of}
+use Rattle.nl_segwriter.specs.Content.{payload_tag}
 use Rattle.nl_segwriter.proofs.staging.tags_of.Given as goal
 
 abbrev pub invariant-loop-tag : goal.invariant-loop-tag
-invariant-loop-tag l = l.tags.items ≡ map tag_of (take l.tag-index l.items)
+invariant-loop-tag l = l.tags.items ≡ map payload_tag (take l.tag-index l.items)

@@ -15,7 +15,7 @@ set-requires c = rw c.get-at.ensures (c.requires.there c.in-Some.segment c.in-So
 pub returns-in-Some : goal.returns-in-Some
 returns-in-Some c =
     let one = rests_one c.args.each.now c.in-Some.segment (subst (IsActiveIn c.args.each.now) c.in-Some.is c.requires) in
-    c.set.ensures ∙ rw (c.get-at.ensures, c.as_slice.ensures) (sym one)
+    c.set.ensures.set ∙ rw (c.get-at.ensures, c.as_slice.ensures) (sym one)
 
 pub returns-in_default : goal.returns-in_default
 returns-in_default c = rests_none c.args.each.now (subst (IsActiveIn c.args.each.now) c.in_default.is c.requires)

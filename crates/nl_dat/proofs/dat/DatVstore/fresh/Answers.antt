@@ -44,7 +44,7 @@ returns-clause-lacks_space g c =
     subst (λ f. MatchOption c.first_free.result (AreInUse table f (length table)) (IsFirstFree table f)) first
     (subst (λ t. MatchOption c.first_free.result (AreInUse t (c.max-first.result + 1) (length t)) (IsFirstFree t (c.max-first.result + 1))) c.as_slice.ensures c.first_free.ensures) in
     let fits = subst (λ (s : Store). Fits (capacity s) (content_in s) changes) (sym c.self.view_is) c.requires in
-    let tidy = subst AreTidy c.table.ensures c.limits_hold.ensures.tidy in
+    let tidy = (g.met.S.Space.limits c.self.inside.space).tidy in
     subst (λ r. OnErr r (LacksSpaceFrom c.args.self.now.segments (length changes.births + 1))) (sym c.ok_or.ensures.value)
     (subst (λ (s : Store). OnErr (ok_or c.first_free.result NoSpace) (LacksSpaceFrom s.segments (length changes.births + 1))) c.self.view_is
     (none_or _ _ _ c.first_free.result NoSpace found

@@ -1,20 +1,21 @@
 use Rattle.std.proofs.Common.{◌≡◌, ℕ, ◌+◌, ◌*◌, ◌≤◌, Some, List, Option, ap, subst, ◌∙◌, length, arith}
 use Rattle.nl_types.specs.Segments.{Segments, AreTidy, info_of}
 use Rattle.nl_types.proofs.SegmentChanges.{room_of}
-use Rattle.nl_segwriter.specs.Content.{Content as Space}
+use Rattle.nl_segwriter.specs.Content.{SpaceContent}
 use Rattle.nl_dat.specs.declared.entries.DatEntry.{DatEntry}
 use Rattle.nl_dat.specs.declared.reclaim.TakenOut.{TakenOut}
 use Rattle.nl_dat.specs.Table.{entry_in, addresses_of}
 use Rattle.nl_dat.specs.Stores.{IsReclaimed}
 use Rattle.nl_dat.specs.Inside.{births_in, store_of}
 use Rattle.nl_dat.specs.TakenOut.{HasTakenOut}
-use Rattle.nl_dat.proofs.SoundTable.{IsSound-apart}
+use Rattle.nl_dat.proofs.SoundTable.{HaveOwnPayload-apart}
 use Rattle.nl_dat.proofs.Positions.{tagged-row}
 use Rattle.nl_dat.proofs.Reclaiming.{table-reclaimed, is_reclaimed}
+use Rattle.nl_dat.proofs.StoreOf.{is_store}
 use Rattle.nl_dat.proofs.dat.DatVstore.reclaim.Goals as goal
 
 -- the row of a segment begins at its first block
-first_of : (space : Space) (lent : Segments) (segment read blocks : ℕ) → read ≡ segment → blocks ≡ lent.blocks → lent ≡ space.segments → read * blocks ≡ segment * space.segments.blocks
+first_of : (space : SpaceContent) (lent : Segments) (segment read blocks : ℕ) → read ≡ segment → blocks ≡ lent.blocks → lent ≡ space.segments → read * blocks ≡ segment * space.segments.blocks
 first_of space lent segment read blocks read_is blocks_is lent_is = ap (λ n. n * blocks) read_is ∙ ap (λ n. segment * n) (blocks_is ∙ ap (λ (s : Segments). s.blocks) lent_is)
 
 -- what was taken out, by the first block and the length of the row
@@ -23,13 +24,13 @@ taken_from first other count used old new taken at as_many h = subst (λ n. HasT
 
 pub take_out-taken-requires-clause-apart : goal.take_out-taken-requires-clause-apart
 take_out-taken-requires-clause-apart g c = λ v w b at_v at_w.
-    IsSound-apart (addresses_of (entry_in c.self.inside.table)) (births_in (g.S.Space.content c.self.inside.space)) v w b c.self.invariant.sound at_v at_w
+    HaveOwnPayload-apart (addresses_of (entry_in c.self.inside.table)) (births_in (g.S.Space.content c.self.inside.space)) v w b c.self.invariant.sound at_v at_w
 
 pub take_out-taken-requires-clause-tagged : goal.take_out-taken-requires-clause-tagged
 take_out-taken-requires-clause-tagged g c = λ k v within at.
     let space = g.S.Space.content c.self.inside.space in
-    let tidy = subst AreTidy c.table-segments.ensures c.limits_hold.ensures.tidy in
-    let first = first_of space c.table-segments.result.now c.args.segment c.get.result c.blocks-2.result c.get.ensures c.blocks-2.ensures c.table-segments.ensures in
+    let tidy = (g.met.S.Space.limits c.self.inside.space).tidy in
+    let first = first_of space c.table-segments.result.now c.args.segment c.get.result c.blocks-2.result c.get.ensures c.blocks-2.ensures.blocks c.table-segments.ensures in
     let room : (info_of space.segments.each c.args.segment).used ≤ space.segments.blocks = room_of space.segments.blocks space.segments.each tidy.each c.args.segment in
     tagged-row c.self.inside.table (c.self.inside.filled + 1) space c.summary-row.result.now c.args.segment k v tidy c.self.invariant c.summary-row.ensures.count c.summary-row.ensures.each
     (omega (arith, within, c.summary-row.ensures.count, room)) (at ∙ ap (λ n. Some (n + k)) first)
@@ -38,8 +39,8 @@ pub invariant_of-self : goal.invariant_of-self
 invariant_of-self g c =
     let old = g.S.Space.content c.self.inside.space in
     let later = g.S.Space.content c.free.new.self in
-    let tidy = subst AreTidy c.table-segments.ensures c.limits_hold.ensures.tidy in
-    let first = first_of old c.table-segments.result.now c.args.segment c.get.result c.blocks-2.result c.get.ensures c.blocks-2.ensures c.table-segments.ensures in
+    let tidy = (g.met.S.Space.limits c.self.inside.space).tidy in
+    let first = first_of old c.table-segments.result.now c.args.segment c.get.result c.blocks-2.result c.get.ensures c.blocks-2.ensures.blocks c.table-segments.ensures in
     let out = taken_from (c.get.result * c.blocks-2.result) (c.args.segment * old.segments.blocks) (length c.summary-row.result.now) (info_of old.segments.each c.args.segment).used c.self.inside.table c.take_out-taken.new.table c.take_out-taken.result first c.summary-row.ensures.count c.take_out-taken.ensures in
     table-reclaimed c.self.inside.table c.take_out-taken.new.table c.self.inside.filled c.filled_after-self-inside.result c.args.segment old later (g.S.Space.failure_count c.self.inside.space) (g.S.Space.failure_count c.free.new.self) c.take_out-taken.result
     c.self.invariant tidy c.free.ensures.freed out c.filled_after-self-inside.ensures.most c.filled_after-self-inside.ensures.below
@@ -48,9 +49,13 @@ pub returns-clause-reclaimed : goal.returns-clause-reclaimed
 returns-clause-reclaimed g c =
     let old = g.S.Space.content c.self.inside.space in
     let later = g.S.Space.content c.free.new.self in
-    let tidy = subst AreTidy c.table-segments.ensures c.limits_hold.ensures.tidy in
-    let first = first_of old c.table-segments.result.now c.args.segment c.get.result c.blocks-2.result c.get.ensures c.blocks-2.ensures c.table-segments.ensures in
+    let tidy = (g.met.S.Space.limits c.self.inside.space).tidy in
+    let first = first_of old c.table-segments.result.now c.args.segment c.get.result c.blocks-2.result c.get.ensures c.blocks-2.ensures.blocks c.table-segments.ensures in
     let out = taken_from (c.get.result * c.blocks-2.result) (c.args.segment * old.segments.blocks) (length c.summary-row.result.now) (info_of old.segments.each c.args.segment).used c.self.inside.table c.take_out-taken.new.table c.take_out-taken.result first c.summary-row.ensures.count c.take_out-taken.ensures in
     subst (λ s. IsReclaimed c.args.segment c.take_out-taken.result.count s (store_of c.take_out-taken.new.table later (g.S.Space.failure_count c.free.new.self))) c.self.view_is
     (is_reclaimed c.self.inside.table c.take_out-taken.new.table c.self.inside.filled c.filled_after-self-inside.result c.args.segment old later (g.S.Space.failure_count c.self.inside.space) (g.S.Space.failure_count c.free.new.self) c.take_out-taken.result
     c.self.invariant tidy c.free.ensures.freed out c.filled_after-self-inside.ensures.most c.filled_after-self-inside.ensures.below)
+
+pub returns-clause-is_store : goal.returns-clause-is_store
+returns-clause-is_store g c =
+    is_store c.take_out-taken.new.table (c.filled_after-self-inside.result + 1) (g.S.Space.content c.free.new.self) (g.S.Space.failure_count c.free.new.self) (invariant_of-self g c) (g.met.S.Space.limits c.free.new.self).tidy (g.met.S.Space.whole_logs c.free.new.self) (g.met.S.Space.holds_only_used c.free.new.self) (g.met.S.Space.have_logs c.free.new.self)

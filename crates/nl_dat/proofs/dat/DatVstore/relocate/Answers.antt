@@ -5,7 +5,7 @@ use Rattle.std.proofs.lemmas.Result.{err_from_is_err_and}
 use Rattle.std.proofs.lemmas.List.{length-map}
 use Rattle.nl_types.specs.Segments.{AreTidy, IsClosed, StaysUsed}
 use Rattle.nl_types.specs.PartialMaps.{adjust_each}
-use Rattle.nl_segwriter.specs.Content.{Payload, Content as Space, KeepsUsed}
+use Rattle.nl_segwriter.specs.Content.{Payload, SpaceContent, KeepsUsed}
 use Rattle.nl_segwriter.specs.Appended.{IsAppended}
 use Rattle.nl_dat.specs.declared.entries.DatEntry.{DatEntry}
 use Rattle.nl_dat.specs.Batches.{births_of}
@@ -14,7 +14,8 @@ use Rattle.nl_dat.specs.Stores.{Store, IsMoved, IsMoveRefused, is_inside, addres
 use Rattle.nl_dat.specs.Inside.{births_in, store_of, IsTable}
 use Rattle.nl_dat.proofs.Writing.{table-kept}
 use Rattle.nl_dat.proofs.Refusals.{total-refused}
-use Rattle.nl_dat.proofs.Relocating.{IsRefused, table-moved, is_moved, move-refused, theirs-of}
+use Rattle.nl_dat.proofs.Relocating.{IsRefused, table-moved, is_moved, move-refused, load-refused, theirs-of}
+use Rattle.nl_dat.proofs.StoreOf.{is_store}
 use Rattle.nl_dat.proofs.dat.DatVstore.relocate.Goals as goal
 
 pub invariant_of-self-in_err-blocks : goal.invariant_of-self-in_err-blocks
@@ -26,7 +27,7 @@ invariant_of-self-in_err-blocks g c =
     (total-refused mid later false c.args.now c.args.checkpoint c.deref.result.now c.in_err-blocks.field-0.0 e.errors (λ is. ap g.S.Space.content (e.no_space_same (ap Err is))) (λ is. ap g.S.Space.content (e.memory_same (ap Err is))) (λ is. e.broken_off (ap Err is)))
 
 -- as many were read as were asked for
-read-count : (table : List (Option DatEntry)) (space : Space) (numbers : List ℕ) (payload read : List Payload) → map (stored_at (entry_in table) (births_in space)) numbers ≡ map Some (births_of payload) → read ≡ payload → length read ≡ length numbers
+read-count : (table : List (Option DatEntry)) (space : SpaceContent) (numbers : List ℕ) (payload read : List Payload) → map (stored_at (entry_in table) (births_in space)) numbers ≡ map Some (births_of payload) → read ≡ payload → length read ≡ length numbers
 read-count table space numbers payload read loaded is =
     ap length is ∙ sym (length-map payload Rattle.nl_dat.specs.Batches.birth_of_item) ∙ sym (length-map (births_of payload) Some) ∙ sym (ap length loaded) ∙ length-map numbers (stored_at (entry_in table) (births_in space))
 
@@ -50,11 +51,11 @@ returns-in_err-blocks-clause-refused g c =
       risen = λ is. e.fault (ap Err is);
       broken = λ is. e.broken_off (ap Err is);
     } in
-    rw (p.1, p.2) (subst (λ s. IsMoveRefused c.args.checkpoint c.args.now c.args.numbers.now c.in_err-blocks.field-0.0 s (store_of table later after)) c.self.view_is
+    rw (p.1, p.2) (subst (λ s. IsMoveRefused c.args.checkpoint c.args.now c.args.numbers.now s (store_of table later after) c.in_err-blocks.field-0.0) c.self.view_is
     (move-refused table (c.self.inside.filled + 1) old later before (g.S.Space.failure_count c.load_all.new.space) after c.args.checkpoint c.args.now c.args.numbers.now c.deref.result.now c.in_err-blocks.field-0.0
-    (subst AreTidy c.table.ensures c.limits_hold.ensures.tidy) c.self.invariant (theirs-of table (c.self.inside.filled + 1) old before c.args.numbers.now c.deref.result.now c.self.invariant loaded)
-    (subst (λ (m : Space). KeepsUsed m.segments m later) same e.kept) c.load_all.ensures.counted
-    (subst (λ (m : Space). IsRefused false c.args.now c.args.checkpoint c.deref.result.now c.in_err-blocks.field-0.0 m later (g.S.Space.failure_count c.load_all.new.space) after) same refused)))
+    (g.met.S.Space.limits c.self.inside.space).tidy c.self.invariant (theirs-of table (c.self.inside.filled + 1) old before c.args.numbers.now c.deref.result.now c.self.invariant loaded)
+    (subst (λ (m : SpaceContent). KeepsUsed m.segments m later) same e.kept) c.load_all.ensures.counted
+    (subst (λ (m : SpaceContent). IsRefused false c.args.now c.args.checkpoint c.deref.result.now c.in_err-blocks.field-0.0 m later (g.S.Space.failure_count c.load_all.new.space) after) same refused)))
 
 -- as many blocks were answered as there are numbers
 pub move_entries-requires-clause-each : goal.move_entries-requires-clause-each
@@ -74,7 +75,7 @@ invariant_of-self-2 g c =
     let loaded = ap (λ t. map (stored_at (entry_in t) (births_in old)) c.args.numbers.now) (sym c.as_slice.ensures) ∙ c.in_ok-payload.ensures.payload ∙ ap (λ items. map Some (births_of items)) (sym c.deref.ensures.value) in
     table-moved table c.move_entries.new.table (c.self.inside.filled + 1) old later (g.S.Space.failure_count c.self.inside.space) (g.S.Space.failure_count c.append.new.self) c.args.checkpoint c.args.now c.args.segment c.args.numbers.now c.in_ok-blocks.blocks.items c.deref.result.now
     c.self.invariant loaded (subst (λ m. IsAppended m later false c.args.now c.args.checkpoint c.deref.result.now c.in_ok-blocks.blocks.items) same e.appended)
-    (subst (λ (m : Space). KeepsUsed m.segments m later) same e.kept) (subst (λ (m : Space). StaysUsed m.segments later.segments) same e.stays)
+    (subst (λ (m : SpaceContent). KeepsUsed m.segments m later) same e.kept) (subst (λ (m : SpaceContent). StaysUsed m.segments later.segments) same e.stays)
     (c.move_entries.ensures.entries ∙ ap (λ bs. adjust_each moved_entry c.args.numbers.now bs (entry_in table)) c.deref-2.ensures.value) c.move_entries.ensures.length
 
 pub returns-clause-moved : goal.returns-clause-moved
@@ -88,7 +89,29 @@ returns-clause-moved g c =
     subst (λ s. IsMoved c.args.segment c.args.checkpoint c.args.now c.args.numbers.now s (store_of c.move_entries.new.table later (g.S.Space.failure_count c.append.new.self))) c.self.view_is
     (is_moved table c.move_entries.new.table (c.self.inside.filled + 1) old later (g.S.Space.failure_count c.self.inside.space) (g.S.Space.failure_count c.append.new.self) c.args.checkpoint c.args.now c.args.segment c.args.numbers.now c.in_ok-blocks.blocks.items c.deref.result.now
     c.self.invariant loaded (subst (λ m. IsAppended m later false c.args.now c.args.checkpoint c.deref.result.now c.in_ok-blocks.blocks.items) same e.appended)
-    (subst (λ (m : Space). KeepsUsed m.segments m later) same e.kept) (subst (λ (m : Space). StaysUsed m.segments later.segments) same e.stays)
+    (subst (λ (m : SpaceContent). KeepsUsed m.segments m later) same e.kept) (subst (λ (m : SpaceContent). StaysUsed m.segments later.segments) same e.stays)
     (c.move_entries.ensures.entries ∙ ap (λ bs. adjust_each moved_entry c.args.numbers.now bs (entry_in table)) c.deref-2.ensures.value) c.move_entries.ensures.length
-    (subst AreTidy c.table.ensures c.limits_hold.ensures.tidy) (subst (λ (s : Store). IsClosed s.segments c.args.segment) (sym c.self.view_is) c.requires.closed)
+    (g.met.S.Space.limits c.self.inside.space).tidy (subst (λ (s : Store). IsClosed s.segments c.args.segment) (sym c.self.view_is) c.requires.closed)
     (subst (λ (s : Store). All (λ v. is_inside s.segments c.args.segment (address_in s v) ≡ true) c.args.numbers.now) (sym c.self.view_is) c.requires.inside))
+
+pub returns-in_err-payload-clause-is_store : goal.returns-in_err-payload-clause-is_store
+returns-in_err-payload-clause-is_store g c =
+    is_store c.self.inside.table (c.self.inside.filled + 1) (g.S.Space.content c.load_all.new.space) (g.S.Space.failure_count c.load_all.new.space)
+    (subst (IsTable c.self.inside.table (c.self.inside.filled + 1)) (sym c.load_all.ensures.same) c.self.invariant) (g.met.S.Space.limits c.load_all.new.space).tidy (g.met.S.Space.whole_logs c.load_all.new.space) (g.met.S.Space.holds_only_used c.load_all.new.space) (g.met.S.Space.have_logs c.load_all.new.space)
+
+pub returns-in_err-blocks-clause-is_store : goal.returns-in_err-blocks-clause-is_store
+returns-in_err-blocks-clause-is_store g c =
+    is_store c.self.inside.table (c.self.inside.filled + 1) (g.S.Space.content c.append.new.self) (g.S.Space.failure_count c.append.new.self) (invariant_of-self-in_err-blocks g c) (g.met.S.Space.limits c.append.new.self).tidy (g.met.S.Space.whole_logs c.append.new.self) (g.met.S.Space.holds_only_used c.append.new.self) (g.met.S.Space.have_logs c.append.new.self)
+
+pub returns-clause-is_store : goal.returns-clause-is_store
+returns-clause-is_store g c =
+    is_store c.move_entries.new.table (c.self.inside.filled + 1) (g.S.Space.content c.append.new.self) (g.S.Space.failure_count c.append.new.self) (invariant_of-self-2 g c) (g.met.S.Space.limits c.append.new.self).tidy (g.met.S.Space.whole_logs c.append.new.self) (g.met.S.Space.holds_only_used c.append.new.self) (g.met.S.Space.have_logs c.append.new.self)
+
+pub returns-in_err-payload-clause-refused : goal.returns-in_err-payload-clause-refused
+returns-in_err-payload-clause-refused g c =
+    let p = err_from_is_err_and c.from_residual.result c.from_residual.ensures.1 in
+    let e = c.in_err-payload.ensures in
+    let later = g.S.Space.content c.load_all.new.space in
+    let after = g.S.Space.failure_count c.load_all.new.space in
+    rw (p.1, p.2) (subst (λ s. IsMoveRefused c.args.checkpoint c.args.now c.args.numbers.now s (store_of c.self.inside.table later after) c.in_err-payload.field-0.0) c.self.view_is
+    (load-refused c.self.inside.table (g.S.Space.content c.self.inside.space) later (g.S.Space.failure_count c.self.inside.space) after c.args.checkpoint c.args.now c.args.numbers.now c.in_err-payload.field-0.0 e.same e.errors (λ is. e.fault (ap Err is))))

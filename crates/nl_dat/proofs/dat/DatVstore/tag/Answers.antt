@@ -11,5 +11,5 @@ returns g c =
     let within = subst (λ (s : Store). c.args.segment < length s.segments.each) (sym c.self.view_is) c.requires.segment in
     let low = subst (λ (s : Store). c.args.position < s.segments.blocks) (sym c.self.view_is) c.requires.position in
     c.row_tag.ensures
-    ∙ subst (λ (s : Store). Rattle.std.specs.Option.option_map Rattle.nl_segwriter.specs.Content.tag_of (Rattle.std.specs.Prelude.slice_index_or c.summary.result.now c.args.position Rattle.std.proofs.Common.None) ≡ tag_in s (c.args.segment * s.segments.blocks + c.args.position)) c.self.view_is
-    (tag-row c.self.inside.table space failures c.summary.result.now c.args.segment c.args.position (subst AreTidy c.table.ensures c.limits_hold.ensures.tidy) (g.met.S.Space.holds_only_used c.self.inside.space) within low c.summary.ensures.count c.summary.ensures.each)
+    ∙ subst (λ (s : Store). Rattle.std.specs.Option.option_map Rattle.nl_segwriter.specs.Content.payload_tag (Rattle.std.specs.Prelude.slice_index_or c.summary.result.now c.args.position Rattle.std.proofs.Common.None) ≡ tag_in s (c.args.segment * s.segments.blocks + c.args.position)) c.self.view_is
+    (tag-row c.self.inside.table space failures c.summary.result.now c.args.segment c.args.position (g.met.S.Space.limits c.self.inside.space).tidy (g.met.S.Space.holds_only_used c.self.inside.space) within low c.summary.ensures.count c.summary.ensures.each)

@@ -2,7 +2,6 @@ use Rattle.std.proofs.Common.{true, ◌≡◌, ℕ, ◌+◌, ◌≤◌, List, Op
 use Rattle.std.specs.Prelude.{max, Err}
 use Rattle.std.proofs.lemmas.Result.{err_from_is_err_and}
 use Rattle.std.proofs.lemmas.List.{length-map}
-use Rattle.nl_types.specs.declared.error.VolError.TheVariants.{Fault}
 use Rattle.nl_types.specs.Entries.{number_of}
 use Rattle.nl_types.specs.PartialMaps.{put_each, adjust_all}
 use Rattle.nl_types.proofs.PartialMaps.{is_one_of-get_or}
@@ -10,23 +9,24 @@ use Rattle.nl_segwriter.specs.Content.{Payload}
 use Rattle.nl_dat.specs.declared.entries.DatEntry.{DatEntry}
 use Rattle.nl_dat.specs.Batches.{Changes, Fits, birth_of_item, births_of, items_of, last_number}
 use Rattle.nl_dat.specs.Table.{entry_in, new_entry, ended_entry}
-use Rattle.nl_dat.specs.Stores.{Store, IsWritten, IsFaulted, content_in, capacity}
+use Rattle.nl_dat.specs.Stores.{Store, IsWritten, IsWriteRefused, IsFaulted, content_in, capacity}
 use Rattle.nl_dat.specs.Inside.{store_of}
 use Rattle.nl_dat.proofs.Writing.{items_back, table-kept, table-written, is_written, live_inside, is_born_read}
-use Rattle.nl_dat.proofs.Refusals.{total-refused, is_faulted}
+use Rattle.nl_dat.proofs.Refusals.{total-refused, is_faulted, write-refused}
 use Rattle.nl_types.specs.Segments.{AreTidy, total_blocks}
 use Rattle.nl_types.specs.Placing as placing
 use Rattle.nl_types.specs.PlacingLaws.{WhatFitsHasRoom}
-use Rattle.nl_segwriter.specs.Content.{Content as Space}
+use Rattle.nl_segwriter.specs.Content.{SpaceContent}
 use Rattle.nl_segwriter.specs.Appended.{IsAppended}
 use Rattle.nl_dat.specs.Inside.{IsTable}
 use Rattle.nl_dat.proofs.FreeNumbers.{numbers-inside}
+use Rattle.nl_dat.proofs.StoreOf.{is_store}
 use Rattle.nl_dat.proofs.dat.DatVstore.write.Goals as goal
 
-inside_of : (table : List (Option DatEntry)) (lowest : ℕ) (space later : Space) (failures now c : ℕ) (changes : Changes) (items : List Payload) (at : List ℕ) → IsTable table lowest space → Fits (total_blocks space.segments) (content_in (store_of table space failures)) changes
+inside_of : (table : List (Option DatEntry)) (lowest : ℕ) (space later : SpaceContent) (failures now c : ℕ) (changes : Changes) (items : List Payload) (at : List ℕ) → IsTable table lowest space → Fits (total_blocks space.segments) (content_in (store_of table space failures)) changes
     → births_of items ≡ changes.births → WhatFitsHasRoom → AreTidy space.segments → IsAppended space later true now c items at → last_number changes.births ≤ total_blocks space.segments
 inside_of table lowest space later failures now c changes items at is_table fits items_are has_room tidy appended =
-    numbers-inside table lowest space failures changes is_table fits has_room tidy true appended.logs (subst (λ n. placing.Fits space.segments true n appended.logs) (sym (length-map items birth_of_item) ∙ ap length items_are) appended.fits)
+    numbers-inside table lowest space failures changes is_table fits has_room tidy true appended.logs (subst (λ n. placing.LogsFit space.segments true n appended.logs) (sym (length-map items birth_of_item) ∙ ap length items_are) appended.fits)
 
 pub invariant_of-self : goal.invariant_of-self
 invariant_of-self g c =
@@ -36,19 +36,24 @@ invariant_of-self g c =
     table-kept c.self.inside.table (c.self.inside.filled + 1) old later c.self.invariant e.kept e.stays
     (total-refused old later true c.args.now c.args.checkpoint c.births.result.now c.in_err-numbers.field-0.0 e.errors (λ is. ap g.S.Space.content (e.no_space_same (ap Err is))) (λ is. ap g.S.Space.content (e.memory_same (ap Err is))) (λ is. e.broken_off (ap Err is)))
 
-pub returns-in_err-numbers-clause-fault : goal.returns-in_err-numbers-clause-fault
-returns-in_err-numbers-clause-fault g c =
+pub returns-in_err-numbers-clause-refused : goal.returns-in_err-numbers-clause-refused
+returns-in_err-numbers-clause-refused g c =
     let p = err_from_is_err_and c.from_residual.result c.from_residual.ensures.1 in
+    let table = c.self.inside.table in
     let old = g.S.Space.content c.self.inside.space in
     let later = g.S.Space.content c.append.new.self in
+    let before = g.S.Space.failure_count c.self.inside.space in
+    let after = g.S.Space.failure_count c.append.new.self in
+    let changes = c.args.batch.now in
     let e = c.in_err-numbers.ensures in
-    rw (p.1, p.2) (λ is.
-    let fault : c.in_err-numbers.field-0.0 ≡ Fault = cc in
-    subst (λ s. IsFaulted true c.args.checkpoint c.args.now (items_of c.args.batch.now.births) s (store_of c.self.inside.table later (g.S.Space.failure_count c.append.new.self))) c.self.view_is
-    (subst (λ (payload : List Payload). IsFaulted true c.args.checkpoint c.args.now payload (store_of c.self.inside.table old (g.S.Space.failure_count c.self.inside.space)) (store_of c.self.inside.table later (g.S.Space.failure_count c.append.new.self)))
-    (items_back c.births.result.now ∙ ap items_of c.births.ensures)
-    (is_faulted c.self.inside.table (c.self.inside.filled + 1) old later (g.S.Space.failure_count c.self.inside.space) (g.S.Space.failure_count c.append.new.self) true c.args.now c.args.checkpoint c.births.result.now
-    (subst AreTidy c.table.ensures c.limits_hold.ensures.tidy) c.self.invariant e.kept (e.fault (ap Err fault)) (e.broken_off (ap Err fault)))))
+    let count : length c.births.result.now ≡ length changes.births = sym (length-map c.births.result.now birth_of_item) ∙ ap length c.births.ensures in
+    rw (p.1, p.2) (subst (λ s. IsWriteRefused c.args.checkpoint c.args.now changes s (store_of table later after) c.in_err-numbers.field-0.0) c.self.view_is
+    (write-refused c.args.checkpoint c.args.now changes (store_of table old before) (store_of table later after) c.in_err-numbers.field-0.0 e.errors
+    (λ is. subst (placing.LacksSpace old.segments true) count (e.no_space (ap Err is)))
+    (λ is. ap (λ s. store_of table (g.S.Space.content s) (g.S.Space.failure_count s)) (e.no_space_same (ap Err is)))
+    (λ is. ap (λ s. store_of table (g.S.Space.content s) (g.S.Space.failure_count s)) (e.memory_same (ap Err is)))
+    (λ is. subst (λ (payload : List Payload). IsFaulted true c.args.checkpoint c.args.now payload (store_of table old before) (store_of table later after)) (items_back c.births.result.now ∙ ap items_of c.births.ensures)
+    (is_faulted table (c.self.inside.filled + 1) old later before after true c.args.now c.args.checkpoint c.births.result.now (g.met.S.Space.limits c.self.inside.space).tidy c.self.invariant e.kept (e.fault (ap Err is)) (e.broken_off (ap Err is))))))
 
 pub end_entries-requires : goal.end_entries-requires
 end_entries-requires g c =
@@ -61,7 +66,7 @@ pub enter_births-requires-clause-inside : goal.enter_births-requires-clause-insi
 enter_births-requires-clause-inside g c =
     let births = c.args.batch.now.births in
     let fits = subst (λ (s : Store). Fits (capacity s) (content_in s) c.args.batch.now) (sym c.self.view_is) c.requires in
-    let low = inside_of c.self.inside.table (c.self.inside.filled + 1) (g.S.Space.content c.self.inside.space) (g.S.Space.content c.append.new.self) (g.S.Space.failure_count c.self.inside.space) c.args.now c.args.checkpoint c.args.batch.now c.births.result.now c.in_ok-numbers.numbers.items c.self.invariant fits c.births.ensures c.payload_goes_to_unused_blocks.ensures.room (subst AreTidy c.table.ensures c.limits_hold.ensures.tidy) c.in_ok-numbers.ensures.appended in
+    let low = inside_of c.self.inside.table (c.self.inside.filled + 1) (g.S.Space.content c.self.inside.space) (g.S.Space.content c.append.new.self) (g.S.Space.failure_count c.self.inside.space) c.args.now c.args.checkpoint c.args.batch.now c.births.result.now c.in_ok-numbers.numbers.items c.self.invariant fits c.births.ensures c.payload_goes_to_unused_blocks.ensures.room (g.met.S.Space.limits c.self.inside.space).tidy c.in_ok-numbers.ensures.appended in
     rw (c.births-2.ensures, c.end_entries.ensures.length) (λ k d within.
     let upto : number_of (get_or births k d) ≤ last_number births = fits.upto_last _ (is_born_read births k d within) in
     omega (arith, upto, low, c.self.invariant.full))
@@ -83,7 +88,7 @@ invariant_of-self-2 g c =
     let fits = subst (λ (s : Store). Fits (capacity s) (content_in s) changes) (sym c.self.view_is) c.requires in
     let lowest : c.max-self-inside.result + 1 ≡ max (c.self.inside.filled + 1) (last_number changes.births + 1) = omega (arith, c.max-self-inside.ensures, c.get.ensures, c.last_number.ensures) in
     let is_new = both c.args.checkpoint changes c.births-2.result.now c.ends.result.now c.in_ok-numbers.numbers.items c.deref.result.now c.self.inside.table c.end_entries.new.table c.enter_births.new.table c.births-2.ensures c.ends.ensures c.deref.ensures.value c.end_entries.ensures.entries c.enter_births.ensures.entries in
-    let low = inside_of c.self.inside.table (c.self.inside.filled + 1) old later (g.S.Space.failure_count c.self.inside.space) c.args.now c.args.checkpoint changes c.births.result.now c.in_ok-numbers.numbers.items c.self.invariant fits c.births.ensures c.payload_goes_to_unused_blocks.ensures.room (subst AreTidy c.table.ensures c.limits_hold.ensures.tidy) e.appended in
+    let low = inside_of c.self.inside.table (c.self.inside.filled + 1) old later (g.S.Space.failure_count c.self.inside.space) c.args.now c.args.checkpoint changes c.births.result.now c.in_ok-numbers.numbers.items c.self.invariant fits c.births.ensures c.payload_goes_to_unused_blocks.ensures.room (g.met.S.Space.limits c.self.inside.space).tidy e.appended in
     rw lowest (table-written c.self.inside.table c.enter_births.new.table (c.self.inside.filled + 1) old later (g.S.Space.failure_count c.self.inside.space) (g.S.Space.failure_count c.append.new.self) c.args.checkpoint c.args.now changes c.births.result.now c.in_ok-numbers.numbers.items
     c.self.invariant fits c.births.ensures e.appended e.kept e.stays is_new (c.enter_births.ensures.length ∙ c.end_entries.ensures.length) low)
 
@@ -95,7 +100,15 @@ returns-clause-written g c =
     let e = c.in_ok-numbers.ensures in
     let fits = subst (λ (s : Store). Fits (capacity s) (content_in s) changes) (sym c.self.view_is) c.requires in
     let is_new = both c.args.checkpoint changes c.births-2.result.now c.ends.result.now c.in_ok-numbers.numbers.items c.deref.result.now c.self.inside.table c.end_entries.new.table c.enter_births.new.table c.births-2.ensures c.ends.ensures c.deref.ensures.value c.end_entries.ensures.entries c.enter_births.ensures.entries in
-    let low = inside_of c.self.inside.table (c.self.inside.filled + 1) old later (g.S.Space.failure_count c.self.inside.space) c.args.now c.args.checkpoint changes c.births.result.now c.in_ok-numbers.numbers.items c.self.invariant fits c.births.ensures c.payload_goes_to_unused_blocks.ensures.room (subst AreTidy c.table.ensures c.limits_hold.ensures.tidy) e.appended in
+    let low = inside_of c.self.inside.table (c.self.inside.filled + 1) old later (g.S.Space.failure_count c.self.inside.space) c.args.now c.args.checkpoint changes c.births.result.now c.in_ok-numbers.numbers.items c.self.invariant fits c.births.ensures c.payload_goes_to_unused_blocks.ensures.room (g.met.S.Space.limits c.self.inside.space).tidy e.appended in
     subst (λ s. IsWritten c.args.checkpoint c.args.now changes s (store_of c.enter_births.new.table later (g.S.Space.failure_count c.append.new.self))) c.self.view_is
     (is_written c.self.inside.table c.enter_births.new.table (c.self.inside.filled + 1) old later (g.S.Space.failure_count c.self.inside.space) (g.S.Space.failure_count c.append.new.self) c.args.checkpoint c.args.now changes c.births.result.now c.in_ok-numbers.numbers.items
-    c.self.invariant fits c.births.ensures e.appended e.kept e.stays is_new (c.enter_births.ensures.length ∙ c.end_entries.ensures.length) low (subst AreTidy c.table.ensures c.limits_hold.ensures.tidy))
+    c.self.invariant fits c.births.ensures e.appended e.kept e.stays is_new (c.enter_births.ensures.length ∙ c.end_entries.ensures.length) low (g.met.S.Space.limits c.self.inside.space).tidy)
+
+pub returns-in_err-numbers-clause-is_store : goal.returns-in_err-numbers-clause-is_store
+returns-in_err-numbers-clause-is_store g c =
+    is_store c.self.inside.table (c.self.inside.filled + 1) (g.S.Space.content c.append.new.self) (g.S.Space.failure_count c.append.new.self) (invariant_of-self g c) (g.met.S.Space.limits c.append.new.self).tidy (g.met.S.Space.whole_logs c.append.new.self) (g.met.S.Space.holds_only_used c.append.new.self) (g.met.S.Space.have_logs c.append.new.self)
+
+pub returns-clause-is_store : goal.returns-clause-is_store
+returns-clause-is_store g c =
+    is_store c.enter_births.new.table (c.max-self-inside.result + 1) (g.S.Space.content c.append.new.self) (g.S.Space.failure_count c.append.new.self) (invariant_of-self-2 g c) (g.met.S.Space.limits c.append.new.self).tidy (g.met.S.Space.whole_logs c.append.new.self) (g.met.S.Space.holds_only_used c.append.new.self) (g.met.S.Space.have_logs c.append.new.self)

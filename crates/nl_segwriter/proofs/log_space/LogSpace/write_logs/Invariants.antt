@@ -3,7 +3,7 @@ use Rattle.std.specs.List.{AllByRecursion}
 use Rattle.std.specs.Vec.Iter.{into_iter_items, into_iter_len}
 use Rattle.nl_types.specs.Segments.{Segments, StaysUsed, AreTidy}
 use Rattle.nl_types.specs.Placing.{AreNextLogs, with_logs}
-use Rattle.nl_segwriter.specs.Content.{Content, KeepsUsed, IsSameAt}
+use Rattle.nl_segwriter.specs.Content.{SpaceContent, KeepsUsed, IsSameAt}
 use Rattle.nl_segwriter.specs.Appended.{IsOutside}
 use Rattle.nl_segwriter.specs.Staging.{IsReady, logs_of}
 use Rattle.nl_segwriter.specs.Writing.{content_of, LogsStand, BreaksOff}
@@ -29,10 +29,10 @@ invariant-loop-staged g l =
       ready : AllByRecursion IsReady rest;
       stamps : AllByRecursion (λ x. x.stamp ≡ l.now) rest;
       table : with_logs l.self.table (logs_of rest) l.now ≡ with_logs start.table (logs_of all) l.now;
-      broken : (later : Content) → KeepsUsed l.self.table now later → BreaksOff l.now rest now later → BreaksOff l.now all before later;
+      broken : (later : SpaceContent) → KeepsUsed l.self.table now later → BreaksOff l.now rest now later → BreaksOff l.now all before later;
       counted : device.failure_count start.device ≤ device.failure_count l.self.device;
       kept : KeepsUsed start.table before now;
       stays : StaysUsed start.table l.self.table;
       others : (b : ℕ) → AllByRecursion (IsOutside start.table.blocks b) (logs_of all) → AllByRecursion (IsOutside start.table.blocks b) (logs_of rest) × IsSameAt before now b;
-      stand : (later : Content) → KeepsUsed l.self.table now later → LogsStand start.table.blocks rest later.held later.stored → LogsStand start.table.blocks all later.held later.stored;
+      stand : (later : SpaceContent) → KeepsUsed l.self.table now later → LogsStand start.table.blocks rest later.held later.stored → LogsStand start.table.blocks all later.held later.stored;
     }

@@ -2,7 +2,7 @@ use Rattle.std.proofs.Common.{◌≡◌, ◌*◌, ◌<◌, length, ap, sym, ◌�
 use Rattle.nl_types.specs.declared.geometry.Geometry.{Geometry}
 use Rattle.nl_types.specs.Segments.{Segments}
 use Rattle.nl_types.proofs.UsedParts.{used_inside}
-use Rattle.nl_device.specs.Pages.{Pages}
+use Rattle.nl_device.specs.Pages.{DevicePages}
 use Rattle.nl_segwriter.specs.Logs.{AreWholeLogs}
 use Rattle.nl_segwriter.specs.Writing.{content_of}
 use Rattle.nl_segwriter.proofs.WholeLogs.{used_stored}
@@ -11,7 +11,7 @@ use Rattle.nl_segwriter.proofs.log_space.LogSpaceSpace.load.Goals as goal
 pub get-requires : goal.get-requires
 get-requires g c =
     let s : Segments = c.args.self.now.table in
-    let inside : c.args.number < length s.each * s.blocks = used_inside s c.args.number c.limits_hold.ensures.tidy c.requires in
+    let inside : c.args.number < length s.each * s.blocks = used_inside s c.args.number c.args.self.now.limits.tidy c.requires in
     rw (c.args.self.now.segment_count, c.args.self.now.segment_size) at inside
 
 pub invariant_of-self : goal.invariant_of-self
@@ -23,10 +23,11 @@ invariant_of-self g c =
     record {
       segment_size = c.args.self.now.segment_size ∙ ap (λ (x : Geometry). x.blocks) shape;
       segment_count = c.args.self.now.segment_count ∙ ap (λ (x : Geometry). x.segments) shape;
+      limits = c.args.self.now.limits;
       sized = c.args.self.now.sized ∙ ap (λ (x : Geometry). x.segments * x.blocks) shape;
       unheld = c.args.self.now.unheld;
       logged = c.args.self.now.logged;
-      whole = subst (λ (pages : Pages). AreWholeLogs (content_of s table pages)) same c.args.self.now.whole;
+      whole = subst (λ (pages : DevicePages). AreWholeLogs (content_of s table pages)) same c.args.self.now.whole;
     }
 
 pub unreachable-requires : goal.unreachable-requires

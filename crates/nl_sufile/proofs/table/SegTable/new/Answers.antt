@@ -3,3 +3,6 @@ use Rattle.nl_sufile.proofs.table.SegTable.new.Goals as goal
 
 pub invariant_of-result : goal.invariant_of-result
 invariant_of-result c = rw c.in_ok-each.ensures (table_new c.args.geometry)
+
+pub returns-clause-limits : goal.returns-clause-limits
+returns-clause-limits c = rw c.in_ok-each.ensures (table_new c.args.geometry).0
