@@ -9,7 +9,7 @@ use Rattle.nl_types.specs.Paths.{Name}
 use Rattle.nl_types.specs.Roots.{Pages}
 use Rattle.nl_core.specs.Content.{file_in, no_file, slot_at, slot_in, IsTidy, IsPlaced, IsMarkedOver}
 use Rattle.nl_core.specs.Changes.{empty_file}
-use Rattle.nl_core.specs.Over.{IsWritten}
+use Rattle.nl_core.specs.Over.{HasBytesOver}
 use Rattle.nl_core.specs.Tables.{KeepsBlocks}
 use Rattle.nl_core.specs.Volume.{Lists, Volume, IsSoundVolume, kept_by, over}
 use Rattle.nl_core.specs.declared.file.File.{File}
@@ -61,7 +61,7 @@ sound-created v name room sound =
 
 -- ---- a written file
 
-pub sound-written : (v : Volume) (index offset : ℕ) (bytes : List ℕ) (f : File) → index < length v.files → IsSoundVolume v → IsWritten v.pages (file_in v.latest.files index).slots offset bytes (file_in v.files index) f
+pub sound-written : (v : Volume) (index offset : ℕ) (bytes : List ℕ) (f : File) → index < length v.files → IsSoundVolume v → HasBytesOver v.pages (file_in v.latest.files index).slots offset bytes (file_in v.files index) f
     → IsSoundVolume (record v { files = set v.files index f; dirty = true })
 sound-written v index offset bytes f within sound written = record {
   few = omega (arith, length-set v.files index f, sound.few);
@@ -79,8 +79,8 @@ sound-written v index offset bytes f within sound written = record {
 }
 
 -- the same slots of the latest checkpoint serve
-IsWritten-latest : (pages : Pages) (a b : List Slot) (offset : ℕ) (bytes : List ℕ) (old new : File) → ((i : ℕ) → slot_in a i ≡ slot_in b i) → IsWritten pages a offset bytes old new → IsWritten pages b offset bytes old new
-IsWritten-latest pages a b offset bytes old new same written = record {
+HasBytesOver-latest : (pages : Pages) (a b : List Slot) (offset : ℕ) (bytes : List ℕ) (old new : File) → ((i : ℕ) → slot_in a i ≡ slot_in b i) → HasBytesOver pages a offset bytes old new → HasBytesOver pages b offset bytes old new
+HasBytesOver-latest pages a b offset bytes old new same written = record {
   name = written.name;
   content = written.content;
   made = written.made;
@@ -91,12 +91,12 @@ IsWritten-latest pages a b offset bytes old new same written = record {
 }
 
 -- a write of a file at its place in a volume
-pub IsWritten-in : (v : Volume) (index : ℕ) (pages : Pages) (latest : List Slot) (offset : ℕ) (bytes : List ℕ) (old new : File) → pages ≡ v.pages → ((i : ℕ) → slot_in latest i ≡ slot_at v.latest.files index i) → old ≡ file_in v.files index
-    → IsWritten pages latest offset bytes old new → IsWritten v.pages (file_in v.latest.files index).slots offset bytes (file_in v.files index) new
-IsWritten-in v index pages latest offset bytes old new table_is latest_is old_is written =
-    subst (λ t. IsWritten t (file_in v.latest.files index).slots offset bytes (file_in v.files index) new) table_is
-    (subst (λ f. IsWritten pages (file_in v.latest.files index).slots offset bytes f new) old_is
-    (IsWritten-latest pages latest (file_in v.latest.files index).slots offset bytes old new latest_is written))
+pub HasBytesOver-in : (v : Volume) (index : ℕ) (pages : Pages) (latest : List Slot) (offset : ℕ) (bytes : List ℕ) (old new : File) → pages ≡ v.pages → ((i : ℕ) → slot_in latest i ≡ slot_at v.latest.files index i) → old ≡ file_in v.files index
+    → HasBytesOver pages latest offset bytes old new → HasBytesOver v.pages (file_in v.latest.files index).slots offset bytes (file_in v.files index) new
+HasBytesOver-in v index pages latest offset bytes old new table_is latest_is old_is written =
+    subst (λ t. HasBytesOver t (file_in v.latest.files index).slots offset bytes (file_in v.files index) new) table_is
+    (subst (λ f. HasBytesOver pages (file_in v.latest.files index).slots offset bytes f new) old_is
+    (HasBytesOver-latest pages latest (file_in v.latest.files index).slots offset bytes old new latest_is written))
 
 -- ---- the fields that a method has written
 

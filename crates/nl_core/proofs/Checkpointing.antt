@@ -19,12 +19,11 @@ use Rattle.nl_types.specs.Runs.{Step}
 use Rattle.nl_types.specs.Worlds.{World, Reply, step, latest}
 use Rattle.nl_types.specs.Placing as placing
 use Rattle.nl_types.proofs.Births.{pages-written}
-use Rattle.nl_segwriter.specs.Appended.{IsAppendError}
 use Rattle.nl_dat.specs.Batches.{Changes, Fits, items_of, item_of_birth}
-use Rattle.nl_dat.specs.Stores.{Store, IsStore, IsWritten, IsFaulted, content_in, entry_of}
+use Rattle.nl_dat.specs.Stores.{Store, IsStore, IsWritten, IsWriteRefused, IsFaulted, content_in, entry_of}
 use Rattle.nl_core.specs.declared.file.File.{File}
 use Rattle.nl_core.specs.declared.checkpoint.Checkpoint.{Checkpoint}
-use Rattle.nl_core.specs.Draft.{IsDraftRefusal}
+use Rattle.nl_core.specs.Draft.{HasNextNumber, IsDraftRefusal}
 use Rattle.nl_core.specs.Settled.{WritesChanged, AreSettled, block_of, changed_blocks}
 use Rattle.nl_core.specs.Volume.{Volume, IsSoundVolume, next_checkpoint, over, published}
 use Rattle.nl_core.specs.Means.{Means, Follows}
@@ -132,7 +131,7 @@ does-faulted old store mode moment changes held writes fault is_store =
     let content = same-content old.store store fault.numbers in
     let broken = fault.broken_off in
     let logs = broken.written ++ broken.failed ∷ broken.left in
-    let fits = subst (λ k. placing.Fits old.store.segments true k logs) (count-items (content_in old.store) old.lists.latest.files old.lists.files changes writes) broken.fits in
+    let fits = subst (λ k. placing.LogsFit old.store.segments true k logs) (count-items (content_in old.store) old.lists.latest.files old.lists.files changes writes) broken.fits in
     record {
       follows = λ w m. record {
         after = w;
@@ -154,16 +153,11 @@ does-faulted old store mode moment changes held writes fault is_store =
     ledger-same content = ap (λ (c : Content). record (ledger_of old) { content = c }) content
 
 -- by a write that is refused
-pub does-unwritten : (old : Layout) (store : Store) (mode : Mode) (moment : ℕ) (changes : Changes) (e : VolError) → IsPen old → old.lists.latest.number + 1 < checkpoint_number_limit → WritesChanged (content_in old.store) old.lists.latest.files old.lists.files changes → IsAppendError e
-    → (e ≡ error.NoSpace → placing.LacksSpace old.store.segments true (length changes.births)) → (e ≡ error.NoSpace → store ≡ old.store) → (e ≡ error.Memory → store ≡ old.store)
-    → (e ≡ error.Fault → IsFaulted true (old.lists.latest.number + 1) (max moment old.lists.latest.stamp) (items_of changes.births) old.store store) → IsStore store → Does unshared old (event.Checkpoint mode moment) (Err e) (layout_of old.lists store)
-does-unwritten old store mode moment changes e held left writes is lacks same memory fault is_store =
+pub does-unwritten : (old : Layout) (store : Store) (mode : Mode) (moment : ℕ) (changes : Changes) (e : VolError) → IsPen old → HasNextNumber old.lists → WritesChanged (content_in old.store) old.lists.latest.files old.lists.files changes
+    → IsWriteRefused (old.lists.latest.number + 1) (max moment old.lists.latest.stamp) changes old.store store e → IsStore store → Does unshared old (event.Checkpoint mode moment) (Err e) (layout_of old.lists store)
+does-unwritten old store mode moment changes error.NoSpace held left writes refused is_store =
     let count = count-births (content_in old.store) old.lists.latest.files old.lists.files changes writes in
-    let reply : VolError → Type 0 = λ x. Does unshared old (event.Checkpoint mode moment) (Err x) (layout_of old.lists store) in
-    elim is [
-      | inl no_space ↦ subst reply (sym no_space) (does-refused old (layout_of old.lists store) mode moment error.NoSpace held (left, subst (placing.LacksSpace old.store.segments true) count (lacks no_space)) (ap (layout_of old.lists) (same no_space)))
-      | inr other ↦ elim other [
-        | inl failed ↦ subst reply (sym failed) (does-faulted old store mode moment changes held writes (fault failed) is_store)
-        | inr refused ↦ subst reply (sym refused) (does-refused old (layout_of old.lists store) mode moment error.Memory held left (ap (layout_of old.lists) (memory refused)))
-      ]
-    ]
+    does-refused old (layout_of old.lists store) mode moment error.NoSpace held (left, subst (placing.LacksSpace old.store.segments true) count refused.0) (ap (layout_of old.lists) refused.1)
+does-unwritten old store mode moment changes error.Memory held left writes refused is_store = does-refused old (layout_of old.lists store) mode moment error.Memory held left (ap (layout_of old.lists) refused)
+does-unwritten old store mode moment changes error.Fault held left writes refused is_store = does-faulted old store mode moment changes held writes refused is_store
+does-unwritten old store mode moment changes _ held left writes refused is_store = absurd refused

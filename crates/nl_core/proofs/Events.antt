@@ -73,20 +73,20 @@ step-IsWorld allowed cleaned reply old new event world step = elim step [
 ]
 
 -- an event that writes nothing leads on from a world
-abbrev pub Leads : Reply → World → Event → Reply → Volume → Type 0
-Leads cleaned w event reply new = LeadsOn memory_alone cleaned w event reply new
+abbrev pub LeadsInMemory : Reply → World → Event → Reply → Volume → Type 0
+LeadsInMemory cleaned w event reply new = LeadsOn memory_alone cleaned w event reply new
 
 module _ (cleaned : Reply) where
   -- where the step leaves a world, it leads on to what stands for that
-  leads : (w after : World) (event : Event) (reply : Reply) (new : Volume) → IsWorld w → (IsWorld after → Means new after) → Step memory_alone cleaned w event reply after → Leads cleaned w event reply new
+  leads : (w after : World) (event : Event) (reply : Reply) (new : Volume) → IsWorld w → (IsWorld after → Means new after) → Step memory_alone cleaned w event reply after → LeadsInMemory cleaned w event reply new
   leads w after event reply new world means step = record { after = after; means = means (step-IsWorld memory_alone cleaned reply w after event world step); step = step }
 
   -- a refusal that the step has
-  pub refuses : (old : Volume) (w : World) (event : Event) (e : VolError) → Means old w → step cleaned w event ≡ (Err e, w) → Leads cleaned w event (Err e) old
+  pub refuses : (old : Volume) (w : World) (event : Event) (e : VolError) → Means old w → step cleaned w event ≡ (Err e, w) → LeadsInMemory cleaned w event (Err e) old
   refuses old w event e m is = record { after = w; means = m; step = inl is }
 
   -- memory ran out
-  pub lacks_memory : (old : Volume) (w : World) (event : Event) → Means old w → Leads cleaned w event (Err error.Memory) old
+  pub lacks_memory : (old : Volume) (w : World) (event : Event) → Means old w → LeadsInMemory cleaned w event (Err error.Memory) old
   lacks_memory old w event m = record { after = w; means = m; step = inr (record { error = error.Memory; reply_is = refl; may_be = tt; unchanged = refl }) }
 
   is_memory : (e : VolError) → (e ≡ error.Memory) ⊎ (e ≢ error.Memory)
@@ -94,10 +94,10 @@ module _ (cleaned : Reply) where
   is_memory _ = inr (λ same. cc)
 
   -- the step's refusal, unless memory ran out
-  pub refuses_unless_memory : (old : Volume) (w : World) (event : Event) (e : VolError) → Means old w → ((e ≢ error.Memory) → step cleaned w event ≡ (Err e, w)) → Leads cleaned w event (Err e) old
+  pub refuses_unless_memory : (old : Volume) (w : World) (event : Event) (e : VolError) → Means old w → ((e ≢ error.Memory) → step cleaned w event ≡ (Err e, w)) → LeadsInMemory cleaned w event (Err e) old
   refuses_unless_memory old w event e m is =
       elim (is_memory e) [
-        | inl same ↦ subst (λ d. Leads cleaned w event (Err d) old) (sym same) (lacks_memory old w event m)
+        | inl same ↦ subst (λ d. LeadsInMemory cleaned w event (Err d) old) (sym same) (lacks_memory old w event m)
         | inr other ↦ refuses old w event e m (is other)
       ]
 
@@ -116,12 +116,12 @@ module _ (cleaned : Reply) where
   or_true false = refl
 
   -- no file can be made
-  pub creates_refused : (old : Volume) (w : World) (path : List ℕ) (e : VolError) → Means old w → FindsFree old.pages old.files path (Err e) → Leads cleaned w (Apply (Create path)) (Err e) old
+  pub creates_refused : (old : Volume) (w : World) (path : List ℕ) (e : VolError) → Means old w → FindsFree old.pages old.files path (Err e) → LeadsInMemory cleaned w (Apply (Create path)) (Err e) old
   creates_refused old w path e m found = refuses_unless_memory old w (Apply (Create path)) e m (λ other. not_changed w (Create path) e (found other w.tree m.tree))
 
   -- a new file stands behind the others
   pub creates : (old : Volume) (w : World) (path : List ℕ) (name : Name) → Means old w → path_of path ≡ Ok (name ∷ []) → NoneNamed old.files name → length old.files < path_limit
-      → Leads cleaned w (Apply (Create path)) (Ok answer.Done) (record old { files = old.files ++ record { name = name; size = 0; slots = [] } ∷ []; dirty = true })
+      → LeadsInMemory cleaned w (Apply (Create path)) (Ok answer.Done) (record old { files = old.files ++ record { name = name; size = 0; slots = [] } ∷ []; dirty = true })
   creates old w path name m spelled none room =
       let f : File = record { name = name; size = 0; slots = [] } in
       let tree = insert w.tree (name ∷ []) (node.File []) in
@@ -157,13 +157,13 @@ module _ (cleaned : Reply) where
   write-refused tree offset new e (Err d) is = cc
 
   -- there is no file to write to
-  pub writes_refused : (old : Volume) (w : World) (path : List ℕ) (offset : ℕ) (bytes : List ℕ) (e : VolError) → Means old w → FindsFile old.pages old.files path (Err e) → Leads cleaned w (Apply (Write path offset bytes)) (Err e) old
+  pub writes_refused : (old : Volume) (w : World) (path : List ℕ) (offset : ℕ) (bytes : List ℕ) (e : VolError) → Means old w → FindsFile old.pages old.files path (Err e) → LeadsInMemory cleaned w (Apply (Write path offset bytes)) (Err e) old
   writes_refused old w path offset bytes e m found =
       refuses old w (Apply (Write path offset bytes)) e m (not_changed w (Write path offset bytes) e (write-refused w.tree offset bytes e (path_of path) (found w.tree m.tree)))
 
   -- no bytes change nothing
   pub writes_nothing : (old : Volume) (w : World) (path : List ℕ) (offset : ℕ) (bytes : List ℕ) (name : Name) (index : ℕ) → Means old w → path_of path ≡ Ok (name ∷ []) → IsFirstNamed old.files name index
-      → length bytes ≡ 0 → Leads cleaned w (Apply (Write path offset bytes)) (Ok (answer.Written 0)) old
+      → length bytes ≡ 0 → LeadsInMemory cleaned w (Apply (Write path offset bytes)) (Ok (answer.Written 0)) old
   writes_nothing old w path offset bytes name index m spelled first none =
       let empty : (length bytes == 0) ≡ true = eq-eqb (length bytes) 0 none in
       let clean : w.dirty || not (length bytes == 0) ≡ w.dirty = ap (λ b. w.dirty || not b) empty ∙ or_false w.dirty in
@@ -182,7 +182,7 @@ module _ (cleaned : Reply) where
 
   -- past the limit on sizes
   pub writes_past : (old : Volume) (w : World) (path : List ℕ) (offset : ℕ) (bytes : List ℕ) (name : Name) (index : ℕ) → Means old w → path_of path ≡ Ok (name ∷ []) → IsFirstNamed old.files name index
-      → length bytes ≢ 0 → file_limit < offset + length bytes → Leads cleaned w (Apply (Write path offset bytes)) (Err error.TooBig) old
+      → length bytes ≢ 0 → file_limit < offset + length bytes → LeadsInMemory cleaned w (Apply (Write path offset bytes)) (Err error.TooBig) old
   writes_past old w path offset bytes name index m spelled first some past =
       refuses old w (Apply (Write path offset bytes)) error.TooBig m
       (not_changed w (Write path offset bytes) error.TooBig
@@ -192,7 +192,7 @@ module _ (cleaned : Reply) where
   -- the file of the name, with the bytes over its own
   pub writes : (old : Volume) (w : World) (path : List ℕ) (offset : ℕ) (bytes : List ℕ) (name : Name) (index : ℕ) (f : File) → Means old w → path_of path ≡ Ok (name ∷ []) → IsFirstNamed old.files name index
       → length bytes ≢ 0 → offset + length bytes ≤ file_limit → f.name ≡ (file_in old.files index).name → content old.pages f ≡ overwritten (content old.pages (file_in old.files index)) offset bytes
-      → Leads cleaned w (Apply (Write path offset bytes)) (Ok (answer.Written (length bytes))) (record old { files = set old.files index f; dirty = true })
+      → LeadsInMemory cleaned w (Apply (Write path offset bytes)) (Ok (answer.Written (length bytes))) (record old { files = set old.files index f; dirty = true })
   writes old w path offset bytes name index f m spelled first some fits named is =
       let tree = insert w.tree (name ∷ []) (node.File (content old.pages f)) in
       let full : (length bytes == 0) ≡ false = ne_eqb (length bytes) 0 some in
@@ -214,7 +214,7 @@ module _ (cleaned : Reply) where
   -- ---- reads
 
   -- what the current tree answers
-  pub asks : (old : Volume) (w : World) (a : Ask) (reply : Reply) → Means old w → AnswersFrom old.pages old.files a reply → Leads cleaned w (Read a) reply old
+  pub asks : (old : Volume) (w : World) (a : Ask) (reply : Reply) → Means old w → AnswersFrom old.pages old.files a reply → LeadsInMemory cleaned w (Read a) reply old
   asks old w a (Ok found) m is = record { after = w; means = m; step = inl (ap (λ r. (r, w)) (is w.tree m.tree)) }
   asks old w a (Err e) m is = refuses_unless_memory old w (Read a) e m (λ other. ap (λ r. (r, w)) (is w.tree m.tree other))
 
@@ -235,22 +235,22 @@ module _ (cleaned : Reply) where
       → step cleaned w (Mount n) ≡ mount_of_copy w n (record copy { mode = mode })
   mount-of_mode w n copy mode found is = mount-found w n (Some copy) found ∙ ap (λ x. mount_of_copy w n (record copy { mode = x })) is
 
-  pub mounts_none : (old : Volume) (w : World) (n : ℕ) → Means old w → find nat_cmp n (map by_number (kept_in old)) ≡ None → Leads cleaned w (Mount n) (Err error.NoCheckpoint) old
+  pub mounts_none : (old : Volume) (w : World) (n : ℕ) → Means old w → find nat_cmp n (map by_number (kept_in old)) ≡ None → LeadsInMemory cleaned w (Mount n) (Err error.NoCheckpoint) old
   mounts_none old w n m none = refuses old w (Mount n) error.NoCheckpoint m (mount-found w n None (copy_of old w n None m none))
 
-  pub mounts_plain : (old : Volume) (w : World) (n : ℕ) (c : Checkpoint) → Means old w → find nat_cmp n (map by_number (kept_in old)) ≡ Some c → c.mode ≡ Plain → Leads cleaned w (Mount n) (Err error.NotSnapshot) old
+  pub mounts_plain : (old : Volume) (w : World) (n : ℕ) (c : Checkpoint) → Means old w → find nat_cmp n (map by_number (kept_in old)) ≡ Some c → c.mode ≡ Plain → LeadsInMemory cleaned w (Mount n) (Err error.NotSnapshot) old
   mounts_plain old w n c m found plain =
       let copy = copy_of old w n (Some c) m found in
       refuses old w (Mount n) error.NotSnapshot m (mount-of_mode w n copy.0 Plain copy.1 (copy.2.mode ∙ plain))
 
-  pub mounts_spent : (old : Volume) (w : World) (n : ℕ) (c : Checkpoint) → Means old w → find nat_cmp n (map by_number (kept_in old)) ≡ Some c → c.mode ≡ Snapshot → mount_number_limit ≤ old.given + 1 → Leads cleaned w (Mount n) (Err error.NumbersSpent) old
+  pub mounts_spent : (old : Volume) (w : World) (n : ℕ) (c : Checkpoint) → Means old w → find nat_cmp n (map by_number (kept_in old)) ≡ Some c → c.mode ≡ Snapshot → mount_number_limit ≤ old.given + 1 → LeadsInMemory cleaned w (Mount n) (Err error.NumbersSpent) old
   mounts_spent old w n c m found snapshot spent =
       let copy = copy_of old w n (Some c) m found in
       refuses old w (Mount n) error.NumbersSpent m
       (mount-of_mode w n copy.0 Snapshot copy.1 (copy.2.mode ∙ snapshot) ∙ cond-true _ _ _ (le-leb mount_number_limit (w.given + 1) (omega (arith, m.given, spent))))
 
   pub mounts : (old : Volume) (w : World) (n : ℕ) (c : Checkpoint) → Means old w → find nat_cmp n (map by_number (kept_in old)) ≡ Some c → c.mode ≡ Snapshot → old.given + 1 < mount_number_limit
-      → Leads cleaned w (Mount n) (Ok (answer.Mount (old.given + 1))) (record old { mounts = old.mounts ++ record { number = old.given + 1; checkpoint = n } ∷ []; given = old.given + 1 })
+      → LeadsInMemory cleaned w (Mount n) (Ok (answer.Mount (old.given + 1))) (record old { mounts = old.mounts ++ record { number = old.given + 1; checkpoint = n } ∷ []; given = old.given + 1 })
   mounts old w n c m found snapshot left =
       let copy = copy_of old w n (Some c) m found in
       let given : w.given + 1 ≡ old.given + 1 = ap (λ g. g + 1) m.given in
@@ -279,14 +279,14 @@ module _ (cleaned : Reply) where
   mount_at : (v : Volume) (w : World) (mount : ℕ) (o : Option ℕ) → Means v w → find nat_cmp mount (map mount_of v.mounts) ≡ o → find nat_cmp mount w.mounts ≡ o
   mount_at v w mount o m is = ap (find nat_cmp mount) m.mounts ∙ is
 
-  pub mount_gone : (old : Volume) (w : World) (mount n : ℕ) (a : Ask) → Means old w → find nat_cmp mount (map mount_of old.mounts) ≡ Some n → find nat_cmp n (map by_number (kept_in old)) ≡ None → Leads cleaned w (MountRead mount a) (Err error.BadMount) old
+  pub mount_gone : (old : Volume) (w : World) (mount n : ℕ) (a : Ask) → Means old w → find nat_cmp mount (map mount_of old.mounts) ≡ Some n → find nat_cmp n (map by_number (kept_in old)) ≡ None → LeadsInMemory cleaned w (MountRead mount a) (Err error.BadMount) old
   mount_gone old w mount n a m found none =
       refuses old w (MountRead mount a) error.BadMount m
       (ap (λ r. (r, w)) (mount_read-found w mount n a None (mount_at old w mount (Some n) m found) (copy_of old w n None m none)))
 
   -- what the tree of a mounted checkpoint answers
   pub mount_asks : (old : Volume) (w : World) (mount n : ℕ) (c : Checkpoint) (a : Ask) (reply : Reply) → Means old w → find nat_cmp mount (map mount_of old.mounts) ≡ Some n
-      → find nat_cmp n (map by_number (kept_in old)) ≡ Some c → AnswersFrom old.pages c.files a reply → Leads cleaned w (MountRead mount a) reply old
+      → find nat_cmp n (map by_number (kept_in old)) ≡ Some c → AnswersFrom old.pages c.files a reply → LeadsInMemory cleaned w (MountRead mount a) reply old
   mount_asks old w mount n c a (Ok found) m mounted kept is =
       let copy = copy_of old w n (Some c) m kept in
       record { after = w; means = m; step = inl (ap (λ r. (r, w)) (mount_read-found w mount n a (Some copy.0) (mount_at old w mount (Some n) m mounted) copy.1 ∙ is copy.0.tree copy.2.tree)) }

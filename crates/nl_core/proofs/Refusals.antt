@@ -5,7 +5,7 @@ use Rattle.nl_types.specs.declared.error.VolError.{VolError}
 use Rattle.nl_types.specs.declared.error.VolError.TheVariants as error
 use Rattle.nl_types.specs.declared.event.Event.{Event}
 use Rattle.nl_types.specs.declared.event.Event.TheVariants.{Apply, Read, Checkpoint, Mount, MountRead}
-use Rattle.nl_types.specs.Placing.{Fits}
+use Rattle.nl_types.specs.Placing.{LogsFit}
 use Rattle.nl_core.specs.Laws.{RefusalsKeepPens, NoSpaceIsTrue, NoSpaceIsSaid}
 use Rattle.nl_core.specs.Layout.{AllowedBetween, Layout, HasRefused}
 use Rattle.nl_core.proofs.Checkpointing.{count-items}
@@ -32,11 +32,11 @@ no_space_is_said allowed old new mode moment (Ok answer) lacks does =
     let published = does.touches in
     let appended = published.written.appended in
     let count = count-items _ old.lists.latest.files old.lists.files published.changes published.writes in
-    absurd (lacks appended.logs (subst (λ n. Fits old.store.segments true n appended.logs) count appended.fits))
+    absurd (lacks appended.logs (subst (λ n. LogsFit old.store.segments true n appended.logs) count appended.fits))
 no_space_is_said allowed old new mode moment (Err error.Fault) lacks does =
     let faulted = does.touches in
     let broken = faulted.store.broken_off in
     let logs = broken.written ++ broken.failed ∷ broken.left in
     let count = count-items _ old.lists.latest.files old.lists.files faulted.changes faulted.writes in
-    absurd (lacks logs (subst (λ n. Fits old.store.segments true n logs) count broken.fits))
+    absurd (lacks logs (subst (λ n. LogsFit old.store.segments true n logs) count broken.fits))
 no_space_is_said allowed old new mode moment (Err e) lacks does = (e, refl, λ same. cc)

@@ -17,7 +17,7 @@ use Rattle.nl_types.specs.Roots.{pages_of}
 use Rattle.nl_types.specs.Worlds.{World, Reply}
 use Rattle.nl_types.specs.Runs.{AllowedRefusals, Step, Run, alone}
 use Rattle.nl_segwriter.specs.Content.{new_content}
-use Rattle.nl_device.specs.Pages.{Pages as DevicePages}
+use Rattle.nl_device.specs.Pages.{DevicePages}
 use Rattle.nl_dat.specs.Batches.{Changes, items_of}
 use Rattle.nl_dat.specs.Stores.{Store, IsStore, IsWritten, IsFaulted, content_in, new_store}
 use Rattle.nl_core.specs.Changes.{HasChanged}

@@ -55,10 +55,7 @@ fn checkpoint<S: Space>(
         files,
         batch,
     } = draft;
-    let written = store.write(alloc, &batch, checkpoint.number, checkpoint.stamp);
-    // Its contract tells what is true of every store, also of one that a fault leaves.
-    store.capacity();
-    written?;
+    store.write(alloc, &batch, checkpoint.number, checkpoint.stamp)?;
     Ok(Answer::Checkpoint(tables.publish(checkpoint, files)))
 }
 
@@ -78,8 +75,6 @@ impl<D: Device> Pen<D> {
     {
         let space = LogSpace::new(alloc, device, geometry)?;
         let store = Dat::new(alloc, space)?;
-        // Its contract tells what is true of every store.
-        store.capacity();
         Ok(Pen {
             alloc,
             store,

@@ -1,7 +1,7 @@
 //! Bytes written to a file, over the blocks that the latest checkpoint has.
 ghost use Rattle.std.specs.Prelude.{◌≡◌, ℕ, ◌+◌, ◌*◌, ◌/◌, ◌^◌, ◌<◌, ◌≤◌, ◌-◌, Some, IfOk, OnOk, OnErr, length, slice_index, max};
 ghost use Rattle.nl_core.specs.Content.{bytes_in, block_in, slot_in, IsThere, IsTidy, IsKept, IsPlaced, IsMarkedOver};
-ghost use Rattle.nl_core.specs.Over.{byte_over, slot_over, block_end, IsBlockOver, IsWritten};
+ghost use Rattle.nl_core.specs.Over.{byte_over, slot_over, block_end, IsBlockOver, HasBytesOver};
 
 use crate::file::{File, Slot, slot_or};
 use nl_dat::VRead;
@@ -168,7 +168,7 @@ impl File {
         requires tidy { IsTidy (V.pages store.now) self.old }
         requires count { length self.old.slots ≤ 65536 }
         requires kept { (i : ℕ) → IsKept (V.pages store.now) (slot_in latest.now i) }
-        ensures ok { OnOk result (IsWritten (V.pages store.now) latest.now offset bytes.now self.old self.new) }
+        ensures ok { OnOk result (HasBytesOver (V.pages store.now) latest.now offset bytes.now self.old self.new) }
         ensures err { OnErr result (self.new ≡ self.old) }
     {
         let written = written_slots(alloc, self.slots.as_slice(), latest, store, offset, bytes)?;

@@ -10,7 +10,7 @@ use Rattle.nl_core.proofs.pen.Pen.format.Goals as goal
 
 pub invariant_of-result : goal.invariant_of-result
 invariant_of-result g c =
-    held-format c.format.result.lists c.in_ok-store.store _ c.args.now c.format.ensures (ap (λ (s : Store). s.numbers) c.in_ok-store.ensures.new) c.capacity.ensures.is_store
+    held-format c.format.result.lists c.in_ok-store.store _ c.args.now c.format.ensures (ap (λ (s : Store). s.numbers) c.in_ok-store.ensures.new) c.in_ok-store.ensures.is_store
 
 pub returns-clause-means : goal.returns-clause-means
 returns-clause-means g c =
@@ -19,7 +19,7 @@ returns-clause-means g c =
 
 pub returns-clause-pen : goal.returns-clause-pen
 returns-clause-pen g c =
-    held-format c.format.result.lists c.in_ok-store.store _ c.args.now c.format.ensures (ap (λ (s : Store). s.numbers) c.in_ok-store.ensures.new) c.capacity.ensures.is_store
+    held-format c.format.result.lists c.in_ok-store.store _ c.args.now c.format.ensures (ap (λ (s : Store). s.numbers) c.in_ok-store.ensures.new) c.in_ok-store.ensures.is_store
 
 pub returns-clause-ledger : goal.returns-clause-ledger
 returns-clause-ledger g c = ledger-format c.format.result.lists c.in_ok-store.store _ c.args.now c.format.ensures (ap (λ (s : Store). s.numbers) c.in_ok-store.ensures.new)

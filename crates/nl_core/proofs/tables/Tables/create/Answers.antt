@@ -9,7 +9,7 @@ use Rattle.nl_core.specs.Place.{FindsFree}
 use Rattle.nl_core.specs.Volume.{Lists, IsSoundVolume, over}
 use Rattle.nl_core.specs.Tables.{Roomy}
 use Rattle.nl_core.specs.Inside.{lists_of}
-use Rattle.nl_core.proofs.Events.{Leads, creates_refused, creates}
+use Rattle.nl_core.proofs.Events.{LeadsInMemory, creates_refused, creates}
 use Rattle.nl_core.specs.Changes.{empty_file}
 use Rattle.nl_core.proofs.Changes.{sound-with_file, with_file, keeps_blocks}
 use Rattle.nl_core.proofs.tables.Tables.create.Goals as goal
@@ -30,7 +30,7 @@ returns-clause-follows c = λ pages cleaned w m.
     let told = with_file _ old c.push.new.self.items (empty_file c.in_ok-name.name) before pushed in
     let files : c.deref.result.now ≡ old.files = c.deref.ensures.value ∙ ap (λ (l : Lists). l.files) before in
     let found : FindsFree pages old.files c.args.path.now (Ok c.in_ok-name.name) = subst (λ fs. FindsFree pages fs c.args.path.now (Ok c.in_ok-name.name)) files (c.in_ok-name.ensures pages) in
-    subst (λ (l : Lists). Leads cleaned w (Apply (Create c.args.path.now)) (Ok Done) (over pages l)) (sym told) (creates cleaned (over pages old) w c.args.path.now c.in_ok-name.name m found.0 found.1 found.2)
+    subst (λ (l : Lists). LeadsInMemory cleaned w (Apply (Create c.args.path.now)) (Ok Done) (over pages l)) (sym told) (creates cleaned (over pages old) w c.args.path.now c.in_ok-name.name m found.0 found.1 found.2)
 
 pub returns-clause-blocks : goal.returns-clause-blocks
 returns-clause-blocks c = λ pages sound.

@@ -5,7 +5,7 @@ use Rattle.nl_types.specs.declared.reply.Answer.TheVariants as answer
 use Rattle.nl_core.specs.Volume.{Lists, over, with_mount}
 use Rattle.nl_core.specs.Tables.{Roomy}
 use Rattle.nl_core.specs.declared.checkpoint.Mounted.{Mounted}
-use Rattle.nl_core.proofs.Events.{Leads, mounts_none, mounts_plain, mounts_spent, mounts}
+use Rattle.nl_core.proofs.Events.{LeadsInMemory, mounts_none, mounts_plain, mounts_spent, mounts}
 use Rattle.nl_core.proofs.Changes.{lists_with_mount, keeps_mounted}
 use Rattle.nl_core.proofs.tables.Tables.mount.Goals as goal
 
@@ -36,8 +36,8 @@ returns-clause-follows c = λ pages cleaned w m.
     let n = c.args.number in
     let given : c.self.inside.given + 1 ≡ old.given + 1 = ap (λ (r : Roomy). r.lists.given + 1) c.self.view_is in
     let number : c.new-mount.result ≡ old.given + 1 = c.new-mount.ensures ∙ given in
-    subst (λ (l : Lists). Leads cleaned w (Mount n) (Ok (answer.Mount c.new-mount.result)) (over pages l)) (sym (returns-clause-mounted c))
-    (subst (λ k. Leads cleaned w (Mount n) (Ok (answer.Mount k)) (over pages (with_mount n old))) (sym number)
+    subst (λ (l : Lists). LeadsInMemory cleaned w (Mount n) (Ok (answer.Mount c.new-mount.result)) (over pages l)) (sym (returns-clause-mounted c))
+    (subst (λ k. LeadsInMemory cleaned w (Mount n) (Ok (answer.Mount k)) (over pages (with_mount n old))) (sym number)
     (mounts cleaned (over pages old) w n c.in-Some.checkpoint.now m (sym c.in-Some.ensures) c.in-Snapshot.is (omega (arith, given, c.if-self.false))))
 
 pub returns-clause-blocks : goal.returns-clause-blocks

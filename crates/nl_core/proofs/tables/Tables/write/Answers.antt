@@ -9,7 +9,7 @@ use Rattle.nl_types.specs.declared.reply.Answer.TheVariants.{Written}
 use Rattle.nl_types.specs.Limits.{file_limit}
 use Rattle.nl_types.specs.Roots.{Pages}
 use Rattle.nl_core.specs.Content.{file_in, no_file, slot_in, slot_at, IsTidy, IsKept}
-use Rattle.nl_core.specs.Over.{HasMade, IsWritten}
+use Rattle.nl_core.specs.Over.{HasMade, HasBytesOver}
 use Rattle.nl_core.specs.Changes.{HasWritten}
 use Rattle.nl_core.specs.Place.{LeadsTo, FindsFile}
 use Rattle.nl_core.specs.Volume.{Lists, IsSoundVolume, over}
@@ -18,8 +18,8 @@ use Rattle.nl_core.specs.Tables.{Roomy}
 use Rattle.nl_core.specs.Inside.{lists_of}
 use Rattle.nl_core.specs.declared.file.File.{File}
 use Rattle.nl_core.specs.declared.file.Slot.{Slot}
-use Rattle.nl_core.proofs.Events.{Leads, lacks_memory, writes_refused, writes_nothing, writes_past, writes}
-use Rattle.nl_core.proofs.Changes.{sound-written, keeps_blocks, IsWritten-in}
+use Rattle.nl_core.proofs.Events.{LeadsInMemory, lacks_memory, writes_refused, writes_nothing, writes_past, writes}
+use Rattle.nl_core.proofs.Changes.{sound-written, keeps_blocks, HasBytesOver-in}
 use Rattle.nl_core.proofs.tables.Tables.write.Goals.{then-len-gt-FILE_LIMIT-via-then-len-gt-FILE_LIMIT, then-len-gt-FILE_LIMIT-via-else-len-gt-FILE_LIMIT+then-offset-len}
 use Rattle.nl_core.proofs.tables.Tables.write.Goals as goal
 
@@ -80,11 +80,11 @@ latest_slots latest latest' slots index is same i = same i ∙ ap (λ files. slo
 
 -- lists with the written file are sound
 sound-found : (pages : Pages) (l : Lists) (lent : List File) (path : List ℕ) (index : ℕ) (latest : List File) (slots : List Slot) (offset : ℕ) (bytes : List ℕ) (old new : File) → IsSoundVolume (over pages l) → FindsFile pages lent path (Ok index)
-    → lent ≡ l.files → latest ≡ l.latest.files → ((i : ℕ) → slot_in slots i ≡ slot_in (file_in latest index).slots i) → old ≡ get_or l.files index old → IsWritten pages slots offset bytes old new
+    → lent ≡ l.files → latest ≡ l.latest.files → ((i : ℕ) → slot_in slots i ≡ slot_in (file_in latest index).slots i) → old ≡ get_or l.files index old → HasBytesOver pages slots offset bytes old new
     → IsSoundVolume (over pages (record l { files = set l.files index new; dirty = true }))
 sound-found pages l lent path index latest slots offset bytes old new sound found files_are latest_is slots_are old_is written =
     sound-written (over pages l) index offset bytes new (subst (λ (fs : List File). index < length fs) files_are found.2.within) sound
-    (IsWritten-in (over pages l) index pages slots offset bytes old new refl (latest_slots l.latest.files latest slots index latest_is slots_are) (file_there pages l.files lent path index old found files_are old_is) written)
+    (HasBytesOver-in (over pages l) index pages slots offset bytes old new refl (latest_slots l.latest.files latest slots index latest_is slots_are) (file_there pages l.files lent path index old found files_are old_is) written)
 
 pub write-requires-clause-tidy : goal.write-requires-clause-tidy
 write-requires-clause-tidy g c =
@@ -120,7 +120,7 @@ returns-in_err-write-clause-follows g c = λ cleaned w m.
     let pages = g.V.VRead.pages c.args.store.now in
     let old = c.args.self.now.lists in
     let same = put_back (lists_of c.self.inside) old c.in_ok-index.index c.write.new.self c.index_mut.result.now (ap (λ (r : Roomy). r.lists) c.self.view_is) c.in_err-write.ensures.err c.index_mut.ensures.value in
-    rw (p.1, p.2) (subst (λ (l : Lists). Leads cleaned w (Apply (Write c.args.path.now c.args.offset c.args.bytes.now)) (Err Memory) (over pages l)) (sym same) (lacks_memory cleaned (over pages old) w (Apply (Write c.args.path.now c.args.offset c.args.bytes.now)) m))
+    rw (p.1, p.2) (subst (λ (l : Lists). LeadsInMemory cleaned w (Apply (Write c.args.path.now c.args.offset c.args.bytes.now)) (Err Memory) (over pages l)) (sym same) (lacks_memory cleaned (over pages old) w (Apply (Write c.args.path.now c.args.offset c.args.bytes.now)) m))
 
 pub returns-clause-follows : goal.returns-clause-follows
 returns-clause-follows g c = λ cleaned w m.
@@ -130,7 +130,7 @@ returns-clause-follows g c = λ cleaned w m.
     let index = c.in_ok-index.index in
     let found : FindsFile pages l.files c.args.path.now (Ok index) = subst (λ fs. FindsFile pages fs c.args.path.now (Ok index)) c.deref.ensures.value (c.in_ok-index.ensures pages) in
     let file = file_there pages l.files c.deref.result.now c.args.path.now index c.index_mut.result.now (c.in_ok-index.ensures pages) c.deref.ensures.value c.index_mut.ensures.value in
-    let written = IsWritten-in (over pages l) index pages c.slots_of-latest.result.now c.args.offset c.args.bytes.now c.index_mut.result.now c.write.new.self refl
+    let written = HasBytesOver-in (over pages l) index pages c.slots_of-latest.result.now c.args.offset c.args.bytes.now c.index_mut.result.now c.write.new.self refl
     (latest_slots l.latest.files c.as_slice.result.now c.slots_of-latest.result.now index c.as_slice.ensures c.slots_of-latest.ensures) file c.in_ok-write.ensures.ok in
     writes cleaned (over pages l) w c.args.path.now c.args.offset c.args.bytes.now found.0 index c.write.new.self (subst (λ (u : Lists). Means (over pages u) w) (sym before) m) found.1 found.2 c.if-len-eq0.false (omega arith) written.name written.content
 
