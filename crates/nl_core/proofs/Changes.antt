@@ -9,9 +9,9 @@ use Rattle.nl_types.specs.Paths.{Name}
 use Rattle.nl_types.specs.Roots.{Pages}
 use Rattle.nl_core.specs.Content.{file_in, no_file, slot_at, slot_in, IsTidy, IsPlaced, IsMarkedOver}
 use Rattle.nl_core.specs.Changes.{empty_file}
-use Rattle.nl_core.specs.Over.{IsWritten}
+use Rattle.nl_core.specs.Over.{HasBytesOver}
 use Rattle.nl_core.specs.Tables.{KeepsBlocks}
-use Rattle.nl_core.specs.Volume.{Lists, Volume, IsSound, kept_by, over}
+use Rattle.nl_core.specs.Volume.{Lists, Volume, IsSoundVolume, kept_by, over}
 use Rattle.nl_core.specs.declared.file.File.{File}
 use Rattle.nl_core.specs.declared.file.Slot.{Slot}
 use Rattle.nl_core.specs.declared.checkpoint.Mounted.{Mounted}
@@ -39,7 +39,7 @@ each_file-set P files index f within here each k = ⊎_elim
 
 -- ---- a new file
 
-pub sound-created : (v : Volume) (name : Name) → length v.files < path_limit → IsSound v → IsSound (record v { files = v.files ++ empty_file name ∷ []; dirty = true })
+pub sound-created : (v : Volume) (name : Name) → length v.files < path_limit → IsSoundVolume v → IsSoundVolume (record v { files = v.files ++ empty_file name ∷ []; dirty = true })
 sound-created v name room sound =
     let f = empty_file name in
     let more : length (v.files ++ f ∷ []) ≡ length v.files + 1 = length_push v.files f in
@@ -61,8 +61,8 @@ sound-created v name room sound =
 
 -- ---- a written file
 
-pub sound-written : (v : Volume) (index offset : ℕ) (bytes : List ℕ) (f : File) → index < length v.files → IsSound v → IsWritten v.pages (file_in v.latest.files index).slots offset bytes (file_in v.files index) f
-    → IsSound (record v { files = set v.files index f; dirty = true })
+pub sound-written : (v : Volume) (index offset : ℕ) (bytes : List ℕ) (f : File) → index < length v.files → IsSoundVolume v → HasBytesOver v.pages (file_in v.latest.files index).slots offset bytes (file_in v.files index) f
+    → IsSoundVolume (record v { files = set v.files index f; dirty = true })
 sound-written v index offset bytes f within sound written = record {
   few = omega (arith, length-set v.files index f, sound.few);
   tidy = each_file-set (λ k file. IsTidy v.pages file) v.files index f within written.tidy sound.tidy;
@@ -79,8 +79,8 @@ sound-written v index offset bytes f within sound written = record {
 }
 
 -- the same slots of the latest checkpoint serve
-IsWritten-latest : (pages : Pages) (a b : List Slot) (offset : ℕ) (bytes : List ℕ) (old new : File) → ((i : ℕ) → slot_in a i ≡ slot_in b i) → IsWritten pages a offset bytes old new → IsWritten pages b offset bytes old new
-IsWritten-latest pages a b offset bytes old new same written = record {
+HasBytesOver-latest : (pages : Pages) (a b : List Slot) (offset : ℕ) (bytes : List ℕ) (old new : File) → ((i : ℕ) → slot_in a i ≡ slot_in b i) → HasBytesOver pages a offset bytes old new → HasBytesOver pages b offset bytes old new
+HasBytesOver-latest pages a b offset bytes old new same written = record {
   name = written.name;
   content = written.content;
   made = written.made;
@@ -91,12 +91,12 @@ IsWritten-latest pages a b offset bytes old new same written = record {
 }
 
 -- a write of a file at its place in a volume
-pub IsWritten-in : (v : Volume) (index : ℕ) (pages : Pages) (latest : List Slot) (offset : ℕ) (bytes : List ℕ) (old new : File) → pages ≡ v.pages → ((i : ℕ) → slot_in latest i ≡ slot_at v.latest.files index i) → old ≡ file_in v.files index
-    → IsWritten pages latest offset bytes old new → IsWritten v.pages (file_in v.latest.files index).slots offset bytes (file_in v.files index) new
-IsWritten-in v index pages latest offset bytes old new table_is latest_is old_is written =
-    subst (λ t. IsWritten t (file_in v.latest.files index).slots offset bytes (file_in v.files index) new) table_is
-    (subst (λ f. IsWritten pages (file_in v.latest.files index).slots offset bytes f new) old_is
-    (IsWritten-latest pages latest (file_in v.latest.files index).slots offset bytes old new latest_is written))
+pub HasBytesOver-in : (v : Volume) (index : ℕ) (pages : Pages) (latest : List Slot) (offset : ℕ) (bytes : List ℕ) (old new : File) → pages ≡ v.pages → ((i : ℕ) → slot_in latest i ≡ slot_at v.latest.files index i) → old ≡ file_in v.files index
+    → HasBytesOver pages latest offset bytes old new → HasBytesOver v.pages (file_in v.latest.files index).slots offset bytes (file_in v.files index) new
+HasBytesOver-in v index pages latest offset bytes old new table_is latest_is old_is written =
+    subst (λ t. HasBytesOver t (file_in v.latest.files index).slots offset bytes (file_in v.files index) new) table_is
+    (subst (λ f. HasBytesOver pages (file_in v.latest.files index).slots offset bytes f new) old_is
+    (HasBytesOver-latest pages latest (file_in v.latest.files index).slots offset bytes old new latest_is written))
 
 -- ---- the fields that a method has written
 
@@ -105,16 +105,16 @@ pub with_file : (l old : Lists) (files : List File) (f : File) → l ≡ old →
 with_file l old files f is told = ap (λ fs. record l { files = fs; dirty = true }) told ∙ ap (λ (u : Lists). record u { files = u.files ++ f ∷ []; dirty = true }) is
 
 -- a mount was pushed
-pub with_mount : (l old : Lists) (mounts : List Mounted) (mount : Mounted) (given : ℕ) → l ≡ old → mounts ≡ l.mounts ++ mount ∷ [] → record l { mounts = mounts; given = given } ≡ record old { mounts = old.mounts ++ mount ∷ []; given = given }
-with_mount l old mounts mount given is told = ap (λ ms. record l { mounts = ms; given = given }) told ∙ ap (λ (u : Lists). record u { mounts = u.mounts ++ mount ∷ []; given = given }) is
+pub lists_with_mount : (l old : Lists) (mounts : List Mounted) (mount : Mounted) (given : ℕ) → l ≡ old → mounts ≡ l.mounts ++ mount ∷ [] → record l { mounts = mounts; given = given } ≡ record old { mounts = old.mounts ++ mount ∷ []; given = given }
+lists_with_mount l old mounts mount given is told = ap (λ ms. record l { mounts = ms; given = given }) told ∙ ap (λ (u : Lists). record u { mounts = u.mounts ++ mount ∷ []; given = given }) is
 
 -- ---- what is true of the fields then
 
-pub sound-with_file : (pages : Pages) (l : Lists) (files : List File) (name : Name) → files ≡ l.files ++ empty_file name ∷ [] → length l.files < path_limit → IsSound (over pages l) → IsSound (over pages (record l { files = files; dirty = true }))
-sound-with_file pages l files name told room sound = subst (λ fs. IsSound (over pages (record l { files = fs; dirty = true }))) (sym told) (sound-created (over pages l) name room sound)
+pub sound-with_file : (pages : Pages) (l : Lists) (files : List File) (name : Name) → files ≡ l.files ++ empty_file name ∷ [] → length l.files < path_limit → IsSoundVolume (over pages l) → IsSoundVolume (over pages (record l { files = files; dirty = true }))
+sound-with_file pages l files name told room sound = subst (λ fs. IsSoundVolume (over pages (record l { files = fs; dirty = true }))) (sym told) (sound-created (over pages l) name room sound)
 
 -- mounts play no part
-sound-with_mounts : (pages : Pages) (l : Lists) (mounts : List Mounted) (given : ℕ) → IsSound (over pages l) → IsSound (over pages (record l { mounts = mounts; given = given }))
+sound-with_mounts : (pages : Pages) (l : Lists) (mounts : List Mounted) (given : ℕ) → IsSoundVolume (over pages l) → IsSoundVolume (over pages (record l { mounts = mounts; given = given }))
 sound-with_mounts pages l mounts given sound = record {
   few = sound.few;
   tidy = sound.tidy;
@@ -128,7 +128,7 @@ sound-with_mounts pages l mounts given sound = record {
 }
 
 -- an event that is done touches no block
-pub keeps_blocks : (pages : Pages) (l old new : Lists) (a : Answer) → l ≡ old → kept_by new ≡ kept_by l → new.latest ≡ l.latest → IsSound (over pages new) → KeepsBlocks pages old (Ok a) new
+pub keeps_blocks : (pages : Pages) (l old new : Lists) (a : Answer) → l ≡ old → kept_by new ≡ kept_by l → new.latest ≡ l.latest → IsSoundVolume (over pages new) → KeepsBlocks pages old (Ok a) new
 keeps_blocks pages l old new a is kept latest sound = record {
   kept = kept ∙ ap kept_by is;
   latest = latest ∙ ap (λ (u : Lists). u.latest) is;
@@ -136,5 +136,5 @@ keeps_blocks pages l old new a is kept latest sound = record {
   sound = sound;
 }
 
-pub keeps_mounted : (pages : Pages) (l old : Lists) (mounts : List Mounted) (given : ℕ) (a : Answer) → l ≡ old → IsSound (over pages old) → KeepsBlocks pages old (Ok a) (record l { mounts = mounts; given = given })
-keeps_mounted pages l old mounts given a is sound = keeps_blocks pages l old (record l { mounts = mounts; given = given }) a is refl refl (sound-with_mounts pages l mounts given (subst (λ (u : Lists). IsSound (over pages u)) (sym is) sound))
+pub keeps_mounted : (pages : Pages) (l old : Lists) (mounts : List Mounted) (given : ℕ) (a : Answer) → l ≡ old → IsSoundVolume (over pages old) → KeepsBlocks pages old (Ok a) (record l { mounts = mounts; given = given })
+keeps_mounted pages l old mounts given a is sound = keeps_blocks pages l old (record l { mounts = mounts; given = given }) a is refl refl (sound-with_mounts pages l mounts given (subst (λ (u : Lists). IsSoundVolume (over pages u)) (sym is) sound))

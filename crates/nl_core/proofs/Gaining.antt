@@ -1,19 +1,16 @@
 -- What a batch gains, step by step.
-use Rattle.std.proofs.Common.{◌≡◌, ◌≢◌, ℕ, zero, suc, ◌+◌, ◌-◌, ◌<◌, ◌≤◌, Bool, cond, List, [], ◌∷◌, ◌++◌, length, take, get_or, refl, ap, sym, subst, ◌∙◌, arith, append_assoc, ⊎_elim}
+use Rattle.std.proofs.Common.{◌≡◌, ◌≢◌, ℕ, ◌+◌, ◌-◌, ◌<◌, Bool, cond, List, [], ◌∷◌, ◌++◌, length, take, get_or, refl, ap, sym, subst, ◌∙◌, arith, append_assoc, ⊎_elim}
 use Rattle.std.specs.Prelude.{map, None}
 use Rattle.std.proofs.lemmas.Bool.{cases_eq, le-leb}
-use Rattle.std.proofs.lemmas.List.{append-nil, map-append, take_more, length-append, length-map, length-take, get_or_append_left, get_or_push, get_or_default}
+use Rattle.std.proofs.lemmas.List.{append-nil, map-append, take_more, length-take, get_or_append_left, get_or_push, get_or_default}
 use Rattle.std.proofs.lemmas.Grind.{flat_map-append}
 use Rattle.std.proofs.lemmas.List.Elements.{Contains-append_left}
-use Rattle.nl_types.specs.declared.error.VolError.{VolError}
-use Rattle.nl_types.specs.declared.error.VolError.TheVariants.{NoSpace, Memory}
 use Rattle.nl_types.specs.Entries.{Place, Birth, Content}
 use Rattle.nl_types.specs.Lifetimes.{Numbers}
-use Rattle.nl_types.specs.Segments.{Segments}
 use Rattle.nl_dat.specs.Batches.{Changes, TakeLowestFree}
 use Rattle.nl_core.specs.Content.{slot_in, slot_at, file_in, no_file}
-use Rattle.nl_core.specs.Settled.{place_of, number_in, numbers_of, page_of, changed_slots, changed_files, block_of, listed, replaced, IsSettled, IsSettledFile}
-use Rattle.nl_core.specs.Gains.{Gains, IsNumberRefusal}
+use Rattle.nl_core.specs.Settled.{file_place, number_in, numbers_of, unwritten, changed_slots, changed_files, block_of, listed, replaced, IsSettled, IsSettledFile}
+use Rattle.nl_core.specs.Gains.{Gains}
 use Rattle.nl_core.specs.declared.file.File.{File}
 use Rattle.nl_core.specs.declared.file.Slot.{Slot}
 use Rattle.nl_core.specs.declared.file.Slot.TheVariants.{Hole, Stored, Changed}
@@ -47,26 +44,21 @@ gains-append content latest blocks more a b c g h = record {
     both : {us vs ws xs : List (Place × List ℕ)} → us ≡ vs → ws ≡ xs → us ++ ws ≡ vs ++ xs
     both p q = cc
 
--- how many births there are then
-pub gains-count : (content : Content) (latest : Numbers) (blocks : List (Place × List ℕ)) (a b : Changes) → Gains content latest blocks a b → length b.births ≡ length a.births + length blocks
-gains-count content latest blocks a b g =
-    ap length g.births ∙ length-append a.births g.added ∙ ap (λ n. length a.births + n) (sym (length-map g.added block_of) ∙ ap length g.blocks_are)
-
 -- ---- the changed blocks of the first slots, and of the first files
 
-slots-push : (k s : ℕ) (xs : List Slot) (slot : Slot) → changed_slots k s (xs ++ slot ∷ []) ≡ changed_slots k s xs ++ map (λ (page : List ℕ). (place_of k (s + length xs), page)) (page_of slot)
+slots-push : (k s : ℕ) (xs : List Slot) (slot : Slot) → changed_slots k s (xs ++ slot ∷ []) ≡ changed_slots k s xs ++ map (λ (page : List ℕ). (file_place k (s + length xs), page)) (unwritten slot)
 slots-push k s [] slot =
     let at : s ≡ s + length {A = Slot} [] = omega arith in
-    append-nil (map (λ (page : List ℕ). (place_of k s, page)) (page_of slot)) ∙ ap (λ i. map (λ (page : List ℕ). (place_of k i, page)) (page_of slot)) at
+    append-nil (map (λ (page : List ℕ). (file_place k s, page)) (unwritten slot)) ∙ ap (λ i. map (λ (page : List ℕ). (file_place k i, page)) (unwritten slot)) at
 slots-push k s (x ∷ xs) slot =
     let at : s + 1 + length xs ≡ s + length (x ∷ xs) = omega arith in
-    ap (λ t. map (λ (page : List ℕ). (place_of k s, page)) (page_of x) ++ t) (slots-push k (s + 1) xs slot ∙ ap (λ i. changed_slots k (s + 1) xs ++ map (λ (page : List ℕ). (place_of k i, page)) (page_of slot)) at)
-    ∙ sym (append_assoc (map (λ (page : List ℕ). (place_of k s, page)) (page_of x)) (changed_slots k (s + 1) xs) (map (λ (page : List ℕ). (place_of k (s + length (x ∷ xs)), page)) (page_of slot)))
+    ap (λ t. map (λ (page : List ℕ). (file_place k s, page)) (unwritten x) ++ t) (slots-push k (s + 1) xs slot ∙ ap (λ i. changed_slots k (s + 1) xs ++ map (λ (page : List ℕ). (file_place k i, page)) (unwritten slot)) at)
+    ∙ sym (append_assoc (map (λ (page : List ℕ). (file_place k s, page)) (unwritten x)) (changed_slots k (s + 1) xs) (map (λ (page : List ℕ). (file_place k (s + length (x ∷ xs)), page)) (unwritten slot)))
 
-pub changed_slots-more : (k i : ℕ) (slots : List Slot) → i < length slots → changed_slots k 0 (take (i + 1) slots) ≡ changed_slots k 0 (take i slots) ++ map (λ (page : List ℕ). (place_of k i, page)) (page_of (slot_in slots i))
+pub changed_slots-more : (k i : ℕ) (slots : List Slot) → i < length slots → changed_slots k 0 (take (i + 1) slots) ≡ changed_slots k 0 (take i slots) ++ map (λ (page : List ℕ). (file_place k i, page)) (unwritten (slot_in slots i))
 changed_slots-more k i slots within =
     ap (changed_slots k 0) (take_more slots i Hole within) ∙ slots-push k 0 (take i slots) (slot_in slots i)
-    ∙ ap (λ n. changed_slots k 0 (take i slots) ++ map (λ (page : List ℕ). (place_of k n, page)) (page_of (slot_in slots i))) (omega (arith, length-take i slots))
+    ∙ ap (λ n. changed_slots k 0 (take i slots) ++ map (λ (page : List ℕ). (file_place k n, page)) (unwritten (slot_in slots i))) (omega (arith, length-take i slots))
 
 files-push : (k : ℕ) (xs : List File) (file : File) → changed_files k (xs ++ file ∷ []) ≡ changed_files k xs ++ changed_slots (k + length xs) 0 file.slots
 files-push k [] file =
@@ -82,21 +74,6 @@ changed_files-more i files within =
     ap (changed_files 0) (take_more files i _ within) ∙ files-push 0 (take i files) (file_in files i)
     ∙ ap (λ n. changed_files 0 (take i files) ++ changed_slots n 0 (file_in files i).slots) (omega (arith, length-take i files))
 
--- the first ones have no more of them than all
-pub changed_slots-take : (k s n : ℕ) (slots : List Slot) → length (changed_slots k s (take n slots)) ≤ length (changed_slots k s slots)
-changed_slots-take k s zero slots = omega arith
-changed_slots-take k s (suc n) [] = omega arith
-changed_slots-take k s (suc n) (x ∷ slots) =
-    let front : List (Place × List ℕ) = map (λ (page : List ℕ). (place_of k s, page)) (page_of x) in
-    omega (arith, length-append front (changed_slots k (s + 1) (take n slots)), length-append front (changed_slots k (s + 1) slots), changed_slots-take k (s + 1) n slots)
-
-pub changed_files-take : (k n : ℕ) (files : List File) → length (changed_files k (take n files)) ≤ length (changed_files k files)
-changed_files-take k zero files = omega arith
-changed_files-take k (suc n) [] = omega arith
-changed_files-take k (suc n) (x ∷ files) =
-    let front = changed_slots k 0 x.slots in
-    omega (arith, length-append front (changed_files (k + 1) (take n files)), length-append front (changed_files (k + 1) files), changed_files-take (k + 1) n files)
-
 -- ---- settled slots stay settled
 
 pub settled-append : (births more : List Birth) (p : Place) (old new : Slot) → IsSettled births p old new → IsSettled (births ++ more) p old new
@@ -109,15 +86,8 @@ settled_file-append births more k old new s = record {
   name = s.name;
   size = s.size;
   count = s.count;
-  slots = λ i within. settled-append births more (place_of k i) (slot_in old.slots i) (slot_in new.slots i) (s.slots i within);
+  slots = λ i within. settled-append births more (file_place k i) (slot_in old.slots i) (slot_in new.slots i) (s.slots i within);
 }
-
--- ---- refusals
-
-pub refusal-more : (segments : Segments) (n m : ℕ) (e : VolError) → n ≤ m → IsNumberRefusal segments n e → IsNumberRefusal segments m e
-refusal-more segments n m NoSpace low r = λ reserve k high. r reserve k (omega arith)
-refusal-more segments n m Memory low r = tt
-refusal-more segments n m _ low r = absurd r
 
 -- ---- one more slot, and one more file
 
@@ -131,18 +101,18 @@ each-step P xs x d i count each here j low = ⊎_elim
 abbrev pub own_numbers : List Slot → Numbers
 own_numbers latest p = number_in (slot_in latest p.offset)
 
-pub numbers_of-place : (files : List File) (k i : ℕ) → numbers_of files (place_of k i) ≡ number_in (slot_at files k i)
+pub numbers_of-place : (files : List File) (k i : ℕ) → numbers_of files (file_place k i) ≡ number_in (slot_at files k i)
 numbers_of-place files k i =
     let back : 11 + k - 11 ≡ k = omega arith in
     ap (λ (b : Bool). cond b (number_in (slot_at files (11 + k - 11) i)) None) (le-leb 11 (11 + k) (omega arith)) ∙ ap (λ j. number_in (slot_at files j i)) back
 
 -- the births so far are the first ones of those behind a step
 pub slots-step : (content : Content) (numbers : Numbers) (blocks : List (Place × List ℕ)) (a b : Changes) (k i : ℕ) (olds news : List Slot) (new : Slot) → Gains content numbers blocks a b → length news ≡ i
-    → ((j : ℕ) → j < i → IsSettled a.births (place_of k j) (slot_in olds j) (slot_in news j)) → IsSettled b.births (place_of k i) (slot_in olds i) new
-    → (j : ℕ) → j < i + 1 → IsSettled b.births (place_of k j) (slot_in olds j) (slot_in (news ++ new ∷ []) j)
+    → ((j : ℕ) → j < i → IsSettled a.births (file_place k j) (slot_in olds j) (slot_in news j)) → IsSettled b.births (file_place k i) (slot_in olds i) new
+    → (j : ℕ) → j < i + 1 → IsSettled b.births (file_place k j) (slot_in olds j) (slot_in (news ++ new ∷ []) j)
 slots-step content numbers blocks a b k i olds news new g count each here =
-    each-step (λ j s. IsSettled b.births (place_of k j) (slot_in olds j) s) news new Hole i count
-    (λ j low. subst (λ bs. IsSettled bs (place_of k j) (slot_in olds j) (slot_in news j)) (sym g.births) (settled-append a.births g.added (place_of k j) (slot_in olds j) (slot_in news j) (each j low)))
+    each-step (λ j s. IsSettled b.births (file_place k j) (slot_in olds j) s) news new Hole i count
+    (λ j low. subst (λ bs. IsSettled bs (file_place k j) (slot_in olds j) (slot_in news j)) (sym g.births) (settled-append a.births g.added (file_place k j) (slot_in olds j) (slot_in news j) (each j low)))
     here
 
 pub files-step : (content : Content) (numbers : Numbers) (blocks : List (Place × List ℕ)) (a b : Changes) (i : ℕ) (olds news : List File) (new : File) → Gains content numbers blocks a b → length news ≡ i
@@ -156,20 +126,3 @@ files-step content numbers blocks a b i olds news new g count each here =
 -- the element at an index below the length
 pub element-is : {X : Type 0} (xs ys : List X) (i : ℕ) (x d : X) → x ≡ get_or ys i x → ys ≡ xs → i < length xs → x ≡ get_or xs i d
 element-is xs ys i x d is same within = is ∙ ap (λ zs. get_or zs i x) same ∙ get_or_default xs i x d within
-
--- what is still to come is no more than the rest
-pub slots-left : (content : Content) (numbers : Numbers) (k i : ℕ) (slots : List Slot) (a b : Changes) → i < length slots → Gains content numbers (changed_slots k 0 (take i slots)) a b
-    → length b.births + length (page_of (slot_in slots i)) ≤ length a.births + length (changed_slots k 0 slots)
-slots-left content numbers k i slots a b within g =
-    let here : List (Place × List ℕ) = map (λ (page : List ℕ). (place_of k i, page)) (page_of (slot_in slots i)) in
-    let more : length (changed_slots k 0 (take (i + 1) slots)) ≡ length (changed_slots k 0 (take i slots)) + length here = ap length (changed_slots-more k i slots within) ∙ length-append (changed_slots k 0 (take i slots)) here in
-    let each : List ℕ → Place × List ℕ = λ page. (place_of k i, page) in
-    let one : length here ≡ length (page_of (slot_in slots i)) = length-map (page_of (slot_in slots i)) each in
-    omega (arith, gains-count content numbers (changed_slots k 0 (take i slots)) a b g, more, one, changed_slots-take k 0 (i + 1) slots)
-
-pub files-left : (content : Content) (numbers : Numbers) (i : ℕ) (files : List File) (a b : Changes) → i < length files → Gains content numbers (changed_files 0 (take i files)) a b
-    → length b.births + length (changed_slots i 0 (file_in files i).slots) ≤ length a.births + length (changed_files 0 files)
-files-left content numbers i files a b within g =
-    let here = changed_slots i 0 (file_in files i).slots in
-    let more : length (changed_files 0 (take (i + 1) files)) ≡ length (changed_files 0 (take i files)) + length here = ap length (changed_files-more i files within) ∙ length-append (changed_files 0 (take i files)) here in
-    omega (arith, gains-count content numbers (changed_files 0 (take i files)) a b g, more, changed_files-take 0 (i + 1) files)

@@ -11,12 +11,12 @@ use Rattle.nl_types.specs.Lifetimes.{Ledger, IsLedger, IsExact, IsBatch, Write, 
 use Rattle.nl_dat.specs.Batches.{Changes, Fits, is_live}
 use Rattle.nl_dat.specs.Stores.{Store, content_in}
 use Rattle.nl_core.specs.Content.{slot_at}
-use Rattle.nl_core.specs.Settled.{place_of, number_in, numbers_of, WritesChanged, AreSettled}
+use Rattle.nl_core.specs.Settled.{file_place, number_in, numbers_of, WritesChanged, AreSettled}
 use Rattle.nl_core.specs.Volume.{kept_by, published}
-use Rattle.nl_core.specs.Means.{numbered}
-use Rattle.nl_core.specs.Layout.{Layout, IsHeld, KeepsNumbers, layout_of, ledger_of, reached_by}
+use Rattle.nl_core.specs.Means.{by_number}
+use Rattle.nl_core.specs.Layout.{Layout, IsPen, KeepsNumbers, layout_of, ledger_of, reached_by}
 use Rattle.nl_core.specs.declared.checkpoint.Checkpoint.{Checkpoint}
-use Rattle.nl_core.proofs.KeptLemmas.{find-numbered_push}
+use Rattle.nl_core.proofs.KeptLemmas.{find-by_number_push}
 use Rattle.nl_core.proofs.Gaining.{numbers_of-place}
 use Rattle.nl_core.proofs.WrittenBlocks.{is_batch, numbers_behind}
 
@@ -30,11 +30,11 @@ same-numbers old new same = record {
 }
   where
     kept : (l : Ledger) → KeepsCovered l l × EndsOnce l l
-    kept l = (λ c before now v e kept_before kept_now in_use cover. (e, in_use, refl, refl, refl, cover), λ v e f is_e is_f. let same = sym is_f ∙ is_e in inl cc)
+    kept l = (λ c before now v e kept_before kept_now in_use cover. record { entry = e; in_use = in_use; place = refl; page = refl; start = refl; covering = cover }, λ v e f is_e is_f. let same = sym is_f ∙ is_e in inl cc)
 
 -- ---- the latest checkpoint
 
-module _ (l : Layout) (held : IsHeld l) where
+module _ (l : Layout) (held : IsPen l) where
   -- it reaches the numbers of its files
   pub latest-numbers : numbers_at (ledger_of l) l.lists.latest.number ≡ numbers_of l.lists.latest.files
   latest-numbers = ap (λ (o : Option Checkpoint). unwrap_or (option_map reached_by o) (λ _. None)) held.latest
@@ -46,7 +46,7 @@ module _ (l : Layout) (held : IsHeld l) where
   -- none of them has ended
   pub latest-live : (k i v : ℕ) → number_in (slot_at l.lists.latest.files k i) ≡ Some v → is_live (content_in l.store v) ≡ true
   latest-live k i v is =
-      let at = latest-exact.reached (place_of k i) v (numbers_of-place l.lists.latest.files k i ∙ is) in
+      let at = latest-exact.reached (file_place k i) v (numbers_of-place l.lists.latest.files k i ∙ is) in
       subst (λ (o : Option Entry). is_live o ≡ true) (sym at.1) (live_at at.0 at.0.end refl at.1 at.3)
     where
       right : (a b : Bool) → (a && b) ≡ true → b ≡ true
@@ -64,16 +64,16 @@ module _ (l : Layout) (held : IsHeld l) where
           absurd (not_before l.lists.latest.number c past before)
 
 -- no checkpoint is kept under the next number
-none_next : (l : Layout) → IsHeld l → find nat_cmp (l.lists.latest.number + 1) (map numbered (kept_by l.lists)) ≡ None
-none_next l held = go (find nat_cmp (l.lists.latest.number + 1) (map numbered (kept_by l.lists))) refl
+none_next : (l : Layout) → IsPen l → find nat_cmp (l.lists.latest.number + 1) (map by_number (kept_by l.lists)) ≡ None
+none_next l held = go (find nat_cmp (l.lists.latest.number + 1) (map by_number (kept_by l.lists))) refl
   where
-    go : (o : Option Checkpoint) → find nat_cmp (l.lists.latest.number + 1) (map numbered (kept_by l.lists)) ≡ o → find nat_cmp (l.lists.latest.number + 1) (map numbered (kept_by l.lists)) ≡ None
+    go : (o : Option Checkpoint) → find nat_cmp (l.lists.latest.number + 1) (map by_number (kept_by l.lists)) ≡ o → find nat_cmp (l.lists.latest.number + 1) (map by_number (kept_by l.lists)) ≡ None
     go None is = is
     go (Some c) is = let low = held.ledger.below (l.lists.latest.number + 1) (reached_by c) (ap (option_map reached_by) is) in absurd (omega arith)
 
 -- ---- a checkpoint
 
-module _ (old : Layout) (held : IsHeld old) (capacity : ℕ) (changes : Changes) (c : Checkpoint) (store : Store)
+module _ (old : Layout) (held : IsPen old) (capacity : ℕ) (changes : Changes) (c : Checkpoint) (store : Store)
     (writes : WritesChanged (content_in old.store) old.lists.latest.files old.lists.files changes) (fits : Fits capacity (content_in old.store) changes)
     (settled : AreSettled changes.births old.lists.files c.files) (number : c.number ≡ old.lists.latest.number + 1)
     (content : content_in store ≡ written changes.births changes.ends c.number (content_in old.store)) where
@@ -86,25 +86,25 @@ module _ (old : Layout) (held : IsHeld old) (capacity : ℕ) (changes : Changes)
       (is_batch (content_in old.store) capacity old.lists.latest.number old.lists.latest.files old.lists.files changes writes fits)
 
   -- the checkpoint is found under its number
-  pub latest-found : find nat_cmp c.number (map numbered (kept_by (published c old.lists))) ≡ Some c
+  pub latest-found : find nat_cmp c.number (map by_number (kept_by (published c old.lists))) ≡ Some c
   latest-found =
-      sym (find-numbered_push c.number (kept_by old.lists) c (find nat_cmp c.number (map numbered (kept_by old.lists))) refl)
-      ∙ (ap (λ (o : Option Checkpoint). option_or o (if eqb c.number c.number then Some c else None)) (ap (λ n. find nat_cmp n (map numbered (kept_by old.lists))) number ∙ none_next old held)
+      sym (find-by_number_push c.number (kept_by old.lists) c (find nat_cmp c.number (map by_number (kept_by old.lists))) refl)
+      ∙ (ap (λ (o : Option Checkpoint). option_or o (if eqb c.number c.number then Some c else None)) (ap (λ n. find nat_cmp n (map by_number (kept_by old.lists))) number ∙ none_next old held)
       ∙ cond-true (eqb c.number c.number) (Some c) None (eq-eqb c.number c.number refl))
 
   -- what is kept then
-  kept-behind : (n : ℕ) → option_map reached_by (find nat_cmp n (map numbered (kept_by (published c old.lists)))) ≡ (after (Write changes.births changes.ends) (ledger_of old)).kept n
+  kept-behind : (n : ℕ) → option_map reached_by (find nat_cmp n (map by_number (kept_by (published c old.lists)))) ≡ (after (Write changes.births changes.ends) (ledger_of old)).kept n
   kept-behind n = elim (cases_Bool (eqb n (old.lists.latest.number + 1))) [
     | inl same ↦
         let is : n ≡ c.number = eqb-true n (old.lists.latest.number + 1) same ∙ sym number in
-        ap (λ m. option_map reached_by (find nat_cmp m (map numbered (kept_by (published c old.lists))))) is
+        ap (λ m. option_map reached_by (find nat_cmp m (map by_number (kept_by (published c old.lists))))) is
         ∙ (ap (option_map reached_by) latest-found
         ∙ (ap Some (sym (ap (numbers_after changes.births changes.ends) (latest-numbers old held) ∙ numbers_behind (content_in old.store) capacity old.lists.latest.number old.lists.latest.files old.lists.files changes writes fits c.files settled held.sound.marked (latest-exact old held)))
         ∙ sym (cond-true (eqb n (old.lists.latest.number + 1)) _ _ same)))
     | inr other ↦
         let apart : eqb c.number n ≡ false = ne_eqb c.number n (λ is. let no = sym (eq-eqb n (old.lists.latest.number + 1) (sym is ∙ number)) ∙ other in cc) in
-        ap (option_map reached_by) (sym (find-numbered_push n (kept_by old.lists) c (find nat_cmp n (map numbered (kept_by old.lists))) refl)
-        ∙ (ap (option_or (find nat_cmp n (map numbered (kept_by old.lists)))) (cond-false (eqb c.number n) (Some c) None apart) ∙ or_none (find nat_cmp n (map numbered (kept_by old.lists)))))
+        ap (option_map reached_by) (sym (find-by_number_push n (kept_by old.lists) c (find nat_cmp n (map by_number (kept_by old.lists))) refl)
+        ∙ (ap (option_or (find nat_cmp n (map by_number (kept_by old.lists)))) (cond-false (eqb c.number n) (Some c) None apart) ∙ or_none (find nat_cmp n (map by_number (kept_by old.lists)))))
         ∙ sym (cond-false (eqb n (old.lists.latest.number + 1)) _ _ other)
   ]
     where

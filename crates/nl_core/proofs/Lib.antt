@@ -15,4 +15,5 @@ pub mod WrittenBlocks
 pub mod Ledgers
 pub mod Checkpointing
 pub mod Moving
+pub mod Refusals
 pub mod OneWorld

@@ -9,7 +9,7 @@ use Rattle.nl_types.specs.Trees.{IsTree}
 use Rattle.nl_types.specs.Worlds.{World, Copy, copy_at}
 use Rattle.nl_types.specs.Roots.{Pages}
 use Rattle.nl_core.specs.Volume.{Volume, kept_in}
-use Rattle.nl_core.specs.Means.{Means, numbered}
+use Rattle.nl_core.specs.Means.{Means, by_number}
 use Rattle.nl_core.specs.declared.checkpoint.Checkpoint.{Checkpoint}
 use Rattle.nl_core.proofs.TreeMeaning.{same_tree}
 use Rattle.nl_core.proofs.Events.{HasCopy, copy_of}
@@ -34,7 +34,7 @@ means_one v w other m n =
     let tree = same_tree v.pages v.files w.tree other.tree m.world.tree n.world.tree m.tree n.tree in
     let dirty = m.dirty ∙ sym n.dirty in
     let at : (k : ℕ) → copy_at w k ≡ copy_at other k =
-    λ k. let c = find nat_cmp k (map numbered (kept_in v)) in same_copy v.pages c (copy_at w k) (copy_at other k) (copy_of v w k c m refl) (copy_of v other k c n refl) (m.world.trees k) (n.world.trees k) in
+    λ k. let c = find nat_cmp k (map by_number (kept_in v)) in same_copy v.pages c (copy_at w k) (copy_at other k) (copy_of v w k c m refl) (copy_of v other k c n refl) (m.world.trees k) (n.world.trees k) in
     let copies = same_entries nat_cmp nat_cmp_total nat_cmp-IsAntisymmetric w.copies other.copies (ascending v w m) (ascending v other n) at in
     let mounts = m.mounts ∙ sym n.mounts in
     let given = m.given ∙ sym n.given in

@@ -17,12 +17,12 @@ use Rattle.nl_types.specs.Entries.{Birth}
 use Rattle.nl_types.specs.Limits.{checkpoint_number_limit}
 use Rattle.nl_types.specs.PartialMaps.{Keeps}
 use Rattle.nl_types.specs.Roots.{Pages}
-use Rattle.nl_types.specs.Worlds.{IsWorld, World, Copy, greatest, numbers, latest, latest_stamp, step}
+use Rattle.nl_types.specs.Worlds.{IsWorld, World, Reply, Copy, greatest, numbers, latest, latest_stamp, step}
 use Rattle.nl_core.specs.declared.file.File.{File}
 use Rattle.nl_core.specs.declared.checkpoint.Checkpoint.{Checkpoint}
 use Rattle.nl_core.specs.Content.{TreeMeans, slot_at}
 use Rattle.nl_core.specs.Settled.{AreSettled}
-use Rattle.nl_core.specs.Volume.{Lists, Volume, IsSound, AreKept, kept_in, over, next_checkpoint, published}
+use Rattle.nl_core.specs.Volume.{Lists, Volume, IsSoundVolume, AreKept, kept_in, over, next_checkpoint, published}
 use Rattle.nl_core.specs.Means.{Means, CopyMeans}
 use Rattle.nl_core.proofs.Settling.{Stand, IsPlaced-kept, IsMarkedOver-kept, ShowSame, TreeMeans-same, IsTidy-same, AreKept-frame, CopyMeans-frame, count-settled, AreKept-settled, ShowSame-settled}
 
@@ -112,7 +112,7 @@ copy_behind w mode moment = record { tree = w.tree; mode = mode; stamp = max mom
 abbrev world_behind : World → Mode → ℕ → World
 world_behind w mode moment = record w { dirty = false; copies = w.copies ++ (latest w + 1, copy_behind w mode moment) ∷ [] }
 
-module _ (l : Lists) (old new : Pages) (births : List Birth) (files : List File) (sound : IsSound (over old l)) (keeps : Keeps old new) (stand : Stand new births) (are : AreSettled births l.files files) where
+module _ (l : Lists) (old new : Pages) (births : List Birth) (files : List File) (sound : IsSoundVolume (over old l)) (keeps : Keeps old new) (stand : Stand new births) (are : AreSettled births l.files files) where
   -- the files are kept
   kept_behind : AreKept new files
   kept_behind = AreKept-settled old new births l.files files keeps stand sound.placed are
@@ -126,7 +126,7 @@ module _ (l : Lists) (old new : Pages) (births : List Birth) (files : List File)
   all_kept = All-push (λ (c : Checkpoint). AreKept old c.files) l.earlier l.latest sound.earlier sound.latest
 
   -- what is left is sound
-  pub sound-published : (mode : Mode) (moment : ℕ) → l.latest.number + 1 < checkpoint_number_limit → IsSound (over new (published (next_checkpoint mode moment files l) l))
+  pub sound-published : (mode : Mode) (moment : ℕ) → l.latest.number + 1 < checkpoint_number_limit → IsSoundVolume (over new (published (next_checkpoint mode moment files l) l))
   sound-published mode moment left = record {
     few = omega (arith, are.count, sound.few);
     tidy = λ k. IsTidy-same old l.files new files k show_same (sound.tidy k);
@@ -139,12 +139,12 @@ module _ (l : Lists) (old new : Pages) (births : List Birth) (files : List File)
     last = left;
   }
 
-  module _ (w : World) (mode : Mode) (moment : ℕ) (left : l.latest.number + 1 < checkpoint_number_limit) (means : Means (over old l) w) where
+  module _ (cleaned : Reply) (w : World) (mode : Mode) (moment : ℕ) (left : l.latest.number + 1 < checkpoint_number_limit) (means : Means (over old l) w) where
     -- the world takes the step
-    stepped : step w (event.Checkpoint mode moment) ≡ (Ok (answer.Checkpoint (l.latest.number + 1)), world_behind w mode moment)
+    stepped : step cleaned w (event.Checkpoint mode moment) ≡ (Ok (answer.Checkpoint (l.latest.number + 1)), world_behind w mode moment)
     stepped =
         let number : latest w ≡ l.latest.number = latest-means (over old l) w means in
-        subst (λ n. step w (event.Checkpoint mode moment) ≡ (Ok (answer.Checkpoint (n + 1)), world_behind w mode moment)) number
+        subst (λ n. step cleaned w (event.Checkpoint mode moment) ≡ (Ok (answer.Checkpoint (n + 1)), world_behind w mode moment)) number
         (cond-false (nat_le checkpoint_number_limit (latest w + 1)) (Err NumbersSpent, w) (Ok (answer.Checkpoint (latest w + 1)), world_behind w mode moment)
         (lt-leb checkpoint_number_limit (latest w + 1) (omega arith)))
 
@@ -164,5 +164,5 @@ module _ (l : Lists) (old new : Pages) (births : List Birth) (files : List File)
         }
 
     -- the world that the step leaves
-    pub means-published : (after : World) × (IsWorld after → Means (over new (published (next_checkpoint mode moment files l) l)) after) × (step w (event.Checkpoint mode moment) ≡ (Ok (answer.Checkpoint (l.latest.number + 1)), after))
+    pub means-published : (after : World) × (IsWorld after → Means (over new (published (next_checkpoint mode moment files l) l)) after) × (step cleaned w (event.Checkpoint mode moment) ≡ (Ok (answer.Checkpoint (l.latest.number + 1)), after))
     means-published = (world_behind w mode moment, means_behind, stepped)

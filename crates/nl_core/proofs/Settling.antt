@@ -19,7 +19,7 @@ use Rattle.nl_core.specs.declared.file.Slot.TheVariants.{Hole, Stored, Changed}
 use Rattle.nl_core.specs.declared.file.File.{File}
 use Rattle.nl_core.specs.declared.checkpoint.Checkpoint.{Checkpoint}
 use Rattle.nl_core.specs.Content.{block_in, slot_in, byte_of, content, entry, node_of, TreeMeans, no_file, file_in, slot_at, IsTidy, IsPlaced, IsKept, IsMarkedOver}
-use Rattle.nl_core.specs.Settled.{place_of, IsSettled, AreSettled}
+use Rattle.nl_core.specs.Settled.{file_place, IsSettled, AreSettled}
 use Rattle.nl_core.specs.Volume.{AreKept}
 use Rattle.nl_core.specs.Means.{CopyMeans}
 
@@ -134,17 +134,17 @@ holes_settled : (births : List Birth) (p : Place) (old new : Slot) → old ≡ H
 holes_settled births p old new is new_is = subst (λ (s : Slot). IsSettled births p s new) (sym is) new_is
 
 -- each slot is, also past the last one
-pub settled-at : (births : List Birth) (files others : List File) → AreSettled births files others → (k i : ℕ) → IsSettled births (place_of k i) (slot_at files k i) (slot_at others k i)
+pub settled-at : (births : List Birth) (files others : List File) → AreSettled births files others → (k i : ℕ) → IsSettled births (file_place k i) (slot_at files k i) (slot_at others k i)
 settled-at births files others are k i = ⊎_elim
     (λ low.
     let file = are.each k low in
     ⊎_elim
     (file.slots i)
-    (λ past. holes_settled births (place_of k i) (slot_at files k i) (slot_at others k i)
+    (λ past. holes_settled births (file_place k i) (slot_at files k i) (slot_at others k i)
     (get_or_past (file_in files k).slots i Hole past)
     (get_or_past (file_in others k).slots i Hole (omega (arith, past, file.count))))
     (cases_lt i (length (file_in files k).slots)))
-    (λ past. holes_settled births (place_of k i) (slot_at files k i) (slot_at others k i)
+    (λ past. holes_settled births (file_place k i) (slot_at files k i) (slot_at others k i)
     (ap (λ (f : File). slot_in f.slots i) (get_or_past files k no_file past))
     (ap (λ (f : File). slot_in f.slots i) (get_or_past others k no_file (omega (arith, past, are.count)))))
     (cases_lt k (length files))
@@ -179,7 +179,7 @@ IsKept-settled old new births p (Changed page) settled keeps stand placed (b, th
 module _ (old new : Pages) (births : List Birth) (files others : List File) (keeps : Keeps old new) (stand : Stand new births) (placed : (k i : ℕ) → IsPlaced old (slot_at files k i)) (are : AreSettled births files others) where
   -- settled files are kept
   pub AreKept-settled : AreKept new others
-  AreKept-settled k i = IsKept-settled old new births (place_of k i) (slot_at files k i) (slot_at others k i) keeps stand (placed k i) (settled-at births files others are k i)
+  AreKept-settled k i = IsKept-settled old new births (file_place k i) (slot_at files k i) (slot_at others k i) keeps stand (placed k i) (settled-at births files others are k i)
 
   -- they show the same
   pub ShowSame-settled : ShowSame old files new others
@@ -187,5 +187,5 @@ module _ (old new : Pages) (births : List Birth) (files others : List File) (kee
     count = are.count;
     names = same-file (λ (f : File). f.name) births files others are (λ k low. (are.each k low).name);
     sizes = same-file (λ (f : File). f.size) births files others are (λ k low. (are.each k low).size);
-    blocks = λ k i. block_in-settled old new births (place_of k i) (slot_at files k i) (slot_at others k i) keeps stand (placed k i) (settled-at births files others are k i);
+    blocks = λ k i. block_in-settled old new births (file_place k i) (slot_at files k i) (slot_at others k i) keeps stand (placed k i) (settled-at births files others are k i);
   }

@@ -17,7 +17,7 @@ use Rattle.nl_core.specs.declared.file.Slot.{Slot}
 use Rattle.nl_core.specs.declared.file.Slot.TheVariants.{Hole, Stored, Changed}
 use Rattle.nl_core.specs.declared.file.File.{File}
 use Rattle.nl_core.specs.Content.{slot_in, slot_at, IsMarkedOver}
-use Rattle.nl_core.specs.Settled.{place_of, number_in, numbers_of, changed_slots, changed_files, block_of, listed, replaced, WritesChanged, IsSettled, AreSettled}
+use Rattle.nl_core.specs.Settled.{file_place, number_in, numbers_of, changed_slots, changed_files, block_of, listed, replaced, WritesChanged, IsSettled, AreSettled}
 use Rattle.nl_core.proofs.Gaining.{numbers_of-place}
 use Rattle.nl_core.proofs.Settling.{Stand, settled-at}
 
@@ -26,13 +26,13 @@ Block = Place × List ℕ
 
 -- ---- places
 
-same_place_of : (k j i m : ℕ) → k ≡ j → i ≡ m → place_of k i ≡ place_of j m
-same_place_of k j i m files indexes = ap (λ f. place_of f i) files ∙ ap (place_of j) indexes
+same_file_place : (k j i m : ℕ) → k ≡ j → i ≡ m → file_place k i ≡ file_place j m
+same_file_place k j i m files indexes = ap (λ f. file_place f i) files ∙ ap (file_place j) indexes
 
-offset-of : (k i j m : ℕ) → place_of k i ≡ place_of j m → i ≡ m
+offset-of : (k i j m : ℕ) → file_place k i ≡ file_place j m → i ≡ m
 offset-of k i j m same = ap (λ (p : Place). p.offset) same
 
-file-of : (k i j m : ℕ) → place_of k i ≡ place_of j m → k ≡ j
+file-of : (k i j m : ℕ) → file_place k i ≡ file_place j m → k ≡ j
 file-of k i j m same = let inodes : 11 + k ≡ 11 + j = ap (λ (p : Place). p.inode) same in omega arith
 
 -- ---- the changed blocks
@@ -40,20 +40,20 @@ file-of k i j m same = let inodes : 11 + k ≡ 11 + j = ap (λ (p : Place). p.in
 -- the block of an index in a file
 record IsBlockFrom (k i : ℕ) (slots : List Slot) (b : Block) : Type 0 where
   pub index : ℕ
-  pub place : b.0 ≡ place_of k (i + index)
+  pub place : b.0 ≡ file_place k (i + index)
   pub slot : slot_in slots index ≡ Changed b.1
 
 -- one slot further on
 block_behind : (k i : ℕ) (slot : Slot) (slots : List Slot) (b : Block) → IsBlockFrom k (i + 1) slots b → IsBlockFrom k i (slot ∷ slots) b
-block_behind k i slot slots b at = record { index = suc at.index; place = at.place ∙ same_place_of k k (i + 1 + at.index) (i + suc at.index) refl (omega arith); slot = at.slot }
+block_behind k i slot slots b at = record { index = suc at.index; place = at.place ∙ same_file_place k k (i + 1 + at.index) (i + suc at.index) refl (omega arith); slot = at.slot }
 
 -- what stands among the changed blocks of slots is a changed block
 in_slots : (k i : ℕ) (slots : List Slot) (b : Block) → Contains (changed_slots k i slots) b → IsBlockFrom k i slots b
 in_slots k i [] b there = absurd (let low = there.1 in omega arith)
 in_slots k i (Hole ∷ slots) b there = block_behind k i Hole slots b (in_slots k (i + 1) slots b there)
 in_slots k i (Stored number ∷ slots) b there = block_behind k i (Stored number) slots b (in_slots k (i + 1) slots b there)
-in_slots k i (Changed page ∷ slots) b there = elim (uncons (place_of k i, page) (changed_slots k (i + 1) slots) b there) [
-  | inl is ↦ record { index = 0; place = ap (λ (x : Block). x.0) (sym is) ∙ same_place_of k k i (i + 0) refl (omega arith); slot = ap (λ (x : Block). Changed x.1) is }
+in_slots k i (Changed page ∷ slots) b there = elim (uncons (file_place k i, page) (changed_slots k (i + 1) slots) b there) [
+  | inl is ↦ record { index = 0; place = ap (λ (x : Block). x.0) (sym is) ∙ same_file_place k k i (i + 0) refl (omega arith); slot = ap (λ (x : Block). Changed x.1) is }
   | inr rest ↦ block_behind k i (Changed page) slots b (in_slots k (i + 1) slots b rest)
 ]
 
@@ -61,7 +61,7 @@ in_slots k i (Changed page ∷ slots) b there = elim (uncons (place_of k i, page
 record IsBlockOf (k : ℕ) (files : List File) (b : Block) : Type 0 where
   pub file : ℕ
   pub index : ℕ
-  pub place : b.0 ≡ place_of (k + file) index
+  pub place : b.0 ≡ file_place (k + file) index
   pub slot : slot_at files file index ≡ Changed b.1
 
 -- what stands among the changed blocks of files is a changed block
@@ -70,10 +70,10 @@ in_files k [] b there = absurd (let low = there.1 in omega arith)
 in_files k (file ∷ files) b there = elim (Contains-append_cases (changed_slots k 0 file.slots) (changed_files (k + 1) files) b there) [
   | inl here ↦
       let at = in_slots k 0 file.slots b here in
-      record { file = 0; index = at.index; place = at.place ∙ same_place_of k (k + 0) (0 + at.index) at.index (omega arith) (omega arith); slot = at.slot }
+      record { file = 0; index = at.index; place = at.place ∙ same_file_place k (k + 0) (0 + at.index) at.index (omega arith) (omega arith); slot = at.slot }
   | inr rest ↦
       let at = in_files (k + 1) files b rest in
-      record { file = suc at.file; index = at.index; place = at.place ∙ same_place_of (k + 1 + at.file) (k + suc at.file) at.index at.index (omega arith) refl; slot = at.slot }
+      record { file = suc at.file; index = at.index; place = at.place ∙ same_file_place (k + 1 + at.file) (k + suc at.file) at.index at.index (omega arith) refl; slot = at.slot }
 ]
 
 -- ---- each place comes once
@@ -252,18 +252,18 @@ module _ (content : Content) (capacity c : ℕ) (latest current : List File) (ch
         same_entry o is_a is_b = let e = sym is_a ∙ is_b in cc
 
     -- nothing is born where the slot is not changed
-    none_born : (k i : ℕ) → ((page : List ℕ) → slot_at current k i ≢ Changed page) → birth_at changes.births (place_of k i) ≡ None
-    none_born k i unchanged = go (birth_at changes.births (place_of k i)) refl
+    none_born : (k i : ℕ) → ((page : List ℕ) → slot_at current k i ≢ Changed page) → birth_at changes.births (file_place k i) ≡ None
+    none_born k i unchanged = go (birth_at changes.births (file_place k i)) refl
       where
         slot_there : (j m : ℕ) → j ≡ k → m ≡ i → slot_at current j m ≡ slot_at current k i
         slot_there j m files indexes = ap (λ f. slot_at current f m) files ∙ ap (slot_at current k) indexes
 
-        go : (o : Option Birth) → birth_at changes.births (place_of k i) ≡ o → birth_at changes.births (place_of k i) ≡ None
+        go : (o : Option Birth) → birth_at changes.births (file_place k i) ≡ o → birth_at changes.births (file_place k i) ≡ None
         go None is = is
         go (Some b) is =
-            let at = found changes.births (place_of k i) b is in
+            let at = found changes.births (file_place k i) b is in
             let block = birth_at_block b at.0 in
-            let same : place_of (0 + block.file) block.index ≡ place_of k i = sym block.place ∙ at.1 in
+            let same : file_place (0 + block.file) block.index ≡ file_place k i = sym block.place ∙ at.1 in
             let file : 0 + block.file ≡ k = file-of (0 + block.file) block.index k i same in
             let index = offset-of (0 + block.file) block.index k i same in
             absurd (unchanged b.page (sym (slot_there block.file block.index (omega (arith, file)) index) ∙ block.slot))
@@ -273,15 +273,15 @@ module _ (content : Content) (capacity c : ℕ) (latest current : List File) (ch
     not_ended k i v unchanged is = elim (cases_Bool (is_one_of changes.ends v)) [
       | inl ends ↦
           let gone = replaced_at (numbers_of latest) changes.births v (subst (λ (vs : List ℕ). Contains vs v) writes.ends (is-one_of changes.ends v ends)) in
-          let same : gone.0.place ≡ place_of k i = one_place gone.0.place (place_of k i) v gone.2 (numbers_of-place latest k i ∙ ap number_in is) in
+          let same : gone.0.place ≡ file_place k i = one_place gone.0.place (file_place k i) v gone.2 (numbers_of-place latest k i ∙ ap number_in is) in
           let none : Some gone.0 ≡ None = sym (birth_found gone.0 gone.1) ∙ (ap (birth_at changes.births) same ∙ none_born k i unchanged) in
           cc
       | inr stays ↦ stays
     ]
 
     -- at the place of a block, the new files name the birth's number or the one that is left
-    number_behind : (k i : ℕ) (slot new old : Slot) → slot_at current k i ≡ slot → slot_at latest k i ≡ old → IsMarkedOver (pages_of content) old slot → IsSettled changes.births (place_of k i) slot new
-        → born_or_left changes.ends (birth_at changes.births (place_of k i)) (number_in old) ≡ number_in new
+    number_behind : (k i : ℕ) (slot new old : Slot) → slot_at current k i ≡ slot → slot_at latest k i ≡ old → IsMarkedOver (pages_of content) old slot → IsSettled changes.births (file_place k i) slot new
+        → born_or_left changes.ends (birth_at changes.births (file_place k i)) (number_in old) ≡ number_in new
     number_behind k i Hole new old is old_is mark settled_is =
         ap (λ o. born_or_left changes.ends o (number_in old)) (none_born k i (λ page changed. let no = sym is ∙ changed in cc))
         ∙ (ap (λ s. option_and_then (unless_ended changes.ends) (number_in s)) mark ∙ sym (ap number_in settled_is))
@@ -295,20 +295,20 @@ module _ (content : Content) (capacity c : ℕ) (latest current : List File) (ch
         ∙ sym (ap number_in settled_is)
 
     -- so it is everywhere
-    numbers_at_place : (k i : ℕ) → numbers_after changes.births changes.ends (numbers_of latest) (place_of k i) ≡ numbers_of others (place_of k i)
+    numbers_at_place : (k i : ℕ) → numbers_after changes.births changes.ends (numbers_of latest) (file_place k i) ≡ numbers_of others (file_place k i)
     numbers_at_place k i =
-        ap (born_or_left changes.ends (birth_at changes.births (place_of k i))) (numbers_of-place latest k i)
+        ap (born_or_left changes.ends (birth_at changes.births (file_place k i))) (numbers_of-place latest k i)
         ∙ (number_behind k i (slot_at current k i) (slot_at others k i) (slot_at latest k i) refl refl (marked k i) (settled-at changes.births current others settled k i)
         ∙ sym (numbers_of-place others k i))
 
     -- a place of the files' blocks
-    at_block : (q : Place) → ((q.level == 0) && nat_le 11 q.inode) ≡ true → q ≡ place_of (q.inode - 11) q.offset
+    at_block : (q : Place) → ((q.level == 0) && nat_le 11 q.inode) ≡ true → q ≡ file_place (q.inode - 11) q.offset
     at_block q test =
         let parts = both (q.level == 0) (nat_le 11 q.inode) test in
         let test_is = parts.1 in
         let low : 11 ≤ q.inode = grind (arith, nat_tests) in
         let inode : q.inode ≡ 11 + (q.inode - 11) = omega arith in
-        same_place q (place_of (q.inode - 11) q.offset)
+        same_place q (file_place (q.inode - 11) q.offset)
         (rw (eq-eqb q.inode (11 + (q.inode - 11)) inode, eq-eqb q.level 0 (eqb-true q.level 0 parts.0), eq-eqb q.offset q.offset refl) refl)
       where
         both : (a b : Bool) → (a && b) ≡ true → (a ≡ true) × (b ≡ true)
@@ -324,7 +324,7 @@ module _ (content : Content) (capacity c : ℕ) (latest current : List File) (ch
         go (Some b) is =
             let at = found changes.births q b is in
             let block = birth_at_block b at.0 in
-            let place : place_of (0 + block.file) block.index ≡ q = sym block.place ∙ at.1 in
+            let place : file_place (0 + block.file) block.index ≡ q = sym block.place ∙ at.1 in
             let yes : nat_le 11 (11 + (0 + block.file)) ≡ true = le-leb 11 (11 + (0 + block.file)) (omega arith) in
             let no : true ≡ false = sym yes ∙ (ap (λ (p : Place). (p.level == 0) && nat_le 11 p.inode) place ∙ test) in
             cc

@@ -1,11 +1,8 @@
 -- What a batch gains while a checkpoint is drafted.
 use Rattle.std.specs.Prelude.{◌≡◌, ℕ, List, ◌++◌, map}
-use Rattle.nl_types.specs.declared.error.VolError.{VolError}
-use Rattle.nl_types.specs.declared.error.VolError.TheVariants.{NoSpace, Memory}
 use Rattle.nl_types.specs.Entries.{Place, Birth, Content}
 use Rattle.nl_types.specs.Lifetimes.{Numbers}
-use Rattle.nl_types.specs.Segments.{Segments}
-use Rattle.nl_dat.specs.Batches.{Changes, TakeLowestFree, LacksSpaceFrom}
+use Rattle.nl_dat.specs.Batches.{Changes, TakeLowestFree}
 use Rattle.nl_core.specs.Settled.{block_of, replaced}
 
 -- These blocks are born, each with the lowest number that is free when its turn comes, and what stood in their places ends.
@@ -15,9 +12,3 @@ pub record Gains (content : Content) (latest : Numbers) (blocks : List (Place ×
   pub blocks_are : map block_of added ≡ blocks
   pub numbers : TakeLowestFree content old.births added
   pub ends : new.ends ≡ old.ends ++ replaced latest added
-
--- why so many blocks do not all get their numbers: no list of logs fits so many, or more
-abbrev pub IsNumberRefusal : Segments → ℕ → VolError → Type 0
-IsNumberRefusal segments count NoSpace = LacksSpaceFrom segments count
-IsNumberRefusal segments count Memory = Unit {0}
-IsNumberRefusal segments count e = ⊥

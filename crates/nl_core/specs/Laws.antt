@@ -1,9 +1,48 @@
 -- What the pen's definitions mean.
-use Rattle.std.specs.Prelude.{◌≡◌}
-use Rattle.nl_types.specs.Worlds.{World}
+use Rattle.std.specs.Prelude.{◌≡◌, ◌≢◌, ℕ, List, Err}
+use Rattle.nl_types.specs.declared.error.VolError.{VolError}
+use Rattle.nl_types.specs.declared.error.VolError.TheVariants.{NoSpace, Fault}
+use Rattle.nl_types.specs.declared.event.Event.{Event}
+use Rattle.nl_types.specs.declared.event.Event.TheVariants.{Checkpoint}
+use Rattle.nl_types.specs.declared.event.Mode.{Mode}
+use Rattle.nl_types.specs.Worlds.{World, Reply}
+use Rattle.nl_types.specs.Runs.{Run}
 use Rattle.nl_core.specs.Volume.{Volume}
 use Rattle.nl_core.specs.Means.{Means}
+use Rattle.nl_core.specs.Layout.{AllowedBetween, Layout, Does, DoesIn, Runs, LacksSpaceFor, volume_of}
 
 -- what a pen holds means one world at most
 abbrev pub MeansOneWorld : Type 0
 MeansOneWorld = (v : Volume) (w other : World) → Means v w → Means v other → w ≡ other
+
+-- what an event does to a pen, it does beside each world that the pen means
+abbrev pub EventsLeadOn : AllowedBetween → Type 0
+EventsLeadOn allowed =
+    (old new : Layout) (event : Event) (reply : Reply) (w : World)
+    → Does allowed old event reply new → Means (volume_of old) w
+    → (after : World) × DoesIn allowed (old, w) event reply (new, after)
+
+-- and so does a list of events
+abbrev pub RunsLeadOn : AllowedBetween → Type 0
+RunsLeadOn allowed =
+    (old new : Layout) (events : List Event) (replies : List Reply)
+    → Run (Does allowed) old events replies new → Runs allowed old events replies new
+
+-- a refusal but for a fault leaves the pen and its device as they were
+abbrev pub RefusalsKeepPens : AllowedBetween → Type 0
+RefusalsKeepPens allowed =
+    (old new : Layout) (event : Event) (e : VolError)
+    → Does allowed old event (Err e) new → (e ≢ Fault) → new ≡ old
+
+-- a checkpoint is refused for space only where no list of logs fits what it writes
+abbrev pub NoSpaceIsTrue : AllowedBetween → Type 0
+NoSpaceIsTrue allowed =
+    (old new : Layout) (mode : Mode) (moment : ℕ)
+    → Does allowed old (Checkpoint mode moment) (Err NoSpace) new → LacksSpaceFor old (Checkpoint mode moment)
+
+-- and where none fits, it is neither done nor ended by a fault
+abbrev pub NoSpaceIsSaid : AllowedBetween → Type 0
+NoSpaceIsSaid allowed =
+    (old new : Layout) (mode : Mode) (moment : ℕ) (reply : Reply)
+    → LacksSpaceFor old (Checkpoint mode moment) → Does allowed old (Checkpoint mode moment) reply new
+    → (e : VolError) × (reply ≡ Err e) × (e ≢ Fault)

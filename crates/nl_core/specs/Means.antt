@@ -3,7 +3,7 @@ use Rattle.std.specs.Prelude.{◌≡◌, ℕ, map}
 use Rattle.std.specs.List.{AllZip}
 use Rattle.nl_types.specs.declared.event.Event.{Event}
 use Rattle.nl_types.specs.Worlds.{World, Copy, IsWorld, Reply}
-use Rattle.nl_types.specs.Runs.{Step}
+use Rattle.nl_types.specs.Runs.{AllowedRefusals, Step, memory_alone}
 use Rattle.nl_types.specs.Roots.{Pages}
 use Rattle.nl_core.specs.Content.{TreeMeans}
 use Rattle.nl_core.specs.Volume.{Volume, kept_in}
@@ -20,8 +20,8 @@ abbrev pub mount_of : Mounted → ℕ × ℕ
 mount_of m = (m.number, m.checkpoint)
 
 -- a checkpoint under its number
-abbrev pub numbered : Checkpoint → ℕ × Checkpoint
-numbered c = (c.number, c)
+abbrev pub by_number : Checkpoint → ℕ × Checkpoint
+by_number c = (c.number, c)
 
 pub record Means (v : Volume) (w : World) : Type 0 where
   pub world : IsWorld w
@@ -31,10 +31,20 @@ pub record Means (v : Volume) (w : World) : Type 0 where
   pub mounts : w.mounts ≡ map mount_of v.mounts
   pub given : w.given ≡ v.given
 
--- From the world that the old volume means to one that the new volume means, which is a step of the event or a refusal in its place. That the event leaves a world is for the definitions to show.
-abbrev pub Goes : (no_space fault : Type 0) → Volume → Event → Reply → Volume → Type 0
-Goes no_space fault old event reply new = (w : World) → Means old w → (after : World) × (IsWorld after → Means new after) × Step no_space fault w event reply after
+-- ---- what an event does to the world
 
--- the same of an event that puts no block
-abbrev pub Follows : Volume → Event → Reply → Volume → Type 0
-Follows = Goes ⊥ ⊥
+-- From a world the event leads to one that the new volume means. It is done whole, or refused by what is allowed in its place.
+pub record LeadsOn (allowed : AllowedRefusals) (cleaned : Reply) (w : World) (event : Event) (reply : Reply) (new : Volume) : Type 0 where
+  pub after : World
+  pub means : Means new after
+  pub step : Step allowed cleaned w event reply after
+
+-- so from whatever world the old volume means
+abbrev pub Follows : (allowed : AllowedRefusals) (cleaned : Reply) → Volume → Event → Reply → Volume → Type 0
+Follows allowed cleaned old event reply new =
+    (w : World) → Means old w → LeadsOn allowed cleaned w event reply new
+
+-- the same of an event that writes nothing: memory alone may be refused to it
+abbrev pub FollowsInMemory : Volume → Event → Reply → Volume → Type 0
+FollowsInMemory old event reply new =
+    (cleaned : Reply) → Follows memory_alone cleaned old event reply new

@@ -39,7 +39,7 @@ pub record HasMade (offset count : ℕ) (old new : List Slot) : Type 0 where
   pub others : (i : ℕ) → (IsTouched offset count i → ⊥) → slot_in new i ≡ slot_in old i
 
 -- the file, once bytes are written at an offset. `latest` has the slots of the latest checkpoint
-pub record IsWritten (pages : Pages) (latest : List Slot) (offset : ℕ) (bytes : List ℕ) (old new : File) : Type 0 where
+pub record HasBytesOver (pages : Pages) (latest : List Slot) (offset : ℕ) (bytes : List ℕ) (old new : File) : Type 0 where
   pub name : new.name ≡ old.name
   pub content : content pages new ≡ overwritten (content pages old) offset bytes
   pub made : HasMade offset (length bytes) old.slots new.slots

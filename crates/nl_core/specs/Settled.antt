@@ -1,9 +1,9 @@
 -- What a checkpoint makes of the files: each changed block gets a number, and the one that it replaces ends.
-use Rattle.std.specs.Prelude.{◌≡◌, ℕ, ◌+◌, ◌-◌, ◌<◌, ◌==◌, ◌&&◌, nat_le, if◌then◌else◌, List, [], ◌∷◌, ◌++◌, map, length, flat_map, Option, None, Some}
+use Rattle.std.specs.Prelude.{◌≡◌, ℕ, ◌+◌, ◌-◌, ◌<◌, ◌==◌, ◌&&◌, nat_le, true, if◌then◌else◌, List, [], ◌∷◌, ◌++◌, map, length, flat_map, Option, None, Some}
 use Rattle.std.specs.List.{Contains}
 use Rattle.nl_types.specs.Entries.{Place, Birth, Content}
 use Rattle.nl_types.specs.Lifetimes.{Numbers}
-use Rattle.nl_dat.specs.Batches.{Changes, TakeLowestFree}
+use Rattle.nl_dat.specs.Batches.{Changes, TakeLowestFree, is_live}
 use Rattle.nl_core.specs.Content.{slot_in, slot_at, file_in}
 use Rattle.nl_core.specs.declared.file.Slot.{Slot}
 use Rattle.nl_core.specs.declared.file.Slot.TheVariants.{Hole, Stored, Changed}
@@ -12,8 +12,8 @@ use Rattle.nl_core.specs.declared.file.File.{File}
 -- ---- places
 
 -- where a block of a file belongs: files have the inode numbers from 11 on, in the order of their creation
-abbrev pub place_of : ℕ → ℕ → Place
-place_of k i = record { inode = 11 + k; level = 0; offset = i }
+abbrev pub file_place : ℕ → ℕ → Place
+file_place k i = record { inode = 11 + k; level = 0; offset = i }
 
 -- the number that a slot names
 abbrev pub number_in : Slot → Option ℕ
@@ -28,15 +28,15 @@ numbers_of files p = if (p.level == 0) && nat_le 11 p.inode then number_in (slot
 -- ---- what is written
 
 -- the page that is not written yet, if there is one
-abbrev pub page_of : Slot → List (List ℕ)
-page_of Hole = []
-page_of (Stored number) = []
-page_of (Changed page) = page ∷ []
+abbrev pub unwritten : Slot → List (List ℕ)
+unwritten Hole = []
+unwritten (Stored number) = []
+unwritten (Changed page) = page ∷ []
 
 -- the changed blocks of a file from one on
 abbrev pub changed_slots : ℕ → ℕ → List Slot → List (Place × List ℕ)
 changed_slots k i [] = []
-changed_slots k i (slot ∷ slots) = map (λ page. (place_of k i, page)) (page_of slot) ++ changed_slots k (i + 1) slots
+changed_slots k i (slot ∷ slots) = map (λ page. (file_place k i, page)) (unwritten slot) ++ changed_slots k (i + 1) slots
 
 -- those of all files from one on
 abbrev pub changed_files : ℕ → List File → List (Place × List ℕ)
@@ -66,6 +66,11 @@ pub record WritesChanged (content : Content) (latest current : List File) (chang
   pub numbers : TakeLowestFree content [] changes.births
   pub ends : changes.ends ≡ replaced (numbers_of latest) changes.births
 
+-- the numbers that the files name have not ended
+abbrev pub AreLive : Content → List File → Type 0
+AreLive content files =
+    (k i v : ℕ) → number_in (slot_at files k i) ≡ Some v → is_live (content v) ≡ true
+
 -- ---- the files behind it
 
 -- a changed block is stored under its birth's number, and every other stays
@@ -78,7 +83,7 @@ pub record IsSettledFile (births : List Birth) (k : ℕ) (old new : File) : Type
   pub name : new.name ≡ old.name
   pub size : new.size ≡ old.size
   pub count : length new.slots ≡ length old.slots
-  pub slots : (i : ℕ) → i < length old.slots → IsSettled births (place_of k i) (slot_in old.slots i) (slot_in new.slots i)
+  pub slots : (i : ℕ) → i < length old.slots → IsSettled births (file_place k i) (slot_in old.slots i) (slot_in new.slots i)
 
 pub record AreSettled (births : List Birth) (old new : List File) : Type 0 where
   pub count : length new ≡ length old

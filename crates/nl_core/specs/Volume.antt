@@ -48,8 +48,8 @@ abbrev pub kept_by : Lists → List Checkpoint
 kept_by l = l.earlier ++ l.latest ∷ []
 
 -- how many blocks a checkpoint writes
-abbrev pub changed : Lists → ℕ
-changed l = length (changed_blocks l.files)
+abbrev pub changed_count : Lists → ℕ
+changed_count l = length (changed_blocks l.files)
 
 -- ---- what is true of every pen
 
@@ -61,7 +61,7 @@ pub record AreNamedAlike (latest files : List File) : Type 0 where
   pub count : length latest ≤ length files
   pub names : (k : ℕ) → k < length latest → (file_in latest k).name ≡ (file_in files k).name
 
-pub record IsSound (v : Volume) : Type 0 where
+pub record IsSoundVolume (v : Volume) : Type 0 where
   pub few : length v.files ≤ path_limit
   pub tidy : (k : ℕ) → IsTidy v.pages (file_in v.files k)
   pub placed : (k i : ℕ) → IsPlaced v.pages (slot_at v.files k i)
@@ -72,6 +72,15 @@ pub record IsSound (v : Volume) : Type 0 where
   -- a block is marked as changed exactly where a checkpoint has to write it
   pub marked : (k i : ℕ) → IsMarkedOver v.pages (slot_at v.latest.files k i) (slot_at v.files k i)
   pub last : v.latest.number < checkpoint_number_limit
+
+-- ---- a mount
+
+-- the lists with one more mount, which has the next number
+abbrev pub with_mount : ℕ → Lists → Lists
+with_mount checkpoint l = record l {
+  mounts = l.mounts ++ record { number = l.given + 1; checkpoint = checkpoint } ∷ [];
+  given = l.given + 1;
+}
 
 -- ---- a checkpoint
 

@@ -1,17 +1,17 @@
 //! What a checkpoint is going to write and keep, with all the memory that the lists take for it.
-ghost use Rattle.std.specs.Prelude.{◌≡◌, ℕ, ◌+◌, ◌<◌, ◌≤◌, ◌^◌, true, [], ◌∷◌, ◌++◌, length, max, Some, IfOk, OnOk, IfErr, map};
+ghost use Rattle.std.specs.Prelude.{◌≡◌, ℕ, ◌+◌, ◌<◌, ◌≤◌, ◌^◌, true, [], ◌∷◌, ◌++◌, length, max, Some, IfOk, OnOk, IsOkUnless, map};
 ghost use Rattle.nl_types.specs.Lifetimes.{Numbers};
 ghost use Rattle.nl_types.specs.Limits.{path_limit};
 ghost use Rattle.nl_dat.specs.Batches.{Fits, IsLowestFree, is_live};
-ghost use Rattle.nl_dat.specs.Stores.{capacity};
+ghost use Rattle.nl_dat.specs.Stores.{capacity, content_in};
 ghost use Rattle.nl_core.specs.Content.{slot_in, slot_at};
-ghost use Rattle.nl_core.specs.Settled.{place_of, number_in, numbers_of, listed, page_of, changed_slots, changed_blocks, IsSettled, IsSettledFile, AreSettled, WritesChanged};
-ghost use Rattle.nl_core.specs.Gains.{Gains, IsNumberRefusal};
+ghost use Rattle.nl_core.specs.Settled.{file_place, number_in, numbers_of, listed, unwritten, changed_slots, changed_blocks, IsSettled, IsSettledFile, AreSettled, WritesChanged, AreLive};
+ghost use Rattle.nl_core.specs.Gains.{Gains};
 
 use crate::checkpoint::Checkpoint;
 use crate::file::{File, Slot, slot_or};
 use crate::find::slots_of;
-use nl_dat::{Batch, Vstore};
+use nl_dat::{Batch, Vstore, next_number};
 use nl_layout::{Level, Tag};
 use nl_types::{InodeNumber, Items, Page, VirtualNumber, VolError};
 use std::alloc::{AllocError, Global};
@@ -45,15 +45,15 @@ fn give_number<V: Vstore>(
     latest: &Slot,
 ) -> Result<VirtualNumber, VolError>
     requires few { at.file < path_limit }
-    requires fits { Fits (capacity (V.store store.now)) (V.content store.now) batch.old }
-    requires live { (v : ℕ) → number_in latest.now ≡ Some v → is_live (V.content store.now v) ≡ true }
-    ensures born { IfOk result (λ n. batch.new.births ≡ batch.old.births ++ record { number = n; place = place_of at.file at.block; page = page } ∷ []) }
-    ensures lowest { IfOk result (IsLowestFree (V.content store.now) batch.old.births) }
+    requires fits { Fits (capacity (V.store store.now)) (content_in (V.store store.now)) batch.old }
+    requires live { (v : ℕ) → number_in latest.now ≡ Some v → is_live (content_in (V.store store.now) v) ≡ true }
+    ensures born { IfOk result (λ n. batch.new.births ≡ batch.old.births ++ record { number = n; place = file_place at.file at.block; page = page } ∷ []) }
+    ensures lowest { IfOk result (IsLowestFree (content_in (V.store store.now)) batch.old.births) }
     ensures ended { OnOk result (batch.new.ends ≡ batch.old.ends ++ listed (number_in latest.now)) }
-    ensures fits { OnOk result (Fits (capacity (V.store store.now)) (V.content store.now) batch.new) }
-    ensures refused { IfErr result (IsNumberRefusal (V.store store.now).segments (length batch.old.births + 1)) }
+    ensures fits { OnOk result (Fits (capacity (V.store store.now)) (content_in (V.store store.now)) batch.new) }
+    ensures refused { IsOkUnless result VolError.Memory }
 {
-    let number = store.fresh(batch)?;
+    let number = next_number(store, batch);
     let tag = Tag {
         number,
         inode: InodeNumber::new(FIRST_INODE + at.file as u64),
@@ -76,12 +76,12 @@ fn settle_slot<V: Vstore>(
     latest: &Slot,
 ) -> Result<Slot, VolError>
     requires few { at.file < path_limit }
-    requires fits { Fits (capacity (V.store store.now)) (V.content store.now) batch.old }
-    requires live { (v : ℕ) → number_in latest.now ≡ Some v → is_live (V.content store.now v) ≡ true }
-    ensures slot { IfOk result (IsSettled batch.new.births (place_of at.file at.block) slot.now) }
-    ensures gains { OnOk result ((numbers : Numbers) → numbers (place_of at.file at.block) ≡ number_in latest.now → Gains (V.content store.now) numbers (map (λ page. (place_of at.file at.block, page)) (page_of slot.now)) batch.old batch.new) }
-    ensures fits { OnOk result (Fits (capacity (V.store store.now)) (V.content store.now) batch.new) }
-    ensures refused { IfErr result (IsNumberRefusal (V.store store.now).segments (length batch.old.births + length (page_of slot.now))) }
+    requires fits { Fits (capacity (V.store store.now)) (content_in (V.store store.now)) batch.old }
+    requires live { (v : ℕ) → number_in latest.now ≡ Some v → is_live (content_in (V.store store.now) v) ≡ true }
+    ensures slot { IfOk result (IsSettled batch.new.births (file_place at.file at.block) slot.now) }
+    ensures gains { OnOk result ((numbers : Numbers) → numbers (file_place at.file at.block) ≡ number_in latest.now → Gains (content_in (V.store store.now)) numbers (map (λ page. (file_place at.file at.block, page)) (unwritten slot.now)) batch.old batch.new) }
+    ensures fits { OnOk result (Fits (capacity (V.store store.now)) (content_in (V.store store.now)) batch.new) }
+    ensures refused { IsOkUnless result VolError.Memory }
 {
     match slot {
         Slot::Hole => Ok(Slot::Hole),
@@ -103,12 +103,12 @@ fn settle_file<V: Vstore>(
     latest: &[Slot],
 ) -> Result<File, VolError>
     requires few { index < path_limit }
-    requires fits { Fits (capacity (V.store store.now)) (V.content store.now) batch.old }
-    requires live { (i v : ℕ) → number_in (slot_in latest.now i) ≡ Some v → is_live (V.content store.now v) ≡ true }
+    requires fits { Fits (capacity (V.store store.now)) (content_in (V.store store.now)) batch.old }
+    requires live { (i v : ℕ) → number_in (slot_in latest.now i) ≡ Some v → is_live (content_in (V.store store.now) v) ≡ true }
     ensures file { IfOk result (IsSettledFile batch.new.births index file.now) }
-    ensures gains { OnOk result ((numbers : Numbers) → ((i : ℕ) → numbers (place_of index i) ≡ number_in (slot_in latest.now i)) → Gains (V.content store.now) numbers (changed_slots index 0 file.now.slots) batch.old batch.new) }
-    ensures fits { OnOk result (Fits (capacity (V.store store.now)) (V.content store.now) batch.new) }
-    ensures refused { IfErr result (IsNumberRefusal (V.store store.now).segments (length batch.old.births + length (changed_slots index 0 file.now.slots))) }
+    ensures gains { OnOk result ((numbers : Numbers) → ((i : ℕ) → numbers (file_place index i) ≡ number_in (slot_in latest.now i)) → Gains (content_in (V.store store.now)) numbers (changed_slots index 0 file.now.slots) batch.old batch.new) }
+    ensures fits { OnOk result (Fits (capacity (V.store store.now)) (content_in (V.store store.now)) batch.new) }
+    ensures refused { IsOkUnless result VolError.Memory }
 {
     let hole = Slot::Hole;
     let mut slots = Items::new(alloc);
@@ -132,12 +132,12 @@ fn settle<V: Vstore>(
     latest: &[File],
 ) -> Result<Items<File>, VolError>
     requires few { length files.now ≤ path_limit }
-    requires fits { Fits (capacity (V.store store.now)) (V.content store.now) batch.old }
-    requires live { (k i v : ℕ) → number_in (slot_at latest.now k i) ≡ Some v → is_live (V.content store.now v) ≡ true }
+    requires fits { Fits (capacity (V.store store.now)) (content_in (V.store store.now)) batch.old }
+    requires live { AreLive (content_in (V.store store.now)) latest.now }
     ensures files { IfOk result (AreSettled batch.new.births files.now) }
-    ensures gains { OnOk result (Gains (V.content store.now) (numbers_of latest.now) (changed_blocks files.now) batch.old batch.new) }
-    ensures fits { OnOk result (Fits (capacity (V.store store.now)) (V.content store.now) batch.new) }
-    ensures refused { IfErr result (IsNumberRefusal (V.store store.now).segments (length batch.old.births + length (changed_blocks files.now))) }
+    ensures gains { OnOk result (Gains (content_in (V.store store.now)) (numbers_of latest.now) (changed_blocks files.now) batch.old batch.new) }
+    ensures fits { OnOk result (Fits (capacity (V.store store.now)) (content_in (V.store store.now)) batch.new) }
+    ensures refused { IsOkUnless result VolError.Memory }
 {
     let mut settled = Items::new(alloc);
     for (index, file) in files.iter().enumerate() {
@@ -180,12 +180,12 @@ impl Draft {
         checkpoint: Checkpoint,
     ) -> Result<Draft, VolError>
         requires few { length files.now ≤ path_limit }
-        requires live { (k i v : ℕ) → number_in (slot_at latest.now k i) ≡ Some v → is_live (V.content store.now v) ≡ true }
+        requires live { AreLive (content_in (V.store store.now)) latest.now }
         ensures checkpoint { IfOk result (λ draft. draft.checkpoint ≡ record checkpoint { files = draft.files }) }
-        ensures writes { IfOk result (λ draft. WritesChanged (V.content store.now) latest.now files.now draft.batch) }
+        ensures writes { IfOk result (λ draft. WritesChanged (content_in (V.store store.now)) latest.now files.now draft.batch) }
         ensures settled { IfOk result (λ draft. AreSettled draft.batch.births files.now draft.files) }
-        ensures fits { IfOk result (λ draft. Fits (capacity (V.store store.now)) (V.content store.now) draft.batch) }
-        ensures refused { IfErr result (IsNumberRefusal (V.store store.now).segments (length (changed_blocks files.now))) }
+        ensures fits { IfOk result (λ draft. Fits (capacity (V.store store.now)) (content_in (V.store store.now)) draft.batch) }
+        ensures refused { IsOkUnless result VolError.Memory }
     {
         let mut batch = Batch::new(alloc);
         let settled = settle(alloc, store, &mut batch, files, latest)?;

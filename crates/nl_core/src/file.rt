@@ -1,7 +1,6 @@
 //! Files as lists of slots, and the bytes that they stand for.
 ghost use Rattle.std.specs.Prelude.{◌≡◌, ◌↔◌, ◌<◌, ◌≤◌, ◌-◌, Some, IsTrue, IfOk, slice_index, take, drop};
 ghost use Rattle.std.specs.Option.{option_copied};
-ghost use Rattle.nl_types.specs.Roots.{pages_of};
 ghost use Rattle.nl_core.specs.Content.{block_in, bytes_in, byte_of, content, slot_in};
 
 use nl_dat::VRead;
@@ -31,7 +30,7 @@ pub struct File {
 impl Slot {
     /// The slot's block, if there is one.
     pub fn block<'a, V: VRead>(&'a self, store: &'a V) -> Option<&'a Page>
-        ensures { option_copied result ≡ block_in (pages_of (V.content store.now)) self.now }
+        ensures { option_copied result ≡ block_in (V.pages store.now) self.now }
     {
         match self {
             Slot::Hole => None,
@@ -42,7 +41,7 @@ impl Slot {
 
     /// Whether the block is there and has the bytes of this page.
     pub fn has_bytes<V: VRead>(&self, store: &V, page: &Page) -> bool
-        ensures { IsTrue result ↔ (block_in (pages_of (V.content store.now)) self.now ≡ Some page.now) }
+        ensures { IsTrue result ↔ (block_in (V.pages store.now) self.now ≡ Some page.now) }
     {
         match self.block(store) {
             Some(own) => own.bytes() == page.bytes(),
@@ -53,7 +52,7 @@ impl Slot {
     /// The byte of the block at an index, 0 where there is no block.
     pub fn byte<V: VRead>(&self, store: &V, index: usize) -> u8
         requires { index < 1024 }
-        ensures { result ≡ slice_index (bytes_in (pages_of (V.content store.now)) self.now) index }
+        ensures { result ≡ slice_index (bytes_in (V.pages store.now) self.now) index }
     {
         match self.block(store) {
             Some(page) => page.bytes()[index],
@@ -86,7 +85,7 @@ pub fn slot_or<'a>(slots: &'a [Slot], index: usize, hole: &'a Slot) -> &'a Slot
 
 /// The byte of a file at an index.
 fn byte_at<V: VRead>(slots: &[Slot], store: &V, index: u64) -> u8
-    ensures { result ≡ byte_of (pages_of (V.content store.now)) slots.now index }
+    ensures { result ≡ byte_of (V.pages store.now) slots.now index }
 {
     let hole = Slot::Hole;
     slot_or(slots, (index / 1024) as usize, &hole).byte(store, (index % 1024) as usize)
@@ -101,7 +100,7 @@ impl File {
         offset: u64,
         len: u64,
     ) -> Result<Items<u8>, AllocError>
-        ensures { IfOk result (λ bytes. bytes ≡ take len (drop offset (content (pages_of (V.content store.now)) self.now))) }
+        ensures { IfOk result (λ bytes. bytes ≡ take len (drop offset (content (V.pages store.now) self.now))) }
     {
         let end = self.size.min(offset.saturating_add(len));
         let mut bytes = Vec::new(alloc);

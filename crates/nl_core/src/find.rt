@@ -3,9 +3,9 @@ ghost use Rattle.std.specs.Prelude.{◌≡◌, ◌↔◌, ◌<◌, ℕ, IsTrue, 
 ghost use Rattle.std.specs.Option.{option_copied};
 ghost use Rattle.std.specs.Ordering.{nat_cmp};
 ghost use Rattle.std.specs.FinMap.{find};
-ghost use Rattle.nl_types.specs.Roots.{Pages, pages_of};
+ghost use Rattle.nl_types.specs.Roots.{Pages};
 ghost use Rattle.nl_core.specs.Content.{slot_in, file_in};
-ghost use Rattle.nl_core.specs.Means.{mount_of, numbered};
+ghost use Rattle.nl_core.specs.Means.{mount_of, by_number};
 ghost use Rattle.nl_core.specs.Named.{NoneNamed, IsFirstNamed};
 ghost use Rattle.nl_core.specs.Place.{FindsFile, FindsFree, ReadsFrom, AnswersFrom, RefusesBelow};
 
@@ -87,7 +87,7 @@ fn read_at<V: VRead>(
     offset: u64,
     len: u64,
 ) -> Result<Items<u8>, VolError>
-    ensures { ReadsFrom (pages_of (V.content store.now)) files.now path.now offset len result }
+    ensures { ReadsFrom (V.pages store.now) files.now path.now offset len result }
 {
     let index = find_file(files, path)?;
     Ok(files[index].read(alloc, store, offset, len)?)
@@ -95,7 +95,7 @@ fn read_at<V: VRead>(
 
 /// What the tree of these files answers.
 pub fn answer<V: VRead>(alloc: Global, files: &[File], store: &V, ask: &Ask) -> Reply
-    ensures { AnswersFrom (pages_of (V.content store.now)) files.now ask.now result }
+    ensures { AnswersFrom (V.pages store.now) files.now ask.now result }
 {
     match ask {
         Ask::Bytes { path, offset, len } => {
@@ -117,7 +117,7 @@ pub fn slots_of(files: &[File], index: usize) -> &[Slot]
 
 /// The checkpoint of a number.
 pub fn find_checkpoint(kept: &[Checkpoint], number: CheckpointNumber) -> Option<&Checkpoint>
-    ensures { option_copied result ≡ find nat_cmp number (map numbered kept.now) }
+    ensures { option_copied result ≡ find nat_cmp number (map by_number kept.now) }
 {
     kept.iter().find(|checkpoint| checkpoint.number == number)
 }

@@ -1,7 +1,27 @@
 //! What the pen's definitions mean, as contracts of functions that do nothing.
-ghost use Rattle.nl_core.specs.Laws.{MeansOneWorld};
+ghost use Rattle.nl_core.specs.Layout.{unshared};
+ghost use Rattle.nl_core.specs.Laws.{MeansOneWorld, EventsLeadOn, RunsLeadOn, RefusalsKeepPens, NoSpaceIsTrue, NoSpaceIsSaid};
 
 /// A pen means one world at most.
 pub fn pens_mean_one_world()
     ensures { MeansOneWorld }
+{}
+
+/// What events do to a pen, one or many, they do beside each world that the pen means: each reply is the one that the
+/// definitions give there, or an allowed refusal that keeps the world.
+pub fn worlds_follow_pens()
+    ensures event { EventsLeadOn unshared }
+    ensures events { RunsLeadOn unshared }
+{}
+
+/// A refusal leaves the pen and its device as they were, but for a fault.
+pub fn refusals_keep_pens()
+    ensures { RefusalsKeepPens unshared }
+{}
+
+/// A checkpoint is refused for space only where no list of logs fits what it writes. Where none fits, it is refused before
+/// anything is written.
+pub fn space_is_judged_exactly()
+    ensures only { NoSpaceIsTrue unshared }
+    ensures always { NoSpaceIsSaid unshared }
 {}

@@ -2,7 +2,7 @@
 ghost use Rattle.std.specs.Prelude.{◌≡◌, ◌↔◌, ◌⊎◌, ◌<◌, IfOk, IsErr, OnErr, IsOkUnless};
 ghost use Rattle.std.specs.Option.{option_map};
 ghost use Rattle.nl_dat.specs.Stores.{capacity, dat_entry_of, numbered_in};
-ghost use Rattle.nl_types.specs.Worlds.{World, formatted};
+ghost use Rattle.nl_types.specs.Worlds.{formatted};
 ghost use Rattle.nl_types.specs.Runs.{Run};
 
 use crate::draft::Draft;
@@ -11,10 +11,6 @@ use nl_dat::{Dat, DatEntry, Vstore};
 use nl_device::Device;
 use nl_segwriter::{LogSpace, Space};
 use nl_sufile::SegTable;
-use nl_types::laws::{
-    covered_numbers_stay, lifetimes_are_exact, new_volumes_are_worlds, numbers_end_once,
-    steps_keep_worlds,
-};
 use nl_types::{Answer, Event, Geometry, Mode, Reply, VirtualNumber, VolError};
 use std::alloc::Global;
 use std::marker::Model;
@@ -28,16 +24,16 @@ pub struct Pen<D: Device> {
 }
 
 impl<D: Device> Model for Pen<D> {
-    ghost use Rattle.nl_core.specs.Layout.{Layout, IsHeld, layout_of};
+    ghost use Rattle.nl_core.specs.Layout.{Layout, IsPen, layout_of};
 
     ghost Value = { Layout };
 
     ghost view = { λ p. layout_of p.tables.lists p.store };
 
-    ghost invariant = { λ p. IsHeld (layout_of p.tables.lists p.store) };
+    ghost invariant = { λ p. IsPen (layout_of p.tables.lists p.store) };
 }
 
-ghost use Rattle.nl_core.specs.Layout.{IsHeld, Does, layout_of, volume_of};
+ghost use Rattle.nl_core.specs.Layout.{IsPen, Does, layout_of, unshared, volume_of};
 ghost use Rattle.nl_types.specs.declared.event.Event.TheVariants.{Checkpoint};
 
 /// The next checkpoint: its draft, then the blocks that it writes, and then its lists. The draft takes the memory for the
@@ -49,27 +45,22 @@ fn checkpoint<S: Space>(
     mode: Mode,
     moment: u64,
 ) -> Reply
-    requires held { IsHeld (layout_of tables.old.lists store.old) }
-    ensures { Does (layout_of tables.old.lists store.old) (Checkpoint mode moment) result (layout_of tables.new.lists store.new) }
+    requires held { IsPen (layout_of tables.old.lists store.old) }
+    ensures { Does unshared (layout_of tables.old.lists store.old)
+        (Checkpoint mode moment) result (layout_of tables.new.lists store.new) }
 {
-    lifetimes_are_exact();
-    covered_numbers_stay();
-    numbers_end_once();
     let draft = tables.draft(alloc, store, mode, moment)?;
     let Draft {
         checkpoint,
         files,
         batch,
     } = draft;
-    let written = store.write(alloc, &batch, checkpoint.number, checkpoint.stamp);
-    // Its contract tells what is true of every store, also of one that a fault leaves.
-    store.capacity();
-    written?;
+    store.write(alloc, &batch, checkpoint.number, checkpoint.stamp)?;
     Ok(Answer::Checkpoint(tables.publish(checkpoint, files)))
 }
 
 impl<D: Device> Pen<D> {
-    ghost use Rattle.nl_core.specs.Layout.{IsFresh, Moves};
+    ghost use Rattle.nl_core.specs.Layout.{IsFresh, IsFormatted};
     ghost use Rattle.nl_core.specs.Means.{Means};
 
     /// A volume on a device of this geometry, with checkpoint 1 of the root alone. What the device holds is no part of it.
@@ -78,15 +69,12 @@ impl<D: Device> Pen<D> {
         requires shape { D.shape device ≡ geometry }
         ensures means { IfOk result (λ pen. Means (volume_of pen) (formatted now)) }
         ensures fresh { IfOk result (IsFresh geometry (D.pages device) (D.failure_count device)) }
-        ensures held { IfOk result IsHeld }
+        ensures ledger { IfOk result IsFormatted }
+        ensures pen { IfOk result IsPen }
         ensures refused { IsOkUnless result VolError.Memory }
     {
-        new_volumes_are_worlds();
-        lifetimes_are_exact();
         let space = LogSpace::new(alloc, device, geometry)?;
         let store = Dat::new(alloc, space)?;
-        // Its contract tells what is true of every store.
-        store.capacity();
         Ok(Pen {
             alloc,
             store,
@@ -99,7 +87,8 @@ impl<D: Device> Pen<D> {
     pub fn entry(&self, number: VirtualNumber) -> Result<Option<DatEntry>, VolError>
         ensures range { IsErr result ↔ ((number ≡ 0) ⊎ (capacity self.now.store < number)) }
         ensures kind { OnErr result (result ≡ Err VolError.BadRange) }
-        ensures entry { IfOk result (λ entry. entry ≡ option_map dat_entry_of (numbered_in self.now.store number)) }
+        ensures entry { IfOk result (λ entry.
+            entry ≡ option_map dat_entry_of (numbered_in self.now.store number)) }
     {
         self.store.entry(number)
     }
@@ -113,11 +102,10 @@ impl<D: Device> Pen<D> {
 
     /// One event. A refusal leaves the world as it was. `NoSpace` comes only of a checkpoint whose changed blocks no list
     /// of logs fits, `Fault` only where the device failed during a checkpoint, and `Memory` only by want of memory.
+    /// `nl_core::laws` has what follows.
     pub fn apply(&mut self, event: &Event) -> Reply
-        ensures moves { Moves self.old event.now result self.new }
-        ensures does { Does self.old event.now result self.new }
+        ensures { Does unshared self.old event.now result self.new }
     {
-        steps_keep_worlds();
         match event {
             Event::Apply(change) => self.tables.change(self.alloc, &self.store, change),
             Event::Read(ask) => self.tables.read(self.alloc, &self.store, ask),
@@ -136,8 +124,7 @@ impl<D: Device> Pen<D> {
     }
 }
 
-ghost use Rattle.nl_core.specs.Layout.{Moved};
-ghost use Rattle.nl_core.specs.Means.{Means};
+ghost use Rattle.nl_core.specs.Layout.{Runs};
 
 /// Does the events in order. Each reply is that of plain files with a whole copied tree for each checkpoint. Refused by
 /// `Memory` before the first event, or not at all.
@@ -146,7 +133,10 @@ pub fn run<D: Device>(
     pen: &mut Pen<D>,
     events: &[Event],
 ) -> Result<Vec<Reply>, VolError>
-    ensures run { IfOk result (λ replies. (w : World) → Means (volume_of pen.old) w → (after : World) × Run Moved (pen.old, w) events.now replies.items (pen.new, after)) }
+    ensures run { IfOk result (λ replies.
+        Run (Does unshared) pen.old events.now replies.items pen.new) }
+    ensures worlds { IfOk result (λ replies.
+        Runs unshared pen.old events.now replies.items pen.new) }
     ensures refused { IsOkUnless result VolError.Memory }
     ensures err { OnErr result (pen.new ≡ pen.old) }
 {

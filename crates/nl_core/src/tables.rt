@@ -4,11 +4,9 @@ ghost use Rattle.std.specs.Option.{option_copied};
 ghost use Rattle.std.specs.Ordering.{nat_cmp};
 ghost use Rattle.std.specs.FinMap.{find};
 ghost use Rattle.nl_types.specs.Limits.{path_limit};
-ghost use Rattle.nl_types.specs.Roots.{Pages, pages_of};
-ghost use Rattle.nl_dat.specs.Batches.{is_live};
-ghost use Rattle.nl_dat.specs.Stores.{capacity};
-ghost use Rattle.nl_core.specs.Content.{slot_at};
-ghost use Rattle.nl_core.specs.Settled.{number_in};
+ghost use Rattle.nl_types.specs.Roots.{Pages};
+ghost use Rattle.nl_dat.specs.Stores.{content_in};
+ghost use Rattle.nl_core.specs.Settled.{AreLive};
 ghost use Rattle.nl_types.specs.Worlds.{IsWorld, formatted};
 
 use crate::checkpoint::{Checkpoint, Mounted};
@@ -51,11 +49,11 @@ impl Model for Tables {
 impl Tables {
     ghost use Rattle.nl_types.specs.declared.event.Event.TheVariants.{Apply, Read, Mount, MountRead};
     ghost use Rattle.nl_types.specs.declared.event.Change.TheVariants.{Create, Write};
-    ghost use Rattle.nl_core.specs.Volume.{IsSound, kept_by, over, published};
-    ghost use Rattle.nl_core.specs.Means.{Means, Follows, numbered};
+    ghost use Rattle.nl_core.specs.Volume.{IsSoundVolume, kept_by, over, published, with_mount};
+    ghost use Rattle.nl_core.specs.Means.{by_number};
     ghost use Rattle.nl_core.specs.Draft.{IsDraftRefusal, IsNextDraft};
     ghost use Rattle.nl_core.specs.Changes.{HasCreated, HasWritten, HasChanged};
-    ghost use Rattle.nl_core.specs.Tables.{KeepsBlocks, new_lists};
+    ghost use Rattle.nl_core.specs.Tables.{FollowsOver, KeepsBlocks, new_lists};
 
     /// The tables of a volume just formatted, with checkpoint 1 of the root alone. They take no memory yet.
     pub fn format(alloc: Global, now: u64) -> Tables
@@ -77,9 +75,12 @@ impl Tables {
     }
 
     fn create(&mut self, alloc: Global, path: &[u8]) -> Reply
-        ensures follows { (pages : Pages) → Follows (over pages self.old.lists) (Apply (Create path.now)) result (over pages self.new.lists) }
-        ensures changed { IfOk result (λ _. HasCreated path.now self.old.lists.files self.new.lists.files) }
-        ensures blocks { (pages : Pages) → IsSound (over pages self.old.lists) → KeepsBlocks pages self.old.lists result self.new.lists }
+        ensures follows { (pages : Pages)
+            → FollowsOver pages self.old.lists (Apply (Create path.now)) result self.new.lists }
+        ensures changed { IfOk result (λ _.
+            HasCreated path.now self.old.lists.files self.new.lists.files) }
+        ensures blocks { (pages : Pages) → IsSoundVolume (over pages self.old.lists)
+            → KeepsBlocks pages self.old.lists result self.new.lists }
     {
         let name = find_free(alloc, &self.files, path)?;
         self.files.push(File {
@@ -99,10 +100,12 @@ impl Tables {
         offset: u64,
         bytes: &[u8],
     ) -> Reply
-        requires sound { IsSound (over (pages_of (V.content store.now)) self.old.lists) }
-        ensures follows { Follows (over (pages_of (V.content store.now)) self.old.lists) (Apply (Write path.now offset bytes.now)) result (over (pages_of (V.content store.now)) self.new.lists) }
-        ensures changed { IfOk result (λ _. HasWritten path.now offset (length bytes.now) self.old.lists.files self.new.lists.files) }
-        ensures blocks { KeepsBlocks (pages_of (V.content store.now)) self.old.lists result self.new.lists }
+        requires sound { IsSoundVolume (over (V.pages store.now) self.old.lists) }
+        ensures follows { FollowsOver (V.pages store.now) self.old.lists
+            (Apply (Write path.now offset bytes.now)) result self.new.lists }
+        ensures changed { IfOk result (λ _.
+            HasWritten path.now offset (length bytes.now) self.old.lists.files self.new.lists.files) }
+        ensures blocks { KeepsBlocks (V.pages store.now) self.old.lists result self.new.lists }
     {
         let index = find_file(&self.files, path)?;
         let len = bytes.len() as u64;
@@ -120,10 +123,12 @@ impl Tables {
 
     /// A change of the current tree.
     pub fn change<V: VRead>(&mut self, alloc: Global, store: &V, change: &Change) -> Reply
-        requires sound { IsSound (over (pages_of (V.content store.now)) self.old.lists) }
-        ensures follows { Follows (over (pages_of (V.content store.now)) self.old.lists) (Apply change.now) result (over (pages_of (V.content store.now)) self.new.lists) }
-        ensures changed { IfOk result (λ _. HasChanged change.now self.old.lists.files self.new.lists.files) }
-        ensures blocks { KeepsBlocks (pages_of (V.content store.now)) self.old.lists result self.new.lists }
+        requires sound { IsSoundVolume (over (V.pages store.now) self.old.lists) }
+        ensures follows { FollowsOver (V.pages store.now) self.old.lists
+            (Apply change.now) result self.new.lists }
+        ensures changed { IfOk result (λ _.
+            HasChanged change.now self.old.lists.files self.new.lists.files) }
+        ensures blocks { KeepsBlocks (V.pages store.now) self.old.lists result self.new.lists }
     {
         match change {
             Change::Create { path } => self.create(alloc, path.as_slice()),
@@ -137,14 +142,14 @@ impl Tables {
 
     /// What the current tree answers.
     pub fn read<V: VRead>(&self, alloc: Global, store: &V, ask: &Ask) -> Reply
-        ensures { Follows (over (pages_of (V.content store.now)) self.now.lists) (Read ask.now) result (over (pages_of (V.content store.now)) self.now.lists) }
+        ensures { FollowsOver (V.pages store.now) self.now.lists (Read ask.now) result self.now.lists }
     {
         answer(alloc, &self.files, store, ask)
     }
 
     /// The kept checkpoint of a number.
     fn kept(&self, number: CheckpointNumber) -> Option<&Checkpoint>
-        ensures { option_copied result ≡ find nat_cmp number (map numbered (kept_by self.now.lists)) }
+        ensures { option_copied result ≡ find nat_cmp number (map by_number (kept_by self.now.lists)) }
     {
         match find_checkpoint(&self.earlier, number) {
             Some(checkpoint) => Some(checkpoint),
@@ -155,9 +160,11 @@ impl Tables {
 
     /// Mounts a snapshot.
     pub fn mount(&mut self, number: CheckpointNumber) -> Reply
-        ensures follows { (pages : Pages) → Follows (over pages self.old.lists) (Mount number) result (over pages self.new.lists) }
-        ensures files { self.new.lists.files ≡ self.old.lists.files }
-        ensures blocks { (pages : Pages) → IsSound (over pages self.old.lists) → KeepsBlocks pages self.old.lists result self.new.lists }
+        ensures follows { (pages : Pages)
+            → FollowsOver pages self.old.lists (Mount number) result self.new.lists }
+        ensures mounted { IfOk result (λ _. self.new.lists ≡ with_mount number self.old.lists) }
+        ensures blocks { (pages : Pages) → IsSoundVolume (over pages self.old.lists)
+            → KeepsBlocks pages self.old.lists result self.new.lists }
     {
         match self.kept(number) {
             None => return Err(VolError::NoCheckpoint),
@@ -186,7 +193,8 @@ impl Tables {
         mount: MountNumber,
         ask: &Ask,
     ) -> Reply
-        ensures { Follows (over (pages_of (V.content store.now)) self.now.lists) (MountRead mount ask.now) result (over (pages_of (V.content store.now)) self.now.lists) }
+        ensures { FollowsOver (V.pages store.now) self.now.lists
+            (MountRead mount ask.now) result self.now.lists }
     {
         let Some(number) = find_mounted(&self.mounts, mount) else {
             return Err(VolError::BadMount);
@@ -197,7 +205,7 @@ impl Tables {
         answer(alloc, checkpoint.files.as_slice(), store, ask)
     }
 
-    /// The next checkpoint, with all the memory that it takes. Refused by `NumbersSpent`, `NoSpace` and `Memory`.
+    /// The next checkpoint, with all the memory that it takes. Refused by `NumbersSpent` and `Memory`.
     pub fn draft<V: Vstore>(
         &mut self,
         alloc: Global,
@@ -206,10 +214,10 @@ impl Tables {
         moment: u64,
     ) -> Result<Draft, VolError>
         requires few { length self.old.lists.files ≤ path_limit }
-        requires live { (k i v : ℕ) → number_in (slot_at self.old.lists.latest.files k i) ≡ Some v → is_live (V.content store.now v) ≡ true }
+        requires live { AreLive (content_in (V.store store.now)) self.old.lists.latest.files }
         ensures same { self.new.lists ≡ self.old.lists }
-        ensures drafted { IfOk result (IsNextDraft (capacity (V.store store.now)) (V.content store.now) mode moment self.old.lists) }
-        ensures refused { IfErr result (IsDraftRefusal (V.store store.now).segments self.old.lists) }
+        ensures drafted { IfOk result (IsNextDraft (V.store store.now) mode moment self.old.lists) }
+        ensures refused { IfErr result (IsDraftRefusal self.old.lists) }
         ensures room { OnOk result (0 < self.new.room) }
     {
         if self.latest.number.get() >= LAST_CHECKPOINT {

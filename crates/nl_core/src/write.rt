@@ -1,8 +1,7 @@
 //! Bytes written to a file, over the blocks that the latest checkpoint has.
 ghost use Rattle.std.specs.Prelude.{◌≡◌, ℕ, ◌+◌, ◌*◌, ◌/◌, ◌^◌, ◌<◌, ◌≤◌, ◌-◌, Some, IfOk, OnOk, OnErr, length, slice_index, max};
-ghost use Rattle.nl_types.specs.Roots.{pages_of};
 ghost use Rattle.nl_core.specs.Content.{bytes_in, block_in, slot_in, IsThere, IsTidy, IsKept, IsPlaced, IsMarkedOver};
-ghost use Rattle.nl_core.specs.Over.{byte_over, slot_over, block_end, IsBlockOver, IsWritten};
+ghost use Rattle.nl_core.specs.Over.{byte_over, slot_over, block_end, IsBlockOver, HasBytesOver};
 
 use crate::file::{File, Slot, slot_or};
 use nl_dat::VRead;
@@ -21,7 +20,7 @@ fn byte_after<V: VRead>(
     requires index { index < 1024 }
     requires start { start ≤ 67108864 }
     requires end { offset + length bytes.now ≤ 67108864 }
-    ensures { result ≡ byte_over bytes.now offset (start + index) (slice_index (bytes_in (pages_of (V.content store.now)) slot.now) index) }
+    ensures { result ≡ byte_over bytes.now offset (start + index) (slice_index (bytes_in (V.pages store.now) slot.now) index) }
 {
     let at = start + index as u64;
     if at < offset || at >= offset + bytes.len() as u64 {
@@ -40,7 +39,7 @@ fn block_after<V: VRead>(
 ) -> [u8; BLOCK_SIZE]
     requires start { start ≤ 67108864 }
     requires end { offset + length bytes.now ≤ 67108864 }
-    ensures { IsBlockOver (pages_of (V.content store.now)) start offset bytes.now slot.now result }
+    ensures { IsBlockOver (V.pages store.now) start offset bytes.now slot.now result }
 {
     let mut block = [0; BLOCK_SIZE];
     for index in 0..BLOCK_SIZE {
@@ -51,11 +50,11 @@ fn block_after<V: VRead>(
 
 /// The slot of a block that has these bytes now: the latest checkpoint's, where that has the same bytes.
 fn slot_with<V: VRead>(latest: &Slot, store: &V, page: Page) -> Slot
-    requires { IsKept (pages_of (V.content store.now)) latest.now }
-    ensures block { block_in (pages_of (V.content store.now)) result ≡ Some page }
+    requires { IsKept (V.pages store.now) latest.now }
+    ensures block { block_in (V.pages store.now) result ≡ Some page }
     ensures there { IsThere result }
-    ensures marked { IsMarkedOver (pages_of (V.content store.now)) latest.now result }
-    ensures placed { IsPlaced (pages_of (V.content store.now)) result }
+    ensures marked { IsMarkedOver (V.pages store.now) latest.now result }
+    ensures placed { IsPlaced (V.pages store.now) result }
 {
     if !latest.has_bytes(store, &page) {
         return Slot::Changed(page);
@@ -78,11 +77,11 @@ fn written_slot<V: VRead>(
 ) -> Result<Slot, AllocError>
     requires start { start ≤ 67108864 }
     requires end { offset + length bytes.now ≤ 67108864 }
-    requires kept { IsKept (pages_of (V.content store.now)) latest.now }
-    ensures block { IfOk result (λ new. IsBlockOver (pages_of (V.content store.now)) start offset bytes.now slot.now (bytes_in (pages_of (V.content store.now)) new)) }
+    requires kept { IsKept (V.pages store.now) latest.now }
+    ensures block { IfOk result (λ new. IsBlockOver (V.pages store.now) start offset bytes.now slot.now (bytes_in (V.pages store.now) new)) }
     ensures there { IfOk result IsThere }
-    ensures marked { IfOk result (IsMarkedOver (pages_of (V.content store.now)) latest.now) }
-    ensures placed { IfOk result (IsPlaced (pages_of (V.content store.now))) }
+    ensures marked { IfOk result (IsMarkedOver (V.pages store.now) latest.now) }
+    ensures placed { IfOk result (IsPlaced (V.pages store.now)) }
 {
     let block = Block::new(block_after(slot, store, start, offset, bytes));
     Ok(slot_with(latest, store, Page::new(alloc, block)?))
@@ -98,12 +97,12 @@ fn written_slots<V: VRead>(
     bytes: &[u8],
 ) -> Result<Vec<Slot>, AllocError>
     requires end { offset + length bytes.now ≤ 67108864 }
-    requires kept { (i : ℕ) → IsKept (pages_of (V.content store.now)) (slot_in latest.now i) }
+    requires kept { (i : ℕ) → IsKept (V.pages store.now) (slot_in latest.now i) }
     ensures count { IfOk result (λ new. offset / 1024 + length new.items ≡ block_end offset (length bytes.now)) }
-    ensures blocks { IfOk result (λ new. (k : ℕ) → k < length new.items → IsBlockOver (pages_of (V.content store.now)) (1024 * (offset / 1024 + k)) offset bytes.now (slot_in slots.now (offset / 1024 + k)) (bytes_in (pages_of (V.content store.now)) (slot_in new.items k))) }
+    ensures blocks { IfOk result (λ new. (k : ℕ) → k < length new.items → IsBlockOver (V.pages store.now) (1024 * (offset / 1024 + k)) offset bytes.now (slot_in slots.now (offset / 1024 + k)) (bytes_in (V.pages store.now) (slot_in new.items k))) }
     ensures there { IfOk result (λ new. (k : ℕ) → k < length new.items → IsThere (slot_in new.items k)) }
-    ensures marked { IfOk result (λ new. (k : ℕ) → k < length new.items → IsMarkedOver (pages_of (V.content store.now)) (slot_in latest.now (offset / 1024 + k)) (slot_in new.items k)) }
-    ensures placed { IfOk result (λ new. (k : ℕ) → k < length new.items → IsPlaced (pages_of (V.content store.now)) (slot_in new.items k)) }
+    ensures marked { IfOk result (λ new. (k : ℕ) → k < length new.items → IsMarkedOver (V.pages store.now) (slot_in latest.now (offset / 1024 + k)) (slot_in new.items k)) }
+    ensures placed { IfOk result (λ new. (k : ℕ) → k < length new.items → IsPlaced (V.pages store.now) (slot_in new.items k)) }
 {
     let first = offset / 1024;
     let end = match bytes.len() as u64 {
@@ -166,10 +165,10 @@ impl File {
         bytes: &[u8],
     ) -> Result<(), AllocError>
         requires end { offset + length bytes.now ≤ 67108864 }
-        requires tidy { IsTidy (pages_of (V.content store.now)) self.old }
+        requires tidy { IsTidy (V.pages store.now) self.old }
         requires count { length self.old.slots ≤ 65536 }
-        requires kept { (i : ℕ) → IsKept (pages_of (V.content store.now)) (slot_in latest.now i) }
-        ensures ok { OnOk result (IsWritten (pages_of (V.content store.now)) latest.now offset bytes.now self.old self.new) }
+        requires kept { (i : ℕ) → IsKept (V.pages store.now) (slot_in latest.now i) }
+        ensures ok { OnOk result (HasBytesOver (V.pages store.now) latest.now offset bytes.now self.old self.new) }
         ensures err { OnErr result (self.new ≡ self.old) }
     {
         let written = written_slots(alloc, self.slots.as_slice(), latest, store, offset, bytes)?;

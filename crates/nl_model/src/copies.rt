@@ -1,9 +1,9 @@
 //! Lists of kept checkpoints.
 ghost use Rattle.std.specs.Prelude.{◌≡◌};
-ghost use Rattle.std.specs.Option.{option_copied, option_map_or};
+ghost use Rattle.std.specs.Option.{option_copied};
 ghost use Rattle.std.specs.Ordering.{nat_cmp};
 ghost use Rattle.std.specs.FinMap.{find};
-ghost use Rattle.nl_types.specs.Worlds.{greatest, numbers, is_snapshot};
+ghost use Rattle.nl_types.specs.Worlds.{greatest, greatest_stamp, numbers, is_snapshot};
 
 use crate::tree::Tree;
 use nl_types::{CheckpointNumber, Mode};
@@ -39,7 +39,7 @@ pub fn greatest_number(copies: &[(CheckpointNumber, Kept)]) -> u64
 
 /// The stamp of the latest checkpoint, or 0 where none is kept.
 pub fn stamp_of_latest(copies: &[(CheckpointNumber, Kept)]) -> u64
-    ensures { result ≡ option_map_or (λ copy. copy.stamp) (find nat_cmp (greatest (numbers copies.now)) copies.now) 0 }
+    ensures { result ≡ greatest_stamp copies.now }
 {
     match find_copy(copies, CheckpointNumber::new(greatest_number(copies))) {
         Some(kept) => kept.stamp,

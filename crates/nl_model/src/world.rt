@@ -3,7 +3,8 @@ ghost use Rattle.std.specs.Prelude.{◌≡◌, IfOk};
 ghost use Rattle.std.specs.Ordering.{nat_cmp};
 ghost use Rattle.std.specs.FinMap.{find};
 ghost use Rattle.nl_types.specs.Calls.{IsUnlessMemory};
-ghost use Rattle.nl_types.specs.Worlds.{formatted, apply_change, checkpoint, mount, mount_read, step, IsDoneUnlessMemory};
+ghost use Rattle.nl_types.specs.Worlds.{formatted, apply_change, checkpoint, mount, mount_read, IsDoneUnlessMemory};
+ghost use Rattle.nl_model.specs.Model.{ModelStep};
 
 use crate::calls::{make, marks_dirty, reply};
 use crate::copies::{Kept, find_copy, greatest_number, is_snapshot_mode, stamp_of_latest};
@@ -155,7 +156,7 @@ impl World {
     ///   numbers have run out.
     /// - A read of a mount is a read of the snapshot's tree. `BadMount` where no such mount stands.
     pub fn apply(&mut self, alloc: Global, event: &Event) -> Reply
-        ensures { IsDoneUnlessMemory result self.new self.old (step self.old event.now) }
+        ensures { ModelStep self.old event.now result self.new }
     {
         match event {
             Event::Apply(asked) => self.change(alloc, asked),

@@ -6,6 +6,7 @@ use Rattle.nl_types.specs.declared.event.Event.TheVariants.{Apply, Read, Mount, 
 use Rattle.nl_types.specs.declared.event.Change.TheVariants.{Create, Write}
 use Rattle.nl_types.specs.declared.event.Ask.{Ask}
 use Rattle.nl_types.specs.declared.event.Ask.TheVariants.{Bytes}
+use Rattle.nl_types.specs.Limits.{file_limit}
 use Rattle.nlvol.specs.declared.arguments.Arguments.{Arguments}
 use Rattle.nlvol.specs.Options.{operands_of, HasValue, LacksValue}
 use denote.Ref.{Bor}
@@ -21,31 +22,37 @@ Spells word number = IsNumber word × (digits_value 10 word ≡ number)
 -- ---- the event that a command's words ask for
 
 abbrev pub IsCreate : Arguments → Event → Type 0
-IsCreate given event = (path : Bor (List ℕ)) × (operands_of given ≡ path ∷ []) × (event ≡ Apply (Create path.now))
+IsCreate given event =
+    (path : Bor (List ℕ)) × (operands_of given ≡ path ∷ []) × (event ≡ Apply (Create path.now))
 
 abbrev pub IsWrite : Arguments → Event → Type 0
 IsWrite given event =
     (path : Bor (List ℕ)) × (word : Bor (List ℕ)) × (text : Bor (List ℕ)) × (offset : ℕ)
-    × (operands_of given ≡ path ∷ word ∷ text ∷ []) × Spells word.now offset × (event ≡ Apply (Write path.now offset text.now))
+    × (operands_of given ≡ path ∷ word ∷ text ∷ []) × Spells word.now offset
+    × (event ≡ Apply (Write path.now offset text.now))
 
 abbrev pub IsMount : Arguments → Event → Type 0
-IsMount given event = (word : Bor (List ℕ)) × (number : ℕ) × (operands_of given ≡ word ∷ []) × Spells word.now number × (event ≡ Mount number)
+IsMount given event =
+    (word : Bor (List ℕ)) × (number : ℕ) × (operands_of given ≡ word ∷ []) × Spells word.now number
+    × (event ≡ Mount number)
 
 -- all the bytes that a file may have, from the first on
 abbrev pub whole : List ℕ → Ask
-whole path = Bytes path 0 67108864
+whole path = Bytes path 0 file_limit
 
 abbrev pub IsCat : Arguments → Event → Type 0
 IsCat given event =
     (path : Bor (List ℕ)) × (operands_of given ≡ path ∷ [])
     × ((LacksValue given (codes "-m") × (event ≡ Read (whole path.now)))
-    ⊎ ((word : Bor (List ℕ)) × (number : ℕ) × HasValue given (codes "-m") word × Spells word.now number × (event ≡ MountRead number (whole path.now))))
+    ⊎ ((word : Bor (List ℕ)) × (number : ℕ) × HasValue given (codes "-m") word × Spells word.now number
+    × (event ≡ MountRead number (whole path.now))))
 
 -- ---- the form of its operands
 
 abbrev pub HasWriteForm : Arguments → Type 0
 HasWriteForm given =
-    (path : Bor (List ℕ)) × (word : Bor (List ℕ)) × (text : Bor (List ℕ)) × (operands_of given ≡ path ∷ word ∷ text ∷ []) × IsNumber word.now
+    (path : Bor (List ℕ)) × (word : Bor (List ℕ)) × (text : Bor (List ℕ))
+    × (operands_of given ≡ path ∷ word ∷ text ∷ []) × IsNumber word.now
 
 abbrev pub HasMountForm : Arguments → Type 0
 HasMountForm given = (word : Bor (List ℕ)) × (operands_of given ≡ word ∷ []) × IsNumber word.now

@@ -14,8 +14,10 @@ HasOption arguments name = Any (λ (given : Given). given.name.now ≡ name) arg
 
 -- it is given with this value
 abbrev pub HasValue : Arguments → List ℕ → Bor (List ℕ) → Type 0
-HasValue arguments name value = Any (λ (given : Given). (given.name.now ≡ name) × (given.value ≡ Some value)) arguments.options.items
+HasValue arguments name value =
+    Any (λ (given : Given). (given.name.now ≡ name) × (given.value ≡ Some value)) arguments.options.items
 
 -- it is not given, or without a value
 abbrev pub LacksValue : Arguments → List ℕ → Type 0
-LacksValue arguments name = All (λ (given : Given). given.name.now ≡ name → given.value ≡ None) arguments.options.items
+LacksValue arguments name =
+    All (λ (given : Given). given.name.now ≡ name → given.value ≡ None) arguments.options.items

@@ -20,12 +20,14 @@ pub record IsQuotedWord (text word rest : List ℕ) : Type 0 where
 
 -- the word ends at the first blank, behind which the rest stands, or with the text
 pub record IsPlainWord (text word rest : List ℕ) : Type 0 where
-  pub parts : ((text ≡ word) × (rest ≡ [])) ⊎ ((blank : ℕ) × (is_blank blank ≡ true) × (text ≡ word ++ blank ∷ rest))
+  pub parts : ((text ≡ word) × (rest ≡ []))
+      ⊎ ((blank : ℕ) × (is_blank blank ≡ true) × (text ≡ word ++ blank ∷ rest))
   pub inside : All (λ byte. is_blank byte ≡ false) word
 
 -- the first word of a text that begins with one, and what follows it
 abbrev pub IsFirstWord : List ℕ → List ℕ → List ℕ → Type 0
-IsFirstWord text word rest = IsQuotedWord text word rest ⊎ ((slice_index text 0 ≢ 34) × IsPlainWord text word rest)
+IsFirstWord text word rest =
+    IsQuotedWord text word rest ⊎ ((slice_index text 0 ≢ 34) × IsPlainWord text word rest)
 
 -- the rest stands behind the blanks that begin the text
 pub record IsTrimmed (text rest : List ℕ) : Type 0 where
@@ -38,7 +40,8 @@ pub record IsTrimmed (text rest : List ℕ) : Type 0 where
 abbrev pub BeginsWith : List ℕ → List (Bor (List ℕ)) → List ℕ → Type 0
 BeginsWith text [] rest = rest ≡ text
 BeginsWith text (word ∷ words) rest =
-    (start : List ℕ) × (behind : List ℕ) × IsTrimmed text start × (start ≢ []) × IsFirstWord start word.now behind × BeginsWith behind words rest
+    (start : List ℕ) × (behind : List ℕ) × IsTrimmed text start × (start ≢ [])
+    × IsFirstWord start word.now behind × BeginsWith behind words rest
 
 -- they are all its words
 abbrev pub AreWords : List ℕ → List (Bor (List ℕ)) → Type 0
@@ -46,4 +49,6 @@ AreWords text words = (rest : List ℕ) × BeginsWith text words rest × IsTrimm
 
 -- behind some of its words, the text has one that a quotation mark begins and none ends
 abbrev pub HasOpenWord : List ℕ → Type 0
-HasOpenWord text = (words : List (Bor (List ℕ))) × (rest : List ℕ) × (start : List ℕ) × BeginsWith text words rest × IsTrimmed rest start × IsOpen start
+HasOpenWord text =
+    (words : List (Bor (List ℕ))) × (rest : List ℕ) × (start : List ℕ)
+    × BeginsWith text words rest × IsTrimmed rest start × IsOpen start

@@ -133,8 +133,10 @@ impl<'a> Arguments<'a> {
     /// Adds an option.
     fn give(&mut self, name: &'static str, value: Option<&'a str>) -> Result<Place, LineError>
         ensures twice { HasOption self.old name.now → IsErrOf result LineError.Usage }
-        ensures hyphen { IfSome value.entry (λ word. slice_index word.now 0 ≡ 45 → IsErrOf result LineError.Usage) }
-        ensures fits { ¬ (HasOption self.old name.now) → IfSome value.entry (λ word. slice_index word.now 0 ≢ 45) → ¬ (IsErrOf result LineError.Usage) }
+        ensures hyphen { IfSome value.entry (λ word.
+            slice_index word.now 0 ≡ 45 → IsErrOf result LineError.Usage) }
+        ensures fits { ¬ (HasOption self.old name.now) → IfSome value.entry (λ word. slice_index word.now 0 ≢ 45)
+            → ¬ (IsErrOf result LineError.Usage) }
         ensures given { IsOk result → HasOption self.new name.now }
         ensures operands { operands_of self.new ≡ operands_of self.old }
     {

@@ -66,8 +66,10 @@ fn write(alloc: Global, arguments: &Arguments<'_>) -> Result<Event, LineError>
 /// `mkcp [-s]`
 fn checkpoint(arguments: &Arguments<'_>) -> Result<Event, LineError>
     ensures form { IsOk result ↔ (operands_of arguments.now ≡ []) }
-    ensures snapshot { HasOption arguments.now (codes "-s") → IfOk result (λ event. event ≡ Checkpoint Snapshot 0) }
-    ensures plain { ¬ (HasOption arguments.now (codes "-s")) → IfOk result (λ event. event ≡ Checkpoint Plain 0) }
+    ensures snapshot { HasOption arguments.now (codes "-s")
+        → IfOk result (λ event. event ≡ Checkpoint Snapshot 0) }
+    ensures plain { ¬ (HasOption arguments.now (codes "-s"))
+        → IfOk result (λ event. event ≡ Checkpoint Plain 0) }
 {
     if !arguments.operands().is_empty() {
         return Err(LineError::Usage);
@@ -98,7 +100,8 @@ fn mount(arguments: &Arguments<'_>) -> Result<Event, LineError>
 /// `cat [-m MOUNT] PATH`
 fn cat(alloc: Global, arguments: &Arguments<'_>) -> Result<Event, LineError>
     ensures ok { IfOk result (IsCat arguments.now) }
-    ensures current { length (operands_of arguments.now) ≡ 1 → ¬ (HasOption arguments.now (codes "-m")) → ¬ (IsErrOf result LineError.Usage) }
+    ensures current { length (operands_of arguments.now) ≡ 1
+        → ¬ (HasOption arguments.now (codes "-m")) → ¬ (IsErrOf result LineError.Usage) }
 {
     let [path] = arguments.operands() else {
         return Err(LineError::Usage);

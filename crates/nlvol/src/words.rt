@@ -18,7 +18,8 @@ fn plain_word(text: &str) -> (&str, &str)
 /// The first word of a text that begins with one, and what follows it. There is none where the text
 /// begins with a quotation mark and has no other.
 fn first_word(text: &str) -> Option<(&str, &str)>
-    ensures { MatchOption result (IsOpen text.now) (λ parts. IsFirstWord text.now parts.0.now parts.1.now) }
+    ensures { MatchOption result (IsOpen text.now)
+        (λ parts. IsFirstWord text.now parts.0.now parts.1.now) }
 {
     match text.strip_prefix('"') {
         Some(quoted) => quoted.split_once('"'),

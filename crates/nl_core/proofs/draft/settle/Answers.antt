@@ -1,29 +1,17 @@
 use Rattle.std.proofs.Common.{◌≡◌, ℕ, ◌+◌, ◌<◌, List, length, refl, ap, sym, subst, ◌∙◌, arith}
 use Rattle.std.proofs.lemmas.List.{length_push}
-use Rattle.std.proofs.lemmas.Result.{err_from_is_err_and}
 use Rattle.nl_types.specs.Entries.{Place}
+use Rattle.nl_dat.specs.Stores.{content_in}
 use Rattle.nl_core.specs.Content.{file_in, no_file}
 use Rattle.nl_core.specs.Settled.{number_in, numbers_of, changed_slots, IsSettledFile}
 use Rattle.nl_core.specs.Gains.{Gains}
 use Rattle.nl_core.specs.declared.file.File.{File}
-use Rattle.nl_core.proofs.Gaining.{gains-append, changed_files-more, files-step, files-left, numbers_of-place, element-is, refusal-more}
+use Rattle.nl_core.proofs.Gaining.{gains-append, changed_files-more, files-step, numbers_of-place, element-is}
 use Rattle.nl_core.proofs.draft.settle.Goals as goal
-
-pub returns-in_err-settle_file-clause-refused : goal.returns-in_err-settle_file-clause-refused
-returns-in_err-settle_file-clause-refused g c =
-    let p = err_from_is_err_and c.from_residual.result c.from_residual.ensures.1 in
-    let content = g.V.VRead.content c.args.store.now in
-    let files = c.args.files.now in
-    let i = c.loop-index.index in
-    let within : i < length files = omega arith in
-    let here : c.index-files-index.result ≡ file_in files i = element-is files files i c.index-files-index.result no_file c.index-files-index.is refl within in
-    rw (p.1, p.2) (refusal-more (g.V.Vstore.store c.args.store.now).segments _ _ c.in_err-settle_file.field-0.0
-    (omega (arith, files-left content (numbers_of c.args.latest.now) i files c.args.batch.now c.loop-index.batch within c.loop-index.invariant.gains, ap (λ (file : File). length (changed_slots i 0 file.slots)) here))
-    c.in_err-settle_file.ensures.refused)
 
 pub loop-index-preserved : goal.loop-index-preserved
 loop-index-preserved g c =
-    let content = g.V.VRead.content c.args.store.now in
+    let content = content_in (g.V.Vstore.store c.args.store.now) in
     let numbers = numbers_of c.args.latest.now in
     let files = c.args.files.now in
     let i = c.loop-index.index in

@@ -1,13 +1,14 @@
-use Rattle.std.proofs.Common.{◌≡◌, true, length, sym, ap, ◌∙◌, subst}
+use Rattle.std.proofs.Common.{◌≡◌, sym, ap, ◌∙◌, subst}
 use Rattle.std.specs.Prelude.{Ok, Err}
 use Rattle.std.proofs.lemmas.Result.{err_from_is_err_and}
 use Rattle.nl_types.specs.declared.event.Event.TheVariants as event
 use Rattle.nl_types.specs.declared.reply.Answer.TheVariants as answer
-use Rattle.nl_dat.specs.Stores.{IsWritten, IsBrokenOff, capacity}
+use Rattle.nl_dat.specs.Stores.{IsWritten, IsWriteRefused, capacity}
 use Rattle.nl_core.specs.Volume.{next_checkpoint, published}
-use Rattle.nl_core.specs.Layout.{Does, layout_of}
+use Rattle.nl_types.proofs.ExactLifetimes.{ledger-after, covered_kept_all, ends_once}
+use Rattle.nl_core.specs.Layout.{Does, layout_of, unshared}
 use Rattle.nl_core.specs.declared.checkpoint.Checkpoint.{Checkpoint}
-use Rattle.nl_core.proofs.Checkpointing.{count-births, does-published, does-refused, does-unwritten}
+use Rattle.nl_core.proofs.Checkpointing.{refused-draft, does-published, does-refused, does-unwritten}
 use Rattle.nl_core.proofs.Ledgers.{latest-live}
 use Rattle.nl_core.proofs.pen.checkpoint.Goals as goal
 
@@ -18,20 +19,18 @@ pub returns-in_err-draft : goal.returns-in_err-draft
 returns-in_err-draft g c =
     let p = err_from_is_err_and c.from_residual.result c.from_residual.ensures.1 in
     rw (p.1, p.2) (does-refused (layout_of c.args.tables.now.lists c.args.store.now) (layout_of c.draft.new.self.lists c.args.store.now) c.args.mode c.args.moment c.in_err-draft.field-0.0 c.requires.held
-    c.in_err-draft.ensures.refused (ap (λ lists. layout_of lists c.args.store.now) c.draft.ensures.same))
+    (refused-draft (layout_of c.args.tables.now.lists c.args.store.now) c.in_err-draft.field-0.0 c.in_err-draft.ensures.refused) (ap (λ lists. layout_of lists c.args.store.now) c.draft.ensures.same))
 
-pub returns-in_err-written : goal.returns-in_err-written
-returns-in_err-written g c =
-    let p = err_from_is_err_and c.from_residual-in_err-written.result c.from_residual-in_err-written.ensures.1 in
+pub returns-in_err-write : goal.returns-in_err-write
+returns-in_err-write g c =
+    let p = err_from_is_err_and c.from_residual-in_err-write.result c.from_residual-in_err-write.ensures.1 in
     let lists = c.args.tables.now.lists in
     let drafted = c.in_ok-draft.ensures.drafted in
-    let told = c.in_err-written.ensures in
-    rw (p.1, p.2) (subst (λ ls. Does (layout_of lists c.args.store.now) (event.Checkpoint c.args.mode c.args.moment) (Err c.in_err-written.field-0.0) (layout_of ls c.write-written.new.self)) (sym c.draft.ensures.same)
-    (does-unwritten (layout_of lists c.args.store.now) c.write-written.new.self c.args.mode c.args.moment (length c.in_ok-draft.draft.batch.births) c.in_err-written.field-0.0 c.requires.held drafted.left
-    (count-births _ lists.latest.files lists.files c.in_ok-draft.draft.batch drafted.writes) told.errors
-    (λ is. told.no_space (ap Err is)) (λ is. told.no_space_same (ap Err is)) (λ is. told.memory_same (ap Err is))
-    (λ is. subst (λ (k : Checkpoint). IsBrokenOff true k.stamp (length c.in_ok-draft.draft.batch.births) c.args.store.now c.write-written.new.self) drafted.checkpoint (told.fault (ap Err is)))
-    c.capacity.ensures.is_store))
+    let batch = c.in_ok-draft.draft.batch in
+    let e = c.in_err-write.field-0.0 in
+    rw (p.1, p.2) (subst (λ ls. Does unshared (layout_of lists c.args.store.now) (event.Checkpoint c.args.mode c.args.moment) (Err e) (layout_of ls c.write.new.self)) (sym c.draft.ensures.same)
+    (does-unwritten (layout_of lists c.args.store.now) c.write.new.self c.args.mode c.args.moment batch e c.requires.held drafted.left drafted.writes
+    (subst (λ (k : Checkpoint). IsWriteRefused k.number k.stamp batch c.args.store.now c.write.new.self e) drafted.checkpoint c.in_err-write.ensures.refused) c.write.ensures.is_store))
 
 pub returns : goal.returns
 returns g c =
@@ -43,8 +42,8 @@ returns g c =
     let number : c.publish.result ≡ next.number = c.publish.ensures.number ∙ ap (λ (k : Checkpoint). k.number) drafted.checkpoint in
     let behind : c.publish.new.self.lists ≡ published next lists =
     c.publish.ensures.lists ∙ (ap (published draft.checkpoint) c.draft.ensures.same ∙ ap (λ (k : Checkpoint). published k lists) drafted.checkpoint) in
-    let written = subst (λ (k : Checkpoint). IsWritten k.number k.stamp draft.batch c.args.store.now c.write-written.new.self) drafted.checkpoint c.in_ok-written.ensures.written in
-    subst (λ n. Does old (event.Checkpoint c.args.mode c.args.moment) (Ok (answer.Checkpoint n)) (layout_of c.publish.new.self.lists c.write-written.new.self)) (sym number)
-    (subst (λ ls. Does old (event.Checkpoint c.args.mode c.args.moment) (Ok (answer.Checkpoint next.number)) (layout_of ls c.write-written.new.self)) (sym behind)
-    (does-published old c.requires.held c.args.mode c.args.moment (capacity c.args.store.now) draft.files draft.batch c.write-written.new.self drafted.left drafted.writes drafted.fits drafted.settled written
-    c.lifetimes_are_exact.ensures.step c.covered_numbers_stay.ensures c.numbers_end_once.ensures c.capacity.ensures.is_store))
+    let written = subst (λ (k : Checkpoint). IsWritten k.number k.stamp draft.batch c.args.store.now c.write.new.self) drafted.checkpoint c.in_ok-write.ensures.written in
+    subst (λ n. Does unshared old (event.Checkpoint c.args.mode c.args.moment) (Ok (answer.Checkpoint n)) (layout_of c.publish.new.self.lists c.write.new.self)) (sym number)
+    (subst (λ ls. Does unshared old (event.Checkpoint c.args.mode c.args.moment) (Ok (answer.Checkpoint next.number)) (layout_of ls c.write.new.self)) (sym behind)
+    (does-published old c.requires.held c.args.mode c.args.moment (capacity c.args.store.now) draft.files draft.batch c.write.new.self drafted.left drafted.writes drafted.fits drafted.settled written
+    ledger-after covered_kept_all (λ e ledger is allowed. ends_once e ledger allowed) c.write.ensures.is_store))

@@ -1,11 +1,12 @@
 use Rattle.std.proofs.Common.{◌≡◌, ◌+◌, [], ◌∷◌, ◌++◌, sym, ap, ◌∙◌, subst, take, arith}
 use Rattle.std.specs.Prelude.{List}
 use Rattle.std.proofs.lemmas.Grind.{common_steps}
-use Rattle.std.proofs.lemmas.List.{take_more}
+use Rattle.std.proofs.lemmas.List.{take_more, take_all}
 use Rattle.nl_types.specs.Runs.{Run, Run-more}
 use Rattle.nl_types.specs.Worlds.{Reply}
 use Rattle.nl_types.specs.declared.event.Event.{Event}
-use Rattle.nl_core.specs.Layout.{Moved}
+use Rattle.nl_core.specs.Layout.{Does, unshared}
+use Rattle.nl_core.proofs.Moving.{runs_lead_on}
 use Rattle.nl_core.proofs.pen.run.Goals as goal
 
 pub loop-event-preserved : goal.loop-event-preserved
@@ -17,13 +18,14 @@ loop-event-preserved g c =
     record {
       count = grind (arith, common_steps);
       room = omega (arith, c.loop-event.invariant.room, c.push.ensures.capacity);
-      so_far = λ w m.
-          let before = c.loop-event.invariant.so_far w m in
-          let moved = c.apply-reply.ensures.moves before.0 before.1 in (
-            moved.0,
-            moved.1.means,
-            subst (λ (es : List Event). Run Moved (c.args.pen.now, w) es c.push.new.self.items (c.apply-reply.new.self, moved.0)) (sym next)
-                (subst (λ (rs : List Reply). Run Moved (c.args.pen.now, w) (take i events ++ c.event-item.result ∷ []) rs (c.apply-reply.new.self, moved.0)) (sym pushed)
-                (Run-more Moved (c.args.pen.now, w) (c.loop-event.pen, before.0) (c.apply-reply.new.self, moved.0) (take i events) c.loop-event.replies.items c.event-item.result c.apply-reply.result before.2 moved.1)),
-          );
+      so_far = subst (λ (es : List Event). Run (Does unshared) c.args.pen.now es c.push.new.self.items c.apply-reply.new.self) (sym next)
+          (subst (λ (rs : List Reply). Run (Does unshared) c.args.pen.now (take i events ++ c.event-item.result ∷ []) rs c.apply-reply.new.self) (sym pushed)
+          (Run-more (Does unshared) c.args.pen.now c.loop-event.pen c.apply-reply.new.self (take i events) c.loop-event.replies.items c.event-item.result c.apply-reply.result c.loop-event.invariant.so_far c.apply-reply.ensures));
     }
+
+pub returns-clause-worlds : goal.returns-clause-worlds
+returns-clause-worlds g c =
+    let events = c.args.events.now in
+    let all : take c.loop-event.event-index events ≡ events = take_all c.loop-event.event-index events (omega arith) in
+    runs_lead_on unshared c.args.pen.now c.loop-event.pen events c.loop-event.replies.items
+    (subst (λ (es : List Event). Run (Does unshared) c.args.pen.now es c.loop-event.replies.items c.loop-event.pen) all c.loop-event.invariant.so_far)

@@ -16,7 +16,7 @@ loop-slot-preserved c =
     let slot_is : c.in-Some.slot ≡ slot_in written m =
     sym (get_or_push c.pop.new.self.items c.in-Some.slot Hole m count) ∙ ap (λ xs. slot_in xs m) had ∙ get_or-take (m + 1) written m Hole (omega arith) in
     let back : vec_len c.loop-slot.written - 1 ≡ m = omega arith in
-    let new_is : c.set.new.self ≡ set c.loop-slot.slots (c.args.first + m) c.in-Some.slot = c.set.ensures ∙ ap (λ n. set c.loop-slot.slots (c.args.first + n) c.in-Some.slot) c.len.ensures in
+    let new_is : c.set.new.self ≡ set c.loop-slot.slots (c.args.first + m) c.in-Some.slot = c.set.ensures.set ∙ ap (λ n. set c.loop-slot.slots (c.args.first + n) c.in-Some.slot) c.len.ensures in
     record {
       left = c.in-Some.ensures.rest ∙ ap (λ xs. take (vec_len c.loop-slot.written - 1) xs) c.loop-slot.invariant.left ∙ take-take (vec_len c.loop-slot.written - 1) (vec_len c.loop-slot.written) written (omega arith) ∙ ap (λ n. take n written) back;
       within = omega (arith, c.loop-slot.invariant.within);

@@ -1,6 +1,5 @@
 use Rattle.std.proofs.Common.{◌≡◌, ℕ, ◌+◌, ◌*◌, ◌/◌, ◌<◌, List, [], ◌∷◌, ◌++◌, length, refl, ap, sym, subst, arith}
 use Rattle.std.proofs.lemmas.List.{length_push}
-use Rattle.nl_types.specs.Roots.{pages_of}
 use Rattle.nl_core.specs.Content.{bytes_in, slot_in, IsThere, IsPlaced, IsMarkedOver}
 use Rattle.nl_core.specs.Over.{IsBlockOver}
 use Rattle.nl_core.specs.declared.file.Slot.{Slot}
@@ -16,7 +15,7 @@ each_pushed P old new slot is each here =
 
 pub loop-index-preserved : goal.loop-index-preserved
 loop-index-preserved g c =
-    let pages = pages_of (g.V.VRead.content c.args.store.now) in
+    let pages = g.V.VRead.pages c.args.store.now in
     let first = c.args.offset / 1024 in
     let offset = c.args.offset in
     let bytes = c.args.bytes.now in

@@ -1,5 +1,4 @@
 use Rattle.std.proofs.Common.{◌≡◌, ◌<◌, ◌+◌, ◌/◌, ◌*◌, ℕ, length, refl, ap, ◌∙◌, subst, arith}
-use Rattle.nl_types.specs.Roots.{pages_of}
 use Rattle.nl_core.specs.Content.{slot_in, bytes_in, IsPlaced, IsMarkedOver, byte_of}
 use Rattle.nl_core.specs.Over.{IsBlockOver, slot_over, byte_over, block_end}
 use Rattle.nl_core.specs.declared.file.File.{File}
@@ -8,7 +7,7 @@ use Rattle.nl_core.proofs.file.File.write.Goals as goal
 
 pub returns-clause-ok : goal.returns-clause-ok
 returns-clause-ok g c =
-    let pages = pages_of (g.V.VRead.content c.args.store.now) in
+    let pages = g.V.VRead.pages c.args.store.now in
     let latest = c.args.latest.now in
     let old = c.args.self.now in
     let offset = c.args.offset in

@@ -1,0 +1,6 @@
+use Rattle.nl_core.specs.Layout.{unshared}
+use Rattle.nl_core.proofs.Refusals.{refusals_keep_pens}
+use Rattle.nl_core.proofs.laws.refusals_keep_pens.Goals as goal
+
+pub returns : goal.returns
+returns c = refusals_keep_pens unshared

@@ -1,0 +1,9 @@
+use Rattle.nl_core.specs.Layout.{unshared}
+use Rattle.nl_core.proofs.Moving.{leads_on, runs_lead_on}
+use Rattle.nl_core.proofs.laws.worlds_follow_pens.Goals as goal
+
+pub returns-clause-event : goal.returns-clause-event
+returns-clause-event c = leads_on unshared
+
+pub returns-clause-events : goal.returns-clause-events
+returns-clause-events c = runs_lead_on unshared
