@@ -3,7 +3,7 @@
 --     packed_block records   the block of these records
 --     entry_of name records  what the name stands for, if there is a record of it
 --     HoldsList bytes records  the records that the bytes begin with, as many as there are
-use Rattle.std.specs.Prelude.{◌≡◌, ◌≢◌, ℕ, ◌+◌, ◌-◌, ◌<◌, ◌≤◌, ◌^◌, cond, List, [], ◌∷◌, ◌++◌, length, slice_index, replicate, Option, None, Some}
+use Rattle.std.specs.Prelude.{◌≡◌, ◌≢◌, ℕ, ◌+◌, ◌-◌, ◌<◌, ◌≤◌, ◌^◌, if◌then◌else◌, List, [], ◌∷◌, ◌++◌, length, slice_index, replicate, Option, None, Some}
 use Rattle.std.specs.List.{All, AllPairs, flat_map}
 use Rattle.std.specs.declared.cmp.Ordering.TheVariants.{Less}
 use Rattle.byteorder.specs.Endian.{little_bytes}
@@ -42,7 +42,7 @@ packed_block records = flat_map record_bytes records ++ replicate (1024 - sizes 
 -- what the name stands for: the inode and kind of the first record of it
 abbrev pub entry_of : Name → List Record → Option (ℕ × Kind)
 entry_of name [] = None
-entry_of name (r ∷ records) = cond (same_name name r.name) (Some (r.inode, r.kind)) (entry_of name records)
+entry_of name (r ∷ records) = if same_name name r.name then Some (r.inode, r.kind) else entry_of name records
 
 -- names ascend by their bytes, so no name stands twice
 abbrev pub NamesAscend : List Record → Type 0

@@ -1,5 +1,5 @@
 -- The bytes of a block of inodes.
-use Rattle.std.proofs.Common.{Bool, true, false, cond, ◌||◌, ◌≡◌, ◌≢◌, ℕ, zero, suc, ◌+◌, ◌*◌, ◌<◌, List, [], ◌∷◌, ◌++◌, take, drop, length, get_or, slice_index, Option, None, Some, refl, ap, sym, ◌∙◌, subst, arith, append_assoc}
+use Rattle.std.proofs.Common.{Bool, true, false, cond, ◌||◌, ◌≡◌, ◌≢◌, ℕ, zero, suc, ◌+◌, ◌*◌, ◌<◌, List, [], ◌∷◌, ◌++◌, take, drop, length, get_or, slice_index, Option, None, Some, is_some, refl, ap, sym, ◌∙◌, subst, arith, append_assoc}
 use Rattle.std.proofs.Math.ListN.{replicate}
 use Rattle.std.proofs.Math.Seq.{take-append-add, drop-append-add}
 use Rattle.std.specs.List.{flat_map, list_any}
@@ -12,7 +12,7 @@ use Rattle.nl_layout.specs.declared.inode.InodeKind.TheVariants.{File, Directory
 use Rattle.nl_layout.specs.declared.inode.InodeEntry.{InodeEntry}
 use Rattle.nl_layout.specs.declared.inode.InodeEntry.TheVariants.{Free, InUse}
 use Rattle.nl_layout.specs.Inode.{EntryFits, entry_bytes, kind_code}
-use Rattle.nl_ifile.specs.Inodes.{block_bytes, block_for, entry_for, in_use, inode_in, is_some, block_places, with_inode}
+use Rattle.nl_ifile.specs.Inodes.{block_bytes, block_for, entry_for, in_use, inode_in, block_places, with_inode}
 use Rattle.nl_ifile.proofs.Spelling.{inode_spelled-Spells}
 use borrow.Rule.Slice.PartMut.{put_mid}
 

@@ -1,5 +1,5 @@
 -- Changes of inodes.
-use Rattle.std.specs.Prelude.{◌≡◌, ℕ, ◌==◌, ◌<◌, if◌then◌else◌, ◌/◌, ◌≤◌, get_or, length, take, List, [], ◌∷◌}
+use Rattle.std.specs.Prelude.{◌≡◌, ℕ, ◌==◌, ◌<◌, if◌then◌else◌, ◌/◌, ◌≤◌, slice_index_or, length, take, List, [], ◌∷◌}
 use Rattle.std.specs.List.{All, AllPairs}
 use Rattle.nl_types.specs.Entries.{Content}
 use Rattle.nl_types.specs.Roots.{Blocks, Root, pages_of}
@@ -48,6 +48,6 @@ pub record AreFirstBlockChanges (old : Blocks) (inodes : Inodes) (changes : List
   pub within : count ≤ length changes
   pub blocks_are : AreBlockChanges old inodes (take count changes) blocks
   pub lower : (next : InodeChange) → count < length changes →
-      All (λ b. b.index < (get_or changes count next).number / 8) blocks
+      All (λ b. b.index < (slice_index_or changes count next).number / 8) blocks
   pub apart : (next : InodeChange) → count < length changes →
-      All (λ c. c.number / 8 < (get_or changes count next).number / 8) (take count changes)
+      All (λ c. c.number / 8 < (slice_index_or changes count next).number / 8) (take count changes)

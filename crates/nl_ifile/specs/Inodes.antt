@@ -1,5 +1,5 @@
 -- The file of inodes: a map from inode number to inode. Block i has the places of inodes 8 i to 8 i + 7.
-use Rattle.std.specs.Prelude.{◌≡◌, ℕ, ◌+◌, ◌*◌, ◌/◌, ◌%◌, Bool, true, false, ◌==◌, if◌then◌else◌, cond, List, [], ◌∷◌, take, drop, Option, None, Some}
+use Rattle.std.specs.Prelude.{◌≡◌, ℕ, ◌+◌, ◌*◌, ◌/◌, ◌%◌, ◌==◌, if◌then◌else◌, is_some, List, [], ◌∷◌, take, drop, Option, None, Some}
 use Rattle.std.specs.List.{flat_map, list_any}
 use Rattle.std.specs.Option.{option_and_then}
 use Rattle.std.specs.Str.{bytes_eq}
@@ -22,7 +22,7 @@ in_use (InUse inode) = Some inode
 -- the inode that bytes spell, if they spell one
 abbrev pub inode_spelled : List ℕ → Option Inode
 inode_spelled bytes =
-    option_and_then (λ entry. cond (bytes_eq (entry_bytes entry) bytes) (in_use entry) None) (entry_at bytes)
+    option_and_then (λ entry. if bytes_eq (entry_bytes entry) bytes then in_use entry else None) (entry_at bytes)
 
 -- the inode at a place of a block
 abbrev pub inode_in : List ℕ → ℕ → Option Inode
@@ -49,14 +49,10 @@ in_block inodes i place = inodes (8 * i + place)
 abbrev pub block_bytes : (ℕ → Option Inode) → List ℕ
 block_bytes inodes = flat_map (λ place. entry_bytes (entry_for (inodes place))) block_places
 
-abbrev pub is_some : {A : Type 0} → Option A → Bool
-is_some None = false
-is_some (Some a) = true
-
 -- a block is there exactly where one of its eight inodes is in use
 abbrev pub block_for : (ℕ → Option Inode) → Option (List ℕ)
 block_for inodes =
-    cond (list_any (λ place. is_some (inodes place)) block_places) (Some (block_bytes inodes)) None
+    if list_any (λ place. is_some (inodes place)) block_places then Some (block_bytes inodes) else None
 
 -- each block of the file is the one of its eight inodes
 abbrev pub IsInodeFile : Pages → Root → Type 0

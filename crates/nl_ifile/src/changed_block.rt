@@ -1,5 +1,5 @@
 //! The blocks that changes of inodes touch.
-ghost use Rattle.std.specs.Prelude.{◌≡◌, ◌≤◌, ◌<◌, ◌/◌, ℕ, Option, length, get_or, take, drop, All, IfOk, IfErr};
+ghost use Rattle.std.specs.Prelude.{◌≡◌, ◌≤◌, ◌<◌, ◌/◌, ℕ, Option, length, slice_index_or, take, drop, All, IfOk, IfErr};
 ghost use Rattle.nl_types.specs.Roots.{page_at};
 ghost use Rattle.nl_layout.specs.Root.{root_of};
 ghost use Rattle.nl_layout.specs.Inode.{EntryFits};
@@ -46,13 +46,13 @@ pub(crate) fn changed_blocks<V: VRead>(
 fn end_of_block(changes: &[InodeChange], start: usize, index: u64) -> usize
     requires ascending { NumbersAscend changes.now }
     requires inside { start < length changes.now }
-    requires first { (next : InodeChange) → (get_or changes.now start next).number / 8 ≡ index }
+    requires first { (next : InodeChange) → (slice_index_or changes.now start next).number / 8 ≡ index }
     ensures more { start < result }
     ensures within { result ≤ length changes.now }
     ensures same { (k : ℕ) (next : InodeChange) → start ≤ k → k < result →
-        (get_or changes.now k next).number / 8 ≡ index }
+        (slice_index_or changes.now k next).number / 8 ≡ index }
     ensures stop { (next : InodeChange) → result < length changes.now →
-        index < (get_or changes.now result next).number / 8 }
+        index < (slice_index_or changes.now result next).number / 8 }
 {
     let mut end = start + 1;
     while end < changes.len() && changes[end].number.get() / INODES_PER_BLOCK == index {
