@@ -1,0 +1,8 @@
+//! What a path or a name of a directory stands for.
+
+/// A file or a directory.
+#[derive(Clone, Copy, Debug, PartialEq, Eq)]
+pub enum Kind {
+    File,
+    Directory,
+}
