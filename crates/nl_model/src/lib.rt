@@ -3,12 +3,19 @@
 //! and over the paths, checkpoints and mounts that there are, so it is for small worlds.
 #![tactic(auto)]
 
+mod bytes;
 mod calls;
 mod copies;
+mod dirs;
 mod path;
 mod runs;
 mod tree;
+mod walks;
 mod world;
 
+pub use calls::{Changed, create, mkdir, read, truncate, write};
+pub use dirs::{list, rename, rmdir, stat, unlink};
+pub use path::{Name, Path};
 pub use runs::run;
+pub use tree::{Tree, root_alone_tree};
 pub use world::World;

@@ -1,7 +1,7 @@
 //! Paths as lists of names.
-ghost use Rattle.std.specs.Prelude.{◌≡◌, ◌==◌, IfOk, OnOk};
+ghost use Rattle.std.specs.Prelude.{◌≡◌, ◌==◌, ◌≤◌, true, length, IfOk, OnOk};
 ghost use Rattle.std.specs.List.{slice_split, onto_first, list_all};
-ghost use Rattle.nl_types.specs.Paths.{same_name, path_cmp, is_name, names_of, path_of};
+ghost use Rattle.nl_types.specs.Paths.{same_name, path_cmp, is_within, is_name, names_of, path_of};
 ghost use Rattle.nl_types.specs.Calls.{IsUnlessMemory};
 
 use nl_types::{Items, VolError};
@@ -31,6 +31,21 @@ pub fn compare(a: &[Name], b: &[Name]) -> Ordering
         ([], _) => Ordering::Less,
         ([_, ..], []) => Ordering::Greater,
         ([n, a @ ..], [m, b @ ..]) => n.as_slice().cmp(&m.as_slice()).then(compare(a, b)),
+    }
+}
+
+/// Whether a path is `top` or lies below it.
+#[tactic(auto, using(crate::proofs::PathLemmas::ends))]
+pub fn begins_with(path: &[Name], top: &[Name]) -> bool
+    ensures value { result ≡ is_within top.now path.now }
+    ensures not_longer { result ≡ true → length top.now ≤ length path.now }
+{
+    match (top, path) {
+        ([], _) => true,
+        ([_, ..], []) => false,
+        ([n, top @ ..], [m, path @ ..]) => {
+            is_same_name(n.as_slice(), m.as_slice()) && begins_with(path, top)
+        }
     }
 }
 
