@@ -1,19 +1,13 @@
 -- A segment that takes no more logs gets no payload.
-use Rattle.std.proofs.Common.{◌≡◌, ◌≢◌, ℕ, ◌+◌, ◌*◌, ◌<◌, ◌≤◌, Bool, true, false, cond, List, [], ◌∷◌, Some, None, inl, inr, sym, refl, ap, subst, ◌∙◌, arith}
-use Rattle.std.specs.Prelude.{slice_get}
+use Rattle.std.proofs.Common.{◌≡◌, ◌≢◌, ℕ, ◌+◌, ◌*◌, ◌<◌, ◌≤◌, Bool, false, List, [], ◌∷◌, Some, inl, inr, arith}
 use Rattle.std.specs.List.{AllByRecursion}
 use Rattle.std.proofs.Math.Nat.{mul-le-mul_right}
-use Rattle.std.proofs.Math.ListN.{get_or-map}
-use Rattle.std.proofs.lemmas.Bool.{cases_Bool, cases_lt}
+use Rattle.std.proofs.lemmas.Bool.{cases_lt}
 use Rattle.std.proofs.lemmas.Bool.Decides.{nat_tests}
-use Rattle.std.proofs.lemmas.List.{get_or-set_other}
 use Rattle.nl_types.specs.declared.segment.Log.{Log}
-use Rattle.nl_types.specs.declared.segment.SegmentInfo.{SegmentInfo}
-use Rattle.nl_types.specs.declared.segment.SegmentState.{SegmentState}
-use Rattle.nl_types.specs.declared.segment.SegmentState.TheVariants.{Clean, Dirty, Active, Error}
-use Rattle.nl_types.specs.Segments.{Segments, AreTidy, info_of, clean_info, is_clean, is_active, at_rest, none_active, clean_segments, IsClosed}
-use Rattle.nl_types.specs.Placing.{LogsFit, IsNextLog, AreNextLogs, with_log, start_of, end_of, first_block, row_of, addresses}
-use Rattle.nl_types.proofs.NextLogs.{tidy_with_log, has_active, has_lowest, placed}
+use Rattle.nl_types.specs.Segments.{Segments, AreTidy, IsClosed}
+use Rattle.nl_types.specs.Placing.{LogsFit, AreNextLogs, with_log, end_of, first_block, row_of, addresses}
+use Rattle.nl_types.proofs.NextLogs.{tidy_with_log, placed}
 use Rattle.nl_types.proofs.UsedParts.{all_in_row, all-append}
 use Rattle.nl_types.proofs.ClosedSegments.{next-elsewhere, still-closed}
 use Rattle.nl_dat.specs.Stores.{is_inside}

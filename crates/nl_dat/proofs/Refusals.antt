@@ -1,5 +1,5 @@
 -- What an append that is refused leaves.
-use Rattle.std.proofs.Common.{◌≡◌, ℕ, ◌<◌, ◌++◌, ◌∷◌, List, Option, Some, None, inl, inr, sym, refl, ap, subst, ◌∙◌, map, length}
+use Rattle.std.proofs.Common.{◌≡◌, ℕ, ◌<◌, List, Option, Some, None, inl, inr, sym, refl, ap, subst, ◌∙◌, map, length}
 use Rattle.std.specs.Prelude.{Bool, true}
 use Rattle.std.specs.Option.{option_map}
 use Rattle.std.proofs.lemmas.List.{ext_get_or, length-map}

@@ -1,6 +1,5 @@
 -- What callers see of a table over a space.
 use Rattle.std.proofs.Common.{◌≡◌, ℕ, zero, suc, ◌∷◌, replicate, ◌+◌, ◌<◌, ◌≤◌, inl, inr, subst, List, Some, None, Option, sym, refl, ap, ◌∙◌, map, get_or, length, arith}
-use Rattle.std.specs.Prelude.{slice_index_or}
 use Rattle.std.specs.List.{range_with_len}
 use Rattle.std.specs.Option.{option_map, option_and_then}
 use Rattle.std.proofs.Math.ListN.{get_or-map}

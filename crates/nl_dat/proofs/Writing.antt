@@ -1,10 +1,10 @@
 -- What a write does to the table and to what callers see.
-use Rattle.std.proofs.Common.{◌≡◌, ℕ, suc, ◌+◌, ◌*◌, ◌<◌, ◌≤◌, Bool, true, false, eqb, List, [], ◌∷◌, Some, None, Option, inl, inr, ⊎_elim, sym, refl, ap, subst, ◌∙◌, map, get_or, length, is_some, arith}
+use Rattle.std.proofs.Common.{◌≡◌, ℕ, suc, ◌+◌, ◌<◌, ◌≤◌, Bool, true, false, eqb, List, [], ◌∷◌, Some, None, Option, inl, inr, ⊎_elim, sym, refl, ap, subst, ◌∙◌, map, get_or, length, is_some, arith}
 use Rattle.std.specs.Prelude.{◌==◌, ◌||◌, max}
 use Rattle.std.specs.List.{AllByRecursion}
 use Rattle.std.specs.Option.{option_map, option_and_then}
 use Rattle.std.proofs.lemmas.Bool.{cases_Bool, cases_lt, eqb-true, eq-eqb, or_cases, both_ways}
-use Rattle.std.proofs.lemmas.List.{length-map, length-set, get_or_past}
+use Rattle.std.proofs.lemmas.List.{length-map, get_or_past}
 use Rattle.std.proofs.lemmas.List.Folds.{list_any_at}
 use Rattle.nl_types.specs.Segments.{AreTidy, IsUsed, StaysUsed, total_blocks}
 use Rattle.nl_types.specs.PartialMaps.{Partial, put, put_each, put_all, adjust, adjust_all, Stands}

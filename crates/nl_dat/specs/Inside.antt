@@ -1,15 +1,15 @@
 -- What stands behind a store: the table, and a space with the payload.
-use Rattle.std.specs.Prelude.{◌≡◌, ℕ, ◌+◌, ◌≤◌, List, length, map, Option, None, Some}
+use Rattle.std.specs.Prelude.{◌≡◌, ℕ, true, ◌+◌, ◌≤◌, List, length, map, Option, None, Some}
 use Rattle.std.specs.List.{range_with_len}
 use Rattle.std.specs.Option.{option_map, option_and_then}
 use Rattle.nl_types.specs.Segments.{IsUsed, total_blocks}
 use Rattle.nl_types.specs.PartialMaps.{Partial}
 use Rattle.nl_types.specs.Entries.{Birth}
-use Rattle.nl_segwriter.specs.Content.{SpaceContent, payload_page}
+use Rattle.nl_segwriter.specs.Content.{Payload, SpaceContent, payload_page}
 use Rattle.nl_dat.specs.declared.entries.DatEntry.{DatEntry}
-use Rattle.nl_dat.specs.Batches.{birth_of_item}
-use Rattle.nl_dat.specs.Table.{AreInUse, entry_in, addresses_of, meaning_of, HaveOwnPayload}
-use Rattle.nl_dat.specs.Stores.{Numbered, Store}
+use Rattle.nl_dat.specs.Batches.{birth_of_item, births_of}
+use Rattle.nl_dat.specs.Table.{AreInUse, entry_in, addresses_of, meaning_of, stored_at, HaveOwnPayload}
+use Rattle.nl_dat.specs.Stores.{Numbered, Store, is_inside}
 
 -- the payload of a space as births, by block number
 abbrev pub births_in : SpaceContent → Partial Birth
@@ -33,6 +33,18 @@ store_of table space failures = record {
   payload = map space.held (range_with_len 0 (total_blocks space.segments));
   failures = failures;
 }
+
+-- the page of the number stands in the segment
+abbrev pub StandsIn : List (Option DatEntry) → SpaceContent → ℕ → ℕ → Type 0
+StandsIn table space segment v = is_inside space.segments segment (addresses_of (entry_in table) v) ≡ true
+
+-- the payload at the block of a number, as a birth
+abbrev pub birth_under : List (Option DatEntry) → SpaceContent → Partial Birth
+birth_under table space = stored_at (entry_in table) (births_in space)
+
+-- the payload is that of the numbers, in their order
+abbrev pub AreRead : List (Option DatEntry) → SpaceContent → List ℕ → List Payload → Type 0
+AreRead table space numbers payload = map (birth_under table space) numbers ≡ map Some (births_of payload)
 
 -- the payload at the block of each number in use is its own, in memory and on the device
 pub record IsBacked (table : List (Option DatEntry)) (space : SpaceContent) : Type 0 where

@@ -1,5 +1,5 @@
 -- The table of virtual block numbers over the payload that is stored.
-use Rattle.std.specs.Prelude.{◌≡◌, ℕ, ◌<◌, ◌≤◌, ◌==◌, Bool, true, false, List, length, is_some, slice_index_or, Option, None, Some}
+use Rattle.std.specs.Prelude.{◌≡◌, ◌≢◌, ℕ, ◌<◌, ◌≤◌, ◌==◌, Bool, true, false, List, length, is_some, slice_index_or, MatchOption, Option, None, Some}
 use Rattle.std.specs.Option.{option_map, option_and_then}
 use Rattle.nl_types.specs.PartialMaps.{Partial}
 use Rattle.nl_types.specs.Entries.{Birth, Entry, Content, number_of}
@@ -63,6 +63,10 @@ HaveOwnPayload addresses stored = (v b : ℕ) → addresses v ≡ Some b → opt
 abbrev pub has_block : ℕ → Option DatEntry → Bool
 has_block b None = false
 has_block b (Some entry) = entry.block == b
+
+-- the number, where its page stands at the block
+abbrev pub IsNumberWith : Partial ℕ → ℕ → Option ℕ → Option ℕ → Type 0
+IsNumberWith addresses block number found = MatchOption found ((v : ℕ) → number ≡ Some v → addresses v ≢ Some block) (λ v. addresses v ≡ Some block)
 
 -- what is stored at the block of a number
 abbrev pub stored_at : Partial DatEntry → Partial Birth → Partial Birth

@@ -1,6 +1,9 @@
 -- Numbers taken out of use, block by block of a row.
-use Rattle.std.specs.Prelude.{◌≡◌, ◌≢◌, ℕ, ◌+◌, ◌≤◌, ◌&&◌, nat_le, nat_lt, Bool, true, false, if◌then◌else◌, List, length, slice_set, Option, None, Some}
+use Rattle.std.specs.Prelude.{◌≡◌, ◌≢◌, ℕ, ◌+◌, ◌<◌, ◌≤◌, ◌&&◌, nat_le, nat_lt, Bool, true, false, if◌then◌else◌, List, length, slice_index_or, slice_set, Option, None, Some}
 use Rattle.nl_types.specs.PartialMaps.{Partial, is_one_of, NoneTwice}
+use Rattle.std.specs.Option.{option_map}
+use Rattle.nl_segwriter.specs.Content.{Payload}
+use Rattle.nl_dat.specs.Batches.{number_of_payload}
 use Rattle.nl_dat.specs.declared.entries.DatEntry.{DatEntry}
 use Rattle.nl_dat.specs.declared.reclaim.TakenOut.{TakenOut}
 use Rattle.nl_dat.specs.Table.{entry_in, addresses_of}
@@ -8,6 +11,14 @@ use Rattle.nl_dat.specs.Table.{entry_in, addresses_of}
 -- no two numbers have one block
 abbrev pub AreApart : Partial ℕ → Type 0
 AreApart addresses = (v w b : ℕ) → addresses v ≡ Some b → addresses w ≡ Some b → v ≡ w
+
+-- what a row of payload has at a position tells which number alone may have the block
+abbrev pub TellsNumber : List (Option Payload) → ℕ → Partial ℕ → ℕ → Type 0
+TellsNumber row position addresses block = (v : ℕ) → addresses v ≡ Some block → option_map number_of_payload (slice_index_or row position None) ≡ Some v
+
+-- the row tells it of each of its blocks, the first of which is given
+abbrev pub TellsNumbers : List (Option Payload) → Partial ℕ → ℕ → Type 0
+TellsNumbers row addresses first = (k v : ℕ) → k < length row → addresses v ≡ Some (first + k) → option_map number_of_payload (slice_index_or row k None) ≡ Some v
 
 -- no number has the block, and nothing changes
 pub record HasNone (block : ℕ) (old new : List (Option DatEntry)) : Type 0 where

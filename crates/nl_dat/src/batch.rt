@@ -1,5 +1,5 @@
 //! What one checkpoint changes.
-ghost use Rattle.std.specs.Prelude.{◌≡◌, ℕ, ◌+◌, ◌≤◌, ◌<◌, ◌⊎◌, true, [], ◌∷◌, ◌++◌, length, take, OnOk, OnErr, IsErrOf};
+ghost use Rattle.std.specs.Prelude.{◌≡◌, ℕ, ◌+◌, ◌≤◌, ◌<◌, true, [], ◌∷◌, ◌++◌, length, take, OnOk, OnErr};
 ghost use Rattle.nl_dat.specs.Batches.{births_of, with_page};
 
 use nl_layout::Tag;

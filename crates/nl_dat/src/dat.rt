@@ -1,7 +1,6 @@
 //! The table of virtual block numbers, over a space.
-ghost use Rattle.std.specs.Prelude.{◌≡◌, ◌≢◌, ◌↔◌, ◌⊎◌, ℕ, ◌+◌, ◌*◌, ◌<◌, ◌≤◌, Bool, true, false, length, is_some, MatchOption, IfOk, OnOk, OnErr, IsErr, IsOkUnless, Some, option_copied};
+ghost use Rattle.std.specs.Prelude.{◌≡◌, ◌↔◌, ◌⊎◌, ℕ, ◌+◌, ◌<◌, length, IfOk, OnErr, IsErr, IsOkUnless, Some};
 ghost use Rattle.std.specs.Option.{option_map};
-ghost use Rattle.nl_types.specs.Segments.{block_at};
 
 use crate::batch::Batch;
 use crate::entries::{
@@ -43,7 +42,7 @@ impl<S: Space> Model for Dat<S> {
 }
 
 impl<S: Space> Dat<S> {
-    ghost use Rattle.nl_dat.specs.Stores.{IsStore, new_store, address_in, capacity, numbered_in, dat_entry_of};
+    ghost use Rattle.nl_dat.specs.Stores.{IsStore, new_store, address_in, block_in, capacity, numbered_in, dat_entry_of};
 
     /// The table over a space, with no number in use. Refused by `Memory` alone; the space is dropped then.
     pub fn new(alloc: Global, space: S) -> Result<Dat<S>, VolError>
@@ -85,7 +84,7 @@ impl<S: Space> Dat<S> {
     fn tagged(&self, segment: Segment, position: u32) -> Option<VirtualNumber>
         requires segment { segment < length self.now.segments.each }
         requires position { position < self.now.segments.blocks }
-        ensures { (v : ℕ) → address_in self.now v ≡ Some (segment * self.now.segments.blocks + position) → result ≡ Some v }
+        ensures { (v : ℕ) → address_in self.now v ≡ Some (block_in self.now segment position) → result ≡ Some v }
     {
         number_in(self.space.summary(segment), position)
     }

@@ -1,11 +1,11 @@
 //! The table of virtual block numbers, as a slice.
-ghost use Rattle.std.specs.Prelude.{◌≡◌, ◌≢◌, ℕ, ◌<◌, length, replicate, slice_index_or, MatchOption, IfOk, None, Some};
+ghost use Rattle.std.specs.Prelude.{◌≡◌, ◌<◌, length, replicate, slice_index_or, MatchOption, IfOk, None};
 ghost use Rattle.std.specs.List.{All};
 ghost use Rattle.nl_types.specs.PartialMaps.{put, put_each, adjust, adjust_all, adjust_each};
 ghost use Rattle.nl_types.specs.Entries.{number_of};
 ghost use Rattle.nl_dat.specs.Batches.{births_of, number_of_payload};
 ghost use Rattle.std.specs.Option.{option_map};
-ghost use Rattle.nl_dat.specs.Table.{AreInUse, addresses_of, IsFirstFree, entry_in, new_entry, ended_entry, moved_entry};
+ghost use Rattle.nl_dat.specs.Table.{AreInUse, IsNumberWith, addresses_of, IsFirstFree, entry_in, new_entry, ended_entry, moved_entry};
 
 use nl_segwriter::Payload;
 use nl_types::{BlockNumber, CheckpointNumber, Items, VirtualNumber};
@@ -82,7 +82,7 @@ pub(crate) fn number_with(
     number: Option<VirtualNumber>,
     block: u32,
 ) -> Option<VirtualNumber>
-    ensures { MatchOption result ((v : ℕ) → number ≡ Some v → addresses_of (entry_in table.now) v ≢ Some block) (λ v. addresses_of (entry_in table.now) v ≡ Some block) }
+    ensures { IsNumberWith (addresses_of (entry_in table.now)) block number result }
 {
     let number = number?;
     let entry = entry_at(table, number)?;

@@ -1,14 +1,11 @@
 //! Pages read from the device, to be written elsewhere.
-ghost use Rattle.std.specs.Prelude.{◌≡◌, ℕ, ◌+◌, ◌<◌, ◌≤◌, true, map, length, All, IfOk, IfErr, IsErrOf, slice_index_or, None, Some};
+ghost use Rattle.std.specs.Prelude.{◌≡◌, ◌+◌, ◌<◌, ◌≤◌, ◌^◌, [], length, All, IfOk, IfErr, IsErrOf, slice_index_or, None, Some};
 ghost use Rattle.std.specs.Option.{option_map};
 ghost use Rattle.nl_segwriter.specs.Content.{payload_tag};
 ghost use Rattle.nl_segwriter.specs.Appended.{IsLoadError};
-ghost use Rattle.nl_dat.specs.Batches.{birth_of_item, births_of};
-ghost use Rattle.nl_dat.specs.Table.{entry_in, addresses_of, stored_at};
-ghost use Rattle.nl_dat.specs.Stores.{is_inside};
+ghost use Rattle.nl_dat.specs.Batches.{birth_of_item};
 ghost use Rattle.nl_dat.specs.Located.{block_if, in_row, onto, picked};
-ghost use Rattle.std.specs.Prelude.{◌^◌, []};
-ghost use Rattle.nl_dat.specs.Inside.{IsBacked, births_in};
+ghost use Rattle.nl_dat.specs.Inside.{AreRead, IsBacked, StandsIn, birth_under};
 
 use crate::entries::{DatEntry, entry_at};
 use nl_layout::Tag;
@@ -58,8 +55,8 @@ fn load_one<S: Space>(
 ) -> Result<Payload, VolError>
     requires segment { segment < length (S.content space.old).segments.each }
     requires backed { IsBacked table.now (S.content space.old) }
-    requires inside { is_inside (S.content space.old).segments segment (addresses_of (entry_in table.now) number) ≡ true }
-    ensures payload { IfOk result (λ payload. stored_at (entry_in table.now) (births_in (S.content space.old)) number ≡ Some (birth_of_item payload)) }
+    requires inside { StandsIn table.now (S.content space.old) segment number }
+    ensures payload { IfOk result (λ payload. birth_under table.now (S.content space.old) number ≡ Some (birth_of_item payload)) }
     ensures same { S.content space.new ≡ S.content space.old }
     ensures counted { S.failure_count space.old ≤ S.failure_count space.new }
     ensures fault { IsErrOf result VolError.Fault → S.failure_count space.old < S.failure_count space.new }
@@ -90,8 +87,8 @@ pub(crate) fn load_all<S: Space>(
 ) -> Result<Vec<Payload>, VolError>
     requires segment { segment < length (S.content space.old).segments.each }
     requires backed { IsBacked table.now (S.content space.old) }
-    requires inside { All (λ v. is_inside (S.content space.old).segments segment (addresses_of (entry_in table.now) v) ≡ true) numbers.now }
-    ensures payload { IfOk result (λ payload. map (stored_at (entry_in table.now) (births_in (S.content space.old))) numbers.now ≡ map Some (births_of payload.items)) }
+    requires inside { All (StandsIn table.now (S.content space.old) segment) numbers.now }
+    ensures payload { IfOk result (λ payload. AreRead table.now (S.content space.old) numbers.now payload.items) }
     ensures same { S.content space.new ≡ S.content space.old }
     ensures counted { S.failure_count space.old ≤ S.failure_count space.new }
     ensures fault { IsErrOf result VolError.Fault → S.failure_count space.old < S.failure_count space.new }

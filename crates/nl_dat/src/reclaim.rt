@@ -1,9 +1,7 @@
 //! Numbers that are taken out of use, with the segment that their pages stand in.
-ghost use Rattle.std.specs.Prelude.{◌≡◌, ℕ, ◌+◌, ◌-◌, ◌<◌, ◌≤◌, ◌^◌, length, slice_set, slice_index_or, if◌then◌else◌, MatchOption, IfSome, None, Some};
-ghost use Rattle.std.specs.Option.{option_map};
-ghost use Rattle.nl_dat.specs.Batches.{number_of_payload};
+ghost use Rattle.std.specs.Prelude.{◌≡◌, ℕ, ◌+◌, ◌-◌, ◌<◌, ◌≤◌, ◌^◌, length, slice_set, if◌then◌else◌, MatchOption, IfSome, None};
 ghost use Rattle.nl_dat.specs.Table.{entry_in, addresses_of, has_block};
-ghost use Rattle.nl_dat.specs.TakenOut.{AreApart, HasNone, HasTakenOne, HasTakenOut, one_more};
+ghost use Rattle.nl_dat.specs.TakenOut.{AreApart, TellsNumber, TellsNumbers, HasNone, HasTakenOne, HasTakenOut, one_more};
 
 use crate::entries::{DatEntry, entry_at, number_in};
 use nl_segwriter::Payload;
@@ -38,7 +36,7 @@ fn take_out_at(
     position: u32,
     block: u32,
 ) -> Option<VirtualNumber>
-    requires { (v : ℕ) → addresses_of (entry_in table.old) v ≡ Some block → option_map number_of_payload (slice_index_or row.now position None) ≡ Some v }
+    requires { TellsNumber row.now position (addresses_of (entry_in table.old)) block }
     ensures { MatchOption result (HasNone block table.old table.new) (HasTakenOne block table.old table.new) }
 {
     let number = number_in(row, position)?;
@@ -85,7 +83,7 @@ pub(crate) fn take_out(
 ) -> TakenOut
     requires fits { first + length row.now < 2 ^ 32 }
     requires apart { AreApart (addresses_of (entry_in table.old)) }
-    requires tagged { (k v : ℕ) → k < length row.now → addresses_of (entry_in table.old) v ≡ Some (first + k) → option_map number_of_payload (slice_index_or row.now k None) ≡ Some v }
+    requires tagged { TellsNumbers row.now (addresses_of (entry_in table.old)) first }
     ensures { HasTakenOut first (length row.now) table.old table.new result }
 {
     let mut taken = TakenOut {

@@ -1,5 +1,5 @@
 -- The fields of an inode that was written.
-use Rattle.std.proofs.Common.{◌≡◌, ℕ, ◌<◌, ◌^◌, List, ◌++◌, drop, Some, refl, ap, sym, ◌∙◌}
+use Rattle.std.proofs.Common.{◌≡◌, ℕ, ◌<◌, ◌^◌, List, ◌++◌, drop, Some, refl, ap, ◌∙◌}
 use Rattle.std.proofs.Math.ListN.{replicate}
 use Rattle.std.specs.Option.{option_map}
 use Rattle.byteorder.specs.Endian.{little_bytes, little_number}
@@ -11,7 +11,7 @@ use Rattle.nl_layout.specs.declared.inode.InodeKind.{InodeKind}
 use Rattle.nl_layout.specs.declared.inode.InodeKind.TheVariants.{File, Directory, InodeFile}
 use Rattle.nl_layout.specs.declared.inode.InodeEntry.{InodeEntry}
 use Rattle.nl_layout.specs.declared.inode.InodeEntry.TheVariants.{Free, InUse}
-use Rattle.nl_layout.specs.Inode.{Spells, InodeFits, EntryFits, entry_bytes, entry_at, inode_at, inode_bytes, root_at, root_code, root_number}
+use Rattle.nl_layout.specs.Inode.{Spells, EntryFits, entry_bytes, entry_at, inode_at, inode_bytes, root_at, root_code, root_number}
 
 root_at-written : (root : Root) (number : ℕ) → number ≡ root_number root → root_at (root_code root) number ≡ Some root
 root_at-written Empty number is = refl

@@ -1,6 +1,6 @@
 -- The bytes of an inode: 128 of them, numbers in little endian.
 use Rattle.std.specs.Prelude.{◌≡◌, ℕ, zero, suc, ◌<◌, ◌^◌, List, ◌∷◌, ◌++◌, replicate, drop, slice_index, Option, None, Some}
-use Rattle.std.specs.Option.{option_map, option_and_then}
+use Rattle.std.specs.Option.{option_map}
 use Rattle.byteorder.specs.Endian.{little_bytes, little_number}
 use Rattle.nl_layout.specs.declared.root.Root.{Root}
 use Rattle.nl_layout.specs.declared.root.Root.TheVariants.{Empty, Chain}

@@ -38,6 +38,10 @@ StandAt (b ∷ bs) (v ∷ vs) f = (f b ≡ Some v) × StandAt bs vs f
 abbrev pub StandInRow : {V : Type 0} → ℕ → List V → (ℕ → Option V) → Type 0
 StandInRow first values f = (j : ℕ) → j < length values → f (first + j) ≡ slice_get values j
 
+-- a row has what is held from a number on
+abbrev pub IsRowOf : Held → ℕ → List (Option Payload) → Type 0
+IsRowOf held first row = (k : ℕ) → k < length row → slice_get row k ≡ Some (held (first + k))
+
 -- ---- what stays
 
 -- all but so many blocks from a number on stay as they are

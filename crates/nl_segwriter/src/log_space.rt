@@ -62,7 +62,7 @@ impl<D: Device> LogSpace<D> {
         ensures broken { OnErr result (self.new.table ≡ with_error self.old.table staged.log.segment) }
         ensures failed { OnErr result (D.failure_count self.old.device < D.failure_count self.new.device) }
         ensures counted { D.failure_count self.old.device ≤ D.failure_count self.new.device }
-        ensures others { SameOutsideLog self.old.table.blocks staged.log (content_of self.old.table self.old.payload (D.pages self.old.device)) (content_of self.new.table self.new.payload (D.pages self.new.device)) }
+        ensures others { SameOutsideLog self.old.table.blocks staged.log (⟦<Self as Space>⟧.content self.old) (⟦<Self as Space>⟧.content self.new) }
     {
         let Staged {
             log,
@@ -97,11 +97,11 @@ impl<D: Device> LogSpace<D> {
         requires stamps { AllByRecursion (λ x. x.stamp ≡ now) all.items }
         ensures table { OnOk result (self.new.table ≡ with_logs self.old.table (logs_of all.items) now) }
         ensures stand { OnOk result (LogsStand self.old.table.blocks all.items (held_in self.new.payload) (D.pages self.new.device)) }
-        ensures broken { OnErr result (BreaksOff now all.items (content_of self.old.table self.old.payload (D.pages self.old.device)) (content_of self.new.table self.new.payload (D.pages self.new.device))) }
+        ensures broken { OnErr result (BreaksOff now all.items (⟦<Self as Space>⟧.content self.old) (⟦<Self as Space>⟧.content self.new)) }
         ensures failed { OnErr result (D.failure_count self.old.device < D.failure_count self.new.device) }
         ensures counted { D.failure_count self.old.device ≤ D.failure_count self.new.device }
-        ensures others { KeepsOtherBlocks self.old.table.blocks (logs_of all.items) (content_of self.old.table self.old.payload (D.pages self.old.device)) (content_of self.new.table self.new.payload (D.pages self.new.device)) }
-        ensures kept { KeepsUsed self.old.table (content_of self.old.table self.old.payload (D.pages self.old.device)) (content_of self.new.table self.new.payload (D.pages self.new.device)) }
+        ensures others { KeepsOtherBlocks self.old.table.blocks (logs_of all.items) (⟦<Self as Space>⟧.content self.old) (⟦<Self as Space>⟧.content self.new) }
+        ensures kept { KeepsUsed self.old.table (⟦<Self as Space>⟧.content self.old) (⟦<Self as Space>⟧.content self.new) }
         ensures stays { StaysUsed self.old.table self.new.table }
     {
         for staged in all {

@@ -1,10 +1,10 @@
 //! What the layers above know of a space of blocks.
-ghost use Rattle.std.specs.Prelude.{◌≡◌, ℕ, ◌+◌, ◌*◌, ◌<◌, ◌≤◌, List, length, slice_get, true, IfErr, IfOk, IsErrOf, Some, option_copied};
+ghost use Rattle.std.specs.Prelude.{◌≡◌, ℕ, ◌+◌, ◌*◌, ◌<◌, ◌≤◌, length, IfErr, IfOk, IsErrOf, Some, option_copied};
 ghost use Rattle.std.specs.Option.{option_map};
 ghost use Rattle.nl_types.specs.Segments.{IsUsed, StaysUsed, info_of};
 ghost use Rattle.nl_types.specs.Placing.{LacksSpace};
 ghost use Rattle.nl_sufile.specs.Table.{IsSegTable};
-ghost use Rattle.nl_segwriter.specs.Content.{SpaceContent, HoldsOnlyUsed, KeepsUsed, IsFreed, payload_page};
+ghost use Rattle.nl_segwriter.specs.Content.{SpaceContent, HoldsOnlyUsed, IsRowOf, KeepsUsed, IsFreed, payload_page};
 ghost use Rattle.nl_segwriter.specs.Logs.{AreWholeLogs, HaveLogs};
 ghost use Rattle.nl_segwriter.specs.Appended.{IsAppended, IsBrokenOff, IsAppendError, IsLoadError};
 
@@ -73,7 +73,7 @@ pub trait Space: Drop {
     fn summary(&self, segment: Segment) -> &[Option<Payload>]
         requires { segment < length (content self.now).segments.each }
         ensures count { length result.now ≡ (info_of (content self.now).segments.each segment).used }
-        ensures each { (k : ℕ) → k < length result.now → slice_get result.now k ≡ Some ((content self.now).held (segment * (content self.now).segments.blocks + k)) };
+        ensures each { IsRowOf (content self.now).held (segment * (content self.now).segments.blocks) result.now };
 
     /// Empties a segment, in memory and on the device. It is clean then.
     fn free(&mut self, segment: Segment)

@@ -1,4 +1,4 @@
-use Rattle.std.proofs.Common.{◌≡◌, ◌≤◌, ◌^◌, ◌<◌, ℕ, List, arith, ap, sym, subst, ◌∙◌, take, length, slice_index}
+use Rattle.std.proofs.Common.{◌≡◌, ◌^◌, ◌<◌, ℕ, List, arith, ap, sym, subst, ◌∙◌, take, slice_index}
 use Rattle.std.proofs.lemmas.List.{take_all, length-set}
 use Rattle.std.specs.List.{All}
 use Rattle.nl_layout.specs.Node.{slots_at, slots_bytes}

@@ -1,4 +1,4 @@
-use Rattle.std.proofs.Common.{◌≡◌, ◌*◌, ◌<◌, ◌^◌, ◌++◌, take, drop, length}
+use Rattle.std.proofs.Common.{◌≡◌, ◌*◌, ◌<◌, ◌^◌, ◌++◌, take, drop}
 use Rattle.std.specs.List.{All}
 use Rattle.nl_layout.specs.Node.{slots_bytes}
 use Rattle.nl_layout.proofs.node.write_slots.Given as goal

@@ -1,5 +1,4 @@
 use Rattle.std.proofs.Common.{◌≡◌, ℕ, ◌+◌, ◌*◌, ◌<◌, Some, sym, ap, subst, ◌∙◌}
-use Rattle.nl_types.specs.Segments.{AreTidy}
 use Rattle.nl_types.specs.PartialMaps.{Partial}
 use Rattle.nl_dat.specs.Stores.{Store, address_in}
 use Rattle.nl_dat.proofs.StoreOf.{address_in-store_of}

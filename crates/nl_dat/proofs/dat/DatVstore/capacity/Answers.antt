@@ -1,5 +1,4 @@
 use Rattle.std.proofs.Common.{◌+◌, subst}
-use Rattle.nl_types.specs.Segments.{AreTidy}
 use Rattle.nl_dat.specs.Stores.{IsStore}
 use Rattle.nl_dat.proofs.StoreOf.{is_store}
 use Rattle.nl_dat.proofs.dat.DatVstore.capacity.Goals as goal

@@ -3,7 +3,6 @@ use Rattle.std.specs.Prelude.{MatchOption, max}
 use Rattle.std.specs.Option.{ok_or}
 use Rattle.nl_types.specs.declared.error.VolError.{VolError}
 use Rattle.nl_types.specs.declared.error.VolError.TheVariants.{NoSpace}
-use Rattle.nl_types.specs.Segments.{AreTidy}
 use Rattle.nl_dat.specs.Batches.{Fits, LacksSpaceFrom, IsLowestFree, is_taken, last_number}
 use Rattle.nl_dat.specs.Table.{AreInUse, IsFirstFree}
 use Rattle.nl_dat.specs.Stores.{Store, content_in, capacity}

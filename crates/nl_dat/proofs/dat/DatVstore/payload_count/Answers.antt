@@ -1,5 +1,4 @@
 use Rattle.std.proofs.Common.{◌≡◌, ◌<◌, length, subst, sym, ◌∙◌}
-use Rattle.nl_types.specs.Segments.{AreTidy}
 use Rattle.nl_dat.specs.Stores.{Store}
 use Rattle.nl_dat.specs.Located.{in_row, payload_count_in, picked}
 use Rattle.nl_dat.proofs.CountedRows.{payload-counted}

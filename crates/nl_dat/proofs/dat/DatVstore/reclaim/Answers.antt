@@ -1,5 +1,5 @@
 use Rattle.std.proofs.Common.{◌≡◌, ℕ, ◌+◌, ◌*◌, ◌≤◌, Some, List, Option, ap, subst, ◌∙◌, length, arith}
-use Rattle.nl_types.specs.Segments.{Segments, AreTidy, info_of}
+use Rattle.nl_types.specs.Segments.{Segments, info_of}
 use Rattle.nl_types.proofs.SegmentChanges.{room_of}
 use Rattle.nl_segwriter.specs.Content.{SpaceContent}
 use Rattle.nl_dat.specs.declared.entries.DatEntry.{DatEntry}

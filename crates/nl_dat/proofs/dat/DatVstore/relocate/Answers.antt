@@ -3,7 +3,7 @@ use Rattle.std.specs.Prelude.{Err}
 use Rattle.std.specs.List.{All}
 use Rattle.std.proofs.lemmas.Result.{err_from_is_err_and}
 use Rattle.std.proofs.lemmas.List.{length-map}
-use Rattle.nl_types.specs.Segments.{AreTidy, IsClosed, StaysUsed}
+use Rattle.nl_types.specs.Segments.{IsClosed, StaysUsed}
 use Rattle.nl_types.specs.PartialMaps.{adjust_each}
 use Rattle.nl_segwriter.specs.Content.{Payload, SpaceContent, KeepsUsed}
 use Rattle.nl_segwriter.specs.Appended.{IsAppended}

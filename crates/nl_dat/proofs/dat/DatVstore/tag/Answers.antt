@@ -1,5 +1,4 @@
 use Rattle.std.proofs.Common.{◌≡◌, ◌+◌, ◌*◌, ◌<◌, length, sym, subst, ◌∙◌}
-use Rattle.nl_types.specs.Segments.{AreTidy}
 use Rattle.nl_dat.specs.Stores.{Store, tag_in}
 use Rattle.nl_dat.proofs.Positions.{tag-row}
 use Rattle.nl_dat.proofs.dat.DatVstore.tag.Goals as goal

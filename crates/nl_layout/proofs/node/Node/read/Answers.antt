@@ -1,4 +1,4 @@
-use Rattle.std.proofs.Common.{◌≡◌, ◌∙◌, ap, sym, Some}
+use Rattle.std.proofs.Common.{◌∙◌, ap, Some}
 use Rattle.nl_layout.proofs.Slots.{length-Spells, slots-Spells}
 use Rattle.nl_layout.proofs.node.Node.read.Goals as goal
 

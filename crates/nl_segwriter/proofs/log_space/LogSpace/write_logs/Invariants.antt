@@ -1,7 +1,7 @@
 use Rattle.std.proofs.Common.{◌≡◌, ◌≤◌, ℕ, length}
 use Rattle.std.specs.List.{AllByRecursion}
 use Rattle.std.specs.Vec.Iter.{into_iter_items, into_iter_len}
-use Rattle.nl_types.specs.Segments.{Segments, StaysUsed, AreTidy}
+use Rattle.nl_types.specs.Segments.{StaysUsed, AreTidy}
 use Rattle.nl_types.specs.Placing.{AreNextLogs, with_logs}
 use Rattle.nl_segwriter.specs.Content.{SpaceContent, KeepsUsed, IsSameAt}
 use Rattle.nl_segwriter.specs.Appended.{IsOutside}

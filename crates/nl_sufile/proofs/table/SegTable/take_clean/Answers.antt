@@ -1,4 +1,4 @@
-use Rattle.std.proofs.Common.{◌<◌, ◌≤◌, ◌∙◌, length, sym, refl, arith}
+use Rattle.std.proofs.Common.{◌<◌, ◌∙◌, length, sym, refl, arith}
 use Rattle.nl_types.specs.Segments.{Segments, clean_from}
 use Rattle.nl_sufile.proofs.ActiveSegment.{lowest_within, table_active}
 use Rattle.nl_sufile.proofs.table.SegTable.take_clean.Goals as goal
