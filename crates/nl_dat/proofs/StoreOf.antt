@@ -5,10 +5,11 @@ use Rattle.std.specs.Option.{option_map, option_and_then}
 use Rattle.std.proofs.Math.ListN.{get_or-map}
 use Rattle.std.proofs.lemmas.List.{get_or_past, length-map, length-replicate}
 use Rattle.std.proofs.lemmas.Bool.{cases_lt}
-use Rattle.nl_types.specs.Segments.{AreTidy, total_blocks}
+use Rattle.nl_types.specs.Segments.{total_blocks}
 use Rattle.nl_types.specs.PartialMaps.{Partial}
 use Rattle.nl_types.specs.Entries.{Birth, number_of}
 use Rattle.nl_types.proofs.PartialMaps.{same_at_all}
+use Rattle.nl_sufile.specs.Table.{IsSegTable}
 use Rattle.nl_segwriter.specs.Content.{Payload, SpaceContent, HoldsOnlyUsed, payload_page}
 use Rattle.nl_segwriter.specs.Logs.{AreWholeLogs, HaveLogs}
 use Rattle.nl_dat.specs.declared.entries.DatEntry.{DatEntry}
@@ -66,7 +67,7 @@ module _ (table : List (Option DatEntry)) (space : SpaceContent) (failures : ℕ
 
 -- ---- what is true of every store
 
-module _ (table : List (Option DatEntry)) (lowest : ℕ) (space : SpaceContent) (failures : ℕ) (is_table : IsTable table lowest space) (tidy : AreTidy space.segments) where
+module _ (table : List (Option DatEntry)) (lowest : ℕ) (space : SpaceContent) (failures : ℕ) (is_table : IsTable table lowest space) (limits : IsSegTable space.segments) where
   address_now : (v b : ℕ) → address_in (store_of table space failures) v ≡ Some b → addresses_of (entry_in table) v ≡ Some b
   address_now v b at = sym (ap (λ (m : Partial ℕ). m v) (address_in-store_of table space failures is_table.sound)) ∙ at
 
@@ -102,7 +103,7 @@ module _ (table : List (Option DatEntry)) (lowest : ℕ) (space : SpaceContent) 
           let same : numbered_with e (birth_of_item payload) ≡ n = cc in
           let number : payload.0.number ≡ v = some_same (sym (ap (λ (o : Option Payload). option_map number_of (option_map birth_of_item o)) held) ∙ is_table.sound v e.block at) in
           subst Own same (
-            used_inside space.segments e.block tidy (is_table.used v e.block at),
+            used_inside space.segments e.block limits.tidy (is_table.used v e.block at),
             held ∙ ap (λ (k : ℕ). Some (tag_for k (tag_place payload.0), payload.1)) number,
             is_table.stored v e.block at ∙ ap (option_map payload_page) held,
           )
@@ -122,10 +123,10 @@ module _ (table : List (Option DatEntry)) (lowest : ℕ) (space : SpaceContent) 
     apart = λ v w b at_v at_w. HaveOwnPayload-apart (addresses_of (entry_in table)) (births_in space) v w b is_table.sound (address_now v b at_v) (address_now w b at_w);
     on_device = λ v n is. let o = own v n is in (shown table space failures n.block o.0).1 ∙ o.2;
     own_payload = λ v n is. let o = own v n is in (shown table space failures n.block o.0).0 ∙ o.1;
-    whole_logs = whole-shown table space failures tidy whole;
+    whole_logs = whole-shown table space failures limits.tidy whole;
     only_used = only-shown table space failures only;
     have_logs = have;
-    tidy = tidy;
+    limits = limits;
   }
 
 -- ---- an empty table

@@ -4,11 +4,12 @@ use Rattle.std.specs.List.{range_with_len}
 use Rattle.std.specs.Option.{option_map}
 use Rattle.nl_types.specs.declared.error.VolError.{VolError}
 use Rattle.nl_types.specs.declared.error.VolError.TheVariants.{NoSpace, Fault, Memory}
-use Rattle.nl_types.specs.Segments.{Segments, AreTidy, IsUsed, total_blocks}
+use Rattle.nl_types.specs.Segments.{Segments, IsUsed, total_blocks}
 use Rattle.nl_types.specs.Placing.{LacksSpace}
 use Rattle.nl_types.specs.PartialMaps.{Partial, put_each, adjust_each, is_one_of, NoneTwice}
 use Rattle.nl_types.specs.Entries.{Birth, Entry, Content, number_of, written}
 use Rattle.nl_layout.specs.declared.tag.Tag.{Tag}
+use Rattle.nl_sufile.specs.Table.{IsSegTable}
 use Rattle.nl_segwriter.specs.Content.{SpaceContent, Payload, HoldsOnlyUsed, KeepsUsed, IsFreed, payload_tag}
 use Rattle.nl_segwriter.specs.Logs.{AreWholeLogs, HaveLogs}
 use Rattle.nl_segwriter.specs.Appended.{IsAppended, IsBrokenOff}
@@ -103,7 +104,7 @@ HasNoneFree s births = (v : ℕ) → 1 ≤ v → v ≤ capacity s → is_taken (
 
 -- There is a place for each number, and for 0, which is never used. Each number in use has a used block of its own, where
 -- the device holds its page, and its log's summary tells its number and place. The used part of each segment is whole
--- logs, and no other block has payload.
+-- logs, and no other block has payload. The segments are tidy, and within the limits of a volume.
 pub record IsStore (s : Store) : Type 0 where
   pub full : length s.numbers ≡ capacity s + 1
   pub numbers : (v b : ℕ) → address_in s v ≡ Some b → (1 ≤ v) × (v ≤ capacity s)
@@ -114,7 +115,7 @@ pub record IsStore (s : Store) : Type 0 where
   pub whole_logs : AreWholeLogs (space_in s)
   pub only_used : HoldsOnlyUsed (space_in s)
   pub have_logs : HaveLogs s.segments
-  pub tidy : AreTidy s.segments
+  pub limits : IsSegTable s.segments
 
 -- ---- segments
 

@@ -1,7 +1,8 @@
 -- What a space of blocks holds, block by block, in memory and on its device.
-use Rattle.std.specs.Prelude.{◌≡◌, ℕ, ◌+◌, ◌*◌, ◌<◌, ◌≤◌, ◌⊎◌, List, [], ◌∷◌, length, replicate, slice_get, Option, Some, None}
+use Rattle.std.specs.Prelude.{◌≡◌, ℕ, ◌+◌, ◌*◌, ◌<◌, ◌≤◌, ◌⊎◌, List, [], ◌∷◌, length, slice_get, Option, Some, None}
 use Rattle.nl_types.specs.declared.geometry.Geometry.{Geometry}
-use Rattle.nl_types.specs.Segments.{Segments, IsUsed, clean_info, with_clean}
+use Rattle.nl_types.specs.Segments.{Segments, IsUsed, with_clean}
+use Rattle.nl_sufile.specs.Table.{all_clean}
 use Rattle.nl_device.specs.Pages.{DevicePages}
 use Rattle.nl_layout.specs.declared.tag.Tag.{Tag}
 
@@ -65,7 +66,7 @@ HoldsOnlyUsed c = (b : ℕ) → (IsUsed c.segments b → ⊥) → c.held b ≡ N
 
 -- nothing is in memory, and all segments are clean
 abbrev pub new_content : Geometry → DevicePages → SpaceContent
-new_content g pages = record { segments = record { blocks = g.blocks; each = replicate g.segments clean_info }; held = λ b. None; stored = pages }
+new_content g pages = record { segments = all_clean g; held = λ b. None; stored = pages }
 
 -- so many blocks from a number on are empty, and all others stay
 pub record IsEmptied {V : Type 0} (first count : ℕ) (old new : ℕ → Option V) : Type 0 where

@@ -1,7 +1,7 @@
 -- Logs that are written, one after another.
 use Rattle.std.specs.Prelude.{◌≡◌, ℕ, ◌+◌, ◌<◌, ◌≤◌, List, [], ◌∷◌, ◌++◌, length, slice_get, slice_index_or, Option, None}
 use Rattle.nl_types.specs.declared.segment.Log.{Log}
-use Rattle.nl_types.specs.Segments.{Segments, with_error}
+use Rattle.nl_types.specs.Segments.{Segments, with_active, with_error}
 use Rattle.nl_types.specs.Placing.{first_block, with_logs}
 use Rattle.nl_device.specs.Pages.{DevicePages}
 use Rattle.nl_segwriter.specs.declared.staging.Staged.{Staged}
@@ -34,6 +34,17 @@ pub record HasTried (first tried : ℕ) (pages : List (List ℕ)) (old new : Dev
 pub record SameOutsideLog (blocks : ℕ) (log : Log) (old new : SpaceContent) : Type 0 where
   pub held : SameOutside (first_block blocks log) (log.count + 1) old.held new.held
   pub stored : SameOutside (first_block blocks log) (log.count + 1) old.stored new.stored
+
+-- The segment may have been taken. What becomes of the segments with a log in it, or with it in error, is the same.
+pub record MayBeTaken (segment : ℕ) (old new : Segments) : Type 0 where
+  pub logged : (stamp used : ℕ) → with_active new segment stamp used ≡ with_active old segment stamp used
+  pub failed : with_error new segment ≡ with_error old segment
+  pub blocks : new.blocks ≡ old.blocks
+  pub count : length new.each ≡ length old.each
+
+-- the log that was made ready stands
+abbrev pub StagedStands : ℕ → Staged → SpaceContent → Type 0
+StagedStands blocks x c = StandsFrom (first_block blocks x.log) (whole_of x) c.held c.stored
 
 -- the logs stand
 abbrev pub LogsStand : ℕ → List Staged → Held → DevicePages → Type 0

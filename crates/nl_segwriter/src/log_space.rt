@@ -9,7 +9,7 @@ ghost use Rattle.nl_segwriter.specs.Content.{HoldsOnlyUsed, KeepsUsed, new_conte
 ghost use Rattle.nl_segwriter.specs.Logs.{AreWholeLogs, HaveLogs, StandsFrom};
 ghost use Rattle.nl_segwriter.specs.Appended.{KeepsOtherBlocks};
 ghost use Rattle.nl_segwriter.specs.Staging.{IsReady, logs_of, whole_of};
-ghost use Rattle.nl_segwriter.specs.Writing.{held_in, content_of, SameOutsideLog, LogsStand, BreaksOff};
+ghost use Rattle.nl_segwriter.specs.Writing.{held_in, content_of, SameOutsideLog, MayBeTaken, StagedStands, LogsStand, BreaksOff};
 
 use crate::numbers::numbers_of;
 use crate::payload::{Payload, drop_row, hold_row, no_payload};
@@ -58,7 +58,7 @@ impl<D: Device> LogSpace<D> {
         requires next { IsNextLog self.old.table staged.log }
         requires ready { IsReady staged }
         ensures table { OnOk result (self.new.table ≡ with_log self.old.table staged.log staged.stamp) }
-        ensures stands { OnOk result (StandsFrom (first_block self.old.table.blocks staged.log) (whole_of staged) (held_in self.new.payload) (D.pages self.new.device)) }
+        ensures stands { OnOk result (StagedStands self.old.table.blocks staged (⟦<Self as Space>⟧.content self.new)) }
         ensures broken { OnErr result (self.new.table ≡ with_error self.old.table staged.log.segment) }
         ensures failed { OnErr result (D.failure_count self.old.device < D.failure_count self.new.device) }
         ensures counted { D.failure_count self.old.device ≤ D.failure_count self.new.device }
@@ -115,9 +115,7 @@ impl<D: Device> LogSpace<D> {
 fn take_segment(table: &mut SegTable, start: Position)
     requires place { (active_place table.old ≡ Some start) ⊎ (lowest_clean table.old ≡ Some start.segment) }
     requires limits { IsSegTable table.old }
-    ensures with_active { (stamp used : ℕ) → with_active table.new start.segment stamp used ≡ with_active table.old start.segment stamp used }
-    ensures with_error { with_error table.new start.segment ≡ with_error table.old start.segment }
-    ensures size { (table.new.blocks ≡ table.old.blocks) × (length table.new.each ≡ length table.old.each) }
+    ensures { MayBeTaken start.segment table.old table.new }
 {
     if table.active_place() != Some(start) {
         table.take_clean();

@@ -1,9 +1,14 @@
 -- What a table of segments keeps.
-use Rattle.std.specs.Prelude.{◌≡◌, ℕ, ◌<◌, ◌≤◌, ◌⊎◌, true, List, length, Option, Some}
+use Rattle.std.specs.Prelude.{◌≡◌, ℕ, ◌<◌, ◌≤◌, ◌⊎◌, true, List, length, replicate, Option, Some}
+use Rattle.nl_types.specs.declared.geometry.Geometry.{Geometry}
 use Rattle.nl_types.specs.declared.error.VolError.{VolError}
 use Rattle.nl_types.specs.declared.error.VolError.TheVariants.{NoSpace, Memory}
 use Rattle.nl_types.specs.declared.segment.SegmentInfo.{SegmentInfo}
-use Rattle.nl_types.specs.Segments.{Segments, AreTidy, info_of, is_active}
+use Rattle.nl_types.specs.Segments.{Segments, AreTidy, clean_info, info_of, is_active}
+
+-- all segments, as they are on a new device
+abbrev pub all_clean : Geometry → Segments
+all_clean g = record { blocks = g.blocks; each = replicate g.segments clean_info }
 
 -- what is true of every table
 pub record IsSegTable (s : Segments) : Type 0 where

@@ -4,7 +4,7 @@ ghost use Rattle.std.specs.Option.{ok_or};
 ghost use Rattle.nl_types.specs.declared.segment.SegmentState.TheVariants.{Active};
 ghost use Rattle.nl_types.specs.Segments.{active_place, clean_from, clean_segments as clean_numbers, clean_info, info_of, lowest_clean, none_active, with_active, with_clean, with_error};
 ghost use Rattle.nl_types.specs.Placing.{LogsFit, LacksSpace, end_of, with_log};
-ghost use Rattle.nl_sufile.specs.Table.{IsSegTable, IsActiveIn, IsNoSpaceOrMemory};
+ghost use Rattle.nl_sufile.specs.Table.{IsSegTable, IsActiveIn, IsNoSpaceOrMemory, all_clean};
 
 use crate::placing::{clean_segments, place_on};
 use nl_types::{Geometry, Items, Log, Position, Segment, SegmentInfo, SegmentState, VolError};
@@ -42,7 +42,7 @@ pub struct Sustat {
 impl SegTable {
     /// A table of clean segments, refused by `Memory` alone.
     pub fn new(alloc: Global, geometry: Geometry) -> Result<SegTable, VolError>
-        ensures clean { IfOk result (λ table. table ≡ record { blocks = geometry.blocks; each = replicate geometry.segments clean_info }) }
+        ensures clean { IfOk result (λ table. table ≡ all_clean geometry) }
         ensures limits { IfOk result IsSegTable }
         ensures refused { IsOkUnless result VolError.Memory }
     {

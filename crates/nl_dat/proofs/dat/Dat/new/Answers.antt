@@ -11,7 +11,7 @@ returns-clause-is_store g c =
     let blocks : c.blocks-2.result ≡ space.segments.blocks = c.blocks-2.ensures.blocks ∙ ap (λ (s : Segments). s.blocks) c.table-table.ensures in
     is_store c.in_ok-table.table 1 space (g.S.Space.failure_count c.args.space)
     (table-empty c.in_ok-table.table space (c.in_ok-table.ensures ∙ ap (λ n. replicate {A = Option DatEntry} (n * c.blocks-2.result + 1) None) segments ∙ ap (λ n. replicate {A = Option DatEntry} (length space.segments.each * n + 1) None) blocks))
-    (g.met.S.Space.limits c.args.space).tidy (g.met.S.Space.whole_logs c.args.space) (g.met.S.Space.holds_only_used c.args.space) (g.met.S.Space.have_logs c.args.space)
+    (g.met.S.Space.limits c.args.space) (g.met.S.Space.whole_logs c.args.space) (g.met.S.Space.holds_only_used c.args.space) (g.met.S.Space.have_logs c.args.space)
 
 pub returns-clause-new : goal.returns-clause-new
 returns-clause-new g c =

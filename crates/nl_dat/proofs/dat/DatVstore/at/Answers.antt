@@ -28,5 +28,5 @@ returns-clause-there g c =
 pub returns-clause-is : goal.returns-clause-is
 returns-clause-is g c =
     at-is c.args.self.now (c.args.segment * c.args.self.now.segments.blocks + c.args.position) c.number_with.result
-    (subst IsStore c.self.view_is (is_store c.self.inside.table (c.self.inside.filled + 1) (g.S.Space.content c.self.inside.space) (g.S.Space.failure_count c.self.inside.space) c.self.invariant (g.met.S.Space.limits c.self.inside.space).tidy (g.met.S.Space.whole_logs c.self.inside.space) (g.met.S.Space.holds_only_used c.self.inside.space) (g.met.S.Space.have_logs c.self.inside.space)))
+    (subst IsStore c.self.view_is (is_store c.self.inside.table (c.self.inside.filled + 1) (g.S.Space.content c.self.inside.space) (g.S.Space.failure_count c.self.inside.space) c.self.invariant (g.met.S.Space.limits c.self.inside.space) (g.met.S.Space.whole_logs c.self.inside.space) (g.met.S.Space.holds_only_used c.self.inside.space) (g.met.S.Space.have_logs c.self.inside.space)))
     (returns-clause-there g c)

@@ -58,4 +58,4 @@ returns-clause-reclaimed g c =
 
 pub returns-clause-is_store : goal.returns-clause-is_store
 returns-clause-is_store g c =
-    is_store c.take_out-taken.new.table (c.filled_after-self-inside.result + 1) (g.S.Space.content c.free.new.self) (g.S.Space.failure_count c.free.new.self) (invariant_of-self g c) (g.met.S.Space.limits c.free.new.self).tidy (g.met.S.Space.whole_logs c.free.new.self) (g.met.S.Space.holds_only_used c.free.new.self) (g.met.S.Space.have_logs c.free.new.self)
+    is_store c.take_out-taken.new.table (c.filled_after-self-inside.result + 1) (g.S.Space.content c.free.new.self) (g.S.Space.failure_count c.free.new.self) (invariant_of-self g c) (g.met.S.Space.limits c.free.new.self) (g.met.S.Space.whole_logs c.free.new.self) (g.met.S.Space.holds_only_used c.free.new.self) (g.met.S.Space.have_logs c.free.new.self)

@@ -97,15 +97,15 @@ returns-clause-moved g c =
 pub returns-in_err-payload-clause-is_store : goal.returns-in_err-payload-clause-is_store
 returns-in_err-payload-clause-is_store g c =
     is_store c.self.inside.table (c.self.inside.filled + 1) (g.S.Space.content c.load_all.new.space) (g.S.Space.failure_count c.load_all.new.space)
-    (subst (IsTable c.self.inside.table (c.self.inside.filled + 1)) (sym c.load_all.ensures.same) c.self.invariant) (g.met.S.Space.limits c.load_all.new.space).tidy (g.met.S.Space.whole_logs c.load_all.new.space) (g.met.S.Space.holds_only_used c.load_all.new.space) (g.met.S.Space.have_logs c.load_all.new.space)
+    (subst (IsTable c.self.inside.table (c.self.inside.filled + 1)) (sym c.load_all.ensures.same) c.self.invariant) (g.met.S.Space.limits c.load_all.new.space) (g.met.S.Space.whole_logs c.load_all.new.space) (g.met.S.Space.holds_only_used c.load_all.new.space) (g.met.S.Space.have_logs c.load_all.new.space)
 
 pub returns-in_err-blocks-clause-is_store : goal.returns-in_err-blocks-clause-is_store
 returns-in_err-blocks-clause-is_store g c =
-    is_store c.self.inside.table (c.self.inside.filled + 1) (g.S.Space.content c.append.new.self) (g.S.Space.failure_count c.append.new.self) (invariant_of-self-in_err-blocks g c) (g.met.S.Space.limits c.append.new.self).tidy (g.met.S.Space.whole_logs c.append.new.self) (g.met.S.Space.holds_only_used c.append.new.self) (g.met.S.Space.have_logs c.append.new.self)
+    is_store c.self.inside.table (c.self.inside.filled + 1) (g.S.Space.content c.append.new.self) (g.S.Space.failure_count c.append.new.self) (invariant_of-self-in_err-blocks g c) (g.met.S.Space.limits c.append.new.self) (g.met.S.Space.whole_logs c.append.new.self) (g.met.S.Space.holds_only_used c.append.new.self) (g.met.S.Space.have_logs c.append.new.self)
 
 pub returns-clause-is_store : goal.returns-clause-is_store
 returns-clause-is_store g c =
-    is_store c.move_entries.new.table (c.self.inside.filled + 1) (g.S.Space.content c.append.new.self) (g.S.Space.failure_count c.append.new.self) (invariant_of-self-2 g c) (g.met.S.Space.limits c.append.new.self).tidy (g.met.S.Space.whole_logs c.append.new.self) (g.met.S.Space.holds_only_used c.append.new.self) (g.met.S.Space.have_logs c.append.new.self)
+    is_store c.move_entries.new.table (c.self.inside.filled + 1) (g.S.Space.content c.append.new.self) (g.S.Space.failure_count c.append.new.self) (invariant_of-self-2 g c) (g.met.S.Space.limits c.append.new.self) (g.met.S.Space.whole_logs c.append.new.self) (g.met.S.Space.holds_only_used c.append.new.self) (g.met.S.Space.have_logs c.append.new.self)
 
 pub returns-in_err-payload-clause-refused : goal.returns-in_err-payload-clause-refused
 returns-in_err-payload-clause-refused g c =

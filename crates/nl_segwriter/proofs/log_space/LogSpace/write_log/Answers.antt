@@ -25,7 +25,7 @@ invariant_of-self g c =
     let put : HasPut (first_block s.blocks log) x.pages old.stored stored = subst (λ (n : ℕ). HasPut n x.pages old.stored stored) at c.in-Ok.ensures.put in
     let row : StandInRow (first_block s.blocks log + 1) x.payload (held_in table) = subst (λ (n : ℕ). StandInRow (n + 1) x.payload (held_in table)) at c.hold_row.ensures.there in
     let same : SameOutside (first_block s.blocks log + 1) (length x.payload) old.held (held_in table) = subst (λ (n : ℕ). SameOutside (n + 1) (length x.payload) old.held (held_in table)) at c.hold_row.ensures.others in
-    let is : c.add_log.new.self ≡ with_log s log x.stamp = c.add_log.ensures.log ∙ c.take_segment.ensures.with_active x.stamp (end_of log) in
+    let is : c.add_log.new.self ≡ with_log s log x.stamp = c.add_log.ensures.log ∙ c.take_segment.ensures.logged x.stamp (end_of log) in
     let shape : g.D.Device.shape c.args.self.now.device ≡ g.D.Device.shape c.put_row.new.device = sym c.in-Ok.ensures.shape in
     let stands = log_stands old x (held_in table) stored c.args.self.now.limits.tidy c.requires.next c.args.self.now.unheld c.requires.ready put row same in
     let held = held_outside (first_block s.blocks log) x old.held (held_in table) c.requires.ready same in
@@ -51,7 +51,7 @@ invariant_of-self-in-Err g c =
     let old : SpaceContent = content_of s table (g.D.Device.pages c.args.self.now.device) in
     let at : c.get.result * c.blocks-2.result + log.first ≡ first_block s.blocks log = rw (c.get.ensures, c.blocks-2.ensures.blocks) refl in
     let put : HasTried (first_block s.blocks log) c.in-Err.field-0.tried x.pages old.stored stored = subst (λ (n : ℕ). HasTried n c.in-Err.field-0.tried x.pages old.stored stored) at c.in-Err.ensures.tried in
-    let is : c.mark_error.new.self ≡ with_error s log.segment = c.mark_error.ensures.error ∙ c.take_segment.ensures.with_error in
+    let is : c.mark_error.new.self ≡ with_error s log.segment = c.mark_error.ensures.error ∙ c.take_segment.ensures.failed in
     let shape : g.D.Device.shape c.args.self.now.device ≡ g.D.Device.shape c.put_row.new.device = sym c.in-Err.ensures.shape in
     let pages = tried_outside (first_block s.blocks log) c.in-Err.field-0.tried x old.stored stored c.requires.ready put in
     record {
