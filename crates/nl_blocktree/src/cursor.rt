@@ -12,8 +12,9 @@ use nl_types::{Page, VirtualNumber};
 /// Reads the blocks of a file: for indices that ascend it reads each node once.
 #[derive(Drop)]
 pub struct Cursor<'a, V: VRead> {
-    store: &'a V,
-    root: Root,
+    /// What it reads.
+    pub store: &'a V,
+    pub root: Root,
     position: u64,
     /// The node at the position.
     node: Option<VirtualNumber>,
