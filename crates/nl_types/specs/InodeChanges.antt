@@ -4,10 +4,11 @@
 --     Removes          one inode less, a file's or an empty directory's, and its record
 --     Renames          a record under another name, where nothing has it
 --     Replaces         the same, where a file or an empty directory has it, which is removed
-use Rattle.std.specs.Prelude.{◌≡◌, ℕ, ◌==◌, ◌&&◌, false, if◌then◌else◌, List, ◌∷◌, reverse, Option, Some, None}
+use Rattle.std.specs.Prelude.{◌≡◌, ℕ, IsTrue, ◌==◌, ◌&&◌, false, if◌then◌else◌, List, ◌∷◌, reverse, Option, Some, None}
+use Rattle.std.specs.FinMap.{find, is_sorted}
 use Rattle.nl_types.specs.declared.reply.Node.{Node}
 use Rattle.nl_types.specs.declared.reply.Node.TheVariants.{Dir, File}
-use Rattle.nl_types.specs.Paths.{Name, Path, same_name, is_within}
+use Rattle.nl_types.specs.Paths.{Name, Path, name_cmp, same_name, is_within}
 use Rattle.nl_types.specs.Trees.{kind_of}
 use Rattle.nl_types.specs.Inodes.{Link, InodeContent, Bytes, Records, Inodes, reached}
 
@@ -36,6 +37,11 @@ pub record HasRecords (inodes : Inodes) (dir : Path) : Type 0 where
   pub records : Name → Option Link
   pub is_reached : reached inodes dir ≡ Some inode
   pub holds : inodes inode ≡ Some (Records records)
+
+-- the list has the records of a directory, ascending
+pub record ListsRecords (records : Name → Option Link) (listed : List (Name × Link)) : Type 0 where
+  pub ascending : IsTrue (is_sorted name_cmp listed)
+  pub finds : (n : Name) → find name_cmp n listed ≡ records n
 
 -- what a new inode holds
 abbrev pub fresh_content : Node → InodeContent

@@ -6,6 +6,7 @@ use Rattle.std.specs.FinMap.{is_sorted}
 use Rattle.nl_types.specs.declared.kind.Kind.{Kind}
 use Rattle.nl_types.specs.declared.reply.Node.{Node}
 use Rattle.nl_types.specs.declared.reply.Node.TheVariants.{Dir, File}
+use Rattle.nl_types.specs.Limits.{root_inode}
 use Rattle.nl_types.specs.Paths.{Name, Path, path_cmp}
 use Rattle.nl_types.specs.Trees.{Tree, lookup, kind_of}
 
@@ -30,7 +31,7 @@ inode_named n (Records records) = option_map (λ (r : Link). r.0) (records n)
 
 -- the inode that a walk from the root finds
 unfoldable pub reached : Inodes → Path → Option ℕ
-reached inodes [] = Some 2
+reached inodes [] = Some root_inode
 reached inodes (n ∷ p) = option_and_then (λ c. inode_named n c) (option_and_then inodes (reached inodes p))
 
 abbrev pub node_of : InodeContent → Node
@@ -56,10 +57,10 @@ pub record IsRooted (tree : Path → Option Node) : Type 0 where
 abbrev pub record_of : (Path → Option Node) → (Path → Option ℕ) → Path → Option Link
 record_of tree inode_of p = option_zip (inode_of p) (option_map kind_of (tree p))
 
--- the paths of the tree and the inodes in use are paired one to one, the root with inode 2, such that a directory's
+-- the paths of the tree and the inodes in use are paired one to one, the root with its own number, such that a directory's
 -- inode has its children's names as records and a file's inode has its bytes
 pub record Pairs (inodes : Inodes) (tree : Path → Option Node) (inode_of : Path → Option ℕ) : Type 0 where
-  pub root : inode_of [] ≡ Some 2
+  pub root : inode_of [] ≡ Some root_inode
   pub paths : (p : Path) → is_some (inode_of p) ≡ is_some (tree p)
   pub once : (p q : Path) (i : ℕ) → inode_of p ≡ Some i → inode_of q ≡ Some i → p ≡ q
   pub all : (i : ℕ) (c : InodeContent) → inodes i ≡ Some c → (p : Path) × (inode_of p ≡ Some i)

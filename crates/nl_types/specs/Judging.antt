@@ -1,7 +1,6 @@
 -- How calls are judged by inodes alone. Each answers what the call on the tree answers, with the same refusals in the
 -- same order. A path that is not the root is given as its directory and its last name, where calls look there.
-use Rattle.std.specs.Prelude.{◌≡◌, ℕ, Bool, true, false, ◌&&◌, ◌||◌, if◌then◌else◌, nat_lt, IsTrue, List, [], ◌∷◌, ◌++◌, map, length, is_some, Option, None, Some, Result, Ok, Err}
-use Rattle.std.specs.FinMap.{find, is_sorted}
+use Rattle.std.specs.Prelude.{◌≡◌, ℕ, Bool, true, false, ◌&&◌, ◌||◌, if◌then◌else◌, nat_lt, List, [], ◌∷◌, ◌++◌, map, length, is_some, Option, None, Some, Result, Ok, Err}
 use Rattle.nl_types.specs.declared.error.VolError.{VolError}
 use Rattle.nl_types.specs.declared.error.VolError.TheVariants.{NotDir, IsDir, Exists, NotEmpty, BadPath, IntoItself, TooBig}
 use Rattle.nl_types.specs.declared.kind.Kind.{Kind}
@@ -10,18 +9,19 @@ use Rattle.nl_types.specs.declared.reply.Named.{Named}
 use Rattle.nl_types.specs.declared.reply.Stat.{Stat}
 use Rattle.nl_types.specs.declared.reply.Stat.TheVariants as status
 use Rattle.nl_types.specs.Limits.{path_limit}
-use Rattle.nl_types.specs.Paths.{Name, Path, name_cmp, same_path}
+use Rattle.nl_types.specs.Paths.{Name, Path, same_path}
 use Rattle.nl_types.specs.Calls.{after, refuse_if, is_root, is_above}
 use Rattle.nl_types.specs.Inodes.{Link, InodeContent, Bytes, Records, Inodes}
+use Rattle.nl_types.specs.InodeChanges.{ListsRecords}
 use Rattle.nl_types.specs.Resolving.{record_in, resolve, as_dir}
 
 -- the records of each directory as a list, ascending
 abbrev pub Listing : Type 0
 Listing = ℕ → List (Name × Link)
 
-pub record IsListing (inodes : Inodes) (listing : Listing) : Type 0 where
-  pub ascending : (i : ℕ) → IsTrue (is_sorted name_cmp (listing i))
-  pub finds : (i : ℕ) (records : Name → Option Link) → inodes i ≡ Some (Records records) → (n : Name) → find name_cmp n (listing i) ≡ records n
+abbrev pub IsListing : Inodes → Listing → Type 0
+IsListing inodes listing =
+    (i : ℕ) (records : Name → Option Link) → inodes i ≡ Some (Records records) → ListsRecords records (listing i)
 
 -- ---- files
 

@@ -3,7 +3,7 @@ use Rattle.std.proofs.Common.{◌≡◌, ℕ, ◌+◌, ◌-◌, Bool, true, fals
 use Rattle.std.specs.Prelude.{nat_lt, ◌==◌}
 use Rattle.std.specs.Option.{is_some, option_map, ok_or}
 use Rattle.std.specs.FinMap.{find}
-use Rattle.std.proofs.lemmas.Bool.{lt-ltb, ne_eqb}
+use Rattle.std.proofs.lemmas.Bool.{lt-ltb, le-ltb, ne_eqb}
 use Rattle.std.proofs.lemmas.List.{length-append, reverse-append, reverse-reverse}
 use Rattle.nl_types.specs.declared.error.VolError.{VolError}
 use Rattle.nl_types.specs.declared.error.VolError.TheVariants.{NotFound, NotEmpty, Exists, TooBig, BadPath, IntoItself}
@@ -21,6 +21,7 @@ use Rattle.nl_types.specs.Inodes.{Link, InodeContent, Bytes, Records, Inodes, Me
 use Rattle.nl_types.specs.InodeChanges.{HasRecords, IsBare, Adds, Refills, Drops, Moves, MovesOnto}
 use Rattle.nl_types.specs.Resolving.{record_in, step_to, resolve_from, resolve, as_dir}
 use Rattle.nl_types.specs.Judging.{Listing, IsListing, bytes_of, bytes_in, has_any, may_take, is_dir_kind, judge_create, judge_rename}
+use Rattle.nl_types.specs.InodeLaws.{MeansPaths}
 use Rattle.nl_types.specs.InodeCallLaws.{LeadsTo, CreatesLead, WritesLead, TruncatesLead, UnlinksLead, RmdirsLead, RenamesLead, RenamesOntoLead}
 use Rattle.nl_types.proofs.Inodes.Standing.{zipped}
 use Rattle.nl_types.proofs.Inodes.Resolving.{inode, child_record, node_held, dir_stands, directories_hold_records, files_hold_bytes, parents_by_inodes}
@@ -100,7 +101,7 @@ no_names (x ∷ names) e n = absurd (true≢false (sym (lt-ltb 0 (length (x ∷ 
 
 dir_bare : (inodes : Inodes) (listing : Listing) (l : IsListing inodes listing) (i : ℕ) (c : InodeContent) → inodes i ≡ Some c → has_any listing i ≡ false → IsBare c
 dir_bare inodes listing l i (Bytes bytes) e none = tt
-dir_bare inodes listing l i (Records records) e none = λ n. sym (l.finds i records e n) ∙ no_names (listing i) none n
+dir_bare inodes listing l i (Records records) e none = λ n. sym ((l i records e).finds n) ∙ no_names (listing i) none n
 
 taken_bare : (inodes : Inodes) (listing : Listing) (l : IsListing inodes listing) (k : Kind) (target : Link) (c : InodeContent) → inodes target.0 ≡ Some c → kind_of (node_of c) ≡ target.1 →
     may_take listing k (Some target) ≡ Ok tt → IsBare c
@@ -110,9 +111,6 @@ taken_bare inodes listing l kind.Directory (i, kind.File) c e kc is = cc
 taken_bare inodes listing l kind.Directory (i, kind.Directory) c e kc is = dir_bare inodes listing l i c e (refuse_if-ok (has_any listing i) NotEmpty (Ok tt) tt is).0
 
 -- ---- calls
-
-one_less : (a b : ℕ) → a + 1 ≡ b → a ≡ b - 1
-one_less a b e = omega (arith, e)
 
 nothing_in : (o : Option Link) → is_some o ≡ false → o ≡ None
 nothing_in None e = refl
@@ -131,7 +129,7 @@ create_found old paths dir name parent judged =
     there at found same dirs none = (found ∙ (λ i. Ok (same i, dirs i)), ap (λ (j : ℕ). record_in (old j) name) (sym same) ∙ none)
 
 pub creates_lead : CreatesLead
-creates_lead old new tree m node dir name parent j judged adds =
+creates_lead old new tree node dir name parent j m judged adds =
     let found = create_found old (length tree) dir name parent judged in
     let h = directories_hold_records old tree m dir parent found.0 in
     let made = creates_insert old new tree (reverse dir) name node j m (record {
@@ -143,18 +141,18 @@ creates_lead old new tree m node dir name parent j judged adds =
     record {
       tree = insert tree (dir ++ name ∷ []) node;
       is = creates_are_judged old tree m node dir name ∙ ap (λ (r : Result ℕ VolError). after r (λ _. Ok (answer.Done, insert tree (dir ++ name ∷ []) node))) judged;
-      means = subst (λ (p : Path). MeansTree new (insert tree p node)) same made.0;
-      count = ap (λ (p : Path). length (insert tree p node)) (sym same) ∙ made.1;
+      means = subst (λ (p : Path). MeansTree new (insert tree p node)) same made.means;
+      count = ap (λ (p : Path). length (insert tree p node)) (sym same) ∙ made.count;
     }
 
 -- other bytes at a path
 refilled : (old new : Inodes) (tree : Tree) → MeansTree old tree → (path : Path) (i : ℕ) (bytes : List ℕ) → resolve old path ≡ Ok (i, kind.File) → Refills old new i bytes →
-    MeansTree new (insert tree path (File bytes)) × (length (insert tree path (File bytes)) ≡ length tree)
+    MeansPaths new (insert tree path (File bytes)) (length tree)
 refilled old new tree m path i bytes found refills =
     let f = files_hold_bytes old tree m path i found in
     let made = rewrites_insert old new tree (reverse path) bytes m (record { inode = i; is_reached = f.0; held = f.1; was = f.2; refills = refills }) in
     let same : reverse (reverse path) ≡ path = reverse-reverse path in
-    (subst (λ (p : Path). MeansTree new (insert tree p (File bytes))) same made.0, ap (λ (p : Path). length (insert tree p (File bytes))) (sym same) ∙ made.1)
+    subst (λ (p : Path). MeansPaths new (insert tree p (File bytes)) (length tree)) same made
 
 file_found : (old : Inodes) (tree : Tree) → MeansTree old tree → (path : Path) (i : ℕ) → resolve old path ≡ Ok (i, kind.File) → file_at tree path ≡ Ok (bytes_of (old i))
 file_found old tree m path i found = files_are_judged old tree m path ∙ ap (λ (r : Result Link VolError). after r (bytes_in old)) found
@@ -167,35 +165,35 @@ rewrite tree offset bytes path held =
     Ok (answer.Written (length bytes), insert tree path (File (overwritten held offset bytes)))))
 
 pub writes_lead : WritesLead
-writes_lead old new tree m offset bytes path i found some fits refills =
+writes_lead old new tree offset bytes path i m found some fits refills =
     let all = overwritten (bytes_of (old i)) offset bytes in
     let made = refilled old new tree m path i all found refills in
     record {
       tree = insert tree path (File all);
       is =
           ap (λ (r : Result (List ℕ) VolError). after r (rewrite tree offset bytes path)) (file_found old tree m path i found)
-          ∙ ap (λ b. cond {A = Changed} b (Ok (answer.Written 0, tree)) (refuse_if (nat_lt file_limit (offset + length bytes)) TooBig (Ok (answer.Written (length bytes), insert tree path (File all))))) some
-          ∙ ap (λ b. refuse_if {A = Answer × Tree} b TooBig (Ok (answer.Written (length bytes), insert tree path (File all)))) fits;
-      means = made.0;
-      count = made.1;
+          ∙ ap (λ b. cond {A = Changed} b (Ok (answer.Written 0, tree)) (refuse_if (nat_lt file_limit (offset + length bytes)) TooBig (Ok (answer.Written (length bytes), insert tree path (File all))))) (ne_eqb (length bytes) 0 (λ none. omega (arith, some, none)))
+          ∙ ap (λ b. refuse_if {A = Answer × Tree} b TooBig (Ok (answer.Written (length bytes), insert tree path (File all)))) (le-ltb file_limit (offset + length bytes) fits);
+      means = made.means;
+      count = made.count;
     }
 
 pub truncates_lead : TruncatesLead
-truncates_lead old new tree m size path i found fits refills =
+truncates_lead old new tree size path i m found fits refills =
     let all = resized (bytes_of (old i)) size in
     let made = refilled old new tree m path i all found refills in
     record {
       tree = insert tree path (File all);
       is =
           ap (λ (r : Result (List ℕ) VolError). after {B = Answer × Tree} r (λ held. refuse_if (nat_lt file_limit size) TooBig (Ok (answer.Done, insert tree path (File (resized held size)))))) (file_found old tree m path i found)
-          ∙ ap (λ b. refuse_if {A = Answer × Tree} b TooBig (Ok (answer.Done, insert tree path (File all)))) fits;
-      means = made.0;
-      count = made.1;
+          ∙ ap (λ b. refuse_if {A = Answer × Tree} b TooBig (Ok (answer.Done, insert tree path (File all)))) (le-ltb file_limit size fits);
+      means = made.means;
+      count = made.count;
     }
 
 -- one inode and its record are gone
 dropped : (old new : Inodes) (tree : Tree) → MeansTree old tree → (dir : Path) (name : Name) (parent : ℕ) (e : Link) (c : InodeContent) → resolve old dir ≡ Ok (parent, kind.Directory) → record_in (old parent) name ≡ Some e →
-    old e.0 ≡ Some c → IsBare c → Drops old new parent name e.0 → MeansTree new (remove tree (dir ++ name ∷ [])) × (length (remove tree (dir ++ name ∷ [])) + 1 ≡ length tree)
+    old e.0 ≡ Some c → IsBare c → Drops old new parent name e.0 → MeansPaths new (remove tree (dir ++ name ∷ [])) (length tree - 1)
 dropped old new tree m dir name parent e c found there held bare drops =
     let h = directories_hold_records old tree m dir parent found in
     let made = removes_remove old new tree (reverse dir) name m (record {
@@ -208,24 +206,28 @@ dropped old new tree m dir name parent e c found there held bare drops =
       drops = subst (λ (i : ℕ). Drops old new i name e.0) (sym h.1) drops;
     }) in
     let same = path_of_child dir name in
-    (subst (λ (p : Path). MeansTree new (remove tree p)) same made.0, ap (λ (p : Path). length (remove tree p) + 1) (sym same) ∙ made.1)
+    subst (λ (p : Path). MeansPaths new (remove tree p) (length tree - 1)) same made
 
 pub unlinks_lead : UnlinksLead
-unlinks_lead old new tree m dir name parent i found there drops =
+unlinks_lead old new tree dir name parent i m is_named drops =
+    let found = is_named.resolved in
+    let there = is_named.has in
     let held = entry_held old tree m dir name parent (i, kind.File) found there in
     let made = dropped old new tree m dir name parent (i, kind.File) held.0 found there held.1 (file_bare held.0 held.2) drops in
     record {
       tree = remove tree (dir ++ name ∷ []);
       is = ap (λ (r : Result (List ℕ) VolError). after {B = Answer × Tree} r (λ _. Ok (answer.Done, remove tree (dir ++ name ∷ [])))) (file_found old tree m (dir ++ name ∷ []) i (resolve-child old dir name parent (i, kind.File) found there));
-      means = made.0;
-      count = one_less _ _ made.1;
+      means = made.means;
+      count = made.count;
     }
 
 below_root : (dir : Path) (name : Name) → is_root (dir ++ name ∷ []) ≡ false
 below_root dir name = ne_eqb (length (dir ++ name ∷ [])) 0 (λ e. omega (arith, length-append dir (name ∷ []), e))
 
 pub rmdirs_lead : RmdirsLead
-rmdirs_lead old new tree listing m l dir name parent i found there none drops =
+rmdirs_lead old new tree listing dir name parent i m l is_named none drops =
+    let found = is_named.resolved in
+    let there = is_named.has in
     let held = entry_held old tree m dir name parent (i, kind.Directory) found there in
     let made = dropped old new tree m dir name parent (i, kind.Directory) held.0 found there held.1 (dir_bare old listing l i held.0 held.1 none) drops in
     let path = dir ++ name ∷ [] in
@@ -235,8 +237,8 @@ rmdirs_lead old new tree listing m l dir name parent i found there none drops =
           (ap (λ b. refuse_if b BadPath (after (resolve old path) judged)) (below_root dir name)
           ∙ ap (λ (r : Result Link VolError). after r judged) (resolve-child old dir name parent (i, kind.Directory) found there)
           ∙ ap (λ b. refuse_if b NotEmpty (Ok tt)) none);
-      means = made.0;
-      count = one_less _ _ made.1;
+      means = made.means;
+      count = made.count;
     }
   where
     judged : Link → Result (Unit {0}) VolError
@@ -326,8 +328,8 @@ module _ (old new : Inodes) (tree : Tree) (listing : Listing) (m : MeansTree old
       record {
         tree = move_subtree tree from to;
         is = answered;
-        means = subst (MeansTree new) paths_are made.0;
-        count = ap length (sym paths_are) ∙ made.1;
+        means = subst (MeansTree new) paths_are made.means;
+        count = ap length (sym paths_are) ∙ made.count;
       }
 
   moved_onto : (target : Link) → record_in (old b) tn ≡ Some target → MovesOnto old new a fn b tn link target.0 → LeadsTo (rename tree from to) answer.Done new (length tree - 1)
@@ -350,12 +352,14 @@ module _ (old new : Inodes) (tree : Tree) (listing : Listing) (m : MeansTree old
       record {
         tree = move_subtree tree from to;
         is = answered;
-        means = subst (MeansTree new) paths_are made.0;
-        count = one_less _ _ (ap (λ (t : Tree). length t + 1) (sym paths_are) ∙ made.1);
+        means = subst (MeansTree new) paths_are made.means;
+        count = ap length (sym paths_are) ∙ made.count;
       }
 
 pub renames_lead : RenamesLead
-renames_lead old new tree listing m l fd fn td tn a b link judged found there into none moves = moved old new tree listing m l fd fn td tn a b link judged found there into none moves
+renames_lead old new tree listing fd fn td tn a b link m l judged source target moves =
+    moved old new tree listing m l fd fn td tn a b link judged source.resolved source.has target.resolved target.has moves
 
 pub renames_onto_lead : RenamesOntoLead
-renames_onto_lead old new tree listing m l fd fn td tn a b link target judged found there into taken moves = moved_onto old new tree listing m l fd fn td tn a b link judged found there into target taken moves
+renames_onto_lead old new tree listing fd fn td tn a b link taken m l judged source target moves =
+    moved_onto old new tree listing m l fd fn td tn a b link judged source.resolved source.has target.resolved taken target.has moves

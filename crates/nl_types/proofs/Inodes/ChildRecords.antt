@@ -39,12 +39,12 @@ zip_second (Some a) None h = refl
 zip_second (Some a) (Some x) h = refl
 
 pub children_are_records : ChildrenAreRecords
-children_are_records inodes tree dir listed m d sorted is =
+children_are_records inodes tree dir listed m d lists =
     same_entries name_cmp nat_list_cmp_total names_equal (children tree (reverse dir)) (map named listed)
     (children-sorted tree (reverse dir) (holds _ m.ordered))
-    (holds _ (sorted_named listed ∙ sorted))
+    (holds _ (sorted_named listed ∙ lists.ascending))
     (λ n.
     find-children tree (reverse dir) n
-    ∙ sym (find_named n listed ∙ ap (option_map (λ (r : Link). r.1)) (is n ∙ records_are m.rooted m.pairs dir d n)
+    ∙ sym (find_named n listed ∙ ap (option_map (λ (r : Link). r.1)) (lists.finds n ∙ records_are m.rooted m.pairs dir d n)
     ∙ zip_second (m.inode_of (n ∷ dir)) (upward tree (n ∷ dir)) (m.pairs.paths (n ∷ dir))
     ∙ ap (λ p. option_map kind_of (lookup tree p)) (reverse-append (n ∷ []) dir)))

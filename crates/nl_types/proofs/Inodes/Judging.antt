@@ -86,7 +86,7 @@ module _ (inodes : Inodes) (tree : Tree) (listing : Listing) (m : MeansTree inod
   listed p i e d =
       let h = has_records inodes tree m p i e d in
       ap (trees.children tree) (sym (reverse-reverse p))
-      ∙ children_are_records inodes tree (reverse p) (listing h.0.inode) m h.0 (l.ascending h.0.inode) (l.finds h.0.inode h.0.records h.0.holds)
+      ∙ children_are_records inodes tree (reverse p) (listing h.0.inode) m h.0 (l h.0.inode h.0.records h.0.holds)
       ∙ ap (λ j. map laws.named (listing j)) h.1
 
   counted : (p : Path) (i : ℕ) → inode inodes tree m p ≡ Some i → lookup tree p ≡ Some Dir → length (trees.children tree p) ≡ length (listing i)
