@@ -1,0 +1,17 @@
+pub mod Ways
+pub mod Recording
+pub mod Walks
+pub mod Standing
+pub mod Creating
+pub mod Rewriting
+pub mod Removing
+pub mod Renaming
+pub mod Means
+pub mod TreeCounts
+pub mod Changed
+pub mod ChildRecords
+pub mod FullVolumes
+pub mod RootAlone
+pub mod Resolving
+pub mod Judging
+pub mod CallsDone

@@ -1,0 +1,5 @@
+use Rattle.nl_types.proofs.Inodes.Means.{walks_find}
+use Rattle.nl_types.proofs.inode_laws.walks_find_nodes.Goals as goal
+
+pub returns : goal.returns
+returns c = walks_find
