@@ -17,6 +17,8 @@ mod logs;
 #[cfg(test)]
 mod numbers;
 #[cfg(test)]
+mod plain_files;
+#[cfg(test)]
 mod values;
 #[cfg(test)]
 mod volumes;
