@@ -1,13 +1,16 @@
 -- What a refused event leaves, and when space is the reason.
-use Rattle.std.proofs.Common.{◌≡◌, ◌≢◌, refl, subst}
-use Rattle.std.specs.Prelude.{true, ◌++◌, ◌∷◌, Ok, Err}
+use Rattle.std.proofs.Common.{◌≡◌, ◌≢◌, refl, subst, inl, inr, sym}
+use Rattle.std.specs.Prelude.{true, ◌++◌, ◌∷◌, Ok, Err, IfErr}
 use Rattle.nl_types.specs.declared.error.VolError.{VolError}
 use Rattle.nl_types.specs.declared.error.VolError.TheVariants as error
 use Rattle.nl_types.specs.declared.event.Event.{Event}
 use Rattle.nl_types.specs.declared.event.Event.TheVariants.{Apply, Read, Checkpoint, Mount, MountRead}
+use Rattle.nl_types.specs.Laws.{IsJudged}
 use Rattle.nl_types.specs.Placing.{LogsFit}
-use Rattle.nl_core.specs.Laws.{RefusalsKeepPens, NoSpaceIsTrue, NoSpaceIsSaid}
-use Rattle.nl_core.specs.Layout.{AllowedBetween, Layout, HasRefused}
+use Rattle.nl_types.specs.Worlds.{Outcome}
+use Rattle.nl_types.proofs.Judgements.{steps_judge}
+use Rattle.nl_core.specs.Laws.{RefusalsKeepPens, RefusalsHaveReasons, NoSpaceIsTrue, NoSpaceIsSaid}
+use Rattle.nl_core.specs.Layout.{AllowedBetween, Layout, HasRefused, cleaned}
 use Rattle.nl_core.proofs.Checkpointing.{count-items}
 
 -- what is refused but for a fault is as it was
@@ -21,6 +24,15 @@ refused_same (MountRead m ask) e old new refused other = refused
 
 pub refusals_keep_pens : (allowed : AllowedBetween) → RefusalsKeepPens allowed
 refusals_keep_pens allowed old new event e does other = refused_same event e old new does.touches other
+
+-- what the world doesn't judge has its reason
+pub refusals_have_reasons : (allowed : AllowedBetween) → RefusalsHaveReasons allowed
+refusals_have_reasons allowed old new event e held does =
+    let next = does.follows held.world.0 held.world.1 in
+    elim next.step [
+      | inl is ↦ inl (subst (λ (done : Outcome). IfErr done.0 IsJudged) is (steps_judge (cleaned old event) held.world.0 event tt))
+      | inr refused ↦ let same : e ≡ refused.error = cc in inr (subst (allowed old new event) (sym same) refused.may_be)
+    ]
 
 -- space is a reason only where it lacks
 pub no_space_is_true : (allowed : AllowedBetween) → NoSpaceIsTrue allowed

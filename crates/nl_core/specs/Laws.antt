@@ -1,15 +1,16 @@
 -- What the pen's definitions mean.
-use Rattle.std.specs.Prelude.{◌≡◌, ◌≢◌, ℕ, List, Err}
+use Rattle.std.specs.Prelude.{◌≡◌, ◌≢◌, ◌⊎◌, ℕ, List, Err}
 use Rattle.nl_types.specs.declared.error.VolError.{VolError}
 use Rattle.nl_types.specs.declared.error.VolError.TheVariants.{NoSpace, Fault}
 use Rattle.nl_types.specs.declared.event.Event.{Event}
 use Rattle.nl_types.specs.declared.event.Event.TheVariants.{Checkpoint}
 use Rattle.nl_types.specs.declared.event.Mode.{Mode}
+use Rattle.nl_types.specs.Laws.{IsJudged}
 use Rattle.nl_types.specs.Worlds.{World, Reply}
 use Rattle.nl_types.specs.Runs.{Run}
 use Rattle.nl_core.specs.Volume.{Volume}
 use Rattle.nl_core.specs.Means.{Means}
-use Rattle.nl_core.specs.Layout.{AllowedBetween, Layout, Does, DoesIn, Runs, LacksSpaceFor, volume_of}
+use Rattle.nl_core.specs.Layout.{AllowedBetween, IsPen, Layout, Does, DoesIn, Runs, LacksSpaceFor, volume_of}
 
 -- what a pen holds means one world at most
 abbrev pub MeansOneWorld : Type 0
@@ -33,6 +34,12 @@ abbrev pub RefusalsKeepPens : AllowedBetween → Type 0
 RefusalsKeepPens allowed =
     (old new : Layout) (event : Event) (e : VolError)
     → Does allowed old event (Err e) new → (e ≢ Fault) → new ≡ old
+
+-- a refusal is judged by the world, or it has the reason for which it is allowed
+abbrev pub RefusalsHaveReasons : AllowedBetween → Type 0
+RefusalsHaveReasons allowed =
+    (old new : Layout) (event : Event) (e : VolError)
+    → IsPen old → Does allowed old event (Err e) new → IsJudged e ⊎ allowed old new event e
 
 -- a checkpoint is refused for space only where no list of logs fits what it writes
 abbrev pub NoSpaceIsTrue : AllowedBetween → Type 0

@@ -1,6 +1,6 @@
 //! What the pen's definitions mean, as contracts of functions that do nothing.
 ghost use Rattle.nl_core.specs.Layout.{unshared};
-ghost use Rattle.nl_core.specs.Laws.{MeansOneWorld, EventsLeadOn, RunsLeadOn, RefusalsKeepPens, NoSpaceIsTrue, NoSpaceIsSaid};
+ghost use Rattle.nl_core.specs.Laws.{MeansOneWorld, EventsLeadOn, RunsLeadOn, RefusalsKeepPens, RefusalsHaveReasons, NoSpaceIsTrue, NoSpaceIsSaid};
 
 /// A pen means one world at most.
 pub fn pens_mean_one_world()
@@ -17,6 +17,12 @@ pub fn worlds_follow_pens()
 /// A refusal leaves the pen and its device as they were, but for a fault.
 pub fn refusals_keep_pens()
     ensures { RefusalsKeepPens unshared }
+{}
+
+/// A refusal is judged by the world, or it has its reason: space lacks for a checkpoint, or the device failed during one,
+/// or the event takes memory.
+pub fn refusals_have_reasons()
+    ensures { RefusalsHaveReasons unshared }
 {}
 
 /// A checkpoint is refused for space only where no list of logs fits what it writes. Where none fits, it is refused before

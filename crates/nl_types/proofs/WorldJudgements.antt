@@ -1,0 +1,116 @@
+-- The definitions judge by the world alone: they refuse nothing for space, a fault or memory.
+use Rattle.std.proofs.Common.{ℕ, ◌+◌, Bool, true, false, cond, List, [], ◌∷◌, ◌++◌, length, Option, Some, None, Result, Ok, Err, is_some}
+use Rattle.std.specs.Prelude.{◌==◌, ◌&&◌, nat_lt, nat_le, not, IfErr}
+use Rattle.std.specs.List.{list_all, slice_split}
+use Rattle.std.specs.Ordering.{nat_cmp}
+use Rattle.std.specs.FinMap.{find}
+use Rattle.std.specs.Option.{option_or, ok_or}
+use Rattle.nl_types.specs.declared.error.VolError.{VolError}
+use Rattle.nl_types.specs.declared.error.VolError.TheVariants as error
+use Rattle.nl_types.specs.declared.event.Ask.{Ask}
+use Rattle.nl_types.specs.declared.event.Ask.TheVariants as ask
+use Rattle.nl_types.specs.declared.event.Change.{Change}
+use Rattle.nl_types.specs.declared.event.Change.TheVariants.{Create, Write}
+use Rattle.nl_types.specs.declared.event.Event.TheVariants as event
+use Rattle.nl_types.specs.declared.reply.Answer.TheVariants as answer
+use Rattle.nl_types.specs.declared.reply.Node.{Node}
+use Rattle.nl_types.specs.declared.reply.Node.TheVariants.{Dir, File}
+use Rattle.nl_types.specs.Limits.{file_limit, path_limit, checkpoint_number_limit, mount_number_limit}
+use Rattle.nl_types.specs.Paths.{Path, path_of, names_of, is_name}
+use Rattle.nl_types.specs.Trees.{Tree, lookup, insert}
+use Rattle.nl_types.specs.Calls.{Changed, after, refuse_if, ok_unless, stops_walk, stop_from, walk, node_at, file_at, file_in, overwritten, change, reply_to}
+use Rattle.nl_types.specs.Worlds.{World, Outcome, copy_at, latest, is_snapshot, either, refused_if, kept, mounted, mounted_copy}
+use Rattle.nl_types.specs.Laws.{IsJudged, StepsJudge}
+
+-- ---- judgements, one after another
+
+after_judges : {A B : Type 0} (r : Result A VolError) (next : A → Result B VolError) → IfErr r IsJudged → ((a : A) → IfErr (next a) IsJudged) → IfErr (after r next) IsJudged
+after_judges (Ok a) next here rest = rest a
+after_judges (Err e) next here rest = here
+
+refuse_if_judges : {A : Type 0} (test : Bool) (e : VolError) (next : Result A VolError) → IsJudged e → IfErr next IsJudged → IfErr (refuse_if test e next) IsJudged
+refuse_if_judges true e next here rest = here
+refuse_if_judges false e next here rest = rest
+
+ok_or_judges : {A : Type 0} (o : Option A) (e : VolError) → IsJudged e → IfErr (ok_or o e) IsJudged
+ok_or_judges None e here = here
+ok_or_judges (Some a) e here = tt
+
+-- ---- file calls
+
+path_judges : (bytes : List ℕ) → IfErr (path_of bytes) IsJudged
+path_judges [] = tt
+path_judges (b ∷ bytes) = elim (b == 47 && nat_lt (length bytes) 4095) as (λ t. IfErr (cond {A = Result Path VolError} t (names_of bytes) (Err error.BadPath)) IsJudged) [
+  | true ↦ named
+  | false ↦ tt
+]
+  where
+    names : Path
+    names = slice_split (λ c. c == 47) bytes
+
+    named : IfErr (names_of bytes) IsJudged
+    named = elim (length bytes == 0) as (λ t. IfErr (cond {A = Result Path VolError} t (Ok []) (cond (list_all is_name names) (Ok names) (Err error.BadName))) IsJudged) [
+      | true ↦ tt
+      | false ↦ elim (list_all is_name names) as (λ t. IfErr (cond {A = Result Path VolError} t (Ok names) (Err error.BadName)) IsJudged) [
+        | true ↦ tt
+        | false ↦ tt
+      ]
+    ]
+
+-- where the walk goes on, it is judged later
+stops_judge : (found : Option Node) (later : Option VolError) → IfErr (ok_unless later) IsJudged → IfErr (ok_unless (option_or (stops_walk found) later)) IsJudged
+stops_judge None later rest = tt
+stops_judge (Some (File bytes)) later rest = tt
+stops_judge (Some Dir) later rest = rest
+
+stop_judges : (tree : Tree) (at names : Path) → IfErr (ok_unless (stop_from tree at names)) IsJudged
+stop_judges tree at [] = tt
+stop_judges tree at (name ∷ names) = stops_judge (lookup tree at) (stop_from tree (at ++ name ∷ []) names) (stop_judges tree (at ++ name ∷ []) names)
+
+node_judges : (tree : Tree) (path : Path) → IfErr (node_at tree path) IsJudged
+node_judges tree path = after_judges (walk tree path) _ (stop_judges tree [] path) (λ _. ok_or_judges (lookup tree path) error.NotFound tt)
+
+file_judges : (tree : Tree) (path : Path) → IfErr (file_at tree path) IsJudged
+file_judges tree path = after_judges (node_at tree path) file_in (node_judges tree path) by
+  where
+    by : (node : Node) → IfErr (file_in node) IsJudged
+    by Dir = tt
+    by (File bytes) = tt
+
+change_judges : (tree : Tree) (c : Change) → IfErr (change tree c) IsJudged
+change_judges tree (Create path) = after_judges (path_of path) _ (path_judges path) (λ p.
+    let made : Changed = Ok (answer.Done, insert tree p (File [])) in
+    after_judges (walk tree p) _ (stop_judges tree [] p) (λ _.
+    refuse_if_judges (is_some (lookup tree p)) error.Exists _ tt
+    (refuse_if_judges (nat_lt path_limit (length tree)) error.TooBig made tt tt)))
+change_judges tree (Write path offset bytes) = after_judges (path_of path) _ (path_judges path) (λ p.
+    after_judges (file_at tree p) _ (file_judges tree p) (λ old.
+    let long = nat_lt file_limit (offset + length bytes) in
+    let made : Changed = Ok (answer.Written (length bytes), insert tree p (File (overwritten old offset bytes))) in
+    elim (length bytes == 0) as (λ b. IfErr (cond {A = Changed} b (Ok (answer.Written 0, tree)) (refuse_if long error.TooBig made)) IsJudged) [
+      | true ↦ tt
+      | false ↦ refuse_if_judges long error.TooBig made tt tt
+    ]))
+
+reply_judges : (tree : Tree) (a : Ask) → IfErr (reply_to tree a) IsJudged
+reply_judges tree (ask.Bytes path offset len) = after_judges (path_of path) _ (path_judges path) (λ p. after_judges (file_at tree p) _ (file_judges tree p) (λ _. tt))
+
+-- ---- events
+
+either_judges : {A : Type 0} (w : World) (r : Result A VolError) (next : A → Outcome) → IfErr r IsJudged → ((a : A) → IfErr (next a).0 IsJudged) → IfErr (either w r next).0 IsJudged
+either_judges w (Ok a) next here rest = rest a
+either_judges w (Err e) next here rest = here
+
+refused_if_judges : (test : Bool) (e : VolError) (w : World) (next : Outcome) → IsJudged e → IfErr next.0 IsJudged → IfErr (refused_if test e w next).0 IsJudged
+refused_if_judges true e w next here rest = here
+refused_if_judges false e w next here rest = rest
+
+pub steps_judge : StepsJudge
+steps_judge cleaned w (event.Apply c) judged = either_judges w (change w.tree c) _ (change_judges w.tree c) (λ _. tt)
+steps_judge cleaned w (event.Read a) judged = reply_judges w.tree a
+steps_judge cleaned w (event.Checkpoint mode now) judged = refused_if_judges (nat_le checkpoint_number_limit (latest w + 1)) error.NumbersSpent w _ tt tt
+steps_judge cleaned w (event.Mount n) judged = either_judges w (kept w n) _ (ok_or_judges (copy_at w n) error.NoCheckpoint tt) (λ copy.
+    refused_if_judges (not (is_snapshot copy.mode)) error.NotSnapshot w _ tt
+    (refused_if_judges (nat_le mount_number_limit (w.given + 1)) error.NumbersSpent w _ tt tt))
+steps_judge cleaned w (event.MountRead m a) judged =
+    after_judges (mounted_copy w m) _ (after_judges (mounted w m) _ (ok_or_judges (find nat_cmp m w.mounts) error.BadMount tt) (λ n. ok_or_judges (copy_at w n) error.BadMount tt)) (λ copy. reply_judges copy.tree a)
