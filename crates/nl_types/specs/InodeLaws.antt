@@ -91,7 +91,8 @@ WalksFind =
 abbrev pub NodesByInodes : Type 0
 NodesByInodes =
     (inodes : Inodes) (tree : Tree) → MeansTree inodes tree
-    → (path : Path) → node_at tree path ≡ after (resolve inodes path) (λ at. ok_or (node_in inodes at) NotFound)
+    → (path : Path)
+    → node_at tree path ≡ after (resolve inodes path) (λ at. ok_or (node_in inodes at) NotFound)
 
 -- a path is walked to where the walk over inodes comes to its directory
 abbrev pub ParentsByInodes : Type 0
@@ -130,4 +131,5 @@ NewInodesMeanTheRoot =
 
 -- inodes stand for one tree at most
 abbrev pub InodesMeanOneTree : Type 0
-InodesMeanOneTree = (inodes : Inodes) (tree other : Tree) → MeansTree inodes tree → MeansTree inodes other → tree ≡ other
+InodesMeanOneTree =
+    (inodes : Inodes) (tree other : Tree) → MeansTree inodes tree → MeansTree inodes other → tree ≡ other
