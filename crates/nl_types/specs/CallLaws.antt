@@ -129,6 +129,7 @@ SameLookupsAreOneTree =
 abbrev pub IsDone : Changed → Type 0
 IsDone changed = IfOk changed (λ done. done.0 ≡ answer.Done)
 
+-- the calls that make, resize, remove or move a node answer so
 pub record AnswersDone (tree : Tree) (path : Path) : Type 0 where
   pub create : (node : Node) → IsDone (calls.create tree node path)
   pub truncate : (size : ℕ) → IsDone (calls.truncate tree size path)

@@ -10,7 +10,7 @@ use Rattle.nl_types.specs.Limits.{root_inode}
 use Rattle.nl_types.specs.Paths.{Name, Path, path_cmp}
 use Rattle.nl_types.specs.Trees.{Tree, lookup, kind_of}
 
--- an inode number and what it is
+-- what a record says of a name: the number of its inode, and what that is
 abbrev pub Link : Type 0
 Link = ℕ × Kind
 
