@@ -1,5 +1,5 @@
 -- Small trees and calls by computation, as a check of the definitions against answers made by hand.
-use Rattle.std.proofs.Common.{◌≡◌, ℕ, zero, suc, List, [], ◌∷◌, ◌++◌, refl, replicate, Result, Ok, Err}
+use Rattle.std.proofs.Common.{◌≡◌, ℕ, zero, suc, List, [], ◌∷◌, ◌++◌, refl, length, replicate, Result, Ok, Err}
 use Rattle.std.specs.Prelude.{codes}
 use Rattle.nl_types.specs.declared.error.VolError.{VolError}
 use Rattle.nl_types.specs.declared.error.VolError.TheVariants as error
@@ -10,7 +10,8 @@ use Rattle.nl_types.specs.declared.reply.Node.TheVariants.{File}
 use Rattle.nl_types.specs.declared.reply.Stat.TheVariants as status
 use Rattle.nl_types.specs.Paths.{Path, path_of}
 use Rattle.nl_types.specs.Trees.{Tree, root_alone}
-use Rattle.nl_types.specs.Calls.{Changed, after, tree_after, create, mkdir, write, truncate, unlink, rmdir, rename, read, list, stat, named}
+use Rattle.nl_types.specs.Calls.{Changed, after, tree_after, create, mkdir, write, overwritten, truncate, unlink, rmdir, rename, read, list, stat, named}
+use Rattle.nl_types.proofs.FileSizes.{written_sizes}
 
 -- ---- calls on the paths that bytes spell
 
@@ -185,6 +186,9 @@ missing_parents = refl
 
 one_byte_short : reply (writing (codes "/f") 67108863 (codes "x") (long_file 0)) ≡ Ok (answer.Written 1)
 one_byte_short = refl
+
+longest_file : length (overwritten [] 67108863 (codes "x")) ≡ 67108864
+longest_file = written_sizes [] 67108863 (codes "x")
 
 past_the_limit : writing (codes "/f") 67108864 (codes "x") (long_file 0) ≡ Err error.TooBig
 past_the_limit = refl

@@ -152,4 +152,10 @@ rename-done tree from to =
     ]))))
 
 pub calls_answer_done : CallsAnswerDone
-calls_answer_done tree node size path to = (create-done tree node path, truncate-done tree size path, unlink-done tree path, rmdir-done tree path, rename-done tree path to)
+calls_answer_done tree path = record {
+  create = λ node. create-done tree node path;
+  truncate = λ size. truncate-done tree size path;
+  unlink = unlink-done tree path;
+  rmdir = rmdir-done tree path;
+  rename = λ to. rename-done tree path to;
+}

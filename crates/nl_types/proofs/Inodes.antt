@@ -11,6 +11,7 @@ pub mod TreeCounts
 pub mod Changed
 pub mod ChildRecords
 pub mod FullVolumes
+pub mod WithinLimits
 pub mod RootAlone
 pub mod Resolving
 pub mod Judging

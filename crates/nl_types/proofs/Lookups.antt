@@ -10,6 +10,7 @@ use Rattle.std.specs.FinMap.Entries.{find-where_key}
 use Rattle.nl_types.specs.declared.reply.Node.{Node}
 use Rattle.nl_types.specs.Paths.{Name, Path, name_cmp, path_cmp, same_name, same_path, is_within}
 use Rattle.nl_types.specs.Trees.{Tree, lookup, remove, move_subtree, moved_path, in_order}
+use Rattle.nl_types.proofs.Booleans.{not_true}
 use Rattle.nl_types.proofs.TreeLaws.{path_total, same_path-equal, lookup-insert}
 
 pub names_equal : IsAntisymmetric name_cmp
@@ -26,11 +27,7 @@ same_name-equal n m h = names_equal n m ((Equal-is (name_cmp n m)).0 h)
 
 -- two paths that a test tells apart
 pub apart_by : (P : Path → Bool) (p q : Path) → P p ≡ true → P q ≡ false → same_path p q ≡ false
-apart_by P p q holds fails = by (same_path p q) (λ e. true≢false (sym holds ∙ ap P (same_path-equal p q e) ∙ fails))
-  where
-    by : (b : Bool) → (b ≡ true → ⊥) → b ≡ false
-    by true f = absurd (f refl)
-    by false f = refl
+apart_by P p q holds fails = not_true (same_path p q) (λ e. true≢false (sym holds ∙ ap P (same_path-equal p q e) ∙ fails))
 
 -- ---- paths that begin with others
 
@@ -88,11 +85,7 @@ path_cmp-append (n ∷ top) p q = ap (λ r. ordering_then r (path_cmp (top ++ p)
 module _ (from to : Path) (up : is_within from to ≡ false) (down : is_within to from ≡ false) where
   -- no path lies in both
   not_both : (p : Path) → is_within from p ≡ true → is_within to p ≡ false
-  not_both p inside = by (is_within to p) (λ e. true≢false (sym (within_both from to p inside e up) ∙ down))
-    where
-      by : (b : Bool) → (b ≡ true → ⊥) → b ≡ false
-      by true f = absurd (f refl)
-      by false f = refl
+  not_both p inside = not_true (is_within to p) (λ e. true≢false (sym (within_both from to p inside e up) ∙ down))
 
   -- what stood in `from` is found in `to`
   pub found_inside : (tree : Tree) (rest : Path) → find path_cmp (to ++ rest) (moved_entries from to tree) ≡ find path_cmp (from ++ rest) tree

@@ -28,12 +28,14 @@ CreatesAreJudged =
     (inodes : Inodes) (tree : Tree) → MeansTree inodes tree
     → (node : Node) (dir : Path) (name : Name)
     → create tree node (dir ++ name ∷ [])
-    ≡ after (judge_create inodes (length tree) dir name) (λ _. Ok (answer.Done, insert tree (dir ++ name ∷ []) node))
+    ≡ after (judge_create inodes (length tree) dir name) (λ _.
+    Ok (answer.Done, insert tree (dir ++ name ∷ []) node))
 
 abbrev pub RmdirsAreJudged : Type 0
 RmdirsAreJudged =
     (inodes : Inodes) (tree : Tree) (listing : Listing) → MeansTree inodes tree → IsListing inodes listing
-    → (path : Path) → rmdir tree path ≡ after (judge_rmdir inodes listing path) (λ _. Ok (answer.Done, remove tree path))
+    → (path : Path)
+    → rmdir tree path ≡ after (judge_rmdir inodes listing path) (λ _. Ok (answer.Done, remove tree path))
 
 -- the tree after a rename that is not refused, which may move nothing
 abbrev pub tree_if_moved : Tree → Path → Path → Bool → Tree
@@ -44,7 +46,8 @@ RenamesAreJudged =
     (inodes : Inodes) (tree : Tree) (listing : Listing) → MeansTree inodes tree → IsListing inodes listing
     → (from dir : Path) (name : Name)
     → rename tree from (dir ++ name ∷ [])
-    ≡ after (judge_rename inodes listing from dir name) (λ moves. Ok (answer.Done, tree_if_moved tree from (dir ++ name ∷ []) moves))
+    ≡ after (judge_rename inodes listing from dir name) (λ moves.
+    Ok (answer.Done, tree_if_moved tree from (dir ++ name ∷ []) moves))
 
 abbrev pub ListsAreJudged : Type 0
 ListsAreJudged =
@@ -75,7 +78,8 @@ pub record LeadsTo (result : Changed) (given : Answer) (new : Inodes) (paths : �
 abbrev pub CreatesLead : Type 0
 CreatesLead =
     (old new : Inodes) (tree : Tree) (node : Node) (dir : Path) (name : Name) (parent inode : ℕ)
-    → MeansTree old tree → judge_create old (length tree) dir name ≡ Ok parent → Adds old new parent name node inode
+    → MeansTree old tree → judge_create old (length tree) dir name ≡ Ok parent
+    → Adds old new parent name node inode
     → LeadsTo (create tree node (dir ++ name ∷ [])) answer.Done new (length tree + 1)
 
 abbrev pub WritesLead : Type 0

@@ -27,7 +27,8 @@ put_record dir name link i n old = if (i == dir) && same_name n name then link e
 
 -- the record of one name taken out of a directory, and put under another name into a directory, maybe the same
 abbrev pub move_record : ℕ → Name → ℕ → Name → Option Link → ℕ → Name → Option Link → Option Link
-move_record from from_name to to_name link i n old = put_record to to_name link i n (put_record from from_name None i n old)
+move_record from from_name to to_name link i n old =
+    put_record to to_name link i n (put_record from from_name None i n old)
 
 -- ---- what inodes hold
 
@@ -58,7 +59,8 @@ IsBare (Records records) = (n : Name) → records n ≡ None
 pub record Adds (old new : Inodes) (dir : ℕ) (name : Name) (node : Node) (inode : ℕ) : Type 0 where
   pub free : old inode ≡ None
   pub added : new inode ≡ Some (fresh_content node)
-  pub others : (i : ℕ) → (i ≡ inode → ⊥) → HoldsChanged (put_record dir name (Some (inode, kind_of node)) i) (old i) (new i)
+  pub others : (i : ℕ) → (i ≡ inode → ⊥)
+      → HoldsChanged (put_record dir name (Some (inode, kind_of node)) i) (old i) (new i)
 
 pub record Refills (old new : Inodes) (inode : ℕ) (bytes : List ℕ) : Type 0 where
   pub now : new inode ≡ Some (Bytes bytes)
@@ -69,12 +71,14 @@ pub record Drops (old new : Inodes) (dir : ℕ) (name : Name) (inode : ℕ) : Ty
   pub others : (i : ℕ) → (i ≡ inode → ⊥) → HoldsChanged (put_record dir name None i) (old i) (new i)
 
 abbrev pub Moves : Inodes → Inodes → ℕ → Name → ℕ → Name → Link → Type 0
-Moves old new from from_name to to_name link = (i : ℕ) → HoldsChanged (move_record from from_name to to_name (Some link) i) (old i) (new i)
+Moves old new from from_name to to_name link =
+    (i : ℕ) → HoldsChanged (move_record from from_name to to_name (Some link) i) (old i) (new i)
 
 -- the same, where the record at `to` was another inode's, which is gone
 pub record MovesOnto (old new : Inodes) (from : ℕ) (from_name : Name) (to : ℕ) (to_name : Name) (link : Link) (inode : ℕ) : Type 0 where
   pub gone : new inode ≡ None
-  pub others : (i : ℕ) → (i ≡ inode → ⊥) → HoldsChanged (move_record from from_name to to_name (Some link) i) (old i) (new i)
+  pub others : (i : ℕ) → (i ≡ inode → ⊥)
+      → HoldsChanged (move_record from from_name to to_name (Some link) i) (old i) (new i)
 
 -- ---- what calls do, at paths
 

@@ -1,16 +1,16 @@
 -- What inodes and trees have to do with one another.
-use Rattle.std.specs.Prelude.{◌≡◌, ℕ, ◌<◌, ◌≤◌, ◌+◌, ◌-◌, true, List, [], ◌∷◌, ◌++◌, map, length, reverse, is_some, Option, Some, None, Ok}
+use Rattle.std.specs.Prelude.{◌≡◌, ◌⊎◌, ℕ, ◌<◌, ◌≤◌, ◌+◌, ◌-◌, true, IsTrue, List, [], ◌∷◌, ◌++◌, map, length, reverse, is_some, Option, Some, None, Ok}
 use Rattle.std.specs.Option.{option_and_then, ok_or}
 use Rattle.nl_types.specs.declared.reply.Node.{Node}
 use Rattle.nl_types.specs.declared.reply.Node.TheVariants.{File}
 use Rattle.nl_types.specs.declared.error.VolError.TheVariants.{NotFound}
 use Rattle.nl_types.specs.declared.kind.Kind.{Kind}
 use Rattle.nl_types.specs.declared.kind.Kind.TheVariants as kind
-use Rattle.nl_types.specs.Limits.{path_limit, root_inode, first_inode, last_inode}
-use Rattle.nl_types.specs.Paths.{Name, Path}
+use Rattle.nl_types.specs.Limits.{file_limit, path_limit, root_inode, first_inode, last_inode}
+use Rattle.nl_types.specs.Paths.{Name, Path, is_name}
 use Rattle.nl_types.specs.Calls.{after, walk, node_at}
-use Rattle.nl_types.specs.Trees.{Tree, root_alone, lookup, insert, remove, move_subtree, children}
-use Rattle.nl_types.specs.Inodes.{Link, Bytes, Records, Inodes, MeansTree, found, reached}
+use Rattle.nl_types.specs.Trees.{Tree, IsTree, root_alone, lookup, insert, remove, move_subtree, children}
+use Rattle.nl_types.specs.Inodes.{Link, InodeContent, Bytes, Records, Inodes, MeansTree, found, reached}
 use Rattle.nl_types.specs.InodeChanges.{HasRecords, ListsRecords, Creates, Rewrites, Removes, Renames, Replaces}
 use Rattle.nl_types.specs.Resolving.{resolve, record_in, as_dir, node_in}
 
@@ -91,7 +91,8 @@ WalksFind =
 abbrev pub NodesByInodes : Type 0
 NodesByInodes =
     (inodes : Inodes) (tree : Tree) → MeansTree inodes tree
-    → (path : Path) → node_at tree path ≡ after (resolve inodes path) (λ at. ok_or (node_in inodes at) NotFound)
+    → (path : Path)
+    → node_at tree path ≡ after (resolve inodes path) (λ at. ok_or (node_in inodes at) NotFound)
 
 -- a path is walked to where the walk over inodes comes to its directory
 abbrev pub ParentsByInodes : Type 0
@@ -130,4 +131,20 @@ NewInodesMeanTheRoot =
 
 -- inodes stand for one tree at most
 abbrev pub InodesMeanOneTree : Type 0
-InodesMeanOneTree = (inodes : Inodes) (tree other : Tree) → MeansTree inodes tree → MeansTree inodes other → tree ≡ other
+InodesMeanOneTree =
+    (inodes : Inodes) (tree other : Tree) → MeansTree inodes tree → MeansTree inodes other → tree ≡ other
+
+-- ---- limits
+
+-- the numbers, names and sizes that inodes may have
+pub record AreWithinLimits (inodes : Inodes) : Type 0 where
+  pub numbers : (i : ℕ) (held : InodeContent) → inodes i ≡ Some held
+      → (i ≡ root_inode) ⊎ ((first_inode ≤ i) × (i ≤ last_inode))
+  pub names : (i : ℕ) (records : Name → Option Link) (n : Name) (link : Link)
+      → inodes i ≡ Some (Records records) → records n ≡ Some link → IsTrue (is_name n)
+  pub sizes : (i : ℕ) (bytes : List ℕ) → inodes i ≡ Some (Bytes bytes) → length bytes ≤ file_limit
+
+-- inodes within the limits stand for a tree within the limits
+abbrev pub LimitedInodesMeanTrees : Type 0
+LimitedInodesMeanTrees =
+    (inodes : Inodes) (tree : Tree) → MeansTree inodes tree → AreWithinLimits inodes → IsTree tree

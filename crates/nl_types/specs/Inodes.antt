@@ -10,7 +10,7 @@ use Rattle.nl_types.specs.Limits.{root_inode}
 use Rattle.nl_types.specs.Paths.{Name, Path, path_cmp}
 use Rattle.nl_types.specs.Trees.{Tree, lookup, kind_of}
 
--- an inode number and what it is
+-- what a record says of a name: the number of its inode, and what that is
 abbrev pub Link : Type 0
 Link = ℕ × Kind
 
@@ -64,9 +64,11 @@ pub record Pairs (inodes : Inodes) (tree : Path → Option Node) (inode_of : Pat
   pub paths : (p : Path) → is_some (inode_of p) ≡ is_some (tree p)
   pub once : (p q : Path) (i : ℕ) → inode_of p ≡ Some i → inode_of q ≡ Some i → p ≡ q
   pub all : (i : ℕ) (c : InodeContent) → inodes i ≡ Some c → (p : Path) × (inode_of p ≡ Some i)
-  pub directory : (p : Path) (i : ℕ) → tree p ≡ Some Dir → inode_of p ≡ Some i →
-      (records : Name → Option Link) × (inodes i ≡ Some (Records records)) × ((n : Name) → records n ≡ record_of tree inode_of (n ∷ p))
-  pub file : (p : Path) (i : ℕ) (bytes : List ℕ) → tree p ≡ Some (File bytes) → inode_of p ≡ Some i → inodes i ≡ Some (Bytes bytes)
+  pub directory : (p : Path) (i : ℕ) → tree p ≡ Some Dir → inode_of p ≡ Some i
+      → (records : Name → Option Link) × (inodes i ≡ Some (Records records))
+      × ((n : Name) → records n ≡ record_of tree inode_of (n ∷ p))
+  pub file : (p : Path) (i : ℕ) (bytes : List ℕ) → tree p ≡ Some (File bytes) → inode_of p ≡ Some i
+      → inodes i ≡ Some (Bytes bytes)
 
 -- The inodes stand for the tree: a map in order, rooted, and paired with them. Limits are not their concern.
 pub record MeansTree (inodes : Inodes) (tree : Tree) : Type 0 where

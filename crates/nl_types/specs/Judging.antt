@@ -15,10 +15,11 @@ use Rattle.nl_types.specs.Inodes.{Link, InodeContent, Bytes, Records, Inodes}
 use Rattle.nl_types.specs.InodeChanges.{ListsRecords}
 use Rattle.nl_types.specs.Resolving.{record_in, resolve, as_dir}
 
--- the records of each directory as a list, ascending
+-- a list for each inode number
 abbrev pub Listing : Type 0
 Listing = ℕ → List (Name × Link)
 
+-- the lists of directories have their records, ascending
 abbrev pub IsListing : Inodes → Listing → Type 0
 IsListing inodes listing =
     (i : ℕ) (records : Name → Option Link) → inodes i ≡ Some (Records records) → ListsRecords records (listing i)

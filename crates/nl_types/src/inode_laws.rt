@@ -1,5 +1,5 @@
 //! What inodes and the tree that they stand for have to do with one another, as contracts of functions that do nothing.
-ghost use Rattle.nl_types.specs.InodeLaws.{CreatesInsert, RewritesInsert, RemovesRemove, RenamesMove, ReplacesMove, ChildrenAreRecords, FullVolumesAreTooBig, WalksFind, NodesByInodes, ParentsByInodes, ChildrenByRecords, DirectoriesHoldRecords, FilesHoldBytes, InodesMeanOneTree, NewInodesMeanTheRoot};
+ghost use Rattle.nl_types.specs.InodeLaws.{CreatesInsert, RewritesInsert, RemovesRemove, RenamesMove, ReplacesMove, ChildrenAreRecords, FullVolumesAreTooBig, WalksFind, NodesByInodes, ParentsByInodes, ChildrenByRecords, DirectoriesHoldRecords, FilesHoldBytes, InodesMeanOneTree, NewInodesMeanTheRoot, LimitedInodesMeanTrees};
 ghost use Rattle.nl_types.specs.InodeCallLaws.{FilesAreJudged, CreatesAreJudged, RmdirsAreJudged, RenamesAreJudged, ListsAreJudged, StatsAreJudged, RootIsThere, RootStays, CreatesLead, WritesLead, TruncatesLead, UnlinksLead, RmdirsLead, RenamesLead, RenamesOntoLead};
 
 /// A walk by directories finds what the tree has.
@@ -24,6 +24,11 @@ pub fn new_inodes_mean_the_root()
 /// Inodes stand for one tree at most.
 pub fn inodes_mean_one_tree()
     ensures { InodesMeanOneTree }
+{}
+
+/// Inodes whose numbers, names and sizes are within the limits stand for a tree within the limits.
+pub fn limited_inodes_mean_trees()
+    ensures { LimitedInodesMeanTrees }
 {}
 
 /// The children of a directory in the tree are the records of its inode.

@@ -81,9 +81,9 @@ module _ (inodes : Inodes) (tree : Tree) (m : MeansTree inodes tree) where
   mapped (Some c) y e = (c, refl, (cc))
 
   -- what a record names is there
-  entry_held : (dir : Path) (name : Name) (i : ℕ) (e : Link) → resolve inodes dir ≡ Ok (i, kind.Directory) → record_in (inodes i) name ≡ Some e →
+  link_held : (dir : Path) (name : Name) (i : ℕ) (e : Link) → resolve inodes dir ≡ Ok (i, kind.Directory) → record_in (inodes i) name ≡ Some e →
       (c : InodeContent) × (inodes e.0 ≡ Some c) × (kind_of (node_of c) ≡ e.1) × (lookup tree (dir ++ name ∷ []) ≡ Some (node_of c))
-  entry_held dir name i e is there =
+  link_held dir name i e is there =
       let s = dir_stands inodes tree m dir i is in
       let z = zipped (inode inodes tree m (dir ++ name ∷ [])) (lookup tree (dir ++ name ∷ [])) e (sym (child_record inodes tree m dir name i s.1 s.0) ∙ there) in
       let c = mapped (inodes e.0) z.1 (node_held inodes tree m (dir ++ name ∷ []) z.1 e.0 z.0 z.2) in
@@ -212,7 +212,7 @@ pub unlinks_lead : UnlinksLead
 unlinks_lead old new tree dir name parent i m is_named drops =
     let found = is_named.resolved in
     let there = is_named.has in
-    let held = entry_held old tree m dir name parent (i, kind.File) found there in
+    let held = link_held old tree m dir name parent (i, kind.File) found there in
     let made = dropped old new tree m dir name parent (i, kind.File) held.0 found there held.1 (file_bare held.0 held.2) drops in
     record {
       tree = remove tree (dir ++ name ∷ []);
@@ -228,7 +228,7 @@ pub rmdirs_lead : RmdirsLead
 rmdirs_lead old new tree listing dir name parent i m l is_named none drops =
     let found = is_named.resolved in
     let there = is_named.has in
-    let held = entry_held old tree m dir name parent (i, kind.Directory) found there in
+    let held = link_held old tree m dir name parent (i, kind.Directory) found there in
     let made = dropped old new tree m dir name parent (i, kind.Directory) held.0 found there held.1 (dir_bare old listing l i held.0 held.1 none) drops in
     let path = dir ++ name ∷ [] in
     record {
@@ -291,7 +291,7 @@ module _ (old new : Inodes) (tree : Tree) (listing : Listing) (m : MeansTree old
   to = td ++ tn ∷ []
 
   source : (c : InodeContent) × (old link.0 ≡ Some c) × (kind_of (node_of c) ≡ link.1) × (lookup tree from ≡ Some (node_of c))
-  source = entry_held old tree m fd fn a link found there
+  source = link_held old tree m fd fn a link found there
 
   judgement : Judged old tree listing from td tn (node_of source.0) link.1 b
   judgement = has_judged old tree listing from td tn (node_of source.0) link b judged (resolve-child old fd fn a link found there) source.2 into
@@ -334,7 +334,7 @@ module _ (old new : Inodes) (tree : Tree) (listing : Listing) (m : MeansTree old
 
   moved_onto : (target : Link) → record_in (old b) tn ≡ Some target → MovesOnto old new a fn b tn link target.0 → LeadsTo (rename tree from to) answer.Done new (length tree - 1)
   moved_onto target taken moves =
-      let held = entry_held old tree m td tn b target into taken in
+      let held = link_held old tree m td tn b target into taken in
       let free : may_take listing link.1 (Some target) ≡ Ok tt = ap (may_take listing link.1) (sym taken) ∙ judgement.free in
       let made = replaces_move old new tree (reverse fd) fn (reverse td) tn m (record {
         from = source_dir.0;

@@ -1,5 +1,5 @@
 -- As many inodes in use, as many paths.
-use Rattle.std.proofs.Common.{◌≡◌, ℕ, zero, suc, ◌+◌, ◌<◌, ◌≤◌, Bool, true, false, cond, [], ◌∷◌, Some, Option, ⊎_elim, sym, refl, ap, ◌∙◌, length, map, is_some, arith}
+use Rattle.std.proofs.Common.{◌≡◌, ℕ, zero, suc, ◌+◌, ◌<◌, ◌≤◌, true, false, cond, [], ◌∷◌, Some, Option, ⊎_elim, sym, refl, ap, ◌∙◌, length, map, is_some, arith}
 use Rattle.std.specs.Prelude.{◌||◌, nat_eq, reverse}
 use Rattle.std.specs.Option.{unwrap_or}
 use Rattle.std.specs.Cmp.{nat_eq_equiv}
@@ -16,7 +16,12 @@ use Rattle.nl_types.specs.Inodes.{Inodes, MeansTree}
 use Rattle.nl_types.specs.InodeLaws.{FullVolumesAreTooBig}
 use Rattle.nl_types.proofs.TreeLaws.{same_path-equal}
 use Rattle.nl_types.proofs.UsedParts.{all_in_row}
+use Rattle.nl_types.proofs.Booleans.{or_right}
 use Rattle.nl_types.proofs.Inodes.Walks.{present}
+
+pub row_length : (b n : ℕ) → length (row_of b n) ≡ n
+row_length b zero = refl
+row_length b (suc n) = ap suc (row_length (suc b) n)
 
 in_row : (b n q : ℕ) → is_member nat_eq (row_of b n) q ≡ true → (b ≤ q) × (q < b + n)
 in_row b zero q h = cc
@@ -48,20 +53,12 @@ among f (e ∷ tree) p q there is =
           ap (λ b. b || is_member nat_eq (map (number_at f) tree) q) (eq-eqb q (number_at f e) here)
       | false ↦ λ _ later. or_right (nat_eq q (number_at f e)) (among f tree p q later is)
     ] refl there
-  where
-    or_right : (a : Bool) {c : Bool} → c ≡ true → (a || c) ≡ true
-    or_right true h = refl
-    or_right false h = h
 
 pub paths_at_least : (inodes : Inodes) (tree : Tree) (n : ℕ) → MeansTree inodes tree → ((i : ℕ) → 11 ≤ i → i < 11 + n → is_some (inodes i) ≡ true) → n + 1 ≤ length tree
 paths_at_least inodes tree n m used =
     let few = length-le_from_is_member nat_eq_equiv (2 ∷ row_of 11 n) (map (number_at m.inode_of) tree) (distinct_numbers n) member in
     omega (arith, few, length-map tree (number_at m.inode_of), row_length 11 n)
   where
-    row_length : (b n : ℕ) → length (row_of b n) ≡ n
-    row_length b zero = refl
-    row_length b (suc n) = ap suc (row_length (suc b) n)
-
     paired : (p : Path) (q : ℕ) → m.inode_of p ≡ Some q → is_member nat_eq (map (number_at m.inode_of) tree) q ≡ true
     paired p q is = among m.inode_of tree (reverse p) q (sym (m.pairs.paths p) ∙ ap is_some is) (ap m.inode_of (reverse-reverse p) ∙ is)
 

@@ -23,7 +23,7 @@ use Rattle.nl_types.specs.Judging.{Listing, IsListing, bytes_in, has_any, is_dir
 use Rattle.nl_types.specs.InodeLaws as laws
 use Rattle.nl_types.specs.InodeCallLaws.{FilesAreJudged, CreatesAreJudged, RmdirsAreJudged, RenamesAreJudged, ListsAreJudged, StatsAreJudged}
 use Rattle.nl_types.proofs.Inodes.ChildRecords.{children_are_records}
-use Rattle.nl_types.proofs.Inodes.Resolving.{by_cases, inode, entry_at, upward_at, child_record, entry_is, no_entry, inode_at, walk_snoc, has_records}
+use Rattle.nl_types.proofs.Inodes.Resolving.{by_cases, inode, link_at, upward_at, child_record, link_is, no_link, inode_at, walk_snoc, has_records}
 
 -- what both sides refuse alike
 refuse_both : {A B : Type 0} (test : Bool) (e : VolError) (x : Result B VolError) (y : Result A VolError) (next : A → Result B VolError) → x ≡ after y next → refuse_if test e x ≡ after (refuse_if test e y) next
@@ -44,10 +44,10 @@ files_are_judged inodes tree m path = by_cases inodes tree m (λ r. file_at tree
 
 module _ (inodes : Inodes) (tree : Tree) (m : MeansTree inodes tree) where
   child_is : (dir : Path) (name : Name) (i : ℕ) → inode inodes tree m dir ≡ Some i → lookup tree dir ≡ Some Dir → (o : Option Node) → lookup tree (dir ++ name ∷ []) ≡ o → is_some o ≡ is_some (record_in (inodes i) name)
-  child_is dir name i e d None h = sym (ap is_some (child_record inodes tree m dir name i e d ∙ no_entry inodes tree m (dir ++ name ∷ []) h))
+  child_is dir name i e d None h = sym (ap is_some (child_record inodes tree m dir name i e d ∙ no_link inodes tree m (dir ++ name ∷ []) h))
   child_is dir name i e d (Some node) h =
       let j = inode_at inodes tree m (dir ++ name ∷ []) node h in
-      sym (ap is_some (child_record inodes tree m dir name i e d ∙ entry_is inodes tree m (dir ++ name ∷ []) j.0 node j.1 h))
+      sym (ap is_some (child_record inodes tree m dir name i e d ∙ link_is inodes tree m (dir ++ name ∷ []) j.0 node j.1 h))
 
   created : (node : Node) (dir : Path) (name : Name) → create tree node (dir ++ name ∷ []) ≡ after (judge_create inodes (length tree) dir name) (λ _. Ok (answer.Done, insert tree (dir ++ name ∷ []) node))
   created node dir name =
@@ -150,11 +150,11 @@ module _ (inodes : Inodes) (tree : Tree) (listing : Listing) (m : MeansTree inod
 
   -- ---- a rename
 
-  taken : (x : Node) (to : Path) (o : Option Node) → lookup tree to ≡ o → may_replace tree to x o ≡ may_take listing (kind_of x) (entry_at inodes tree m to)
-  taken x to None h = ap (may_take listing (kind_of x)) (sym (no_entry inodes tree m to h))
+  taken : (x : Node) (to : Path) (o : Option Node) → lookup tree to ≡ o → may_replace tree to x o ≡ may_take listing (kind_of x) (link_at inodes tree m to)
+  taken x to None h = ap (may_take listing (kind_of x)) (sym (no_link inodes tree m to h))
   taken x to (Some y) h =
       let j = inode_at inodes tree m to y h in
-      by x y h j.0 j.1 ∙ ap (may_take listing (kind_of x)) (sym (entry_is inodes tree m to j.0 y j.1 h))
+      by x y h j.0 j.1 ∙ ap (may_take listing (kind_of x)) (sym (link_is inodes tree m to j.0 y j.1 h))
     where
       by : (x y : Node) → lookup tree to ≡ Some y → (i : ℕ) → inode inodes tree m to ≡ Some i → may_replace tree to x (Some y) ≡ may_take listing (kind_of x) (Some (i, kind_of y))
       by (File bytes) Dir h i e = refl

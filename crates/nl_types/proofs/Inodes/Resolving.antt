@@ -41,8 +41,8 @@ module _ (inodes : Inodes) (tree : Tree) (m : MeansTree inodes tree) where
   inode p = m.inode_of (reverse p)
 
   -- what a walk to a path finds: its inode and kind
-  abbrev pub entry_at : Path → Option Link
-  entry_at p = option_zip (inode p) (option_map kind_of (lookup tree p))
+  abbrev pub link_at : Path → Option Link
+  link_at p = option_zip (inode p) (option_map kind_of (lookup tree p))
 
   pub upward_at : (p : Path) → upward tree (reverse p) ≡ lookup tree p
   upward_at p = ap (lookup tree) (reverse-reverse p)
@@ -51,7 +51,7 @@ module _ (inodes : Inodes) (tree : Tree) (m : MeansTree inodes tree) where
   snoc walked n = sym (reverse-append walked (n ∷ []))
 
   -- a directory's inode has the records of its children
-  pub holds_records : (p : Path) (i : ℕ) → inode p ≡ Some i → lookup tree p ≡ Some Dir → (records : Name → Option Link) × (inodes i ≡ Some (Records records)) × ((n : Name) → records n ≡ entry_at (p ++ n ∷ []))
+  pub holds_records : (p : Path) (i : ℕ) → inode p ≡ Some i → lookup tree p ≡ Some Dir → (records : Name → Option Link) × (inodes i ≡ Some (Records records)) × ((n : Name) → records n ≡ link_at (p ++ n ∷ []))
   holds_records p i e d =
       let k = m.pairs.directory (reverse p) i (upward_at p ∙ d) e in (
         k.0,
@@ -61,14 +61,14 @@ module _ (inodes : Inodes) (tree : Tree) (m : MeansTree inodes tree) where
             ∙ ap (λ (x : Option Node). option_zip (inode (p ++ n ∷ [])) (option_map kind_of x)) (upward_at (p ++ n ∷ [])),
       )
 
-  pub child_record : (p : Path) (n : Name) (i : ℕ) → inode p ≡ Some i → lookup tree p ≡ Some Dir → record_in (inodes i) n ≡ entry_at (p ++ n ∷ [])
+  pub child_record : (p : Path) (n : Name) (i : ℕ) → inode p ≡ Some i → lookup tree p ≡ Some Dir → record_in (inodes i) n ≡ link_at (p ++ n ∷ [])
   child_record p n i e d = let k = holds_records p i e d in ap (λ (o : Option InodeContent). record_in o n) k.1 ∙ k.2 n
 
-  pub entry_is : (p : Path) (i : ℕ) (node : Node) → inode p ≡ Some i → lookup tree p ≡ Some node → entry_at p ≡ Some (i, kind_of node)
-  entry_is p i node e d = rw (e, d) refl
+  pub link_is : (p : Path) (i : ℕ) (node : Node) → inode p ≡ Some i → lookup tree p ≡ Some node → link_at p ≡ Some (i, kind_of node)
+  link_is p i node e d = rw (e, d) refl
 
-  pub no_entry : (p : Path) → lookup tree p ≡ None → entry_at p ≡ None
-  no_entry p e = no_pair (inode p) (option_map kind_of (lookup tree p)) (rw e refl)
+  pub no_link : (p : Path) → lookup tree p ≡ None → link_at p ≡ None
+  no_link p e = no_pair (inode p) (option_map kind_of (lookup tree p)) (rw e refl)
 
   pub inode_at : (p : Path) (node : Node) → lookup tree p ≡ Some node → (i : ℕ) × (inode p ≡ Some i)
   inode_at p node d = present (inode p) (m.pairs.paths (reverse p) ∙ ap (λ (o : Option Node). is_some o) (upward_at p ∙ d))
@@ -79,19 +79,19 @@ module _ (inodes : Inodes) (tree : Tree) (m : MeansTree inodes tree) where
   node_held p (File bytes) i e d = ap (option_map node_of) (m.pairs.file (reverse p) i bytes (upward_at p ∙ d) e)
 
   abbrev Found : Path → Link → Path → Type 0
-  Found walked at names = resolve_from inodes at names ≡ after (ok_unless (stop_from tree walked names)) (λ _. ok_or (entry_at (walked ++ names)) NotFound)
+  Found walked at names = resolve_from inodes at names ≡ after (ok_unless (stop_from tree walked names)) (λ _. ok_or (link_at (walked ++ names)) NotFound)
 
   not_there : (walked : Path) (n : Name) (names : Path) → lookup tree (walked ++ n ∷ []) ≡ None →
-      Err NotFound ≡ after (ok_unless (stop_from tree (walked ++ n ∷ []) names)) (λ _. ok_or (entry_at (walked ++ n ∷ names)) NotFound)
-  not_there walked n [] e = rw (no_entry (walked ++ n ∷ []) e) refl
+      Err NotFound ≡ after (ok_unless (stop_from tree (walked ++ n ∷ []) names)) (λ _. ok_or (link_at (walked ++ n ∷ names)) NotFound)
+  not_there walked n [] e = rw (no_link (walked ++ n ∷ []) e) refl
   not_there walked n (k ∷ names) e = rw e refl
 
   found_from : (names walked : Path) (i : ℕ) (node : Node) → inode walked ≡ Some i → lookup tree walked ≡ Some node → Found walked (i, kind_of node) names
-  found_from [] walked i node e d = rw (append-nil walked) (rw (entry_is walked i node e d) refl)
+  found_from [] walked i node e d = rw (append-nil walked) (rw (link_is walked i node e d) refl)
   found_from (n ∷ names) walked i (File bytes) e d = rw d refl
   found_from (n ∷ names) walked i Dir e d = choose (λ j node a b. found_from names (walked ++ n ∷ []) j node a b) (lookup tree (walked ++ n ∷ [])) refl
     where
-      record_is : record_in (inodes i) n ≡ entry_at (walked ++ n ∷ [])
+      record_is : record_in (inodes i) n ≡ link_at (walked ++ n ∷ [])
       record_is = child_record walked n i e d
 
       on : (walked ++ n ∷ []) ++ names ≡ walked ++ n ∷ names
@@ -100,15 +100,15 @@ module _ (inodes : Inodes) (tree : Tree) (m : MeansTree inodes tree) where
       choose : ((j : ℕ) (node : Node) → inode (walked ++ n ∷ []) ≡ Some j → lookup tree (walked ++ n ∷ []) ≡ Some node → Found (walked ++ n ∷ []) (j, kind_of node) names) →
           (o : Option Node) → lookup tree (walked ++ n ∷ []) ≡ o → Found walked (i, kind.Directory) (n ∷ names)
       choose rest None h =
-          let none : record_in (inodes i) n ≡ None = record_is ∙ no_entry (walked ++ n ∷ []) h in
+          let none : record_in (inodes i) n ≡ None = record_is ∙ no_link (walked ++ n ∷ []) h in
           rw (none, d) (not_there walked n names h)
       choose rest (Some node) h =
           let j = inode_at (walked ++ n ∷ []) node h in
-          let some : record_in (inodes i) n ≡ Some (j.0, kind_of node) = record_is ∙ entry_is (walked ++ n ∷ []) j.0 node j.1 h in
-          rw (some, d) (rest j.0 node j.1 h ∙ ap (λ (p : Path). after (ok_unless (stop_from tree (walked ++ n ∷ []) names)) (λ _. ok_or (entry_at p) NotFound)) on)
+          let some : record_in (inodes i) n ≡ Some (j.0, kind_of node) = record_is ∙ link_is (walked ++ n ∷ []) j.0 node j.1 h in
+          rw (some, d) (rest j.0 node j.1 h ∙ ap (λ (p : Path). after (ok_unless (stop_from tree (walked ++ n ∷ []) names)) (λ _. ok_or (link_at p) NotFound)) on)
 
   -- the walk over inodes is the walk in the tree
-  found_at : (path : Path) → resolve inodes path ≡ after (walk tree path) (λ _. ok_or (entry_at path) NotFound)
+  found_at : (path : Path) → resolve inodes path ≡ after (walk tree path) (λ _. ok_or (link_at path) NotFound)
   found_at path = found_from path [] 2 Dir m.pairs.root m.rooted.root
 
   -- by the walk in the tree, and by what the tree has
@@ -119,11 +119,11 @@ module _ (inodes : Inodes) (tree : Tree) (m : MeansTree inodes tree) where
       P (resolve inodes path)
   by_cases P path stopped absent there = subst P (sym (found_at path)) (by_stop (stop_from tree [] path) refl)
     where
-      by_node : stop_from tree [] path ≡ None → (o : Option Node) → lookup tree path ≡ o → P (ok_or (entry_at path) NotFound)
-      by_node k None h = subst (λ (o : Option Link). P (ok_or o NotFound)) (sym (no_entry path h)) (absent k h)
-      by_node k (Some node) h = let j = inode_at path node h in subst (λ (o : Option Link). P (ok_or o NotFound)) (sym (entry_is path j.0 node j.1 h)) (there j.0 node k h j.1)
+      by_node : stop_from tree [] path ≡ None → (o : Option Node) → lookup tree path ≡ o → P (ok_or (link_at path) NotFound)
+      by_node k None h = subst (λ (o : Option Link). P (ok_or o NotFound)) (sym (no_link path h)) (absent k h)
+      by_node k (Some node) h = let j = inode_at path node h in subst (λ (o : Option Link). P (ok_or o NotFound)) (sym (link_is path j.0 node j.1 h)) (there j.0 node k h j.1)
 
-      by_stop : (s : Option VolError) → stop_from tree [] path ≡ s → P (after (ok_unless s) (λ _. ok_or (entry_at path) NotFound))
+      by_stop : (s : Option VolError) → stop_from tree [] path ≡ s → P (after (ok_unless s) (λ _. ok_or (link_at path) NotFound))
       by_stop (Some x) k = stopped x k
       by_stop None k = by_node k (lookup tree path) refl
 
@@ -168,9 +168,9 @@ module _ (inodes : Inodes) (tree : Tree) (m : MeansTree inodes tree) where
   pub dir_stands : (dir : Path) (i : ℕ) → resolve inodes dir ≡ Ok (i, kind.Directory) → (lookup tree dir ≡ Some Dir) × (inode dir ≡ Some i)
   dir_stands dir i is = let s = stands_at dir (i, kind.Directory) is in (s.1 ∙ ap (λ (x : Node). Some x) (dir_of s.0 s.3), s.2)
 
-  in_record : (p : Path) (o : Option Node) → lookup tree p ≡ o → o ≡ option_and_then (node_in inodes) (entry_at p)
-  in_record p None h = sym (ap (option_and_then (node_in inodes)) (no_entry p h))
-  in_record p (Some node) h = let j = inode_at p node h in sym (ap (option_and_then (node_in inodes)) (entry_is p j.0 node j.1 h) ∙ node_held p node j.0 j.1 h)
+  in_record : (p : Path) (o : Option Node) → lookup tree p ≡ o → o ≡ option_and_then (node_in inodes) (link_at p)
+  in_record p None h = sym (ap (option_and_then (node_in inodes)) (no_link p h))
+  in_record p (Some node) h = let j = inode_at p node h in sym (ap (option_and_then (node_in inodes)) (link_is p j.0 node j.1 h) ∙ node_held p node j.0 j.1 h)
 
   children : (dir : Path) (name : Name) (i : ℕ) → resolve inodes dir ≡ Ok (i, kind.Directory) → lookup tree (dir ++ name ∷ []) ≡ option_and_then (node_in inodes) (record_in (inodes i) name)
   children dir name i is =
