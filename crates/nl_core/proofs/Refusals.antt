@@ -8,7 +8,7 @@ use Rattle.nl_types.specs.declared.event.Event.TheVariants.{Apply, Read, Checkpo
 use Rattle.nl_types.specs.Laws.{IsJudged}
 use Rattle.nl_types.specs.Placing.{LogsFit}
 use Rattle.nl_types.specs.Worlds.{Outcome}
-use Rattle.nl_types.proofs.Judgements.{steps_judge}
+use Rattle.nl_types.proofs.WorldJudgements.{steps_judge}
 use Rattle.nl_core.specs.Laws.{RefusalsKeepPens, RefusalsHaveReasons, NoSpaceIsTrue, NoSpaceIsSaid}
 use Rattle.nl_core.specs.Layout.{AllowedBetween, Layout, HasRefused, cleaned}
 use Rattle.nl_core.proofs.Checkpointing.{count-items}
