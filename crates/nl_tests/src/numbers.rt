@@ -74,9 +74,14 @@ fn page(alloc: Global, byte: u8) -> Result<Page, VolError> {
 }
 
 /// Adds the birth of a page of one byte throughout, under the lowest free number.
-fn bear<S: Vstore>(alloc: Global, store: &S, batch: &mut Batch, byte: u8) -> Result<(), VolError>
-    requires { Fits (capacity (S.store store.now)) (content_in (S.store store.now)) batch.old }
-    ensures { OnOk result (Fits (capacity (S.store store.now)) (content_in (S.store store.now)) batch.new) }
+fn bear<S: Space>(
+    alloc: Global,
+    store: &Dat<S>,
+    batch: &mut Batch,
+    byte: u8,
+) -> Result<(), VolError>
+    requires { Fits (capacity store.now) (content_in store.now) batch.old }
+    ensures { OnOk result (Fits (capacity store.now) (content_in store.now) batch.new) }
 {
     let number = store.fresh(batch)?;
     batch.add_birth(tag(number), page(alloc, byte)?)?;
@@ -84,9 +89,9 @@ fn bear<S: Vstore>(alloc: Global, store: &S, batch: &mut Batch, byte: u8) -> Res
 }
 
 /// Adds the end of a number. Refused by `BadRange` where it is not in use or has ended.
-fn end<S: Vstore>(store: &S, batch: &mut Batch, number: u64) -> Result<(), VolError>
-    requires { Fits (capacity (S.store store.now)) (content_in (S.store store.now)) batch.old }
-    ensures { OnOk result (Fits (capacity (S.store store.now)) (content_in (S.store store.now)) batch.new) }
+fn end<S: Space>(store: &Dat<S>, batch: &mut Batch, number: u64) -> Result<(), VolError>
+    requires { Fits (capacity store.now) (content_in store.now) batch.old }
+    ensures { OnOk result (Fits (capacity store.now) (content_in store.now) batch.new) }
 {
     let number = VirtualNumber::new(number);
     match store.period(number) {
@@ -96,13 +101,13 @@ fn end<S: Vstore>(store: &S, batch: &mut Batch, number: u64) -> Result<(), VolEr
 }
 
 /// A batch with births of pages of these bytes, and these ends.
-fn batch_of<S: Vstore>(
+fn batch_of<S: Space>(
     alloc: Global,
-    store: &S,
+    store: &Dat<S>,
     bytes: &[u8],
     ends: &[u64],
 ) -> Result<Batch, VolError>
-    ensures { IfOk result (λ batch. Fits (capacity (S.store store.now)) (content_in (S.store store.now)) batch) }
+    ensures { IfOk result (λ batch. Fits (capacity store.now) (content_in store.now) batch) }
 {
     let mut batch = Batch::new(alloc);
     for byte in bytes {
@@ -114,9 +119,9 @@ fn batch_of<S: Vstore>(
     Ok(batch)
 }
 
-fn checkpoint<S: Vstore>(
+fn checkpoint<S: Space>(
     alloc: Global,
-    store: &mut S,
+    store: &mut Dat<S>,
     number: u8,
     bytes: &[u8],
     ends: &[u64],

@@ -35,9 +35,9 @@ enum Step<'a> {
     Lists(&'a [u8], &'a [(&'a [u8], Kind)]),
 }
 
-fn call(alloc: Global, tree: &Tree, call: Call<'_>) -> Changed {
+fn make(alloc: Global, tree: &Tree, asked: Call<'_>) -> Changed {
     let entries = tree.as_slice();
-    match call {
+    match asked {
         Call::Create(path) => create(alloc, entries, path),
         Call::Mkdir(path) => mkdir(alloc, entries, path),
         Call::Write(path, offset, bytes) => write(alloc, entries, path, offset, bytes),
@@ -70,14 +70,14 @@ fn lists(alloc: Global, tree: &Tree, path: &[u8], due: &[(&[u8], Kind)]) -> bool
 /// Does a step, and answers whether it came out as is due.
 fn does(alloc: Global, tree: &mut Tree, step: Step<'_>) -> bool {
     match step {
-        Step::Do(asked) => match call(alloc, tree, asked) {
+        Step::Do(asked) => match make(alloc, tree, asked) {
             Ok((_, new)) => {
                 *tree = new;
                 true
             }
             Err(_) => false,
         },
-        Step::No(asked, due) => matches!(call(alloc, tree, asked), Err(refusal) if refusal == due),
+        Step::No(asked, due) => matches!(make(alloc, tree, asked), Err(refusal) if refusal == due),
         Step::Has(path, due) => has_bytes(alloc, tree, path, due),
         Step::Is(path, due) => stat(alloc, tree.as_slice(), path) == due,
         Step::Lists(path, due) => lists(alloc, tree, path, due),
