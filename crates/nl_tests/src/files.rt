@@ -65,7 +65,7 @@ fn are_in_order(changes: &[BlockChange]) -> bool
 }
 
 /// Whether a number is in use and has not ended.
-fn is_live_in<S: Space>(store: &Dat<S>, number: VirtualNumber) -> bool
+pub(crate) fn is_live_in<S: Space>(store: &Dat<S>, number: VirtualNumber) -> bool
     ensures { result ≡ is_live (content_in store.now number) }
 {
     match store.period(number) {

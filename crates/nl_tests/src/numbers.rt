@@ -4,8 +4,9 @@ ghost use Rattle.std.specs.Prelude.{◌≡◌, OnOk, IfOk, IfSome, All, true};
 ghost use Rattle.nl_dat.specs.Batches.{Fits};
 ghost use Rattle.nl_dat.specs.Stores.{capacity, content_in, is_inside, address_in};
 
+use crate::files::is_live_in;
 use crate::logs::are_segments;
-use nl_dat::{Batch, Dat, DatEntry, Period, VRead, Vstore, next_number};
+use nl_dat::{Batch, Dat, DatEntry, VRead, Vstore, next_number};
 use nl_device::{FaultyDevice, MemDevice};
 use nl_layout::{Level, Tag};
 use nl_segwriter::{LogSpace, Space};
@@ -56,24 +57,12 @@ use Entry::{Ended, Free, Live};
 
 // ---- what the steps do
 
-/// Data block 0 of inode 11.
-fn tag(number: VirtualNumber) -> Tag
-    ensures { result.number ≡ number }
-{
-    Tag {
-        number,
-        inode: InodeNumber::new(11),
-        level: Level::new(0),
-        offset: 0,
-    }
-}
-
 /// A page of one byte throughout.
-fn page(alloc: Global, byte: u8) -> Result<Page, VolError> {
+fn page_of(alloc: Global, byte: u8) -> Result<Page, VolError> {
     Ok(Page::new(alloc, Block::new([byte; BLOCK_SIZE]))?)
 }
 
-/// Adds the birth of a page of one byte throughout, under the lowest free number.
+/// Adds the birth of a page of one byte throughout under the lowest free number, as data block 0 of inode 11.
 fn bear<S: Space>(
     alloc: Global,
     store: &Dat<S>,
@@ -83,8 +72,15 @@ fn bear<S: Space>(
     requires { Fits (capacity store.now) (content_in store.now) batch.old }
     ensures { OnOk result (Fits (capacity store.now) (content_in store.now) batch.new) }
 {
-    let number = store.fresh(batch)?;
-    batch.add_birth(tag(number), page(alloc, byte)?)?;
+    let number = next_number(store, batch);
+    let page = page_of(alloc, byte)?;
+    let tag = Tag {
+        number,
+        inode: InodeNumber::new(11),
+        level: Level::new(0),
+        offset: 0,
+    };
+    batch.add_birth(tag, page)?;
     Ok(())
 }
 
@@ -94,9 +90,11 @@ fn end<S: Space>(store: &Dat<S>, batch: &mut Batch, number: u64) -> Result<(), V
     ensures { OnOk result (Fits (capacity store.now) (content_in store.now) batch.new) }
 {
     let number = VirtualNumber::new(number);
-    match store.period(number) {
-        Some(Period { end: None, .. }) => batch.add_end(number),
-        _ => Err(VolError::BadRange),
+    if is_live_in(store, number) {
+        batch.add_end(number)?;
+        Ok(())
+    } else {
+        Err(VolError::BadRange)
     }
 }
 
