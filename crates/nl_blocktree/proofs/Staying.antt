@@ -2,7 +2,7 @@
 use Rattle.std.proofs.Common.{◌≡◌, ℕ, zero, suc, ◌-◌, ◌/◌, ◌%◌, ◌<◌, ◌≤◌, List, Option, Some, None, refl, ap, sym, subst, ◌∙◌, arith, inl, inr}
 use Rattle.std.specs.Option.{option_and_then, IsSome}
 use Rattle.std.proofs.lemmas.Bool.{cases_lt, le-leb, lt-leb}
-use Rattle.nl_types.specs.RootChanges.{IsSound, IsWritten, KeepsFile, NodeWritten, new_kind, of_chain, of_tree, was_absent}
+use Rattle.nl_types.specs.RootChanges.{IsSound, IsWrittenPlace, KeepsFile, NodeWritten, new_kind, of_chain, of_tree, was_absent}
 use Rattle.nl_types.specs.Roots.{Chain, Empty, Pages, Root, Tree, below_top, chain_node, child, height_of, page_at, place_at, slot}
 use Rattle.nl_blocktree.specs.Checkpoints.{AgreeWhere}
 
@@ -87,7 +87,7 @@ file-stays pages more root s h = record {
 
 -- where nothing differs nothing is written
 pub unwritten : (pages final : Pages) (root : Root) → ((level offset : ℕ) → place_at final root level offset ≡ place_at pages root level offset) →
-    ((i : ℕ) → page_at final root i ≡ page_at pages root i) → (level offset : ℕ) → IsWritten pages final root root level offset → ⊥
+    ((i : ℕ) → page_at final root i ≡ page_at pages root i) → (level offset : ℕ) → IsWrittenPlace pages final root root level offset → ⊥
 unwritten pages final root places blocks zero offset w = w.1 (sym (blocks offset))
 unwritten pages final root places blocks (suc level) offset w = node w.1
   where

@@ -20,7 +20,7 @@ use Rattle.nl_types.specs.Worlds.{World, Reply, step, latest}
 use Rattle.nl_types.specs.Placing as placing
 use Rattle.nl_types.proofs.Births.{pages-written}
 use Rattle.nl_dat.specs.Batches.{Changes, Fits, items_of, item_of_birth}
-use Rattle.nl_dat.specs.Stores.{Store, IsStore, IsWritten, IsWriteRefused, IsFaulted, content_in, entry_of}
+use Rattle.nl_dat.specs.Stores.{Store, IsStore, IsWritten, IsWriteRefused, IsFaulted, content_in, entry_now}
 use Rattle.nl_core.specs.declared.file.File.{File}
 use Rattle.nl_core.specs.declared.checkpoint.Checkpoint.{Checkpoint}
 use Rattle.nl_core.specs.Draft.{HasNextNumber, IsDraftRefusal}
@@ -120,7 +120,7 @@ count-items content former current changes writes = length-map changes.births it
 
 -- a store with the same numbers has the same content
 same-content : (old new : Store) → new.numbers ≡ old.numbers → content_in new ≡ content_in old
-same-content old new same i v = option_map entry_of (get_or (same i) v None)
+same-content old new same i v = option_map entry_now (get_or (same i) v None)
 
 -- by a fault of the device
 pub does-faulted : (old : Layout) (store : Store) (mode : Mode) (moment : ℕ) (changes : Changes) → IsPen old → WritesChanged (content_in old.store) old.lists.latest.files old.lists.files changes

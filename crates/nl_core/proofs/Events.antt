@@ -22,7 +22,7 @@ use Rattle.nl_types.specs.declared.reply.Node.TheVariants as node
 use Rattle.nl_types.specs.Limits.{file_limit, path_limit, mount_number_limit}
 use Rattle.nl_types.specs.Paths.{Name, Path, path_of}
 use Rattle.nl_types.specs.Trees.{Tree, insert}
-use Rattle.nl_types.specs.Calls.{after, file_at, create, write, change, reply_to, overwritten, refuse_if, is_dirtying, Changed}
+use Rattle.nl_types.specs.Calls.{and_then, file_at, create, write, change, reply_to, overwritten, refuse_if, is_dirtying, Changed}
 use Rattle.nl_types.specs.Worlds.{World, Copy, Reply, Outcome, IsWorld, step, either, refused_if, copy_at, is_snapshot, mount, mount_read}
 use Rattle.nl_types.specs.Runs.{AllowedRefusals, Step, memory_alone}
 use Rattle.nl_types.proofs.WorldLaws.{steps_keep_worlds}
@@ -126,7 +126,7 @@ module _ (cleaned : Reply) where
       let f : File = record { name = name; size = 0; slots = [] } in
       let tree = insert w.tree (name ∷ []) (node.File []) in
       let made : change w.tree (Create path) ≡ Ok (answer.Done, tree) =
-      ap (λ r. after r (create w.tree (node.File []))) spelled ∙ create-none old.pages old.files w.tree m.tree (node.File []) name none room in
+      ap (λ r. and_then r (create w.tree (node.File []))) spelled ∙ create-none old.pages old.files w.tree m.tree (node.File []) name none room in
       leads w (record w { tree = tree; dirty = w.dirty || true }) _ _ _ m.world
       (λ world. record {
         world = world;
@@ -143,17 +143,17 @@ module _ (cleaned : Reply) where
       → change tree (Write path offset new)
       ≡ cond (length new == 0) (Ok (answer.Written 0, tree)) (refuse_if (nat_lt file_limit (offset + length new)) error.TooBig (Ok (answer.Written (length new), insert tree (name ∷ []) (node.File (overwritten bytes offset new)))))
   write-found tree path offset new name bytes spelled here =
-      ap (λ r. after r (write tree offset new)) spelled
-      ∙ ap (λ r. after r (λ b. cond (length new == 0) (Ok (answer.Written 0, tree)) (refuse_if (nat_lt file_limit (offset + length new)) error.TooBig (Ok (answer.Written (length new), insert tree (name ∷ []) (node.File (overwritten b offset new))))))) here
+      ap (λ r. and_then r (write tree offset new)) spelled
+      ∙ ap (λ r. and_then r (λ b. cond (length new == 0) (Ok (answer.Written 0, tree)) (refuse_if (nat_lt file_limit (offset + length new)) error.TooBig (Ok (answer.Written (length new), insert tree (name ∷ []) (node.File (overwritten b offset new))))))) here
 
   or_false : (b : Bool) → b || false ≡ b
   or_false true = refl
   or_false false = refl
 
   -- a write is refused as the look-up of its file is
-  write-refused : (tree : Tree) (offset : ℕ) (new : List ℕ) (e : VolError) (r : Result Path VolError) → after r (file_at tree) ≡ Err e → after r (write tree offset new) ≡ Err e
+  write-refused : (tree : Tree) (offset : ℕ) (new : List ℕ) (e : VolError) (r : Result Path VolError) → and_then r (file_at tree) ≡ Err e → and_then r (write tree offset new) ≡ Err e
   write-refused tree offset new e (Ok path) is =
-      ap (λ found. after found (λ b. cond (length new == 0) (Ok (answer.Written 0, tree)) (refuse_if (nat_lt file_limit (offset + length new)) error.TooBig (Ok (answer.Written (length new), insert tree path (node.File (overwritten b offset new))))))) is
+      ap (λ found. and_then found (λ b. cond (length new == 0) (Ok (answer.Written 0, tree)) (refuse_if (nat_lt file_limit (offset + length new)) error.TooBig (Ok (answer.Written (length new), insert tree path (node.File (overwritten b offset new))))))) is
   write-refused tree offset new e (Err d) is = cc
 
   -- there is no file to write to
@@ -270,10 +270,10 @@ module _ (cleaned : Reply) where
 
   -- ---- reads of mounts
 
-  mount_read-found : (w : World) (mount n : ℕ) (a : Ask) (o : Option Copy) → find nat_cmp mount w.mounts ≡ Some n → copy_at w n ≡ o → mount_read w mount a ≡ after (ok_or o error.BadMount) (λ copy. reply_to copy.tree a)
+  mount_read-found : (w : World) (mount n : ℕ) (a : Ask) (o : Option Copy) → find nat_cmp mount w.mounts ≡ Some n → copy_at w n ≡ o → mount_read w mount a ≡ and_then (ok_or o error.BadMount) (λ copy. reply_to copy.tree a)
   mount_read-found w mount n a o found is =
-      ap (λ x. after (after (ok_or x error.BadMount) (λ k. ok_or (copy_at w k) error.BadMount)) (λ copy. reply_to copy.tree a)) found
-      ∙ ap (λ x. after (ok_or x error.BadMount) (λ copy. reply_to copy.tree a)) is
+      ap (λ x. and_then (and_then (ok_or x error.BadMount) (λ k. ok_or (copy_at w k) error.BadMount)) (λ copy. reply_to copy.tree a)) found
+      ∙ ap (λ x. and_then (ok_or x error.BadMount) (λ copy. reply_to copy.tree a)) is
 
   -- the world's mounts are the volume's
   mount_at : (v : Volume) (w : World) (mount : ℕ) (o : Option ℕ) → Means v w → find nat_cmp mount (map mount_of v.mounts) ≡ o → find nat_cmp mount w.mounts ≡ o

@@ -11,7 +11,7 @@ use Rattle.nl_types.specs.declared.reply.Answer.TheVariants as answer
 use Rattle.nl_types.specs.Limits.{path_limit}
 use Rattle.nl_types.specs.Paths.{Name, Path}
 use Rattle.nl_types.specs.Trees.{Tree, lookup, insert}
-use Rattle.nl_types.specs.Calls.{Changed, after, ok_unless, refuse_if, stops_walk, stop_from, walk, file_in, file_at, create, read}
+use Rattle.nl_types.specs.Calls.{Changed, and_then, ok_unless, refuse_if, stops_walk, stop_from, walk, file_in, file_at, create, read}
 use Rattle.nl_types.specs.Roots.{Pages}
 use Rattle.nl_core.specs.Content.{TreeMeans, content, node_of, no_file}
 use Rattle.nl_core.specs.Named.{NoneNamed, IsFirstNamed}
@@ -28,27 +28,27 @@ pub Places-is : {place other : Place} (r : Result Path VolError) → place ≡ o
 Places-is r e places = subst (λ p. Places (Ok p) r) e places
 
 -- a judgement that refuses at the names of a place refuses what spells that place
-pub after-Root : {A : Type 0} (next : Path → Result A VolError) (e : VolError) (r : Result Path VolError) → Places (Ok Root) r → next [] ≡ Err e → after r next ≡ Err e
-after-Root next e (Ok []) leads refuses = refuses
-after-Root next e (Ok (n ∷ [])) leads refuses = absurd leads
-after-Root next e (Ok (n ∷ m ∷ names)) leads refuses = absurd leads
-after-Root next e (Err d) leads refuses = absurd leads
+pub and_then-Root : {A : Type 0} (next : Path → Result A VolError) (e : VolError) (r : Result Path VolError) → Places (Ok Root) r → next [] ≡ Err e → and_then r next ≡ Err e
+and_then-Root next e (Ok []) leads refuses = refuses
+and_then-Root next e (Ok (n ∷ [])) leads refuses = absurd leads
+and_then-Root next e (Ok (n ∷ m ∷ names)) leads refuses = absurd leads
+and_then-Root next e (Err d) leads refuses = absurd leads
 
 -- the same, of a child of the root
-pub after-Child : {A : Type 0} (next : Path → Result A VolError) (e : VolError) (name : Bor Name) (r : Result Path VolError) → Places (Ok (Child name)) r
-    → next (name.now ∷ []) ≡ Err e → after r next ≡ Err e
-after-Child next e name (Ok []) leads refuses = absurd leads
-after-Child next e name (Ok (n ∷ [])) leads refuses = ap (λ m. next (m ∷ [])) (sym leads) ∙ refuses
-after-Child next e name (Ok (n ∷ m ∷ names)) leads refuses = absurd leads
-after-Child next e name (Err d) leads refuses = absurd leads
+pub and_then-Child : {A : Type 0} (next : Path → Result A VolError) (e : VolError) (name : Bor Name) (r : Result Path VolError) → Places (Ok (Child name)) r
+    → next (name.now ∷ []) ≡ Err e → and_then r next ≡ Err e
+and_then-Child next e name (Ok []) leads refuses = absurd leads
+and_then-Child next e name (Ok (n ∷ [])) leads refuses = ap (λ m. next (m ∷ [])) (sym leads) ∙ refuses
+and_then-Child next e name (Ok (n ∷ m ∷ names)) leads refuses = absurd leads
+and_then-Child next e name (Err d) leads refuses = absurd leads
 
 -- the same, of what is below a child
-pub after-Below : {A : Type 0} (next : Path → Result A VolError) (e : VolError) (name : Bor Name) (r : Result Path VolError) → Places (Ok (Below name)) r
-    → ((below : Name) (names : Path) → next (name.now ∷ below ∷ names) ≡ Err e) → after r next ≡ Err e
-after-Below next e name (Ok []) leads refuses = absurd leads
-after-Below next e name (Ok (n ∷ [])) leads refuses = absurd leads
-after-Below next e name (Ok (n ∷ m ∷ names)) leads refuses = ap (λ k. next (k ∷ m ∷ names)) (sym leads) ∙ refuses m names
-after-Below next e name (Err d) leads refuses = absurd leads
+pub and_then-Below : {A : Type 0} (next : Path → Result A VolError) (e : VolError) (name : Bor Name) (r : Result Path VolError) → Places (Ok (Below name)) r
+    → ((below : Name) (names : Path) → next (name.now ∷ below ∷ names) ≡ Err e) → and_then r next ≡ Err e
+and_then-Below next e name (Ok []) leads refuses = absurd leads
+and_then-Below next e name (Ok (n ∷ [])) leads refuses = absurd leads
+and_then-Below next e name (Ok (n ∷ m ∷ names)) leads refuses = ap (λ k. next (k ∷ m ∷ names)) (sym leads) ∙ refuses m names
+and_then-Below next e name (Err d) leads refuses = absurd leads
 
 -- ---- walks
 
@@ -88,24 +88,24 @@ module _ (pages : Pages) (files : List File) (tree : Tree) (means : TreeMeans pa
 
   -- the root is a directory
   pub file_at-root : file_at tree [] ≡ Err IsDir
-  file_at-root = ap (λ o. after (ok_or o NotFound) file_in) (means.each [])
+  file_at-root = ap (λ o. and_then (ok_or o NotFound) file_in) (means.each [])
 
   -- right below the root no walk stops
-  file_at-child : (name : Name) → file_at tree (name ∷ []) ≡ after (ok_or (lookup tree (name ∷ [])) NotFound) file_in
-  file_at-child name = ap (λ w. after (after w (λ _. ok_or (lookup tree (name ∷ [])) NotFound)) file_in) (walk-child name)
+  file_at-child : (name : Name) → file_at tree (name ∷ []) ≡ and_then (ok_or (lookup tree (name ∷ [])) NotFound) file_in
+  file_at-child name = ap (λ w. and_then (and_then w (λ _. ok_or (lookup tree (name ∷ [])) NotFound)) file_in) (walk-child name)
 
   -- no file has the name
   pub file_at-none : (name : Name) → NoneNamed files name → file_at tree (name ∷ []) ≡ Err NotFound
-  file_at-none name none = file_at-child name ∙ ap (λ o. after (ok_or o NotFound) file_in) (lookup-none name none)
+  file_at-none name none = file_at-child name ∙ ap (λ o. and_then (ok_or o NotFound) file_in) (lookup-none name none)
 
   -- a file has the name
   pub file_at-first : (name : Name) (i : ℕ) (d : File) → IsFirstNamed files name i → file_at tree (name ∷ []) ≡ Ok (content pages (get_or files i d))
-  file_at-first name i d first = file_at-child name ∙ ap (λ o. after (ok_or o NotFound) file_in) (lookup-first name i d first)
+  file_at-first name i d first = file_at-child name ∙ ap (λ o. and_then (ok_or o NotFound) file_in) (lookup-first name i d first)
 
   -- nothing is below a name
   pub file_at-below : (name below : Name) (names : Path) (e : VolError) → RefusesBelow files name e → file_at tree (name ∷ below ∷ names) ≡ Err e
   file_at-below name below names e h =
-      ap (λ w. after (after w (λ _. ok_or (lookup tree (name ∷ below ∷ names)) NotFound)) file_in) (walk-below name below names e h)
+      ap (λ w. and_then (and_then w (λ _. ok_or (lookup tree (name ∷ below ∷ names)) NotFound)) file_in) (walk-below name below names e h)
 
   -- ---- what is made at a path
 
@@ -119,7 +119,7 @@ module _ (pages : Pages) (files : List File) (tree : Tree) (means : TreeMeans pa
 
   -- right below the root no walk stops
   create-child : (new : Node) (name : Name) → create tree new (name ∷ []) ≡ made_at new (name ∷ [])
-  create-child new name = ap (λ w. after w (λ _. made_at new (name ∷ []))) (walk-child name)
+  create-child new name = ap (λ w. and_then w (λ _. made_at new (name ∷ []))) (walk-child name)
 
   -- a file of this name is there
   pub create-first : (new : Node) (name : Name) (i : ℕ) → IsFirstNamed files name i → create tree new (name ∷ []) ≡ Err Exists
@@ -140,17 +140,17 @@ module _ (pages : Pages) (files : List File) (tree : Tree) (means : TreeMeans pa
 
   -- nothing is below a name
   pub create-below : (new : Node) (name below : Name) (names : Path) (e : VolError) → RefusesBelow files name e → create tree new (name ∷ below ∷ names) ≡ Err e
-  create-below new name below names e h = ap (λ w. after w (λ _. made_at new (name ∷ below ∷ names))) (walk-below name below names e h)
+  create-below new name below names e h = ap (λ w. and_then w (λ _. made_at new (name ∷ below ∷ names))) (walk-below name below names e h)
 
   -- ---- what is read at a path
 
   -- what spells the name of a file reads its bytes
   pub read-first : (offset len : ℕ) (name : Name) (i : ℕ) (d : File) (r : Result Path VolError) → r ≡ Ok (name ∷ []) → IsFirstNamed files name i
-      → after r (read tree offset len) ≡ Ok (answer.Bytes (take len (drop offset (content pages (get_or files i d)))))
+      → and_then r (read tree offset len) ≡ Ok (answer.Bytes (take len (drop offset (content pages (get_or files i d)))))
   read-first offset len name i d r spelt first =
-      ap (λ q. after q (read tree offset len)) spelt ∙ ap (λ f. after f (λ bytes. Ok (answer.Bytes (take len (drop offset bytes))))) (file_at-first name i d first)
+      ap (λ q. and_then q (read tree offset len)) spelt ∙ ap (λ f. and_then f (λ bytes. Ok (answer.Bytes (take len (drop offset bytes))))) (file_at-first name i d first)
 
 -- where the file at a path is refused, so is a read of it
-pub read-refused : (tree : Tree) (offset len : ℕ) (e : VolError) (r : Result Path VolError) → after r (file_at tree) ≡ Err e → after r (read tree offset len) ≡ Err e
-read-refused tree offset len e (Ok path) h = ap (λ f. after f (λ bytes. Ok (answer.Bytes (take len (drop offset bytes))))) h
+pub read-refused : (tree : Tree) (offset len : ℕ) (e : VolError) (r : Result Path VolError) → and_then r (file_at tree) ≡ Err e → and_then r (read tree offset len) ≡ Err e
+read-refused tree offset len e (Ok path) h = ap (λ f. and_then f (λ bytes. Ok (answer.Bytes (take len (drop offset bytes))))) h
 read-refused tree offset len e (Err d) h = cc

@@ -7,7 +7,7 @@ use Rattle.std.specs.FinMap.{find}
 use Rattle.std.proofs.lemmas.Bool.{cases_Bool, cond-true, cond-false, eqb-true, eq-eqb, ne_eqb}
 use Rattle.std.proofs.lemmas.Bool.Decides.{nat_tests}
 use Rattle.nl_types.specs.Entries.{Entry, covers, is_before_end, written}
-use Rattle.nl_types.specs.Lifetimes.{Ledger, IsLedger, IsExact, IsBatch, Write, Numbers, numbers_at, numbers_after, after, Allowed, EventsKeepLedgers, CoveredNumbersStay, NumbersEndOnce, KeepsCovered, EndsOnce}
+use Rattle.nl_types.specs.Lifetimes.{Ledger, IsLedger, IsExact, IsBatch, Write, Numbers, numbers_at, numbers_after, ledger_after, Allowed, EventsKeepLedgers, CoveredNumbersStay, NumbersEndOnce, KeepsCovered, EndsOnce}
 use Rattle.nl_dat.specs.Batches.{Changes, Fits, is_live}
 use Rattle.nl_dat.specs.Stores.{Store, content_in}
 use Rattle.nl_core.specs.Content.{slot_at}
@@ -93,7 +93,7 @@ module _ (old : Layout) (held : IsPen old) (capacity : ℕ) (changes : Changes) 
       ∙ cond-true (eqb c.number c.number) (Some c) None (eq-eqb c.number c.number refl))
 
   -- what is kept then
-  kept-behind : (n : ℕ) → option_map reached_by (find nat_cmp n (map by_number (kept_by (published c old.lists)))) ≡ (after (Write changes.births changes.ends) (ledger_of old)).kept n
+  kept-behind : (n : ℕ) → option_map reached_by (find nat_cmp n (map by_number (kept_by (published c old.lists)))) ≡ (ledger_after (Write changes.births changes.ends) (ledger_of old)).kept n
   kept-behind n = elim (cases_Bool (eqb n (old.lists.latest.number + 1))) [
     | inl same ↦
         let is : n ≡ c.number = eqb-true n (old.lists.latest.number + 1) same ∙ sym number in
@@ -113,7 +113,7 @@ module _ (old : Layout) (held : IsPen old) (capacity : ℕ) (changes : Changes) 
       or_none (Some x) = refl
 
   -- the ledger goes on by the births and the ends
-  pub ledger-behind : ledger_of behind ≡ after (Write changes.births changes.ends) (ledger_of old)
+  pub ledger-behind : ledger_of behind ≡ ledger_after (Write changes.births changes.ends) (ledger_of old)
   ledger-behind i = record {
     content = (content ∙ ap (λ n. written changes.births changes.ends n (content_in old.store)) number) i;
     latest = number i;

@@ -6,14 +6,14 @@ use Rattle.std.specs.Ordering.{nat_cmp, eq_by_cmp}
 use Rattle.std.specs.FinMap.{find}
 use Rattle.std.proofs.lemmas.Bool.{cases_Bool, cond-false, eqb-true, eq-eqb, ne_eqb}
 use Rattle.std.proofs.lemmas.List.Elements.{All-nil}
-use Rattle.nl_types.specs.Lifetimes.{Ledger, IsLedger, Write, Remove, EachAllowed, after_all, blank}
-use Rattle.nl_types.proofs.ExactLifetimes.{ledger-all, ledger-blank}
+use Rattle.nl_types.specs.Lifetimes.{Ledger, IsLedger, Write, Remove, EachAllowed, ledger_after_all, blank}
+use Rattle.nl_types.proofs.ExactLifetimes.{ledger_after_all-IsLedger, ledger-blank}
 use Rattle.nl_types.specs.Paths.{Path}
 use Rattle.nl_types.specs.Roots.{Pages}
 use Rattle.nl_types.specs.Trees.{root_alone, lookup}
 use Rattle.nl_types.specs.Worlds.{IsWorld, formatted}
 use Rattle.nl_types.proofs.WorldLaws.{formatted_is_world}
-use Rattle.nl_dat.specs.Stores.{Store, IsStore, Numbered, entry_of}
+use Rattle.nl_dat.specs.Stores.{Store, IsStore, Numbered, entry_now}
 use Rattle.nl_core.specs.Content.{node_of, TreeMeans}
 use Rattle.nl_core.specs.Settled.{numbers_of}
 use Rattle.nl_core.specs.Volume.{Lists, IsSoundVolume, AreKept, over}
@@ -73,7 +73,7 @@ no_numbers i p = either ((p.level == 0) && nat_le 11 p.inode) None i
 
 -- the ledger once a checkpoint without blocks is written and the blank one goes
 abbrev pub first_ledger : Ledger
-first_ledger = after_all (Write [] [] ∷ Remove 0 ∷ []) blank
+first_ledger = ledger_after_all (Write [] [] ∷ Remove 0 ∷ []) blank
 
 -- no birth and no end is allowed, and so is the removal of the blank checkpoint
 first_allowed : EachAllowed (Write [] [] ∷ Remove 0 ∷ []) blank
@@ -90,7 +90,7 @@ first_allowed = (
 )
 
 pub first_is_ledger : IsLedger first_ledger
-first_is_ledger = ledger-all (Write [] [] ∷ Remove 0 ∷ []) blank ledger-blank first_allowed
+first_is_ledger = ledger_after_all-IsLedger (Write [] [] ∷ Remove 0 ∷ []) blank ledger-blank first_allowed
 
 module _ (store : Store) (total now : ℕ) (unused : store.numbers ≡ replicate total None) where
   abbrev fresh : Layout
@@ -113,7 +113,7 @@ module _ (store : Store) (total now : ℕ) (unused : store.numbers ≡ replicate
   -- its ledger is that one
   pub ledger-new : ledger_of fresh ≡ first_ledger
   ledger-new i = record {
-    content = λ v. ap (option_map entry_of) (ap (λ (ns : List (Option Numbered)). get_or ns v None) unused ∙ none_stands total v) i;
+    content = λ v. ap (option_map entry_now) (ap (λ (ns : List (Option Numbered)). get_or ns v None) unused ∙ none_stands total v) i;
     latest = 1;
     kept = λ c. kept-new c i;
   }

@@ -10,7 +10,7 @@ use Rattle.nl_types.specs.declared.event.Mode.{Mode}
 use Rattle.nl_types.specs.declared.event.Event.TheVariants.{Apply, Checkpoint, Mount}
 use Rattle.nl_types.specs.declared.geometry.Geometry.{Geometry}
 use Rattle.nl_types.specs.declared.reply.Answer.TheVariants.{Done}
-use Rattle.nl_types.specs.Lifetimes.{Numbers, Ledger, IsLedger, KeepsCovered, EndsOnce, Write, Remove, after_all, blank}
+use Rattle.nl_types.specs.Lifetimes.{Numbers, Ledger, IsLedger, KeepsCovered, EndsOnce, Write, Remove, ledger_after_all, blank}
 use Rattle.nl_types.specs.Limits.{checkpoint_number_limit}
 use Rattle.nl_types.specs.Placing.{LacksSpace}
 use Rattle.nl_types.specs.Roots.{pages_of}
@@ -64,7 +64,7 @@ pub record IsFresh (geometry : Geometry) (pages : DevicePages) (failures : ℕ) 
 
 -- from the blank ledger a checkpoint was written, which has no block yet, and then the blank one went
 abbrev pub IsFormatted : Layout → Type 0
-IsFormatted l = ledger_of l ≡ after_all (Write [] [] ∷ Remove 0 ∷ []) blank
+IsFormatted l = ledger_of l ≡ ledger_after_all (Write [] [] ∷ Remove 0 ∷ []) blank
 
 -- ---- what an event does to the numbers
 

@@ -8,7 +8,7 @@ use Rattle.nl_types.specs.declared.reply.Node.TheVariants as node
 use Rattle.nl_types.specs.Limits.{path_limit}
 use Rattle.nl_types.specs.Paths.{Name, Path, path_of}
 use Rattle.nl_types.specs.Trees.{Tree}
-use Rattle.nl_types.specs.Calls.{ShowsUnlessMemory, after, file_at, create, read, reply_to}
+use Rattle.nl_types.specs.Calls.{ShowsUnlessMemory, and_then, file_at, create, read, reply_to}
 use Rattle.nl_types.specs.Worlds.{Reply}
 use Rattle.nl_types.specs.Roots.{Pages}
 use Rattle.nl_core.specs.Content.{TreeMeans}
@@ -44,7 +44,7 @@ Places (Err e) (Ok names) = ⊥
 
 -- the bytes of the file that a path spells, or why there is none
 abbrev pub file_of : Tree → List ℕ → Result (List ℕ) VolError
-file_of tree path = after (path_of path) (file_at tree)
+file_of tree path = and_then (path_of path) (file_at tree)
 
 -- the path spells the name of the file at this index
 abbrev pub LeadsTo : List File → List ℕ → ℕ → Type 0
@@ -60,7 +60,7 @@ FindsFile pages files path found = MatchResult found
 abbrev pub FindsFree : Pages → List File → List ℕ → Result (List ℕ) VolError → Type 0
 FindsFree pages files path found = MatchResult found
     (λ name. (path_of path ≡ Ok (name ∷ [])) × NoneNamed files name × (length files < path_limit))
-    (λ e. (e ≢ Memory) → (tree : Tree) → TreeMeans pages files tree → after (path_of path) (create tree (node.File [])) ≡ Err e)
+    (λ e. (e ≢ Memory) → (tree : Tree) → TreeMeans pages files tree → and_then (path_of path) (create tree (node.File [])) ≡ Err e)
 
 -- why nothing can be below a name: a file has it, or nothing has
 abbrev pub RefusesBelow : List File → Name → VolError → Type 0
@@ -72,8 +72,8 @@ RefusesBelow files name e = ⊥
 abbrev pub ReadsFrom : Pages → List File → List ℕ → ℕ → ℕ → Result (List ℕ) VolError → Type 0
 ReadsFrom pages files path offset len found =
     (tree : Tree) → TreeMeans pages files tree → MatchResult found
-    (λ bytes. after (path_of path) (read tree offset len) ≡ Ok (answer.Bytes bytes))
-    (λ e. (e ≢ Memory) → after (path_of path) (read tree offset len) ≡ Err e)
+    (λ bytes. and_then (path_of path) (read tree offset len) ≡ Ok (answer.Bytes bytes))
+    (λ e. (e ≢ Memory) → and_then (path_of path) (read tree offset len) ≡ Err e)
 
 -- what the tree answers, unless memory ran out
 abbrev pub AnswersFrom : Pages → List File → Ask → Reply → Type 0

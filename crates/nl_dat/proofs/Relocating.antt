@@ -218,7 +218,7 @@ keeps-stored table old later before after same = record {
 }
 
 -- what an append says where it is refused
-pub record IsRefused (reserve : Bool) (stamp checkpoint : ℕ) (payload : List Payload) (e : VolError) (old later : SpaceContent) (before after : ℕ) : Type 0 where
+pub record IsRelocationRefusal (reserve : Bool) (stamp checkpoint : ℕ) (payload : List Payload) (e : VolError) (old later : SpaceContent) (before after : ℕ) : Type 0 where
   pub why : IsAppendError e
   pub no_space : e ≡ NoSpace → later ≡ old
   pub lacks : e ≡ NoSpace → LacksSpace old.segments reserve (length payload)
@@ -227,7 +227,7 @@ pub record IsRefused (reserve : Bool) (stamp checkpoint : ℕ) (payload : List P
   pub broken : e ≡ Fault → IsBrokenOff old later reserve stamp checkpoint payload
 
 pub move-refused : (table : List (Option DatEntry)) (lowest : ℕ) (old later : SpaceContent) (before between after checkpoint stamp : ℕ) (numbers : List ℕ) (payload : List Payload) (e : VolError) → AreTidy old.segments → IsTable table lowest old
-    → IsPayloadOf (store_of table old before) numbers payload → KeepsUsed old.segments old later → before ≤ between → IsRefused false stamp checkpoint payload e old later between after
+    → IsPayloadOf (store_of table old before) numbers payload → KeepsUsed old.segments old later → before ≤ between → IsRelocationRefusal false stamp checkpoint payload e old later between after
     → IsMoveRefused checkpoint stamp numbers (store_of table old before) (store_of table later after) e
 move-refused table lowest old later before between after checkpoint stamp numbers payload e tidy is_table theirs kept more refused = elim refused.why [
   | inl is ↦ subst (IsMoveRefused checkpoint stamp numbers (store_of table old before) (store_of table later after)) (sym is)

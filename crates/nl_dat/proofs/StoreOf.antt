@@ -15,7 +15,7 @@ use Rattle.nl_segwriter.specs.Logs.{AreWholeLogs, HaveLogs}
 use Rattle.nl_dat.specs.declared.entries.DatEntry.{DatEntry}
 use Rattle.nl_dat.specs.Batches.{birth_of_item, tag_place, tag_for}
 use Rattle.nl_dat.specs.Table.{entry_in, addresses_of, block_of, content_of, meaning_of, meaning_at, period_of, period_of_entry, HaveOwnPayload}
-use Rattle.nl_dat.specs.Stores.{Numbered, new_store, numbered_in, content_in, address_in, entry_of, block_now, dat_entry_of, payload_for, IsStore}
+use Rattle.nl_dat.specs.Stores.{Numbered, new_store, numbered_in, content_in, address_in, entry_now, block_now, dat_entry_of, payload_for, IsStore}
 use Rattle.nl_dat.specs.Inside.{births_in, numbered_with, numbered_of, store_of, IsTable}
 use Rattle.nl_types.proofs.UsedParts.{used_inside}
 use Rattle.nl_dat.proofs.SoundTable.{stored_for, HaveOwnPayload-apart}
@@ -27,13 +27,13 @@ module _ (table : List (Option DatEntry)) (space : SpaceContent) (failures : ℕ
 
   -- what a number stands for
   pub content_in-store_of : content_in (store_of table space failures) ≡ content_of (entry_in table) (births_in space)
-  content_in-store_of = same_at_all _ _ (λ v. ap (option_map entry_of) (numbered_in-store_of v) ∙ of_entry (entry_in table v))
+  content_in-store_of = same_at_all _ _ (λ v. ap (option_map entry_now) (numbered_in-store_of v) ∙ of_entry (entry_in table v))
     where
-      of_birth : (e : DatEntry) (o : Option Birth) → option_map entry_of (option_map (numbered_with e) o) ≡ option_map (meaning_of e) o
+      of_birth : (e : DatEntry) (o : Option Birth) → option_map entry_now (option_map (numbered_with e) o) ≡ option_map (meaning_of e) o
       of_birth e None = refl
       of_birth e (Some p) = refl
 
-      of_entry : (o : Option DatEntry) → option_map entry_of (numbered_of (births_in space) o) ≡ option_and_then (meaning_at (births_in space)) o
+      of_entry : (o : Option DatEntry) → option_map entry_now (numbered_of (births_in space) o) ≡ option_and_then (meaning_at (births_in space)) o
       of_entry None = refl
       of_entry (Some e) = of_birth e (births_in space e.block)
 

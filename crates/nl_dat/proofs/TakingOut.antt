@@ -9,7 +9,7 @@ use Rattle.nl_types.specs.PartialMaps.{is_one_of}
 use Rattle.nl_dat.specs.declared.entries.DatEntry.{DatEntry}
 use Rattle.nl_dat.specs.declared.reclaim.TakenOut.{TakenOut}
 use Rattle.nl_dat.specs.Table.{entry_in, addresses_of, block_of}
-use Rattle.nl_dat.specs.TakenOut.{AreApart, HasNone, HasTakenOne, HasTakenOut, is_in_row, lesser, one_more, IsAtMost}
+use Rattle.nl_dat.specs.TakenOut.{HaveOwnBlocks, HasNone, HasTakenOne, HasTakenOut, is_in_row, lesser, one_more, IsAtMost}
 
 -- ---- rows
 
@@ -82,7 +82,7 @@ module _ (first count : ℕ) (old mid new : List (Option DatEntry)) (taken : Tak
       other : (v : ℕ) → is_in_row first (count + 1) (addresses_of (entry_in old) v) ≡ is_in_row first count (addresses_of (entry_in old) v)
       other v = row-other first count (addresses_of (entry_in old) v) (λ at. h.none v (address-kept v at))
 
-  pub one-more : (n : ℕ) → AreApart (addresses_of (entry_in old)) → HasTakenOne (first + count) mid new n → HasTakenOut first (count + 1) old new (one_more taken n)
+  pub one-more : (n : ℕ) → HaveOwnBlocks (addresses_of (entry_in old)) → HasTakenOne (first + count) mid new n → HasTakenOut first (count + 1) old new (one_more taken n)
   one-more n apart h = record {
     size = ap length h.taken ∙ length-set mid n None ∙ before.size;
     left = λ v. elim (cases_eq v n) [

@@ -45,8 +45,8 @@ new_store space failures = record {
 abbrev pub numbered_in : Store → Partial Numbered
 numbered_in s v = slice_index_or s.numbers v None
 
-abbrev pub entry_of : Numbered → Entry
-entry_of n = n.entry
+abbrev pub entry_now : Numbered → Entry
+entry_now n = n.entry
 
 abbrev pub block_now : Numbered → ℕ
 block_now n = n.block
@@ -57,7 +57,7 @@ dat_entry_of n = record { block = n.block; start = n.entry.start; end = n.entry.
 
 -- what each number in use stands for
 abbrev pub content_in : Store → Content
-content_in s v = option_map entry_of (numbered_in s v)
+content_in s v = option_map entry_now (numbered_in s v)
 
 -- the block of each number in use
 abbrev pub address_in : Store → Partial ℕ

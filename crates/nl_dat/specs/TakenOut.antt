@@ -9,8 +9,8 @@ use Rattle.nl_dat.specs.declared.reclaim.TakenOut.{TakenOut}
 use Rattle.nl_dat.specs.Table.{entry_in, addresses_of}
 
 -- no two numbers have one block
-abbrev pub AreApart : Partial ℕ → Type 0
-AreApart addresses = (v w b : ℕ) → addresses v ≡ Some b → addresses w ≡ Some b → v ≡ w
+abbrev pub HaveOwnBlocks : Partial ℕ → Type 0
+HaveOwnBlocks addresses = (v w b : ℕ) → addresses v ≡ Some b → addresses w ≡ Some b → v ≡ w
 
 -- what a row of payload has at a position tells which number alone may have the block
 abbrev pub TellsNumber : List (Option Payload) → ℕ → Partial ℕ → ℕ → Type 0

@@ -80,9 +80,11 @@ impl Batch {
     /// Adds the birth of a page behind the others. A batch that fits a store still does where the number is the lowest
     /// free one. Refused by `Memory` alone.
     pub fn add_birth(&mut self, tag: Tag, page: Page) -> Result<(), VolError>
-        ensures ok { OnOk result (self.new ≡ record self.old { births = self.old.births ++ birth_of_item (tag, page) ∷ [] }) }
+        ensures ok { OnOk result (self.new ≡
+            record self.old { births = self.old.births ++ birth_of_item (tag, page) ∷ [] }) }
         ensures fits { OnOk result ((capacity : ℕ) (content : Content) → Fits capacity content self.old
-            → IsLowestFree content self.old.births tag.number → tag.number ≤ capacity + length self.old.births + 1 → Fits capacity content self.new) }
+            → IsLowestFree content self.old.births tag.number
+            → tag.number ≤ capacity + length self.old.births + 1 → Fits capacity content self.new) }
         ensures err { OnErr result (self.new ≡ self.old) }
         ensures memory { OnErr result (result ≡ Err VolError.Memory) }
     {
@@ -90,7 +92,8 @@ impl Batch {
     }
 
     fn push_birth(&mut self, birth: Payload) -> Result<(), VolError>
-        ensures ok { OnOk result (self.new ≡ record self.old { births = self.old.births ++ birth_of_item birth ∷ [] }) }
+        ensures ok { OnOk result (self.new ≡
+            record self.old { births = self.old.births ++ birth_of_item birth ∷ [] }) }
         ensures err { OnErr result (self.new ≡ self.old) }
         ensures memory { OnErr result (result ≡ Err VolError.Memory) }
     {
@@ -116,7 +119,8 @@ impl Batch {
     pub fn set_page(&mut self, index: usize, page: Page)
         requires { index < length self.old.births }
         ensures page { self.new ≡ record self.old { births = with_page index page self.old.births } }
-        ensures fits { (capacity : ℕ) (content : Content) → Fits capacity content self.old → Fits capacity content self.new }
+        ensures fits { (capacity : ℕ) (content : Content) → Fits capacity content self.old
+            → Fits capacity content self.new }
     {
         self.replace_page(index, page);
     }

@@ -148,7 +148,8 @@ pub(crate) fn enter_births(
 )
     requires inside { All (λ b. number_of b < length table.old) (births_of births.now) }
     requires each { length births.now ≡ length blocks.now }
-    ensures entries { entry_in table.new ≡ put_each number_of (new_entry checkpoint) (births_of births.now) blocks.now (entry_in table.old) }
+    ensures entries { entry_in table.new
+        ≡ put_each number_of (new_entry checkpoint) (births_of births.now) blocks.now (entry_in table.old) }
     ensures length { length table.new ≡ length table.old }
 {
     for (i, (tag, _)) in births.iter().enumerate() {

@@ -56,7 +56,8 @@ fn load_one<S: Space>(
     requires segment { segment < length (S.content space.old).segments.each }
     requires backed { IsBacked table.now (S.content space.old) }
     requires inside { StandsIn table.now (S.content space.old) segment number }
-    ensures payload { IfOk result (λ payload. birth_under table.now (S.content space.old) number ≡ Some (birth_of_item payload)) }
+    ensures payload { IfOk result (λ payload.
+        birth_under table.now (S.content space.old) number ≡ Some (birth_of_item payload)) }
     ensures same { S.content space.new ≡ S.content space.old }
     ensures counted { S.failure_count space.old ≤ S.failure_count space.new }
     ensures fault { IsErrOf result VolError.Fault → S.failure_count space.old < S.failure_count space.new }

@@ -1,7 +1,7 @@
 //! Numbers that are taken out of use, with the segment that their pages stand in.
 ghost use Rattle.std.specs.Prelude.{◌≡◌, ℕ, ◌+◌, ◌-◌, ◌<◌, ◌≤◌, ◌^◌, length, slice_set, if◌then◌else◌, MatchOption, IfSome, None};
 ghost use Rattle.nl_dat.specs.Table.{entry_in, addresses_of, has_block};
-ghost use Rattle.nl_dat.specs.TakenOut.{AreApart, TellsNumber, TellsNumbers, HasNone, HasTakenOne, HasTakenOut, one_more};
+ghost use Rattle.nl_dat.specs.TakenOut.{HaveOwnBlocks, TellsNumber, TellsNumbers, HasNone, HasTakenOne, HasTakenOut, one_more};
 
 use crate::entries::{DatEntry, entry_at, number_in};
 use nl_segwriter::Payload;
@@ -82,7 +82,7 @@ pub(crate) fn take_out(
     first: u32,
 ) -> TakenOut
     requires fits { first + length row.now < 2 ^ 32 }
-    requires apart { AreApart (addresses_of (entry_in table.old)) }
+    requires apart { HaveOwnBlocks (addresses_of (entry_in table.old)) }
     requires tagged { TellsNumbers row.now (addresses_of (entry_in table.old)) first }
     ensures { HasTakenOut first (length row.now) table.old table.new result }
 {

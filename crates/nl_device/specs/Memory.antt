@@ -3,5 +3,5 @@ use Rattle.std.specs.Prelude.{None, slice_index_or}
 use Rattle.nl_device.specs.Pages.{DevicePages}
 use Rattle.nl_device.specs.declared.memory.MemDevice.{MemDevice}
 
-abbrev pub pages_of : MemDevice → DevicePages
-pages_of d b = slice_index_or d.blocks.items b None
+abbrev pub memory_pages : MemDevice → DevicePages
+memory_pages d b = slice_index_or d.blocks.items b None

@@ -50,7 +50,8 @@ pub trait Device: Drop {
     /// Empties a segment.
     fn clear(&mut self, segment: Segment)
         requires { segment < (shape self.old).segments }
-        ensures cleared { ClearsBlocks (segment * (shape self.old).blocks) (shape self.old).blocks (pages self.old) (pages self.new) }
+        ensures cleared { ClearsBlocks (segment * (shape self.old).blocks) (shape self.old).blocks
+            (pages self.old) (pages self.new) }
         ensures counted { failure_count self.old ≤ failure_count self.new }
         ensures shape { shape self.new ≡ shape self.old };
 

@@ -30,9 +30,9 @@ impl FaultyDevice {
 
 impl Device for FaultyDevice {
     ghost use Rattle.std.specs.Prelude.{if◌then◌else◌};
-    ghost use Rattle.nl_device.specs.Memory.{pages_of};
+    ghost use Rattle.nl_device.specs.Memory.{memory_pages};
 
-    ghost pages = { λ d. pages_of d.memory };
+    ghost pages = { λ d. memory_pages d.memory };
 
     ghost failure_count = { λ d. if d.failed then 1 else 0 };
 

@@ -15,11 +15,11 @@ pub struct MemDevice {
 }
 
 impl MemDevice {
-    ghost use Rattle.nl_device.specs.Memory.{pages_of};
+    ghost use Rattle.nl_device.specs.Memory.{memory_pages};
 
     /// An empty device, refused by `Memory` alone.
     pub fn new(alloc: Global, geometry: Geometry) -> Result<MemDevice, VolError>
-        ensures empty { IfOk result (λ device. IsEmpty (pages_of device)) }
+        ensures empty { IfOk result (λ device. IsEmpty (memory_pages device)) }
         ensures shape { IfOk result (λ device. device.geometry ≡ geometry) }
         ensures refused { IsOkUnless result VolError.Memory }
     {
@@ -33,9 +33,9 @@ impl MemDevice {
 }
 
 impl Device for MemDevice {
-    ghost use Rattle.nl_device.specs.Memory.{pages_of};
+    ghost use Rattle.nl_device.specs.Memory.{memory_pages};
 
-    ghost pages = { pages_of };
+    ghost pages = { memory_pages };
 
     ghost failure_count = { λ _. 0 };
 

@@ -11,7 +11,7 @@ use Rattle.nl_layout.specs.declared.inode.InodeKind.{InodeKind}
 use Rattle.nl_layout.specs.declared.inode.InodeKind.TheVariants.{File, Directory, InodeFile}
 use Rattle.nl_layout.specs.declared.inode.InodeEntry.{InodeEntry}
 use Rattle.nl_layout.specs.declared.inode.InodeEntry.TheVariants.{Free, InUse}
-use Rattle.nl_layout.specs.Inode.{EntryFits, entry_bytes, kind_code}
+use Rattle.nl_layout.specs.Inode.{EntryFits, entry_bytes, inode_kind_code}
 use Rattle.nl_ifile.specs.Inodes.{block_bytes, block_for, entry_for, in_use, inode_in, block_places, with_inode}
 use Rattle.nl_ifile.proofs.Spelling.{inode_spelled-Spells}
 use borrow.Rule.Slice.PartMut.{put_mid}
@@ -129,7 +129,7 @@ free-bytes : (o : Option Inode) → entry_bytes (entry_for o) ≡ replicate 128 
 free-bytes None e = refl
 free-bytes (Some i) e = absurd (positive i.kind (ap (λ (xs : List ℕ). slice_index xs 0) e))
   where
-    positive : (k : InodeKind) → kind_code k ≡ 0 → ⊥
+    positive : (k : InodeKind) → inode_kind_code k ≡ 0 → ⊥
     positive File e = omega arith
     positive Directory e = omega arith
     positive InodeFile e = omega arith

@@ -12,13 +12,13 @@ use Rattle.nl_blocktree.specs.Changed.{blocks_with, indexes}
 use Rattle.nl_blocktree.proofs.HeldPages.{Sets}
 use Rattle.nl_blocktree.proofs.MoreChanges.{sets-one}
 use Rattle.nl_ifile.specs.declared.change.InodeChange.{InodeChange}
-use Rattle.nl_ifile.specs.Inodes.{Inodes, block_for, entry_for, in_block}
+use Rattle.nl_ifile.specs.Inodes.{InodeMap, block_for, entry_for, in_block}
 use Rattle.nl_ifile.specs.Changing.{AreBlockChanges, AreFirstBlockChanges, inodes_with}
 use Rattle.nl_ifile.proofs.BlockBytes.{block_for-cong}
 use Rattle.nl_ifile.proofs.Changes.{inodes_with-absent, inodes_with-append, inodes_with-cong}
 
 -- before the first block
-pub block_changes-none : (pages : ℕ → Option (List ℕ)) (inodes : Inodes) (changes : List InodeChange) → ((i : ℕ) → pages i ≡ block_for (in_block inodes i)) → AreFirstBlockChanges pages inodes changes 0 []
+pub block_changes-none : (pages : ℕ → Option (List ℕ)) (inodes : InodeMap) (changes : List InodeChange) → ((i : ℕ) → pages i ≡ block_for (in_block inodes i)) → AreFirstBlockChanges pages inodes changes 0 []
 block_changes-none pages inodes changes file = record {
   within = omega arith;
   blocks_are = record { ascending = λ i j d l m. absurd (omega arith); in_range = λ k d l. absurd (omega arith); become = file; fits = λ k d l. absurd (omega arith) };
@@ -27,7 +27,7 @@ block_changes-none pages inodes changes file = record {
 }
 
 -- after the last
-pub block_changes-all : (pages : ℕ → Option (List ℕ)) (inodes : Inodes) (changes : List InodeChange) (count : ℕ) (blocks : List BlockChange) → AreFirstBlockChanges pages inodes changes count blocks →
+pub block_changes-all : (pages : ℕ → Option (List ℕ)) (inodes : InodeMap) (changes : List InodeChange) (count : ℕ) (blocks : List BlockChange) → AreFirstBlockChanges pages inodes changes count blocks →
     length changes ≤ count → AreBlockChanges pages inodes changes blocks
 block_changes-all pages inodes changes count blocks h l = subst (λ (cs : List InodeChange). AreBlockChanges pages inodes cs blocks) (take_all count changes l) h.blocks_are
 
@@ -39,7 +39,7 @@ all-between changes start end i h k d l =
     let here : get_or (take (end - start) (drop start changes)) k d ≡ get_or changes (start + k) d = get_or-take (end - start) (drop start changes) k d near ∙ get_or-drop start changes k d in
     ap (λ (c : InodeChange). c.number / 8) here ∙ h (start + k) d (omega arith) (omega arith)
 
-module _ (pages : ℕ → Option (List ℕ)) (inodes : Inodes) (changes : List InodeChange) (start end : ℕ) (blocks : List BlockChange) (b : BlockChange) (i : ℕ)
+module _ (pages : ℕ → Option (List ℕ)) (inodes : InodeMap) (changes : List InodeChange) (start end : ℕ) (blocks : List BlockChange) (b : BlockChange) (i : ℕ)
     (before : AreFirstBlockChanges pages inodes changes start blocks) (low : start < end) (high : end ≤ length changes)
     (first : (next : InodeChange) → (get_or changes start next).number / 8 ≡ i)
     (in_range : i < 65536) (index : b.index ≡ i) (group : All (λ c. c.number / 8 ≡ i) (take (end - start) (drop start changes)))

@@ -4,7 +4,7 @@ use Rattle.std.proofs.lemmas.Bool.{cases_Bool, cases_lt, eqb-true, eq-eqb, ltb-t
 use Rattle.std.specs.List.Sorted.{IsNonDecreasingBy, IsPartitionPoint}
 use Rattle.std.specs.Option.{option_map_or}
 use Rattle.nl_ifile.specs.declared.change.InodeChange.{InodeChange}
-use Rattle.nl_ifile.specs.Inodes.{Inodes}
+use Rattle.nl_ifile.specs.Inodes.{InodeMap}
 use Rattle.nl_ifile.specs.Changing.{NumbersAscend, inodes_with}
 use Rattle.nl_ifile.specs.Free.{change_at}
 
@@ -65,7 +65,7 @@ change_at-not_here changes n i d ascending place other = sym (change_at-none cha
     ]
 
 -- what changes make of a number hangs on what it was alone
-pub inodes_with-at : (changes : List InodeChange) (before : Inodes) (n : ℕ) → inodes_with changes before n ≡ option_map_or (λ (c : InodeChange). c.inode) (change_at changes n) (before n)
+pub inodes_with-at : (changes : List InodeChange) (before : InodeMap) (n : ℕ) → inodes_with changes before n ≡ option_map_or (λ (c : InodeChange). c.inode) (change_at changes n) (before n)
 inodes_with-at [] before n = refl
 inodes_with-at (c ∷ changes) before n = elim (cases_Bool (eqb n c.number)) [
   | inl e ↦ ap (λ b. cond b c.inode (inodes_with changes before n)) e ∙ sym (ap (λ b. option_map_or (λ (c : InodeChange). c.inode) (cond b (Some c) (change_at changes n)) (before n)) e)
@@ -73,13 +73,13 @@ inodes_with-at (c ∷ changes) before n = elim (cases_Bool (eqb n c.number)) [
 ]
 
 -- what has a change is what the change says
-pub inodes_with-Some : (changes : List InodeChange) (before : Inodes) (n : ℕ) (c : InodeChange) → Some c ≡ change_at changes n → c.inode ≡ inodes_with changes before n
+pub inodes_with-Some : (changes : List InodeChange) (before : InodeMap) (n : ℕ) (c : InodeChange) → Some c ≡ change_at changes n → c.inode ≡ inodes_with changes before n
 inodes_with-Some changes before n c is = sym (inodes_with-at changes before n ∙ ap (λ (o : Option InodeChange). option_map_or (λ (x : InodeChange). x.inode) o (before n)) (sym is))
 
 -- what has none is as before
-pub inodes_with-None : (changes : List InodeChange) (before : Inodes) (n : ℕ) → None ≡ change_at changes n → before n ≡ inodes_with changes before n
+pub inodes_with-None : (changes : List InodeChange) (before : InodeMap) (n : ℕ) → None ≡ change_at changes n → before n ≡ inodes_with changes before n
 inodes_with-None changes before n is = sym (inodes_with-at changes before n ∙ ap (λ (o : Option InodeChange). option_map_or (λ (x : InodeChange). x.inode) o (before n)) (sym is))
 
 -- two maps that agree at a number do so with changes, too
-pub inodes_with-same : (changes : List InodeChange) (a b : Inodes) (n : ℕ) → a n ≡ b n → inodes_with changes a n ≡ inodes_with changes b n
+pub inodes_with-same : (changes : List InodeChange) (a b : InodeMap) (n : ℕ) → a n ≡ b n → inodes_with changes a n ≡ inodes_with changes b n
 inodes_with-same changes a b n same = inodes_with-at changes a n ∙ (ap (option_map_or (λ (x : InodeChange). x.inode) (change_at changes n)) same ∙ sym (inodes_with-at changes b n))

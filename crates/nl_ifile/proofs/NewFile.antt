@@ -11,12 +11,12 @@ use Rattle.nl_dat.specs.Batches.{Changes}
 use Rattle.nl_blocktree.specs.declared.change.BlockChange.{BlockChange}
 use Rattle.nl_blocktree.specs.Putting.{PutsAll}
 use Rattle.nl_ifile.specs.declared.change.InodeChange.{InodeChange}
-use Rattle.nl_ifile.specs.Inodes.{Inodes, IsInodeFile, block_for, entry_for, in_block, inode_at, inode_in, inode_spelled}
+use Rattle.nl_ifile.specs.Inodes.{InodeMap, IsInodeFile, block_for, entry_for, in_block, inode_at, inode_in, inode_spelled}
 use Rattle.nl_ifile.specs.Changing.{AreBlockChanges, PutsInodes, inodes_with}
 use Rattle.nl_ifile.proofs.Spelling.{inode_spelled-fits}
 use Rattle.nl_ifile.proofs.BlockBytes.{block_for-cong, inode_in-block_for}
 
-abbrev AllFit : Inodes → Type 0
+abbrev AllFit : InodeMap → Type 0
 AllFit inodes = (n : ℕ) → EntryFits (entry_for (inodes n))
 
 -- inodes that are read have a spelling
@@ -31,7 +31,7 @@ fits-read pages root n = of (page_at pages root (n / 8))
     of None = tt
     of (Some page) = spelled (take 128 (drop (128 * (n % 8)) page)) (inode_in page (n % 8)) refl
 
-fits-inodes_with : (changes : List InodeChange) (inodes : Inodes) → All (λ c. EntryFits (entry_for c.inode)) changes → AllFit inodes → AllFit (inodes_with changes inodes)
+fits-inodes_with : (changes : List InodeChange) (inodes : InodeMap) → All (λ c. EntryFits (entry_for c.inode)) changes → AllFit inodes → AllFit (inodes_with changes inodes)
 fits-inodes_with [] inodes h old n = old n
 fits-inodes_with (c ∷ changes) inodes h old n = either (n == c.number) (fits-inodes_with changes inodes (λ k d l. h (suc k) d (omega arith)) old n)
   where
@@ -39,7 +39,7 @@ fits-inodes_with (c ∷ changes) inodes h old n = either (n == c.number) (fits-i
     either true rest = h 0 c (omega arith)
     either false rest = rest
 
-module _ (pages : Pages) (new : Root) (inodes : Inodes) (blocks : (i : ℕ) → page_at pages new i ≡ block_for (in_block inodes i)) (fits : AllFit inodes) where
+module _ (pages : Pages) (new : Root) (inodes : InodeMap) (blocks : (i : ℕ) → page_at pages new i ≡ block_for (in_block inodes i)) (fits : AllFit inodes) where
   -- blocks of inodes are read as those inodes
   pub inode_at-blocks : (n : ℕ) → inode_at pages new n ≡ inodes n
   inode_at-blocks n =
@@ -54,7 +54,7 @@ module _ (pages : Pages) (new : Root) (inodes : Inodes) (blocks : (i : ℕ) → 
 pub puts-inodes : (content : Content) (root new : Root) (changes : List InodeChange) (blocks : List BlockChange) (before after : Changes) →
     AreBlockChanges (page_at (pages_of content) root) (inode_at (pages_of content) root) changes blocks → PutsAll content 6 root new blocks before after → PutsInodes content root new changes before after
 puts-inodes content root new changes blocks before after are puts =
-    let inodes : Inodes = inodes_with changes (inode_at (pages_of content) root) in
+    let inodes : InodeMap = inodes_with changes (inode_at (pages_of content) root) in
     let fits : AllFit inodes = fits-inodes_with changes (inode_at (pages_of content) root) are.fits (fits-read (pages_of content) root) in
     let become : (i : ℕ) → page_at (with_births after.births (pages_of content)) new i ≡ block_for (in_block inodes i) = λ i. puts.blocks i ∙ are.become i in
     record {

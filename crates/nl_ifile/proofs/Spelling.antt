@@ -42,7 +42,7 @@ inode-option_map kind size (Some r) i e =
     let same : made ≡ i = cc in
     (ap (λ (x : Inode). x.size) (sym same), ap (λ (x : Inode). Some x.root) same)
 
-inode_at-fits : (kind : InodeKind) (bytes : List ℕ) (i : Inode) → layout.inode_at kind bytes ≡ Some (InUse i) → inode_bytes i ≡ bytes → InodeFits i
+inode_at-fits : (kind : InodeKind) (bytes : List ℕ) (i : Inode) → layout.used_entry_at kind bytes ≡ Some (InUse i) → inode_bytes i ≡ bytes → InodeFits i
 inode_at-fits kind bytes i e spelling =
     let parts = inode-option_map kind (little_number 8 (drop 8 bytes)) (root_at (slice_index bytes 1) (little_number 8 (drop 16 bytes))) i e in
     let size : little_number 8 (drop 8 (inode_bytes i)) < 2 ^ 64 = number_fits i.size (little_bytes 8 (root_number i.root) ++ replicate 104 0) in

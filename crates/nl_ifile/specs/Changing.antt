@@ -9,10 +9,10 @@ use Rattle.nl_blocktree.specs.Changed.{IndexesAreInRange, IndexesAscend, blocks_
 use Rattle.nl_blocktree.specs.Putting.{PutsAll, pages_after}
 use Rattle.nl_layout.specs.Inode.{EntryFits}
 use Rattle.nl_ifile.specs.declared.change.InodeChange.{InodeChange}
-use Rattle.nl_ifile.specs.Inodes.{Inodes, IsInodeFile, block_for, entry_for, in_block, inode_at}
+use Rattle.nl_ifile.specs.Inodes.{InodeMap, IsInodeFile, block_for, entry_for, in_block, inode_at}
 
 -- each change gives its number its inode, or frees the number
-abbrev pub inodes_with : List InodeChange → Inodes → Inodes
+abbrev pub inodes_with : List InodeChange → InodeMap → InodeMap
 inodes_with [] inodes n = inodes n
 inodes_with (c ∷ changes) inodes n = if n == c.number then c.inode else inodes_with changes inodes n
 
@@ -35,7 +35,7 @@ pub record PutsInodes (content : Content) (root new : Root) (changes : List Inod
 -- ---- on the way
 
 -- changes of blocks that changes of inodes are: each block becomes the one of the changed inodes
-pub record AreBlockChanges (old : Blocks) (inodes : Inodes) (changes : List InodeChange)
+pub record AreBlockChanges (old : Blocks) (inodes : InodeMap) (changes : List InodeChange)
     (blocks : List BlockChange) : Type 0 where
   pub ascending : IndexesAscend blocks
   pub in_range : IndexesAreInRange blocks
@@ -43,7 +43,7 @@ pub record AreBlockChanges (old : Blocks) (inodes : Inodes) (changes : List Inod
   pub fits : All (λ c. EntryFits (entry_for c.inode)) changes
 
 -- the same of the first changes, where none of the others is in a block that they touch
-pub record AreFirstBlockChanges (old : Blocks) (inodes : Inodes) (changes : List InodeChange) (count : ℕ)
+pub record AreFirstBlockChanges (old : Blocks) (inodes : InodeMap) (changes : List InodeChange) (count : ℕ)
     (blocks : List BlockChange) : Type 0 where
   pub within : count ≤ length changes
   pub blocks_are : AreBlockChanges old inodes (take count changes) blocks

@@ -2,21 +2,21 @@
 use Rattle.std.specs.Prelude.{◌≡◌, ℕ, ◌+◌, ◌*◌, ◌/◌, ◌%◌, ◌≤◌, ◌<◌, ◌==◌, if◌then◌else◌, List, [], ◌∷◌, IsSome, Option, None, Some}
 use Rattle.std.specs.Option.{option_and_then}
 use Rattle.nl_ifile.specs.declared.change.InodeChange.{InodeChange}
-use Rattle.nl_ifile.specs.Inodes.{Inodes, inode_in}
+use Rattle.nl_ifile.specs.Inodes.{InodeMap, inode_in}
 
 -- all numbers from one up to, and without, another are in use
-abbrev pub AreInUseFrom : Inodes → ℕ → ℕ → Type 0
+abbrev pub AreInUseFrom : InodeMap → ℕ → ℕ → Type 0
 AreInUseFrom inodes from end = (n : ℕ) → from ≤ n → n < end → IsSome (inodes n)
 
 -- the lowest number from one on that is free
-pub record IsLowestFreeFrom (inodes : Inodes) (from n : ℕ) : Type 0 where
+pub record IsLowestFreeFrom (inodes : InodeMap) (from n : ℕ) : Type 0 where
   pub first : from ≤ n
   pub last : n ≤ 524287
   pub free : inodes n ≡ None
   pub lowest : AreInUseFrom inodes from n
 
 -- what a search from a number finds: the lowest free one, or that none is
-abbrev pub FindsFree : Inodes → ℕ → Option ℕ → Type 0
+abbrev pub FindsFree : InodeMap → ℕ → Option ℕ → Type 0
 FindsFree inodes from None = AreInUseFrom inodes from 524288
 FindsFree inodes from (Some n) = IsLowestFreeFrom inodes from n
 
@@ -27,19 +27,19 @@ abbrev pub block_end : ℕ → ℕ
 block_end n = (n / 8 + 1) * 8
 
 -- the lowest number that is free from this one on, in its block
-pub record IsFreeInBlock (inodes : Inodes) (first n : ℕ) : Type 0 where
+pub record IsFreeInBlock (inodes : InodeMap) (first n : ℕ) : Type 0 where
   pub low : first ≤ n
   pub high : n < block_end first
   pub free : inodes n ≡ None
   pub lowest : AreInUseFrom inodes first n
 
 -- what a search from a number in its block finds
-abbrev pub FindsFreeInBlock : Inodes → ℕ → Option ℕ → Type 0
+abbrev pub FindsFreeInBlock : InodeMap → ℕ → Option ℕ → Type 0
 FindsFreeInBlock inodes first None = AreInUseFrom inodes first (block_end first)
 FindsFreeInBlock inodes first (Some n) = IsFreeInBlock inodes first n
 
 -- the inode that a number has in its block, if that is there
-abbrev pub inode_of_page : Option (List ℕ) → Inodes
+abbrev pub inode_of_page : Option (List ℕ) → InodeMap
 inode_of_page page n = option_and_then (λ bytes. inode_in bytes (n % 8)) page
 
 -- the change of a number, if there is one

@@ -10,8 +10,8 @@ use Rattle.nl_layout.specs.declared.inode.InodeEntry.TheVariants.{Free, InUse}
 use Rattle.nl_layout.specs.Inode.{entry_at, entry_bytes}
 
 -- which inode each number has, if it has one
-abbrev pub Inodes : Type 0
-Inodes = ℕ → Option Inode
+abbrev pub InodeMap : Type 0
+InodeMap = ℕ → Option Inode
 
 -- ---- reading
 
@@ -29,7 +29,7 @@ abbrev pub inode_in : List ℕ → ℕ → Option Inode
 inode_in page place = inode_spelled (take 128 (drop (128 * place) page))
 
 -- a root as a map from inode number to inode
-abbrev pub inode_at : Pages → Root → Inodes
+abbrev pub inode_at : Pages → Root → InodeMap
 inode_at pages root n = option_and_then (λ page. inode_in page (n % 8)) (page_at pages root (n / 8))
 
 -- ---- blocks as they have to be
@@ -42,7 +42,7 @@ abbrev pub block_places : List ℕ
 block_places = 0 ∷ 1 ∷ 2 ∷ 3 ∷ 4 ∷ 5 ∷ 6 ∷ 7 ∷ []
 
 -- the eight inodes of a block
-abbrev pub in_block : Inodes → ℕ → ℕ → Option Inode
+abbrev pub in_block : InodeMap → ℕ → ℕ → Option Inode
 in_block inodes i place = inodes (8 * i + place)
 
 -- the bytes of a block: eight entries

@@ -5,7 +5,7 @@ ghost use Rattle.nl_layout.specs.Root.{root_of};
 ghost use Rattle.nl_layout.specs.Inode.{EntryFits};
 ghost use Rattle.nl_layout.specs.declared.inode.Inode.{Inode};
 ghost use Rattle.nl_ifile.specs.declared.change.InodeChange.{InodeChange};
-ghost use Rattle.nl_ifile.specs.Inodes.{Inodes, IsInodeFile, block_bytes, block_for, entry_for, in_block, inode_at, with_inode};
+ghost use Rattle.nl_ifile.specs.Inodes.{InodeMap, IsInodeFile, block_bytes, block_for, entry_for, in_block, inode_at, with_inode};
 ghost use Rattle.nl_ifile.specs.Changing.{NumbersAscend, AreBlockChanges, NumbersAreInRange, inodes_with};
 
 use crate::change::InodeChange;
@@ -108,7 +108,7 @@ fn old_bytes<V: VRead>(cursor: &mut Cursor<'_, V>, index: u64) -> [u8; BLOCK_SIZ
 /// Writes each changed inode to its place in a block.
 fn write_inodes(bytes: &mut [u8; BLOCK_SIZE], changes: &[InodeChange])
     requires ascending { NumbersAscend changes.now }
-    ensures written { (inodes : Inodes) (index : ℕ) → All (λ c. c.number / 8 ≡ index) changes.now →
+    ensures written { (inodes : InodeMap) (index : ℕ) → All (λ c. c.number / 8 ≡ index) changes.now →
         bytes.old ≡ block_bytes (in_block inodes index) →
         bytes.new ≡ block_bytes (in_block (inodes_with changes.now inodes) index) }
     ensures fits { All (λ c. EntryFits (entry_for c.inode)) changes.now }

@@ -11,7 +11,7 @@ use Rattle.nl_layout.specs.declared.inode.InodeKind.{InodeKind}
 use Rattle.nl_layout.specs.declared.inode.InodeKind.TheVariants.{File, Directory, InodeFile}
 use Rattle.nl_layout.specs.declared.inode.InodeEntry.{InodeEntry}
 use Rattle.nl_layout.specs.declared.inode.InodeEntry.TheVariants.{Free, InUse}
-use Rattle.nl_layout.specs.Inode.{Spells, EntryFits, entry_bytes, entry_at, inode_at, inode_bytes, root_at, root_code, root_number}
+use Rattle.nl_layout.specs.Inode.{Spells, EntryFits, entry_bytes, entry_at, used_entry_at, inode_bytes, root_at, root_code, root_number}
 
 root_at-written : (root : Root) (number : ℕ) → number ≡ root_number root → root_at (root_code root) number ≡ Some root
 root_at-written Empty number is = refl
@@ -20,7 +20,7 @@ root_at-written (Chain first) number is = ap (λ (n : ℕ). Some (Chain n)) is
 inode : InodeKind → Root → ℕ → Inode
 inode kind root size = record { kind = kind; root = root; size = size }
 
-inode_at-written : (kind : InodeKind) (root : Root) (size : ℕ) → size < 2 ^ 64 → root_number root < 2 ^ 64 → inode_at kind (inode_bytes (inode kind root size)) ≡ Some (InUse (inode kind root size))
+inode_at-written : (kind : InodeKind) (root : Root) (size : ℕ) → size < 2 ^ 64 → root_number root < 2 ^ 64 → used_entry_at kind (inode_bytes (inode kind root size)) ≡ Some (InUse (inode kind root size))
 unfolding inode
 inode_at-written kind root size low lower =
     let bytes : List ℕ = inode_bytes (record { kind = kind; root = root; size = size }) in

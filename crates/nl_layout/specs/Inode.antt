@@ -12,10 +12,10 @@ use Rattle.nl_layout.specs.declared.inode.InodeEntry.TheVariants.{Free, InUse}
 
 -- ---- writing
 
-abbrev pub kind_code : InodeKind → ℕ
-kind_code File = 1
-kind_code Directory = 2
-kind_code InodeFile = 3
+abbrev pub inode_kind_code : InodeKind → ℕ
+inode_kind_code File = 1
+inode_kind_code Directory = 2
+inode_kind_code InodeFile = 3
 
 abbrev pub root_code : Root → ℕ
 root_code Empty = 0
@@ -28,7 +28,7 @@ root_number (Chain first) = first
 
 -- the kind, the root's kind, 6 zeros, the size and the root's number, and 104 zeros
 abbrev pub inode_bytes : Inode → List ℕ
-inode_bytes inode = kind_code inode.kind ∷ root_code inode.root ∷ replicate 6 0 ++ little_bytes 8 inode.size ++ little_bytes 8 (root_number inode.root) ++ replicate 104 0
+inode_bytes inode = inode_kind_code inode.kind ∷ root_code inode.root ∷ replicate 6 0 ++ little_bytes 8 inode.size ++ little_bytes 8 (root_number inode.root) ++ replicate 104 0
 
 abbrev pub entry_bytes : InodeEntry → List ℕ
 entry_bytes Free = replicate 128 0
@@ -55,14 +55,14 @@ root_at zero number = Some Empty
 root_at (suc zero) number = Some (Chain number)
 root_at (suc (suc kind)) number = None
 
-abbrev pub inode_at : InodeKind → List ℕ → Option InodeEntry
-inode_at kind bytes = option_map (λ root. InUse (record { kind = kind; root = root; size = little_number 8 (drop 8 bytes) })) (root_at (slice_index bytes 1) (little_number 8 (drop 16 bytes)))
+abbrev pub used_entry_at : InodeKind → List ℕ → Option InodeEntry
+used_entry_at kind bytes = option_map (λ root. InUse (record { kind = kind; root = root; size = little_number 8 (drop 8 bytes) })) (root_at (slice_index bytes 1) (little_number 8 (drop 16 bytes)))
 
 abbrev pub entry_with : ℕ → List ℕ → Option InodeEntry
 entry_with zero bytes = Some Free
-entry_with (suc zero) bytes = inode_at File bytes
-entry_with (suc (suc zero)) bytes = inode_at Directory bytes
-entry_with (suc (suc (suc zero))) bytes = inode_at InodeFile bytes
+entry_with (suc zero) bytes = used_entry_at File bytes
+entry_with (suc (suc zero)) bytes = used_entry_at Directory bytes
+entry_with (suc (suc (suc zero))) bytes = used_entry_at InodeFile bytes
 entry_with (suc (suc (suc (suc code)))) bytes = None
 
 abbrev pub entry_at : List ℕ → Option InodeEntry

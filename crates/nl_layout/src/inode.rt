@@ -85,10 +85,10 @@ impl Inode {
 }
 
 impl InodeKind {
-    ghost use Rattle.nl_layout.specs.Inode.{kind_code};
+    ghost use Rattle.nl_layout.specs.Inode.{inode_kind_code};
 
     fn code(self) -> u8
-        ensures { result ≡ kind_code self }
+        ensures { result ≡ inode_kind_code self }
     {
         match self {
             InodeKind::File => 1,

@@ -2,7 +2,7 @@
 ghost use Rattle.std.specs.Prelude.{◌≡◌, []};
 ghost use Rattle.nl_types.specs.declared.reply.Node.TheVariants.{File};
 ghost use Rattle.nl_types.specs.Paths.{path_of};
-ghost use Rattle.nl_types.specs.Calls.{IsUnlessMemory, after, create, mkdir, write, truncate, change, is_dirtying, read, reply_to};
+ghost use Rattle.nl_types.specs.Calls.{IsUnlessMemory, and_then, create, mkdir, write, truncate, change, is_dirtying, read, reply_to};
 
 use crate::bytes::{part, with_over, with_size};
 use crate::path::{Name, Path, parse};
@@ -36,7 +36,7 @@ fn create_node(alloc: Global, entries: &[(Path, Node)], node: &Node, path: &[Nam
 /// Makes an empty file, by the rules of POSIX's `open` with `O_CREAT` and `O_EXCL`: `Exists` where
 /// something stands, `TooBig` where the volume has its most paths.
 pub fn create(alloc: Global, entries: &[(Path, Node)], path: &[u8]) -> Changed
-    ensures { IsUnlessMemory result (after (path_of path.now) (create entries.now (File []))) }
+    ensures { IsUnlessMemory result (and_then (path_of path.now) (create entries.now (File []))) }
 {
     let path = parse(alloc, path)?;
     let empty = Node::File(Items::new(alloc));
@@ -45,7 +45,7 @@ pub fn create(alloc: Global, entries: &[(Path, Node)], path: &[u8]) -> Changed
 
 /// Makes an empty directory, by the rules of POSIX's `mkdir`. Refused as a create is.
 pub fn mkdir(alloc: Global, entries: &[(Path, Node)], path: &[u8]) -> Changed
-    ensures { IsUnlessMemory result (after (path_of path.now) (mkdir entries.now)) }
+    ensures { IsUnlessMemory result (and_then (path_of path.now) (mkdir entries.now)) }
 {
     let path = parse(alloc, path)?;
     create_node(alloc, entries, &Node::Dir, path.as_slice())
@@ -85,7 +85,7 @@ pub fn write(
     offset: u64,
     new: &[u8],
 ) -> Changed
-    ensures { IsUnlessMemory result (after (path_of path.now) (write entries.now offset new.now)) }
+    ensures { IsUnlessMemory result (and_then (path_of path.now) (write entries.now offset new.now)) }
 {
     let path = parse(alloc, path)?;
     write_bytes(alloc, entries, offset, new, path.as_slice())
@@ -105,7 +105,7 @@ fn truncate_file(alloc: Global, entries: &[(Path, Node)], size: u64, path: &[Nam
 /// Sets where a file ends, by the rules of POSIX's `truncate`: bytes past a shorter end are gone,
 /// and a longer one shows zeros. `IsDir` where a directory stands, `TooBig` past the limit.
 pub fn truncate(alloc: Global, entries: &[(Path, Node)], path: &[u8], size: u64) -> Changed
-    ensures { IsUnlessMemory result (after (path_of path.now) (truncate entries.now size)) }
+    ensures { IsUnlessMemory result (and_then (path_of path.now) (truncate entries.now size)) }
 {
     let path = parse(alloc, path)?;
     truncate_file(alloc, entries, size, path.as_slice())
@@ -128,7 +128,7 @@ fn read_bytes(
 /// At most `len` bytes from an offset on, by the rules of POSIX's `pread`: there are none at and
 /// past the end. `IsDir` where a directory stands.
 pub fn read(alloc: Global, entries: &[(Path, Node)], path: &[u8], offset: u64, len: u64) -> Reply
-    ensures { IsUnlessMemory result (after (path_of path.now) (read entries.now offset len)) }
+    ensures { IsUnlessMemory result (and_then (path_of path.now) (read entries.now offset len)) }
 {
     let path = parse(alloc, path)?;
     read_bytes(alloc, entries, offset, len, path.as_slice())

@@ -2,7 +2,7 @@
 ghost use Rattle.std.specs.Prelude.{◌≡◌};
 ghost use Rattle.nl_types.specs.Paths.{path_of};
 ghost use Rattle.nl_types.specs.Trees.{lookup};
-ghost use Rattle.nl_types.specs.Calls.{IsUnlessMemory, after, unlink, rmdir, may_replace, rename, list, stat};
+ghost use Rattle.nl_types.specs.Calls.{IsUnlessMemory, and_then, unlink, rmdir, may_replace, rename, list, stat};
 
 use crate::calls::Changed;
 use crate::path::{Name, Path, begins_with, compare, parse};
@@ -13,7 +13,7 @@ use std::alloc::Global;
 
 /// Removes a file, by the rules of POSIX's `unlink`. `IsDir` where a directory stands.
 pub fn unlink(alloc: Global, entries: &[(Path, Node)], path: &[u8]) -> Changed
-    ensures { IsUnlessMemory result (after (path_of path.now) (unlink entries.now)) }
+    ensures { IsUnlessMemory result (and_then (path_of path.now) (unlink entries.now)) }
 {
     let path = parse(alloc, path)?;
     file(alloc, entries, path.as_slice())?;
@@ -36,7 +36,7 @@ fn remove_dir(alloc: Global, entries: &[(Path, Node)], path: &[Name]) -> Changed
 /// Removes an empty directory, by the rules of POSIX's `rmdir`. `BadPath` for the root, `NotDir`
 /// where a file stands, `NotEmpty` where there are names in it.
 pub fn rmdir(alloc: Global, entries: &[(Path, Node)], path: &[u8]) -> Changed
-    ensures { IsUnlessMemory result (after (path_of path.now) (rmdir entries.now)) }
+    ensures { IsUnlessMemory result (and_then (path_of path.now) (rmdir entries.now)) }
 {
     let path = parse(alloc, path)?;
     remove_dir(alloc, entries, path.as_slice())
@@ -91,7 +91,8 @@ fn move_node(alloc: Global, entries: &[(Path, Node)], from: &[Name], to: &[Name]
 /// itself, `IsDir` and `NotDir` where the target is of the other kind, `NotEmpty` where it is a
 /// directory with names in it.
 pub fn rename(alloc: Global, entries: &[(Path, Node)], from: &[u8], to: &[u8]) -> Changed
-    ensures { IsUnlessMemory result (after (path_of from.now) (λ f. after (path_of to.now) (rename entries.now f))) }
+    ensures { IsUnlessMemory result
+        (and_then (path_of from.now) (λ f. and_then (path_of to.now) (rename entries.now f))) }
 {
     let from = parse(alloc, from)?;
     let to = parse(alloc, to)?;
@@ -101,7 +102,7 @@ pub fn rename(alloc: Global, entries: &[(Path, Node)], from: &[u8], to: &[u8]) -
 /// The names in a directory with their kinds, ascending by bytes, without `.` and `..`, which
 /// POSIX's `readdir` may give. `NotDir` where a file stands.
 pub fn list(alloc: Global, entries: &[(Path, Node)], path: &[u8]) -> Result<Items<Named>, VolError>
-    ensures { IsUnlessMemory result (after (path_of path.now) (list entries.now)) }
+    ensures { IsUnlessMemory result (and_then (path_of path.now) (list entries.now)) }
 {
     let path = parse(alloc, path)?;
     expect_dir(alloc, entries, path.as_slice())?;
@@ -110,7 +111,7 @@ pub fn list(alloc: Global, entries: &[(Path, Node)], path: &[u8]) -> Result<Item
 
 /// The size of a file, or the number of names in a directory, after POSIX's `stat`.
 pub fn stat(alloc: Global, entries: &[(Path, Node)], path: &[u8]) -> Result<Stat, VolError>
-    ensures { IsUnlessMemory result (after (path_of path.now) (stat entries.now)) }
+    ensures { IsUnlessMemory result (and_then (path_of path.now) (stat entries.now)) }
 {
     let path = parse(alloc, path)?;
     match node(alloc, entries, path.as_slice())? {

@@ -1,7 +1,7 @@
 //! A tree as the list of its entries in order.
 ghost use Rattle.std.specs.Prelude.{◌≡◌, ◌≤◌, ◌∷◌, ◌++◌, map, length, OnOk, IfOk};
 ghost use Rattle.std.specs.Option.{option_copied};
-ghost use Rattle.nl_types.specs.Trees.{lookup, insert, remove, root_alone, name_below, kind_of, children, moved_path, move_subtree};
+ghost use Rattle.nl_types.specs.Trees.{lookup, insert, remove, root_alone, name_below, node_kind, children, moved_path, move_subtree};
 ghost use Rattle.nl_types.specs.Calls.{named};
 
 use crate::path::{Name, Path, begins_with, compare, is_same_name};
@@ -61,7 +61,7 @@ fn name_in<'a>(dir: &[Name], path: &'a [Name]) -> Option<&'a Name>
 }
 
 fn kind(node: &Node) -> Kind
-    ensures { result ≡ kind_of node.now }
+    ensures { result ≡ node_kind node.now }
 {
     match node {
         Node::Dir => Kind::Directory,

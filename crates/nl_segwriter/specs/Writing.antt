@@ -14,8 +14,8 @@ use Rattle.nl_segwriter.specs.Staging.{logs_of, whole_of}
 abbrev pub held_in : List (Option Payload) → Held
 held_in table b = slice_index_or table b None
 
-abbrev pub content_of : Segments → List (Option Payload) → DevicePages → SpaceContent
-content_of segments table pages = record { segments = segments; held = held_in table; stored = pages }
+abbrev pub space_content : Segments → List (Option Payload) → DevicePages → SpaceContent
+space_content segments table pages = record { segments = segments; held = held_in table; stored = pages }
 
 -- the pages stand at the numbers from the first on, and all other blocks stay
 pub record HasPut (first : ℕ) (pages : List (List ℕ)) (old new : DevicePages) : Type 0 where

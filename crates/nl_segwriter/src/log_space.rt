@@ -9,7 +9,7 @@ ghost use Rattle.nl_segwriter.specs.Content.{HoldsOnlyUsed, KeepsUsed, new_conte
 ghost use Rattle.nl_segwriter.specs.Logs.{AreWholeLogs, HaveLogs, StandsFrom};
 ghost use Rattle.nl_segwriter.specs.Appended.{KeepsOtherBlocks};
 ghost use Rattle.nl_segwriter.specs.Staging.{IsReady, logs_of, whole_of};
-ghost use Rattle.nl_segwriter.specs.Writing.{held_in, content_of, SameOutsideLog, MayBeTaken, StagedStands, LogsStand, BreaksOff};
+ghost use Rattle.nl_segwriter.specs.Writing.{held_in, space_content, SameOutsideLog, MayBeTaken, StagedStands, LogsStand, BreaksOff};
 
 use crate::numbers::numbers_of;
 use crate::payload::{Payload, drop_row, hold_row, no_payload};
@@ -31,16 +31,17 @@ pub struct LogSpace<D: Device> {
     ghost segment_count: { length table.each ≡ (D.shape device).segments },
     ghost limits: { IsSegTable table } by { Prim.hlevel props },
     ghost sized: { length payload ≡ (D.shape device).segments * (D.shape device).blocks },
-    ghost unheld: { HoldsOnlyUsed (content_of table payload (D.pages device)) },
+    ghost unheld: { HoldsOnlyUsed (space_content table payload (D.pages device)) },
     ghost logged: { HaveLogs table },
-    ghost whole: { AreWholeLogs (content_of table payload (D.pages device)) },
+    ghost whole: { AreWholeLogs (space_content table payload (D.pages device)) },
 }
 
 impl<D: Device> LogSpace<D> {
     /// A space of clean segments on a device of this geometry. Refused by `Memory` alone; the device is dropped then.
     pub fn new(alloc: Global, device: D, geometry: Geometry) -> Result<Self, VolError>
         requires { D.shape device ≡ geometry }
-        ensures content { IfOk result (λ s. ⟦<LogSpace<D> as Space>⟧.content s ≡ new_content geometry (D.pages device)) }
+        ensures content { IfOk result (λ s.
+            ⟦<LogSpace<D> as Space>⟧.content s ≡ new_content geometry (D.pages device)) }
         ensures failures { IfOk result (λ s. ⟦<LogSpace<D> as Space>⟧.failure_count s ≡ D.failure_count device) }
         ensures refused { IsOkUnless result VolError.Memory }
     {
@@ -58,11 +59,13 @@ impl<D: Device> LogSpace<D> {
         requires next { IsNextLog self.old.table staged.log }
         requires ready { IsReady staged }
         ensures table { OnOk result (self.new.table ≡ with_log self.old.table staged.log staged.stamp) }
-        ensures stands { OnOk result (StagedStands self.old.table.blocks staged (⟦<Self as Space>⟧.content self.new)) }
+        ensures stands { OnOk result (StagedStands self.old.table.blocks staged
+            (⟦<Self as Space>⟧.content self.new)) }
         ensures broken { OnErr result (self.new.table ≡ with_error self.old.table staged.log.segment) }
         ensures failed { OnErr result (D.failure_count self.old.device < D.failure_count self.new.device) }
         ensures counted { D.failure_count self.old.device ≤ D.failure_count self.new.device }
-        ensures others { SameOutsideLog self.old.table.blocks staged.log (⟦<Self as Space>⟧.content self.old) (⟦<Self as Space>⟧.content self.new) }
+        ensures others { SameOutsideLog self.old.table.blocks staged.log
+            (⟦<Self as Space>⟧.content self.old) (⟦<Self as Space>⟧.content self.new) }
     {
         let Staged {
             log,
@@ -96,12 +99,16 @@ impl<D: Device> LogSpace<D> {
         requires ready { AllByRecursion IsReady all.items }
         requires stamps { AllByRecursion (λ x. x.stamp ≡ now) all.items }
         ensures table { OnOk result (self.new.table ≡ with_logs self.old.table (logs_of all.items) now) }
-        ensures stand { OnOk result (LogsStand self.old.table.blocks all.items (held_in self.new.payload) (D.pages self.new.device)) }
-        ensures broken { OnErr result (BreaksOff now all.items (⟦<Self as Space>⟧.content self.old) (⟦<Self as Space>⟧.content self.new)) }
+        ensures stand { OnOk result (LogsStand self.old.table.blocks all.items
+            (held_in self.new.payload) (D.pages self.new.device)) }
+        ensures broken { OnErr result (BreaksOff now all.items
+            (⟦<Self as Space>⟧.content self.old) (⟦<Self as Space>⟧.content self.new)) }
         ensures failed { OnErr result (D.failure_count self.old.device < D.failure_count self.new.device) }
         ensures counted { D.failure_count self.old.device ≤ D.failure_count self.new.device }
-        ensures others { KeepsOtherBlocks self.old.table.blocks (logs_of all.items) (⟦<Self as Space>⟧.content self.old) (⟦<Self as Space>⟧.content self.new) }
-        ensures kept { KeepsUsed self.old.table (⟦<Self as Space>⟧.content self.old) (⟦<Self as Space>⟧.content self.new) }
+        ensures others { KeepsOtherBlocks self.old.table.blocks (logs_of all.items)
+            (⟦<Self as Space>⟧.content self.old) (⟦<Self as Space>⟧.content self.new) }
+        ensures kept { KeepsUsed self.old.table
+            (⟦<Self as Space>⟧.content self.old) (⟦<Self as Space>⟧.content self.new) }
         ensures stays { StaysUsed self.old.table self.new.table }
     {
         for staged in all {
@@ -134,7 +141,7 @@ fn used_of(table: &SegTable, segment: Segment) -> u32
 }
 
 impl<D: Device> Space for LogSpace<D> {
-    ghost content = { λ s. content_of s.table s.payload (D.pages s.device) };
+    ghost content = { λ s. space_content s.table s.payload (D.pages s.device) };
 
     ghost failure_count = { λ s. D.failure_count s.device };
 

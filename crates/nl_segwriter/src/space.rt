@@ -37,7 +37,8 @@ pub trait Space: Drop {
         now: u64,
         reserve: bool,
     ) -> Result<Vec<BlockNumber>, VolError>
-        ensures appended { IfOk result (λ numbers. IsAppended (content self.old) (content self.new) reserve now checkpoint items.now numbers.items) }
+        ensures appended { IfOk result (λ numbers. IsAppended (content self.old) (content self.new)
+            reserve now checkpoint items.now numbers.items) }
 
         // Whatever comes of it, what is used stays.
         ensures kept { KeepsUsed (content self.old).segments (content self.old) (content self.new) }
@@ -45,8 +46,10 @@ pub trait Space: Drop {
         ensures counted { failure_count self.old ≤ failure_count self.new }
 
         ensures fault { IsErrOf result VolError.Fault → failure_count self.old < failure_count self.new }
-        ensures broken_off { IsErrOf result VolError.Fault → IsBrokenOff (content self.old) (content self.new) reserve now checkpoint items.now }
-        ensures no_space { IsErrOf result VolError.NoSpace → LacksSpace (content self.old).segments reserve (length items.now) }
+        ensures broken_off { IsErrOf result VolError.Fault
+            → IsBrokenOff (content self.old) (content self.new) reserve now checkpoint items.now }
+        ensures no_space { IsErrOf result VolError.NoSpace
+            → LacksSpace (content self.old).segments reserve (length items.now) }
         ensures no_space_same { IsErrOf result VolError.NoSpace → self.new ≡ self.old }
         ensures memory_same { IsErrOf result VolError.Memory → self.new ≡ self.old }
         ensures errors { IfErr result IsAppendError };

@@ -43,7 +43,8 @@ fn summary_page(
 ) -> Result<Page, AllocError>
     requires some { 1 ≤ length items.now }
     requires most { length items.now ≤ 30 }
-    ensures { IfOk result (λ page. Spells page (record { stamp = stamp; checkpoint = checkpoint; tags = map payload_tag items.now })) }
+    ensures { IfOk result (λ page.
+        Spells page (record { stamp = stamp; checkpoint = checkpoint; tags = map payload_tag items.now })) }
 {
     let tags = tags_of(alloc, items)?;
     let mut bytes = [0; BLOCK_SIZE];

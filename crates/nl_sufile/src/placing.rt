@@ -30,7 +30,8 @@ fn next_place(
     free: &[Segment],
 ) -> Option<(Position, &[Segment])>
     requires { IfSome left (λ place. place.block ≤ 4096) }
-    ensures { MatchOption result (IsNowhere blocks left free.now) (λ next. IsNext (has_room blocks left) blocks left free.now next.0 next.1.now) }
+    ensures { MatchOption result (IsNowhere blocks left free.now)
+        (λ next. IsNext (has_room blocks left) blocks left free.now next.0 next.1.now) }
 {
     if let Some(place) = left
         && place.block + 2 <= blocks

@@ -27,7 +27,8 @@ impl Model for SegTable {
 
     ghost view = { λ table. record { blocks = table.blocks; each = table.each } };
 
-    ghost invariant = { λ table. IsSegTable (record { blocks = table.blocks; each = table.each }) × IsActiveIn table.each table.active };
+    ghost invariant = { λ table. IsSegTable (record { blocks = table.blocks; each = table.each })
+        × IsActiveIn table.each table.active };
 }
 
 /// How many segments there are, and of them how many are clean, and how many dirty. An active segment and one in error
@@ -238,7 +239,8 @@ fn make_active(
 )
     requires segment { segment < length each.old }
     requires active { IsActiveIn each.old active }
-    ensures { each.new ≡ slice_set (none_active each.old) segment (record { state = Active; stamp = stamp; used = used }) }
+    ensures { each.new ≡ slice_set (none_active each.old) segment
+        (record { state = Active; stamp = stamp; used = used }) }
 {
     rest_active(each, active);
     let state = SegmentState::Active;

@@ -162,7 +162,8 @@ fn numbers_at<S: Space>(
     segment: Segment,
     blocks: &[u32],
 ) -> Result<Vec<VirtualNumber>, VolError>
-    ensures { IfOk result (λ numbers. All (λ v. is_inside dat.now.segments segment (address_in dat.now v) ≡ true) numbers.items) }
+    ensures { IfOk result (λ numbers.
+        All (λ v. is_inside dat.now.segments segment (address_in dat.now v) ≡ true) numbers.items) }
 {
     let mut numbers = Vec::new(alloc);
     for block in blocks {

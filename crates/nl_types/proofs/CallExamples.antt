@@ -10,7 +10,7 @@ use Rattle.nl_types.specs.declared.reply.Node.TheVariants.{File}
 use Rattle.nl_types.specs.declared.reply.Stat.TheVariants as status
 use Rattle.nl_types.specs.Paths.{Path, path_of}
 use Rattle.nl_types.specs.Trees.{Tree, root_alone}
-use Rattle.nl_types.specs.Calls.{Changed, after, tree_after, create, mkdir, write, overwritten, truncate, unlink, rmdir, rename, read, list, stat, named}
+use Rattle.nl_types.specs.Calls.{Changed, and_then, tree_after, create, mkdir, write, overwritten, truncate, unlink, rmdir, rename, read, list, stat, named}
 use Rattle.nl_types.proofs.FileSizes.{written_sizes}
 
 -- ---- calls on the paths that bytes spell
@@ -19,7 +19,7 @@ abbrev Call : Type 0
 Call = Tree → Changed
 
 abbrev at : {A : Type 0} → List ℕ → (Path → Result A VolError) → Result A VolError
-at path call = after (path_of path) call
+at path call = and_then (path_of path) call
 
 abbrev making : List ℕ → Call
 making path tree = at path (create tree (File []))
@@ -55,7 +55,7 @@ done calls = from root_alone calls
 
 -- what a call answers
 abbrev reply : Changed → Result Answer VolError
-reply changed = after changed (λ made. Ok made.0)
+reply changed = and_then changed (λ made. Ok made.0)
 
 -- ---- files
 

@@ -11,10 +11,10 @@ use Rattle.nl_types.specs.declared.reply.Node.TheVariants.{File}
 use Rattle.nl_types.specs.Limits.{file_limit, path_limit}
 use Rattle.nl_types.specs.Paths.{Path, path_cmp, same_path, is_within}
 use Rattle.nl_types.specs.Trees.{Tree, lookup, insert, remove, move_subtree}
-use Rattle.nl_types.specs.Calls.{Changed, after, refuse_if, tree_after, walk, node_at, file_at, dir_at, create, write, overwritten, resized, truncate, unlink, rmdir, has_names, is_root, is_dir, is_above, may_replace, rename}
+use Rattle.nl_types.specs.Calls.{Changed, and_then, refuse_if, tree_after, walk, node_at, file_at, dir_at, create, write, overwritten, resized, truncate, unlink, rmdir, has_names, is_root, is_dir, is_above, may_replace, rename}
 use Rattle.nl_types.specs.CallLaws.{CreatesAddOne, WritesChangeOne, EmptyWritesStay, TruncatesChangeOne, UnlinksRemoveOne, RmdirsRemoveOne, RenamesMoveSubtree, RenamedIsBelow, RenamesOntoThemselvesStay, SameLookupsAreOneTree, IsDone, CallsAnswerDone}
 use Rattle.nl_types.proofs.TreeLaws.{path_total, paths_equal, same_path-equal, lookup-insert}
-use Rattle.nl_types.proofs.Judgements.{Leaves, after_then, after_any, refuse_if_then, file_at_is}
+use Rattle.nl_types.proofs.Judgements.{Leaves, and_then_holds, and_then_any, refuse_if_then, file_at_is}
 use Rattle.nl_types.proofs.Lookups.{same_path-itself, is_within-append, lookup-remove}
 use Rattle.nl_types.proofs.Renames.{rename_then, lookup-after, drop-append}
 use Rattle.nl_types.proofs.Booleans.{holds}
@@ -24,7 +24,7 @@ use Rattle.nl_types.proofs.Booleans.{holds}
 pub creates_add_one : CreatesAddOne
 creates_add_one tree node path =
     let made : Changed = Ok (answer.Done, insert tree path node) in
-    after_any _ (walk tree path) _ (λ _.
+    and_then_any _ (walk tree path) _ (λ _.
     refuse_if_then _ (is_some (lookup tree path)) error.Exists _ (λ _.
     refuse_if_then _ (nat_lt path_limit (length tree)) error.TooBig made (λ _. lookup-insert tree path node)))
 
@@ -34,7 +34,7 @@ same_file o bytes old found file = let same : File bytes ≡ File old = same_Som
 
 pub writes_change_one : WritesChangeOne
 writes_change_one tree offset new old path some file =
-    after_then _ _ (file_at tree path) _ (file_at_is tree path) (λ bytes found.
+    and_then_holds _ _ (file_at tree path) _ (file_at_is tree path) (λ bytes found.
     let made : Changed = Ok (answer.Written (length new), insert tree path (File (overwritten bytes offset new))) in
     elim (length new == 0) as (λ b. (length new == 0) ≡ b → IfOk (cond {A = Changed} b (Ok (answer.Written 0, tree)) (refuse_if (nat_lt file_limit (offset + length new)) error.TooBig made)) (λ done. (q : Path) → lookup done.1 q ≡ cond (same_path q path) (Some (File (overwritten old offset new))) (lookup tree q))) [
       | true ↦ λ none. absurd (omega (arith, some, eqb-true (length new) 0 none))
@@ -46,7 +46,7 @@ writes_change_one tree offset new old path some file =
 
 pub truncates_change_one : TruncatesChangeOne
 truncates_change_one tree size old path file =
-    after_then _ _ (file_at tree path) _ (file_at_is tree path) (λ bytes found.
+    and_then_holds _ _ (file_at tree path) _ (file_at_is tree path) (λ bytes found.
     let made : Changed = Ok (answer.Done, insert tree path (File (resized bytes size))) in
     refuse_if_then _ (nat_lt file_limit size) error.TooBig made (λ _ q.
     lookup-insert tree path (File (resized bytes size)) q
@@ -65,13 +65,13 @@ removes_one : (tree : Tree) (path q : Path) → lookup (remove tree path) q ≡ 
 removes_one tree path q = lookup-remove tree path q ∙ ap (λ b. cond b None (lookup tree q)) (same_path-turned path q)
 
 pub unlinks_remove_one : UnlinksRemoveOne
-unlinks_remove_one tree path = after_any _ (file_at tree path) _ (λ _. removes_one tree path)
+unlinks_remove_one tree path = and_then_any _ (file_at tree path) _ (λ _. removes_one tree path)
 
 pub rmdirs_remove_one : RmdirsRemoveOne
 rmdirs_remove_one tree path =
     let made : Changed = Ok (answer.Done, remove tree path) in
     refuse_if_then _ (is_root path) error.BadPath _ (λ _.
-    after_any _ (dir_at tree path) _ (λ _.
+    and_then_any _ (dir_at tree path) _ (λ _.
     refuse_if_then _ (has_names tree path) error.NotEmpty made (λ _. removes_one tree path)))
 
 -- ---- calls that change nothing
@@ -81,16 +81,16 @@ stays tree (Ok done) same = same
 stays tree (Err e) same = refl
 
 pub empty_writes_stay : EmptyWritesStay
-empty_writes_stay tree offset path = stays tree (write tree offset [] path) (after_any _ (file_at tree path) _ (λ _. refl))
+empty_writes_stay tree offset path = stays tree (write tree offset [] path) (and_then_any _ (file_at tree path) _ (λ _. refl))
 
 pub renames_onto_themselves_stay : RenamesOntoThemselvesStay
 renames_onto_themselves_stay tree path = stays tree (rename tree path path) (
     refuse_if_then (λ done. done.1 ≡ tree) (is_root path || is_root path) error.BadPath _ (λ _.
-    after_any (λ done. done.1 ≡ tree) (node_at tree path) _ (λ node.
+    and_then_any (λ done. done.1 ≡ tree) (node_at tree path) _ (λ node.
     refuse_if_then (λ done. done.1 ≡ tree) (is_dir node && is_above path path) error.IntoItself _ (λ _.
-    after_any (λ done. done.1 ≡ tree) (walk tree path) _ (λ _.
+    and_then_any (λ done. done.1 ≡ tree) (walk tree path) _ (λ _.
     let made : Changed = Ok (answer.Done, move_subtree tree path path) in
-    elim (same_path path path) as (λ b. same_path path path ≡ b → Leaves (λ next. next ≡ tree) (cond {A = Changed} b (Ok (answer.Done, tree)) (after (may_replace tree path node (lookup tree path)) (λ _. made)))) [
+    elim (same_path path path) as (λ b. same_path path path ≡ b → Leaves (λ next. next ≡ tree) (cond {A = Changed} b (Ok (answer.Done, tree)) (and_then (may_replace tree path node (lookup tree path)) (λ _. made)))) [
       | true ↦ λ _. refl
       | false ↦ λ other. absurd (true≢false (sym (same_path-itself path) ∙ other))
     ] refl)))))
@@ -119,36 +119,36 @@ same_lookups_are_one_tree one other t u same = same_entries path_cmp path_total 
 create-done : (tree : Tree) (node : Node) (path : Path) → IsDone (create tree node path)
 create-done tree node path =
     let made : Changed = Ok (answer.Done, insert tree path node) in
-    after_any (λ done. done.0 ≡ answer.Done) (walk tree path) _ (λ _.
+    and_then_any (λ done. done.0 ≡ answer.Done) (walk tree path) _ (λ _.
     refuse_if_then (λ done. done.0 ≡ answer.Done) (is_some (lookup tree path)) error.Exists _ (λ _.
     refuse_if_then (λ done. done.0 ≡ answer.Done) (nat_lt path_limit (length tree)) error.TooBig made (λ _. refl)))
 
 truncate-done : (tree : Tree) (size : ℕ) (path : Path) → IsDone (truncate tree size path)
 truncate-done tree size path =
-    after_any (λ done. done.0 ≡ answer.Done) (file_at tree path) _ (λ bytes.
+    and_then_any (λ done. done.0 ≡ answer.Done) (file_at tree path) _ (λ bytes.
     let made : Changed = Ok (answer.Done, insert tree path (File (resized bytes size))) in
     refuse_if_then (λ done. done.0 ≡ answer.Done) (nat_lt file_limit size) error.TooBig made (λ _. refl))
 
 unlink-done : (tree : Tree) (path : Path) → IsDone (unlink tree path)
-unlink-done tree path = after_any (λ done. done.0 ≡ answer.Done) (file_at tree path) _ (λ _. refl)
+unlink-done tree path = and_then_any (λ done. done.0 ≡ answer.Done) (file_at tree path) _ (λ _. refl)
 
 rmdir-done : (tree : Tree) (path : Path) → IsDone (rmdir tree path)
 rmdir-done tree path =
     let made : Changed = Ok (answer.Done, remove tree path) in
     refuse_if_then (λ done. done.0 ≡ answer.Done) (is_root path) error.BadPath _ (λ _.
-    after_any (λ done. done.0 ≡ answer.Done) (dir_at tree path) _ (λ _.
+    and_then_any (λ done. done.0 ≡ answer.Done) (dir_at tree path) _ (λ _.
     refuse_if_then (λ done. done.0 ≡ answer.Done) (has_names tree path) error.NotEmpty made (λ _. refl)))
 
 rename-done : (tree : Tree) (from to : Path) → IsDone (rename tree from to)
 rename-done tree from to =
     refuse_if_then (λ done. done.0 ≡ answer.Done) (is_root from || is_root to) error.BadPath _ (λ _.
-    after_any (λ done. done.0 ≡ answer.Done) (node_at tree from) _ (λ node.
+    and_then_any (λ done. done.0 ≡ answer.Done) (node_at tree from) _ (λ node.
     refuse_if_then (λ done. done.0 ≡ answer.Done) (is_dir node && is_above from to) error.IntoItself _ (λ _.
-    after_any (λ done. done.0 ≡ answer.Done) (walk tree to) _ (λ _.
+    and_then_any (λ done. done.0 ≡ answer.Done) (walk tree to) _ (λ _.
     let made : Changed = Ok (answer.Done, move_subtree tree from to) in
-    elim (same_path from to) as (λ b. IsDone (cond {A = Changed} b (Ok (answer.Done, tree)) (after (may_replace tree to node (lookup tree to)) (λ _. made)))) [
+    elim (same_path from to) as (λ b. IsDone (cond {A = Changed} b (Ok (answer.Done, tree)) (and_then (may_replace tree to node (lookup tree to)) (λ _. made)))) [
       | true ↦ refl
-      | false ↦ after_any (λ done. done.0 ≡ answer.Done) (may_replace tree to node (lookup tree to)) _ (λ _. refl)
+      | false ↦ and_then_any (λ done. done.0 ≡ answer.Done) (may_replace tree to node (lookup tree to)) _ (λ _. refl)
     ]))))
 
 pub calls_answer_done : CallsAnswerDone

@@ -10,20 +10,20 @@ use Rattle.nl_types.specs.declared.reply.Node.TheVariants.{Dir, File}
 use Rattle.nl_types.specs.Limits.{file_limit}
 use Rattle.nl_types.specs.Paths.{Name, Path, path_of, names_of, is_name}
 use Rattle.nl_types.specs.Trees.{Tree, IsTree, lookup, insert}
-use Rattle.nl_types.specs.Calls.{Changed, after, refuse_if, ok_unless, stops_walk, stop_from, walk, node_at, file_at, file_in, dir_at, dir_in}
+use Rattle.nl_types.specs.Calls.{Changed, and_then, refuse_if, ok_unless, stops_walk, stop_from, walk, node_at, file_at, file_in, dir_at, dir_in}
 use Rattle.nl_types.proofs.TreeLaws.{IsTree-insert}
 
 -- ---- judgements, one after another
 
 -- what the first judgement gives, the next may build on
-pub after_then : {A B : Type 0} (P : A → Type 0) (Q : B → Type 0) (r : Result A VolError) (next : A → Result B VolError) → IfOk r P → ((a : A) → P a → IfOk (next a) Q) → IfOk (after r next) Q
-after_then P Q (Ok a) next found rest = rest a found
-after_then P Q (Err e) next found rest = tt
+pub and_then_holds : {A B : Type 0} (P : A → Type 0) (Q : B → Type 0) (r : Result A VolError) (next : A → Result B VolError) → IfOk r P → ((a : A) → P a → IfOk (next a) Q) → IfOk (and_then r next) Q
+and_then_holds P Q (Ok a) next found rest = rest a found
+and_then_holds P Q (Err e) next found rest = tt
 
 -- the next holds whatever the first judgement gives
-pub after_any : {A B : Type 0} (Q : B → Type 0) (r : Result A VolError) (next : A → Result B VolError) → ((a : A) → IfOk (next a) Q) → IfOk (after r next) Q
-after_any Q (Ok a) next rest = rest a
-after_any Q (Err e) next rest = tt
+pub and_then_any : {A B : Type 0} (Q : B → Type 0) (r : Result A VolError) (next : A → Result B VolError) → ((a : A) → IfOk (next a) Q) → IfOk (and_then r next) Q
+and_then_any Q (Ok a) next rest = rest a
+and_then_any Q (Err e) next rest = tt
 
 -- past a refusal its test has failed
 pub refuse_if_then : {A : Type 0} (Q : A → Type 0) (test : Bool) (e : VolError) (next : Result A VolError) → (test ≡ false → IfOk next Q) → IfOk (refuse_if test e next) Q
@@ -82,11 +82,11 @@ walked tree at (n ∷ names) name is =
 
 -- the node that is answered stands at the path
 pub node_at_is : (tree : Tree) (path : Path) → IfOk (node_at tree path) (λ node. lookup tree path ≡ Some node)
-node_at_is tree path = after_any (λ node. lookup tree path ≡ Some node) (walk tree path) _ (λ _. ok_or_is (lookup tree path) error.NotFound)
+node_at_is tree path = and_then_any (λ node. lookup tree path ≡ Some node) (walk tree path) _ (λ _. ok_or_is (lookup tree path) error.NotFound)
 
 -- the bytes that are answered are those of the file at the path
 pub file_at_is : (tree : Tree) (path : Path) → IfOk (file_at tree path) (λ bytes. lookup tree path ≡ Some (File bytes))
-file_at_is tree path = after_then _ (λ bytes. lookup tree path ≡ Some (File bytes)) (node_at tree path) file_in (node_at_is tree path) by
+file_at_is tree path = and_then_holds _ (λ bytes. lookup tree path ≡ Some (File bytes)) (node_at tree path) file_in (node_at_is tree path) by
   where
     by : (node : Node) → lookup tree path ≡ Some node → IfOk (file_in node) (λ bytes. lookup tree path ≡ Some (File bytes))
     by Dir found = tt
@@ -94,7 +94,7 @@ file_at_is tree path = after_then _ (λ bytes. lookup tree path ≡ Some (File b
 
 -- a directory that is judged to be one is there
 pub dir_at_is : (tree : Tree) (path : Path) → IfOk (dir_at tree path) (λ _. lookup tree path ≡ Some Dir)
-dir_at_is tree path = after_then _ (λ _. lookup tree path ≡ Some Dir) (node_at tree path) dir_in (node_at_is tree path) by
+dir_at_is tree path = and_then_holds _ (λ _. lookup tree path ≡ Some Dir) (node_at tree path) dir_in (node_at_is tree path) by
   where
     by : (node : Node) → lookup tree path ≡ Some node → IfOk (dir_in node) (λ _. lookup tree path ≡ Some Dir)
     by Dir found = found

@@ -14,7 +14,7 @@ use Rattle.nl_types.specs.Calls.{Changed, tree_after, file_at, dir_at, resized, 
 use Rattle.nl_types.specs.CallLaws.{CreatesKeepTrees, MkdirsKeepTrees, WritesKeepTrees, TruncatesKeepTrees, UnlinksKeepTrees, RmdirsKeepTrees, RenamesKeepTrees, RefusalsKeepTree}
 use Rattle.nl_types.proofs.FileSizes.{truncated_sizes}
 use Rattle.nl_types.proofs.TreeLaws.{same_path-equal}
-use Rattle.nl_types.proofs.Judgements.{Leaves, after_then, after_any, refuse_if_then, path_of_spells, file_at_is, dir_at_is, IsTree-insert_file}
+use Rattle.nl_types.proofs.Judgements.{Leaves, and_then_holds, and_then_any, refuse_if_then, path_of_spells, file_at_is, dir_at_is, IsTree-insert_file}
 use Rattle.nl_types.proofs.Lookups.{lookup-remove}
 use Rattle.nl_types.proofs.Children.{listed}
 use Rattle.nl_types.proofs.Subtrees.{length-filtered}
@@ -80,14 +80,14 @@ IsTree-remove tree at t below_root empty = record {
 
 pub truncate-IsTree : (tree : Tree) (size : ℕ) (path : Path) → IsTree tree → Leaves IsTree (truncate tree size path)
 truncate-IsTree tree size path t =
-    after_then _ (λ done. IsTree done.1) (file_at tree path) _ (file_at_is tree path) (λ bytes found.
+    and_then_holds _ (λ done. IsTree done.1) (file_at tree path) _ (file_at_is tree path) (λ bytes found.
     let made : Changed = Ok (answer.Done, insert tree path (File (resized bytes size))) in
     refuse_if_then (λ done. IsTree done.1) (nat_lt file_limit size) error.TooBig made (λ fits.
     IsTree-insert_file tree path bytes (resized bytes size) t found (omega (arith, truncated_sizes bytes size, ltb-false file_limit size fits))))
 
 pub unlink-IsTree : (tree : Tree) (path : Path) → IsTree tree → Leaves IsTree (unlink tree path)
 unlink-IsTree tree path t =
-    after_then _ (λ done. IsTree done.1) (file_at tree path) _ (file_at_is tree path) (λ bytes file.
+    and_then_holds _ (λ done. IsTree done.1) (file_at tree path) _ (file_at_is tree path) (λ bytes file.
     IsTree-remove tree path t
     (λ root. dir_not_file (lookup tree path) bytes (ap (lookup tree) root ∙ t.root) file)
     (λ name. none_if (lookup tree (path ++ name ∷ [])) (λ node there. dir_not_file (lookup tree path) bytes (t.parents path name (ap is_some there)) file)))
@@ -95,7 +95,7 @@ unlink-IsTree tree path t =
 pub rmdir-IsTree : (tree : Tree) (path : Path) → IsTree tree → Leaves IsTree (rmdir tree path)
 rmdir-IsTree tree path t =
     refuse_if_then (λ done. IsTree done.1) (is_root path) error.BadPath _ (λ below_root.
-    after_then _ (λ done. IsTree done.1) (dir_at tree path) _ (dir_at_is tree path) (λ _ found.
+    and_then_holds _ (λ done. IsTree done.1) (dir_at tree path) _ (dir_at_is tree path) (λ _ found.
     let made : Changed = Ok (answer.Done, remove tree path) in
     refuse_if_then (λ done. IsTree done.1) (has_names tree path) error.NotEmpty made (λ none.
     IsTree-remove tree path t
@@ -116,28 +116,28 @@ no_file bytes is = cc
 
 pub creates_keep_trees : CreatesKeepTrees
 creates_keep_trees path tree t =
-    leaves_tree tree _ t (after_then _ (λ done. IsTree done.1) (path_of path) _ (path_of_spells path) (λ p spelled. create-IsTree tree (File []) p t spelled no_bytes))
+    leaves_tree tree _ t (and_then_holds _ (λ done. IsTree done.1) (path_of path) _ (path_of_spells path) (λ p spelled. create-IsTree tree (File []) p t spelled no_bytes))
 
 pub mkdirs_keep_trees : MkdirsKeepTrees
 mkdirs_keep_trees path tree t =
-    leaves_tree tree _ t (after_then _ (λ done. IsTree done.1) (path_of path) _ (path_of_spells path) (λ p spelled. create-IsTree tree Dir p t spelled no_file))
+    leaves_tree tree _ t (and_then_holds _ (λ done. IsTree done.1) (path_of path) _ (path_of_spells path) (λ p spelled. create-IsTree tree Dir p t spelled no_file))
 
 pub writes_keep_trees : WritesKeepTrees
-writes_keep_trees path offset bytes tree t = leaves_tree tree _ t (after_any (λ done. IsTree done.1) (path_of path) _ (λ p. write-IsTree tree offset bytes p t))
+writes_keep_trees path offset bytes tree t = leaves_tree tree _ t (and_then_any (λ done. IsTree done.1) (path_of path) _ (λ p. write-IsTree tree offset bytes p t))
 
 pub truncates_keep_trees : TruncatesKeepTrees
-truncates_keep_trees path size tree t = leaves_tree tree _ t (after_any (λ done. IsTree done.1) (path_of path) _ (λ p. truncate-IsTree tree size p t))
+truncates_keep_trees path size tree t = leaves_tree tree _ t (and_then_any (λ done. IsTree done.1) (path_of path) _ (λ p. truncate-IsTree tree size p t))
 
 pub unlinks_keep_trees : UnlinksKeepTrees
-unlinks_keep_trees path tree t = leaves_tree tree _ t (after_any (λ done. IsTree done.1) (path_of path) _ (λ p. unlink-IsTree tree p t))
+unlinks_keep_trees path tree t = leaves_tree tree _ t (and_then_any (λ done. IsTree done.1) (path_of path) _ (λ p. unlink-IsTree tree p t))
 
 pub rmdirs_keep_trees : RmdirsKeepTrees
-rmdirs_keep_trees path tree t = leaves_tree tree _ t (after_any (λ done. IsTree done.1) (path_of path) _ (λ p. rmdir-IsTree tree p t))
+rmdirs_keep_trees path tree t = leaves_tree tree _ t (and_then_any (λ done. IsTree done.1) (path_of path) _ (λ p. rmdir-IsTree tree p t))
 
 pub renames_keep_trees : RenamesKeepTrees
 renames_keep_trees from to tree t =
-    leaves_tree tree _ t (after_any (λ done. IsTree done.1) (path_of from) _ (λ f.
-    after_then _ (λ done. IsTree done.1) (path_of to) _ (path_of_spells to) (λ p spelled. rename-IsTree tree f p t spelled)))
+    leaves_tree tree _ t (and_then_any (λ done. IsTree done.1) (path_of from) _ (λ f.
+    and_then_holds _ (λ done. IsTree done.1) (path_of to) _ (path_of_spells to) (λ p spelled. rename-IsTree tree f p t spelled)))
 
 pub refusals_keep_tree : RefusalsKeepTree
 refusals_keep_tree tree call e refused = ap (tree_after tree) refused

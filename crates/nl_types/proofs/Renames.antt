@@ -14,9 +14,9 @@ use Rattle.nl_types.specs.declared.reply.Node.TheVariants.{Dir, File}
 use Rattle.nl_types.specs.Limits.{file_limit}
 use Rattle.nl_types.specs.Paths.{Name, Path, same_name, same_path, is_within, is_name}
 use Rattle.nl_types.specs.Trees.{Tree, IsTree, lookup, move_subtree}
-use Rattle.nl_types.specs.Calls.{Changed, after, refuse_if, ok_unless, stop_from, walk, node_at, has_names, is_root, is_dir, is_above, may_replace, rename}
+use Rattle.nl_types.specs.Calls.{Changed, and_then, refuse_if, ok_unless, stop_from, walk, node_at, has_names, is_root, is_dir, is_above, may_replace, rename}
 use Rattle.nl_types.proofs.TreeLaws.{same_path-equal}
-use Rattle.nl_types.proofs.Judgements.{Leaves, after_then, refuse_if_then, goes_on, node_at_is, ok_is}
+use Rattle.nl_types.proofs.Judgements.{Leaves, and_then_holds, refuse_if_then, goes_on, node_at_is, ok_is}
 use Rattle.nl_types.proofs.Lookups.{same_path-itself, same_name-equal, within_is, lookup-move_subtree}
 use Rattle.nl_types.proofs.Children.{listed}
 use Rattle.nl_types.proofs.Subtrees.{move_subtree-sorted, length-move_subtree}
@@ -226,14 +226,14 @@ not_onto tree from to node t found judged other =
 pub rename_then : (tree : Tree) (from to : Path) (Q : Answer × Tree → Type 0) → IsTree tree → (same_path from to ≡ true → Q (answer.Done, tree)) → (same_path from to ≡ false → IsMove tree from to → Q (answer.Done, move_subtree tree from to)) → IfOk (rename tree from to) Q
 rename_then tree from to Q t stays moves =
     refuse_if_then Q (is_root from || is_root to) error.BadPath _ (λ below_root.
-    after_then _ Q (node_at tree from) _ (node_at_is tree from) (λ node there.
+    and_then_holds _ Q (node_at tree from) _ (node_at_is tree from) (λ node there.
     refuse_if_then Q (is_dir node && is_above from to) error.IntoItself _ (λ outside.
-    after_then _ Q (walk tree to) _ (ok_is (walk tree to)) (λ _ walking.
+    and_then_holds _ Q (walk tree to) _ (ok_is (walk tree to)) (λ _ walking.
     let made : Changed = Ok (answer.Done, move_subtree tree from to) in
-    elim (same_path from to) as (λ b. same_path from to ≡ b → IfOk (cond {A = Changed} b (Ok (answer.Done, tree)) (after (may_replace tree to node (lookup tree to)) (λ _. made))) Q) [
+    elim (same_path from to) as (λ b. same_path from to ≡ b → IfOk (cond {A = Changed} b (Ok (answer.Done, tree)) (and_then (may_replace tree to node (lookup tree to)) (λ _. made))) Q) [
       | true ↦ stays
       | false ↦ λ other.
-          after_then _ Q (may_replace tree to node (lookup tree to)) _ (ok_is (may_replace tree to node (lookup tree to))) (λ _ judged.
+          and_then_holds _ Q (may_replace tree to node (lookup tree to)) _ (ok_is (may_replace tree to node (lookup tree to))) (λ _ judged.
           moves other (record {
             below_root = below_root;
             up = not_into tree from to node there outside walking other;

@@ -18,15 +18,15 @@ use Rattle.nl_types.specs.declared.reply.Node.TheVariants.{Dir, File}
 use Rattle.nl_types.specs.Limits.{file_limit, path_limit, checkpoint_number_limit, mount_number_limit}
 use Rattle.nl_types.specs.Paths.{Path, path_of, names_of, is_name}
 use Rattle.nl_types.specs.Trees.{Tree, lookup, insert}
-use Rattle.nl_types.specs.Calls.{Changed, after, refuse_if, ok_unless, stops_walk, stop_from, walk, node_at, file_at, file_in, overwritten, change, reply_to}
+use Rattle.nl_types.specs.Calls.{Changed, and_then, refuse_if, ok_unless, stops_walk, stop_from, walk, node_at, file_at, file_in, overwritten, change, reply_to}
 use Rattle.nl_types.specs.Worlds.{World, Outcome, copy_at, latest, is_snapshot, either, refused_if, kept, mounted, mounted_copy}
 use Rattle.nl_types.specs.Laws.{IsJudged, StepsJudge}
 
 -- ---- judgements, one after another
 
-after_judges : {A B : Type 0} (r : Result A VolError) (next : A → Result B VolError) → IfErr r IsJudged → ((a : A) → IfErr (next a) IsJudged) → IfErr (after r next) IsJudged
-after_judges (Ok a) next here rest = rest a
-after_judges (Err e) next here rest = here
+and_then_judges : {A B : Type 0} (r : Result A VolError) (next : A → Result B VolError) → IfErr r IsJudged → ((a : A) → IfErr (next a) IsJudged) → IfErr (and_then r next) IsJudged
+and_then_judges (Ok a) next here rest = rest a
+and_then_judges (Err e) next here rest = here
 
 refuse_if_judges : {A : Type 0} (test : Bool) (e : VolError) (next : Result A VolError) → IsJudged e → IfErr next IsJudged → IfErr (refuse_if test e next) IsJudged
 refuse_if_judges true e next here rest = here
@@ -68,23 +68,23 @@ stop_judges tree at [] = tt
 stop_judges tree at (name ∷ names) = stops_judge (lookup tree at) (stop_from tree (at ++ name ∷ []) names) (stop_judges tree (at ++ name ∷ []) names)
 
 node_judges : (tree : Tree) (path : Path) → IfErr (node_at tree path) IsJudged
-node_judges tree path = after_judges (walk tree path) _ (stop_judges tree [] path) (λ _. ok_or_judges (lookup tree path) error.NotFound tt)
+node_judges tree path = and_then_judges (walk tree path) _ (stop_judges tree [] path) (λ _. ok_or_judges (lookup tree path) error.NotFound tt)
 
 file_judges : (tree : Tree) (path : Path) → IfErr (file_at tree path) IsJudged
-file_judges tree path = after_judges (node_at tree path) file_in (node_judges tree path) by
+file_judges tree path = and_then_judges (node_at tree path) file_in (node_judges tree path) by
   where
     by : (node : Node) → IfErr (file_in node) IsJudged
     by Dir = tt
     by (File bytes) = tt
 
 change_judges : (tree : Tree) (c : Change) → IfErr (change tree c) IsJudged
-change_judges tree (Create path) = after_judges (path_of path) _ (path_judges path) (λ p.
+change_judges tree (Create path) = and_then_judges (path_of path) _ (path_judges path) (λ p.
     let made : Changed = Ok (answer.Done, insert tree p (File [])) in
-    after_judges (walk tree p) _ (stop_judges tree [] p) (λ _.
+    and_then_judges (walk tree p) _ (stop_judges tree [] p) (λ _.
     refuse_if_judges (is_some (lookup tree p)) error.Exists _ tt
     (refuse_if_judges (nat_lt path_limit (length tree)) error.TooBig made tt tt)))
-change_judges tree (Write path offset bytes) = after_judges (path_of path) _ (path_judges path) (λ p.
-    after_judges (file_at tree p) _ (file_judges tree p) (λ old.
+change_judges tree (Write path offset bytes) = and_then_judges (path_of path) _ (path_judges path) (λ p.
+    and_then_judges (file_at tree p) _ (file_judges tree p) (λ old.
     let long = nat_lt file_limit (offset + length bytes) in
     let made : Changed = Ok (answer.Written (length bytes), insert tree p (File (overwritten old offset bytes))) in
     elim (length bytes == 0) as (λ b. IfErr (cond {A = Changed} b (Ok (answer.Written 0, tree)) (refuse_if long error.TooBig made)) IsJudged) [
@@ -93,7 +93,7 @@ change_judges tree (Write path offset bytes) = after_judges (path_of path) _ (pa
     ]))
 
 reply_judges : (tree : Tree) (a : Ask) → IfErr (reply_to tree a) IsJudged
-reply_judges tree (ask.Bytes path offset len) = after_judges (path_of path) _ (path_judges path) (λ p. after_judges (file_at tree p) _ (file_judges tree p) (λ _. tt))
+reply_judges tree (ask.Bytes path offset len) = and_then_judges (path_of path) _ (path_judges path) (λ p. and_then_judges (file_at tree p) _ (file_judges tree p) (λ _. tt))
 
 -- ---- events
 
@@ -113,4 +113,4 @@ steps_judge cleaned w (event.Mount n) judged = either_judges w (kept w n) _ (ok_
     refused_if_judges (not (is_snapshot copy.mode)) error.NotSnapshot w _ tt
     (refused_if_judges (nat_le mount_number_limit (w.given + 1)) error.NumbersSpent w _ tt tt))
 steps_judge cleaned w (event.MountRead m a) judged =
-    after_judges (mounted_copy w m) _ (after_judges (mounted w m) _ (ok_or_judges (find nat_cmp m w.mounts) error.BadMount tt) (λ n. ok_or_judges (copy_at w n) error.BadMount tt)) (λ copy. reply_judges copy.tree a)
+    and_then_judges (mounted_copy w m) _ (and_then_judges (mounted w m) _ (ok_or_judges (find nat_cmp m w.mounts) error.BadMount tt) (λ n. ok_or_judges (copy_at w n) error.BadMount tt)) (λ copy. reply_judges copy.tree a)

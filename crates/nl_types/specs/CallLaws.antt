@@ -7,7 +7,7 @@ use Rattle.nl_types.specs.declared.reply.Node.TheVariants.{File}
 use Rattle.nl_types.specs.Paths.{Path, path_of, same_path, is_within}
 use Rattle.nl_types.specs.Trees.{Tree, IsTree, lookup}
 use Rattle.nl_types.specs.Calls as calls
-use Rattle.nl_types.specs.Calls.{Changed, after, tree_after, create, mkdir, write, overwritten, truncate, resized, unlink, rmdir, rename}
+use Rattle.nl_types.specs.Calls.{Changed, and_then, tree_after, create, mkdir, write, overwritten, truncate, resized, unlink, rmdir, rename}
 
 -- ---- trees
 
@@ -16,28 +16,28 @@ abbrev pub KeepsTrees : (Tree → Changed) → Type 0
 KeepsTrees call = (tree : Tree) → IsTree tree → IsTree (tree_after tree (call tree))
 
 abbrev pub CreatesKeepTrees : Type 0
-CreatesKeepTrees = (path : List ℕ) → KeepsTrees (λ tree. after (path_of path) (create tree (File [])))
+CreatesKeepTrees = (path : List ℕ) → KeepsTrees (λ tree. and_then (path_of path) (create tree (File [])))
 
 abbrev pub MkdirsKeepTrees : Type 0
-MkdirsKeepTrees = (path : List ℕ) → KeepsTrees (λ tree. after (path_of path) (mkdir tree))
+MkdirsKeepTrees = (path : List ℕ) → KeepsTrees (λ tree. and_then (path_of path) (mkdir tree))
 
 abbrev pub WritesKeepTrees : Type 0
 WritesKeepTrees =
-    (path : List ℕ) (offset : ℕ) (bytes : List ℕ) → KeepsTrees (λ tree. after (path_of path) (write tree offset bytes))
+    (path : List ℕ) (offset : ℕ) (bytes : List ℕ) → KeepsTrees (λ tree. and_then (path_of path) (write tree offset bytes))
 
 abbrev pub TruncatesKeepTrees : Type 0
 TruncatesKeepTrees =
-    (path : List ℕ) (size : ℕ) → KeepsTrees (λ tree. after (path_of path) (truncate tree size))
+    (path : List ℕ) (size : ℕ) → KeepsTrees (λ tree. and_then (path_of path) (truncate tree size))
 
 abbrev pub UnlinksKeepTrees : Type 0
-UnlinksKeepTrees = (path : List ℕ) → KeepsTrees (λ tree. after (path_of path) (unlink tree))
+UnlinksKeepTrees = (path : List ℕ) → KeepsTrees (λ tree. and_then (path_of path) (unlink tree))
 
 abbrev pub RmdirsKeepTrees : Type 0
-RmdirsKeepTrees = (path : List ℕ) → KeepsTrees (λ tree. after (path_of path) (rmdir tree))
+RmdirsKeepTrees = (path : List ℕ) → KeepsTrees (λ tree. and_then (path_of path) (rmdir tree))
 
 abbrev pub RenamesKeepTrees : Type 0
 RenamesKeepTrees =
-    (from to : List ℕ) → KeepsTrees (λ tree. after (path_of from) (λ f. after (path_of to) (rename tree f)))
+    (from to : List ℕ) → KeepsTrees (λ tree. and_then (path_of from) (λ f. and_then (path_of to) (rename tree f)))
 
 -- a refusal keeps the tree
 abbrev pub RefusalsKeepTree : Type 0

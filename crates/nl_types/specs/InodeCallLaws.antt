@@ -9,7 +9,7 @@ use Rattle.nl_types.specs.declared.reply.Node.{Node}
 use Rattle.nl_types.specs.Limits.{file_limit}
 use Rattle.nl_types.specs.Paths.{Name, Path}
 use Rattle.nl_types.specs.Trees.{Tree, IsTree, insert, remove, move_subtree}
-use Rattle.nl_types.specs.Calls.{Changed, after, file_at, create, write, overwritten, truncate, resized, unlink, rmdir, rename, list, stat}
+use Rattle.nl_types.specs.Calls.{Changed, and_then, file_at, create, write, overwritten, truncate, resized, unlink, rmdir, rename, list, stat}
 use Rattle.nl_types.specs.Inodes.{Link, Inodes, MeansTree}
 use Rattle.nl_types.specs.InodeChanges.{Adds, Refills, Drops, Moves, MovesOnto}
 use Rattle.nl_types.specs.Resolving.{IsNamed, resolve}
@@ -28,14 +28,14 @@ CreatesAreJudged =
     (inodes : Inodes) (tree : Tree) → MeansTree inodes tree
     → (node : Node) (dir : Path) (name : Name)
     → create tree node (dir ++ name ∷ [])
-    ≡ after (judge_create inodes (length tree) dir name) (λ _.
+    ≡ and_then (judge_create inodes (length tree) dir name) (λ _.
     Ok (answer.Done, insert tree (dir ++ name ∷ []) node))
 
 abbrev pub RmdirsAreJudged : Type 0
 RmdirsAreJudged =
     (inodes : Inodes) (tree : Tree) (listing : Listing) → MeansTree inodes tree → IsListing inodes listing
     → (path : Path)
-    → rmdir tree path ≡ after (judge_rmdir inodes listing path) (λ _. Ok (answer.Done, remove tree path))
+    → rmdir tree path ≡ and_then (judge_rmdir inodes listing path) (λ _. Ok (answer.Done, remove tree path))
 
 -- the tree after a rename that is not refused, which may move nothing
 abbrev pub tree_if_moved : Tree → Path → Path → Bool → Tree
@@ -46,7 +46,7 @@ RenamesAreJudged =
     (inodes : Inodes) (tree : Tree) (listing : Listing) → MeansTree inodes tree → IsListing inodes listing
     → (from dir : Path) (name : Name)
     → rename tree from (dir ++ name ∷ [])
-    ≡ after (judge_rename inodes listing from dir name) (λ moves.
+    ≡ and_then (judge_rename inodes listing from dir name) (λ moves.
     Ok (answer.Done, tree_if_moved tree from (dir ++ name ∷ []) moves))
 
 abbrev pub ListsAreJudged : Type 0

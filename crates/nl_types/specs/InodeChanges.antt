@@ -9,7 +9,7 @@ use Rattle.std.specs.FinMap.{find, is_sorted}
 use Rattle.nl_types.specs.declared.reply.Node.{Node}
 use Rattle.nl_types.specs.declared.reply.Node.TheVariants.{Dir, File}
 use Rattle.nl_types.specs.Paths.{Name, Path, name_cmp, same_name, is_within}
-use Rattle.nl_types.specs.Trees.{kind_of}
+use Rattle.nl_types.specs.Trees.{node_kind}
 use Rattle.nl_types.specs.Inodes.{Link, InodeContent, Bytes, Records, Inodes, reached}
 
 -- ---- changes of records
@@ -60,7 +60,7 @@ pub record Adds (old new : Inodes) (dir : ℕ) (name : Name) (node : Node) (inod
   pub free : old inode ≡ None
   pub added : new inode ≡ Some (fresh_content node)
   pub others : (i : ℕ) → (i ≡ inode → ⊥)
-      → HoldsChanged (put_record dir name (Some (inode, kind_of node)) i) (old i) (new i)
+      → HoldsChanged (put_record dir name (Some (inode, node_kind node)) i) (old i) (new i)
 
 pub record Refills (old new : Inodes) (inode : ℕ) (bytes : List ℕ) : Type 0 where
   pub now : new inode ≡ Some (Bytes bytes)

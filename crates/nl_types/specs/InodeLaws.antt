@@ -8,7 +8,7 @@ use Rattle.nl_types.specs.declared.kind.Kind.{Kind}
 use Rattle.nl_types.specs.declared.kind.Kind.TheVariants as kind
 use Rattle.nl_types.specs.Limits.{file_limit, path_limit, root_inode, first_inode, last_inode}
 use Rattle.nl_types.specs.Paths.{Name, Path, is_name}
-use Rattle.nl_types.specs.Calls.{after, walk, node_at}
+use Rattle.nl_types.specs.Calls.{and_then, walk, node_at}
 use Rattle.nl_types.specs.Trees.{Tree, IsTree, root_alone, lookup, insert, remove, move_subtree, children}
 use Rattle.nl_types.specs.Inodes.{Link, InodeContent, Bytes, Records, Inodes, MeansTree, found, reached}
 use Rattle.nl_types.specs.InodeChanges.{HasRecords, ListsRecords, Creates, Rewrites, Removes, Renames, Replaces}
@@ -64,15 +64,15 @@ ReplacesMove =
 -- ---- what a tree has, by its inodes
 
 -- a record, as a listing shows it
-abbrev pub named : Name × Link → Name × Kind
-named r = (r.0, r.1.1)
+abbrev pub with_kind : Name × Link → Name × Kind
+with_kind r = (r.0, r.1.1)
 
 -- a directory's names in the tree are its records, which ascend
 abbrev pub ChildrenAreRecords : Type 0
 ChildrenAreRecords =
     (inodes : Inodes) (tree : Tree) (dir : Path) (listed : List (Name × Link))
     → MeansTree inodes tree → (d : HasRecords inodes dir) → ListsRecords d.records listed
-    → children tree (reverse dir) ≡ map named listed
+    → children tree (reverse dir) ≡ map with_kind listed
 
 -- where every inode number is in use, the tree has more paths than it may have beside the root
 abbrev pub FullVolumesAreTooBig : Type 0
@@ -92,13 +92,13 @@ abbrev pub NodesByInodes : Type 0
 NodesByInodes =
     (inodes : Inodes) (tree : Tree) → MeansTree inodes tree
     → (path : Path)
-    → node_at tree path ≡ after (resolve inodes path) (λ at. ok_or (node_in inodes at) NotFound)
+    → node_at tree path ≡ and_then (resolve inodes path) (λ at. ok_or (node_in inodes at) NotFound)
 
 -- a path is walked to where the walk over inodes comes to its directory
 abbrev pub ParentsByInodes : Type 0
 ParentsByInodes =
     (inodes : Inodes) (tree : Tree) → MeansTree inodes tree
-    → (dir : Path) (name : Name) → walk tree (dir ++ name ∷ []) ≡ after (resolve inodes dir) as_dir
+    → (dir : Path) (name : Name) → walk tree (dir ++ name ∷ []) ≡ and_then (resolve inodes dir) as_dir
 
 -- there the tree has what the record says
 abbrev pub ChildrenByRecords : Type 0

@@ -8,7 +8,7 @@ use Rattle.nl_types.specs.declared.reply.Node.{Node}
 use Rattle.nl_types.specs.declared.reply.Node.TheVariants.{Dir, File}
 use Rattle.nl_types.specs.Limits.{root_inode}
 use Rattle.nl_types.specs.Paths.{Name, Path, path_cmp}
-use Rattle.nl_types.specs.Trees.{Tree, lookup, kind_of}
+use Rattle.nl_types.specs.Trees.{Tree, lookup, node_kind}
 
 -- what a record says of a name: the number of its inode, and what that is
 abbrev pub Link : Type 0
@@ -55,7 +55,7 @@ pub record IsRooted (tree : Path → Option Node) : Type 0 where
 
 -- the record that a path would have in its parent
 abbrev pub record_of : (Path → Option Node) → (Path → Option ℕ) → Path → Option Link
-record_of tree inode_of p = option_zip (inode_of p) (option_map kind_of (tree p))
+record_of tree inode_of p = option_zip (inode_of p) (option_map node_kind (tree p))
 
 -- the paths of the tree and the inodes in use are paired one to one, the root with its own number, such that a directory's
 -- inode has its children's names as records and a file's inode has its bytes

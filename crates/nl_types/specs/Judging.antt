@@ -10,7 +10,7 @@ use Rattle.nl_types.specs.declared.reply.Stat.{Stat}
 use Rattle.nl_types.specs.declared.reply.Stat.TheVariants as status
 use Rattle.nl_types.specs.Limits.{path_limit}
 use Rattle.nl_types.specs.Paths.{Name, Path, same_path}
-use Rattle.nl_types.specs.Calls.{after, refuse_if, is_root, is_above}
+use Rattle.nl_types.specs.Calls.{and_then, refuse_if, is_root, is_above}
 use Rattle.nl_types.specs.Inodes.{Link, InodeContent, Bytes, Records, Inodes}
 use Rattle.nl_types.specs.InodeChanges.{ListsRecords}
 use Rattle.nl_types.specs.Resolving.{record_in, resolve, as_dir}
@@ -37,7 +37,7 @@ bytes_in inodes (i, kind.Directory) = Err IsDir
 bytes_in inodes (i, kind.File) = Ok (bytes_of (inodes i))
 
 abbrev pub judge_file : Inodes → Path → Result (List ℕ) VolError
-judge_file inodes path = after (resolve inodes path) (bytes_in inodes)
+judge_file inodes path = and_then (resolve inodes path) (bytes_in inodes)
 
 -- ---- directories
 
@@ -47,8 +47,8 @@ has_any listing i = nat_lt 0 (length (listing i))
 -- the inode of the directory in which the call makes a name, where the tree has so many paths
 abbrev pub judge_create : Inodes → ℕ → Path → Name → Result ℕ VolError
 judge_create inodes paths dir name =
-    after (resolve inodes dir) (λ at.
-    after (as_dir at) (λ _.
+    and_then (resolve inodes dir) (λ at.
+    and_then (as_dir at) (λ _.
     refuse_if (is_some (record_in (inodes at.0) name)) Exists (
     refuse_if (nat_lt path_limit paths) TooBig (
     Ok at.0))))
@@ -56,8 +56,8 @@ judge_create inodes paths dir name =
 abbrev pub judge_rmdir : Inodes → Listing → Path → Result (Unit {0}) VolError
 judge_rmdir inodes listing path =
     refuse_if (is_root path) BadPath (
-    after (resolve inodes path) (λ at.
-    after (as_dir at) (λ _.
+    and_then (resolve inodes path) (λ at.
+    and_then (as_dir at) (λ _.
     refuse_if (has_any listing at.0) NotEmpty (Ok tt))))
 
 -- ---- a rename
@@ -79,12 +79,12 @@ abbrev pub judge_rename : Inodes → Listing → Path → Path → Name → Resu
 judge_rename inodes listing from dir name =
     let to = dir ++ name ∷ [] in
     refuse_if (is_root from || is_root to) BadPath (
-    after (resolve inodes from) (λ at.
+    and_then (resolve inodes from) (λ at.
     refuse_if (is_dir_kind at.1 && is_above from to) IntoItself (
-    after (resolve inodes dir) (λ into.
-    after (as_dir into) (λ _.
+    and_then (resolve inodes dir) (λ into.
+    and_then (as_dir into) (λ _.
     if same_path from to then Ok false else (
-    after (may_take listing at.1 (record_in (inodes into.0) name)) (λ _.
+    and_then (may_take listing at.1 (record_in (inodes into.0) name)) (λ _.
     Ok true)))))))
 
 -- ---- calls that only read
@@ -93,11 +93,11 @@ abbrev pub shown : Name × Link → Named
 shown r = record { name = r.0; kind = r.1.1 }
 
 abbrev pub judge_list : Inodes → Listing → Path → Result (List Named) VolError
-judge_list inodes listing path = after (resolve inodes path) (λ at. after (as_dir at) (λ _. Ok (map shown (listing at.0))))
+judge_list inodes listing path = and_then (resolve inodes path) (λ at. and_then (as_dir at) (λ _. Ok (map shown (listing at.0))))
 
 abbrev pub stat_in : Inodes → Listing → Link → Stat
 stat_in inodes listing (i, kind.Directory) = status.Dir (length (listing i))
 stat_in inodes listing (i, kind.File) = status.File (length (bytes_of (inodes i)))
 
 abbrev pub judge_stat : Inodes → Listing → Path → Result Stat VolError
-judge_stat inodes listing path = after (resolve inodes path) (λ at. Ok (stat_in inodes listing at))
+judge_stat inodes listing path = and_then (resolve inodes path) (λ at. Ok (stat_in inodes listing at))

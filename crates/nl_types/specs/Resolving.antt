@@ -7,7 +7,7 @@ use Rattle.nl_types.specs.declared.kind.Kind.TheVariants as kind
 use Rattle.nl_types.specs.declared.reply.Node.{Node}
 use Rattle.nl_types.specs.Limits.{root_inode}
 use Rattle.nl_types.specs.Paths.{Name, Path}
-use Rattle.nl_types.specs.Calls.{after}
+use Rattle.nl_types.specs.Calls.{and_then}
 use Rattle.nl_types.specs.Inodes.{Link, InodeContent, Bytes, Records, Inodes, node_of}
 
 -- the record of a name, in what an inode holds
@@ -24,7 +24,7 @@ step_to inodes (i, kind.Directory) name = ok_or (record_in (inodes i) name) NotF
 -- the walk by these names from an inode
 abbrev pub resolve_from : Inodes → Link → Path → Result Link VolError
 resolve_from inodes at [] = Ok at
-resolve_from inodes at (name ∷ names) = after (step_to inodes at name) (λ next. resolve_from inodes next names)
+resolve_from inodes at (name ∷ names) = and_then (step_to inodes at name) (λ next. resolve_from inodes next names)
 
 -- the walk from the root
 abbrev pub resolve : Inodes → Path → Result Link VolError

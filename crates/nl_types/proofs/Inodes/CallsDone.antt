@@ -15,8 +15,8 @@ use Rattle.nl_types.specs.declared.reply.Node.{Node}
 use Rattle.nl_types.specs.declared.reply.Node.TheVariants.{Dir, File}
 use Rattle.nl_types.specs.Limits.{file_limit, path_limit}
 use Rattle.nl_types.specs.Paths.{Name, Path, name_cmp, same_path, is_within}
-use Rattle.nl_types.specs.Trees.{Tree, lookup, insert, remove, move_subtree, kind_of}
-use Rattle.nl_types.specs.Calls.{Changed, after, refuse_if, walk, file_at, overwritten, resized, is_root, is_dir, rename}
+use Rattle.nl_types.specs.Trees.{Tree, lookup, insert, remove, move_subtree, node_kind}
+use Rattle.nl_types.specs.Calls.{Changed, and_then, refuse_if, walk, file_at, overwritten, resized, is_root, is_dir, rename}
 use Rattle.nl_types.specs.Inodes.{Link, InodeContent, Bytes, Records, Inodes, MeansTree, node_of}
 use Rattle.nl_types.specs.InodeChanges.{HasRecords, IsBare, Adds, Refills, Drops, Moves, MovesOnto}
 use Rattle.nl_types.specs.Resolving.{record_in, step_to, resolve_from, resolve, as_dir}
@@ -31,9 +31,9 @@ use Rattle.nl_types.proofs.Renames.{not_into}
 
 -- ---- what a judgement that is not refused has found
 
-after-ok : {A B : Type 0} (r : Result A VolError) (next : A → Result B VolError) (b : B) → after r next ≡ Ok b → (a : A) × (r ≡ Ok a) × (next a ≡ Ok b)
-after-ok (Ok a) next b is = (a, refl, is)
-after-ok (Err e) next b is = cc
+and_then-ok : {A B : Type 0} (r : Result A VolError) (next : A → Result B VolError) (b : B) → and_then r next ≡ Ok b → (a : A) × (r ≡ Ok a) × (next a ≡ Ok b)
+and_then-ok (Ok a) next b is = (a, refl, is)
+and_then-ok (Err e) next b is = cc
 
 refuse_if-ok : {A : Type 0} (test : Bool) (e : VolError) (next : Result A VolError) (a : A) → refuse_if test e next ≡ Ok a → (test ≡ false) × (next ≡ Ok a)
 refuse_if-ok true e next a is = cc
@@ -55,25 +55,25 @@ record_held : (inodes : Inodes) (p : Path) (h : HasRecords inodes p) (i : ℕ) (
 record_held inodes p h i n e = sym (ap (λ (o : Option InodeContent). record_in o n) (ap inodes (sym e) ∙ h.holds))
 
 -- the walk to a name in a directory
-resolve_from-snoc : (inodes : Inodes) (at : Link) (dir : Path) (name : Name) → resolve_from inodes at (dir ++ name ∷ []) ≡ after (resolve_from inodes at dir) (λ x. step_to inodes x name)
+resolve_from-snoc : (inodes : Inodes) (at : Link) (dir : Path) (name : Name) → resolve_from inodes at (dir ++ name ∷ []) ≡ and_then (resolve_from inodes at dir) (λ x. step_to inodes x name)
 resolve_from-snoc inodes at [] name = last (step_to inodes at name)
   where
-    last : (r : Result Link VolError) → after r (λ next. Ok next) ≡ r
+    last : (r : Result Link VolError) → and_then r (λ next. Ok next) ≡ r
     last (Ok next) = refl
     last (Err e) = refl
 resolve_from-snoc inodes at (n ∷ dir) name = by (step_to inodes at n) (λ next. resolve_from-snoc inodes next dir name)
   where
-    by : (r : Result Link VolError) → ((next : Link) → resolve_from inodes next (dir ++ name ∷ []) ≡ after (resolve_from inodes next dir) (λ x. step_to inodes x name)) →
-        after r (λ next. resolve_from inodes next (dir ++ name ∷ [])) ≡ after (after r (λ next. resolve_from inodes next dir)) (λ x. step_to inodes x name)
+    by : (r : Result Link VolError) → ((next : Link) → resolve_from inodes next (dir ++ name ∷ []) ≡ and_then (resolve_from inodes next dir) (λ x. step_to inodes x name)) →
+        and_then r (λ next. resolve_from inodes next (dir ++ name ∷ [])) ≡ and_then (and_then r (λ next. resolve_from inodes next dir)) (λ x. step_to inodes x name)
     by (Ok next) rest = rest next
     by (Err e) rest = refl
 
 resolve-child : (inodes : Inodes) (dir : Path) (name : Name) (i : ℕ) (e : Link) → resolve inodes dir ≡ Ok (i, kind.Directory) → record_in (inodes i) name ≡ Some e → resolve inodes (dir ++ name ∷ []) ≡ Ok e
 resolve-child inodes dir name i e is there =
-    resolve_from-snoc inodes (2, kind.Directory) dir name ∙ ap (λ (r : Result Link VolError). after r (λ x. step_to inodes x name)) is ∙ ap (λ (o : Option Link). ok_or o NotFound) there
+    resolve_from-snoc inodes (2, kind.Directory) dir name ∙ ap (λ (r : Result Link VolError). and_then r (λ x. step_to inodes x name)) is ∙ ap (λ (o : Option Link). ok_or o NotFound) there
 
-held_as : (c : InodeContent) (y : Node) (k : Kind) (o : Option Node) → node_of c ≡ y → kind_of y ≡ k → o ≡ Some y → (kind_of (node_of c) ≡ k) × (o ≡ Some (node_of c))
-held_as c y k o e f h = (ap kind_of e ∙ f, h ∙ ap (λ (x : Node). Some x) (sym e))
+held_as : (c : InodeContent) (y : Node) (k : Kind) (o : Option Node) → node_of c ≡ y → node_kind y ≡ k → o ≡ Some y → (node_kind (node_of c) ≡ k) × (o ≡ Some (node_of c))
+held_as c y k o e f h = (ap node_kind e ∙ f, h ∙ ap (λ (x : Node). Some x) (sym e))
 
 module _ (inodes : Inodes) (tree : Tree) (m : MeansTree inodes tree) where
   mapped : (o : Option InodeContent) (y : Node) → option_map node_of o ≡ Some y → (c : InodeContent) × (o ≡ Some c) × (node_of c ≡ y)
@@ -82,7 +82,7 @@ module _ (inodes : Inodes) (tree : Tree) (m : MeansTree inodes tree) where
 
   -- what a record names is there
   link_held : (dir : Path) (name : Name) (i : ℕ) (e : Link) → resolve inodes dir ≡ Ok (i, kind.Directory) → record_in (inodes i) name ≡ Some e →
-      (c : InodeContent) × (inodes e.0 ≡ Some c) × (kind_of (node_of c) ≡ e.1) × (lookup tree (dir ++ name ∷ []) ≡ Some (node_of c))
+      (c : InodeContent) × (inodes e.0 ≡ Some c) × (node_kind (node_of c) ≡ e.1) × (lookup tree (dir ++ name ∷ []) ≡ Some (node_of c))
   link_held dir name i e is there =
       let s = dir_stands inodes tree m dir i is in
       let z = zipped (inode inodes tree m (dir ++ name ∷ [])) (lookup tree (dir ++ name ∷ [])) e (sym (child_record inodes tree m dir name i s.1 s.0) ∙ there) in
@@ -91,7 +91,7 @@ module _ (inodes : Inodes) (tree : Tree) (m : MeansTree inodes tree) where
       (c.0, c.1, both.0, both.1)
 
 -- a file is bare, and so is a directory without names
-file_bare : (c : InodeContent) → kind_of (node_of c) ≡ kind.File → IsBare c
+file_bare : (c : InodeContent) → node_kind (node_of c) ≡ kind.File → IsBare c
 file_bare (Bytes bytes) e = tt
 file_bare (Records records) e = cc
 
@@ -103,7 +103,7 @@ dir_bare : (inodes : Inodes) (listing : Listing) (l : IsListing inodes listing) 
 dir_bare inodes listing l i (Bytes bytes) e none = tt
 dir_bare inodes listing l i (Records records) e none = λ n. sym ((l i records e).finds n) ∙ no_names (listing i) none n
 
-taken_bare : (inodes : Inodes) (listing : Listing) (l : IsListing inodes listing) (k : Kind) (target : Link) (c : InodeContent) → inodes target.0 ≡ Some c → kind_of (node_of c) ≡ target.1 →
+taken_bare : (inodes : Inodes) (listing : Listing) (l : IsListing inodes listing) (k : Kind) (target : Link) (c : InodeContent) → inodes target.0 ≡ Some c → node_kind (node_of c) ≡ target.1 →
     may_take listing k (Some target) ≡ Ok tt → IsBare c
 taken_bare inodes listing l kind.File (i, kind.Directory) c e kc is = cc
 taken_bare inodes listing l kind.File (i, kind.File) c e kc is = file_bare c kc
@@ -119,8 +119,8 @@ nothing_in (Some x) e = cc
 -- what a call that makes a name has found
 create_found : (old : Inodes) (paths : ℕ) (dir : Path) (name : Name) (parent : ℕ) → judge_create old paths dir name ≡ Ok parent → (resolve old dir ≡ Ok (parent, kind.Directory)) × (record_in (old parent) name ≡ None)
 create_found old paths dir name parent judged =
-    let at = after-ok (resolve old dir) _ parent judged in
-    let is_dir = after-ok (as_dir at.0) _ parent at.2 in
+    let at = and_then-ok (resolve old dir) _ parent judged in
+    let is_dir = and_then-ok (as_dir at.0) _ parent at.2 in
     let free = refuse_if-ok (is_some (record_in (old at.0.0) name)) Exists _ parent is_dir.2 in
     let few = refuse_if-ok (nat_lt path_limit paths) TooBig (Ok at.0.0) parent free.1 in
     there at.0 at.1 (ok_same at.0.0 parent few.1) (as_dir-ok at.0 is_dir.1) (nothing_in (record_in (old at.0.0) name) free.0)
@@ -140,7 +140,7 @@ creates_lead old new tree node dir name parent j m judged adds =
     let same = path_of_child dir name in
     record {
       tree = insert tree (dir ++ name ∷ []) node;
-      is = creates_are_judged old tree m node dir name ∙ ap (λ (r : Result ℕ VolError). after r (λ _. Ok (answer.Done, insert tree (dir ++ name ∷ []) node))) judged;
+      is = creates_are_judged old tree m node dir name ∙ ap (λ (r : Result ℕ VolError). and_then r (λ _. Ok (answer.Done, insert tree (dir ++ name ∷ []) node))) judged;
       means = subst (λ (p : Path). MeansTree new (insert tree p node)) same made.means;
       count = ap (λ (p : Path). length (insert tree p node)) (sym same) ∙ made.count;
     }
@@ -155,7 +155,7 @@ refilled old new tree m path i bytes found refills =
     subst (λ (p : Path). MeansPaths new (insert tree p (File bytes)) (length tree)) same made
 
 file_found : (old : Inodes) (tree : Tree) → MeansTree old tree → (path : Path) (i : ℕ) → resolve old path ≡ Ok (i, kind.File) → file_at tree path ≡ Ok (bytes_of (old i))
-file_found old tree m path i found = files_are_judged old tree m path ∙ ap (λ (r : Result Link VolError). after r (bytes_in old)) found
+file_found old tree m path i found = files_are_judged old tree m path ∙ ap (λ (r : Result Link VolError). and_then r (bytes_in old)) found
 
 -- what a write does once the file's bytes are found
 abbrev rewrite : Tree → ℕ → List ℕ → Path → List ℕ → Changed
@@ -171,7 +171,7 @@ writes_lead old new tree offset bytes path i m found some fits refills =
     record {
       tree = insert tree path (File all);
       is =
-          ap (λ (r : Result (List ℕ) VolError). after r (rewrite tree offset bytes path)) (file_found old tree m path i found)
+          ap (λ (r : Result (List ℕ) VolError). and_then r (rewrite tree offset bytes path)) (file_found old tree m path i found)
           ∙ ap (λ b. cond {A = Changed} b (Ok (answer.Written 0, tree)) (refuse_if (nat_lt file_limit (offset + length bytes)) TooBig (Ok (answer.Written (length bytes), insert tree path (File all))))) (ne_eqb (length bytes) 0 (λ none. omega (arith, some, none)))
           ∙ ap (λ b. refuse_if {A = Answer × Tree} b TooBig (Ok (answer.Written (length bytes), insert tree path (File all)))) (le-ltb file_limit (offset + length bytes) fits);
       means = made.means;
@@ -185,7 +185,7 @@ truncates_lead old new tree size path i m found fits refills =
     record {
       tree = insert tree path (File all);
       is =
-          ap (λ (r : Result (List ℕ) VolError). after {B = Answer × Tree} r (λ held. refuse_if (nat_lt file_limit size) TooBig (Ok (answer.Done, insert tree path (File (resized held size)))))) (file_found old tree m path i found)
+          ap (λ (r : Result (List ℕ) VolError). and_then {B = Answer × Tree} r (λ held. refuse_if (nat_lt file_limit size) TooBig (Ok (answer.Done, insert tree path (File (resized held size)))))) (file_found old tree m path i found)
           ∙ ap (λ b. refuse_if {A = Answer × Tree} b TooBig (Ok (answer.Done, insert tree path (File all)))) (le-ltb file_limit size fits);
       means = made.means;
       count = made.count;
@@ -216,7 +216,7 @@ unlinks_lead old new tree dir name parent i m is_named drops =
     let made = dropped old new tree m dir name parent (i, kind.File) held.0 found there held.1 (file_bare held.0 held.2) drops in
     record {
       tree = remove tree (dir ++ name ∷ []);
-      is = ap (λ (r : Result (List ℕ) VolError). after {B = Answer × Tree} r (λ _. Ok (answer.Done, remove tree (dir ++ name ∷ [])))) (file_found old tree m (dir ++ name ∷ []) i (resolve-child old dir name parent (i, kind.File) found there));
+      is = ap (λ (r : Result (List ℕ) VolError). and_then {B = Answer × Tree} r (λ _. Ok (answer.Done, remove tree (dir ++ name ∷ [])))) (file_found old tree m (dir ++ name ∷ []) i (resolve-child old dir name parent (i, kind.File) found there));
       means = made.means;
       count = made.count;
     }
@@ -233,16 +233,16 @@ rmdirs_lead old new tree listing dir name parent i m l is_named none drops =
     let path = dir ++ name ∷ [] in
     record {
       tree = remove tree path;
-      is = rmdirs_are_judged old tree listing m l path ∙ ap (λ (r : Result (Unit {0}) VolError). after {B = Answer × Tree} r (λ _. Ok (answer.Done, remove tree path)))
-          (ap (λ b. refuse_if b BadPath (after (resolve old path) judged)) (below_root dir name)
-          ∙ ap (λ (r : Result Link VolError). after r judged) (resolve-child old dir name parent (i, kind.Directory) found there)
+      is = rmdirs_are_judged old tree listing m l path ∙ ap (λ (r : Result (Unit {0}) VolError). and_then {B = Answer × Tree} r (λ _. Ok (answer.Done, remove tree path)))
+          (ap (λ b. refuse_if b BadPath (and_then (resolve old path) judged)) (below_root dir name)
+          ∙ ap (λ (r : Result Link VolError). and_then r judged) (resolve-child old dir name parent (i, kind.Directory) found there)
           ∙ ap (λ b. refuse_if b NotEmpty (Ok tt)) none);
       means = made.means;
       count = made.count;
     }
   where
     judged : Link → Result (Unit {0}) VolError
-    judged at = after (as_dir at) (λ _. refuse_if (has_any listing at.0) NotEmpty (Ok tt))
+    judged at = and_then (as_dir at) (λ _. refuse_if (has_any listing at.0) NotEmpty (Ok tt))
 
 -- ---- a rename
 
@@ -252,22 +252,22 @@ record Judged (old : Inodes) (tree : Tree) (listing : Listing) (from dir : Path)
   other : same_path from (dir ++ name ∷ []) ≡ false
   free : may_take listing k (record_in (old to) name) ≡ Ok tt
 
-same_kind : (x : Node) → is_dir_kind (kind_of x) ≡ is_dir x
+same_kind : (x : Node) → is_dir_kind (node_kind x) ≡ is_dir x
 same_kind Dir = refl
 same_kind (File bytes) = refl
 
-moving : (b : Bool) (r : Result (Unit {0}) VolError) → cond b (Ok false) (after r (λ _. Ok true)) ≡ Ok true → (b ≡ false) × (r ≡ Ok tt)
+moving : (b : Bool) (r : Result (Unit {0}) VolError) → cond b (Ok false) (and_then r (λ _. Ok true)) ≡ Ok true → (b ≡ false) × (r ≡ Ok tt)
 moving true r is = cc
 moving false (Ok u) is = (refl, refl)
 moving false (Err e) is = cc
 
 has_judged : (old : Inodes) (tree : Tree) (listing : Listing) (from dir : Path) (name : Name) (x : Node) (link : Link) (to : ℕ) →
-    judge_rename old listing from dir name ≡ Ok true → resolve old from ≡ Ok link → kind_of x ≡ link.1 → resolve old dir ≡ Ok (to, kind.Directory) → Judged old tree listing from dir name x link.1 to
+    judge_rename old listing from dir name ≡ Ok true → resolve old from ≡ Ok link → node_kind x ≡ link.1 → resolve old dir ≡ Ok (to, kind.Directory) → Judged old tree listing from dir name x link.1 to
 has_judged old tree listing from dir name x link to judged found kinds into =
     let below = refuse_if-ok (is_root from || is_root (dir ++ name ∷ [])) BadPath _ true judged in
-    let placed = sym (ap (λ (r : Result Link VolError). after r next) found) ∙ below.1 in
+    let placed = sym (ap (λ (r : Result Link VolError). and_then r next) found) ∙ below.1 in
     let out = refuse_if-ok (is_dir_kind link.1 && (is_within from (dir ++ name ∷ []) && not (same_path from (dir ++ name ∷ [])))) IntoItself _ true placed in
-    let there = sym (ap (λ (r : Result Link VolError). after r (last link.1)) into) ∙ out.1 in
+    let there = sym (ap (λ (r : Result Link VolError). and_then r (last link.1)) into) ∙ out.1 in
     let ends = moving (same_path from (dir ++ name ∷ [])) (may_take listing link.1 (record_in (old to) name)) there in
     record {
       away = ap (λ b. b && (is_within from (dir ++ name ∷ []) && not (same_path from (dir ++ name ∷ [])))) (sym (same_kind x) ∙ ap is_dir_kind kinds) ∙ out.0;
@@ -276,10 +276,10 @@ has_judged old tree listing from dir name x link to judged found kinds into =
     }
   where
     last : Kind → Link → Result Bool VolError
-    last k at = after (as_dir at) (λ _. cond (same_path from (dir ++ name ∷ [])) (Ok false) (after (may_take listing k (record_in (old at.0) name)) (λ _. Ok true)))
+    last k at = and_then (as_dir at) (λ _. cond (same_path from (dir ++ name ∷ [])) (Ok false) (and_then (may_take listing k (record_in (old at.0) name)) (λ _. Ok true)))
 
     next : Link → Result Bool VolError
-    next at = refuse_if (is_dir_kind at.1 && (is_within from (dir ++ name ∷ []) && not (same_path from (dir ++ name ∷ [])))) IntoItself (after (resolve old dir) (last at.1))
+    next at = refuse_if (is_dir_kind at.1 && (is_within from (dir ++ name ∷ []) && not (same_path from (dir ++ name ∷ [])))) IntoItself (and_then (resolve old dir) (last at.1))
 
 module _ (old new : Inodes) (tree : Tree) (listing : Listing) (m : MeansTree old tree) (l : IsListing old listing)
     (fd : Path) (fn : Name) (td : Path) (tn : Name) (a b : ℕ) (link : Link)
@@ -290,20 +290,20 @@ module _ (old new : Inodes) (tree : Tree) (listing : Listing) (m : MeansTree old
   abbrev to : Path
   to = td ++ tn ∷ []
 
-  source : (c : InodeContent) × (old link.0 ≡ Some c) × (kind_of (node_of c) ≡ link.1) × (lookup tree from ≡ Some (node_of c))
+  source : (c : InodeContent) × (old link.0 ≡ Some c) × (node_kind (node_of c) ≡ link.1) × (lookup tree from ≡ Some (node_of c))
   source = link_held old tree m fd fn a link found there
 
   judgement : Judged old tree listing from td tn (node_of source.0) link.1 b
   judgement = has_judged old tree listing from td tn (node_of source.0) link b judged (resolve-child old fd fn a link found there) source.2 into
 
   walked : walk tree to ≡ Ok tt
-  walked = parents_by_inodes old tree m td tn ∙ ap (λ (r : Result Link VolError). after r as_dir) into
+  walked = parents_by_inodes old tree m td tn ∙ ap (λ (r : Result Link VolError). and_then r as_dir) into
 
   outside : is_within (reverse (fn ∷ reverse fd)) (reverse (tn ∷ reverse td)) ≡ false
   outside = (λ i. is_within (path_of_child fd fn i) (path_of_child td tn i)) ∙ not_into tree from to (node_of source.0) source.3 judgement.away walked judgement.other
 
   answered : rename tree from to ≡ Ok (answer.Done, move_subtree tree from to)
-  answered = renames_are_judged old tree listing m l from td tn ∙ ap (λ (r : Result Bool VolError). after {B = Answer × Tree} r (λ moves. Ok (answer.Done, cond moves (move_subtree tree from to) tree))) judged
+  answered = renames_are_judged old tree listing m l from td tn ∙ ap (λ (r : Result Bool VolError). and_then {B = Answer × Tree} r (λ moves. Ok (answer.Done, cond moves (move_subtree tree from to) tree))) judged
 
   paths_are : move_subtree tree (reverse (fn ∷ reverse fd)) (reverse (tn ∷ reverse td)) ≡ move_subtree tree from to
   paths_are = λ i. move_subtree tree (path_of_child fd fn i) (path_of_child td tn i)

@@ -6,7 +6,7 @@ use Rattle.std.proofs.lemmas.Bool.{eqb-true, eqb-false}
 use Rattle.nl_types.specs.declared.reply.Node.{Node}
 use Rattle.nl_types.specs.declared.reply.Node.TheVariants.{Dir, File}
 use Rattle.nl_types.specs.Paths.{Name, Path}
-use Rattle.nl_types.specs.Trees.{kind_of}
+use Rattle.nl_types.specs.Trees.{node_kind}
 use Rattle.nl_types.specs.Inodes.{Link, InodeContent, Bytes, Records, Inodes, IsRooted, Pairs, record_of}
 use Rattle.nl_types.specs.InodeChanges.{HoldsChanged, put_record, fresh_content}
 use Rattle.nl_types.proofs.Inodes.Walks.{absent}
@@ -16,7 +16,7 @@ use Rattle.nl_types.proofs.Inodes.Recording.{clash, same_value, same_child, put_
 module _ (inodes inodes' : Inodes) (tree : Path → Option Node) (f : Path → Option ℕ) (name : Name) (dir : Path) (node : Node) (j : ℕ)
     (t : IsRooted tree) (m : Pairs inodes tree f) (parent : ℕ) (parent_is : f dir ≡ Some parent) (in_dir : tree dir ≡ Some Dir) (none : tree (name ∷ dir) ≡ None)
     (free : inodes j ≡ None) (added : inodes' j ≡ Some (fresh_content node))
-    (others : (i : ℕ) → (i ≡ j → ⊥) → HoldsChanged (put_record parent name (Some (j, kind_of node)) i) (inodes i) (inodes' i)) where
+    (others : (i : ℕ) → (i ≡ j → ⊥) → HoldsChanged (put_record parent name (Some (j, node_kind node)) i) (inodes i) (inodes' i)) where
   abbrev pub f' : Path → Option ℕ
   f' = put_at (name ∷ dir) (Some j) f
 
@@ -34,28 +34,28 @@ module _ (inodes inodes' : Inodes) (tree : Path → Option Node) (f : Path → O
   not_new : (q : Path) (i : ℕ) → f q ≡ Some i → i ≡ j → ⊥
   not_new q i k e = in_use q i (tree q) refl k (ap inodes e ∙ free)
 
-  holds : (q : Path) (i : ℕ) (o : Option InodeContent) → f q ≡ Some i → inodes i ≡ o → HoldsChanged (put_record parent name (Some (j, kind_of node)) i) o (inodes' i)
-  holds q i o k e = subst (λ (x : Option InodeContent). HoldsChanged (put_record parent name (Some (j, kind_of node)) i) x (inodes' i)) e (others i (not_new q i k))
+  holds : (q : Path) (i : ℕ) (o : Option InodeContent) → f q ≡ Some i → inodes i ≡ o → HoldsChanged (put_record parent name (Some (j, node_kind node)) i) o (inodes' i)
+  holds q i o k e = subst (λ (x : Option InodeContent). HoldsChanged (put_record parent name (Some (j, node_kind node)) i) x (inodes' i)) e (others i (not_new q i k))
 
-  record_new : (a : Option ℕ) (x : Option Node) → a ≡ Some j → x ≡ Some node → Some (j, kind_of node) ≡ option_zip a (option_map kind_of x)
+  record_new : (a : Option ℕ) (x : Option Node) → a ≡ Some j → x ≡ Some node → Some (j, node_kind node) ≡ option_zip a (option_map node_kind x)
   record_new a x e k = rw (e, k) refl
 
   record_at : (q : Path) (i : ℕ) (n : Name) (old : Option Link) → f q ≡ Some i → old ≡ record_of tree f (n ∷ q) →
-      put_record parent name (Some (j, kind_of node)) i n old ≡ record_of tree' f' (n ∷ q)
+      put_record parent name (Some (j, node_kind node)) i n old ≡ record_of tree' f' (n ∷ q)
   record_at q i n old fq is = elim (path_cases (n ∷ q) (name ∷ dir)) [
     | inl y ↦ here y.1
     | inr x ↦ apart x.1 ∙ (is ∙ sym (record_cong _ _ _ _ (put_at-other (name ∷ dir) (Some j) f (n ∷ q) x.1) (put_at-other (name ∷ dir) (Some node) tree (n ∷ q) x.1)))
   ]
     where
-      here : n ∷ q ≡ name ∷ dir → put_record parent name (Some (j, kind_of node)) i n old ≡ record_of tree' f' (n ∷ q)
+      here : n ∷ q ≡ name ∷ dir → put_record parent name (Some (j, node_kind node)) i n old ≡ record_of tree' f' (n ∷ q)
       here y =
           let en : n ≡ name = cc in
           let ep : q ≡ dir = cc in
           let at : i ≡ parent = same_value (f q) i parent fq (ap f ep ∙ parent_is) in
-          put_record-there parent name (Some (j, kind_of node)) i n old at en
+          put_record-there parent name (Some (j, node_kind node)) i n old at en
           ∙ record_new _ _ (ap f' y ∙ put_at-there (name ∷ dir) (Some j) f) (ap tree' y ∙ put_at-there (name ∷ dir) (Some node) tree)
 
-      apart : (n ∷ q ≡ name ∷ dir → ⊥) → put_record parent name (Some (j, kind_of node)) i n old ≡ old
+      apart : (n ∷ q ≡ name ∷ dir → ⊥) → put_record parent name (Some (j, node_kind node)) i n old ≡ old
       apart ne = elim (name_cases n name) [
         | inl y ↦ put_record-dir parent name _ i n old (λ e. ne (same_child n name q dir y.1 (m.once q dir i fq (parent_is ∙ ap (λ (k : ℕ). Some k) (sym e)))))
         | inr y ↦ put_record-name parent name _ i n old y.1
@@ -122,7 +122,7 @@ module _ (inodes inodes' : Inodes) (tree : Path → Option Node) (f : Path → O
   ]
 
   was_there : (i : ℕ) (o : Option InodeContent) (c : InodeContent) → (i ≡ j → ⊥) → inodes i ≡ o → inodes' i ≡ Some c → (c' : InodeContent) × (inodes i ≡ Some c')
-  was_there i None c ne e k = absurd (clash (inodes' i) c (subst (λ (o : Option InodeContent). HoldsChanged (put_record parent name (Some (j, kind_of node)) i) o (inodes' i)) e (others i ne)) k)
+  was_there i None c ne e k = absurd (clash (inodes' i) c (subst (λ (o : Option InodeContent). HoldsChanged (put_record parent name (Some (j, node_kind node)) i) o (inodes' i)) e (others i ne)) k)
   was_there i (Some c') c ne e k = (c', e)
 
   old_inode : (i : ℕ) (c : InodeContent) → inodes i ≡ Some c → (p : Path) × (f' p ≡ Some i)

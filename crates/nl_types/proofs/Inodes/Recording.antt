@@ -10,7 +10,7 @@ use Rattle.std.proofs.lemmas.Bool.{eq-eqb, ne_eqb}
 use Rattle.nl_types.specs.declared.reply.Node.{Node}
 use Rattle.nl_types.specs.declared.reply.Node.TheVariants.{Dir}
 use Rattle.nl_types.specs.Paths.{Name, Path, name_cmp, same_name}
-use Rattle.nl_types.specs.Trees.{kind_of}
+use Rattle.nl_types.specs.Trees.{node_kind}
 use Rattle.nl_types.specs.Inodes.{Link, InodeContent, Bytes, Records, IsRooted}
 use Rattle.nl_types.specs.InodeChanges.{HoldsChanged, put_record}
 use Rattle.nl_types.proofs.Lookups.{names_equal, same_name-itself, same_name-equal}
@@ -41,7 +41,7 @@ pub put_record-name : (d : ℕ) (n : Name) (x : Option Link) (i : ℕ) (m : Name
 unfolding put_record
 put_record-name d n x i m old ne = elim (name_cases m n) [ inl t ↦ absurd (ne t.1) | inr f ↦ rw (and_false (i == d) (same_name m n) (f.0)) refl ]
 
-pub record_cong : (a b : Option ℕ) (x y : Option Node) → a ≡ b → x ≡ y → option_zip a (option_map kind_of x) ≡ option_zip b (option_map kind_of y)
+pub record_cong : (a b : Option ℕ) (x y : Option Node) → a ≡ b → x ≡ y → option_zip a (option_map node_kind x) ≡ option_zip b (option_map node_kind y)
 record_cong a b x y e k = rw (e, k) refl
 
 no_child : (tree : Path → Option Node) (t : IsRooted tree) (n : Name) (p : Path) (o : Option Node) → tree (n ∷ p) ≡ o → tree p ≡ None → tree (n ∷ p) ≡ None

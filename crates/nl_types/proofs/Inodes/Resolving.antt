@@ -8,8 +8,8 @@ use Rattle.nl_types.specs.declared.reply.Node.{Node}
 use Rattle.nl_types.specs.declared.reply.Node.TheVariants.{Dir, File}
 use Rattle.nl_types.specs.declared.kind.Kind.TheVariants as kind
 use Rattle.nl_types.specs.Paths.{Name, Path}
-use Rattle.nl_types.specs.Trees.{Tree, lookup, kind_of}
-use Rattle.nl_types.specs.Calls.{after, ok_unless, stops_walk, stop_from, walk, node_at}
+use Rattle.nl_types.specs.Trees.{Tree, lookup, node_kind}
+use Rattle.nl_types.specs.Calls.{and_then, ok_unless, stops_walk, stop_from, walk, node_at}
 use Rattle.nl_types.specs.Inodes.{Link, InodeContent, Bytes, Records, Inodes, MeansTree, upward, record_of, node_of, reached}
 use Rattle.nl_types.specs.InodeChanges.{HasRecords}
 use Rattle.nl_types.specs.Resolving.{record_in, resolve_from, resolve, as_dir, node_in}
@@ -42,7 +42,7 @@ module _ (inodes : Inodes) (tree : Tree) (m : MeansTree inodes tree) where
 
   -- what a walk to a path finds: its inode and kind
   abbrev pub link_at : Path → Option Link
-  link_at p = option_zip (inode p) (option_map kind_of (lookup tree p))
+  link_at p = option_zip (inode p) (option_map node_kind (lookup tree p))
 
   pub upward_at : (p : Path) → upward tree (reverse p) ≡ lookup tree p
   upward_at p = ap (lookup tree) (reverse-reverse p)
@@ -58,17 +58,17 @@ module _ (inodes : Inodes) (tree : Tree) (m : MeansTree inodes tree) where
         k.1,
         λ n. k.2 n
             ∙ ap (λ (q : Path). record_of (upward tree) m.inode_of q) (snoc p n)
-            ∙ ap (λ (x : Option Node). option_zip (inode (p ++ n ∷ [])) (option_map kind_of x)) (upward_at (p ++ n ∷ [])),
+            ∙ ap (λ (x : Option Node). option_zip (inode (p ++ n ∷ [])) (option_map node_kind x)) (upward_at (p ++ n ∷ [])),
       )
 
   pub child_record : (p : Path) (n : Name) (i : ℕ) → inode p ≡ Some i → lookup tree p ≡ Some Dir → record_in (inodes i) n ≡ link_at (p ++ n ∷ [])
   child_record p n i e d = let k = holds_records p i e d in ap (λ (o : Option InodeContent). record_in o n) k.1 ∙ k.2 n
 
-  pub link_is : (p : Path) (i : ℕ) (node : Node) → inode p ≡ Some i → lookup tree p ≡ Some node → link_at p ≡ Some (i, kind_of node)
+  pub link_is : (p : Path) (i : ℕ) (node : Node) → inode p ≡ Some i → lookup tree p ≡ Some node → link_at p ≡ Some (i, node_kind node)
   link_is p i node e d = rw (e, d) refl
 
   pub no_link : (p : Path) → lookup tree p ≡ None → link_at p ≡ None
-  no_link p e = no_pair (inode p) (option_map kind_of (lookup tree p)) (rw e refl)
+  no_link p e = no_pair (inode p) (option_map node_kind (lookup tree p)) (rw e refl)
 
   pub inode_at : (p : Path) (node : Node) → lookup tree p ≡ Some node → (i : ℕ) × (inode p ≡ Some i)
   inode_at p node d = present (inode p) (m.pairs.paths (reverse p) ∙ ap (λ (o : Option Node). is_some o) (upward_at p ∙ d))
@@ -79,14 +79,14 @@ module _ (inodes : Inodes) (tree : Tree) (m : MeansTree inodes tree) where
   node_held p (File bytes) i e d = ap (option_map node_of) (m.pairs.file (reverse p) i bytes (upward_at p ∙ d) e)
 
   abbrev Found : Path → Link → Path → Type 0
-  Found walked at names = resolve_from inodes at names ≡ after (ok_unless (stop_from tree walked names)) (λ _. ok_or (link_at (walked ++ names)) NotFound)
+  Found walked at names = resolve_from inodes at names ≡ and_then (ok_unless (stop_from tree walked names)) (λ _. ok_or (link_at (walked ++ names)) NotFound)
 
   not_there : (walked : Path) (n : Name) (names : Path) → lookup tree (walked ++ n ∷ []) ≡ None →
-      Err NotFound ≡ after (ok_unless (stop_from tree (walked ++ n ∷ []) names)) (λ _. ok_or (link_at (walked ++ n ∷ names)) NotFound)
+      Err NotFound ≡ and_then (ok_unless (stop_from tree (walked ++ n ∷ []) names)) (λ _. ok_or (link_at (walked ++ n ∷ names)) NotFound)
   not_there walked n [] e = rw (no_link (walked ++ n ∷ []) e) refl
   not_there walked n (k ∷ names) e = rw e refl
 
-  found_from : (names walked : Path) (i : ℕ) (node : Node) → inode walked ≡ Some i → lookup tree walked ≡ Some node → Found walked (i, kind_of node) names
+  found_from : (names walked : Path) (i : ℕ) (node : Node) → inode walked ≡ Some i → lookup tree walked ≡ Some node → Found walked (i, node_kind node) names
   found_from [] walked i node e d = rw (append-nil walked) (rw (link_is walked i node e d) refl)
   found_from (n ∷ names) walked i (File bytes) e d = rw d refl
   found_from (n ∷ names) walked i Dir e d = choose (λ j node a b. found_from names (walked ++ n ∷ []) j node a b) (lookup tree (walked ++ n ∷ [])) refl
@@ -97,25 +97,25 @@ module _ (inodes : Inodes) (tree : Tree) (m : MeansTree inodes tree) where
       on : (walked ++ n ∷ []) ++ names ≡ walked ++ n ∷ names
       on = append_assoc walked (n ∷ []) names
 
-      choose : ((j : ℕ) (node : Node) → inode (walked ++ n ∷ []) ≡ Some j → lookup tree (walked ++ n ∷ []) ≡ Some node → Found (walked ++ n ∷ []) (j, kind_of node) names) →
+      choose : ((j : ℕ) (node : Node) → inode (walked ++ n ∷ []) ≡ Some j → lookup tree (walked ++ n ∷ []) ≡ Some node → Found (walked ++ n ∷ []) (j, node_kind node) names) →
           (o : Option Node) → lookup tree (walked ++ n ∷ []) ≡ o → Found walked (i, kind.Directory) (n ∷ names)
       choose rest None h =
           let none : record_in (inodes i) n ≡ None = record_is ∙ no_link (walked ++ n ∷ []) h in
           rw (none, d) (not_there walked n names h)
       choose rest (Some node) h =
           let j = inode_at (walked ++ n ∷ []) node h in
-          let some : record_in (inodes i) n ≡ Some (j.0, kind_of node) = record_is ∙ link_is (walked ++ n ∷ []) j.0 node j.1 h in
-          rw (some, d) (rest j.0 node j.1 h ∙ ap (λ (p : Path). after (ok_unless (stop_from tree (walked ++ n ∷ []) names)) (λ _. ok_or (link_at p) NotFound)) on)
+          let some : record_in (inodes i) n ≡ Some (j.0, node_kind node) = record_is ∙ link_is (walked ++ n ∷ []) j.0 node j.1 h in
+          rw (some, d) (rest j.0 node j.1 h ∙ ap (λ (p : Path). and_then (ok_unless (stop_from tree (walked ++ n ∷ []) names)) (λ _. ok_or (link_at p) NotFound)) on)
 
   -- the walk over inodes is the walk in the tree
-  found_at : (path : Path) → resolve inodes path ≡ after (walk tree path) (λ _. ok_or (link_at path) NotFound)
+  found_at : (path : Path) → resolve inodes path ≡ and_then (walk tree path) (λ _. ok_or (link_at path) NotFound)
   found_at path = found_from path [] 2 Dir m.pairs.root m.rooted.root
 
   -- by the walk in the tree, and by what the tree has
   pub by_cases : (P : Result Link VolError → Type 0) (path : Path) →
       ((x : VolError) → stop_from tree [] path ≡ Some x → P (Err x)) →
       (stop_from tree [] path ≡ None → lookup tree path ≡ None → P (Err NotFound)) →
-      ((i : ℕ) (node : Node) → stop_from tree [] path ≡ None → lookup tree path ≡ Some node → inode path ≡ Some i → P (Ok (i, kind_of node))) →
+      ((i : ℕ) (node : Node) → stop_from tree [] path ≡ None → lookup tree path ≡ Some node → inode path ≡ Some i → P (Ok (i, node_kind node))) →
       P (resolve inodes path)
   by_cases P path stopped absent there = subst P (sym (found_at path)) (by_stop (stop_from tree [] path) refl)
     where
@@ -123,12 +123,12 @@ module _ (inodes : Inodes) (tree : Tree) (m : MeansTree inodes tree) where
       by_node k None h = subst (λ (o : Option Link). P (ok_or o NotFound)) (sym (no_link path h)) (absent k h)
       by_node k (Some node) h = let j = inode_at path node h in subst (λ (o : Option Link). P (ok_or o NotFound)) (sym (link_is path j.0 node j.1 h)) (there j.0 node k h j.1)
 
-      by_stop : (s : Option VolError) → stop_from tree [] path ≡ s → P (after (ok_unless s) (λ _. ok_or (link_at path) NotFound))
+      by_stop : (s : Option VolError) → stop_from tree [] path ≡ s → P (and_then (ok_unless s) (λ _. ok_or (link_at path) NotFound))
       by_stop (Some x) k = stopped x k
       by_stop None k = by_node k (lookup tree path) refl
 
-  nodes : (path : Path) → node_at tree path ≡ after (resolve inodes path) (λ at. ok_or (node_in inodes at) NotFound)
-  nodes path = by_cases (λ r. node_at tree path ≡ after r (λ at. ok_or (node_in inodes at) NotFound)) path
+  nodes : (path : Path) → node_at tree path ≡ and_then (resolve inodes path) (λ at. ok_or (node_in inodes at) NotFound)
+  nodes path = by_cases (λ r. node_at tree path ≡ and_then r (λ at. ok_or (node_in inodes at) NotFound)) path
       (λ x k. rw k refl)
       (λ k h. rw (k, h) refl)
       (λ i node k h e. rw (k, h) (ap (λ (o : Option Node). ok_or o NotFound) (sym (node_held path node i e h))))
@@ -136,20 +136,20 @@ module _ (inodes : Inodes) (tree : Tree) (m : MeansTree inodes tree) where
   pub walk_snoc : (dir : Path) (name : Name) → walk tree (dir ++ name ∷ []) ≡ ok_unless (option_or (stop_from tree [] dir) (stops_walk (lookup tree dir)))
   walk_snoc dir name = ap ok_unless (stop_snoc tree dir [] name)
 
-  parents : (dir : Path) (name : Name) → walk tree (dir ++ name ∷ []) ≡ after (resolve inodes dir) as_dir
-  parents dir name = walk_snoc dir name ∙ by_cases (λ r. ok_unless (option_or (stop_from tree [] dir) (stops_walk (lookup tree dir))) ≡ after r as_dir) dir
+  parents : (dir : Path) (name : Name) → walk tree (dir ++ name ∷ []) ≡ and_then (resolve inodes dir) as_dir
+  parents dir name = walk_snoc dir name ∙ by_cases (λ r. ok_unless (option_or (stop_from tree [] dir) (stops_walk (lookup tree dir))) ≡ and_then r as_dir) dir
       (λ x k. rw k refl)
       (λ k h. rw (k, h) refl)
       (λ i node k h e. rw (k, h) (by_node node i))
     where
-      by_node : (node : Node) (i : ℕ) → ok_unless (stops_walk (Some node)) ≡ as_dir (i, kind_of node)
+      by_node : (node : Node) (i : ℕ) → ok_unless (stops_walk (Some node)) ≡ as_dir (i, node_kind node)
       by_node Dir i = refl
       by_node (File bytes) i = refl
 
   -- where a walk comes to
   abbrev Stands : Path → Result Link VolError → Type 0
   Stands path (Err x) = Unit {0}
-  Stands path (Ok at) = (node : Node) × (lookup tree path ≡ Some node) × (inode path ≡ Some at.0) × (kind_of node ≡ at.1)
+  Stands path (Ok at) = (node : Node) × (lookup tree path ≡ Some node) × (inode path ≡ Some at.0) × (node_kind node ≡ at.1)
 
   stands : (path : Path) → Stands path (resolve inodes path)
   stands path = by_cases (Stands path) path (λ x k. tt) (λ k h. tt) (λ i node k h e. (node, h, e, refl))
@@ -157,11 +157,11 @@ module _ (inodes : Inodes) (tree : Tree) (m : MeansTree inodes tree) where
   stands_at : (path : Path) (at : Link) → resolve inodes path ≡ Ok at → Stands path (Ok at)
   stands_at path at is = subst (Stands path) is (stands path)
 
-  dir_of : (node : Node) → kind_of node ≡ kind.Directory → node ≡ Dir
+  dir_of : (node : Node) → node_kind node ≡ kind.Directory → node ≡ Dir
   dir_of Dir e = refl
   dir_of (File bytes) e = cc
 
-  file_of : (node : Node) → kind_of node ≡ kind.File → (bytes : List ℕ) × (node ≡ File bytes)
+  file_of : (node : Node) → node_kind node ≡ kind.File → (bytes : List ℕ) × (node ≡ File bytes)
   file_of Dir e = cc
   file_of (File bytes) e = (bytes, refl)
 

@@ -6,7 +6,7 @@ use Rattle.std.proofs.lemmas.Bool.{eqb-true, eqb-false}
 use Rattle.nl_types.specs.declared.reply.Node.{Node}
 use Rattle.nl_types.specs.declared.reply.Node.TheVariants.{Dir, File}
 use Rattle.nl_types.specs.Paths.{Path}
-use Rattle.nl_types.specs.Trees.{kind_of}
+use Rattle.nl_types.specs.Trees.{node_kind}
 use Rattle.nl_types.specs.Inodes.{InodeContent, Bytes, Inodes, IsRooted, Pairs}
 use Rattle.nl_types.proofs.Inodes.Ways.{path_cases, put_at, put_at-there, put_at-other}
 use Rattle.nl_types.proofs.Inodes.Recording.{same_value}
@@ -20,13 +20,13 @@ module _ (inodes inodes' : Inodes) (tree : Path → Option Node) (f : Path → O
   there : tree' path ≡ Some (File new)
   there = put_at-there path (Some (File new)) tree
 
-  kinds : (p : Path) → option_map kind_of (tree' p) ≡ option_map kind_of (tree p)
+  kinds : (p : Path) → option_map node_kind (tree' p) ≡ option_map node_kind (tree p)
   kinds p = elim (path_cases p path) [
-    | inl y ↦ ap (λ q. option_map kind_of (tree' q)) y.1 ∙ ap (option_map kind_of) there ∙ sym (ap (λ q. option_map kind_of (tree q)) y.1 ∙ ap (option_map kind_of) was)
-    | inr x ↦ ap (option_map kind_of) (put_at-other path (Some (File new)) tree p x.1)
+    | inl y ↦ ap (λ q. option_map node_kind (tree' q)) y.1 ∙ ap (option_map node_kind) there ∙ sym (ap (λ q. option_map node_kind (tree q)) y.1 ∙ ap (option_map node_kind) was)
+    | inr x ↦ ap (option_map node_kind) (put_at-other path (Some (File new)) tree p x.1)
   ]
 
-  mapped : (o : Option Node) → is_some (option_map kind_of o) ≡ is_some o
+  mapped : (o : Option Node) → is_some (option_map node_kind o) ≡ is_some o
   mapped None = refl
   mapped (Some x) = refl
 

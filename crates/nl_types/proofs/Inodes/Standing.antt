@@ -5,7 +5,7 @@ use Rattle.std.proofs.Common.{sym, ◌∙◌, ap}
 use Rattle.nl_types.specs.declared.reply.Node.{Node}
 use Rattle.nl_types.specs.declared.reply.Node.TheVariants.{Dir}
 use Rattle.nl_types.specs.Paths.{Name, Path}
-use Rattle.nl_types.specs.Trees.{kind_of}
+use Rattle.nl_types.specs.Trees.{node_kind}
 use Rattle.nl_types.specs.Inodes.{Link, InodeContent, Bytes, Records, Inodes, IsRooted, Pairs, record_of, reached, node_of, inode_named}
 use Rattle.nl_types.specs.InodeChanges.{HasRecords, IsBare}
 use Rattle.nl_types.proofs.Inodes.Walks.{reached-pairs, found-pairs}
@@ -14,10 +14,10 @@ use Rattle.nl_types.proofs.Inodes.Recording.{same_value}
 -- ---- what an inode holds stands at its path
 
 -- what has a record has an inode and a node
-pub zipped : (a : Option ℕ) (x : Option Node) (e : Link) → option_zip a (option_map kind_of x) ≡ Some e → (a ≡ Some e.0) × (y : Node) × (x ≡ Some y) × (kind_of y ≡ e.1)
+pub zipped : (a : Option ℕ) (x : Option Node) (e : Link) → option_zip a (option_map node_kind x) ≡ Some e → (a ≡ Some e.0) × (y : Node) × (x ≡ Some y) × (node_kind y ≡ e.1)
 zipped None x e k = cc
 zipped (Some a) None e k = cc
-zipped (Some a) (Some y) e k = let pair : (a, kind_of y) ≡ e = cc in (ap (λ (p : Link). Some p.0) pair, y, refl, ap (λ (p : Link). p.1) pair)
+zipped (Some a) (Some y) e k = let pair : (a, node_kind y) ≡ e = cc in (ap (λ (p : Link). Some p.0) pair, y, refl, ap (λ (p : Link). p.1) pair)
 
 module _ {inodes : Inodes} {tree : Path → Option Node} {f : Path → Option ℕ} (t : IsRooted tree) (m : Pairs inodes tree f) where
   pub inode_there : (p : Path) (i : ℕ) → reached inodes p ≡ Some i → f p ≡ Some i
@@ -36,10 +36,10 @@ module _ {inodes : Inodes} {tree : Path → Option Node} {f : Path → Option �
       let same : h.records ≡ d.0 = cc in
       ap (λ (r : Name → Option Link). r n) same ∙ d.2 n
 
-  pub child_there : (p : Path) (h : HasRecords inodes p) (n : Name) (e : Link) → h.records n ≡ Some e → (f (n ∷ p) ≡ Some e.0) × (y : Node) × (tree (n ∷ p) ≡ Some y) × (kind_of y ≡ e.1)
+  pub child_there : (p : Path) (h : HasRecords inodes p) (n : Name) (e : Link) → h.records n ≡ Some e → (f (n ∷ p) ≡ Some e.0) × (y : Node) × (tree (n ∷ p) ≡ Some y) × (node_kind y ≡ e.1)
   child_there p h n e k = zipped (f (n ∷ p)) (tree (n ∷ p)) e (sym (records_are p h n) ∙ k)
 
-  not_zipped : (a : Option ℕ) (x : Option Node) → is_some a ≡ is_some x → option_zip a (option_map kind_of x) ≡ None → x ≡ None
+  not_zipped : (a : Option ℕ) (x : Option Node) → is_some a ≡ is_some x → option_zip a (option_map node_kind x) ≡ None → x ≡ None
   not_zipped a None e k = refl
   not_zipped None (Some y) e k = cc
   not_zipped (Some a) (Some y) e k = cc

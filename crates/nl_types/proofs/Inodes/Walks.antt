@@ -6,7 +6,7 @@ use Rattle.nl_types.specs.declared.reply.Node.{Node}
 use Rattle.nl_types.specs.declared.reply.Node.TheVariants.{Dir, File}
 use Rattle.nl_types.specs.declared.kind.Kind.{Kind}
 use Rattle.nl_types.specs.Paths.{Name, Path}
-use Rattle.nl_types.specs.Trees.{kind_of}
+use Rattle.nl_types.specs.Trees.{node_kind}
 use Rattle.nl_types.specs.Inodes.{InodeContent, IsRooted, Pairs, inode_named, reached, node_of, found}
 
 pub absent : {A : Type 0} (o : Option A) → is_some o ≡ false → o ≡ None
@@ -23,7 +23,7 @@ zip_first None b h = refl
 zip_first (Some x) None h = cc
 zip_first (Some x) (Some y) h = refl
 
-kinds_there : (o : Option Node) → is_some (option_map kind_of o) ≡ is_some o
+kinds_there : (o : Option Node) → is_some (option_map node_kind o) ≡ is_some o
 kinds_there None = refl
 kinds_there (Some x) = refl
 
@@ -42,7 +42,7 @@ module _ {inodes : ℕ → Option InodeContent} {tree : Path → Option Node} {i
   step n p i Dir e f =
       let d = m.directory p i e f in
       rw (d.1) (ap (λ (o : Option (ℕ × Kind)). option_map (λ (r : ℕ × Kind). r.0) o) (d.2 n)
-      ∙ zip_first (inode_of (n ∷ p)) (option_map kind_of (tree (n ∷ p))) (m.paths (n ∷ p) ∙ sym (kinds_there (tree (n ∷ p)))))
+      ∙ zip_first (inode_of (n ∷ p)) (option_map node_kind (tree (n ∷ p))) (m.paths (n ∷ p) ∙ sym (kinds_there (tree (n ∷ p)))))
   step n p i (File bytes) e f =
       rw (m.file p i bytes e f) (sym (childless n p (λ d. let k : Some Dir ≡ Some (File bytes) = sym d ∙ e in cc)))
 

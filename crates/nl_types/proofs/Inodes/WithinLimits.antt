@@ -17,7 +17,7 @@ use Rattle.nl_types.specs.declared.reply.Node.TheVariants.{Dir, File}
 use Rattle.nl_types.specs.Limits.{file_limit, path_limit}
 use Rattle.nl_types.specs.Paths.{Name, Path, path_cmp, same_path, is_name}
 use Rattle.nl_types.specs.Placing.{row_of}
-use Rattle.nl_types.specs.Trees.{Tree, lookup, kind_of}
+use Rattle.nl_types.specs.Trees.{Tree, lookup, node_kind}
 use Rattle.nl_types.specs.Inodes.{Link, InodeContent, Bytes, Records, Inodes, MeansTree, upward}
 use Rattle.nl_types.specs.InodeLaws.{AreWithinLimits, LimitedInodesMeanTrees}
 use Rattle.nl_types.proofs.TreeLaws.{path_total}
@@ -27,10 +27,10 @@ use Rattle.nl_types.proofs.Inodes.FullVolumes.{row_length}
 use Rattle.nl_types.proofs.Inodes.Walks.{present}
 
 -- a record of what is there
-zipped_there : (a : Option ℕ) (x : Option Node) → is_some a ≡ is_some x → is_some x ≡ true → (link : Link) × (option_zip a (option_map kind_of x) ≡ Some link)
+zipped_there : (a : Option ℕ) (x : Option Node) → is_some a ≡ is_some x → is_some x ≡ true → (link : Link) × (option_zip a (option_map node_kind x) ≡ Some link)
 zipped_there a None e there = cc
 zipped_there None (Some x) e there = cc
-zipped_there (Some i) (Some x) e there = ((i, kind_of x), refl)
+zipped_there (Some i) (Some x) e there = ((i, node_kind x), refl)
 
 module _ (inodes : Inodes) (tree : Tree) (m : MeansTree inodes tree) (w : AreWithinLimits inodes) where
   turned : (path : Path) (name : Name) → reverse (name ∷ reverse path) ≡ path ++ name ∷ []

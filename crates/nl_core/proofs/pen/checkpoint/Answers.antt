@@ -5,7 +5,7 @@ use Rattle.nl_types.specs.declared.event.Event.TheVariants as event
 use Rattle.nl_types.specs.declared.reply.Answer.TheVariants as answer
 use Rattle.nl_dat.specs.Stores.{IsWritten, IsWriteRefused, capacity}
 use Rattle.nl_core.specs.Volume.{next_checkpoint, published}
-use Rattle.nl_types.proofs.ExactLifetimes.{ledger-after, covered_kept_all, ends_once}
+use Rattle.nl_types.proofs.ExactLifetimes.{ledger_after-IsLedger, covered_kept_all, ends_once}
 use Rattle.nl_core.specs.Layout.{Does, layout_of, unshared}
 use Rattle.nl_core.specs.declared.checkpoint.Checkpoint.{Checkpoint}
 use Rattle.nl_core.proofs.Checkpointing.{refused-draft, does-published, does-refused, does-unwritten}
@@ -46,4 +46,4 @@ returns g c =
     subst (λ n. Does unshared old (event.Checkpoint c.args.mode c.args.moment) (Ok (answer.Checkpoint n)) (layout_of c.publish.new.self.lists c.write.new.self)) (sym number)
     (subst (λ ls. Does unshared old (event.Checkpoint c.args.mode c.args.moment) (Ok (answer.Checkpoint next.number)) (layout_of ls c.write.new.self)) (sym behind)
     (does-published old c.requires.held c.args.mode c.args.moment (capacity c.args.store.now) draft.files draft.batch c.write.new.self drafted.left drafted.writes drafted.fits drafted.settled written
-    ledger-after covered_kept_all (λ e ledger is allowed. ends_once e ledger allowed) c.write.ensures.is_store))
+    ledger_after-IsLedger covered_kept_all (λ e ledger is allowed. ends_once e ledger allowed) c.write.ensures.is_store))

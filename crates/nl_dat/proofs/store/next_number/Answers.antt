@@ -3,13 +3,13 @@ use Rattle.std.specs.Prelude.{Bool, ◌||◌}
 use Rattle.std.specs.Option.{option_map}
 use Rattle.std.proofs.lemmas.Bool.{cases_Bool, cases_lt}
 use Rattle.nl_dat.specs.Batches.{Changes, Fits, IsLowestFree, is_born, is_taken, last_number}
-use Rattle.nl_dat.specs.Stores.{Numbered, Store, IsStore, block_now, entry_of, numbered_in, content_in, capacity}
+use Rattle.nl_dat.specs.Stores.{Numbered, Store, IsStore, block_now, entry_now, numbered_in, content_in, capacity}
 use Rattle.nl_dat.proofs.store.next_number.Goals as goal
 
 nothing_above : (s : Store) (v : ℕ) → IsStore s → capacity s < v → is_some (content_in s v) ≡ false
 nothing_above s v is above = of (numbered_in s v) refl
   where
-    of : (o : Option Numbered) → numbered_in s v ≡ o → is_some (option_map entry_of o) ≡ false
+    of : (o : Option Numbered) → numbered_in s v ≡ o → is_some (option_map entry_now o) ≡ false
     of None e = refl
     of (Some n) e = absurd (let k = is.numbers v n.block (ap (option_map block_now) e) in omega (arith, k.1, above))
 

@@ -4,7 +4,7 @@ use Rattle.nl_blocktree.specs.declared.change.BlockChange.{BlockChange}
 use Rattle.nl_types.specs.Roots.{page_at}
 use Rattle.nl_layout.specs.Root.{root_of}
 use Rattle.nl_ifile.specs.declared.change.InodeChange.{InodeChange}
-use Rattle.nl_ifile.specs.Inodes.{Inodes, block_for, in_block, inode_at}
+use Rattle.nl_ifile.specs.Inodes.{InodeMap, block_for, in_block, inode_at}
 use Rattle.nl_ifile.specs.Changing.{AreFirstBlockChanges, inodes_with}
 use Rattle.nl_ifile.proofs.BlockChanges.{all-between, block_changes-more}
 use Rattle.nl_ifile.proofs.changed_block.changed_blocks.Goals as goal
@@ -15,7 +15,7 @@ loop-start-preserved g c =
     let l : c.loop-start.start < length c.args.changes.now = omega arith in
     let number : (get_or c.args.changes.now c.loop-start.start item).number / 8 ≡ c.get-index.result / 8 = ap (λ (n : ℕ). n / 8) (sym c.get-index.ensures) in
     let low = c.requires.in_range c.loop-start.start item l in
-    let inodes : Inodes = inode_at (g.V.VRead.pages c.args.store.now) (root_of c.args.root.now) in
+    let inodes : InodeMap = inode_at (g.V.VRead.pages c.args.store.now) (root_of c.args.root.now) in
     let read : inode_at (g.V.VRead.pages c.loop-start.cursor.store.now) (root_of c.loop-start.cursor.root) ≡ inodes =
     rw (c.loop-start.invariant.store, c.loop-start.invariant.root) refl in
     let these : List InodeChange = take (c.end_of_block-end.result - c.loop-start.start) (drop c.loop-start.start c.args.changes.now) in
@@ -27,6 +27,6 @@ loop-start-preserved g c =
     (λ next. ap (λ (x : InodeChange). x.number / 8) (get_or_default c.args.changes.now c.loop-start.start next item l) ∙ number)
     (omega (arith, low, number)) c.in_ok-changed_block.ensures.index
     (all-between c.args.changes.now c.loop-start.start c.end_of_block-end.result (c.get-index.result / 8) c.end_of_block-end.ensures.same)
-    (c.in_ok-changed_block.ensures.page ∙ ap (λ (f : Inodes). block_for (in_block (inodes_with these f) (c.get-index.result / 8))) read)
+    (c.in_ok-changed_block.ensures.page ∙ ap (λ (f : InodeMap). block_for (in_block (inodes_with these f) (c.get-index.result / 8))) read)
     c.in_ok-changed_block.ensures.fits c.end_of_block-end.ensures.stop item) in
     record { store = c.changed_block.ensures.store ∙ c.loop-start.invariant.store; root = c.changed_block.ensures.root ∙ c.loop-start.invariant.root; blocks = more }

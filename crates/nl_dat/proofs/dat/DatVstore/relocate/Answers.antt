@@ -14,7 +14,7 @@ use Rattle.nl_dat.specs.Stores.{Store, IsMoved, IsMoveRefused, is_inside, addres
 use Rattle.nl_dat.specs.Inside.{births_in, store_of, IsTable}
 use Rattle.nl_dat.proofs.Writing.{table-kept}
 use Rattle.nl_dat.proofs.Refusals.{total-refused}
-use Rattle.nl_dat.proofs.Relocating.{IsRefused, table-moved, is_moved, move-refused, load-refused, theirs-of}
+use Rattle.nl_dat.proofs.Relocating.{IsRelocationRefusal, table-moved, is_moved, move-refused, load-refused, theirs-of}
 use Rattle.nl_dat.proofs.StoreOf.{is_store}
 use Rattle.nl_dat.proofs.dat.DatVstore.relocate.Goals as goal
 
@@ -43,7 +43,7 @@ returns-in_err-blocks-clause-refused g c =
     let e = c.in_err-blocks.ensures in
     let same : mid ≡ old = c.in_ok-payload.ensures.same in
     let loaded = ap (λ t. map (stored_at (entry_in t) (births_in old)) c.args.numbers.now) (sym c.as_slice.ensures) ∙ c.in_ok-payload.ensures.payload ∙ ap (λ items. map Some (births_of items)) (sym c.deref.ensures.value) in
-    let refused : IsRefused false c.args.now c.args.checkpoint c.deref.result.now c.in_err-blocks.field-0.0 mid later (g.S.Space.failure_count c.load_all.new.space) after = record {
+    let refused : IsRelocationRefusal false c.args.now c.args.checkpoint c.deref.result.now c.in_err-blocks.field-0.0 mid later (g.S.Space.failure_count c.load_all.new.space) after = record {
       why = e.errors;
       no_space = λ is. ap g.S.Space.content (e.no_space_same (ap Err is));
       lacks = λ is. e.no_space (ap Err is);
@@ -55,7 +55,7 @@ returns-in_err-blocks-clause-refused g c =
     (move-refused table (c.self.inside.filled + 1) old later before (g.S.Space.failure_count c.load_all.new.space) after c.args.checkpoint c.args.now c.args.numbers.now c.deref.result.now c.in_err-blocks.field-0.0
     (g.met.S.Space.limits c.self.inside.space).tidy c.self.invariant (theirs-of table (c.self.inside.filled + 1) old before c.args.numbers.now c.deref.result.now c.self.invariant loaded)
     (subst (λ (m : SpaceContent). KeepsUsed m.segments m later) same e.kept) c.load_all.ensures.counted
-    (subst (λ (m : SpaceContent). IsRefused false c.args.now c.args.checkpoint c.deref.result.now c.in_err-blocks.field-0.0 m later (g.S.Space.failure_count c.load_all.new.space) after) same refused)))
+    (subst (λ (m : SpaceContent). IsRelocationRefusal false c.args.now c.args.checkpoint c.deref.result.now c.in_err-blocks.field-0.0 m later (g.S.Space.failure_count c.load_all.new.space) after) same refused)))
 
 -- as many blocks were answered as there are numbers
 pub move_entries-requires-clause-each : goal.move_entries-requires-clause-each

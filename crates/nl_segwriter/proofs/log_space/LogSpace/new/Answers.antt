@@ -5,7 +5,7 @@ use Rattle.nl_types.specs.declared.geometry.Geometry.{Geometry}
 use Rattle.nl_types.specs.Segments.{Segments, clean_info}
 use Rattle.nl_segwriter.specs.Content.{Payload}
 use Rattle.nl_segwriter.specs.Logs.{AreWholeLogs, HaveLogs}
-use Rattle.nl_segwriter.specs.Writing.{content_of, held_in}
+use Rattle.nl_segwriter.specs.Writing.{space_content, held_in}
 use Rattle.nl_segwriter.proofs.WholeLogs.{whole_new, logs_new, none_held}
 use Rattle.nl_segwriter.proofs.log_space.LogSpace.new.Goals as goal
 
@@ -24,7 +24,7 @@ invariant_of-result g c =
       sized = ap length table ∙ length-replicate c.total.result None ∙ c.total.ensures ∙ ap (λ (x : Geometry). x.segments * x.blocks) shape;
       unheld = λ b _. ap (λ (t : List (Option Payload)). held_in t b) table ∙ none_held c.total.result b;
       logged = subst HaveLogs (sym is) (logs_new geometry.blocks geometry.segments);
-      whole = subst (λ (t : Segments). AreWholeLogs (content_of t c.in_ok-payload.payload pages)) (sym is) (whole_new geometry.blocks geometry.segments (held_in c.in_ok-payload.payload) pages);
+      whole = subst (λ (t : Segments). AreWholeLogs (space_content t c.in_ok-payload.payload pages)) (sym is) (whole_new geometry.blocks geometry.segments (held_in c.in_ok-payload.payload) pages);
     }
 
 pub returns-clause-content : goal.returns-clause-content

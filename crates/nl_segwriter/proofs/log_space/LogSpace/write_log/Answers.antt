@@ -8,7 +8,7 @@ use Rattle.nl_segwriter.specs.declared.staging.Staged.{Staged}
 use Rattle.nl_segwriter.specs.Content.{SpaceContent, Payload, SameOutside, StandInRow, HoldsOnlyUsed}
 use Rattle.nl_segwriter.specs.Logs.{AreWholeLogs, HaveLogs}
 use Rattle.nl_segwriter.specs.Staging.{whole_of}
-use Rattle.nl_segwriter.specs.Writing.{HasPut, HasTried, held_in, content_of}
+use Rattle.nl_segwriter.specs.Writing.{HasPut, HasTried, held_in, space_content}
 use Rattle.nl_segwriter.proofs.WholeLogs.{whole_with_log, whole_with_error, held_with_log, held_with_error, logs_with_log, logs_with_error, length-with_error}
 use Rattle.nl_segwriter.proofs.LogWritten.{put_outside, tried_outside, held_outside, log_stands}
 use Rattle.nl_segwriter.proofs.log_space.LogSpace.write_log.Goals as goal
@@ -20,7 +20,7 @@ invariant_of-self g c =
     let log : Log = x.log in
     let table : List (Option Payload) = c.hold_row.new.table in
     let stored = g.D.Device.pages c.put_row.new.device in
-    let old : SpaceContent = content_of s c.args.self.now.payload (g.D.Device.pages c.args.self.now.device) in
+    let old : SpaceContent = space_content s c.args.self.now.payload (g.D.Device.pages c.args.self.now.device) in
     let at : c.get.result * c.blocks-2.result + log.first ≡ first_block s.blocks log = rw (c.get.ensures, c.blocks-2.ensures.blocks) refl in
     let put : HasPut (first_block s.blocks log) x.pages old.stored stored = subst (λ (n : ℕ). HasPut n x.pages old.stored stored) at c.in-Ok.ensures.put in
     let row : StandInRow (first_block s.blocks log + 1) x.payload (held_in table) = subst (λ (n : ℕ). StandInRow (n + 1) x.payload (held_in table)) at c.hold_row.ensures.there in
@@ -35,9 +35,9 @@ invariant_of-self g c =
       segment_count = ap (λ (t : Segments). length t.each) is ∙ length-with_log s log x.stamp ∙ c.args.self.now.segment_count ∙ ap (λ (x : Geometry). x.segments) shape;
       limits = c.add_log.ensures.limits;
       sized = c.hold_row.ensures.size ∙ c.args.self.now.sized ∙ ap (λ (x : Geometry). x.segments * x.blocks) shape;
-      unheld = subst (λ (t : Segments). HoldsOnlyUsed (content_of t table stored)) (sym is) (held_with_log old log x.stamp (held_in table) stored c.requires.next c.args.self.now.unheld held);
+      unheld = subst (λ (t : Segments). HoldsOnlyUsed (space_content t table stored)) (sym is) (held_with_log old log x.stamp (held_in table) stored c.requires.next c.args.self.now.unheld held);
       logged = subst HaveLogs (sym is) (logs_with_log s log x.stamp c.requires.next.segment c.args.self.now.logged);
-      whole = subst (λ (t : Segments). AreWholeLogs (content_of t table stored)) (sym is)
+      whole = subst (λ (t : Segments). AreWholeLogs (space_content t table stored)) (sym is)
           (whole_with_log old log x.stamp (whole_of x) (held_in table) stored c.args.self.now.limits.tidy c.requires.next c.args.self.now.whole c.requires.ready.count stands (record { held = held; stored = pages }));
     }
 
@@ -48,7 +48,7 @@ invariant_of-self-in-Err g c =
     let log : Log = x.log in
     let table : List (Option Payload) = c.args.self.now.payload in
     let stored = g.D.Device.pages c.put_row.new.device in
-    let old : SpaceContent = content_of s table (g.D.Device.pages c.args.self.now.device) in
+    let old : SpaceContent = space_content s table (g.D.Device.pages c.args.self.now.device) in
     let at : c.get.result * c.blocks-2.result + log.first ≡ first_block s.blocks log = rw (c.get.ensures, c.blocks-2.ensures.blocks) refl in
     let put : HasTried (first_block s.blocks log) c.in-Err.field-0.tried x.pages old.stored stored = subst (λ (n : ℕ). HasTried n c.in-Err.field-0.tried x.pages old.stored stored) at c.in-Err.ensures.tried in
     let is : c.mark_error.new.self ≡ with_error s log.segment = c.mark_error.ensures.error ∙ c.take_segment.ensures.failed in
@@ -59,9 +59,9 @@ invariant_of-self-in-Err g c =
       segment_count = ap (λ (t : Segments). length t.each) is ∙ length-with_error s log.segment ∙ c.args.self.now.segment_count ∙ ap (λ (x : Geometry). x.segments) shape;
       limits = c.mark_error.ensures.limits;
       sized = c.args.self.now.sized ∙ ap (λ (x : Geometry). x.segments * x.blocks) shape;
-      unheld = subst (λ (t : Segments). HoldsOnlyUsed (content_of t table stored)) (sym is) (held_with_error old log.segment stored c.requires.next.segment c.args.self.now.unheld);
+      unheld = subst (λ (t : Segments). HoldsOnlyUsed (space_content t table stored)) (sym is) (held_with_error old log.segment stored c.requires.next.segment c.args.self.now.unheld);
       logged = subst HaveLogs (sym is) (logs_with_error s log.segment c.requires.next.segment c.args.self.now.logged);
-      whole = subst (λ (t : Segments). AreWholeLogs (content_of t table stored)) (sym is)
+      whole = subst (λ (t : Segments). AreWholeLogs (space_content t table stored)) (sym is)
           (whole_with_error old log (held_in table) stored c.args.self.now.limits.tidy c.requires.next c.args.self.now.whole (record { held = record { below = λ b h. refl; above = λ b h. refl }; stored = pages }));
     }
 
@@ -72,7 +72,7 @@ returns-in-Ok-clause-stands g c =
     let log : Log = x.log in
     let table : List (Option Payload) = c.hold_row.new.table in
     let stored = g.D.Device.pages c.put_row.new.device in
-    let old : SpaceContent = content_of s c.args.self.now.payload (g.D.Device.pages c.args.self.now.device) in
+    let old : SpaceContent = space_content s c.args.self.now.payload (g.D.Device.pages c.args.self.now.device) in
     let at : c.get.result * c.blocks-2.result + log.first ≡ first_block s.blocks log = rw (c.get.ensures, c.blocks-2.ensures.blocks) refl in
     let put : HasPut (first_block s.blocks log) x.pages old.stored stored = subst (λ (n : ℕ). HasPut n x.pages old.stored stored) at c.in-Ok.ensures.put in
     let row : StandInRow (first_block s.blocks log + 1) x.payload (held_in table) = subst (λ (n : ℕ). StandInRow (n + 1) x.payload (held_in table)) at c.hold_row.ensures.there in

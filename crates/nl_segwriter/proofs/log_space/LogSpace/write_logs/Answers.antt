@@ -11,7 +11,7 @@ use Rattle.nl_segwriter.specs.Logs.{StandsFrom}
 use Rattle.nl_segwriter.specs.Appended.{IsOutside}
 use Rattle.nl_segwriter.specs.declared.staging.Staged.{Staged}
 use Rattle.nl_segwriter.specs.Staging.{IsReady, logs_of, whole_of}
-use Rattle.nl_segwriter.specs.Writing.{content_of, LogsStand, BreaksOff}
+use Rattle.nl_segwriter.specs.Writing.{space_content, LogsStand, BreaksOff}
 use Rattle.nl_segwriter.proofs.LogsWritten.{same_outside, log_keeps, keeps_on, stays_on, log_stays, breaks_here, breaks_on}
 use Rattle.nl_segwriter.proofs.log_space.LogSpace.write_logs.Goals as goal
 
@@ -25,9 +25,9 @@ returns-in_err-write_log-clause-kept g c =
     let s : Segments = c.loop-staged.self.table in
     let next = subst (λ (r : List Staged). AreNextLogs s c.args.now (logs_of r)) c.in-Some.ensures.steps.0 inv.next in
     let device = g.D.Device in
-    let before : SpaceContent = content_of c.args.self.now.table c.args.self.now.payload (device.pages c.args.self.now.device) in
-    let then : SpaceContent = content_of s c.loop-staged.self.payload (device.pages c.loop-staged.self.device) in
-    let now : SpaceContent = content_of c.write_log.new.self.table c.write_log.new.self.payload (device.pages c.write_log.new.self.device) in
+    let before : SpaceContent = space_content c.args.self.now.table c.args.self.now.payload (device.pages c.args.self.now.device) in
+    let then : SpaceContent = space_content s c.loop-staged.self.payload (device.pages c.loop-staged.self.device) in
+    let now : SpaceContent = space_content c.write_log.new.self.table c.write_log.new.self.payload (device.pages c.write_log.new.self.device) in
     keeps_on c.args.self.now.table s before then now inv.kept inv.stays (log_keeps s c.in-Some.staged.log then now inv.tidy next.0 c.in_err-write_log.ensures.others)
 
 pub returns-in_err-write_log-clause-broken : goal.returns-in_err-write_log-clause-broken
@@ -36,9 +36,9 @@ returns-in_err-write_log-clause-broken g c =
     let s : Segments = c.loop-staged.self.table in
     let next = subst (λ (r : List Staged). AreNextLogs s c.args.now (logs_of r)) c.in-Some.ensures.steps.0 inv.next in
     let device = g.D.Device in
-    let before : SpaceContent = content_of c.args.self.now.table c.args.self.now.payload (device.pages c.args.self.now.device) in
-    let then : SpaceContent = content_of s c.loop-staged.self.payload (device.pages c.loop-staged.self.device) in
-    let now : SpaceContent = content_of c.write_log.new.self.table c.write_log.new.self.payload (device.pages c.write_log.new.self.device) in
+    let before : SpaceContent = space_content c.args.self.now.table c.args.self.now.payload (device.pages c.args.self.now.device) in
+    let then : SpaceContent = space_content s c.loop-staged.self.payload (device.pages c.loop-staged.self.device) in
+    let now : SpaceContent = space_content c.write_log.new.self.table c.write_log.new.self.payload (device.pages c.write_log.new.self.device) in
     let p = err_from_is_err_and c.from_residual.result c.from_residual.ensures.1 in
     rw p.1 (inv.broken now (log_keeps s c.in-Some.staged.log then now inv.tidy next.0 c.in_err-write_log.ensures.others)
     (subst (λ (r : List Staged). BreaksOff c.args.now r then now) (sym c.in-Some.ensures.steps.0)
@@ -55,7 +55,7 @@ pub returns-clause-stand : goal.returns-clause-stand
 returns-clause-stand g c =
     let inv = c.loop-staged.invariant in
     let start : Segments = c.args.self.now.table in
-    let now : SpaceContent = content_of c.loop-staged.self.table c.loop-staged.self.payload (g.D.Device.pages c.loop-staged.self.device) in
+    let now : SpaceContent = space_content c.loop-staged.self.table c.loop-staged.self.payload (g.D.Device.pages c.loop-staged.self.device) in
     let none : into_iter_items c.loop-staged.staged-iterator ≡ [] = no_items (into_iter_items c.loop-staged.staged-iterator) (sym inv.long ∙ c.in-None.ensures.steps.0) in
     inv.stand now (λ b used. (refl, refl)) (subst (λ (r : List Staged). LogsStand start.blocks r now.held now.stored) (sym none) tt)
 
@@ -70,9 +70,9 @@ loop-staged-preserved g c =
     let stamp : ℕ = c.args.now in
     let start : Segments = c.args.self.now.table in
     let blocks : ℕ = start.blocks in
-    let before : SpaceContent = content_of start c.args.self.now.payload (device.pages c.args.self.now.device) in
-    let then : SpaceContent = content_of s c.loop-staged.self.payload (device.pages c.loop-staged.self.device) in
-    let now : SpaceContent = content_of t c.write_log.new.self.payload (device.pages c.write_log.new.self.device) in
+    let before : SpaceContent = space_content start c.args.self.now.payload (device.pages c.args.self.now.device) in
+    let then : SpaceContent = space_content s c.loop-staged.self.payload (device.pages c.loop-staged.self.device) in
+    let now : SpaceContent = space_content t c.write_log.new.self.payload (device.pages c.write_log.new.self.device) in
     let first : into_iter_items c.loop-staged.staged-iterator ≡ x ∷ rest = c.in-Some.ensures.steps.0 in
     let next : IsNextLog s x.log × AreNextLogs (with_log s x.log stamp) stamp (logs_of rest) = subst (λ (r : List Staged). AreNextLogs s stamp (logs_of r)) first inv.next in
     let ready : IsReady x × AllByRecursion IsReady rest = subst (λ (r : List Staged). AllByRecursion IsReady r) first inv.ready in

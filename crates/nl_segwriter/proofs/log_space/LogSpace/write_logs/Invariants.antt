@@ -6,7 +6,7 @@ use Rattle.nl_types.specs.Placing.{AreNextLogs, with_logs}
 use Rattle.nl_segwriter.specs.Content.{SpaceContent, KeepsUsed, IsSameAt}
 use Rattle.nl_segwriter.specs.Appended.{IsOutside}
 use Rattle.nl_segwriter.specs.Staging.{IsReady, logs_of}
-use Rattle.nl_segwriter.specs.Writing.{content_of, LogsStand, BreaksOff}
+use Rattle.nl_segwriter.specs.Writing.{space_content, LogsStand, BreaksOff}
 use Rattle.nl_segwriter.proofs.log_space.LogSpace.write_logs.Given as goal
 
 -- what goes on from here with the logs that are left goes on from the start with all logs
@@ -16,8 +16,8 @@ invariant-loop-staged g l =
     let rest = into_iter_items l.staged-iterator in
     let all = l.fn.all.items in
     let start = l.fn.self in
-    let before = content_of start.table start.payload (device.pages start.device) in
-    let now = content_of l.self.table l.self.payload (device.pages l.self.device) in
+    let before = space_content start.table start.payload (device.pages start.device) in
+    let now = space_content l.self.table l.self.payload (device.pages l.self.device) in
     record {
       can : (goal.iterator-loop-staged g).can_next l.staged-iterator;
       finite : (goal.iterator-loop-staged g).is_finite l.staged-iterator;

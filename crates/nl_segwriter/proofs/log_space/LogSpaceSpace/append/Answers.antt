@@ -7,7 +7,7 @@ use Rattle.nl_types.specs.Placing.{AreNextLogs, first_block, addresses}
 use Rattle.nl_types.proofs.NextLogs.{placed}
 use Rattle.nl_segwriter.specs.Content.{SpaceContent}
 use Rattle.nl_segwriter.specs.Staging.{AreStaged, AreSized}
-use Rattle.nl_segwriter.specs.Writing.{content_of}
+use Rattle.nl_segwriter.specs.Writing.{space_content}
 use Rattle.nl_segwriter.proofs.AppendedLogs.{sized, logs_inside, next_staged, staged_ready, staged_stamps, is_appended, is_broken_off}
 use Rattle.nl_segwriter.proofs.log_space.LogSpaceSpace.append.Goals as goal
 
@@ -42,8 +42,8 @@ pub returns-in-Ok-clause-appended : goal.returns-in-Ok-clause-appended
 returns-in-Ok-clause-appended g c =
     let s : Segments = c.args.self.now.table in
     let logs : List Log = c.in_ok-planned.planned.items in
-    let old : SpaceContent = content_of s c.args.self.now.payload (g.D.Device.pages c.args.self.now.device) in
-    let new : SpaceContent = content_of c.write_logs.new.self.table c.write_logs.new.self.payload (g.D.Device.pages c.write_logs.new.self.device) in
+    let old : SpaceContent = space_content s c.args.self.now.payload (g.D.Device.pages c.args.self.now.device) in
+    let new : SpaceContent = space_content c.write_logs.new.self.table c.write_logs.new.self.payload (g.D.Device.pages c.write_logs.new.self.device) in
     let staged : AreStaged c.args.now c.args.checkpoint logs c.args.items.now c.in_ok-all.all.items = subst (λ (l : List Log). AreStaged c.args.now c.args.checkpoint l c.args.items.now c.in_ok-all.all.items) c.as_slice-logs.ensures.value c.in_ok-all.ensures in
     let numbers : c.in_ok-numbers.numbers.items ≡ addresses s.blocks logs = c.in_ok-numbers.ensures ∙ rw (c.blocks-2.ensures.blocks, c.as_slice-logs.ensures.value) refl in
     is_appended old new c.args.reserve c.args.now c.args.checkpoint c.args.items.now logs c.in_ok-all.all.items c.in_ok-numbers.numbers.items
@@ -53,8 +53,8 @@ pub returns-clause-broken_off : goal.returns-clause-broken_off
 returns-clause-broken_off g c = λ _.
     let s : Segments = c.args.self.now.table in
     let logs : List Log = c.in_ok-planned.planned.items in
-    let old : SpaceContent = content_of s c.args.self.now.payload (g.D.Device.pages c.args.self.now.device) in
-    let new : SpaceContent = content_of c.write_logs.new.self.table c.write_logs.new.self.payload (g.D.Device.pages c.write_logs.new.self.device) in
+    let old : SpaceContent = space_content s c.args.self.now.payload (g.D.Device.pages c.args.self.now.device) in
+    let new : SpaceContent = space_content c.write_logs.new.self.table c.write_logs.new.self.payload (g.D.Device.pages c.write_logs.new.self.device) in
     let staged : AreStaged c.args.now c.args.checkpoint logs c.args.items.now c.in_ok-all.all.items = subst (λ (l : List Log). AreStaged c.args.now c.args.checkpoint l c.args.items.now c.in_ok-all.all.items) c.as_slice-logs.ensures.value c.in_ok-all.ensures in
     is_broken_off old new c.args.reserve c.args.now c.args.checkpoint c.args.items.now logs c.in_ok-all.all.items
     (record { tidy = c.args.self.now.limits.tidy; fits = c.in_ok-planned.ensures.fits; staged = staged }) c.in-Err.ensures.broken

@@ -4,7 +4,7 @@ use Rattle.nl_types.specs.Segments.{Segments}
 use Rattle.nl_types.proofs.UsedParts.{used_inside}
 use Rattle.nl_device.specs.Pages.{DevicePages}
 use Rattle.nl_segwriter.specs.Logs.{AreWholeLogs}
-use Rattle.nl_segwriter.specs.Writing.{content_of}
+use Rattle.nl_segwriter.specs.Writing.{space_content}
 use Rattle.nl_segwriter.proofs.WholeLogs.{used_stored}
 use Rattle.nl_segwriter.proofs.log_space.LogSpaceSpace.load.Goals as goal
 
@@ -27,10 +27,10 @@ invariant_of-self g c =
       sized = c.args.self.now.sized ∙ ap (λ (x : Geometry). x.segments * x.blocks) shape;
       unheld = c.args.self.now.unheld;
       logged = c.args.self.now.logged;
-      whole = subst (λ (pages : DevicePages). AreWholeLogs (content_of s table pages)) same c.args.self.now.whole;
+      whole = subst (λ (pages : DevicePages). AreWholeLogs (space_content s table pages)) same c.args.self.now.whole;
     }
 
 pub unreachable-requires : goal.unreachable-requires
 unreachable-requires g c =
-    used_stored (content_of c.args.self.now.table c.args.self.now.payload (g.D.Device.pages c.args.self.now.device)) c.args.number c.args.self.now.whole c.requires
+    used_stored (space_content c.args.self.now.table c.args.self.now.payload (g.D.Device.pages c.args.self.now.device)) c.args.number c.args.self.now.whole c.requires
     (sym c.in-Ok-None.ensures.found ∙ c.in-Ok-None.field-0-is)
