@@ -34,7 +34,12 @@ impl Model for World {
     ghost Value = { Volume };
 
     ghost view = { λ w. record {
-        tree = w.tree; dirty = w.dirty; copies = w.copies; mounts = w.mounts; given = w.given } };
+      tree = w.tree;
+      dirty = w.dirty;
+      copies = w.copies;
+      mounts = w.mounts;
+      given = w.given;
+    } };
 }
 
 fn find_mount(
