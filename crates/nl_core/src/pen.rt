@@ -9,7 +9,7 @@ use crate::draft::Draft;
 use crate::tables::Tables;
 use nl_dat::{Dat, DatEntry, Vstore};
 use nl_device::Device;
-use nl_segwriter::{LogSpace, Space};
+use nl_segwriter::LogSpace;
 use nl_sufile::SegTable;
 use nl_types::{Answer, Event, Geometry, Mode, Reply, VirtualNumber, VolError};
 use std::alloc::Global;
@@ -28,9 +28,9 @@ impl<D: Device> Model for Pen<D> {
 
     ghost Value = { Layout };
 
-    ghost view = { λ p. layout_of p.tables.lists p.store };
+    ghost view = { λ p. layout_of p.tables.lists p.store.store };
 
-    ghost invariant = { λ p. IsPen (layout_of p.tables.lists p.store) };
+    ghost invariant = { λ p. IsPen (layout_of p.tables.lists p.store.store) };
 }
 
 ghost use Rattle.nl_core.specs.Layout.{IsPen, Does, layout_of, unshared, volume_of};
@@ -38,16 +38,16 @@ ghost use Rattle.nl_types.specs.declared.event.Event.TheVariants.{Checkpoint};
 
 /// The next checkpoint: its draft, then the blocks that it writes, and then its lists. The draft takes the memory for the
 /// lists, and the write takes its own before its first put, so a refusal comes before anything is written.
-fn checkpoint<S: Space>(
+fn checkpoint<V: Vstore>(
     alloc: Global,
     tables: &mut Tables,
-    store: &mut Dat<S>,
+    store: &mut V,
     mode: Mode,
     moment: u64,
 ) -> Reply
-    requires held { IsPen (layout_of tables.old.lists store.old) }
-    ensures { Does unshared (layout_of tables.old.lists store.old)
-        (Checkpoint mode moment) result (layout_of tables.new.lists store.new) }
+    requires held { IsPen (layout_of tables.old.lists (V.store store.old)) }
+    ensures { Does unshared (layout_of tables.old.lists (V.store store.old))
+        (Checkpoint mode moment) result (layout_of tables.new.lists (V.store store.new)) }
 {
     let draft = tables.draft(alloc, store, mode, moment)?;
     let Draft {

@@ -15,11 +15,15 @@ use Rattle.nl_segwriter.specs.Logs.{AreWholeLogs, HaveLogs}
 use Rattle.nl_dat.specs.declared.entries.DatEntry.{DatEntry}
 use Rattle.nl_dat.specs.Batches.{birth_of_item, tag_place, tag_for}
 use Rattle.nl_dat.specs.Table.{entry_in, addresses_of, block_of, content_of, meaning_of, meaning_at, period_of, period_of_entry, HaveOwnPayload}
-use Rattle.nl_dat.specs.Stores.{Numbered, new_store, numbered_in, content_in, address_in, entry_now, block_now, dat_entry_of, payload_for, IsStore}
+use Rattle.nl_dat.specs.Stores.{Numbered, new_store, numbered_in, content_in, address_in, entry_now, block_now, dat_entry_of, payload_for, IsStore, SoundStore}
 use Rattle.nl_dat.specs.Inside.{births_in, numbered_with, numbered_of, store_of, IsTable}
 use Rattle.nl_types.proofs.UsedParts.{used_inside}
 use Rattle.nl_dat.proofs.SoundTable.{stored_for, HaveOwnPayload-apart}
 use Rattle.nl_dat.proofs.ShownSpace.{shown, whole-shown, only-shown}
+
+-- the same value has the same store
+pub same_store : {a b : SoundStore} → a ≡ b → a.store ≡ b.store
+same_store is i = (is i).store
 
 module _ (table : List (Option DatEntry)) (space : SpaceContent) (failures : ℕ) where
   pub numbered_in-store_of : (v : ℕ) → numbered_in (store_of table space failures) v ≡ numbered_of (births_in space) (entry_in table v)

@@ -4,3 +4,4 @@ pub mod Stores
 pub mod Located
 pub mod Inside
 pub mod TakenOut
+pub mod OneProof

@@ -117,6 +117,11 @@ pub record IsStore (s : Store) : Type 0 where
   pub have_logs : HaveLogs s.segments
   pub limits : IsSegTable s.segments
 
+-- a store, and that all this is true of it
+pub record SoundStore : Type 0 where
+  pub store : Store
+  pub sound : IsStore store
+
 -- ---- segments
 
 -- whether the block, if there is one, lies in the segment

@@ -1,6 +1,9 @@
 //! The table of virtual block numbers, over a space.
 ghost use Rattle.std.specs.Prelude.{◌≡◌, ◌↔◌, ◌⊎◌, ℕ, ◌+◌, ◌<◌, length, IfOk, OnErr, IsErr, IsOkUnless, Some};
 ghost use Rattle.std.specs.Option.{option_map};
+ghost use Rattle.nl_dat.specs.Stores.{IsStore};
+ghost use Rattle.nl_dat.specs.Inside.{store_of, IsTable};
+ghost use Rattle.nl_dat.specs.OneProof.{IsStore-prop, IsTable-prop};
 
 use crate::batch::Batch;
 use crate::entries::{
@@ -27,27 +30,33 @@ pub struct Dat<S: Space> {
     /// Every number from 1 up to this one is in use, so that a free one is looked for behind it.
     filled: u64,
     space: S,
+    ghost sound: { IsStore (store_of table (S.content space) (S.failure_count space)) } by { IsStore-prop },
+    ghost tabled: { IsTable table (filled + 1) (S.content space) } by { IsTable-prop sound.limits.tidy },
 }
 
 impl<S: Space> Model for Dat<S> {
-    ghost use Rattle.std.specs.Prelude.{◌+◌};
-    ghost use Rattle.nl_dat.specs.Stores.{Store};
-    ghost use Rattle.nl_dat.specs.Inside.{store_of, IsTable};
+    ghost use Rattle.nl_dat.specs.Stores.{SoundStore};
+    ghost use Rattle.nl_dat.specs.Inside.{store_of};
 
-    ghost Value = { Store };
+    ghost Value = { SoundStore };
 
-    ghost view = { λ d. store_of d.table (S.content d.space) (S.failure_count d.space) };
+    ghost use Rattle.std.specs.Coded.{codes};
+    ghost use Rattle.nl_dat.specs.OneProof.{IsStore-prop};
 
-    ghost invariant = { λ d. IsTable d.table (d.filled + 1) (S.content d.space) };
+    ghost coded = { Prim.hlevel (IsStore-prop, codes) };
+
+    ghost view = { λ d. record {
+      store = store_of d.table (S.content d.space) (S.failure_count d.space);
+      sound = d.sound;
+    } };
 }
 
 impl<S: Space> Dat<S> {
-    ghost use Rattle.nl_dat.specs.Stores.{IsStore, new_store, address_in, block_in, capacity, numbered_in, dat_entry_of};
+    ghost use Rattle.nl_dat.specs.Stores.{new_store, address_in, block_in, capacity, numbered_in, dat_entry_of};
 
     /// The table over a space, with no number in use. Refused by `Memory` alone; the space is dropped then.
     pub fn new(alloc: Global, space: S) -> Result<Dat<S>, VolError>
-        ensures is_store { IfOk result IsStore }
-        ensures new { IfOk result (λ dat. dat ≡ new_store (S.content space) (S.failure_count space)) }
+        ensures new { IfOk result (λ dat. dat.store ≡ new_store (S.content space) (S.failure_count space)) }
         ensures refused { IsOkUnless result VolError.Memory }
     {
         let table = space.table();
@@ -63,9 +72,10 @@ impl<S: Space> Dat<S> {
     /// What the table has for a number, where it is in use. Refused by `BadRange` for 0 and for numbers above those that
     /// there are: one for each block of the device. It takes no memory.
     pub fn entry(&self, number: VirtualNumber) -> Result<Option<DatEntry>, VolError>
-        ensures range { IsErr result ↔ ((number ≡ 0) ⊎ (capacity self.now < number)) }
+        ensures range { IsErr result ↔ ((number ≡ 0) ⊎ (capacity self.now.store < number)) }
         ensures kind { OnErr result (result ≡ Err VolError.BadRange) }
-        ensures entry { IfOk result (λ entry. entry ≡ option_map dat_entry_of (numbered_in self.now number)) }
+        ensures entry { IfOk result (λ entry.
+            entry ≡ option_map dat_entry_of (numbered_in self.now.store number)) }
     {
         if number.get() == 0 || number.get() >= self.table.len() as u64 {
             return Err(VolError::BadRange);
@@ -75,16 +85,17 @@ impl<S: Space> Dat<S> {
 
     /// What is known of the segments. By it a caller of `relocate` sees that a segment is closed.
     pub fn table(&self) -> &SegTable
-        ensures { result.now ≡ self.now.segments }
+        ensures { result.now ≡ self.now.store.segments }
     {
         self.space.table()
     }
 
     /// The number that the payload at a position of a segment was written for: no other number's page can stand there.
     fn tagged(&self, segment: Segment, position: u32) -> Option<VirtualNumber>
-        requires segment { segment < length self.now.segments.each }
-        requires position { position < self.now.segments.blocks }
-        ensures { (v : ℕ) → address_in self.now v ≡ Some (block_in self.now segment position) → result ≡ Some v }
+        requires segment { segment < length self.now.store.segments.each }
+        requires position { position < self.now.store.segments.blocks }
+        ensures { (v : ℕ) → address_in self.now.store v ≡ Some (block_in self.now.store segment position)
+            → result ≡ Some v }
     {
         number_in(self.space.summary(segment), position)
     }
@@ -95,9 +106,9 @@ impl<S: Space> VRead for Dat<S> {
     ghost use Rattle.nl_dat.specs.Stores.{content_in};
     ghost use Rattle.nl_dat.specs.Table.{periods_of};
 
-    ghost pages = { λ d. pages_of (content_in d) };
+    ghost pages = { λ d. pages_of (content_in d.store) };
 
-    ghost periods = { λ d. periods_of (content_in d) };
+    ghost periods = { λ d. periods_of (content_in d.store) };
 
     fn page(&self, number: VirtualNumber) -> Option<&Page> {
         let entry = entry_at(self.table.as_slice(), number)?;
@@ -111,7 +122,9 @@ impl<S: Space> VRead for Dat<S> {
 }
 
 impl<S: Space> Vstore for Dat<S> {
-    ghost store = { λ d. d };
+    ghost store = { λ d. d.store };
+
+    ghost is_store = { λ d. d.sound };
 
     ghost reads_pages = { λ d. Rattle.std.specs.Prelude.refl };
 

@@ -36,12 +36,10 @@ pub trait Vstore: VRead {
     /// The numbers in use, the segments, and what the device holds.
     ghost store: { Self → Store };
 
-    /// How many numbers there are: one for each block of the device, from 1 on. Its contract also tells what is true of every
-    /// store.
+    /// How many numbers there are: one for each block of the device, from 1 on.
     fn capacity(&self) -> u64
         ensures count { result ≡ capacity (store self.now) }
-        ensures small { result < 2 ^ 32 }
-        ensures is_store { IsStore (store self.now) };
+        ensures small { result < 2 ^ 32 };
 
     /// The lowest number that is neither in use nor given to a birth of the batch. Refused by `NoSpace` alone, where no
     /// list of logs fits one block more than the batch has, or yet more. It takes no memory.
@@ -66,7 +64,6 @@ pub trait Vstore: VRead {
         now: u64,
     ) -> Result<(), VolError>
         requires { Fits (capacity (store self.old)) (content_in (store self.old)) batch.now }
-        ensures is_store { IsStore (store self.new) }
         ensures written { OnOk result (IsWritten checkpoint now batch.now (store self.old) (store self.new)) }
         ensures refused { IfErr result (IsWriteRefused checkpoint now batch.now (store self.old) (store self.new)) }
         ensures counted { (store self.old).failures ≤ (store self.new).failures };
@@ -106,7 +103,6 @@ pub trait Vstore: VRead {
         requires segment { segment < length (store self.old).segments.each }
         requires closed { IsClosed (store self.old).segments segment }
         requires inside { AreInside (store self.old) segment numbers.now }
-        ensures is_store { IsStore (store self.new) }
         ensures moved { OnOk result (IsMoved segment checkpoint now numbers.now (store self.old) (store self.new)) }
         ensures refused { IfErr result (IsMoveRefused checkpoint now numbers.now (store self.old) (store self.new)) }
         ensures counted { (store self.old).failures ≤ (store self.new).failures };
@@ -115,9 +111,11 @@ pub trait Vstore: VRead {
     /// It takes no memory.
     fn reclaim(&mut self, segment: Segment) -> u32
         requires { segment < length (store self.old).segments.each }
-        ensures is_store { IsStore (store self.new) }
         ensures reclaimed { IsReclaimed segment result (store self.old) (store self.new) }
         ensures counted { (store self.old).failures ≤ (store self.new).failures };
+
+    /// What is true of every store, whole logs and tidy segments among it.
+    ghost is_store: { (s : Self) → IsStore (store s) };
 
     /// What is read is what is stored.
     ghost reads_pages: { (s : Self) → Self.pages s ≡ pages_of (content_in (store s)) };

@@ -1,19 +1,26 @@
 //! Blocks of directories byte by byte, and what is found in them.
 ghost use Rattle.std.specs.Prelude.{◌≡◌, IsTrue};
-ghost use Rattle.nl_dirs.specs.Records.{AllFit};
+ghost use Rattle.nl_dirs.specs.Records.{AllFit, RecordFits};
 
 use nl_dirs::{Record, find, first_name, pack, record_count, records};
 use nl_types::{Block, InodeNumber, Items, Kind, Page, VolError};
 use std::alloc::{AllocError, Global};
 use std::test::Fail;
 
+/// Whether a record may be packed.
+fn fits(record: &Record) -> bool
+    ensures { IsTrue result → RecordFits record.now }
+{
+    let length = record.name.len();
+    length > 0 && length <= 255 && record.inode.get() <= 0xffff_ffff
+}
+
 /// Whether each record may be packed.
 fn all_fit(records: &[Record]) -> bool
     ensures { IsTrue result → AllFit records.now }
 {
     for record in records {
-        let length = record.name.len();
-        if length == 0 || length > 255 || record.inode.get() > 0xffff_ffff {
+        if !fits(record) {
             return false;
         }
     }
@@ -31,14 +38,18 @@ fn packed(alloc: Global, records: &[Record]) -> Result<Vec<Block>, VolError> {
 /// Name, inode and kind of a record.
 type Entry = (&'static [u8], u64, Kind);
 
+fn record_of(alloc: Global, entry: &Entry) -> Result<Record, AllocError> {
+    Ok(Record {
+        name: Items::from_slice(alloc, entry.0)?,
+        inode: InodeNumber::new(entry.1),
+        kind: entry.2,
+    })
+}
+
 fn records_of(alloc: Global, entries: &[Entry]) -> Result<Vec<Record>, AllocError> {
     let mut records = Vec::new(alloc);
-    for (name, inode, kind) in entries {
-        records.push(Record {
-            name: Items::from_slice(alloc, name)?,
-            inode: InodeNumber::new(*inode),
-            kind: *kind,
-        })?;
+    for entry in entries {
+        records.push(record_of(alloc, entry)?)?;
     }
     Ok(records)
 }
@@ -105,26 +116,23 @@ fn seventy(alloc: Global) -> Result<Vec<Record>, AllocError> {
     Ok(records)
 }
 
-/// Whether a place of 256 bytes in a block has the record that `seventy` has for a number, or zeros where there is none.
-fn is_numbered(bytes: &[u8], number: u8) -> bool {
-    if number >= 70 {
-        return bytes.iter().all(|byte| *byte == 0);
-    }
-    bytes.starts_with(&[number, 0, 0, 0, 1, 250]) && bytes.ends_with(&numbered(number))
+/// Whether a block begins with the name that `seventy` has for a number, and has so many.
+fn has_from(alloc: Global, block: &Block, number: u8, count: usize) -> Result<bool, AllocError> {
+    let page = Page::new(alloc, Block::new(*block.bytes()))?;
+    Ok(record_count(&page) == count && first_name(&page) == Some(numbered(number).as_slice()))
 }
 
 /// Whether these are the blocks of `seventy`: four records of 256 bytes in each, and two in the last.
-fn are_of_seventy(blocks: &[Block]) -> bool {
-    let mut number = 0;
+fn are_of_seventy(alloc: Global, blocks: &[Block]) -> Result<bool, AllocError> {
+    let mut first: u8 = 0;
     for block in blocks {
-        for place in block.bytes().chunks_exact(256) {
-            if !is_numbered(place, number) {
-                return false;
-            }
-            number = number.saturating_add(1);
+        let count = if first == 68 { 2 } else { 4 };
+        if !has_from(alloc, block, first, count)? {
+            return Ok(false);
         }
+        first = first.saturating_add(4);
     }
-    number == 72
+    Ok(first == 72)
 }
 
 /// With one allocation failing, the packing that is refused is done again (`rt try --test --fail-alloc N`).
@@ -136,8 +144,7 @@ fn seventy_long_names_take_eighteen_blocks(rt: HostRuntime) -> Result<(), Fail> 
         Err(VolError::Memory) => packed(alloc, &records)?,
         packed => packed?,
     };
-    assert_eq!(rt; blocks.len(), 18);
-    assert!(rt; are_of_seventy(&blocks));
+    assert!(rt; are_of_seventy(alloc, &blocks)?);
     Ok(())
 }
 

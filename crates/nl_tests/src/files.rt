@@ -14,7 +14,7 @@ use nl_dat::{Batch, Dat, VRead, Vstore};
 use nl_device::MemDevice;
 use nl_ifile::{FIRST_INODE, InodeChange, inode, next_ino, put_inodes};
 use nl_layout::{Inode, InodeKind, Root};
-use nl_segwriter::{LogSpace, Space};
+use nl_segwriter::{LogSpace, Payload, Space};
 use nl_types::{
     BLOCK_SIZE, Block, CheckpointNumber, Geometry, InodeNumber, Page, VirtualNumber, VolError,
 };
@@ -66,7 +66,7 @@ fn are_in_order(changes: &[BlockChange]) -> bool
 
 /// Whether a number is in use and has not ended.
 pub(crate) fn is_live_in<S: Space>(store: &Dat<S>, number: VirtualNumber) -> bool
-    ensures { result ≡ is_live (content_in store.now number) }
+    ensures { result ≡ is_live (content_in store.now.store number) }
 {
     match store.period(number) {
         Some(period) => period.end.is_none(),
@@ -75,7 +75,7 @@ pub(crate) fn is_live_in<S: Space>(store: &Dat<S>, number: VirtualNumber) -> boo
 }
 
 fn are_live<S: Space>(store: &Dat<S>, blocks: &[PlacedBlock]) -> bool
-    ensures { IsTrue result → All (λ b. is_live (content_in store.now b.number) ≡ true) blocks.now }
+    ensures { IsTrue result → All (λ b. is_live (content_in store.now.store b.number) ≡ true) blocks.now }
 {
     for block in blocks {
         if !is_live_in(store, block.number) {
@@ -92,8 +92,8 @@ fn walked<S: Space>(
     root: &Root,
 ) -> Result<Vec<PlacedBlock>, VolError>
     ensures blocks { IfOk result (λ blocks.
-        AreAllBlocks (pages_of (content_in store.now)) (root_of root.now) blocks.items) }
-    ensures sound { OnOk result (IsSound (pages_of (content_in store.now)) (root_of root.now)) }
+        AreAllBlocks (pages_of (content_in store.now.store)) (root_of root.now) blocks.items) }
+    ensures sound { OnOk result (IsSound (pages_of (content_in store.now.store)) (root_of root.now)) }
 {
     match walk(alloc, store, *root) {
         Ok(blocks) => Ok(blocks),
@@ -104,8 +104,8 @@ fn walked<S: Space>(
 
 /// Looks whether all of a root's numbers are in use, as a put asks.
 fn check_root<S: Space>(alloc: Global, store: &Dat<S>, root: &Root) -> Result<(), VolError>
-    ensures sound { OnOk result (IsSound (pages_of (content_in store.now)) (root_of root.now)) }
-    ensures live { OnOk result (IsLive (content_in store.now) (root_of root.now)) }
+    ensures sound { OnOk result (IsSound (pages_of (content_in store.now.store)) (root_of root.now)) }
+    ensures live { OnOk result (IsLive (content_in store.now.store) (root_of root.now)) }
 {
     let blocks = walked(alloc, store, root)?;
     if are_live(store, &blocks) {
@@ -123,8 +123,8 @@ fn put_into<S: Space>(
     root: &Root,
     changes: &[BlockChange],
 ) -> Result<Root, VolError>
-    requires { CanTake store.now batch.old }
-    ensures { CanTake store.now batch.new }
+    requires { CanTake store.now.store batch.old }
+    ensures { CanTake store.now.store batch.new }
 {
     check_root(alloc, store, root)?;
     if !are_in_order(changes) {
@@ -161,8 +161,8 @@ fn insist<S: Space>(
     root: &Root,
     changes: &[BlockChange],
 ) -> Result<Root, VolError>
-    requires { CanTake store.now batch.old }
-    ensures { CanTake store.now batch.new }
+    requires { CanTake store.now.store batch.old }
+    ensures { CanTake store.now.store batch.new }
 {
     match put_into(alloc, store, batch, root, changes) {
         Err(VolError::Memory) => {}
@@ -306,8 +306,8 @@ fn put_inodes_of<S: Space>(
     store: &Dat<S>,
     batch: &mut Batch,
 ) -> Result<Root, VolError>
-    requires { CanTake store.now batch.old }
-    ensures { OnOk result (CanTake store.now batch.new) }
+    requires { CanTake store.now.store batch.old }
+    ensures { OnOk result (CanTake store.now.store batch.new) }
 {
     check_root(alloc, store, &Root::Empty)?;
     let changes = [file_at(2), file_at(11), file_at(12), file_at(1016)];
@@ -336,20 +336,46 @@ fn first_free<V: VRead>(store: &V, root: Root) -> Option<u64> {
     Some(next_ino(store, root, &[], InodeNumber::new(FIRST_INODE))?.get())
 }
 
+/// Whether a block of inodes was born here, or a node of them.
+fn is_inode_birth(birth: &Payload, due: &(u64, u8, u64)) -> bool {
+    let (tag, _) = birth;
+    tag.inode.get() == 6
+        && tag.number.get() == due.0
+        && tag.level.get() == due.1
+        && tag.offset == due.2
+}
+
+fn are_inode_births(batch: &Batch) -> bool {
+    let births = batch.births();
+    for (birth, due) in births.iter().zip(INODE_BIRTHS.as_slice()) {
+        if !is_inode_birth(birth, due) {
+            return false;
+        }
+    }
+    births.len() == INODE_BIRTHS.len()
+}
+
+fn has_size<V: VRead>(store: &V, root: &Root, due: &(u64, Option<u64>)) -> bool {
+    size_of(store, *root, due.0) == due.1
+}
+
+fn have_sizes<V: VRead>(store: &V, root: &Root) -> bool {
+    for due in SIZES.as_slice() {
+        if !has_size(store, root, due) {
+            return false;
+        }
+    }
+    true
+}
+
 #[test]
 fn inodes_are_put_and_read(rt: HostRuntime) -> Result<(), Fail> {
     let alloc = rt.alloc();
     let mut store = empty(alloc)?;
     let (root, batch) = new_inodes(alloc, &mut store)?;
-    assert_eq!(rt; batch.birth_count(), 5);
-    for ((tag, _), (number, level, offset)) in batch.births().iter().zip(INODE_BIRTHS.as_slice()) {
-        assert!(rt; tag.number.get() == *number && tag.inode.get() == 6);
-        assert!(rt; tag.level.get() == *level && tag.offset == *offset);
-    }
-    for (number, size) in SIZES {
-        assert_eq!(rt; size_of(&store, root, number), size, "inode {number}");
-    }
-    assert_eq!(rt; first_free(&store, root), Some(13));
+    assert!(rt; are_inode_births(&batch));
+    assert!(rt; have_sizes(&store, &root));
+    assert!(rt; first_free(&store, root) == Some(13));
     Ok(())
 }
 

@@ -9,6 +9,8 @@
 #[cfg(test)]
 mod directories;
 #[cfg(test)]
+mod file_calls;
+#[cfg(test)]
 mod files;
 #[cfg(test)]
 mod formats;
@@ -17,7 +19,7 @@ mod logs;
 #[cfg(test)]
 mod numbers;
 #[cfg(test)]
-mod plain_files;
+mod trees;
 #[cfg(test)]
 mod values;
 #[cfg(test)]

@@ -1,8 +1,8 @@
 //! Virtual block numbers over logs in 8 segments of 4 blocks: their periods and blocks after checkpoints, moves and reclaims,
 //! and what a refusal leaves.
-ghost use Rattle.std.specs.Prelude.{◌≡◌, OnOk, IfOk, IfSome, All, true};
+ghost use Rattle.std.specs.Prelude.{◌≡◌, OnOk, IfOk, IfSome, true};
 ghost use Rattle.nl_dat.specs.Batches.{Fits};
-ghost use Rattle.nl_dat.specs.Stores.{capacity, content_in, is_inside, address_in};
+ghost use Rattle.nl_dat.specs.Stores.{AreInside, capacity, content_in, is_inside, address_in};
 
 use crate::files::is_live_in;
 use crate::logs::are_segments;
@@ -69,8 +69,8 @@ fn bear<S: Space>(
     batch: &mut Batch,
     byte: u8,
 ) -> Result<(), VolError>
-    requires { Fits (capacity store.now) (content_in store.now) batch.old }
-    ensures { OnOk result (Fits (capacity store.now) (content_in store.now) batch.new) }
+    requires { Fits (capacity store.now.store) (content_in store.now.store) batch.old }
+    ensures { OnOk result (Fits (capacity store.now.store) (content_in store.now.store) batch.new) }
 {
     let number = next_number(store, batch);
     let page = page_of(alloc, byte)?;
@@ -86,8 +86,8 @@ fn bear<S: Space>(
 
 /// Adds the end of a number. Refused by `BadRange` where it is not in use or has ended.
 fn end<S: Space>(store: &Dat<S>, batch: &mut Batch, number: u64) -> Result<(), VolError>
-    requires { Fits (capacity store.now) (content_in store.now) batch.old }
-    ensures { OnOk result (Fits (capacity store.now) (content_in store.now) batch.new) }
+    requires { Fits (capacity store.now.store) (content_in store.now.store) batch.old }
+    ensures { OnOk result (Fits (capacity store.now.store) (content_in store.now.store) batch.new) }
 {
     let number = VirtualNumber::new(number);
     if is_live_in(store, number) {
@@ -105,7 +105,7 @@ fn batch_of<S: Space>(
     bytes: &[u8],
     ends: &[u64],
 ) -> Result<Batch, VolError>
-    ensures { IfOk result (λ batch. Fits (capacity store.now) (content_in store.now) batch) }
+    ensures { IfOk result (λ batch. Fits (capacity store.now.store) (content_in store.now.store) batch) }
 {
     let mut batch = Batch::new(alloc);
     for byte in bytes {
@@ -131,7 +131,8 @@ fn checkpoint<S: Space>(
 
 /// The number whose page stands at a block of a segment, where there is such a block.
 fn number_at<S: Space>(dat: &Dat<S>, segment: Segment, block: u32) -> Option<VirtualNumber>
-    ensures { IfSome result (λ v. is_inside dat.now.segments segment (address_in dat.now v) ≡ true) }
+    ensures { IfSome result (λ v.
+        is_inside dat.now.store.segments segment (address_in dat.now.store v) ≡ true) }
 {
     if dat.table().suinfo(segment).is_err() || dat.table().blocks() <= block {
         return None;
@@ -162,8 +163,7 @@ fn numbers_at<S: Space>(
     segment: Segment,
     blocks: &[u32],
 ) -> Result<Vec<VirtualNumber>, VolError>
-    ensures { IfOk result (λ numbers.
-        All (λ v. is_inside dat.now.segments segment (address_in dat.now v) ≡ true) numbers.items) }
+    ensures { IfOk result (λ numbers. AreInside dat.now.store segment numbers.items) }
 {
     let mut numbers = Vec::new(alloc);
     for block in blocks {
@@ -476,20 +476,29 @@ fn a_fault_changes_no_number(rt: HostRuntime) -> Result<(), Fail> {
     run(&rt, alloc, failing(alloc, 9)?, &[ROW, FAILED_MOVE])
 }
 
+fn is_bad_range<S: Space>(dat: &Dat<S>, number: u64) -> bool {
+    matches!(
+        dat.entry(VirtualNumber::new(number)),
+        Err(VolError::BadRange)
+    )
+}
+
+/// Whether there is no number for one birth more than these, of which the last has number 32.
+fn are_spent<S: Space>(dat: &Dat<S>, batch: &Batch) -> bool
+    requires { Fits (capacity dat.now.store) (content_in dat.now.store) batch.now }
+{
+    batch.last_number() == VirtualNumber::new(32)
+        && dat.fresh(batch) == Err(VolError::NoSpace)
+        && next_number(dat, batch) == VirtualNumber::new(33)
+}
+
 #[test]
 fn numbers_are_those_of_the_device(rt: HostRuntime) -> Result<(), Fail> {
     let alloc = rt.alloc();
     let dat = in_memory(alloc)?;
-    assert_eq!(rt; dat.capacity(), 32);
-    for number in [0, 33, u64::MAX] {
-        assert_eq!(rt;
-            dat.entry(VirtualNumber::new(number)),
-            Err(VolError::BadRange)
-        );
-    }
+    assert!(rt; dat.capacity() == 32);
+    assert!(rt; is_bad_range(&dat, 0) && is_bad_range(&dat, 33) && is_bad_range(&dat, u64::MAX));
     let batch = batch_of(alloc, &dat, &[7; 32], &[])?;
-    assert_eq!(rt; batch.last_number(), VirtualNumber::new(32));
-    assert_eq!(rt; dat.fresh(&batch), Err(VolError::NoSpace));
-    assert_eq!(rt; next_number(&dat, &batch), VirtualNumber::new(33));
+    assert!(rt; are_spent(&dat, &batch));
     Ok(())
 }

@@ -1,19 +1,26 @@
 //! Lists, pages, geometries and refusals, with ample memory and the values of their tables.
 use nl_types::{BLOCK_SIZE, Block, Geometry, Items, Page, VolError};
+use std::alloc::{AllocError, Global};
 use std::test::Fail;
 
-#[test]
-fn pages_are_shared_and_items_listed(rt: HostRuntime) -> Result<(), Fail> {
-    let alloc = rt.alloc();
+/// The share of a page that is dropped.
+fn shared(alloc: Global) -> Result<Page, AllocError> {
     let page = Page::new(alloc, Block::new([7; BLOCK_SIZE]))?;
-    let other = page.share()?;
-    drop(page);
-    assert!(rt; other.bytes() == &[7; BLOCK_SIZE]);
+    page.share()
+}
+
+fn listed(alloc: Global) -> Result<Items<u8>, AllocError> {
     let mut items = Items::from_slice(alloc, b"bc")?;
     items.push(b'd')?;
     items.push_front(b'a')?;
     items.append(b"ef".to_vec(alloc)?)?;
-    assert!(rt; items.as_slice() == b"abcdef".as_slice());
+    Ok(items)
+}
+
+#[test]
+fn pages_are_shared_and_items_listed(rt: HostRuntime) -> Result<(), Fail> {
+    assert!(rt; shared(rt.alloc())?.bytes() == &[7; BLOCK_SIZE]);
+    assert!(rt; listed(rt.alloc())?.as_slice() == b"abcdef".as_slice());
     Ok(())
 }
 
@@ -36,11 +43,8 @@ const GEOMETRIES: [(u32, u32, Option<u32>); 11] = [
 fn geometries_have_limits(rt: HostRuntime) {
     for (segments, blocks, total) in GEOMETRIES {
         match Geometry::new(segments, blocks) {
-            Ok(geometry) => assert_eq!(rt; Some(geometry.total()), total),
-            Err(refusal) => {
-                assert_eq!(rt; refusal, VolError::BadGeometry);
-                assert_eq!(rt; total, None);
-            }
+            Ok(geometry) => assert!(rt; Some(geometry.total()) == total),
+            Err(refusal) => assert!(rt; refusal == VolError::BadGeometry && total.is_none()),
         }
     }
 }
@@ -78,7 +82,6 @@ const REFUSALS: [(VolError, u8, &str); 27] = [
 #[test]
 fn refusals_have_numbers_and_names(rt: HostRuntime) {
     for (refusal, number, name) in REFUSALS {
-        assert_eq!(rt; refusal.number(), number);
-        assert_eq!(rt; refusal.name(), name);
+        assert!(rt; refusal.number() == number && refusal.name() == name);
     }
 }

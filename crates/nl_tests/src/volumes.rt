@@ -139,6 +139,25 @@ fn events_of(alloc: Global, rows: &[Row]) -> Result<Vec<Event>, AllocError> {
     Ok(events)
 }
 
+/// The first row whose reply is not the one that is due.
+fn first_unwanted(replies: &[Reply], rows: &[Row]) -> Option<usize> {
+    for (row, (reply, (_, want))) in replies.iter().zip(rows).enumerate() {
+        if !is_wanted(reply, *want) {
+            return Some(row);
+        }
+    }
+    None
+}
+
+fn replies_of<D: Device>(
+    alloc: Global,
+    pen: &mut Pen<D>,
+    rows: &[Row],
+) -> Result<Vec<Reply>, VolError> {
+    let events = events_of(alloc, rows)?;
+    run(alloc, pen, events.as_slice())
+}
+
 /// Does the calls one after another, and expects the reply beside each.
 fn expect<D: Device>(
     rt: &impl Abort,
@@ -146,11 +165,10 @@ fn expect<D: Device>(
     pen: &mut Pen<D>,
     rows: &[Row],
 ) -> Result<(), Fail> {
-    let events = events_of(alloc, rows)?;
-    let replies = run(alloc, pen, events.as_slice())?;
-    assert_eq!(rt; replies.len(), rows.len());
-    for (row, (reply, (_, want))) in replies.iter().zip(rows).enumerate() {
-        assert!(rt; is_wanted(reply, *want), "row {row}");
+    let replies = replies_of(alloc, pen, rows)?;
+    assert!(rt; replies.len() == rows.len());
+    if let Some(row) = first_unwanted(&replies, rows) {
+        panic!(rt; "row {row}");
     }
     Ok(())
 }
@@ -358,33 +376,38 @@ fn entry_of(block: u32, start: u64, end: u64) -> DatEntry {
     }
 }
 
+fn has_period<D: Device>(pen: &Pen<D>, due: &(u64, u32, u64, u64)) -> bool {
+    let (number, block, start, end) = *due;
+    pen.entry(VirtualNumber::new(number)) == Ok(Some(entry_of(block, start, end)))
+}
+
+fn have_periods<D: Device>(pen: &Pen<D>) -> bool {
+    for due in PERIODS.as_slice() {
+        if !has_period(pen, due) {
+            return false;
+        }
+    }
+    true
+}
+
+fn is_free<D: Device>(pen: &Pen<D>, number: u64) -> bool {
+    pen.entry(VirtualNumber::new(number)) == Ok(None)
+}
+
+fn is_bad_range<D: Device>(pen: &Pen<D>, number: u64) -> bool {
+    pen.entry(VirtualNumber::new(number)) == Err(VolError::BadRange)
+}
+
 #[test]
 fn numbers_have_periods_and_blocks(rt: HostRuntime) -> Result<(), Fail> {
     let mut pen = volume(rt.alloc(), 8, 4)?;
     expect(&rt, rt.alloc(), &mut pen, BYTES)?;
-    for (number, block, start, end) in PERIODS {
-        let due = Ok(Some(entry_of(block, start, end)));
-        assert!(rt;
-            pen.entry(VirtualNumber::new(number)) == due,
-            "number {number}"
-        );
-    }
-    for (number, due) in [
-        (4, Ok(None)),
-        (32, Ok(None)),
-        (0, BAD_RANGE),
-        (33, BAD_RANGE),
-    ] {
-        assert!(rt;
-            pen.entry(VirtualNumber::new(number)) == due,
-            "number {number}"
-        );
-    }
-    assert_eq!(rt; pen.segments().sustat().clean, 6);
+    assert!(rt; have_periods(&pen));
+    assert!(rt; is_free(&pen, 4) && is_free(&pen, 32));
+    assert!(rt; is_bad_range(&pen, 0) && is_bad_range(&pen, 33));
+    assert!(rt; pen.segments().sustat().clean == 6);
     Ok(())
 }
-
-const BAD_RANGE: Result<Option<DatEntry>, VolError> = Err(VolError::BadRange);
 
 // ---- beside the model
 
@@ -442,21 +465,34 @@ const OF_ALL_KINDS: &[Call<'static>] = &[
     Call::ReadMount(5, b"/c", 1020, 9),
 ];
 
-#[test]
-fn answers_as_the_model_does(rt: HostRuntime) -> Result<(), Fail> {
-    let alloc = rt.alloc();
+/// The first row whose replies differ.
+fn first_other(ours: &[Reply], due: &[Reply]) -> Option<usize> {
+    for (row, (our, due)) in ours.iter().zip(due).enumerate() {
+        if !same_reply(our, due) {
+            return Some(row);
+        }
+    }
+    None
+}
+
+fn all_kinds(alloc: Global) -> Result<Vec<Event>, AllocError> {
     let mut events = Vec::new(alloc);
     for call in OF_ALL_KINDS {
         events.push(event_of(alloc, *call)?)?;
     }
-    let mut pen = volume(alloc, 64, 64)?;
+    Ok(events)
+}
+
+#[test]
+fn answers_as_the_model_does(rt: HostRuntime) -> Result<(), Fail> {
+    let alloc = rt.alloc();
+    let events = all_kinds(alloc)?;
+    let ours = run(alloc, &mut volume(alloc, 64, 64)?, events.as_slice())?;
     let mut world = World::format(alloc, 0)?;
-    let ours = run(alloc, &mut pen, events.as_slice())?;
     let due = nl_model::run(&mut world, alloc, events.as_slice())?;
-    assert_eq!(rt; ours.len(), 47);
-    assert_eq!(rt; due.len(), 47);
-    for (row, (our, due)) in ours.iter().zip(due.as_slice()).enumerate() {
-        assert!(rt; same_reply(our, due), "row {row}");
+    assert!(rt; ours.len() == 47 && due.len() == 47);
+    if let Some(row) = first_other(&ours, due.as_slice()) {
+        panic!(rt; "row {row}");
     }
     Ok(())
 }

@@ -36,4 +36,4 @@ lowest_above s changes is fits taken = record {
 pub returns-in-Err-clause-lowest : goal.returns-in-Err-clause-lowest
 returns-in-Err-clause-lowest g c =
     rw (c.above_all.ensures, c.capacity.ensures.count)
-    (lowest_above (g.V.Vstore.store c.args.store.now) c.args.batch.now c.capacity.ensures.is_store c.requires c.in-Err.ensures.all_taken)
+    (lowest_above (g.V.Vstore.store c.args.store.now) c.args.batch.now (g.met.V.Vstore.is_store c.args.store.now) c.requires c.in-Err.ensures.all_taken)

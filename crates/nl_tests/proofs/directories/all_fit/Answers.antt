@@ -8,8 +8,7 @@ use Rattle.nl_tests.proofs.directories.all_fit.Goals as goal
 pub loop-record-preserved : goal.loop-record-preserved
 loop-record-preserved c =
     let within : c.loop-record.record-index < length c.args.records.now = omega arith in
-    let fits : RecordFits c.record-item.result = record { some = omega arith; most = omega arith; inode = omega arith } in
-    All-more RecordFits c.args.records.now c.loop-record.record-index c.record-item.result within c.loop-record.invariant (subst RecordFits c.record-item.is fits)
+    All-more RecordFits c.args.records.now c.loop-record.record-index c.record-item.result within c.loop-record.invariant (subst RecordFits c.record-item.is (c.fits.ensures c.if-not-fits.false))
 
 pub returns : goal.returns
 returns c = λ _. subst (All RecordFits) (take_all c.loop-record.record-index c.args.records.now (omega arith)) c.loop-record.invariant

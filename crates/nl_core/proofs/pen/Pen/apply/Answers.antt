@@ -9,7 +9,7 @@ pub returns-in-Apply : goal.returns-in-Apply
 returns-in-Apply g c =
     let l = c.self.inside.tables.lists in
     let new = c.change.new.self.lists in
-    let store = c.self.inside.store in
+    let store = c.self.inside.store.store in
     subst (λ o. Does unshared o c.args.event.now c.change.result (layout_of new store)) c.self.view_is
     (subst (λ e. Does unshared (layout_of l store) e c.change.result (layout_of new store)) (sym c.in-Apply.is)
     (does-Apply l new store c.self.invariant c.in-Apply.change c.change.result c.change.ensures.blocks c.change.ensures.follows c.change.ensures.changed))
@@ -18,7 +18,7 @@ pub returns-in-Mount : goal.returns-in-Mount
 returns-in-Mount g c =
     let l = c.self.inside.tables.lists in
     let new = c.mount.new.self.lists in
-    let store = c.self.inside.store in
+    let store = c.self.inside.store.store in
     let pages = pages_of (content_in store) in
     subst (λ o. Does unshared o c.args.event.now c.mount.result (layout_of new store)) c.self.view_is
     (subst (λ e. Does unshared (layout_of l store) e c.mount.result (layout_of new store)) (sym c.in-Mount.is)
@@ -26,14 +26,14 @@ returns-in-Mount g c =
 
 pub returns-in-Read : goal.returns-in-Read
 returns-in-Read g c =
-    let l = layout_of c.self.inside.tables.lists c.self.inside.store in
+    let l = layout_of c.self.inside.tables.lists c.self.inside.store.store in
     subst (λ o. Does unshared o c.args.event.now c.read.result o) c.self.view_is
     (subst (λ e. Does unshared l e c.read.result l) (sym c.in-Read.is)
     (does-Read l c.in-Read.ask c.read.result c.self.invariant c.read.ensures))
 
 pub returns-in-MountRead : goal.returns-in-MountRead
 returns-in-MountRead g c =
-    let l = layout_of c.self.inside.tables.lists c.self.inside.store in
+    let l = layout_of c.self.inside.tables.lists c.self.inside.store.store in
     subst (λ o. Does unshared o c.args.event.now c.read_mounted.result o) c.self.view_is
     (subst (λ e. Does unshared l e c.read_mounted.result l) (sym c.in-MountRead.is)
     (does-MountRead l c.in-MountRead.mount c.in-MountRead.ask c.read_mounted.result c.self.invariant c.read_mounted.ensures))
@@ -41,17 +41,17 @@ returns-in-MountRead g c =
 pub invariant_of-self-in-Mount : goal.invariant_of-self-in-Mount
 invariant_of-self-in-Mount g c =
     let l = c.self.inside.tables.lists in
-    let store = c.self.inside.store in
+    let store = c.self.inside.store.store in
     let pages = pages_of (content_in store) in
     (does-Mount l c.mount.new.self.lists store c.self.invariant c.in-Mount.number c.mount.result (c.mount.ensures.blocks pages c.self.invariant.sound) (c.mount.ensures.follows pages) c.mount.ensures.mounted).pen
 
 pub returns-in-Checkpoint : goal.returns-in-Checkpoint
 returns-in-Checkpoint g c =
-    let l = layout_of c.self.inside.tables.lists c.self.inside.store in
-    let new = layout_of c.checkpoint.new.tables.lists c.checkpoint.new.store in
+    let l = layout_of c.self.inside.tables.lists c.self.inside.store.store in
+    let new = layout_of c.checkpoint.new.tables.lists c.checkpoint.new.store.store in
     subst (λ o. Does unshared o c.args.event.now c.checkpoint.result new) c.self.view_is
     (subst (λ e. Does unshared l e c.checkpoint.result new) (sym c.in-Checkpoint.is) c.checkpoint.ensures)
 
 pub invariant_of-self : goal.invariant_of-self
 invariant_of-self g c =
-    (does-Apply c.self.inside.tables.lists c.change.new.self.lists c.self.inside.store c.self.invariant c.in-Apply.change c.change.result c.change.ensures.blocks c.change.ensures.follows c.change.ensures.changed).pen
+    (does-Apply c.self.inside.tables.lists c.change.new.self.lists c.self.inside.store.store c.self.invariant c.in-Apply.change c.change.result c.change.ensures.blocks c.change.ensures.follows c.change.ensures.changed).pen

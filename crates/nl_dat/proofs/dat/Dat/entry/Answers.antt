@@ -2,11 +2,11 @@ use Rattle.std.proofs.Common.{ap, ◌∙◌}
 use Rattle.nl_dat.specs.Table.{entry_in}
 use Rattle.nl_dat.specs.Stores.{numbered_in, dat_entry_of}
 use Rattle.std.specs.Option.{option_map}
-use Rattle.nl_dat.proofs.StoreOf.{entry-store_of}
+use Rattle.nl_dat.proofs.StoreOf.{entry-store_of, same_store}
 use Rattle.nl_dat.proofs.dat.Dat.entry.Goals as goal
 
 pub returns-clause-entry : goal.returns-clause-entry
 returns-clause-entry g c =
     c.entry_at.ensures ∙ ap (λ t. entry_in t c.args.number) c.as_slice.ensures
-    ∙ entry-store_of c.self.inside.table (g.S.Space.content c.self.inside.space) (g.S.Space.failure_count c.self.inside.space) c.self.invariant.sound c.args.number
-    ∙ ap (λ s. option_map dat_entry_of (numbered_in s c.args.number)) c.self.view_is
+    ∙ entry-store_of c.self.inside.table (g.S.Space.content c.self.inside.space) (g.S.Space.failure_count c.self.inside.space) c.self.inside.tabled.sound c.args.number
+    ∙ ap (λ s. option_map dat_entry_of (numbered_in s c.args.number)) (same_store c.self.view_is)

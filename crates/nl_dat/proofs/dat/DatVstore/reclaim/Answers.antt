@@ -11,7 +11,7 @@ use Rattle.nl_dat.specs.TakenOut.{HasTakenOut}
 use Rattle.nl_dat.proofs.SoundTable.{HaveOwnPayload-apart}
 use Rattle.nl_dat.proofs.Positions.{tagged-row}
 use Rattle.nl_dat.proofs.Reclaiming.{table-reclaimed, is_reclaimed}
-use Rattle.nl_dat.proofs.StoreOf.{is_store}
+use Rattle.nl_dat.proofs.StoreOf.{is_store, same_store}
 use Rattle.nl_dat.proofs.dat.DatVstore.reclaim.Goals as goal
 
 -- the row of a segment begins at its first block
@@ -24,7 +24,7 @@ taken_from first other count used old new taken at as_many h = subst (λ n. HasT
 
 pub take_out-taken-requires-clause-apart : goal.take_out-taken-requires-clause-apart
 take_out-taken-requires-clause-apart g c = λ v w b at_v at_w.
-    HaveOwnPayload-apart (addresses_of (entry_in c.self.inside.table)) (births_in (g.S.Space.content c.self.inside.space)) v w b c.self.invariant.sound at_v at_w
+    HaveOwnPayload-apart (addresses_of (entry_in c.self.inside.table)) (births_in (g.S.Space.content c.self.inside.space)) v w b c.self.inside.tabled.sound at_v at_w
 
 pub take_out-taken-requires-clause-tagged : goal.take_out-taken-requires-clause-tagged
 take_out-taken-requires-clause-tagged g c = λ k v within at.
@@ -32,18 +32,19 @@ take_out-taken-requires-clause-tagged g c = λ k v within at.
     let tidy = (g.met.S.Space.limits c.self.inside.space).tidy in
     let first = first_of space c.table-segments.result.now c.args.segment c.get.result c.blocks-2.result c.get.ensures c.blocks-2.ensures.blocks c.table-segments.ensures in
     let room : (info_of space.segments.each c.args.segment).used ≤ space.segments.blocks = room_of space.segments.blocks space.segments.each tidy.each c.args.segment in
-    tagged-row c.self.inside.table (c.self.inside.filled + 1) space c.summary-row.result.now c.args.segment k v tidy c.self.invariant c.summary-row.ensures.count c.summary-row.ensures.each
+    tagged-row c.self.inside.table (c.self.inside.filled + 1) space c.summary-row.result.now c.args.segment k v tidy c.self.inside.tabled c.summary-row.ensures.count c.summary-row.ensures.each
     (omega (arith, within, c.summary-row.ensures.count, room)) (at ∙ ap (λ n. Some (n + k)) first)
 
-pub invariant_of-self : goal.invariant_of-self
-invariant_of-self g c =
+pub invariant_of-self-inside : goal.invariant_of-self-inside
+invariant_of-self-inside g c =
     let old = g.S.Space.content c.self.inside.space in
     let later = g.S.Space.content c.free.new.self in
     let tidy = (g.met.S.Space.limits c.self.inside.space).tidy in
     let first = first_of old c.table-segments.result.now c.args.segment c.get.result c.blocks-2.result c.get.ensures c.blocks-2.ensures.blocks c.table-segments.ensures in
     let out = taken_from (c.get.result * c.blocks-2.result) (c.args.segment * old.segments.blocks) (length c.summary-row.result.now) (info_of old.segments.each c.args.segment).used c.self.inside.table c.take_out-taken.new.table c.take_out-taken.result first c.summary-row.ensures.count c.take_out-taken.ensures in
-    table-reclaimed c.self.inside.table c.take_out-taken.new.table c.self.inside.filled c.filled_after-self-inside.result c.args.segment old later (g.S.Space.failure_count c.self.inside.space) (g.S.Space.failure_count c.free.new.self) c.take_out-taken.result
-    c.self.invariant tidy c.free.ensures.freed out c.filled_after-self-inside.ensures.most c.filled_after-self-inside.ensures.below
+    let tabled = table-reclaimed c.self.inside.table c.take_out-taken.new.table c.self.inside.filled c.filled_after-self-inside.result c.args.segment old later (g.S.Space.failure_count c.self.inside.space) (g.S.Space.failure_count c.free.new.self) c.take_out-taken.result
+    c.self.inside.tabled tidy c.free.ensures.freed out c.filled_after-self-inside.ensures.most c.filled_after-self-inside.ensures.below in
+    (is_store c.take_out-taken.new.table (c.filled_after-self-inside.result + 1) later (g.S.Space.failure_count c.free.new.self) tabled (g.met.S.Space.limits c.free.new.self) (g.met.S.Space.whole_logs c.free.new.self) (g.met.S.Space.holds_only_used c.free.new.self) (g.met.S.Space.have_logs c.free.new.self), (tabled, tt))
 
 pub returns-clause-reclaimed : goal.returns-clause-reclaimed
 returns-clause-reclaimed g c =
@@ -52,10 +53,6 @@ returns-clause-reclaimed g c =
     let tidy = (g.met.S.Space.limits c.self.inside.space).tidy in
     let first = first_of old c.table-segments.result.now c.args.segment c.get.result c.blocks-2.result c.get.ensures c.blocks-2.ensures.blocks c.table-segments.ensures in
     let out = taken_from (c.get.result * c.blocks-2.result) (c.args.segment * old.segments.blocks) (length c.summary-row.result.now) (info_of old.segments.each c.args.segment).used c.self.inside.table c.take_out-taken.new.table c.take_out-taken.result first c.summary-row.ensures.count c.take_out-taken.ensures in
-    subst (λ s. IsReclaimed c.args.segment c.take_out-taken.result.count s (store_of c.take_out-taken.new.table later (g.S.Space.failure_count c.free.new.self))) c.self.view_is
+    subst (λ s. IsReclaimed c.args.segment c.take_out-taken.result.count s (store_of c.take_out-taken.new.table later (g.S.Space.failure_count c.free.new.self))) (same_store c.self.view_is)
     (is_reclaimed c.self.inside.table c.take_out-taken.new.table c.self.inside.filled c.filled_after-self-inside.result c.args.segment old later (g.S.Space.failure_count c.self.inside.space) (g.S.Space.failure_count c.free.new.self) c.take_out-taken.result
-    c.self.invariant tidy c.free.ensures.freed out c.filled_after-self-inside.ensures.most c.filled_after-self-inside.ensures.below)
-
-pub returns-clause-is_store : goal.returns-clause-is_store
-returns-clause-is_store g c =
-    is_store c.take_out-taken.new.table (c.filled_after-self-inside.result + 1) (g.S.Space.content c.free.new.self) (g.S.Space.failure_count c.free.new.self) (invariant_of-self g c) (g.met.S.Space.limits c.free.new.self) (g.met.S.Space.whole_logs c.free.new.self) (g.met.S.Space.holds_only_used c.free.new.self) (g.met.S.Space.have_logs c.free.new.self)
+    c.self.inside.tabled tidy c.free.ensures.freed out c.filled_after-self-inside.ensures.most c.filled_after-self-inside.ensures.below)

@@ -1,0 +1,106 @@
+use Rattle.std.proofs.Common.{Ok, ap, ◌∙◌}
+use Rattle.std.proofs.lemmas.Result.{err_from_is_err_and}
+use Rattle.nl_types.specs.declared.reply.Answer.TheVariants as answer
+use Rattle.nl_types.specs.Calls.{create}
+use Rattle.nl_types.specs.Paths.{Path}
+use Rattle.nl_files.specs.Became.{holding_over}
+use Rattle.nl_files.specs.Held.{Listed}
+use Rattle.nl_files.specs.Limits.{new_node}
+use Rattle.nl_files.specs.PathParts.{parts_of}
+use Rattle.nl_files.proofs.CallsJudged.{create-exists, create-not_made, create-refused}
+use Rattle.nl_files.proofs.CallsStand.{created-leads, leads-at}
+use Rattle.nl_files.proofs.PlacesFound.{at-parts, last-is_name, place-absent, place-listed, place-present, spells-parts}
+use Rattle.nl_files.proofs.current.CurrentTree.create.Goals as goal
+
+pub returns-in-Err-clause-done : goal.returns-in-Err-clause-done
+returns-in-Err-clause-done g c = λ b tree holds is _.
+    let node = new_node c.args.kind in
+    let names = c.in_ok-names.names.now in
+    let held = holding_over c.args.self.now.became b in
+    at-parts (create tree node) c.args.path.now names c.in_ok-names.ensures c.if-is_empty.ensures
+    ∙ create-refused held tree is.stands.means node (parts_of names) c.in-Err.refusal
+    (c.in-Err.ensures held (c.view.ensures b holds is.sound))
+
+pub returns-then-is_some-clause-done : goal.returns-then-is_some-clause-done
+returns-then-is_some-clause-done g c = λ b tree holds is _.
+    let node = new_node c.args.kind in
+    let names = c.in_ok-names.names.now in
+    let held = holding_over c.args.self.now.became b in
+    let place = c.in-Ok.place in
+    let there = place-present held (parts_of names) place.directory place.name.now place.link
+    (c.in-Ok.ensures held (c.view.ensures b holds is.sound)) c.if-is_some.ensures in
+    at-parts (create tree node) c.args.path.now names c.in_ok-names.ensures c.if-is_empty.ensures
+    ∙ create-exists held tree is.stands.means node (parts_of names) place.directory place.name.now there.0 there.1
+
+pub add_inode-requires-clause-directory : goal.add_inode-requires-clause-directory
+add_inode-requires-clause-directory g c =
+    let asked = c.requires in
+    let is = asked.3 in
+    let held = holding_over c.args.self.now.became asked.0 in
+    let place = c.in-Ok.place in
+    let listed = place-listed held asked.1 is.sound is.stands.means (parts_of c.in_ok-names.names.now)
+    place.directory place.name.now place.link (c.in-Ok.ensures held (c.view.ensures asked.0 asked.2 is.sound)) in
+    (asked.0, listed.0, asked.2, listed.1, is.counts)
+
+pub add_inode-requires-clause-number : goal.add_inode-requires-clause-number
+add_inode-requires-clause-number g c =
+    let asked = c.requires in
+    let is = asked.3 in
+    let held = holding_over c.args.self.now.became asked.0 in
+    let place = c.in-Ok.place in
+    let listed = place-listed held asked.1 is.sound is.stands.means (parts_of c.in_ok-names.names.now)
+    place.directory place.name.now place.link (c.in-Ok.ensures held (c.view.ensures asked.0 asked.2 is.sound)) in
+    is.sound.numbers place.directory (Listed listed.0) listed.1.0
+
+pub returns-in_err-add_inode-clause-done : goal.returns-in_err-add_inode-clause-done
+returns-in_err-add_inode-clause-done g c = λ b tree holds is.
+    let given = err_from_is_err_and c.from_residual-in_err-add_inode.result c.from_residual-in_err-add_inode.ensures.1 in
+    let node = new_node c.args.kind in
+    let names = c.in_ok-names.names.now in
+    let held = holding_over c.args.self.now.became b in
+    let place = c.in-Ok.place in
+    let free = place-absent held (parts_of names) place.directory place.name.now place.link
+    (c.in-Ok.ensures held (c.view.ensures b holds is.sound)) c.if-is_some.ensures in
+    rw (given.1, given.2) (λ other.
+    at-parts (create tree node) c.args.path.now names c.in_ok-names.ensures c.if-is_empty.ensures
+    ∙ create-not_made held tree is.stands.means node (parts_of names) place.directory place.name.now c.args.self.now.names
+    c.in_err-add_inode.field-0.0 free is.stands.count (c.in_err-add_inode.ensures.refused b holds is.counts) other)
+
+pub returns-clause-done : goal.returns-clause-done
+returns-clause-done g c = λ b tree holds is.
+    let node = new_node c.args.kind in
+    let names = c.in_ok-names.names.now in
+    let held = holding_over c.args.self.now.became b in
+    let place = c.in-Ok.place in
+    let free = place-absent held (parts_of names) place.directory place.name.now place.link
+    (c.in-Ok.ensures held (c.view.ensures b holds is.sound)) c.if-is_some.ensures in
+    let listed = place-listed held tree is.sound is.stands.means (parts_of names) place.directory place.name.now _ free in
+    let named = last-is_name c.args.path.now free.dir place.name.now
+    (spells-parts c.args.path.now names c.in_ok-names.ensures c.if-is_empty.ensures ∙ ap (λ (p : Path). Ok p) free.is_path) in
+    leads-at (create tree node) c.args.path.now names answer.Done c.add_inode.new.self b
+    c.in_ok-names.ensures c.if-is_empty.ensures
+    (created-leads c.args.self.now b tree is c.args.kind (parts_of names) place.directory place.name.now listed.0
+    c.in_ok-add_inode.field-0 c.add_inode.new.self free named listed.1.0
+    (c.in_ok-add_inode.ensures.created b listed.0 holds listed.1 is.counts)
+    (c.in_ok-add_inode.ensures.counts b listed.0 holds listed.1 is.counts)
+    c.in_ok-add_inode.ensures.names c.in_ok-add_inode.ensures.limit)
+
+pub returns-clause-changes : goal.returns-clause-changes
+returns-clause-changes g c = λ b tree holds is.
+    let names = c.in_ok-names.names.now in
+    let held = holding_over c.args.self.now.became b in
+    let place = c.in-Ok.place in
+    let free = place-absent held (parts_of names) place.directory place.name.now place.link
+    (c.in-Ok.ensures held (c.view.ensures b holds is.sound)) c.if-is_some.ensures in
+    let listed = place-listed held tree is.sound is.stands.means (parts_of names) place.directory place.name.now _ free in
+    record {
+      names = parts_of names;
+      is_path = spells-parts c.args.path.now names c.in_ok-names.ensures c.if-is_empty.ensures;
+      directory = place.directory;
+      name = place.name.now;
+      place = free;
+      records = listed.0;
+      here = listed.1.0;
+      inode = c.in_ok-add_inode.field-0;
+      created = c.in_ok-add_inode.ensures.created b listed.0 holds listed.1 is.counts;
+    }

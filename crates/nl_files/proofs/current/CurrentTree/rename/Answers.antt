@@ -1,0 +1,44 @@
+use Rattle.std.proofs.Common.{inl, refl}
+use Rattle.std.proofs.lemmas.Result.{err_from_is_err_and, on_ok_weaker}
+use Rattle.nl_files.specs.Became.{holding_over}
+use Rattle.nl_files.specs.Held.{Holding}
+use Rattle.nl_files.specs.PathParts.{parts_of}
+use Rattle.nl_files.proofs.RenamesJudged.{path_of-injective, path_of-last}
+use Rattle.nl_files.proofs.RenamesMake.{has-renamed, place-directory}
+use Rattle.nl_files.proofs.current.CurrentTree.rename.Goals as goal
+
+pub returns-in_err-names-clause-done : goal.returns-in_err-names-clause-done
+returns-in_err-names-clause-done g c = λ b tree holds over.
+    let given = err_from_is_err_and c.from_residual.result c.from_residual.ensures.1 in
+    rw (given.1, given.2) (λ _. c.in_err-names.ensures tree)
+
+pub move_to_place-requires-clause-name : goal.move_to_place-requires-clause-name
+move_to_place-requires-clause-name g c =
+    let asked = c.requires in
+    let move = rw c.in-Ok-Some.field-0-is at (c.in-Ok-Some.ensures (holding_over c.args.self.now.became asked.0) (c.view.ensures asked.0 asked.2 asked.3.sound)) in
+    path_of-last c.args.to.now (parts_of c.in_ok-names.target_names.now) move.target_place.dir c.in-Ok-Some.found.target.name.now
+    c.in_ok-names.ensures.1 move.target_place.is_path
+
+pub returns-in-Ok-None-clause-changes : goal.returns-in-Ok-None-clause-changes
+returns-in-Ok-None-clause-changes g c = λ b tree holds over.
+    let nothing = rw c.in-Ok-None.field-0-is at (c.in-Ok-None.ensures (holding_over c.args.self.now.became b) (c.view.ensures b holds over.sound)) in
+    inl (
+      path_of-injective c.args.from.now c.args.to.now (parts_of c.in_ok-names.names.now) (parts_of c.in_ok-names.target_names.now)
+          c.in_ok-names.ensures.0 c.in_ok-names.ensures.1 nothing.same,
+      λ i. refl,
+    )
+
+pub returns-in-Ok-Some-clause-changes : goal.returns-in-Ok-Some-clause-changes
+returns-in-Ok-Some-clause-changes g c = λ b tree holds over.
+    let old : Holding = holding_over c.args.self.now.became b in
+    let new : Holding = holding_over c.move_to_place.new.self.became b in
+    let found = c.in-Ok-Some.found in
+    let names = parts_of c.in_ok-names.names.now in
+    let target_names = parts_of c.in_ok-names.target_names.now in
+    let move = rw c.in-Ok-Some.field-0-is at (c.in-Ok-Some.ensures old (c.view.ensures b holds over.sound)) in
+    let here = place-directory old tree over.sound over.stands.means names found.directory found.name.now _ move.place in
+    let there = place-directory old tree over.sound over.stands.means target_names found.target.directory found.target.name.now _ move.target_place in
+    on_ok_weaker c.move_to_place.result
+    (has-renamed c.args.from.now c.args.to.now names target_names old new found.directory found.name.now found.link
+    found.target.directory found.target.name.now found.target.link here.0 there.0 c.in_ok-names.ensures.0 c.in_ok-names.ensures.1 move here.1 there.1)
+    (c.move_to_place.ensures.moved b here.0 there.0 holds here.1 there.1)

@@ -1,0 +1,12 @@
+use Rattle.std.proofs.Common.{◌≡◌}
+use Rattle.nl_types.specs.Roots.{page_at}
+use Rattle.nl_layout.specs.Root.{root_of}
+use Rattle.nl_files.proofs.DirectoryBlocks.{IsReadUpTo}
+use Rattle.nl_files.proofs.directory.Directory.records.Given as goal
+
+abbrev pub invariant-loop-index : goal.invariant-loop-index
+invariant-loop-index g l = record {
+  store : l.cursor.store.now ≡ l.self.store.now;
+  root : l.cursor.root ≡ l.self.root;
+  read : IsReadUpTo (page_at (g.V.VRead.pages l.self.store.now) (root_of l.self.root)) l.self.size l.index l.all.items;
+}

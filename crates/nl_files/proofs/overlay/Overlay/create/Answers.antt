@@ -1,0 +1,35 @@
+use Rattle.std.proofs.Common.{◌≡◌, ◌==◌, ℕ, ◌+◌, Option, Bool, None, ap, ◌∙◌}
+use Rattle.std.specs.Prelude.{cond, nat_le, if◌then◌else◌}
+use Rattle.std.specs.Ordering.{nat_cmp}
+use Rattle.std.specs.BTreeMap as map
+use Rattle.nl_dirs.specs.declared.record.Record.{Record}
+use Rattle.nl_files.specs.Held.{new_held}
+use Rattle.nl_files.specs.Numbers.{IsNumberFreed}
+use Rattle.nl_files.specs.Overlays.{holding_now, over_place}
+use Rattle.nl_files.specs.Records.{with_record}
+use Rattle.nl_files.proofs.Counting.{counts_taken, taken_new, taken_old}
+use Rattle.nl_files.proofs.overlay.Overlay.create.Goals as goal
+
+pub returns-clause-created : goal.returns-clause-created
+returns-clause-created g c = λ b all holds is counts. record {
+  lowest = c.in-Some.ensures.number b holds counts;
+  adds = λ i. ap (λ m. over_place (map.get nat_cmp m i) (b i)) c.take_number.ensures.changed
+      ∙ c.in_ok-add.ensures.added b all holds is i;
+}
+
+pub returns-clause-counts : goal.returns-clause-counts
+returns-clause-counts g c = λ b all holds is counts.
+    let old = c.args.self.now in
+    let new = c.take_number.new.self in
+    let inode = c.in-Some.inode in
+    let r : Record = record { name = c.args.name.now; inode = inode; kind = c.args.kind } in
+    let get : ℕ → Option Bool = λ n. map.get nat_cmp old.freed n in
+    let now : ℕ → Option Bool = λ n. map.get nat_cmp new.freed n in
+    let taken : (n : ℕ) → now n ≡ cond (n == inode) None (get n) =
+    λ n. c.take_number.ensures.freed n ∙ ap (λ f. cond (n == inode) None (map.get nat_cmp f n)) c.add.ensures.rest.freed in
+    counts_taken (IsNumberFreed old) (IsNumberFreed new) old.mark new.mark (holding_now old b) (holding_now new b) b counts
+    inode c.args.dir (new_held c.args.kind) all (with_record r all) (c.in-Some.ensures.number b holds counts) is.0
+    (λ i. ap (λ m. over_place (map.get nat_cmp m i) (b i)) c.take_number.ensures.changed
+    ∙ c.in_ok-add.ensures.added b all holds is i)
+    (taken_old get now inode taken) (taken_new get now inode taken)
+    (c.take_number.ensures.mark ∙ ap (λ (k : ℕ). if nat_le k inode then inode + 1 else k) c.add.ensures.rest.mark)

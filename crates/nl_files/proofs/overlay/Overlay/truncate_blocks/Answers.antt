@@ -1,0 +1,42 @@
+use Rattle.std.proofs.Common.{◌≡◌, Some, ap, ◌∙◌}
+use Rattle.nl_files.specs.Held.{Held, Holding, Stored}
+use Rattle.nl_files.specs.Overlays.{holding_now}
+use Rattle.nl_files.specs.Pages.{blocks_below, blocks_for, put_from}
+use Rattle.nl_files.specs.Steps.{with_held}
+use Rattle.nl_files.proofs.Counting.{held_kept}
+use Rattle.nl_files.proofs.FilePages.{held_twice}
+use Rattle.nl_files.proofs.OneHolding.{counts_still}
+use Rattle.nl_files.proofs.overlay.Overlay.truncate_blocks.Goals as goal
+
+pub cut_blocks-requires : goal.cut_blocks-requires
+cut_blocks-requires g c =
+    let asked = c.requires.file in (
+      asked.0,
+      c.args.size,
+      put_from c.args.first c.args.pages.items asked.2,
+      c.in_ok-write_blocks.ensures.open asked.0 asked.1 asked.2 asked.3 asked.4,
+    )
+
+pub returns-clause-truncated : goal.returns-clause-truncated
+returns-clause-truncated g c = λ b was blocks holds is i.
+    let old = holding_now c.args.self.now b in
+    let pages = put_from c.args.first c.args.pages.items blocks in
+    let held = Some (Stored c.args.size pages) in
+    let below = Some (Stored c.args.size (blocks_below (blocks_for c.args.size) pages)) in
+    let wrote : holding_now c.write_blocks.new.self b ≡ with_held c.args.inode held old =
+    λ k. λ j. c.in_ok-write_blocks.ensures.written b was blocks holds is j k in
+    c.cut_blocks.ensures.shown b c.args.size pages (c.in_ok-write_blocks.ensures.open b was blocks holds is) i
+    ∙ ap (λ (h : Holding). with_held c.args.inode below h i) wrote
+    ∙ held_twice c.args.inode below held old i
+
+pub returns-clause-counts : goal.returns-clause-counts
+returns-clause-counts g c = λ b was blocks holds is counts.
+    let old = holding_now c.args.self.now b in
+    let done = c.cut_blocks.ensures.rest in
+    let begun = c.in_ok-write_blocks.ensures.rest in
+    let now : Held = Stored c.args.size (blocks_below (blocks_for c.args.size) (put_from c.args.first c.args.pages.items blocks)) in
+    counts_still c.args.self.now c.cut_blocks.new.self b
+    (record { freed = done.freed ∙ begun.freed; mark = done.mark ∙ begun.mark; names = done.names ∙ begun.names })
+    (held_kept old (holding_now c.cut_blocks.new.self b) c.args.inode (Stored was blocks) now is.0
+    (returns-clause-truncated g c b was blocks holds is))
+    counts

@@ -1,0 +1,50 @@
+use Rattle.std.proofs.Common.{◌≡◌, ◌+◌, ℕ, length, Some, ap, subst, ◌∙◌}
+use Rattle.nl_files.specs.Files.{HasFileWith}
+use Rattle.nl_files.specs.Held.{Holding, Stored}
+use Rattle.nl_files.specs.Overlays.{holding_now}
+use Rattle.nl_files.specs.Pages.{put_from}
+use Rattle.nl_files.specs.Steps.{with_held}
+use Rattle.nl_files.proofs.Counting.{held_kept}
+use Rattle.nl_files.proofs.OneHolding.{counts_still}
+use Rattle.nl_files.proofs.overlay.Overlay.write_blocks.Goals as goal
+
+pub put_pages-requires-clause-places : goal.put_pages-requires-clause-places
+put_pages-requires-clause-places g c =
+    let asked = c.requires.file in
+    let opened = c.in_ok-open_file.ensures.open asked.0 asked.1 asked.2 asked.3 asked.4 in (
+      asked.0,
+      asked.1,
+      asked.2,
+      subst (λ (end : ℕ). HasFileWith c.reserve_pages.new.self asked.0 c.args.inode asked.1 asked.2 c.args.first end)
+          (ap (λ (n : ℕ). c.args.first + n) (c.len.ensures ∙ c.args.pages.ok.0)) (c.in_ok-reserve_pages.ensures.place asked.0 asked.1 asked.2 opened),
+    )
+
+pub returns-clause-written : goal.returns-clause-written
+returns-clause-written g c = λ b was blocks holds is i.
+    let opened = c.in_ok-open_file.ensures.open b was blocks holds is in
+    let placed : HasFileWith c.reserve_pages.new.self b c.args.inode was blocks c.args.first (c.args.first + length c.args.pages.items) =
+    subst (λ (end : ℕ). HasFileWith c.reserve_pages.new.self b c.args.inode was blocks c.args.first end)
+    (ap (λ (n : ℕ). c.args.first + n) (c.len.ensures ∙ c.args.pages.ok.0)) (c.in_ok-reserve_pages.ensures.place b was blocks opened) in
+    let still : holding_now c.reserve_pages.new.self b ≡ holding_now c.args.self.now b =
+    λ k. λ j. (c.in_ok-reserve_pages.ensures.still b j ∙ c.in_ok-open_file.ensures.still b j) k in
+    c.put_pages.ensures.shown b was blocks placed i
+    ∙ ap (λ (held : Holding). with_held c.args.inode (Some (Stored c.args.size (put_from c.args.first c.args.pages.items blocks))) held i) still
+
+pub returns-clause-counts : goal.returns-clause-counts
+returns-clause-counts g c = λ b was blocks holds is counts.
+    let done = c.put_pages.ensures.rest in
+    let mid = c.in_ok-reserve_pages.ensures.rest in
+    let begun = c.in_ok-open_file.ensures.rest in
+    counts_still c.args.self.now c.put_pages.new.self b
+    (record { freed = done.freed ∙ mid.freed ∙ begun.freed; mark = done.mark ∙ mid.mark ∙ begun.mark; names = done.names ∙ mid.names ∙ begun.names })
+    (held_kept (holding_now c.args.self.now b) (holding_now c.put_pages.new.self b) c.args.inode (Stored was blocks)
+    (Stored c.args.size (put_from c.args.first c.args.pages.items blocks)) is.0 (returns-clause-written g c b was blocks holds is))
+    counts
+
+pub returns-clause-open : goal.returns-clause-open
+returns-clause-open g c = λ b was blocks holds is.
+    let opened = c.in_ok-open_file.ensures.open b was blocks holds is in
+    let placed : HasFileWith c.reserve_pages.new.self b c.args.inode was blocks c.args.first (c.args.first + length c.args.pages.items) =
+    subst (λ (end : ℕ). HasFileWith c.reserve_pages.new.self b c.args.inode was blocks c.args.first end)
+    (ap (λ (n : ℕ). c.args.first + n) (c.len.ensures ∙ c.args.pages.ok.0)) (c.in_ok-reserve_pages.ensures.place b was blocks opened) in
+    c.put_pages.ensures.file b was blocks placed

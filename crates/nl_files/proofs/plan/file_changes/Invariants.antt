@@ -1,0 +1,8 @@
+use Rattle.std.proofs.Common.{◌≡◌, ◌++◌}
+use Rattle.nl_files.specs.Overlays.{new_pages}
+use Rattle.nl_files.specs.Planned.{merged}
+use Rattle.nl_files.specs.Shown.{itself, pair, shown_entries}
+use Rattle.nl_files.proofs.plan.file_changes.Given as goal
+
+abbrev pub invariant-loop-index : goal.invariant-loop-index
+invariant-loop-index l = l.changes.items ++ merged l.next l.count (shown_entries pair itself l.index-iterator) ≡ merged l.cut l.count (new_pages l.file)

@@ -1,0 +1,31 @@
+use Rattle.std.proofs.Common.{ℕ, List, ap, subst, ◌∙◌}
+use Rattle.nl_types.specs.Roots.{pages_of}
+use Rattle.nl_layout.specs.Root.{root_of}
+use Rattle.nl_dat.specs.Stores.{content_in}
+use Rattle.nl_files.specs.Became.{Became, EachMayBecome}
+use Rattle.nl_files.specs.Held.{roots_at}
+use Rattle.nl_files.specs.Overlays.{became_in, slot_shows}
+use Rattle.nl_files.specs.Settles.{Settling}
+use Rattle.nl_files.specs.Shown.{pair, shown_entries}
+use Rattle.nl_files.proofs.Slots.{changes-rest, shown-split}
+use Rattle.nl_files.proofs.settling.settle_inodes.Goals as goal
+
+pub loop-number-preserved : goal.loop-number-preserved
+loop-number-preserved g c =
+    let content = content_in (g.V.Vstore.store c.args.store.now) in
+    let roots = roots_at (pages_of content) (root_of c.args.root.now) in
+    let number = c.in-Some.number.now in
+    let slot = c.in-Some.slot.now in
+    let rest = c.next.new.self in
+    let all = became_in c.args.overlay.now in
+    let step = ap (λ es. shown_entries pair slot_shows es) c.in-Some.ensures.steps in
+    record {
+      fits = c.in_ok-settle_slot.ensures.fits;
+      changes = changes-rest number slot rest
+          (subst (λ (xs : List (ℕ × Became)). EachMayBecome xs) step c.loop-number.invariant.changes);
+      settling = λ base stores holding.
+          c.in_ok-settle_slot.ensures.settling base c.args.batch.now (shown_entries pair slot_shows rest) all stores holding
+          (subst (λ (xs : List (ℕ × Became)).
+          Settling content roots base c.args.batch.now c.loop-number.batch c.loop-number.inodes.items xs all)
+          (step ∙ shown-split number slot rest) (c.loop-number.invariant.settling base stores holding));
+    }

@@ -1,0 +1,75 @@
+-- From one checkpoint to the next.
+use Rattle.std.specs.Prelude.{◌≡◌, ◌≤◌, ℕ, List, [], ◌∷◌, length, None}
+use Rattle.nl_types.specs.Roots.{Root, Empty}
+use Rattle.nl_types.specs.Lifetimes.{Allowed, IsLedger, Ledger, Write, blank, ledger_after, numbers_at}
+use Rattle.nl_layout.specs.Root.{root_of}
+use Rattle.nl_layout.specs.declared.root.Root.{Root as CodeRoot}
+use Rattle.nl_dat.specs.Batches.{Changes, Fits}
+use Rattle.nl_blocktree.specs.Checkpoints.{WritesWhatDiffers, numbers_of, pages_in}
+use Rattle.nl_files.specs.Held.{Holding, IsCheckpointRoot, IsHolding, IsTreeSound, Stores, roots_at}
+use Rattle.nl_files.specs.Became.{Became, BecameDirectory, IsCurrent, holding_over}
+use Rattle.nl_files.specs.Settles.{Settles}
+
+-- the latest checkpoint has this root: its numbers are the places of the root's files, and these hold what inodes hold
+pub record IsLatest (ledger : Ledger) (root : Root) (held : Holding) : Type 0 where
+  pub numbers : numbers_at ledger ledger.latest ≡ numbers_of (pages_in ledger) (roots_at (pages_in ledger) root)
+  pub sound : IsTreeSound (pages_in ledger) root
+  pub stores : Stores (pages_in ledger) root held
+
+-- the ledger once a batch is written
+abbrev pub ledger_with : Changes → Ledger → Ledger
+ledger_with batch ledger = ledger_after (Write batch.births batch.ends) ledger
+
+-- the batch may be written, and the checkpoint that it makes has this root, and holds this
+pub record FollowsSettled (ledger : Ledger) (new : Root) (held : Holding) (batch : Changes) : Type 0 where
+  pub allowed : Allowed (Write batch.births batch.ends) ledger
+  pub is_ledger : IsLedger (ledger_with batch ledger)
+  pub is_latest : IsLatest (ledger_with batch ledger) new held
+
+-- where the current tree is settled and its batch written, the next checkpoint has the new root, and holds that tree
+abbrev pub SettledCheckpointsFollow : Type 0
+SettledCheckpointsFollow =
+    (room : ℕ) (ledger : Ledger) (root new : Root) (base held : Holding) (became : List (ℕ × Became)) (batch : Changes) →
+    IsLedger ledger → IsLatest ledger root base →
+    Settles ledger.content root new became held batch → Fits room ledger.content batch →
+    FollowsSettled ledger new held batch
+
+-- the latest checkpoint can be settled over
+abbrev pub LatestCheckpointsHold : Type 0
+LatestCheckpointsHold = (ledger : Ledger) (root : Root) (held : Holding) →
+    IsLedger ledger → IsLatest ledger root held → IsHolding held → IsCheckpointRoot ledger.content root
+
+-- a checkpoint writes exactly what differs, over all its files, the file of inodes last
+abbrev pub SettledCheckpointsWriteWhatDiffers : Type 0
+SettledCheckpointsWriteWhatDiffers =
+    (room : ℕ) (ledger : Ledger) (root new : Root) (base held : Holding) (became : List (ℕ × Became)) (batch : Changes) →
+    IsLedger ledger → IsLatest ledger root base →
+    Settles ledger.content root new became held batch → Fits room ledger.content batch →
+    WritesWhatDiffers (pages_in ledger) (pages_in (ledger_with batch ledger)) (roots_at (pages_in ledger) root)
+    (roots_at (pages_in (ledger_with batch ledger)) new) 6 batch.births batch.ends
+
+-- ---- the first checkpoint
+
+-- no inode is in use
+abbrev pub nothing_held : Holding
+nothing_held i = None
+
+-- the tree of a new volume: the root directory, without names
+abbrev pub root_directory_alone : List (ℕ × Became)
+root_directory_alone = (2, BecameDirectory []) ∷ []
+
+-- what its inodes hold
+abbrev pub first_holding : Holding
+first_holding = holding_over root_directory_alone nothing_held
+
+-- before it there is a checkpoint without files, over which the tree of a new volume can be settled
+pub record FirstCheckpointsHold : Type 0 where
+  pub latest : IsLatest blank Empty nothing_held
+  pub checkpoint : IsCheckpointRoot blank.content Empty
+  pub current : IsCurrent blank.content Empty root_directory_alone nothing_held first_holding
+
+-- the first checkpoint writes a block of inodes and its node
+abbrev pub FirstCheckpointsAreSmall : Type 0
+FirstCheckpointsAreSmall = (room : ℕ) (new : CodeRoot) (batch : Changes) →
+    Settles blank.content Empty (root_of new) root_directory_alone first_holding batch →
+    Fits room blank.content batch → length batch.births ≤ 2

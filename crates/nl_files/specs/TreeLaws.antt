@@ -1,0 +1,56 @@
+-- The current tree from one checkpoint to the next, and the first one.
+use Rattle.std.specs.Prelude.{ℕ, []}
+use Rattle.nl_types.specs.Entries.{Content}
+use Rattle.nl_types.specs.Lifetimes.{IsLedger, Ledger, blank}
+use Rattle.nl_types.specs.Trees.{Tree, root_alone}
+use Rattle.nl_types.specs.Roots.{Pages, Root, Empty, pages_of}
+use Rattle.nl_dat.specs.Batches.{Changes, Fits}
+use Rattle.nl_blocktree.specs.Checkpoints.{pages_in}
+use Rattle.nl_files.specs.Held.{Holding, IsCheckpointRoot, IsHolding}
+use Rattle.nl_files.specs.Became.{Current, IsCurrent, holding_over}
+use Rattle.nl_files.specs.CheckpointTrees.{HoldsTree}
+use Rattle.nl_files.specs.CurrentTrees.{StandsOver}
+use Rattle.nl_files.specs.Settles.{Settles}
+use Rattle.nl_files.specs.Laws.{IsLatest, ledger_with, nothing_held, root_directory_alone}
+
+-- The current tree stands for the tree over the latest checkpoint of a ledger, which has this root and holds this.
+pub record StandsOverLatest (ledger : Ledger) (root : Root) (now : Current) (base : Holding) (tree : Tree) : Type 0 where
+  pub is_ledger : IsLedger ledger
+  pub latest : IsLatest ledger root base
+  pub base_sound : IsHolding base
+  pub stands : StandsOver now base tree
+
+-- ---- the first one
+
+-- the current tree of a new volume
+abbrev pub first_tree : Current
+first_tree = record { became = root_directory_alone; freed = []; mark = 11; names = 0 }
+
+-- it stands for the root alone, over a checkpoint without files
+abbrev pub FirstTreesStand : Type 0
+FirstTreesStand = StandsOverLatest blank Empty first_tree nothing_held root_alone
+
+-- a root without blocks holds nothing
+abbrev pub EmptyRootsHoldNothing : Type 0
+EmptyRootsHoldNothing = (pages : Pages) → HoldsTree pages Empty nothing_held
+
+-- ---- the next one
+
+-- the checkpoint can be read, and the tree be settled over it
+pub record CanBeSettled (ledger : Ledger) (root : Root) (now : Current) (base : Holding) : Type 0 where
+  pub holds : HoldsTree (pages_in ledger) root base
+  pub checkpoint : IsCheckpointRoot ledger.content root
+  pub current : IsCurrent ledger.content root now.became base (holding_over now.became base)
+
+abbrev pub TreesCanBeSettled : Type 0
+TreesCanBeSettled =
+    (ledger : Ledger) (root : Root) (now : Current) (base : Holding) (tree : Tree) →
+    StandsOverLatest ledger root now base tree → CanBeSettled ledger root now base
+
+-- once the batch is written nothing differs from the new checkpoint, and that stands for the same tree
+abbrev pub SettledTreesGoOn : Type 0
+SettledTreesGoOn =
+    (room : ℕ) (ledger : Ledger) (root new : Root) (now : Current) (base : Holding) (tree : Tree) (batch : Changes) →
+    StandsOverLatest ledger root now base tree →
+    Settles ledger.content root new now.became (holding_over now.became base) batch → Fits room ledger.content batch →
+    StandsOverLatest (ledger_with batch ledger) new (record now { became = [] }) (holding_over now.became base) tree

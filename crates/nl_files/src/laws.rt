@@ -1,0 +1,41 @@
+//! What settling means for checkpoints, as contracts of functions that do nothing.
+ghost use Rattle.nl_files.specs.Laws.{FirstCheckpointsAreSmall, FirstCheckpointsHold, LatestCheckpointsHold, SettledCheckpointsFollow, SettledCheckpointsWriteWhatDiffers};
+ghost use Rattle.nl_files.specs.TreeLaws.{EmptyRootsHoldNothing, FirstTreesStand, SettledTreesGoOn, TreesCanBeSettled};
+
+/// The checkpoint that a settled tree makes has the new root, and holds that tree.
+pub fn settled_checkpoints_follow()
+    ensures { SettledCheckpointsFollow }
+{}
+
+/// The latest checkpoint of every ledger can be settled over.
+pub fn latest_checkpoints_hold()
+    ensures { LatestCheckpointsHold }
+{}
+
+/// A checkpoint writes exactly the blocks that differ.
+pub fn settled_checkpoints_write_what_differs()
+    ensures { SettledCheckpointsWriteWhatDiffers }
+{}
+
+/// The first checkpoint of a volume has two blocks at most.
+pub fn first_checkpoints_are_small()
+    ensures { FirstCheckpointsAreSmall }
+{}
+
+/// A new volume's tree can be settled, over a checkpoint without files.
+pub fn first_checkpoints_hold()
+    ensures { FirstCheckpointsHold }
+{}
+
+/// The current tree of a new volume stands for the root alone, over a checkpoint without files.
+pub fn first_trees_stand()
+    ensures tree { FirstTreesStand }
+    ensures checkpoint { EmptyRootsHoldNothing }
+{}
+
+/// What stands for a tree over the latest checkpoint can be settled, and then stands for it over the checkpoint that is
+/// made of it.
+pub fn settled_trees_go_on()
+    ensures before { TreesCanBeSettled }
+    ensures after { SettledTreesGoOn }
+{}

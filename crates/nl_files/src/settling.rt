@@ -1,0 +1,203 @@
+//! What a checkpoint takes of the current tree.
+ghost use Rattle.std.specs.Prelude.{◌≡◌, ℕ, ◌≤◌, List, [], ◌∷◌, ◌++◌, Option, IfOk, IfErr, OnErr};
+ghost use Rattle.nl_types.specs.Roots.{page_at, pages_of};
+ghost use Rattle.nl_layout.specs.Root.{root_of};
+ghost use Rattle.nl_dat.specs.Batches.{Changes};
+ghost use Rattle.nl_dat.specs.Stores.{content_in};
+ghost use Rattle.nl_blocktree.specs.Checkpoints.{no_changes};
+ghost use Rattle.nl_blocktree.specs.Numbering.{CanTake};
+ghost use Rattle.nl_files.specs.Became.{Became, EachMayBecome, IsCurrent, MayBecome, over_became};
+ghost use Rattle.nl_files.specs.Held.{Held, Holding, IsCheckpointRoot, IsHolding, IsRootInUse, Stores, root_in, roots_at};
+ghost use Rattle.nl_files.specs.Overlays.{IsOrderly, became_in, became_of, slot_shows};
+ghost use Rattle.nl_files.specs.Planned.{IsBase, inode_size, shaped};
+ghost use Rattle.nl_files.specs.Settles.{IsInodeSettled, Settles, Settling};
+ghost use Rattle.nl_files.specs.Shown.{pair, shown_entries};
+
+use crate::overlay::{Changed, Overlay, Slot};
+use crate::plan::{Shape, plan_changes};
+use nl_blocktree::put_all;
+use nl_dat::{Batch, Vstore};
+use nl_ifile::{InodeChange, inode, put_inodes};
+use nl_layout::{Inode, Root};
+use nl_types::{InodeNumber, VolError};
+use std::alloc::Global;
+
+/// Puts what differs from the checkpoint into an empty batch, and answers the root of the new one. Refused by `Memory`
+/// alone; then the batch is empty again.
+pub(crate) fn settle_overlay<V: Vstore>(
+    alloc: Global,
+    store: &V,
+    batch: &mut Batch,
+    root: Root,
+    overlay: &Overlay,
+) -> Result<Root, VolError>
+    requires empty { batch.old ≡ no_changes }
+    requires fits { CanTake (V.store store.now) batch.old }
+    requires checkpoint { IsCheckpointRoot (content_in (V.store store.now)) (root_of root) }
+    requires orderly { IsOrderly overlay.now }
+    requires current { (base held : Holding) ×
+        IsCurrent (content_in (V.store store.now)) (root_of root) (became_in overlay.now) base held }
+    ensures settles { IfOk result (λ new. (base held : Holding)
+        → IsCurrent (content_in (V.store store.now)) (root_of root) (became_in overlay.now) base held
+        → Settles (content_in (V.store store.now)) (root_of root) (root_of new) (became_in overlay.now) held batch.new) }
+    ensures fits { IfOk result (λ _. CanTake (V.store store.now) batch.new) }
+    ensures same { OnErr result (batch.new ≡ batch.old) }
+    ensures err { IfErr result (λ e. e ≡ VolError.Memory) }
+{
+    let result = settle_files(alloc, store, batch, root, overlay);
+    if result.is_err() {
+        batch.truncate(0, 0);
+    }
+    result
+}
+
+/// The same. Where it is refused, what was added stays in the batch.
+fn settle_files<V: Vstore>(
+    alloc: Global,
+    store: &V,
+    batch: &mut Batch,
+    root: Root,
+    overlay: &Overlay,
+) -> Result<Root, VolError>
+    requires empty { batch.old ≡ no_changes }
+    requires fits { CanTake (V.store store.now) batch.old }
+    requires checkpoint { IsCheckpointRoot (content_in (V.store store.now)) (root_of root) }
+    requires orderly { IsOrderly overlay.now }
+    requires current { (base held : Holding) ×
+        IsCurrent (content_in (V.store store.now)) (root_of root) (became_in overlay.now) base held }
+    ensures settles { IfOk result (λ new. (base held : Holding)
+        → IsCurrent (content_in (V.store store.now)) (root_of root) (became_in overlay.now) base held
+        → Settles (content_in (V.store store.now)) (root_of root) (root_of new) (became_in overlay.now) held batch.new) }
+    ensures fits { IfOk result (λ _. CanTake (V.store store.now) batch.new) }
+    ensures err { IfErr result (λ e. e ≡ VolError.Memory) }
+{
+    let inodes = settle_inodes(alloc, store, batch, &root, overlay)?;
+    put_inodes(alloc, store, batch, root, &inodes)
+}
+
+/// Puts the blocks of each inode that changed into the batch, and answers the changes of inodes.
+fn settle_inodes<V: Vstore>(
+    alloc: Global,
+    store: &V,
+    batch: &mut Batch,
+    root: &Root,
+    overlay: &Overlay,
+) -> Result<Vec<InodeChange>, VolError>
+    requires fits { CanTake (V.store store.now) batch.old }
+    requires checkpoint { IsCheckpointRoot (content_in (V.store store.now)) (root_of root.now) }
+    requires changes { EachMayBecome (became_in overlay.now) }
+    ensures settling { IfOk result (λ inodes. (base : Holding)
+        → Stores (pages_of (content_in (V.store store.now))) (root_of root.now) base → IsHolding base
+        → Settling (content_in (V.store store.now))
+        (roots_at (pages_of (content_in (V.store store.now))) (root_of root.now)) base
+        batch.old batch.new inodes.items [] (became_in overlay.now)) }
+    ensures fits { IfOk result (λ _. CanTake (V.store store.now) batch.new) }
+    ensures err { IfErr result (λ e. e ≡ VolError.Memory) }
+{
+    let mut inodes = Vec::new(alloc);
+    for (number, slot) in overlay.changed.iter() {
+        settle_slot(alloc, store, batch, root, *number, slot, &mut inodes)?;
+    }
+    Ok(inodes)
+}
+
+/// Puts the blocks of a live slot's inode into the batch, and its inode behind the others.
+fn settle_slot<V: Vstore>(
+    alloc: Global,
+    store: &V,
+    batch: &mut Batch,
+    root: &Root,
+    number: u64,
+    slot: &Slot,
+    inodes: &mut Vec<InodeChange>,
+) -> Result<(), VolError>
+    requires fits { CanTake (V.store store.now) batch.old }
+    requires checkpoint { IsCheckpointRoot (content_in (V.store store.now)) (root_of root.now) }
+    requires changes { EachMayBecome (shown_entries pair slot_shows ((number, slot.now) ∷ [])) }
+    ensures settling { IfOk result (λ _. (base : Holding) (before : Changes) (left all : List (ℕ × Became))
+        → Stores (pages_of (content_in (V.store store.now))) (root_of root.now) base → IsHolding base
+        → Settling (content_in (V.store store.now))
+        (roots_at (pages_of (content_in (V.store store.now))) (root_of root.now)) base before
+        batch.old inodes.old.items (shown_entries pair slot_shows ((number, slot.now) ∷ []) ++ left) all
+        → Settling (content_in (V.store store.now))
+        (roots_at (pages_of (content_in (V.store store.now))) (root_of root.now)) base before
+        batch.new inodes.new.items left all) }
+    ensures fits { IfOk result (λ _. CanTake (V.store store.now) batch.new) }
+    ensures err { IfErr result (λ e. e ≡ VolError.Memory) }
+{
+    if !slot.live {
+        return Ok(());
+    }
+    let number = InodeNumber::new(number);
+    let old = inode(store, *root, number);
+    let new = settle_one(alloc, store, batch, number, &old, &slot.what)?;
+    push_inode(inodes, number, new)
+}
+
+fn push_inode(
+    inodes: &mut Vec<InodeChange>,
+    number: InodeNumber,
+    inode: Option<Inode>,
+) -> Result<(), VolError>
+    ensures ok { IfOk result (λ _. inodes.new.items ≡
+        inodes.old.items ++ record { number = number; inode = inode } ∷ []) }
+    ensures err { IfErr result (λ e. e ≡ VolError.Memory) }
+{
+    inodes.push(InodeChange { number, inode })?;
+    Ok(())
+}
+
+/// Puts the blocks of an inode into the batch, and answers the inode that it becomes.
+fn settle_one<V: Vstore>(
+    alloc: Global,
+    store: &V,
+    batch: &mut Batch,
+    number: InodeNumber,
+    old: &Option<Inode>,
+    what: &Changed,
+) -> Result<Option<Inode>, VolError>
+    requires fits { CanTake (V.store store.now) batch.old }
+    requires in_use { IsRootInUse (content_in (V.store store.now)) (root_in old.now) }
+    requires sized { inode_size old.now ≤ 268435456 }
+    requires change { MayBecome (became_of what.now) }
+    ensures settled { IfOk result (λ new. (base : Option Held)
+        → IsBase (page_at (pages_of (content_in (V.store store.now))) (root_in old.now)) old.now base
+        → IsInodeSettled (content_in (V.store store.now)) number (root_in old.now) new
+        (over_became (became_of what.now) base) batch.old batch.new) }
+    ensures fits { IfOk result (λ _. CanTake (V.store store.now) batch.new) }
+    ensures err { IfErr result (λ e. e ≡ VolError.Memory) }
+{
+    let plan = plan_changes(alloc, what, old)?;
+    let root = put_all(
+        alloc,
+        store,
+        batch,
+        number,
+        root_or_empty(old),
+        &plan.changes,
+    )?;
+    Ok(with_root(&plan.shape, root))
+}
+
+fn root_or_empty(old: &Option<Inode>) -> Root
+    ensures { root_of result ≡ root_in old.now }
+{
+    match old {
+        Some(inode) => inode.root,
+        None => Root::Empty,
+    }
+}
+
+/// The inode of a shape, with its root.
+fn with_root(shape: &Option<Shape>, root: Root) -> Option<Inode>
+    ensures { result ≡ shaped shape.now root }
+{
+    match shape {
+        Some(shape) => Some(Inode {
+            kind: shape.kind,
+            root,
+            size: shape.size,
+        }),
+        None => None,
+    }
+}

@@ -1,0 +1,56 @@
+//! The current tree, to be read.
+ghost use Rattle.std.specs.Prelude.{◌≡◌};
+ghost use Rattle.nl_files.specs.Became.{holding_over};
+ghost use Rattle.nl_files.specs.Held.{Holding, IsHolding};
+
+use crate::current::CurrentTree;
+use crate::tree_read::{Base, Link, TreeRead};
+use nl_dirs::Record;
+use nl_types::{Page, VolError};
+use std::alloc::Global;
+
+/// The current tree over the latest checkpoint, to be read by paths as the checkpoint's own tree is.
+#[derive(Drop)]
+pub struct View<'a, B: Base> {
+    tree: &'a CurrentTree,
+    base: &'a B,
+}
+
+impl CurrentTree {
+    /// The tree over a checkpoint, to be read. It takes no memory.
+    pub fn view<'a, B: Base>(&'a self, base: &'a B) -> View<'a, B>
+        ensures { (b : Holding) → B.TreeRead.holds base.now b → IsHolding (holding_over self.now.became b)
+            → ⟦<View<'a, B> as TreeRead>⟧.holds result (holding_over self.now.became b) }
+    {
+        View { tree: self, base }
+    }
+}
+
+impl<B: Base> TreeRead for View<'_, B> {
+    ghost use Rattle.std.specs.Prelude.{◌≡◌};
+    ghost use Rattle.nl_files.specs.Became.{holding_over};
+    ghost use Rattle.nl_files.specs.Held.{Holding, IsHolding};
+
+    ghost holds = { λ view held. IsHolding held
+        × ((b : Holding) × B.TreeRead.holds view.base.now b × (held ≡ holding_over view.tree.now.became b)) };
+
+    fn find(&self, dir: u64, name: &[u8]) -> Option<Link> {
+        self.tree.find(self.base, dir, name)
+    }
+
+    fn size(&self, file: u64) -> u64 {
+        self.tree.size(self.base, file)
+    }
+
+    fn block(&self, file: u64, index: u64) -> Option<&Page> {
+        self.tree.block(self.base, file, index)
+    }
+
+    fn name_count(&self, dir: u64) -> u64 {
+        self.tree.name_count(self.base, dir)
+    }
+
+    fn records(&self, alloc: Global, dir: u64) -> Result<Vec<Record>, VolError> {
+        self.tree.records(alloc, self.base, dir)
+    }
+}

@@ -1,0 +1,69 @@
+-- The current tree stands for a tree after each call, and over each checkpoint.
+use Rattle.std.proofs.Common.{◌≡◌, ℕ, zero, suc, ◌+◌, List, [], Option, Some, None, Result, Ok, Err, OnErr, refl, sym, ap, ◌∙◌, subst, get_or, replicate}
+use Rattle.std.specs.Option.{option_map}
+use Rattle.nl_types.specs.declared.error.VolError.{VolError}
+use Rattle.nl_types.specs.declared.reply.Answer.{Answer}
+use Rattle.nl_types.specs.Calls.{Changed}
+use Rattle.nl_types.specs.Entries.{Content, Entry, written}
+use Rattle.nl_types.specs.Lifetimes.{Ledger, blank}
+use Rattle.nl_types.specs.Roots.{Root, pages_of}
+use Rattle.nl_types.specs.Trees.{Tree}
+use Rattle.nl_segwriter.specs.Content.{SpaceContent}
+use Rattle.nl_dat.specs.Batches.{Changes, Fits}
+use Rattle.nl_dat.specs.Stores.{Store, content_in, entry_now, new_store}
+use Rattle.nl_files.specs.Held.{Holding, IsCheckpointRoot}
+use Rattle.nl_files.specs.Became.{Current, IsCurrent, holding_over}
+use Rattle.nl_files.specs.CheckpointTrees.{HoldsTree}
+use Rattle.nl_files.specs.CurrentTrees.{CallsAs, StandsOver}
+use Rattle.nl_files.specs.Laws.{ledger_with}
+use Rattle.nl_files.specs.Settles.{Settles}
+use Rattle.nl_files.specs.TreeLaws.{StandsOverLatest}
+use Rattle.nl_files.proofs.TreeLaws.{settled_trees-go_on, trees-can_be_settled}
+
+-- the ledger of a store has this checkpoint as its latest, over which the current tree stands for a tree
+abbrev pub IsOverLatest : Store → Root → Current → ℕ → Type 0
+IsOverLatest store root now checkpoint =
+    (ledger : Ledger) × (base : Holding) × (tree : Tree) × StandsOverLatest ledger root now base tree
+    × (ledger.content ≡ content_in store) × (ledger.latest ≡ checkpoint)
+
+-- a call leaves a tree, be it refused or not
+pub call_leaves : {A : Type 0} (given : A → Answer) (result : Result A VolError) (old now : Current) (b : Holding) (called : Changed) (t : Tree)
+    → CallsAs given result now b called → OnErr result (now ≡ old) → StandsOver old b t → (u : Tree) × StandsOver now b u
+call_leaves given (Ok a) old now b called t calls same stands = (calls.tree, calls.stands)
+call_leaves given (Err e) old now b called t calls same stands = (t, subst (λ (c : Current). StandsOver c b t) (sym same) stands)
+
+-- a new store has no number in use
+none_stands : {X : Type 0} (total k : ℕ) → get_or (replicate {A = Option X} total None) k None ≡ None
+none_stands zero k = refl
+none_stands (suc n) zero = refl
+none_stands (suc n) (suc k) = none_stands n k
+
+pub new_content-blank : (store : Store) (space : SpaceContent) (failures : ℕ) → store ≡ new_store space failures → blank.content ≡ content_in store
+new_content-blank store space failures new = λ k. λ v.
+    (sym (ap (λ (s : Store). content_in s v) new ∙ ap (option_map entry_now) (none_stands _ v))) k
+
+module _ (content : Content) (ledger : Ledger) (root : Root) (now : Current) (base : Holding) (tree : Tree) (over : StandsOverLatest ledger root now base tree) (same : ledger.content ≡ content) where
+  pub latest_holds : HoldsTree (pages_of content) root base
+  latest_holds = subst (λ (c : Content). HoldsTree (pages_of c) root base) same (trees-can_be_settled ledger root now base tree over).holds
+
+  pub latest_checkpoint : IsCheckpointRoot content root
+  latest_checkpoint = subst (λ (c : Content). IsCheckpointRoot c root) same (trees-can_be_settled ledger root now base tree over).checkpoint
+
+  pub latest_current : IsCurrent content root now.became base (holding_over now.became base)
+  latest_current = subst (λ (c : Content). IsCurrent c root now.became base (holding_over now.became base)) same (trees-can_be_settled ledger root now base tree over).current
+
+  -- once the batch is written the tree stands over the new checkpoint
+  pub written_goes_on : (room : ℕ) (new : Root) (batch : Changes) (after : Current) → Settles content root new now.became (holding_over now.became base) batch → Fits room content batch
+      → after ≡ record now { became = [] } → StandsOverLatest (ledger_with batch ledger) new after (holding_over now.became base) tree
+  written_goes_on room new batch after settles fits settled =
+      subst (λ (c : Current). StandsOverLatest (ledger_with batch ledger) new c (holding_over now.became base) tree) (sym settled)
+      (settled_trees-go_on room ledger root new now base tree batch over
+      (subst (λ (c : Content). Settles c root new now.became (holding_over now.became base) batch) (sym same) settles)
+      (subst (λ (c : Content). Fits room c batch) (sym same) fits))
+
+  -- and the ledger has what the store has
+  pub written_content : (checkpoint : ℕ) (batch : Changes) (after : Content) → ledger.latest ≡ checkpoint → after ≡ written batch.births batch.ends (checkpoint + 1) content
+      → (ledger_with batch ledger).content ≡ after
+  written_content checkpoint batch after latest is =
+      ap (λ (c : Content). written batch.births batch.ends (ledger.latest + 1) c) same
+      ∙ (ap (λ (n : ℕ). written batch.births batch.ends (n + 1) content) latest ∙ sym is)
