@@ -1,8 +1,7 @@
 -- What calls do to what inodes hold is what they do to the tree.
-use Rattle.std.proofs.Common.{◌≡◌, ℕ, false, true, ◌+◌, ◌-◌, ◌<◌, ◌≤◌, List, [], ◌∷◌, ◌++◌, length, Option, Some, None, refl, sym, ap, ◌∙◌, subst, arith}
-use Rattle.std.specs.Prelude.{Ok, Err, max}
+use Rattle.std.proofs.Common.{◌≡◌, ℕ, false, true, ◌+◌, ◌-◌, ◌<◌, ◌≤◌, List, [], ◌∷◌, ◌++◌, length, Option, Some, None, sym, ap, ◌∙◌, subst, arith}
+use Rattle.std.specs.Prelude.{Ok, max}
 use Rattle.std.specs.Option.{option_map}
-use Rattle.nl_types.specs.declared.error.VolError.{VolError}
 use Rattle.nl_types.specs.declared.kind.Kind.{Kind}
 use Rattle.nl_types.specs.declared.kind.Kind.TheVariants as kind
 use Rattle.nl_types.specs.declared.reply.Answer.{Answer}
@@ -12,8 +11,7 @@ use Rattle.nl_types.specs.Paths.{Name, Path}
 use Rattle.nl_types.specs.Trees.{Tree}
 use Rattle.nl_types.specs.Roots.{Blocks}
 use Rattle.nl_types.specs.Calls.{Changed, create, write, truncate, unlink, rmdir, rename, overwritten, resized}
-use Rattle.nl_types.specs.Inodes.{Link, InodeContent, Inodes, MeansTree}
-use Rattle.nl_types.specs.declared.reply.Node.{Node}
+use Rattle.nl_types.specs.Inodes.{Link, Inodes, MeansTree}
 use Rattle.nl_types.specs.declared.reply.Node.TheVariants.{Dir}
 use Rattle.nl_types.specs.InodeChanges.{Refills}
 use Rattle.nl_types.specs.Judging.{Listing, IsListing, bytes_of, has_any, judge_create, judge_rename}
@@ -23,7 +21,6 @@ use Rattle.nl_types.proofs.Inodes.CallsDone.{creates_lead, writes_lead, truncate
 use Rattle.nl_dirs.specs.declared.record.Record.{Record}
 use Rattle.nl_dirs.specs.Records.{NamesAscend}
 use Rattle.nl_files.specs.Held.{Held, Holding, Stored, Listed, bytes_stored, inode_content, inodes_of_holding}
-use Rattle.nl_files.specs.Records.{with_record, without_record}
 use Rattle.nl_files.specs.Steps.{with_held, with_link, with_new_inode, without_inode, without_link}
 use Rattle.nl_files.specs.Limits.{new_node}
 use Rattle.nl_files.specs.Bytes.{Overwrites, Resizes}

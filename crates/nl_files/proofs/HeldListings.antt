@@ -1,30 +1,22 @@
 -- A directory has no more names than its tree has paths.
-use Rattle.std.proofs.Common.{◌≡◌, ℕ, Bool, true, false, ◌+◌, ◌≤◌, List, [], ◌∷◌, ◌++◌, length, map, Option, Some, None, refl, sym, ap, ◌∙◌, subst, T, arith}
-use Rattle.std.specs.Prelude.{IsTrue, cond, reverse}
-use Rattle.std.specs.List.{All, cons_option}
+use Rattle.std.proofs.Common.{◌≡◌, ℕ, ◌+◌, ◌≤◌, List, [], ◌∷◌, length, map, Option, Some, None, refl, ap, ◌∙◌, arith}
+use Rattle.std.specs.Prelude.{reverse}
+use Rattle.std.specs.List.{cons_option}
 use Rattle.std.specs.Option.{option_map}
-use Rattle.std.specs.Ordering.{is_lt}
-use Rattle.std.specs.FinMap.{find, is_sorted}
-use Rattle.std.specs.FinMap.Entries.{below_all}
-use Rattle.std.specs.declared.cmp.Ordering.TheVariants.{Less}
 use Rattle.std.proofs.lemmas.List.{length-map}
-use Rattle.std.proofs.lemmas.List.Elements.{All-head, All-tail}
 use Rattle.nl_types.specs.declared.kind.Kind.{Kind}
 use Rattle.nl_types.specs.declared.reply.Node.{Node}
 use Rattle.nl_types.specs.declared.reply.Node.TheVariants.{Dir}
-use Rattle.nl_types.specs.Paths.{Name, Path, name_cmp, path_cmp, same_name}
+use Rattle.nl_types.specs.Paths.{Name, Path}
 use Rattle.nl_types.specs.Trees.{Tree, lookup, children, name_below, node_kind}
-use Rattle.nl_types.specs.Inodes.{Link, InodeContent, Bytes, Records, Inodes, MeansTree, reached}
-use Rattle.nl_types.specs.InodeChanges.{HasRecords, ListsRecords}
+use Rattle.nl_types.specs.Inodes.{Records, MeansTree}
+use Rattle.nl_types.specs.InodeChanges.{HasRecords}
 use Rattle.nl_types.specs.InodeLaws.{with_kind}
-use Rattle.nl_types.specs.Judging.{IsListing}
-use Rattle.nl_types.proofs.Booleans.{both, is_true}
 use Rattle.nl_types.proofs.Inodes.Walks.{reached-pairs}
 use Rattle.nl_types.proofs.Inodes.ChildRecords.{children_are_records}
 use Rattle.nl_dirs.specs.declared.record.Record.{Record}
 use Rattle.nl_dirs.specs.Records.{NamesAscend, entry_of}
-use Rattle.nl_dirs.proofs.RecordOrder.{IsBeforeAll, ascending-head, ascending-tail}
-use Rattle.nl_files.specs.Held.{Held, Holding, IsHolding, Stored, Listed, inode_content, inodes_of_holding}
+use Rattle.nl_files.specs.Held.{Holding, Listed, inode_content, inodes_of_holding}
 use Rattle.nl_files.specs.Naming.{listed_record}
 use Rattle.nl_files.proofs.HeldContents.{lists_records}
 

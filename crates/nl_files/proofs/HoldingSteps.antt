@@ -1,8 +1,6 @@
 -- Steps keep what is true of every tree's inodes.
-use Rattle.std.proofs.Common.{◌≡◌, ◌==◌, ◌≤◌, ◌+◌, ◌*◌, ℕ, suc, Bool, true, false, cond, List, [], ◌∷◌, length, Option, Some, None, refl, sym, ap, ◌∙◌, subst, inl, inr, arith}
+use Rattle.std.proofs.Common.{◌≡◌, ◌==◌, ◌≤◌, ◌+◌, ℕ, Bool, true, false, List, [], ◌∷◌, length, Option, Some, None, refl, sym, ◌∙◌, subst, inl, inr, arith}
 use Rattle.std.specs.Prelude.{IsTrue}
-use Rattle.std.specs.List.{All}
-use Rattle.std.specs.Ordering.{match_ordering}
 use Rattle.std.specs.declared.cmp.Ordering.{Ordering}
 use Rattle.std.specs.declared.cmp.Ordering.TheVariants.{Less, Equal, Greater}
 use Rattle.std.proofs.lemmas.Bool.{cases_Bool, eqb-true}
@@ -11,8 +9,7 @@ use Rattle.nl_types.specs.Roots.{Blocks}
 use Rattle.nl_types.specs.declared.kind.Kind.{Kind}
 use Rattle.nl_types.specs.declared.kind.Kind.TheVariants as kind
 use Rattle.nl_dirs.specs.declared.record.Record.{Record}
-use Rattle.nl_dirs.specs.Records.{NamesAscend}
-use Rattle.nl_files.specs.Held.{Held, Holding, IsHolding, IsInodeNumber, Stored, Listed, byte_stored, new_held}
+use Rattle.nl_files.specs.Held.{Held, Holding, IsHolding, IsInodeNumber, Stored, Listed, new_held}
 use Rattle.nl_files.specs.Records.{with_record, without_record}
 use Rattle.nl_files.specs.Steps.{with_held, with_link, without_link, with_new_inode, without_inode}
 use Rattle.nl_files.specs.Limits.{IsFileHeld, IsDirectoryHeld, MayHold}

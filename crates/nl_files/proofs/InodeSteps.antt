@@ -1,5 +1,5 @@
 -- Steps on what inodes hold, as steps on inodes.
-use Rattle.std.proofs.Common.{◌≡◌, ◌==◌, ℕ, Bool, true, false, cond, List, [], ◌∷◌, Option, Some, None, refl, sym, ap, ◌∙◌, subst, inl, inr}
+use Rattle.std.proofs.Common.{◌≡◌, ◌==◌, ℕ, true, false, cond, List, Option, Some, None, refl, sym, ap, ◌∙◌, subst, inl, inr}
 use Rattle.std.specs.Option.{option_map}
 use Rattle.std.proofs.lemmas.Bool.{cases_Bool, eqb-true, eq-eqb, ne_eqb}
 use Rattle.nl_types.specs.Paths.{Name, same_name}
@@ -7,10 +7,9 @@ use Rattle.nl_types.specs.Roots.{Blocks}
 use Rattle.nl_types.specs.declared.kind.Kind.{Kind}
 use Rattle.nl_types.specs.declared.kind.Kind.TheVariants as kind
 use Rattle.nl_types.specs.Trees.{node_kind}
-use Rattle.nl_types.specs.Inodes.{Link, InodeContent, Bytes, Records, Inodes}
+use Rattle.nl_types.specs.Inodes.{Link, InodeContent}
 use Rattle.nl_types.specs.InodeChanges.{HoldsChanged, put_record, move_record, fresh_content, Adds, Refills, Drops, Moves, MovesOnto}
-use Rattle.nl_types.proofs.Lookups.{same_name-equal}
-use Rattle.nl_types.proofs.Inodes.Recording.{put_record-there, put_record-name, put_record-dir, holds_same, holds_both}
+use Rattle.nl_types.proofs.Inodes.Recording.{put_record-there, put_record-name, holds_same, holds_both}
 use Rattle.nl_types.proofs.Inodes.Ways.{name_cases}
 use Rattle.nl_dirs.specs.declared.record.Record.{Record}
 use Rattle.nl_dirs.specs.Records.{NamesAscend, entry_of}

@@ -49,3 +49,8 @@ pub mod PlacesFound
 pub mod CallsJudged
 pub mod CallsStand
 pub mod TreeLaws
+pub mod Staying
+pub mod PutsAlike
+pub mod InodesAlike
+pub mod FilesAlike
+pub mod OneSettling

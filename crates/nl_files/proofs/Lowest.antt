@@ -41,6 +41,10 @@ module _ (IsFree : ℕ → Type 0) (mark : ℕ) (held b : Holding) (counts : Cou
   from_freed : (n : ℕ) → IsFree n → ((m : ℕ) → IsFree m → n ≤ m) → AreHeldFrom b mark n → IsLowestUnheld held 11 n
   from_freed n f least used = let is = counts.freed n f in record { low = is.0; high = is.1; free = is.2; lowest = used_below n least used }
 
+  -- the first number that is freed, where it lies below the mark
+  pub freed_below : (n : ℕ) → IsFree n → ((m : ℕ) → IsFree m → n ≤ m) → n < mark → IsLowestUnheld held 11 n
+  freed_below n f least below = from_freed n f least (λ k low high. absurd (omega (arith, below, low, high)))
+
   pub free_is : (first next : Option ℕ) → MatchOption first ((n : ℕ) → IsFree n → ⊥) (λ n. IsFree n × ((m : ℕ) → IsFree m → n ≤ m)) →
       MatchOption next (AreHeldFrom b mark 524288) (IsLowestUnheld b mark) →
       MatchOption (lesser_option first next) (AreHeldFrom held 11 524288) (IsLowestUnheld held 11)

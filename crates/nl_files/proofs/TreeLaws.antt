@@ -1,5 +1,5 @@
 -- The current tree of a new volume, and the one that is left where a checkpoint was made.
-use Rattle.std.proofs.Common.{◌≡◌, ℕ, [], Option, Some, None, refl, ap, arith}
+use Rattle.std.proofs.Common.{[], refl, ap, arith}
 use Rattle.std.specs.Option.{option_map}
 use Rattle.nl_types.specs.Trees.{Tree, root_alone}
 use Rattle.nl_types.proofs.ExactLifetimes.{ledger-blank}

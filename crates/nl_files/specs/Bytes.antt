@@ -15,6 +15,16 @@ abbrev pub byte_written : List ℕ → ℕ → ℕ → ℕ → ℕ
 byte_written bytes offset k old =
     if is_between offset (offset + length bytes) k then slice_index bytes (k - offset) else old
 
+-- the byte at k, once those of a page are copied over others; where there is no page, they stay
+abbrev pub byte_over : Option (List ℕ) → ℕ → ℕ → ℕ
+byte_over None k old = old
+byte_over (Some page) k old = slice_index page k
+
+-- bytes from an offset on, once those of pages are copied over them
+abbrev pub AreBytesOver : Blocks → ℕ → List ℕ → List ℕ → Type 0
+AreBytesOver pages offset old new = (k : ℕ) → k < length new
+    → slice_index new k ≡ byte_over (pages ((offset + k) / 1024)) ((offset + k) % 1024) (slice_index old k)
+
 -- whether one of so many bytes from an offset on lies in the block
 abbrev pub is_touched : ℕ → ℕ → ℕ → Bool
 is_touched offset count b = nat_lt offset (1024 * b + 1024) && nat_lt (1024 * b) (offset + count)

@@ -1,5 +1,5 @@
 -- What inodes in use hold, down to the blocks that are stored, and what a checkpoint's root stands for.
-use Rattle.std.specs.Prelude.{◌≡◌, ◌⊎◌, ℕ, IsTrue, ◌≤◌, ◌<◌, ◌*◌, ◌+◌, ◌/◌, ◌%◌, ◌==◌, if◌then◌else◌, List, [], length, map, IsSome, Option, None, Some}
+use Rattle.std.specs.Prelude.{◌≡◌, ◌⊎◌, ℕ, IsTrue, ◌≤◌, ◌<◌, ◌*◌, ◌/◌, ◌%◌, ◌==◌, if◌then◌else◌, List, [], length, map, IsSome, Option, None, Some}
 use Rattle.std.specs.List.{All, range_with_len}
 use Rattle.std.specs.Option.{option_map}
 use Rattle.nl_types.specs.Entries.{Content}

@@ -21,3 +21,5 @@ pub mod TreeMeaning
 pub mod Moving
 pub mod CurrentTrees
 pub mod TreeLaws
+pub mod Staying
+pub mod OneSettling

@@ -1,5 +1,5 @@
 -- What calls that read a tree answer.
-use Rattle.std.specs.Prelude.{◌≡◌, ℕ, List, take, drop, Option, Result, Ok, Err, MatchResult}
+use Rattle.std.specs.Prelude.{◌≡◌, ℕ, ◌+◌, ◌<◌, List, length, slice_index, take, drop, Option, Result, Ok, Err, MatchResult}
 use Rattle.nl_types.specs.declared.error.VolError.{VolError}
 use Rattle.nl_types.specs.declared.error.VolError.TheVariants.{IsDir, NotDir}
 use Rattle.nl_types.specs.declared.kind.Kind.TheVariants as kind
@@ -8,9 +8,10 @@ use Rattle.nl_types.specs.Calls.{and_then}
 use Rattle.nl_types.specs.Resolving.{resolve}
 use Rattle.nl_types.specs.Trees.{Tree}
 use Rattle.nl_types.specs.Inodes.{Link, MeansTree}
+use Rattle.nl_types.specs.Roots.{Blocks}
 use Rattle.nl_types.specs.declared.reply.Named.{Named}
 use Rattle.nl_dirs.specs.declared.record.Record.{Record}
-use Rattle.nl_files.specs.Held.{Held, Holding, IsHolding, bytes_stored, held_block, held_size, inodes_of_holding}
+use Rattle.nl_files.specs.Held.{Held, Holding, IsHolding, byte_stored, bytes_stored, held_block, held_size, inodes_of_holding}
 
 -- inodes hold what they may, and stand for the tree
 pub record HoldingMeans (holding : Holding) (tree : Tree) : Type 0 where
@@ -35,6 +36,11 @@ as_file (i, kind.Directory) = Err IsDir
 abbrev pub as_directory : Link → Result ℕ VolError
 as_directory (i, kind.File) = Err NotDir
 as_directory (i, kind.Directory) = Ok i
+
+-- the bytes are those of blocks from an offset on; a hole stands for zeros
+abbrev pub AreBytesFrom : Blocks → ℕ → List ℕ → Type 0
+AreBytesFrom blocks offset bytes =
+    (k : ℕ) → k < length bytes → slice_index bytes k ≡ byte_stored blocks (offset + k)
 
 -- the bytes are those of a file from an offset on, as many as there are up to a length
 abbrev pub ArePartOf : Option Held → ℕ → ℕ → List ℕ → Type 0

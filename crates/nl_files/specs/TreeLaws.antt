@@ -1,9 +1,8 @@
 -- The current tree from one checkpoint to the next, and the first one.
 use Rattle.std.specs.Prelude.{ℕ, []}
-use Rattle.nl_types.specs.Entries.{Content}
 use Rattle.nl_types.specs.Lifetimes.{IsLedger, Ledger, blank}
 use Rattle.nl_types.specs.Trees.{Tree, root_alone}
-use Rattle.nl_types.specs.Roots.{Pages, Root, Empty, pages_of}
+use Rattle.nl_types.specs.Roots.{Pages, Root, Empty}
 use Rattle.nl_dat.specs.Batches.{Changes, Fits}
 use Rattle.nl_blocktree.specs.Checkpoints.{pages_in}
 use Rattle.nl_files.specs.Held.{Holding, IsCheckpointRoot, IsHolding}

@@ -14,6 +14,7 @@ ghost use Rattle.nl_files.specs.Held.{Holding, IsCheckpointRoot, IsInodeNumber, 
 ghost use Rattle.nl_files.specs.Laws.{nothing_held, root_directory_alone};
 ghost use Rattle.nl_files.specs.Numbers.{CountsFree};
 ghost use Rattle.nl_files.specs.Overlays.{IsDirectoryOf};
+ghost use Rattle.nl_files.specs.Reading.{AreBytesFrom};
 ghost use Rattle.nl_files.specs.Settles.{Settles};
 ghost use Rattle.nl_files.specs.Steps.{IsCreateRefused, IsCreated, with_held, with_link_moved, without_inode};
 
@@ -95,6 +96,15 @@ impl CurrentTree {
             → option_copied result ≡ held_block (holding_over self.now.became b file) index }
     {
         self.overlay.block(base, file, index)
+    }
+
+    /// Fills the slice with the bytes of a file from an offset on.
+    pub(crate) fn read_bytes<B: Base>(&self, base: &B, file: u64, offset: u64, into: &mut [u8])
+        requires { offset + length into.old < 2 ^ 64 }
+        ensures { (b : Holding) → B.TreeRead.holds base.now b
+            → AreBytesFrom (held_block (holding_over self.now.became b file)) offset into.new }
+    {
+        self.overlay.read_bytes(base, file, offset, into);
     }
 
     /// How many names a directory has.

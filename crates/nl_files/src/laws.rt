@@ -1,5 +1,7 @@
 //! What settling means for checkpoints, as contracts of functions that do nothing.
 ghost use Rattle.nl_files.specs.Laws.{FirstCheckpointsAreSmall, FirstCheckpointsHold, LatestCheckpointsHold, SettledCheckpointsFollow, SettledCheckpointsWriteWhatDiffers};
+ghost use Rattle.nl_files.specs.OneSettling.{CleanTreesWriteNothing, SettlingsAreAlike};
+ghost use Rattle.nl_files.specs.Staying.{CheckpointsStay, KeptPagesAgree};
 ghost use Rattle.nl_files.specs.TreeLaws.{EmptyRootsHoldNothing, FirstTreesStand, SettledTreesGoOn, TreesCanBeSettled};
 
 /// The checkpoint that a settled tree makes has the new root, and holds that tree.
@@ -38,4 +40,18 @@ pub fn first_trees_stand()
 pub fn settled_trees_go_on()
     ensures before { TreesCanBeSettled }
     ensures after { SettledTreesGoOn }
+{}
+
+/// A checkpoint keeps its roots, the numbers at their places and what it stands for over any pages that agree with its own
+/// under the numbers that it reaches, as pages do that keep all there were.
+pub fn checkpoints_stay()
+    ensures stay { CheckpointsStay }
+    ensures kept { KeptPagesAgree }
+{}
+
+/// Whichever way a tree is settled over a checkpoint, as many blocks are written, and the root is the same: none, and the
+/// checkpoint's own, where nothing differs from it.
+pub fn settlings_are_alike()
+    ensures alike { SettlingsAreAlike }
+    ensures clean { CleanTreesWriteNothing }
 {}

@@ -3,6 +3,7 @@
 
 mod calls;
 mod changed;
+mod copying;
 mod current;
 mod directory;
 mod entries;

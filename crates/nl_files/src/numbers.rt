@@ -35,7 +35,11 @@ impl Overlay {
             → MatchOption result (AreHeldFrom (holding_now self.now b) 11 524288)
             (IsLowestUnheld (holding_now self.now b) 11) }
     {
-        lesser(self.first_freed(), base.free_from(self.mark))
+        let first = self.first_freed();
+        match first {
+            Some(freed) if freed < self.mark => Some(freed),
+            _ => lesser(first, base.free_from(self.mark)),
+        }
     }
 
     /// The number of an inode that is to be new, or none where there is a name too many or no number is free. It takes no

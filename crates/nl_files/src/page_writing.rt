@@ -55,6 +55,29 @@ fn written_page(
     overwritten_page(alloc, old, (from - start) as usize, part)
 }
 
+/// The page of a block of a file, once bytes are written at an offset that lie in it. The old page is asked for only where
+/// some of its bytes stay, since a checkpoint's is found by a walk from its file's first node.
+fn page_with<T: TreeRead>(
+    alloc: Global,
+    tree: &T,
+    file: u64,
+    index: u64,
+    offset: u64,
+    bytes: &[u8],
+) -> Result<Page, AllocError>
+    requires touched { (offset / 1024 ≤ index) × (index < end_of_blocks offset (length bytes.now)) }
+    requires end { offset + length bytes.now ≤ 67108864 }
+    ensures { (held : Holding) → T.holds tree.now held → IfOk result (IsPageWritten
+        (held_block (held file) index) (1024 * index) offset bytes.now) }
+{
+    let start = index * SIZE;
+    if offset <= start && start + SIZE <= offset + bytes.len() as u64 {
+        written_page(alloc, None, index, offset, bytes)
+    } else {
+        written_page(alloc, tree.block(file, index), index, offset, bytes)
+    }
+}
+
 /// The pages of the blocks of a file that bytes at an offset lie in, once they are written.
 pub(crate) fn written_pages<T: TreeRead>(
     alloc: Global,
@@ -76,8 +99,7 @@ pub(crate) fn written_pages<T: TreeRead>(
     };
     let mut pages = Vec::new(alloc);
     for index in first..end {
-        let old = tree.block(file, index);
-        pages.push(written_page(alloc, old, index, offset, bytes)?)?;
+        pages.push(page_with(alloc, tree, file, index, offset, bytes)?)?;
     }
     Ok(pages)
 }

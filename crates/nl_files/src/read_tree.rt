@@ -7,6 +7,7 @@ ghost use Rattle.nl_ifile.specs.Inodes.{inode_at};
 ghost use Rattle.nl_files.specs.Held.{Held, Holding, StandsAs, StandsFor};
 ghost use Rattle.nl_files.specs.CheckpointTrees.{HoldsTree, IsNoDirectory, IsNoFile};
 
+use crate::copying::copy_bytes;
 use crate::directory::Directory;
 use crate::tree_read::{Base, Link, TreeRead};
 use nl_blocktree::get;
@@ -94,6 +95,13 @@ impl<V: VRead> TreeRead for ReadTree<'_, V> {
 
     fn block(&self, file: u64, index: u64) -> Option<&Page> {
         get(self.store, self.file(file)?.root, index)
+    }
+
+    fn read_bytes(&self, file: u64, offset: u64, into: &mut [u8]) {
+        match self.file(file) {
+            Some(inode) => copy_bytes(self.store, inode.root, offset, into),
+            None => into.fill(0),
+        }
     }
 
     fn name_count(&self, dir: u64) -> u64 {

@@ -1,48 +1,18 @@
 //! Calls that read a tree.
-ghost use Rattle.std.specs.Prelude.{◌≡◌, ◌+◌, ◌≤◌, ◌<◌, ◌/◌, ◌%◌, ◌^◌, ℕ, List, Some, IfErr, IfOk, OnErr, length, map, take, drop, slice_index, option_copied};
+ghost use Rattle.std.specs.Prelude.{◌≡◌, ◌≤◌, List, Some, IfErr, IfOk, OnErr, length, map, take, drop};
 ghost use Rattle.nl_types.specs.declared.error.VolError;
 ghost use Rattle.nl_types.specs.Paths.{path_of};
 ghost use Rattle.nl_types.specs.Trees.{Tree};
 ghost use Rattle.nl_types.specs.Calls.{IsUnlessMemory, ShowsUnlessMemory, and_then, list, read, reply_to, stat};
-ghost use Rattle.nl_ifile.specs.Contents.{byte_in};
 ghost use Rattle.nl_dirs.specs.declared.record.Record.{Record};
-ghost use Rattle.nl_files.specs.Held.{Holding, Listed, byte_stored, held_block};
+ghost use Rattle.nl_files.specs.Held.{Holding, Listed};
 ghost use Rattle.nl_files.specs.Reading.{ArePartOf, HoldingMeans, ShowsAs, named_of};
 
 use crate::paths::{find_directory, find_file, find_path};
 use crate::tree_read::TreeRead;
 use nl_dirs::Record;
-use nl_types::{Answer, Ask, BLOCK_SIZE, Items, Kind, Named, Page, Reply, Stat, VolError};
+use nl_types::{Answer, Ask, Items, Kind, Named, Reply, Stat, VolError};
 use std::alloc::Global;
-
-/// Copies bytes of a block to fill the slice. A block that isn't stored is zeros.
-fn copy_block(page: Option<&Page>, start: usize, into: &mut [u8])
-    requires { start + length into.old ≤ 1024 }
-    ensures { (k : ℕ) → k < length into.new
-        → slice_index into.new k ≡ byte_in (option_copied page.entry) (start + k) }
-{
-    match page {
-        Some(page) => into.copy_from_slice(&page.bytes()[start..start + into.len()]),
-        None => into.fill(0),
-    }
-}
-
-/// Fills the slice with the bytes of a file from an offset on. It takes no memory.
-fn copy_bytes<T: TreeRead>(tree: &T, file: u64, offset: u64, into: &mut [u8])
-    requires { offset + length into.old < 2 ^ 64 }
-    ensures { (held : Holding) → T.holds tree.now held → (k : ℕ) → k < length into.new
-        → slice_index into.new k ≡ byte_stored (held_block (held file)) (offset + k) }
-{
-    let mut done = 0;
-    while done < into.len() {
-        let position = offset + done as u64;
-        let start = (position % BLOCK_SIZE as u64) as usize;
-        let count = (into.len() - done).min(BLOCK_SIZE - start);
-        let page = tree.block(file, position / BLOCK_SIZE as u64);
-        copy_block(page, start, &mut into[done..done + count]);
-        done += count;
-    }
-}
 
 /// Reads the bytes of the file at a path from an offset on into the front of a slice, as many as there are and it takes,
 /// and answers how many. It takes no memory.
@@ -66,7 +36,7 @@ pub fn read_into<T: TreeRead>(
     let file = find_file(tree, path)?.get();
     let left = tree.size(file).saturating_sub(offset);
     let count = into.len().min(left as usize);
-    copy_bytes(tree, file, offset, &mut into[..count]);
+    tree.read_bytes(file, offset, &mut into[..count]);
     Ok(count)
 }
 
@@ -107,7 +77,7 @@ fn file_bytes<T: TreeRead>(
 {
     let count = tree.size(file).saturating_sub(offset).min(len);
     let mut bytes = zeros(alloc, count as usize)?;
-    copy_bytes(tree, file, offset, bytes.as_mut_slice());
+    tree.read_bytes(file, offset, bytes.as_mut_slice());
     Ok(Items::from_vec(bytes))
 }
 

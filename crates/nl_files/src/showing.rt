@@ -1,16 +1,18 @@
 //! What the overlay shows of inodes, over the latest checkpoint.
-ghost use Rattle.std.specs.Prelude.{◌≡◌, ◌<◌, ◌^◌, List, Option, Some, IfOk, IfErr, length, option_copied};
+ghost use Rattle.std.specs.Prelude.{◌≡◌, ◌+◌, ◌/◌, ◌≤◌, ◌<◌, ◌^◌, ℕ, List, Option, Some, IfOk, IfErr, length, option_copied};
 ghost use Rattle.nl_types.specs.declared.error.VolError;
 ghost use Rattle.nl_dirs.specs.declared.record.Record.{Record};
 ghost use Rattle.nl_files.specs.Held.{Held, Holding, Listed, held_block, held_count, held_size};
-ghost use Rattle.nl_files.specs.Overlays.{block_over, holding_now, over_changed};
+ghost use Rattle.nl_files.specs.Overlays.{block_over, holding_now, new_page_at, over_changed};
+ghost use Rattle.nl_files.specs.Reading.{AreBytesFrom};
 ghost use Rattle.nl_files.specs.Records.{records_of};
 
+use crate::copying::copy_new_pages;
 use crate::listing::Listing;
 use crate::overlay::{Changed, FileBlocks, Overlay};
 use crate::tree_read::Base;
 use nl_dirs::Record;
-use nl_types::{Page, VolError};
+use nl_types::{BLOCK_SIZE, Page, VolError};
 use std::alloc::Global;
 
 impl FileBlocks {
@@ -24,6 +26,39 @@ impl FileBlocks {
             _ if index < self.cut => base.block(file, index),
             _ => None,
         }
+    }
+
+    /// The new page of the file at a block index.
+    pub(crate) fn new_page(&self, index: u64) -> Option<&Page>
+        ensures { option_copied result ≡ new_page_at self.now index }
+    {
+        match self.pages.get(&index) {
+            Some(Some(page)) => Some(page),
+            _ => None,
+        }
+    }
+
+    /// How many of so many bytes from an offset on lie in blocks of which the checkpoint's show.
+    fn bytes_below_cut(&self, offset: u64, count: usize) -> usize
+        requires { offset + count < 2 ^ 64 }
+        ensures within { result ≤ count }
+        ensures below { (k : ℕ) → k < result → (offset + k) / 1024 < self.now.cut }
+        ensures past { (k : ℕ) → result ≤ k → k < count → self.now.cut ≤ (offset + k) / 1024 }
+    {
+        let end = self.cut.saturating_mul(BLOCK_SIZE as u64);
+        count.min(end.saturating_sub(offset) as usize)
+    }
+
+    /// Fills the slice with the bytes of the file from an offset on.
+    fn read_bytes<B: Base>(&self, base: &B, file: u64, offset: u64, into: &mut [u8])
+        requires { offset + length into.old < 2 ^ 64 }
+        ensures { (b : Holding) → B.TreeRead.holds base.now b
+            → AreBytesFrom (block_over self.now (b file)) offset into.new }
+    {
+        let count = self.bytes_below_cut(offset, into.len());
+        base.read_bytes(file, offset, &mut into[..count]);
+        into[count..].fill(0);
+        copy_new_pages(self, offset, into);
     }
 }
 
@@ -101,6 +136,21 @@ impl Overlay {
                 Changed::Dir(_) | Changed::Gone => None,
             },
             _ => base.block(file, index),
+        }
+    }
+
+    /// Fills the slice with the bytes of a file from an offset on.
+    pub(crate) fn read_bytes<B: Base>(&self, base: &B, file: u64, offset: u64, into: &mut [u8])
+        requires { offset + length into.old < 2 ^ 64 }
+        ensures { (b : Holding) → B.TreeRead.holds base.now b
+            → AreBytesFrom (held_block (holding_now self.now b file)) offset into.new }
+    {
+        match self.changed.get(&file) {
+            Some(slot) if slot.live => match &slot.what {
+                Changed::File(blocks) => blocks.read_bytes(base, file, offset, into),
+                Changed::Dir(_) | Changed::Gone => into.fill(0),
+            },
+            _ => base.read_bytes(file, offset, into),
         }
     }
 

@@ -1,7 +1,8 @@
 //! Reading of trees by inode numbers.
-ghost use Rattle.std.specs.Prelude.{◌≡◌, List, IfOk, IfErr, MatchOption, Some, option_copied};
+ghost use Rattle.std.specs.Prelude.{◌≡◌, ◌+◌, ◌<◌, ◌^◌, List, IfOk, IfErr, MatchOption, Some, length, option_copied};
 ghost use Rattle.nl_dirs.specs.declared.record.Record.{Record};
 ghost use Rattle.nl_files.specs.Held.{AreHeldFrom, Holding, IsLowestUnheld, Listed, held_block, held_count, held_record, held_size};
+ghost use Rattle.nl_files.specs.Reading.{AreBytesFrom};
 
 use nl_dirs::Record;
 use nl_types::{InodeNumber, Kind, Page, VolError};
@@ -27,6 +28,12 @@ pub trait TreeRead {
     fn block(&self, file: u64, index: u64) -> Option<&Page>
         ensures { (held : Holding) → holds self.now held
             → option_copied result ≡ held_block (held file) index };
+
+    /// Fills the slice with the bytes of a file from an offset on. Blocks that aren't stored are zeros.
+    fn read_bytes(&self, file: u64, offset: u64, into: &mut [u8])
+        requires { offset + length into.old < 2 ^ 64 }
+        ensures { (held : Holding) → holds self.now held
+            → AreBytesFrom (held_block (held file)) offset into.new };
 
     /// How many names a directory has.
     fn name_count(&self, dir: u64) -> u64

@@ -46,6 +46,10 @@ impl<B: Base> TreeRead for View<'_, B> {
         self.tree.block(self.base, file, index)
     }
 
+    fn read_bytes(&self, file: u64, offset: u64, into: &mut [u8]) {
+        self.tree.read_bytes(self.base, file, offset, into);
+    }
+
     fn name_count(&self, dir: u64) -> u64 {
         self.tree.name_count(self.base, dir)
     }

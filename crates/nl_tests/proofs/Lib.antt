@@ -1,1 +1,2 @@
 pub mod TreesStand
+pub mod NamesCounted

@@ -1,5 +1,5 @@
 -- The current tree stands for a tree after each call, and over each checkpoint.
-use Rattle.std.proofs.Common.{◌≡◌, ℕ, zero, suc, ◌+◌, List, [], Option, Some, None, Result, Ok, Err, OnErr, refl, sym, ap, ◌∙◌, subst, get_or, replicate}
+use Rattle.std.proofs.Common.{◌≡◌, ℕ, zero, suc, ◌+◌, ◌≤◌, List, [], Option, Some, None, Result, Ok, Err, OnErr, refl, sym, ap, ◌∙◌, subst, get_or, replicate}
 use Rattle.std.specs.Option.{option_map}
 use Rattle.nl_types.specs.declared.error.VolError.{VolError}
 use Rattle.nl_types.specs.declared.reply.Answer.{Answer}
@@ -11,13 +11,15 @@ use Rattle.nl_types.specs.Trees.{Tree}
 use Rattle.nl_segwriter.specs.Content.{SpaceContent}
 use Rattle.nl_dat.specs.Batches.{Changes, Fits}
 use Rattle.nl_dat.specs.Stores.{Store, content_in, entry_now, new_store}
-use Rattle.nl_files.specs.Held.{Holding, IsCheckpointRoot}
-use Rattle.nl_files.specs.Became.{Current, IsCurrent, holding_over}
+use Rattle.nl_files.specs.Held.{Holding, IsCheckpointRoot, IsHolding}
+use Rattle.nl_files.specs.Became.{Became, Current, IsCurrent, holding_over}
 use Rattle.nl_files.specs.CheckpointTrees.{HoldsTree}
 use Rattle.nl_files.specs.CurrentTrees.{CallsAs, StandsOver}
 use Rattle.nl_files.specs.Laws.{ledger_with}
+use Rattle.nl_files.specs.Numbers.{CountsFree}
 use Rattle.nl_files.specs.Settles.{Settles}
 use Rattle.nl_files.specs.TreeLaws.{StandsOverLatest}
+use Rattle.nl_files.specs.TreeMeaning.{StandsForTree}
 use Rattle.nl_files.proofs.TreeLaws.{settled_trees-go_on, trees-can_be_settled}
 
 -- the ledger of a store has this checkpoint as its latest, over which the current tree stands for a tree
@@ -67,3 +69,13 @@ module _ (content : Content) (ledger : Ledger) (root : Root) (now : Current) (ba
   written_content checkpoint batch after latest is =
       ap (λ (c : Content). written batch.births batch.ends (ledger.latest + 1) c) same
       ∙ (ap (λ (n : ℕ). written batch.births batch.ends (n + 1) content) latest ∙ sym is)
+
+-- a tree in which nothing differs from the checkpoint, with as many names, stands for the same tree
+pub reopened_stands : (now after : Current) (base : Holding) (tree : Tree) → StandsOver now base tree → now.became ≡ after.became → now.names ≡ after.names → CountsFree after base → StandsOver after base tree
+reopened_stands now after base tree over became names counts = record {
+  sound = subst (λ (b : List (ℕ × Became)). IsHolding (holding_over b base)) became over.sound;
+  counts = counts;
+  stands = subst (λ (n : ℕ). StandsForTree (holding_over after.became base) tree n) names
+      (subst (λ (b : List (ℕ × Became)). StandsForTree (holding_over b base) tree now.names) became over.stands);
+  few = subst (λ (n : ℕ). n ≤ 524277) names over.few;
+}

@@ -109,30 +109,134 @@ fn are_names(names: &[Named], due: &[(&[u8], Kind)]) -> bool {
             && found.kind == *kind)
 }
 
-/// Whether a file has these bytes from an offset on, and no others.
-fn ends<F: Files>(alloc: Global, files: &F, path: &[u8], offset: u64, due: &[u8]) -> bool {
-    match files.bytes_from(alloc, path, offset) {
-        Ok(bytes) => bytes.as_slice() == due,
-        Err(_) => false,
+/// Whether a call came out as is due. Refused by `Memory` where the call was.
+fn is_due(outcome: Result<(), VolError>, due: Result<(), VolError>) -> Result<bool, VolError> {
+    match outcome {
+        Err(VolError::Memory) => Err(VolError::Memory),
+        _ => Ok(outcome == due),
     }
 }
 
-/// Does a step, and answers whether it came out as is due.
-fn does<F: Files>(alloc: Global, files: &mut F, step: Step<'_>) -> bool
+/// Whether this stands at a path. Refused by `Memory`.
+fn is_at<F: Files>(
+    alloc: Global,
+    files: &F,
+    path: &[u8],
+    due: Result<Stat, VolError>,
+) -> Result<bool, VolError> {
+    match files.stat(alloc, path) {
+        Err(VolError::Memory) => Err(VolError::Memory),
+        found => Ok(found == due),
+    }
+}
+
+/// Whether a file has these bytes from an offset on, and no others. Refused where there is no file, and by `Memory`.
+fn ends<F: Files>(
+    alloc: Global,
+    files: &F,
+    path: &[u8],
+    offset: u64,
+    due: &[u8],
+) -> Result<bool, VolError> {
+    let bytes = files.bytes_from(alloc, path, offset)?;
+    Ok(bytes.as_slice() == due)
+}
+
+/// Whether a directory has these names, and no others. Refused where there is no directory, and by `Memory`.
+fn lists<F: Files>(
+    alloc: Global,
+    files: &F,
+    path: &[u8],
+    due: &[(&[u8], Kind)],
+) -> Result<bool, VolError> {
+    let names = files.list(alloc, path)?;
+    Ok(are_names(names.as_slice(), due))
+}
+
+/// Does a step, and answers whether it came out as is due. Refused by `Memory`, or where what it looks at is not there.
+fn does<F: Files>(alloc: Global, files: &mut F, step: Step<'_>) -> Result<bool, VolError>
     requires { F.is_sound files.old }
     ensures { F.is_sound files.new }
 {
     match step {
-        Step::Do(call) => files.change(alloc, call).is_ok(),
-        Step::No(call, due) => files.change(alloc, call) == Err(due),
+        Step::Do(call) => is_due(files.change(alloc, call), Ok(())),
+        Step::No(call, due) => is_due(files.change(alloc, call), Err(due)),
         Step::Has(path, due) => ends(alloc, files, path, 0, due),
         Step::Ends(path, offset, due) => ends(alloc, files, path, offset, due),
-        Step::Is(path, due) => files.stat(alloc, path) == due,
-        Step::Lists(path, due) => match files.list(alloc, path) {
-            Ok(names) => are_names(names.as_slice(), due),
-            Err(_) => false,
-        },
+        Step::Is(path, due) => is_at(alloc, files, path, due),
+        Step::Lists(path, due) => lists(alloc, files, path, due),
     }
+}
+
+/// The path that a call changes, or the first of two.
+fn path_of<'a>(call: Call<'a>) -> &'a [u8] {
+    match call {
+        Call::Create(path) | Call::Mkdir(path) | Call::Write(path, _, _) => path,
+        Call::Truncate(path, _) | Call::Unlink(path) | Call::Rmdir(path) => path,
+        Call::Rename(path, _) => path,
+    }
+}
+
+/// The path of a step, or the first of two.
+fn path_looked_at<'a>(step: Step<'a>) -> &'a [u8] {
+    match step {
+        Step::Do(call) | Step::No(call, _) => path_of(call),
+        Step::Has(path, _) | Step::Ends(path, _, _) | Step::Is(path, _) | Step::Lists(path, _) =>
+            path,
+    }
+}
+
+/// The bytes of the file at a path, or why there is none. Asked again where memory was refused.
+pub(crate) fn look<F: Files>(alloc: Global, files: &F, path: &[u8]) -> Result<Items<u8>, VolError> {
+    match files.bytes_from(alloc, path, 0) {
+        Err(VolError::Memory) => files.bytes_from(alloc, path, 0),
+        seen => seen,
+    }
+}
+
+pub(crate) fn same_bytes(
+    one: &Result<Items<u8>, VolError>,
+    other: &Result<Items<u8>, VolError>,
+) -> bool {
+    match (one, other) {
+        (Ok(one), Ok(other)) => one.as_slice() == other.as_slice(),
+        (Err(one), Err(other)) => one == other,
+        _ => false,
+    }
+}
+
+/// Does a step again where memory was refused, if a look at its path shows the same as before then.
+fn insist<F: Files>(alloc: Global, files: &mut F, step: Step<'_>) -> Result<bool, VolError>
+    requires { F.is_sound files.old }
+    ensures { F.is_sound files.new }
+{
+    let path = path_looked_at(step);
+    let before = look(alloc, files, path);
+    match does(alloc, files, step) {
+        Err(VolError::Memory) => {}
+        outcome => return outcome,
+    }
+    if !same_bytes(&before, &look(alloc, files, path)) {
+        return Ok(false);
+    }
+    does(alloc, files, step)
+}
+
+/// The first step that does not come out as is due.
+fn first_other<F: Files>(
+    alloc: Global,
+    files: &mut F,
+    steps: &[Step<'_>],
+) -> Result<Option<usize>, VolError>
+    requires { F.is_sound files.old }
+    ensures { F.is_sound files.new }
+{
+    for (k, step) in steps.iter().enumerate() {
+        if !insist(alloc, files, *step)? {
+            return Ok(Some(k));
+        }
+    }
+    Ok(None)
 }
 
 pub(crate) fn run<F: Files>(
@@ -142,10 +246,9 @@ pub(crate) fn run<F: Files>(
     steps: &[Step<'_>],
 ) -> Result<(), Fail>
     requires { F.is_sound files.old }
-    ensures { F.is_sound files.new }
 {
-    for (k, step) in steps.iter().enumerate() {
-        assert!(rt; does(alloc, files, *step), "step {k}");
+    if let Some(k) = first_other(alloc, files, steps)? {
+        panic!(rt; "step {k}");
     }
     Ok(())
 }

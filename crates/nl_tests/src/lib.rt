@@ -1,9 +1,9 @@
-//! Tests of the layers through their public calls: worked rows with values from outside, devices that fail, formats byte by
-//! byte, and refused memory. Nothing stands on this crate, and it has nothing but tests.
+//! Tests of the layers through their public calls: worked rows with values from outside, devices and streams that fail, formats
+//! byte by byte, and refused memory. Nothing stands on this crate, and it has nothing but tests.
 //!
 //! A row is a list of steps in a constant, which the checker evaluates and need not follow; each kind of step is proved once.
-//! But for `file_calls` and `trees`, a step that is refused for memory has to leave what is seen as it was, and is done again:
-//! so with one allocation failing, each row still passes (`rt try --test --fail-alloc N`).
+//! But for `streams`, a step of a row that is refused for memory has to leave what is seen as it was, and is done again: so
+//! with one allocation failing, each row still passes (`rt try --test --fail-alloc N`).
 #![tactic(auto)]
 
 #[cfg(test)]
@@ -18,6 +18,8 @@ mod formats;
 mod logs;
 #[cfg(test)]
 mod numbers;
+#[cfg(test)]
+mod streams;
 #[cfg(test)]
 mod trees;
 #[cfg(test)]

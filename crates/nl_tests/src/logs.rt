@@ -418,21 +418,27 @@ fn a_failed_put_marks_its_segment(rt: HostRuntime) -> Result<(), Fail> {
 /// In segments of 64 blocks the logs of 63 pages: segment, first block and count.
 const LARGE: [(u32, u32, u32); 4] = [(0, 0, 30), (0, 31, 30), (0, 62, 1), (1, 0, 2)];
 
+fn is_log(log: &Log, due: &(u32, u32, u32)) -> bool {
+    log.segment == Segment::new(due.0) && log.first == due.1 && log.count == due.2
+}
+
+/// Whether these are the logs of 63 pages.
+fn are_large(logs: &[Log]) -> bool {
+    for (log, due) in logs.iter().zip(LARGE.as_slice()) {
+        if !is_log(log, due) {
+            return false;
+        }
+    }
+    logs.len() == LARGE.len()
+}
+
+fn large_logs(alloc: Global) -> Result<Vec<Log>, VolError> {
+    SegTable::new(alloc, Geometry::new(8, 64)?)?.place(alloc, 63, false)
+}
+
 #[test]
 fn large_segments_have_several_logs(rt: HostRuntime) -> Result<(), Fail> {
-    let alloc = rt.alloc();
-    let logs = SegTable::new(alloc, Geometry::new(8, 64)?)?.place(alloc, 63, false)?;
-    assert_eq!(rt; logs.len(), LARGE.len());
-    for (log, (segment, first, count)) in logs.iter().zip(LARGE.as_slice()) {
-        let segment = Segment::new(*segment);
-        assert_eq!(rt;
-            *log,
-            Log {
-                segment,
-                first: *first,
-                count: *count
-            }
-        );
-    }
+    let logs = large_logs(rt.alloc())?;
+    assert!(rt; are_large(&logs));
     Ok(())
 }

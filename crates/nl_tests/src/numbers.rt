@@ -432,13 +432,21 @@ const FULL: &[Step<'static>] = &[
     Step::At(6, 3, Some(3)),
 ];
 
+/// Each on a device of its own.
+const IN_MEMORY: &[&[&[Step<'static>]]] = &[
+    &[ROW, HAS_ROW, MOVED],
+    &[ROW, TAKEN_OUT],
+    &[FREED],
+    &[FULL],
+];
+
 #[test]
 fn numbers_have_periods_and_blocks(rt: HostRuntime) -> Result<(), Fail> {
     let alloc = rt.alloc();
-    run(&rt, alloc, in_memory(alloc)?, &[ROW, HAS_ROW, MOVED])?;
-    run(&rt, alloc, in_memory(alloc)?, &[ROW, TAKEN_OUT])?;
-    run(&rt, alloc, in_memory(alloc)?, &[FREED])?;
-    run(&rt, alloc, in_memory(alloc)?, &[FULL])
+    for rows in IN_MEMORY {
+        run(&rt, alloc, in_memory(alloc)?, rows)?;
+    }
+    Ok(())
 }
 
 /// The page of checkpoint 4 is the sixth put, after its summary. Its segment is in error, and the checkpoint made again goes
@@ -492,13 +500,27 @@ fn are_spent<S: Space>(dat: &Dat<S>, batch: &Batch) -> bool
         && next_number(dat, batch) == VirtualNumber::new(33)
 }
 
+/// Whether a table has the numbers 1 to 32, and no others.
+fn has_32<S: Space>(dat: &Dat<S>) -> bool {
+    dat.capacity() == 32
+        && is_bad_range(dat, 0)
+        && is_bad_range(dat, 33)
+        && is_bad_range(dat, u64::MAX)
+}
+
+const THIRTY_TWO: &[u8] = &[7; 32];
+
+/// Whether 32 births take all numbers of a new table.
+fn are_spent_by_32<S: Space>(alloc: Global, dat: &Dat<S>) -> Result<bool, VolError> {
+    let batch = batch_of(alloc, dat, THIRTY_TWO, &[])?;
+    Ok(are_spent(dat, &batch))
+}
+
 #[test]
 fn numbers_are_those_of_the_device(rt: HostRuntime) -> Result<(), Fail> {
     let alloc = rt.alloc();
     let dat = in_memory(alloc)?;
-    assert!(rt; dat.capacity() == 32);
-    assert!(rt; is_bad_range(&dat, 0) && is_bad_range(&dat, 33) && is_bad_range(&dat, u64::MAX));
-    let batch = batch_of(alloc, &dat, &[7; 32], &[])?;
-    assert!(rt; are_spent(&dat, &batch));
+    assert!(rt; has_32(&dat));
+    assert!(rt; are_spent_by_32(alloc, &dat)?);
     Ok(())
 }

@@ -1,11 +1,15 @@
 //! Trees of files over checkpoints: rows of file calls, which blocks are stored and written, which inode numbers are given,
 //! and a run of calls beside the plain program.
-ghost use Rattle.std.specs.Prelude.{◌≡◌, ◌<◌, IfOk, OnOk};
+ghost use Rattle.std.specs.Prelude.{◌≡◌, ◌<◌, [], IfOk, OnOk};
 ghost use Rattle.nl_types.specs.Trees.{Tree};
 ghost use Rattle.nl_files.specs.CurrentTrees.{StandsOver};
 ghost use Rattle.nl_files.specs.Held.{Holding};
 
-use crate::file_calls::{Call, FILES, Files, PlainFiles, Step, TREES, run};
+mod calls;
+mod reopened;
+
+use crate::file_calls::{Call, FILES, Files, PlainFiles, Step, TREES, run, same_bytes};
+use calls::{create, rename, rmdir, truncate, unlink, write};
 use nl_dat::{Batch, Dat, Vstore};
 use nl_device::MemDevice;
 use nl_files::{Base, CurrentTree, ReadTree, TreeRead, list, read, stat};
@@ -26,7 +30,8 @@ struct Volume {
 }
 
 fn new_volume(alloc: Global) -> Result<Volume, VolError>
-    ensures { IfOk result (λ files. ⟦<Volume as Files>⟧.is_sound files) }
+    ensures sound { IfOk result (λ files. ⟦<Volume as Files>⟧.is_sound files) }
+    ensures names { IfOk result (λ files. files.tree.names ≡ 0) }
 {
     let geometry = Geometry::new(128, 64)?;
     let device = MemDevice::new(alloc, geometry)?;
@@ -50,16 +55,16 @@ fn change<B: Base>(
         → (u : Tree) × StandsOver tree.new b u }
 {
     match call {
-        Call::Create(path) => tree.create(alloc, base, path, Kind::File),
-        Call::Mkdir(path) => tree.create(alloc, base, path, Kind::Directory),
+        Call::Create(path) => create(alloc, tree, base, path, Kind::File),
+        Call::Mkdir(path) => create(alloc, tree, base, path, Kind::Directory),
         Call::Write(path, offset, bytes) => {
-            tree.write(alloc, base, path, offset, bytes)?;
+            write(alloc, tree, base, path, offset, bytes)?;
             Ok(())
         }
-        Call::Truncate(path, size) => tree.truncate(alloc, base, path, size),
-        Call::Unlink(path) => tree.unlink(alloc, base, path),
-        Call::Rmdir(path) => tree.rmdir(alloc, base, path),
-        Call::Rename(from, to) => tree.rename(alloc, base, from, to),
+        Call::Truncate(path, size) => truncate(alloc, tree, base, path, size),
+        Call::Unlink(path) => unlink(alloc, tree, base, path),
+        Call::Rmdir(path) => rmdir(alloc, tree, base, path),
+        Call::Rename(from, to) => rename(alloc, tree, base, from, to),
     }
 }
 
@@ -67,7 +72,8 @@ impl Volume {
     /// Makes a checkpoint, and answers what it wrote.
     fn checkpoint(&mut self, alloc: Global) -> Result<Batch, VolError>
         requires { ⟦<Volume as Files>⟧.is_sound self.old }
-        ensures { OnOk result (⟦<Volume as Files>⟧.is_sound self.new) }
+        ensures sound { OnOk result (⟦<Volume as Files>⟧.is_sound self.new) }
+        ensures settled { OnOk result (self.new.tree ≡ record self.old.tree { became = [] }) }
     {
         if self.checkpoint >= 1_000_000 {
             return Err(VolError::NumbersSpent);
@@ -129,11 +135,26 @@ impl Files for Volume {
     }
 }
 
+fn run_on_new(rt: &impl Abort, alloc: Global, steps: &[Step<'_>]) -> Result<(), Fail> {
+    let mut files = new_volume(alloc)?;
+    run(rt, alloc, &mut files, steps)
+}
+
 #[test]
 fn trees_do_what_plain_files_do(rt: HostRuntime) -> Result<(), Fail> {
     let alloc = rt.alloc();
-    for steps in [TREES, FILES, DEEP] {
-        run(&rt, alloc, &mut new_volume(alloc)?, steps)?;
+    run_on_new(&rt, alloc, TREES)?;
+    run_on_new(&rt, alloc, FILES)?;
+    run_on_new(&rt, alloc, DEEP)
+}
+
+/// Does calls, none of which is to be refused.
+fn change_all<F: Files>(alloc: Global, files: &mut F, calls: &[Call<'_>]) -> Result<(), VolError>
+    requires { F.is_sound files.old }
+    ensures { F.is_sound files.new }
+{
+    for call in calls {
+        files.change(alloc, *call)?;
     }
     Ok(())
 }
@@ -182,14 +203,25 @@ impl Volume {
             None => due.is_none(),
         }
     }
+
+    /// Whether the names have these inodes.
+    fn have_inodes(&self, due: &[(&[u8], Option<u64>)]) -> bool {
+        for (name, inode) in due {
+            if !self.has_inode(name, *inode) {
+                return false;
+            }
+        }
+        true
+    }
 }
+
+const SPARSE: &[Call<'static>] = &[Call::Create(b"/f"), Call::Write(b"/f", 5000, b"end")];
 
 #[test]
 fn writes_store_their_blocks_alone(rt: HostRuntime) -> Result<(), Fail> {
     let alloc = rt.alloc();
     let mut files = new_volume(alloc)?;
-    files.change(alloc, Call::Create(b"/f"))?;
-    files.change(alloc, Call::Write(b"/f", 5000, b"end"))?;
+    change_all(alloc, &mut files, SPARSE)?;
     assert!(rt; files.stores_alone(4));
     Ok(())
 }
@@ -222,15 +254,46 @@ fn create_all<F: Files>(alloc: Global, files: &mut F, end: u32) -> Result<(), Vo
     Ok(())
 }
 
+/// Removes the file of a number, if that can be divided by ten.
+fn unlink_tenth<F: Files>(alloc: Global, files: &mut F, number: u32) -> Result<(), VolError>
+    requires { F.is_sound files.old }
+    ensures { F.is_sound files.new }
+{
+    if number % 10 != 0 {
+        return Ok(());
+    }
+    files.change(alloc, Call::Unlink(&numbered(number)))
+}
+
 /// Removes the files of each tenth number below this one.
 fn unlink_tenths<F: Files>(alloc: Global, files: &mut F, end: u32) -> Result<(), VolError>
     requires { F.is_sound files.old }
     ensures { F.is_sound files.new }
 {
-    for tenth in 0..end / 10 {
-        files.change(alloc, Call::Unlink(&numbered(tenth * 10)))?;
+    for number in 0..end {
+        unlink_tenth(alloc, files, number)?;
     }
     Ok(())
+}
+
+/// Names with their inodes.
+type Given = &'static [(&'static [u8], Option<u64>)];
+
+const GIVEN: Given = &[(b"00000", Some(11)), (b"09999", Some(10_010))];
+
+const MADE_AGAIN: &[Call<'static>] = &[Call::Create(b"/first"), Call::Create(b"/next")];
+
+const GIVEN_AGAIN: Given = &[
+    (b"first", Some(11)),
+    (b"next", Some(21)),
+    (b"00001", Some(12)),
+    (b"09990", None),
+];
+
+/// How many names the root has.
+fn root_count<F: Files>(alloc: Global, files: &F) -> Result<usize, VolError> {
+    let names = files.list(alloc, b"/")?;
+    Ok(names.len())
 }
 
 /// Ten thousand names get the numbers from 11 on. Where each tenth is removed, a number that is free is given again, the
@@ -240,13 +303,11 @@ fn lowest_numbers_are_given(rt: HostRuntime) -> Result<(), Fail> {
     let alloc = rt.alloc();
     let mut files = new_volume(alloc)?;
     create_all(alloc, &mut files, 10_000)?;
-    assert!(rt; files.has_inode(b"00000", Some(11)) && files.has_inode(b"09999", Some(10_010)));
+    assert!(rt; files.have_inodes(GIVEN));
     unlink_tenths(alloc, &mut files, 10_000)?;
-    files.change(alloc, Call::Create(b"/first"))?;
-    files.change(alloc, Call::Create(b"/next"))?;
-    assert!(rt; files.has_inode(b"first", Some(11)) && files.has_inode(b"next", Some(21)));
-    assert!(rt; files.has_inode(b"00001", Some(12)) && files.has_inode(b"09990", None));
-    assert!(rt; files.list(alloc, b"/")?.len() == 9_002);
+    change_all(alloc, &mut files, MADE_AGAIN)?;
+    assert!(rt; files.have_inodes(GIVEN_AGAIN));
+    assert!(rt; root_count(alloc, &files)? == 9_002);
     Ok(())
 }
 
@@ -286,21 +347,55 @@ const ONE_FILE: Births = &[
 
 const NO_BLOCK: Births = &[];
 
+/// Calls, and what the checkpoint behind them is due to write and how many numbers it ends.
+type Turn = (&'static [Call<'static>], Births, usize);
+
 /// Bytes that are the same, and a file that comes and goes between, write nothing. A removed file ends all its numbers.
+const TURNS: &[Turn] = &[
+    (&[], INODES, 0),
+    (SPARSE, ONE_FILE, 2),
+    (
+        &[
+            Call::Write(b"/f", 5000, b"end"),
+            Call::Create(b"/g"),
+            Call::Unlink(b"/g"),
+        ],
+        NO_BLOCK,
+        0,
+    ),
+    (&[Call::Unlink(b"/f")], INODES, 7),
+];
+
+impl Volume {
+    /// Does the calls of a turn, and answers whether the checkpoint writes what is due.
+    fn takes(&mut self, alloc: Global, turn: &Turn) -> Result<bool, VolError>
+        requires { ⟦<Volume as Files>⟧.is_sound self.old }
+        ensures { OnOk result (⟦<Volume as Files>⟧.is_sound self.new) }
+    {
+        change_all(alloc, self, turn.0)?;
+        let batch = self.checkpoint(alloc)?;
+        Ok(writes(&batch, turn.1, turn.2))
+    }
+}
+
+/// The first turn whose checkpoint writes something else.
+fn first_other(alloc: Global, files: &mut Volume, turns: &[Turn]) -> Result<Option<usize>, VolError>
+    requires { ⟦<Volume as Files>⟧.is_sound files.old }
+{
+    for (k, turn) in turns.iter().enumerate() {
+        if !files.takes(alloc, turn)? {
+            return Ok(Some(k));
+        }
+    }
+    Ok(None)
+}
+
 #[test]
 fn checkpoints_write_what_differs(rt: HostRuntime) -> Result<(), Fail> {
     let alloc = rt.alloc();
     let mut files = new_volume(alloc)?;
-    assert!(rt; writes(&files.checkpoint(alloc)?, INODES, 0));
-    files.change(alloc, Call::Create(b"/f"))?;
-    files.change(alloc, Call::Write(b"/f", 5000, b"end"))?;
-    assert!(rt; writes(&files.checkpoint(alloc)?, ONE_FILE, 2));
-    files.change(alloc, Call::Write(b"/f", 5000, b"end"))?;
-    files.change(alloc, Call::Create(b"/g"))?;
-    files.change(alloc, Call::Unlink(b"/g"))?;
-    assert!(rt; writes(&files.checkpoint(alloc)?, NO_BLOCK, 0));
-    files.change(alloc, Call::Unlink(b"/f"))?;
-    assert!(rt; writes(&files.checkpoint(alloc)?, INODES, 7));
+    let first = first_other(alloc, &mut files, TURNS)?;
+    assert!(rt; first.is_none());
     Ok(())
 }
 
@@ -350,14 +445,6 @@ fn random_call(seed: &mut u64) -> Call<'static> {
         5 => Call::Unlink(path),
         6 => Call::Rmdir(path),
         _ => Call::Rename(path, random_path(seed)),
-    }
-}
-
-fn same_bytes(one: &Result<Items<u8>, VolError>, other: &Result<Items<u8>, VolError>) -> bool {
-    match (one, other) {
-        (Ok(one), Ok(other)) => one.as_slice() == other.as_slice(),
-        (Err(one), Err(other)) => one == other,
-        _ => false,
     }
 }
 

@@ -79,9 +79,17 @@ const REFUSALS: [(VolError, u8, &str); 27] = [
     (VolError::BadConfig(3), 27, "BadConfig"),
 ];
 
+/// The number of the first refusal that has another number or name.
+fn first_misnamed() -> Option<u8> {
+    for (refusal, number, name) in REFUSALS.as_slice() {
+        if refusal.number() != *number || refusal.name() != *name {
+            return Some(*number);
+        }
+    }
+    None
+}
+
 #[test]
 fn refusals_have_numbers_and_names(rt: HostRuntime) {
-    for (refusal, number, name) in REFUSALS {
-        assert!(rt; refusal.number() == number && refusal.name() == name);
-    }
+    assert!(rt; first_misnamed().is_none());
 }

@@ -1,16 +1,7 @@
 //! Runs a script of file calls, checkpoints and mounts on a volume in memory.
 #![tactic(auto)]
 
-mod arguments;
-mod command;
-mod error;
-mod outcome;
-mod session;
-mod status;
-mod words;
-
-use session::session;
-use status::Status;
+use nl_script::{Status, session};
 use std::env::FillError;
 use std::process::ExitCode;
 use std::rt::Env;
@@ -27,6 +18,3 @@ fn main(rt: HostRuntime) -> ExitCode {
     }
     ExitCode::from(session(&rt, rt.stdin(), rt.stdout(), rt.stderr()))
 }
-
-#[cfg(test)]
-mod tests;

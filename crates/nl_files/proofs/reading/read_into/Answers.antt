@@ -12,7 +12,7 @@ returns-in_err-find_file-clause-reads g c = λ held shown h means.
 pub returns-clause-reads : goal.returns-clause-reads
 returns-clause-reads g c = λ held shown h means.
     let size = rw c.get-file.ensures at (c.size.ensures held h) in
-    let copied = rw c.get-file.ensures at (c.copy_bytes.ensures held h) in
-    let long : length c.copy_bytes.new.into ≡ c.min-count.result = omega (arith, length-take c.min-count.result c.args.into.now) in
-    read_front held shown means c.args.offset (length c.args.into.now) c.args.path.now c.in_ok-find_file.field-0 c.min-count.result c.copy_bytes.new.into _
+    let copied = rw c.get-file.ensures at (c.read_bytes.ensures held h) in
+    let long : length c.read_bytes.new.into ≡ c.min-count.result = omega (arith, length-take c.min-count.result c.args.into.now) in
+    read_front held shown means c.args.offset (length c.args.into.now) c.args.path.now c.in_ok-find_file.field-0 c.min-count.result c.read_bytes.new.into _
     (c.in_ok-find_file.ensures held h) (omega (arith, size)) long copied

@@ -1,4 +1,4 @@
-use Rattle.std.proofs.Common.{refl, sym, subst}
+use Rattle.std.proofs.Common.{refl, sym, ap, subst}
 use Rattle.nl_types.specs.Lifetimes.{blank}
 use Rattle.nl_types.specs.Roots.{Empty}
 use Rattle.nl_types.specs.Trees.{root_alone}
@@ -10,11 +10,14 @@ use Rattle.nl_tests.proofs.TreesStand.{new_content-blank}
 use Rattle.nl_tests.proofs.trees.new_volume.Goals as goal
 
 pub returns : goal.returns
-returns c = (
-  blank,
-  nothing_held,
-  root_alone,
-  subst (λ (tree : Current). StandsOverLatest blank Empty tree nothing_held root_alone) (sym c.in_ok-first.ensures.first) first_trees-stand,
-  new_content-blank _ _ _ c.in_ok-new-2.ensures.new,
-  refl,
-)
+returns c = record {
+  sound = (
+    blank,
+    nothing_held,
+    root_alone,
+    subst (λ (tree : Current). StandsOverLatest blank Empty tree nothing_held root_alone) (sym c.in_ok-first.ensures.first) first_trees-stand,
+    new_content-blank _ _ _ c.in_ok-new-2.ensures.new,
+    refl,
+  );
+  names = ap (λ (tree : Current). tree.names) c.in_ok-first.ensures.first;
+}

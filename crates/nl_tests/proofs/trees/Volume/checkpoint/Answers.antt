@@ -25,12 +25,15 @@ returns c =
     let content = content_in files.store.store in
     let held = holding_over files.tree.became was.1 in
     let batch = c.settle.new.batch in
-    let current = latest_current content was.0 (root_of files.root) files.tree was.1 was.2 was.3 was.4 in (
-      ledger_with batch was.0,
-      held,
-      was.2,
-      written_goes_on content was.0 (root_of files.root) files.tree was.1 was.2 was.3 was.4 (capacity files.store.store) (root_of c.in_ok-root.root) batch c.settled.new.self
-          (c.in_ok-root.ensures.settles was.1 held current) c.in_ok-root.ensures.fits c.settled.ensures.settled,
-      written_content content was.0 (root_of files.root) files.tree was.1 was.2 was.3 was.4 files.checkpoint batch (content_in c.write.new.self.store) was.5 (rw c.new.ensures at c.in_ok-write.ensures.written.content),
-      ap (λ (n : ℕ). n + 1) was.5,
-    )
+    let current = latest_current content was.0 (root_of files.root) files.tree was.1 was.2 was.3 was.4 in record {
+      sound = (
+        ledger_with batch was.0,
+        held,
+        was.2,
+        written_goes_on content was.0 (root_of files.root) files.tree was.1 was.2 was.3 was.4 (capacity files.store.store) (root_of c.in_ok-root.root) batch c.settled.new.self
+            (c.in_ok-root.ensures.settles was.1 held current) c.in_ok-root.ensures.fits c.settled.ensures.settled,
+        written_content content was.0 (root_of files.root) files.tree was.1 was.2 was.3 was.4 files.checkpoint batch (content_in c.write.new.self.store) was.5 (rw c.new.ensures at c.in_ok-write.ensures.written.content),
+        ap (λ (n : ℕ). n + 1) was.5,
+      );
+      settled = c.settled.ensures.settled;
+    }

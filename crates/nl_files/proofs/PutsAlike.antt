@@ -1,0 +1,343 @@
+-- Two ways to put changes into a file that lead to the same blocks: they write the same places, under the same numbers, and
+-- give one root.
+use Rattle.std.proofs.Common.{◌≡◌, ◌≢◌, ◌⊎◌, ℕ, zero, suc, ◌/◌, ◌%◌, ◌≤◌, List, [], ◌∷◌, ◌++◌, Option, Some, None, refl, ap, sym, subst, ◌∙◌, arith, inl, inr}
+use Rattle.std.specs.List.{Contains}
+use Rattle.std.specs.Option.{IsSome, option_and_then}
+use Rattle.std.proofs.lemmas.Bool.{both_ways, cases_lt}
+use Rattle.std.proofs.lemmas.List.{append-nil}
+use Rattle.nl_types.proofs.Births.{uncons}
+use Rattle.nl_types.specs.Entries.{Birth, Content, number_of}
+use Rattle.nl_types.specs.Roots.{Chain, Empty, NoBlocks, OfChain, OfTree, Pages, Root, RootKind, Tree, chain_node, child, kind_of, numbered, page_at, pages_of, place_at}
+use Rattle.nl_types.specs.RootChanges.{InPayloadOrder, IsAt, IsSound, IsWrittenPlace, KeepsFile, NodeWritten, Precedes, born, new_kind, of_chain, of_tree, was_absent}
+use Rattle.nl_dat.specs.Batches.{Changes, IsLowestFree, TakeLowestFree}
+use Rattle.nl_blocktree.specs.declared.change.BlockChange.{BlockChange}
+use Rattle.nl_blocktree.specs.Putting.{IsWrittenKind, PutsAll, pages_after}
+use Rattle.nl_blocktree.proofs.Frames.{births-keep, cases-Option, chain-of, keeps-file}
+use Rattle.nl_blocktree.proofs.Numbers.{born-append, free-same}
+use Rattle.nl_blocktree.proofs.Pairwise.{pairs-head, pairs-tail}
+use Rattle.nl_blocktree.proofs.Places.{above}
+use Rattle.nl_blocktree.proofs.Staying.{some-is, some-of, unwritten}
+
+-- ---- lists in payload order
+
+abbrev IsSamePlace : Birth → Birth → Type 0
+IsSamePlace a b = (a.place.level ≡ b.place.level) × (a.place.offset ≡ b.place.offset)
+
+abbrev SamePlaces : List Birth → List Birth → Type 0
+SamePlaces [] [] = Unit {0}
+SamePlaces [] (y ∷ ys) = ⊥
+SamePlaces (x ∷ xs) [] = ⊥
+SamePlaces (x ∷ xs) (y ∷ ys) = IsSamePlace x y × SamePlaces xs ys
+
+abbrev StandAmong : List Birth → List Birth → Type 0
+StandAmong xs ys = (x : Birth) → Contains xs x → (y : Birth) × Contains ys y × IsSamePlace x y
+
+not_both : (a b c d : Birth) → Precedes a b → Precedes c d → IsSamePlace a d → IsSamePlace b c → ⊥
+not_both a b c d p q r s = elim p [
+  | inl l ↦ elim q [
+    | inl m ↦ omega (arith, l, m, r.0, s.0)
+    | inr m ↦ omega (arith, l, m.0, r.0, s.0)
+  ]
+  | inr l ↦ elim q [
+    | inl m ↦ omega (arith, l.0, m, r.0, s.0)
+    | inr m ↦ omega (arith, l.1, m.1, r.1, s.1)
+  ]
+]
+
+not_same : (a b : Birth) → Precedes a b → IsSamePlace a b → ⊥
+not_same a b p s = elim p [
+  | inl l ↦ omega (arith, l, s.0)
+  | inr l ↦ omega (arith, l.1, s.1)
+]
+
+head_in : (x : Birth) (xs : List Birth) → Contains (x ∷ xs) x
+head_in x xs = (0, omega arith, refl)
+
+tail_in : (x : Birth) (xs : List Birth) (y : Birth) → Contains xs y → Contains (x ∷ xs) y
+tail_in x xs y c = (suc c.0, (let l = c.1 in omega arith), c.2)
+
+none_in : (x : Birth) → Contains [] x → ⊥
+none_in x c = let l = c.1 in omega arith
+
+same_turned : (a b : Birth) → IsSamePlace a b → IsSamePlace b a
+same_turned a b s = (sym s.0, sym s.1)
+
+same_by : (a b c : Birth) → IsSamePlace a b → IsSamePlace a c → IsSamePlace b c
+same_by a b c s t = (sym s.0 ∙ t.0, sym s.1 ∙ t.1)
+
+sorted-same : (xs ys : List Birth) → InPayloadOrder xs → InPayloadOrder ys → StandAmong xs ys → StandAmong ys xs → SamePlaces xs ys
+sorted-same [] [] a b there back = tt
+sorted-same [] (y ∷ ys) a b there back = let r = back y (head_in y ys) in absurd (none_in r.0 r.1)
+sorted-same (x ∷ xs) [] a b there back = let r = there x (head_in x xs) in absurd (none_in r.0 r.1)
+sorted-same (x ∷ xs) (y ∷ ys) a b there back = (heads, sorted-same xs ys (pairs-tail Precedes x xs a) (pairs-tail Precedes y ys b) (λ z c. later z c (there z (tail_in x xs z c))) (λ z c. sooner z c (back z (tail_in y ys z c))))
+  where
+    heads : IsSamePlace x y
+    heads =
+        let r = there x (head_in x xs) in
+        elim (uncons y ys r.0 r.1) [
+          | inl e ↦ subst (λ (z : Birth). IsSamePlace x z) (sym e) r.2
+          | inr c ↦
+              let s = back y (head_in y ys) in
+              elim (uncons x xs s.0 s.1) [
+                | inl e ↦ same_turned y x (subst (λ (z : Birth). IsSamePlace y z) (sym e) s.2)
+                | inr d ↦ absurd (not_both x s.0 y r.0 (pairs-head Precedes x xs a s.0 d) (pairs-head Precedes y ys b r.0 c) r.2 (same_turned y s.0 s.2))
+              ]
+        ]
+
+    later : (z : Birth) → Contains xs z → ((w : Birth) × Contains (y ∷ ys) w × IsSamePlace z w) → (w : Birth) × Contains ys w × IsSamePlace z w
+    later z c r = elim (uncons y ys r.0 r.1) [
+      | inl e ↦ absurd (not_same x z (pairs-head Precedes x xs a z c) (same_turned z x (same_by y z x (same_turned z y (subst (λ (w : Birth). IsSamePlace z w) (sym e) r.2)) (same_turned x y heads))))
+      | inr d ↦ (r.0, d, r.2)
+    ]
+
+    sooner : (z : Birth) → Contains ys z → ((w : Birth) × Contains (x ∷ xs) w × IsSamePlace z w) → (w : Birth) × Contains xs w × IsSamePlace z w
+    sooner z c r = elim (uncons x xs r.0 r.1) [
+      | inl e ↦ absurd (not_same y z (pairs-head Precedes y ys b z c) (same_turned z y (same_by x z y (same_turned z x (subst (λ (w : Birth). IsSamePlace z w) (sym e) r.2)) heads)))
+      | inr d ↦ (r.0, d, r.2)
+    ]
+
+-- ---- numbers
+
+one-lowest : (content : Content) (before : List Birth) (v w : ℕ) → IsLowestFree content before v → IsLowestFree content before w → v ≡ w
+one-lowest content before v w a b = elim (cases_lt v w) [
+  | inl l ↦ absurd (both_ways _ a.free (b.lowest v a.positive l))
+  | inr l ↦ elim (cases_lt w v) [
+    | inl m ↦ absurd (both_ways _ b.free (a.lowest w b.positive m))
+    | inr m ↦ omega (arith, l, m)
+  ]
+]
+
+same-numbers : (content : Content) (one other xs ys : List Birth) → born one ≡ born other → SamePlaces xs ys → TakeLowestFree content one xs → TakeLowestFree content other ys → born xs ≡ born ys
+same-numbers content one other [] [] o s n m = refl
+same-numbers content one other [] (y ∷ ys) o s n m = absurd s
+same-numbers content one other (x ∷ xs) [] o s n m = absurd s
+same-numbers content one other (x ∷ xs) (y ∷ ys) o s n m =
+    let first : x.number ≡ y.number = one-lowest content other x.number y.number (free-same content one other x.number o n.0) m.0 in
+    let next : born (one ++ x ∷ []) ≡ born (other ++ y ∷ []) = born-append one (x ∷ []) ∙ (both o first ∙ sym (born-append other (y ∷ []))) in
+    cons first (same-numbers content (one ++ x ∷ []) (other ++ y ∷ []) xs ys next s.1 n.1 m.1)
+  where
+    both : {us vs : List ℕ} {a b : ℕ} → us ≡ vs → a ≡ b → us ++ a ∷ [] ≡ vs ++ b ∷ []
+    both p q = cc
+
+    cons : {us vs : List ℕ} {a b : ℕ} → a ≡ b → us ≡ vs → a ∷ us ≡ b ∷ vs
+    cons p q = cc
+
+-- the birth that stands beside another
+beside : (xs ys : List Birth) → SamePlaces xs ys → born xs ≡ born ys → (x : Birth) → Contains xs x → (y : Birth) × Contains ys y × IsSamePlace x y × (x.number ≡ y.number)
+beside [] ys s e x c = absurd (none_in x c)
+beside (z ∷ xs) [] s e x c = absurd s
+beside (z ∷ xs) (y ∷ ys) s e x c = elim (uncons z xs x c) [
+  | inl h ↦ (y, head_in y ys, subst (λ (w : Birth). IsSamePlace w y) h s.0, let n : z.number ≡ y.number = cc in sym (ap number_of h) ∙ n)
+  | inr d ↦ let rest : born xs ≡ born ys = cc in let r = beside xs ys s.1 rest x d in (r.0, tail_in y ys r.0 r.1, r.2, r.3)
+]
+
+-- ---- places of the same blocks
+
+child-some : (pages : Pages) (s : ℕ) (o : Option ℕ) → IsSome (child pages s o) → IsSome o
+child-some pages s None h = cc
+child-some pages s (Some n) h = some-is (Some n) n refl
+
+nodes-before : (pages : Pages) (top n p : ℕ) → p ≤ n → IsSome (chain_node pages top n) → IsSome (chain_node pages top p)
+unfolding chain_node
+nodes-before pages top zero p l h = let e : 0 ≡ p = omega (arith, l) in subst (λ (k : ℕ). IsSome (chain_node pages top k)) e h
+nodes-before pages top (suc n) p l h = elim (cases_lt n p) [
+  | inl m ↦ let e : suc n ≡ p = omega (arith, l, m) in subst (λ (k : ℕ). IsSome (chain_node pages top k)) e h
+  | inr m ↦ nodes-before pages top n p m (child-some pages 127 (chain_node pages top n) h)
+]
+
+node-over : (pages : Pages) (root : Root) (i p : ℕ) → kind_of root ≢ OfTree → p ≤ i / 127 → IsSome (place_at pages root 0 i) → IsSome (place_at pages root 1 p)
+unfolding place_at
+node-over pages Empty i p flat l h = cc
+node-over pages (Chain top) i p flat l h = nodes-before pages top (i / 127) p l (child-some pages (i % 127) (chain_node pages top (i / 127)) h)
+node-over pages (Tree height top) i p flat l h = absurd (flat refl)
+
+block-some : (pages : Pages) (root : Root) (i : ℕ) → IsSound pages root → IsSome (place_at pages root 0 i) → IsSome (page_at pages root i)
+block-some pages root i s h =
+    let v = some-of _ h in
+    let x = some-of _ (s.stored 0 i v.0 v.1) in
+    some-is (page_at pages root i) x.0 (ap (option_and_then pages) v.1 ∙ x.1)
+
+place-some : (pages : Pages) (o : Option ℕ) → IsSome (option_and_then pages o) → IsSome o
+place-some pages None h = cc
+place-some pages (Some n) h = some-is (Some n) n refl
+
+module _ (pages more other : Pages) (root new alike : Root) (sound : IsSound more new) (flat : kind_of new ≢ OfTree) (flat' : kind_of alike ≢ OfTree) (target : (i : ℕ) → page_at more new i ≡ page_at other alike i) where
+  some-data : (i : ℕ) → IsSome (place_at more new 0 i) → IsSome (place_at other alike 0 i)
+  some-data i h = place-some other (place_at other alike 0 i) (subst (λ (o : Option (List ℕ)). IsSome o) (target i) (block-some more new i sound h))
+
+  some-alike : (level offset : ℕ) → IsSome (place_at more new level offset) → IsSome (place_at other alike level offset)
+  some-alike zero i h = some-data i h
+  some-alike (suc zero) p h =
+      let v = some-of _ h in
+      let r = sound.ends_full (chain-of more new p v.0 flat v.1) p v.0 v.1 in
+      node-over other alike r.0 p flat' r.1 (some-data r.0 r.2)
+  some-alike (suc (suc level)) offset h = let v = some-of _ h in let no : None ≡ Some v.0 = sym (above more new level offset flat) ∙ v.1 in cc
+
+  written-alike : (level offset : ℕ) → IsWrittenPlace pages more root new level offset → IsWrittenPlace pages other root alike level offset
+  written-alike zero i w = (some-alike 0 i w.0, λ e. w.1 (e ∙ sym (target i)))
+  written-alike (suc zero) p w = (some-alike 1 p w.0, node w.1)
+    where
+      is_chain : kind_of new ≡ OfChain
+      is_chain = let v = some-of _ w.0 in chain-of more new p v.0 flat v.1
+
+      is_chain' : kind_of alike ≡ OfChain
+      is_chain' = let v = some-of _ (some-alike 1 p w.0) in chain-of other alike p v.0 flat' v.1
+
+      node : NodeWritten pages more root new 1 p → NodeWritten pages other root alike 1 p
+      node (was_absent e) = was_absent e
+      node (new_kind e) = new_kind (λ k. e (k ∙ (is_chain' ∙ sym is_chain)))
+      node (of_chain k i e) = of_chain is_chain' i (λ x. e (x ∙ sym (target i)))
+      node (of_tree k i at e) = absurd (flat k)
+  written-alike (suc (suc level)) offset w = let v = some-of _ w.0 in let no : None ≡ Some v.0 = sym (above more new level offset flat) ∙ v.1 in cc
+
+-- a root is told by its first node
+one-root : (pages other : Pages) (a b : Root) → kind_of a ≢ OfTree → kind_of b ≢ OfTree → IsSound pages a → IsSound other b → place_at pages a 1 0 ≡ place_at other b 1 0 → a ≡ b
+unfolding place_at chain_node
+one-root pages other Empty Empty fa fb sa sb e = refl
+one-root pages other Empty (Chain t) fa fb sa sb e = let x = some-of _ (sb.has_top (λ k. cc)) in let no : None ≡ Some x.0 = e ∙ x.1 in cc
+one-root pages other (Chain t) Empty fa fb sa sb e = let x = some-of _ (sa.has_top (λ k. cc)) in let no : None ≡ Some x.0 = sym e ∙ x.1 in cc
+one-root pages other (Chain t) (Chain u) fa fb sa sb e = ap Chain (tops t u e (sa.has_top (λ k. cc)))
+  where
+    tops : (t u : ℕ) → numbered t ≡ numbered u → IsSome (numbered t) → t ≡ u
+    tops zero u e h = cc
+    tops (suc t) zero e h = cc
+    tops (suc t) (suc u) e h = cc
+one-root pages other (Tree height t) b fa fb sa sb e = absurd (fa refl)
+one-root pages other Empty (Tree height t) fa fb sa sb e = absurd (fb refl)
+one-root pages other (Chain u) (Tree height t) fa fb sa sb e = absurd (fb refl)
+
+-- ---- two ways
+
+-- two batches have given the same numbers, and two roots are one
+abbrev pub SameBatchAndRoot : Changes → Changes → Root → Root → Type 0
+SameBatchAndRoot one two root other = (born one.births ≡ born two.births) × (root ≡ other)
+
+module _ (content : Content) (inode : ℕ) (root one other : Root) (changes changes' : List BlockChange) (before after before' after' : Changes)
+    (p : PutsAll content inode root one changes before after) (q : PutsAll content inode root other changes' before' after')
+    (flat : kind_of one ≢ OfTree) (flat' : kind_of other ≢ OfTree)
+    (target : (i : ℕ) → page_at (pages_after content after) one i ≡ page_at (pages_after content after') other i)
+    (numbers : born before.births ≡ born before'.births) where
+  there : StandAmong p.births q.births
+  there x c = turned x (q.rewrites.written_born x.place.level x.place.offset
+      (written-alike (pages_of content) (pages_after content after) (pages_after content after') root one other p.sound flat flat' target x.place.level x.place.offset (p.rewrites.born_written x c)))
+    where
+      turned : (x : Birth) → ((b : Birth) × Contains q.births b × IsAt b x.place.level x.place.offset) → (y : Birth) × Contains q.births y × IsSamePlace x y
+      turned x r = (r.0, r.1, (sym r.2.0, sym r.2.1))
+
+  back : StandAmong q.births p.births
+  back x c = turned x (p.rewrites.written_born x.place.level x.place.offset
+      (written-alike (pages_of content) (pages_after content after') (pages_after content after) root other one q.sound flat' flat (λ i. sym (target i)) x.place.level x.place.offset (q.rewrites.born_written x c)))
+    where
+      turned : (x : Birth) → ((b : Birth) × Contains p.births b × IsAt b x.place.level x.place.offset) → (y : Birth) × Contains p.births y × IsSamePlace x y
+      turned x r = (r.0, r.1, (sym r.2.0, sym r.2.1))
+
+  same_places : SamePlaces p.births q.births
+  same_places = sorted-same p.births q.births p.rewrites.in_order q.rewrites.in_order there back
+
+  same_places' : SamePlaces q.births p.births
+  same_places' = sorted-same q.births p.births q.rewrites.in_order p.rewrites.in_order back there
+
+  same_born : born p.births ≡ born q.births
+  same_born = same-numbers content before.births before'.births p.births q.births numbers same_places p.numbers q.numbers
+
+  -- the batches go on alike
+  born-alike : born after.births ≡ born after'.births
+  born-alike = ap born p.births_are ∙ (born-append before.births p.births ∙ (both numbers same_born ∙ (sym (born-append before'.births q.births) ∙ sym (ap born q.births_are))))
+    where
+      both : {us vs ws xs : List ℕ} → us ≡ vs → ws ≡ xs → us ++ ws ≡ vs ++ xs
+      both a b = cc
+
+  same-place : (level offset v w : ℕ) → place_at (pages_after content after) one level offset ≡ Some v → place_at (pages_after content after') other level offset ≡ Some w → v ≡ w
+  same-place level offset v w e f = elim (p.rewrites.born_or_kept level offset v e) [
+    | inl b ↦
+        let r = beside p.births q.births same_places same_born b.0 b.1 in
+        let here : v ≡ b.0.number = one_number (sym e ∙ at_own (pages_after content after) one b.0 level offset b.2 (p.rewrites.born_placed b.0 b.1)) in
+        let over : w ≡ r.0.number = one_number (sym f ∙ at_own (pages_after content after') other r.0 level offset (sym r.2.0 ∙ b.2.0, sym r.2.1 ∙ b.2.1) (q.rewrites.born_placed r.0 r.1)) in
+        here ∙ (r.3 ∙ sym over)
+    | inr old ↦ elim (q.rewrites.born_or_kept level offset w f) [
+      | inl b ↦
+          let r = beside q.births p.births same_places' (sym same_born) b.0 b.1 in
+          let here : w ≡ b.0.number = one_number (sym f ∙ at_own (pages_after content after') other b.0 level offset b.2 (q.rewrites.born_placed b.0 b.1)) in
+          let over : v ≡ r.0.number = one_number (sym e ∙ at_own (pages_after content after) one r.0 level offset (sym r.2.0 ∙ b.2.0, sym r.2.1 ∙ b.2.1) (p.rewrites.born_placed r.0 r.1)) in
+          over ∙ (sym r.3 ∙ sym here)
+      | inr old' ↦ one_number (sym old ∙ old')
+    ]
+  ]
+    where
+      one_number : {a b : ℕ} → Some a ≡ Some b → a ≡ b
+      one_number h = cc
+
+      at_own : (pages : Pages) (r : Root) (b : Birth) (l o : ℕ) → IsAt b l o → place_at pages r b.place.level b.place.offset ≡ Some b.number → place_at pages r l o ≡ Some b.number
+      at_own pages r b l o at e = subst (λ (k : ℕ). place_at pages r k o ≡ Some b.number) at.0 (subst (λ (k : ℕ). place_at pages r b.place.level k ≡ Some b.number) at.1 e)
+
+  places-alike : (level offset : ℕ) → place_at (pages_after content after) one level offset ≡ place_at (pages_after content after') other level offset
+  places-alike level offset = elim (cases-Option (place_at (pages_after content after) one level offset)) [
+    | inl e ↦ elim (cases-Option (place_at (pages_after content after') other level offset)) [
+      | inl f ↦ e ∙ sym f
+      | inr w ↦
+          let s = some-alike (pages_of content) (pages_after content after') (pages_after content after) root other one q.sound flat' flat (λ i. sym (target i)) level offset (some-is _ w.0 w.1) in
+          let x = some-of _ s in
+          let no : None ≡ Some x.0 = sym e ∙ x.1 in cc
+    ]
+    | inr v ↦
+        let s = some-alike (pages_of content) (pages_after content after) (pages_after content after') root one other p.sound flat flat' target level offset (some-is _ v.0 v.1) in
+        let w = some-of _ s in
+        v.1 ∙ (ap Some (same-place level offset v.0 w.0 v.1 w.1) ∙ sym w.1)
+  ]
+
+  chains-alike : SameBatchAndRoot after after' one other
+  chains-alike = (born-alike, one-root (pages_after content after) (pages_after content after') one other flat flat' p.sound q.sound (places-alike 1 0))
+
+is_flat : (kind : RootKind) → IsWrittenKind kind → kind ≢ OfTree
+is_flat NoBlocks k = λ e. cc
+is_flat OfChain k = λ e. cc
+is_flat OfTree k = absurd k
+
+-- a root that was there before is sound, and its numbers have their pages still
+old-stays : (content : Content) (inode : ℕ) (root new : Root) (changes : List BlockChange) (before after : Changes) → PutsAll content inode root new changes before after →
+    IsSound (pages_of content) root → KeepsFile (pages_of content) (pages_after content after) root
+old-stays content inode root new changes before after p sound =
+    keeps-file (pages_of content) (pages_after content after) root (births-keep content after.births p.unused) sound
+
+-- where the root stays nothing is written
+none-born : (content : Content) (inode : ℕ) (root new : Root) (changes : List BlockChange) (before after : Changes) → PutsAll content inode root new changes before after →
+    IsSound (pages_of content) root → new ≡ root → born after.births ≡ born before.births
+none-born content inode root new changes before after p sound same = ap born (p.births_are ∙ (ap (λ (bs : List Birth). before.births ++ bs) (none p.births (λ b c. nothing b c)) ∙ append-nil before.births))
+  where
+    keeps : KeepsFile (pages_of content) (pages_after content after) root
+    keeps = old-stays content inode root new changes before after p sound
+
+    nothing : (b : Birth) → Contains p.births b → ⊥
+    nothing b c =
+        unwritten (pages_of content) (pages_after content after) root keeps.places keeps.blocks b.place.level b.place.offset
+        (subst (λ (r : Root). IsWrittenPlace (pages_of content) (pages_after content after) root r b.place.level b.place.offset) same (p.rewrites.born_written b c))
+
+    none : (bs : List Birth) → ((b : Birth) → Contains bs b → ⊥) → bs ≡ []
+    none [] h = refl
+    none (b ∷ bs) h = absurd (h b (head_in b bs))
+
+-- where one way leaves the root, the other does
+root-stays : (content : Content) (inode : ℕ) (root one other : Root) (changes changes' : List BlockChange) (before after before' after' : Changes) →
+    PutsAll content inode root one changes before after → PutsAll content inode root other changes' before' after' → IsSound (pages_of content) root →
+    ((i : ℕ) → page_at (pages_after content after) one i ≡ page_at (pages_after content after') other i) → born before.births ≡ born before'.births →
+    one ≡ root → SameBatchAndRoot after after' one other
+root-stays content inode root one other changes changes' before after before' after' p q sound target numbers same = (
+  none-born content inode root one changes before after p sound same ∙ (numbers ∙ sym (none-born content inode root other changes' before' after' q sound also)),
+  same ∙ sym also,
+)
+  where
+    also : other ≡ root
+    also = q.kept (λ i. sym (target i) ∙ (ap (λ (r : Root). page_at (pages_after content after) r i) same ∙ (old-stays content inode root one changes before after p sound).blocks i))
+
+pub put-alike : (content : Content) (inode : ℕ) (root one other : Root) (changes changes' : List BlockChange) (before after before' after' : Changes) →
+    PutsAll content inode root one changes before after → PutsAll content inode root other changes' before' after' → IsSound (pages_of content) root →
+    ((i : ℕ) → page_at (pages_after content after) one i ≡ page_at (pages_after content after') other i) → born before.births ≡ born before'.births →
+    SameBatchAndRoot after after' one other
+put-alike content inode root one other changes changes' before after before' after' p q sound target numbers = by p.kind q.kind
+  where
+    by : (one ≡ root) ⊎ IsWrittenKind (kind_of one) → (other ≡ root) ⊎ IsWrittenKind (kind_of other) → SameBatchAndRoot after after' one other
+    by (inl same) k = root-stays content inode root one other changes changes' before after before' after' p q sound target numbers same
+    by (inr h) (inl same) =
+        let r = root-stays content inode root other one changes' changes before' after' before after q p sound (λ i. sym (target i)) (sym numbers) same in
+        (sym r.0, sym r.1)
+    by (inr h) (inr k) = chains-alike content inode root one other changes changes' before after before' after' p q (is_flat (kind_of one) h) (is_flat (kind_of other) k) target numbers
