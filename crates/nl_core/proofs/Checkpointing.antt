@@ -1,163 +1,171 @@
 -- A checkpoint's ways to end.
-use Rattle.std.proofs.Common.{◌≡◌, ℕ, ◌+◌, ◌<◌, ◌≤◌, List, ◌++◌, ◌∷◌, length, refl, sym, ap, ◌∙◌, subst, inl, inr, arith, get_or}
-use Rattle.std.specs.Prelude.{None, Ok, Err, true, nat_le, max}
+use Rattle.std.proofs.Common.{◌≡◌, ℕ, ◌+◌, ◌<◌, ◌≤◌, List, ◌∷◌, ◌++◌, length, refl, sym, ◌∙◌, subst, inl, inr, arith, get_or}
+use Rattle.std.specs.Prelude.{All, None, Some, Ok, Err, map, max, nat_le, true}
 use Rattle.std.specs.Option.{option_map}
+use Rattle.std.specs.Ordering.{nat_cmp}
+use Rattle.std.specs.FinMap.{find}
 use Rattle.std.proofs.lemmas.Bool.{cond-true, le-leb}
-use Rattle.std.proofs.lemmas.List.{length-map}
 use Rattle.nl_types.specs.declared.error.VolError.{VolError}
 use Rattle.nl_types.specs.declared.error.VolError.TheVariants as error
 use Rattle.nl_types.specs.declared.event.Event.TheVariants as event
 use Rattle.nl_types.specs.declared.event.Mode.{Mode}
 use Rattle.nl_types.specs.declared.reply.Answer.TheVariants as answer
 use Rattle.nl_types.specs.Entries.{Content}
-use Rattle.nl_types.specs.Lifetimes.{EventsKeepLedgers, CoveredNumbersStay, NumbersEndOnce, IsLedger}
+use Rattle.nl_types.specs.Lifetimes.{IsLedger}
 use Rattle.nl_types.specs.Limits.{checkpoint_number_limit}
-use Rattle.nl_types.specs.PartialMaps.{Keeps}
-use Rattle.nl_types.specs.RootChanges.{with_births}
 use Rattle.nl_types.specs.Roots.{Pages, pages_of}
-use Rattle.nl_types.specs.Runs.{Step}
 use Rattle.nl_types.specs.Worlds.{World, Reply, step, latest}
 use Rattle.nl_types.specs.Placing as placing
-use Rattle.nl_types.proofs.Births.{pages-written}
-use Rattle.nl_dat.specs.Batches.{Changes, Fits, items_of, item_of_birth}
-use Rattle.nl_dat.specs.Stores.{Store, IsStore, IsWritten, IsWriteRefused, IsFaulted, content_in, entry_now}
-use Rattle.nl_core.specs.declared.file.File.{File}
+use Rattle.nl_types.proofs.WorldLaws.{steps_keep_worlds}
+use Rattle.nl_layout.specs.Root.{root_of}
+use Rattle.nl_dat.specs.Batches.{items_of}
+use Rattle.nl_dat.specs.Stores.{Store, IsStore, content_in, entry_now}
+use Rattle.nl_files.specs.Held.{IsTreeSound}
 use Rattle.nl_core.specs.declared.checkpoint.Checkpoint.{Checkpoint}
-use Rattle.nl_core.specs.Draft.{HasNextNumber, IsDraftRefusal}
-use Rattle.nl_core.specs.Settled.{WritesChanged, AreSettled, block_of, changed_blocks}
-use Rattle.nl_core.specs.Volume.{Volume, IsSoundVolume, next_checkpoint, over, published}
-use Rattle.nl_core.specs.Means.{Means, Follows}
-use Rattle.nl_core.specs.Layout.{Layout, IsPen, IsCheckpointRefusal, Touches, Does, cleaned, layout_of, ledger_of, unshared, volume_of}
-use Rattle.nl_core.proofs.Events.{step-IsWorld}
-use Rattle.nl_core.proofs.Ledgers.{same-numbers, is_ledger-behind, latest-found, numbers-behind}
-use Rattle.nl_core.proofs.Published.{latest-means, sound-published, means-published}
-use Rattle.nl_core.proofs.Settling.{Stand}
-use Rattle.nl_core.proofs.WrittenBlocks.{keeps_pages, births_stand}
+use Rattle.nl_core.specs.Layout.{Layout, IsPen, IsSoundPen, IsCheckpointRefusal, Does, Follows, HasFaulted, HasRefused, HasWritten, LacksSpaceToSettle, MeansWorld, Touches, cleaned, layout_of, ledger_of, unshared}
+use Rattle.nl_core.specs.Means.{Means}
+use Rattle.nl_core.specs.Volume.{Lists, by_number, kept_by}
+use Rattle.nl_core.proofs.Checkpoints.{differs-behind, numbers-behind, sound-behind}
+use Rattle.nl_core.proofs.Ledgers.{same-numbers, stands-latest}
+use Rattle.nl_core.proofs.Published.{latest-means, means-published}
+use Rattle.nl_core.proofs.Settlings.{births-alike, count-items}
 
--- ---- a checkpoint that is published
+-- ---- one that is done
 
-module _ (old : Layout) (held : IsPen old) (mode : Mode) (moment capacity : ℕ) (files : List File) (changes : Changes) (store : Store) (left : old.lists.latest.number + 1 < checkpoint_number_limit)
-    (writes : WritesChanged (content_in old.store) old.lists.latest.files old.lists.files changes) (fits : Fits capacity (content_in old.store) changes) (settled : AreSettled changes.births old.lists.files files)
-    (written : IsWritten (next_checkpoint mode moment files old.lists).number (next_checkpoint mode moment files old.lists).stamp changes old.store store) where
-  abbrev next : Checkpoint
-  next = next_checkpoint mode moment files old.lists
-
-  abbrev behind : Layout
-  behind = layout_of (published next old.lists) store
-
-  -- the pages behind it are the old ones with the births
-  pages-behind : pages_of (content_in store) ≡ with_births changes.births (pages_of (content_in old.store))
-  pages-behind = ap pages_of written.content ∙ pages-written changes.births changes.ends next.number (content_in old.store) fits.once
-
-  keeps : Keeps (pages_of (content_in old.store)) (pages_of (content_in store))
-  keeps = subst (Keeps (pages_of (content_in old.store))) (sym pages-behind) (keeps_pages (content_in old.store) capacity next.number old.lists.latest.files old.lists.files changes writes fits)
-
-  stand : Stand (pages_of (content_in store)) changes.births
-  stand = subst (λ (pages : Pages). Stand pages changes.births) (sym pages-behind) (births_stand (content_in old.store) capacity next.number old.lists.latest.files old.lists.files changes writes fits)
-
+module _ (old new : Layout) (mode : Mode) (moment : ℕ) (pen : IsPen old) (writes : HasWritten mode moment old new) where
   -- where it leads from a world
-  follows-published : Follows (unshared old behind) (cleaned old (event.Checkpoint mode moment)) (volume_of old) (event.Checkpoint mode moment) (Ok (answer.Checkpoint next.number)) (volume_of behind)
-  follows-published = λ w m.
-      let event = event.Checkpoint mode moment in
-      let reply = Ok (answer.Checkpoint next.number) in
-      let after = means-published old.lists (pages_of (content_in old.store)) (pages_of (content_in store)) changes.births files held.sound keeps stand settled (cleaned old event) w mode moment left m in
-      let step : Step (unshared old behind) (cleaned old event) w event reply after.0 = inl after.2 in
-      record { after = after.0; means = after.1 (step-IsWorld (unshared old behind) (cleaned old event) reply w after.0 event m.world step); step = step }
+  follows-written : Follows unshared old (event.Checkpoint mode moment) (Ok (answer.Checkpoint new.lists.latest.number)) new
+  follows-written w means =
+      let done = event.Checkpoint mode moment in
+      let given = cleaned old done in
+      let reply : Reply = Ok (answer.Checkpoint new.lists.latest.number) in
+      let next = means-published old new mode moment pen.sound writes given w means in
+      record { after = next.0; means = next.1 (steps_keep_worlds given reply w next.0 done means.world next.2); step = inl next.2 }
 
   -- all that it does
-  pub does-published : EventsKeepLedgers → CoveredNumbersStay → NumbersEndOnce → IsStore store → Does unshared old (event.Checkpoint mode moment) (Ok (answer.Checkpoint next.number)) behind
-  does-published ledgers stay once is_store = record {
-    follows = follows-published;
-    touches = record { changes = changes; writes = writes; settled = settled; lists = refl; written = written };
-    numbers = numbers-behind old held capacity changes next store writes fits settled refl written.content stay once;
-    pen = record {
-      world = let next = follows-published held.world.0 held.world.1 in (next.after, next.means);
-      sound = sound-published old.lists (pages_of (content_in old.store)) (pages_of (content_in store)) changes.births files held.sound keeps stand settled mode moment left;
-      ledger = is_ledger-behind old held capacity changes next store writes fits settled refl written.content ledgers;
-      latest = latest-found old held capacity changes next store writes fits settled refl written.content;
-      store = is_store;
-    };
-  }
+  pub does-written : IsStore new.store
+      → Does unshared old (event.Checkpoint mode moment) (Ok (answer.Checkpoint new.lists.latest.number)) new
+  does-written is_store =
+      let w = pen.world.0 in
+      let tree = pen.world.1.tree in
+      let stands = stands-latest old pen.sound w.tree tree in
+      record {
+        follows = follows-written;
+        touches = record { writes = writes; differs = differs-behind old new mode moment pen.sound tree.base w.tree stands writes };
+        numbers = numbers-behind old new mode moment pen.sound tree.base w.tree stands writes;
+        pen = record {
+          world = let next = follows-written w pen.world.1 in (next.after, next.means);
+          sound = sound-behind old new mode moment pen.sound tree.base w.tree stands writes is_store;
+        };
+      }
 
--- ---- one that is refused
+-- ---- one that is refused before anything is written
 
 -- the world has no number left either
-spent : (given : Reply) (v : Volume) (w : World) (mode : Mode) (moment : ℕ) → Means v w → checkpoint_number_limit ≤ v.latest.number + 1 → step given w (event.Checkpoint mode moment) ≡ (Err error.NumbersSpent, w)
-spent given v w mode moment m over =
-    let number : latest w ≡ v.latest.number = latest-means v w m in
-    cond-true (nat_le checkpoint_number_limit (latest w + 1)) _ _ (le-leb checkpoint_number_limit (latest w + 1) (omega (arith, number, over)))
+spent : (given : Reply) (l : Layout) (w : World) (mode : Mode) (moment : ℕ) → MeansWorld l w
+    → checkpoint_number_limit ≤ l.lists.latest.number + 1
+    → step given w (event.Checkpoint mode moment) ≡ (Err error.NumbersSpent, w)
+spent given l w mode moment means over =
+    let number : latest w ≡ l.lists.latest.number = latest-means (pages_of (content_in l.store)) l.lists w means in
+    cond-true (nat_le checkpoint_number_limit (latest w + 1)) _ _
+    (le-leb checkpoint_number_limit (latest w + 1) (omega (arith, number, over)))
 
-follows-refused : (l : Layout) (mode : Mode) (moment : ℕ) (e : VolError) → IsCheckpointRefusal l e → Follows (unshared l l) (cleaned l (event.Checkpoint mode moment)) (volume_of l) (event.Checkpoint mode moment) (Err e) (volume_of l)
-follows-refused l mode moment error.NumbersSpent why = λ w m. record { after = w; means = m; step = inl (spent (cleaned l (event.Checkpoint mode moment)) (volume_of l) w mode moment m why) }
-follows-refused l mode moment error.NoSpace why = λ w m. record { after = w; means = m; step = inr (record { error = error.NoSpace; reply_is = refl; may_be = (tt, why.1); unchanged = refl }) }
-follows-refused l mode moment error.Memory why = λ w m. record { after = w; means = m; step = inr (record { error = error.Memory; reply_is = refl; may_be = tt; unchanged = refl }) }
-follows-refused l mode moment _ why = absurd why
+follows-refused : (l : Layout) (mode : Mode) (moment : ℕ) (e : VolError) → IsCheckpointRefusal l e
+    → Follows unshared l (event.Checkpoint mode moment) (Err e) l
+follows-refused l mode moment error.NumbersSpent why w means = record {
+  after = w;
+  means = means;
+  step = inl (spent (cleaned l (event.Checkpoint mode moment)) l w mode moment means why);
+}
+follows-refused l mode moment error.NoSpace why w means = record {
+  after = w;
+  means = means;
+  step = inr (record { error = error.NoSpace; reply_is = refl; may_be = (tt, why.1); unchanged = refl });
+}
+follows-refused l mode moment error.Memory why w means = record {
+  after = w;
+  means = means;
+  step = inr (record { error = error.Memory; reply_is = refl; may_be = tt; unchanged = refl });
+}
+follows-refused l mode moment _ why w means = absurd why
 
-touches-refused : (l : Layout) (mode : Mode) (moment : ℕ) (e : VolError) → IsCheckpointRefusal l e → Touches l (event.Checkpoint mode moment) (Err e) l
+touches-refused : (l : Layout) (mode : Mode) (moment : ℕ) (e : VolError) → IsCheckpointRefusal l e
+    → Touches l (event.Checkpoint mode moment) (Err e) l
 touches-refused l mode moment error.NumbersSpent why = (refl, why)
 touches-refused l mode moment error.NoSpace why = (refl, why)
 touches-refused l mode moment error.Memory why = (refl, why)
 touches-refused l mode moment _ why = absurd why
 
--- before anything is written
-pub does-refused : (old new : Layout) (mode : Mode) (moment : ℕ) (e : VolError) → IsPen old → IsCheckpointRefusal old e → new ≡ old → Does unshared old (event.Checkpoint mode moment) (Err e) new
-does-refused old new mode moment e held why same = subst (Does unshared old (event.Checkpoint mode moment) (Err e)) (sym same)
-    (record { follows = follows-refused old mode moment e why; touches = touches-refused old mode moment e why; numbers = same-numbers old old refl; pen = held })
+does-unwritten : (old new : Layout) (mode : Mode) (moment : ℕ) (e : VolError) → IsPen old
+    → IsCheckpointRefusal old e → new ≡ old
+    → Does unshared old (event.Checkpoint mode moment) (Err e) new
+does-unwritten old new mode moment e pen why same =
+    subst (Does unshared old (event.Checkpoint mode moment) (Err e)) (sym same) (record {
+      follows = follows-refused old mode moment e why;
+      touches = touches-refused old mode moment e why;
+      numbers = same-numbers old old refl;
+      pen = pen;
+    })
 
--- where no draft is made
-pub refused-draft : (l : Layout) (e : VolError) → IsDraftRefusal l.lists e → IsCheckpointRefusal l e
-refused-draft l error.NumbersSpent why = why
-refused-draft l error.Memory why = why
-refused-draft l _ why = absurd why
-
--- as many births as changed blocks
-pub count-births : (content : Content) (former current : List File) (changes : Changes) → WritesChanged content former current changes → length changes.births ≡ length (changed_blocks current)
-count-births content former current changes writes = sym (length-map changes.births block_of) ∙ ap length writes.births
-
--- and as many blocks are written
-pub count-items : (content : Content) (former current : List File) (changes : Changes) → WritesChanged content former current changes → length (items_of changes.births) ≡ length (changed_blocks current)
-count-items content former current changes writes = length-map changes.births item_of_birth ∙ count-births content former current changes writes
+-- ---- one that is broken off
 
 -- a store with the same numbers has the same content
 same-content : (old new : Store) → new.numbers ≡ old.numbers → content_in new ≡ content_in old
 same-content old new same i v = option_map entry_now (get_or (same i) v None)
 
--- by a fault of the device
-pub does-faulted : (old : Layout) (store : Store) (mode : Mode) (moment : ℕ) (changes : Changes) → IsPen old → WritesChanged (content_in old.store) old.lists.latest.files old.lists.files changes
-    → IsFaulted true (old.lists.latest.number + 1) (max moment old.lists.latest.stamp) (items_of changes.births) old.store store → IsStore store
-    → Does unshared old (event.Checkpoint mode moment) (Err error.Fault) (layout_of old.lists store)
-does-faulted old store mode moment changes held writes fault is_store =
-    let new = layout_of old.lists store in
-    let content = same-content old.store store fault.numbers in
-    let broken = fault.broken_off in
-    let logs = broken.written ++ broken.failed ∷ broken.left in
-    let fits = subst (λ k. placing.LogsFit old.store.segments true k logs) (count-items (content_in old.store) old.lists.latest.files old.lists.files changes writes) broken.fits in
-    record {
-      follows = λ w m. record {
-        after = w;
-        means = subst (λ (c : Content). Means (over (pages_of c) old.lists) w) (sym content) m;
-        step = inr (record { error = error.Fault; reply_is = refl; may_be = (tt, ((λ lacks. lacks logs fits), fault.failures)); unchanged = refl });
-      };
-      touches = record { lists = refl; changes = changes; writes = writes; store = fault };
-      numbers = same-numbers old new (ledger-same content);
-      pen = record {
-        world = (held.world.0, subst (λ (c : Content). Means (over (pages_of c) old.lists) held.world.0) (sym content) held.world.1);
-        sound = subst (λ (c : Content). IsSoundVolume (over (pages_of c) old.lists)) (sym content) held.sound;
-        ledger = subst IsLedger (sym (ledger-same content)) held.ledger;
-        latest = held.latest;
-        store = is_store;
-      };
-    }
-  where
-    ledger-same : content_in store ≡ content_in old.store → ledger_of (layout_of old.lists store) ≡ ledger_of old
-    ledger-same content = ap (λ (c : Content). record (ledger_of old) { content = c }) content
+module _ (old new : Layout) (mode : Mode) (moment : ℕ) (pen : IsPen old)
+    (fault : HasFaulted (max moment old.lists.latest.stamp) old new) where
+  content-same : content_in new.store ≡ content_in old.store
+  content-same = same-content old.store new.store fault.store.numbers
 
--- by a write that is refused
-pub does-unwritten : (old : Layout) (store : Store) (mode : Mode) (moment : ℕ) (changes : Changes) (e : VolError) → IsPen old → HasNextNumber old.lists → WritesChanged (content_in old.store) old.lists.latest.files old.lists.files changes
-    → IsWriteRefused (old.lists.latest.number + 1) (max moment old.lists.latest.stamp) changes old.store store e → IsStore store → Does unshared old (event.Checkpoint mode moment) (Err e) (layout_of old.lists store)
-does-unwritten old store mode moment changes error.NoSpace held left writes refused is_store =
-    let count = count-births (content_in old.store) old.lists.latest.files old.lists.files changes writes in
-    does-refused old (layout_of old.lists store) mode moment error.NoSpace held (left, subst (placing.LacksSpace old.store.segments true) count refused.0) (ap (layout_of old.lists) refused.1)
-does-unwritten old store mode moment changes error.Memory held left writes refused is_store = does-refused old (layout_of old.lists store) mode moment error.Memory held left (ap (layout_of old.lists) refused)
-does-unwritten old store mode moment changes error.Fault held left writes refused is_store = does-faulted old store mode moment changes held writes refused is_store
-does-unwritten old store mode moment changes _ held left writes refused is_store = absurd refused
+  -- lists and numbers are the old ones, and so is the ledger
+  ledger-same : ledger_of new ≡ ledger_of old
+  ledger-same i = ledger_of (layout_of (fault.lists i) (record old.store { numbers = fault.store.numbers i }))
+
+  means-same : (w : World) → MeansWorld old w → MeansWorld new w
+  means-same w means =
+      subst (λ (l : Lists). Means (pages_of (content_in new.store)) l w) (sym fault.lists)
+      (subst (λ (c : Content). Means (pages_of c) old.lists w) (sym content-same) means)
+
+  -- a list of logs fits as many blocks as every settling writes
+  space-there : LacksSpaceToSettle old → ⊥
+  space-there lacks =
+      let broken = fault.store.broken_off in
+      let logs = broken.written ++ broken.failed ∷ broken.left in
+      let count : length (items_of fault.settled.changes.births) ≡ length lacks.settled.changes.births =
+      count-items fault.settled.changes ∙ births-alike old pen.sound fault.root lacks.root fault.settled lacks.settled in
+      lacks.lacks logs (subst (λ (n : ℕ). placing.LogsFit old.store.segments true n logs) count broken.fits)
+
+  abbrev AreSound : Pages → List Checkpoint → Type 0
+  AreSound pages kept = All (λ (c : Checkpoint). IsTreeSound pages (root_of c.root)) kept
+
+  sound-same : IsStore new.store → IsSoundPen new
+  sound-same is_store = record {
+    ledger = subst IsLedger (sym ledger-same) pen.sound.ledger;
+    kept = subst (λ (l : Lists). AreSound (pages_of (content_in new.store)) (kept_by l)) (sym fault.lists)
+        (subst (λ (content : Content). AreSound (pages_of content) (kept_by old.lists)) (sym content-same) pen.sound.kept);
+    latest = subst (λ (l : Lists). find nat_cmp l.latest.number (map by_number (kept_by l)) ≡ Some l.latest) (sym fault.lists)
+        pen.sound.latest;
+    last = subst (λ (l : Lists). l.latest.number < checkpoint_number_limit) (sym fault.lists) pen.sound.last;
+    store = is_store;
+  }
+
+  does-faulted : IsStore new.store → Does unshared old (event.Checkpoint mode moment) (Err error.Fault) new
+  does-faulted is_store = record {
+    follows = λ w means. record {
+      after = w;
+      means = means-same w means;
+      step = inr (record { error = error.Fault; reply_is = refl; may_be = (tt, (space-there, fault.store.failures)); unchanged = refl });
+    };
+    touches = fault;
+    numbers = same-numbers old new ledger-same;
+    pen = record { world = (pen.world.0, means-same pen.world.0 pen.world.1); sound = sound-same is_store };
+  }
+
+-- ---- whichever way
+
+pub does-refused : (old new : Layout) (mode : Mode) (moment : ℕ) (e : VolError) → IsPen old
+    → HasRefused (event.Checkpoint mode moment) e old new → IsStore new.store
+    → Does unshared old (event.Checkpoint mode moment) (Err e) new
+does-refused old new mode moment error.Fault pen refused is_store = does-faulted old new mode moment pen refused is_store
+does-refused old new mode moment e pen refused is_store = does-unwritten old new mode moment e pen refused.1 refused.0

@@ -6,7 +6,7 @@ use Rattle.std.specs.List as list
 use Rattle.std.specs.FinMap.{find}
 use Rattle.std.specs.Ordering.{nat_cmp, eq_by_cmp}
 use Rattle.std.proofs.lemmas.Bool.Decides.{nat_tests}
-use Rattle.nl_core.specs.Means.{by_number}
+use Rattle.nl_core.specs.Volume.{by_number}
 use Rattle.nl_core.specs.declared.checkpoint.Checkpoint.{Checkpoint}
 
 -- the order's test of two numbers is `==`

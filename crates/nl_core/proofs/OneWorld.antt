@@ -1,41 +1,71 @@
--- A volume means one world at most.
-use Rattle.std.proofs.Common.{◌≡◌, ℕ, refl, sym, ap, ◌∙◌, subst, T}
-use Rattle.std.specs.Prelude.{Option, Some, None, map}
-use Rattle.std.specs.Ordering.{nat_cmp}
-use Rattle.std.specs.Cmp.{nat_cmp_total}
-use Rattle.std.specs.FinMap.{find, is_sorted, nat_cmp-IsAntisymmetric}
-use Rattle.std.specs.FinMap.Entries.{same_entries}
-use Rattle.nl_types.specs.Trees.{IsTree}
-use Rattle.nl_types.specs.Worlds.{World, Copy, copy_at}
+-- A pen means one world at most.
+use Rattle.std.proofs.Common.{◌≡◌, ℕ, List, [], ◌∷◌, sym, ap, ◌∙◌, refl, subst}
+use Rattle.std.specs.List.{AllZip}
 use Rattle.nl_types.specs.Roots.{Pages}
-use Rattle.nl_core.specs.Volume.{Volume, kept_in}
-use Rattle.nl_core.specs.Means.{Means, by_number}
+use Rattle.nl_types.specs.Trees.{Tree}
+use Rattle.nl_types.specs.Inodes.{MeansTree}
+use Rattle.nl_types.specs.Worlds.{Copy}
+use Rattle.nl_types.proofs.Inodes.Means.{inodes_mean_one_tree}
+use Rattle.nl_layout.specs.Root.{root_of}
+use Rattle.nl_layout.specs.declared.root.Root.{Root}
+use Rattle.nl_files.specs.Became.{Current, holding_over}
+use Rattle.nl_files.specs.Held.{Holding, inodes_of_holding}
+use Rattle.nl_core.specs.Laws.{MeansOneWorld}
+use Rattle.nl_core.specs.Means.{CopyMeans, CurrentMeans, RootMeans}
+use Rattle.nl_core.specs.Volume.{kept_by}
 use Rattle.nl_core.specs.declared.checkpoint.Checkpoint.{Checkpoint}
-use Rattle.nl_core.proofs.TreeMeaning.{same_tree}
-use Rattle.nl_core.proofs.Events.{HasCopy, copy_of}
+use Rattle.nl_core.proofs.Holdings.{one-held}
 
--- two copies of one checkpoint are the same, and none is copied twice
-same_copy : (pages : Pages) (c : Option Checkpoint) (copy other : Option Copy) → HasCopy pages c copy → HasCopy pages c other → ((k : Copy) → copy ≡ Some k → IsTree k.tree) → ((k : Copy) → other ≡ Some k → IsTree k.tree) → copy ≡ other
-same_copy pages None copy other has had is was = has ∙ sym had
-same_copy pages (Some c) copy other has had is was =
-    let tree = same_tree pages c.files has.0.tree had.0.tree (is has.0 has.1) (was had.0 had.1) has.2.tree had.2.tree in
-    let mode = has.2.mode ∙ sym had.2.mode in
-    let stamp = has.2.stamp ∙ sym had.2.stamp in
-    let same : has.0 ≡ had.0 = λ i. record { tree = tree i; mode = mode i; stamp = stamp i } in
-    has.1 ∙ ap Some same ∙ sym had.1
+-- what is held stands for one tree
+tree-one : (a b : Holding) (tree other : Tree) → a ≡ b → MeansTree (inodes_of_holding a) tree
+    → MeansTree (inodes_of_holding b) other → tree ≡ other
+tree-one a b tree other same m n =
+    inodes_mean_one_tree (inodes_of_holding b) tree other
+    (subst (λ (h : Holding). MeansTree (inodes_of_holding h) tree) same m) n
 
--- the copies of a world ascend
-ascending : (v : Volume) (w : World) → Means v w → T (is_sorted nat_cmp w.copies)
-ascending v w m = subst T (sym m.world.numbers_rise) tt
+-- a root stands for one tree
+root-one : (pages : Pages) (root : Root) (tree other : Tree) → RootMeans pages root tree
+    → RootMeans pages root other → tree ≡ other
+root-one pages root tree other m n =
+    tree-one m.held n.held tree other (one-held pages (root_of root) m.held n.held m.holds.stores n.holds.stores)
+    m.means.means n.means.means
 
--- what a volume holds means one world
-pub means_one : (v : Volume) (w other : World) → Means v w → Means v other → w ≡ other
-means_one v w other m n =
-    let tree = same_tree v.pages v.files w.tree other.tree m.world.tree n.world.tree m.tree n.tree in
+-- and so does a current tree over it
+current-one : (pages : Pages) (root : Root) (current : Current) (tree other : Tree)
+    → CurrentMeans pages root current tree → CurrentMeans pages root current other → tree ≡ other
+current-one pages root current tree other m n =
+    tree-one (holding_over current.became m.base) (holding_over current.became n.base) tree other
+    (ap (holding_over current.became) (one-held pages (root_of root) m.base n.base m.holds.stores n.holds.stores))
+    m.stands.stands.means n.stands.stands.means
+
+-- a checkpoint has one copy
+copy-one : (pages : Pages) (c : Checkpoint) (copy other : ℕ × Copy) → CopyMeans pages c copy
+    → CopyMeans pages c other → copy ≡ other
+copy-one pages c copy other m n =
+    let number = m.number ∙ sym n.number in
+    let tree = root-one pages c.root copy.1.tree other.1.tree m.tree n.tree in
+    let mode = m.mode ∙ sym n.mode in
+    let stamp = m.stamp ∙ sym n.stamp in
+    λ i. (number i, record { tree = tree i; mode = mode i; stamp = stamp i })
+
+-- and a list of them one list of copies
+copies-one : (pages : Pages) (kept : List Checkpoint) (copies others : List (ℕ × Copy))
+    → AllZip (CopyMeans pages) kept copies → AllZip (CopyMeans pages) kept others → copies ≡ others
+copies-one pages [] [] [] m n = refl
+copies-one pages [] (x ∷ xs) others m n = absurd m
+copies-one pages [] [] (y ∷ ys) m n = absurd n
+copies-one pages (c ∷ kept) [] others m n = absurd m
+copies-one pages (c ∷ kept) (x ∷ xs) [] m n = absurd n
+copies-one pages (c ∷ kept) (x ∷ xs) (y ∷ ys) m n =
+    let first = copy-one pages c x y m.0 n.0 in
+    let rest = copies-one pages kept xs ys m.1 n.1 in
+    λ i. first i ∷ rest i
+
+pub means_one : MeansOneWorld
+means_one pages l w other m n =
+    let tree = current-one pages l.latest.root l.current w.tree other.tree m.tree n.tree in
     let dirty = m.dirty ∙ sym n.dirty in
-    let at : (k : ℕ) → copy_at w k ≡ copy_at other k =
-    λ k. let c = find nat_cmp k (map by_number (kept_in v)) in same_copy v.pages c (copy_at w k) (copy_at other k) (copy_of v w k c m refl) (copy_of v other k c n refl) (m.world.trees k) (n.world.trees k) in
-    let copies = same_entries nat_cmp nat_cmp_total nat_cmp-IsAntisymmetric w.copies other.copies (ascending v w m) (ascending v other n) at in
+    let copies = copies-one pages (kept_by l) w.copies other.copies m.copies n.copies in
     let mounts = m.mounts ∙ sym n.mounts in
     let given = m.given ∙ sym n.given in
     λ i. record { tree = tree i; dirty = dirty i; copies = copies i; mounts = mounts i; given = given i }

@@ -1,6 +1,6 @@
--- What a published checkpoint leaves: it is sound, and it stands for the world that the step leaves.
-use Rattle.std.proofs.Common.{◌≡◌, ℕ, ◌+◌, ◌<◌, true, false, List, [], ◌∷◌, ◌++◌, refl, ap, ◌∙◌, subst, arith}
-use Rattle.std.specs.Prelude.{All, IsTrue, Option, Some, None, Ok, Err, max, nat_le}
+-- The world that a written checkpoint leaves.
+use Rattle.std.proofs.Common.{◌≡◌, ℕ, ◌+◌, ◌<◌, true, false, List, [], ◌∷◌, ◌++◌, refl, ap, sym, ◌∙◌, subst, arith}
+use Rattle.std.specs.Prelude.{All, IsTrue, map, Option, Some, None, Ok, Err, max, nat_le}
 use Rattle.std.specs.List.{AllZip}
 use Rattle.std.specs.Option.{option_map_or}
 use Rattle.std.specs.Ordering.{nat_cmp, eq_by_cmp, is_lt}
@@ -8,33 +8,38 @@ use Rattle.std.specs.FinMap.{find, is_sorted}
 use Rattle.std.specs.FinMap.Entries.{below_all}
 use Rattle.std.proofs.lemmas.Bool.{and_parts, cond-true, cond-false, lt-leb}
 use Rattle.std.proofs.lemmas.Bool.Decides.{nat_tests}
-use Rattle.std.proofs.lemmas.List.Elements.{All-push, All-weaker}
+use Rattle.std.proofs.lemmas.List.Elements.{All-head, All-tail}
 use Rattle.nl_types.specs.declared.error.VolError.TheVariants.{NumbersSpent}
 use Rattle.nl_types.specs.declared.event.Mode.{Mode}
 use Rattle.nl_types.specs.declared.event.Event.TheVariants as event
 use Rattle.nl_types.specs.declared.reply.Answer.TheVariants as answer
-use Rattle.nl_types.specs.Entries.{Birth}
 use Rattle.nl_types.specs.Limits.{checkpoint_number_limit}
-use Rattle.nl_types.specs.PartialMaps.{Keeps}
 use Rattle.nl_types.specs.Roots.{Pages}
+use Rattle.nl_types.specs.Trees.{Tree}
 use Rattle.nl_types.specs.Worlds.{IsWorld, World, Reply, Copy, greatest, numbers, latest, latest_stamp, step}
-use Rattle.nl_core.specs.declared.file.File.{File}
+use Rattle.nl_layout.specs.Root.{root_of}
+use Rattle.nl_files.specs.Became.{Current, holding_over}
+use Rattle.nl_files.specs.Held.{Holding}
+use Rattle.nl_files.specs.Staying.{CheckpointStays}
+use Rattle.nl_files.specs.TreeLaws.{StandsOverLatest}
 use Rattle.nl_core.specs.declared.checkpoint.Checkpoint.{Checkpoint}
-use Rattle.nl_core.specs.Content.{TreeMeans, slot_at}
-use Rattle.nl_core.specs.Settled.{AreSettled}
-use Rattle.nl_core.specs.Volume.{Lists, Volume, IsSoundVolume, AreKept, kept_in, over, next_checkpoint, published}
-use Rattle.nl_core.specs.Means.{Means, CopyMeans}
-use Rattle.nl_core.proofs.Settling.{Stand, IsPlaced-kept, IsMarkedOver-kept, ShowSame, TreeMeans-same, IsTidy-same, AreKept-frame, CopyMeans-frame, count-settled, AreKept-settled, ShowSame-settled}
+use Rattle.nl_core.specs.Layout.{HasWritten, IsSoundPen, Layout, MeansWorld, ledger_of, pages_in}
+use Rattle.nl_core.specs.Means.{CopyMeans, CurrentMeans, Means, RootMeans}
+use Rattle.nl_core.specs.Volume.{Lists, kept_by, mount_of}
+use Rattle.nl_core.proofs.Checkpoints.{kept-next, kept-stay, latest-next, number-next, stands-behind}
+use Rattle.nl_core.proofs.Ledgers.{stands-latest}
 
 -- ---- the latest copy
 
 -- a number below those of all copies is below the last one's
-below-push : (n : ℕ) (front : List (ℕ × Copy)) (last : ℕ × Copy) → IsTrue (below_all nat_cmp n (front ++ last ∷ [])) → n < last.0
+below-push : (n : ℕ) (front : List (ℕ × Copy)) (last : ℕ × Copy)
+    → IsTrue (below_all nat_cmp n (front ++ last ∷ [])) → n < last.0
 below-push n [] last below = grind (arith, nat_tests)
 below-push n (copy ∷ front) last below = below-push n front last (and_parts (is_lt (nat_cmp n copy.0)) (below_all nat_cmp n (front ++ last ∷ [])) below).1
 
 -- where copies ascend, the last one has the greatest number
-greatest-push : (front : List (ℕ × Copy)) (last : ℕ × Copy) → IsTrue (is_sorted nat_cmp (front ++ last ∷ [])) → greatest (numbers (front ++ last ∷ [])) ≡ last.0
+greatest-push : (front : List (ℕ × Copy)) (last : ℕ × Copy) → IsTrue (is_sorted nat_cmp (front ++ last ∷ []))
+    → greatest (numbers (front ++ last ∷ [])) ≡ last.0
 greatest-push [] last sorted = omega arith
 greatest-push (copy ∷ front) last sorted =
     let parts = and_parts (below_all nat_cmp copy.0 (front ++ last ∷ [])) (is_sorted nat_cmp (front ++ last ∷ [])) sorted in
@@ -49,7 +54,8 @@ tied : (n : ℕ) → eq_by_cmp nat_cmp n n ≡ true
 tied n = grind (arith, nat_tests)
 
 -- and the last copy is found at its number
-find-push : (front : List (ℕ × Copy)) (last : ℕ × Copy) → IsTrue (is_sorted nat_cmp (front ++ last ∷ [])) → find nat_cmp last.0 (front ++ last ∷ []) ≡ Some last.1
+find-push : (front : List (ℕ × Copy)) (last : ℕ × Copy) → IsTrue (is_sorted nat_cmp (front ++ last ∷ []))
+    → find nat_cmp last.0 (front ++ last ∷ []) ≡ Some last.1
 find-push [] last sorted = cond-true (eq_by_cmp nat_cmp last.0 last.0) (Some last.1) None (tied last.0)
 find-push (copy ∷ front) last sorted =
     let parts = and_parts (below_all nat_cmp copy.0 (front ++ last ∷ [])) (is_sorted nat_cmp (front ++ last ∷ [])) sorted in
@@ -64,7 +70,8 @@ record EndsIn (pages : Pages) (c : Checkpoint) (copies : List (ℕ × Copy)) : T
   pub means : CopyMeans pages c last
 
 -- where copies stand for checkpoints, so does the last one
-ends-in : (pages : Pages) (kept : List Checkpoint) (c : Checkpoint) (copies : List (ℕ × Copy)) → AllZip (CopyMeans pages) (kept ++ c ∷ []) copies → EndsIn pages c copies
+ends-in : (pages : Pages) (kept : List Checkpoint) (c : Checkpoint) (copies : List (ℕ × Copy))
+    → AllZip (CopyMeans pages) (kept ++ c ∷ []) copies → EndsIn pages c copies
 ends-in pages [] c [] means = absurd means
 ends-in pages [] c (copy ∷ []) means = record { front = []; last = copy; is = refl; means = means.0 }
 ends-in pages [] c (copy ∷ more ∷ copies) means = absurd means.1
@@ -73,36 +80,85 @@ ends-in pages (k ∷ kept) c (copy ∷ copies) means =
     let rest = ends-in pages kept c copies means.1 in
     record { front = copy ∷ rest.front; last = rest.last; is = ap (λ more. copy ∷ more) rest.is; means = rest.means }
 
-module _ (v : Volume) (w : World) (means : Means v w) where
+module _ (pages : Pages) (l : Lists) (w : World) (means : Means pages l w) where
   -- how the copies end
-  ends : EndsIn v.pages v.latest w.copies
-  ends = ends-in v.pages v.earlier v.latest w.copies means.copies
+  ends : EndsIn pages l.latest w.copies
+  ends = ends-in pages l.earlier l.latest w.copies means.copies
 
   -- they ascend
   sorted : IsTrue (is_sorted nat_cmp (ends.front ++ ends.last ∷ []))
   sorted = subst (λ (copies : List (ℕ × Copy)). IsTrue (is_sorted nat_cmp copies)) ends.is means.world.numbers_rise
 
   -- the latest number of a world is the latest checkpoint's
-  pub latest-means : latest w ≡ v.latest.number
+  pub latest-means : latest w ≡ l.latest.number
   latest-means = ap (λ copies. greatest (numbers copies)) ends.is ∙ greatest-push ends.front ends.last sorted ∙ ends.means.number
 
   -- and so is the latest stamp
-  pub latest_stamp-means : latest_stamp w ≡ v.latest.stamp
+  pub latest_stamp-means : latest_stamp w ≡ l.latest.stamp
   latest_stamp-means =
       let stamp_of : Option Copy → ℕ = λ found. option_map_or (λ (copy : Copy). copy.stamp) found 0 in
       ap (λ copies. stamp_of (find nat_cmp (greatest (numbers copies)) copies)) ends.is
       ∙ ap (λ n. stamp_of (find nat_cmp n (ends.front ++ ends.last ∷ []))) (greatest-push ends.front ends.last sorted)
       ∙ ap stamp_of (find-push ends.front ends.last sorted) ∙ ends.means.stamp
 
+-- ---- copies
+
 -- one more checkpoint and its copy
-CopyMeans-push : (pages : Pages) (kept : List Checkpoint) (copies : List (ℕ × Copy)) (c : Checkpoint) (copy : ℕ × Copy) → AllZip (CopyMeans pages) kept copies → CopyMeans pages c copy
+copies-push : (pages : Pages) (kept : List Checkpoint) (copies : List (ℕ × Copy)) (c : Checkpoint) (copy : ℕ × Copy)
+    → AllZip (CopyMeans pages) kept copies → CopyMeans pages c copy
     → AllZip (CopyMeans pages) (kept ++ c ∷ []) (copies ++ copy ∷ [])
-CopyMeans-push pages [] [] c copy means here = (here, means)
-CopyMeans-push pages [] (d ∷ copies) c copy means here = absurd means
-CopyMeans-push pages (k ∷ kept) [] c copy means here = absurd means
-CopyMeans-push pages (k ∷ kept) (d ∷ copies) c copy means here = (means.0, CopyMeans-push pages kept copies c copy means.1 here)
+copies-push pages [] [] c copy means here = (here, means)
+copies-push pages [] (d ∷ copies) c copy means here = absurd means
+copies-push pages (k ∷ kept) [] c copy means here = absurd means
+copies-push pages (k ∷ kept) (d ∷ copies) c copy means here = (means.0, copies-push pages kept copies c copy means.1 here)
+
+-- a checkpoint that stays stands for its copy
+copy-stays : (pages more : Pages) (c : Checkpoint) (copy : ℕ × Copy)
+    → CheckpointStays pages more (root_of c.root) → CopyMeans pages c copy → CopyMeans more c copy
+copy-stays pages more c copy stays means = record {
+  number = means.number;
+  mode = means.mode;
+  stamp = means.stamp;
+  tree = record {
+    held = means.tree.held;
+    holds = record { stores = stays.stores means.tree.held means.tree.holds.stores; sound = means.tree.holds.sound };
+    means = means.tree.means;
+  };
+}
+
+-- and so do all
+copies-stay : (pages more : Pages) (kept : List Checkpoint) (copies : List (ℕ × Copy))
+    → All (λ (c : Checkpoint). CheckpointStays pages more (root_of c.root)) kept
+    → AllZip (CopyMeans pages) kept copies → AllZip (CopyMeans more) kept copies
+copies-stay pages more [] [] stay means = means
+copies-stay pages more [] (copy ∷ copies) stay means = absurd means
+copies-stay pages more (c ∷ kept) [] stay means = absurd means
+copies-stay pages more (c ∷ kept) (copy ∷ copies) stay means = (
+  copy-stays pages more c copy (All-head (λ (c : Checkpoint). CheckpointStays pages more (root_of c.root)) c kept stay) means.0,
+  copies-stay pages more kept copies (All-tail (λ (c : Checkpoint). CheckpointStays pages more (root_of c.root)) c kept stay) means.1,
+)
 
 -- ---- the next checkpoint
+
+-- a tree that stands over the latest checkpoint is meant
+pub current-means : (l : Layout) (base : Holding) (tree : Tree)
+    → StandsOverLatest (ledger_of l) (root_of l.lists.latest.root) l.lists.current base tree
+    → CurrentMeans (pages_in l) l.lists.latest.root l.lists.current tree
+current-means l base tree stands = record {
+  base = base;
+  holds = record { stores = stands.latest.stores; sound = stands.base_sound };
+  stands = stands.stands;
+}
+
+-- where nothing differs from the checkpoint, that stands for the tree too
+pub root-means : (l : Layout) (now : Current) (base : Holding) (tree : Tree)
+    → StandsOverLatest (ledger_of l) (root_of l.lists.latest.root) (record now { became = [] }) base tree
+    → RootMeans (pages_in l) l.lists.latest.root tree
+root-means l now base tree stands = record {
+  held = base;
+  holds = record { stores = stands.latest.stores; sound = stands.base_sound };
+  means = record { sound = stands.base_sound; means = stands.stands.stands.means };
+}
 
 -- the copy that it makes
 abbrev copy_behind : World → Mode → ℕ → Copy
@@ -112,57 +168,59 @@ copy_behind w mode moment = record { tree = w.tree; mode = mode; stamp = max mom
 abbrev world_behind : World → Mode → ℕ → World
 world_behind w mode moment = record w { dirty = false; copies = w.copies ++ (latest w + 1, copy_behind w mode moment) ∷ [] }
 
-module _ (l : Lists) (old new : Pages) (births : List Birth) (files : List File) (sound : IsSoundVolume (over old l)) (keeps : Keeps old new) (stand : Stand new births) (are : AreSettled births l.files files) where
-  -- the files are kept
-  kept_behind : AreKept new files
-  kept_behind = AreKept-settled old new births l.files files keeps stand sound.placed are
+module _ (old new : Layout) (mode : Mode) (moment : ℕ) (sound : IsSoundPen old) (writes : HasWritten mode moment old new)
+    (cleaned : Reply) (w : World) (means : MeansWorld old w) where
+  -- the world takes the step
+  stepped : step cleaned w (event.Checkpoint mode moment) ≡ (Ok (answer.Checkpoint new.lists.latest.number), world_behind w mode moment)
+  stepped =
+      let number : latest w ≡ old.lists.latest.number = latest-means (pages_in old) old.lists w means in
+      let next : latest w + 1 ≡ new.lists.latest.number = ap (λ n. n + 1) number ∙ sym (number-next old new mode moment writes) in
+      let left = writes.left in
+      subst (λ n. step cleaned w (event.Checkpoint mode moment) ≡ (Ok (answer.Checkpoint n), world_behind w mode moment)) next
+      (cond-false (nat_le checkpoint_number_limit (latest w + 1)) (Err NumbersSpent, w)
+      (Ok (answer.Checkpoint (latest w + 1)), world_behind w mode moment)
+      (lt-leb checkpoint_number_limit (latest w + 1) (omega (arith, number, left))))
 
-  -- they show the same
-  show_same : ShowSame old l.files new files
-  show_same = ShowSame-settled old new births l.files files keeps stand sound.placed are
+  abbrev held : Holding
+  held = holding_over old.lists.current.became means.tree.base
 
-  -- the earlier checkpoints are kept, and so is the one that was the latest
-  all_kept : All (λ (c : Checkpoint). AreKept old c.files) (kept_in (over old l))
-  all_kept = All-push (λ (c : Checkpoint). AreKept old c.files) l.earlier l.latest sound.earlier sound.latest
+  stands : StandsOverLatest (ledger_of new) (root_of new.lists.latest.root) new.lists.current held w.tree
+  stands = stands-behind old new mode moment sound means.tree.base w.tree (stands-latest old sound w.tree means.tree) writes
 
-  -- what is left is sound
-  pub sound-published : (mode : Mode) (moment : ℕ) → l.latest.number + 1 < checkpoint_number_limit → IsSoundVolume (over new (published (next_checkpoint mode moment files l) l))
-  sound-published mode moment left = record {
-    few = omega (arith, are.count, sound.few);
-    tidy = λ k. IsTidy-same old l.files new files k show_same (sound.tidy k);
-    placed = λ k i. IsPlaced-kept new (slot_at files k i) (kept_behind k i);
-    counts = λ k. omega (arith, count-settled births l.files files are k, sound.counts k);
-    earlier = All-weaker (λ (c : Checkpoint). AreKept old c.files) (λ (c : Checkpoint). AreKept new c.files) (λ c. AreKept-frame old new c.files keeps) (kept_in (over old l)) all_kept;
-    latest = kept_behind;
-    names = record { count = omega arith; names = λ k h. refl };
-    marked = λ k i. IsMarkedOver-kept new (slot_at files k i) (kept_behind k i);
-    last = left;
+  current : new.lists.current ≡ record old.lists.current { became = [] }
+  current = ap (λ (l : Lists). l.current) writes.lists
+
+  -- the new checkpoint stands for the copy
+  copied : CopyMeans (pages_in new) new.lists.latest (latest w + 1, copy_behind w mode moment)
+  copied = record {
+    number = ap (λ n. n + 1) (latest-means (pages_in old) old.lists w means) ∙ sym (number-next old new mode moment writes);
+    mode = sym (ap (λ (c : Checkpoint). c.mode) (latest-next old new mode moment writes));
+    stamp = ap (max moment) (latest_stamp-means (pages_in old) old.lists w means)
+        ∙ sym (ap (λ (c : Checkpoint). c.stamp) (latest-next old new mode moment writes));
+    tree = root-means new old.lists.current held w.tree
+        (subst (λ (now : Current). StandsOverLatest (ledger_of new) (root_of new.lists.latest.root) now held w.tree) current stands);
   }
 
-  module _ (cleaned : Reply) (w : World) (mode : Mode) (moment : ℕ) (left : l.latest.number + 1 < checkpoint_number_limit) (means : Means (over old l) w) where
-    -- the world takes the step
-    stepped : step cleaned w (event.Checkpoint mode moment) ≡ (Ok (answer.Checkpoint (l.latest.number + 1)), world_behind w mode moment)
-    stepped =
-        let number : latest w ≡ l.latest.number = latest-means (over old l) w means in
-        subst (λ n. step cleaned w (event.Checkpoint mode moment) ≡ (Ok (answer.Checkpoint (n + 1)), world_behind w mode moment)) number
-        (cond-false (nat_le checkpoint_number_limit (latest w + 1)) (Err NumbersSpent, w) (Ok (answer.Checkpoint (latest w + 1)), world_behind w mode moment)
-        (lt-leb checkpoint_number_limit (latest w + 1) (omega arith)))
+  copies_behind : AllZip (CopyMeans (pages_in new)) (kept_by new.lists) (world_behind w mode moment).copies
+  copies_behind =
+      subst (λ (kept : List Checkpoint). AllZip (CopyMeans (pages_in new)) kept (world_behind w mode moment).copies)
+      (sym (kept-next old new mode moment writes))
+      (copies-push (pages_in new) (kept_by old.lists) w.copies new.lists.latest (latest w + 1, copy_behind w mode moment)
+      (copies-stay (pages_in old) (pages_in new) (kept_by old.lists) w.copies (kept-stay old new mode moment writes sound) means.copies)
+      copied)
 
-    -- what is left stands for the world behind the step
-    means_behind : IsWorld (world_behind w mode moment) → Means (over new (published (next_checkpoint mode moment files l) l)) (world_behind w mode moment)
-    means_behind world =
-        let tree : TreeMeans new files w.tree = TreeMeans-same old l.files new files w.tree show_same means.tree in
-        record {
-          world = world;
-          tree = tree;
-          dirty = refl;
-          copies = CopyMeans-push new (kept_in (over old l)) w.copies (next_checkpoint mode moment files l) (latest w + 1, copy_behind w mode moment)
-              (CopyMeans-frame old new (kept_in (over old l)) w.copies keeps all_kept means.copies)
-              (record { number = ap (λ n. n + 1) (latest-means (over old l) w means); mode = refl; stamp = ap (max moment) (latest_stamp-means (over old l) w means); tree = tree });
-          mounts = means.mounts;
-          given = means.given;
-        }
+  -- what is left stands for the world behind the step
+  means_behind : IsWorld (world_behind w mode moment) → MeansWorld new (world_behind w mode moment)
+  means_behind world = record {
+    world = world;
+    tree = current-means new held w.tree stands;
+    dirty = sym (ap (λ (l : Lists). l.dirty) writes.lists);
+    copies = copies_behind;
+    mounts = means.mounts ∙ sym (ap (λ (l : Lists). map mount_of l.mounts) writes.lists);
+    given = means.given ∙ sym (ap (λ (l : Lists). l.given) writes.lists);
+  }
 
-    -- the world that the step leaves
-    pub means-published : (after : World) × (IsWorld after → Means (over new (published (next_checkpoint mode moment files l) l)) after) × (step cleaned w (event.Checkpoint mode moment) ≡ (Ok (answer.Checkpoint (l.latest.number + 1)), after))
-    means-published = (world_behind w mode moment, means_behind, stepped)
+  -- the world that the step leaves
+  pub means-published : (after : World) × (IsWorld after → MeansWorld new after)
+      × (step cleaned w (event.Checkpoint mode moment) ≡ (Ok (answer.Checkpoint new.lists.latest.number), after))
+  means-published = (world_behind w mode moment, means_behind, stepped)

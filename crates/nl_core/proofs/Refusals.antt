@@ -1,20 +1,24 @@
 -- What a refused event leaves, and when space is the reason.
-use Rattle.std.proofs.Common.{◌≡◌, ◌≢◌, refl, subst, inl, inr, sym}
-use Rattle.std.specs.Prelude.{true, ◌++◌, ◌∷◌, Ok, Err, IfErr}
+use Rattle.std.proofs.Common.{◌≡◌, ◌≢◌, ℕ, refl, subst, inl, inr, sym, ◌∙◌}
+use Rattle.std.specs.Prelude.{true, length, List, ◌++◌, ◌∷◌, Ok, Err, IfErr}
 use Rattle.nl_types.specs.declared.error.VolError.{VolError}
 use Rattle.nl_types.specs.declared.error.VolError.TheVariants as error
 use Rattle.nl_types.specs.declared.event.Event.{Event}
 use Rattle.nl_types.specs.declared.event.Event.TheVariants.{Apply, Read, Checkpoint, Mount, MountRead}
+use Rattle.nl_types.specs.declared.segment.Log.{Log}
 use Rattle.nl_types.specs.Laws.{IsJudged}
 use Rattle.nl_types.specs.Placing.{LogsFit}
 use Rattle.nl_types.specs.Worlds.{Outcome}
 use Rattle.nl_types.proofs.WorldJudgements.{steps_judge}
+use Rattle.nl_dat.specs.Batches.{items_of}
+use Rattle.nl_layout.specs.declared.root.Root.{Root}
 use Rattle.nl_core.specs.Laws.{RefusalsKeepPens, RefusalsHaveReasons, NoSpaceIsTrue, NoSpaceIsSaid}
-use Rattle.nl_core.specs.Layout.{AllowedBetween, Layout, HasRefused, cleaned}
-use Rattle.nl_core.proofs.Checkpointing.{count-items}
+use Rattle.nl_core.specs.Layout.{AllowedBetween, HasRefused, IsPen, LacksSpaceToSettle, Layout, Settled, cleaned}
+use Rattle.nl_core.proofs.Settlings.{births-alike, count-items}
 
 -- what is refused but for a fault is as it was
-refused_same : (event : Event) (e : VolError) (old new : Layout) → HasRefused event e old new → (e ≢ error.Fault) → new ≡ old
+refused_same : (event : Event) (e : VolError) (old new : Layout) → HasRefused event e old new
+    → (e ≢ error.Fault) → new ≡ old
 refused_same (Checkpoint mode moment) error.Fault old new refused other = absurd (other refl)
 refused_same (Checkpoint mode moment) _ old new refused other = refused.0
 refused_same (Apply change) e old new refused other = refused
@@ -30,7 +34,8 @@ pub refusals_have_reasons : (allowed : AllowedBetween) → RefusalsHaveReasons a
 refusals_have_reasons allowed old new event e held does =
     let next = does.follows held.world.0 held.world.1 in
     elim next.step [
-      | inl is ↦ inl (subst (λ (done : Outcome). IfErr done.0 IsJudged) is (steps_judge (cleaned old event) held.world.0 event tt))
+      | inl is ↦
+          inl (subst (λ (done : Outcome). IfErr done.0 IsJudged) is (steps_judge (cleaned old event) held.world.0 event tt))
       | inr refused ↦ let same : e ≡ refused.error = cc in inr (subst (allowed old new event) (sym same) refused.may_be)
     ]
 
@@ -38,17 +43,22 @@ refusals_have_reasons allowed old new event e held does =
 pub no_space_is_true : (allowed : AllowedBetween) → NoSpaceIsTrue allowed
 no_space_is_true allowed old new mode moment does = does.touches.1.1
 
+-- no list of logs fits a settling where none fits another
+none-fits : (l : Layout) (root : Root) (lacks : LacksSpaceToSettle l) (settled : Settled l root) (logs : List Log)
+    → IsPen l → LogsFit l.store.segments true (length (items_of settled.changes.births)) logs → ⊥
+none-fits l root lacks settled logs held fits =
+    lacks.lacks logs (subst (λ (n : ℕ). LogsFit l.store.segments true n logs)
+    (count-items settled.changes ∙ births-alike l held.sound root lacks.root settled lacks.settled) fits)
+
 -- what is done, or ended by a fault, had a list of logs that fits
 pub no_space_is_said : (allowed : AllowedBetween) → NoSpaceIsSaid allowed
-no_space_is_said allowed old new mode moment (Ok answer) lacks does =
-    let published = does.touches in
-    let appended = published.written.appended in
-    let count = count-items _ old.lists.latest.files old.lists.files published.changes published.writes in
-    absurd (lacks appended.logs (subst (λ n. LogsFit old.store.segments true n appended.logs) count appended.fits))
-no_space_is_said allowed old new mode moment (Err error.Fault) lacks does =
+no_space_is_said allowed old new mode moment (Ok answer) held lacks does =
+    let writes = does.touches.writes in
+    let appended = writes.written.appended in
+    absurd (none-fits old new.lists.latest.root lacks writes.settled appended.logs held appended.fits)
+no_space_is_said allowed old new mode moment (Err error.Fault) held lacks does =
     let faulted = does.touches in
     let broken = faulted.store.broken_off in
     let logs = broken.written ++ broken.failed ∷ broken.left in
-    let count = count-items _ old.lists.latest.files old.lists.files faulted.changes faulted.writes in
-    absurd (lacks logs (subst (λ n. LogsFit old.store.segments true n logs) count broken.fits))
-no_space_is_said allowed old new mode moment (Err e) lacks does = (e, refl, λ same. cc)
+    absurd (none-fits old faulted.root lacks faulted.settled logs held broken.fits)
+no_space_is_said allowed old new mode moment (Err e) held lacks does = (e, refl, λ same. cc)

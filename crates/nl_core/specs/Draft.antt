@@ -3,10 +3,16 @@ use Rattle.std.specs.Prelude.{◌≡◌, ℕ, ◌+◌, ◌<◌, ◌≤◌}
 use Rattle.nl_types.specs.declared.error.VolError.{VolError}
 use Rattle.nl_types.specs.declared.error.VolError.TheVariants.{Memory, NumbersSpent}
 use Rattle.nl_types.specs.declared.event.Mode.{Mode}
+use Rattle.nl_types.specs.Entries.{Content}
 use Rattle.nl_types.specs.Limits.{checkpoint_number_limit}
-use Rattle.nl_dat.specs.Batches.{Fits}
-use Rattle.nl_dat.specs.Stores.{Store, capacity, content_in}
-use Rattle.nl_core.specs.Settled.{WritesChanged, AreSettled}
+use Rattle.nl_layout.specs.Root.{root_of}
+use Rattle.nl_layout.specs.declared.root.Root.{Root}
+use Rattle.nl_dat.specs.Batches.{Changes}
+use Rattle.nl_dat.specs.Stores.{Store, content_in}
+use Rattle.nl_blocktree.specs.Numbering.{CanTake}
+use Rattle.nl_files.specs.Became.{IsCurrent}
+use Rattle.nl_files.specs.Held.{Holding, IsCheckpointRoot}
+use Rattle.nl_files.specs.Settles.{Settles}
 use Rattle.nl_core.specs.Volume.{Lists, next_checkpoint}
 use Rattle.nl_core.specs.declared.draft.Draft.{Draft}
 
@@ -14,13 +20,27 @@ use Rattle.nl_core.specs.declared.draft.Draft.{Draft}
 abbrev pub HasNextNumber : Lists → Type 0
 HasNextNumber l = l.latest.number + 1 < checkpoint_number_limit
 
+-- the current tree is one over the latest checkpoint, and holds this
+abbrev pub HoldsNow : Content → Lists → Holding → Holding → Type 0
+HoldsNow content l base held = IsCurrent content (root_of l.latest.root) l.current.became base held
+
+-- the latest checkpoint can be settled over
+abbrev pub CanBeDrafted : Content → Lists → Type 0
+CanBeDrafted content l =
+    IsCheckpointRoot content (root_of l.latest.root) × (base : Holding) × (held : Holding) × HoldsNow content l base held
+
+-- the batch takes what the current tree holds to a checkpoint of this root
+abbrev pub SettlesNow : Content → Lists → Root → Holding → Changes → Type 0
+SettlesNow content l root held batch =
+    Settles content (root_of l.latest.root) (root_of root) l.current.became held batch
+
 -- The draft of the lists' next checkpoint, for which there is a number. The store can be given its batch.
 pub record IsNextDraft (store : Store) (mode : Mode) (moment : ℕ) (l : Lists) (draft : Draft) : Type 0 where
   pub left : HasNextNumber l
-  pub checkpoint : draft.checkpoint ≡ next_checkpoint mode moment draft.files l
-  pub writes : WritesChanged (content_in store) l.latest.files l.files draft.batch
-  pub settled : AreSettled draft.batch.births l.files draft.files
-  pub fits : Fits (capacity store) (content_in store) draft.batch
+  pub checkpoint : draft.checkpoint ≡ next_checkpoint mode moment draft.checkpoint.root l
+  pub settles : (base held : Holding) → HoldsNow (content_in store) l base held
+      → SettlesNow (content_in store) l draft.checkpoint.root held draft.batch
+  pub fits : CanTake store draft.batch
 
 -- Why no draft is made: numbers are judged first. Space is no reason, as a batch may hold numbers above those that there are.
 abbrev pub IsDraftRefusal : Lists → VolError → Type 0

@@ -6,7 +6,7 @@ use Rattle.nl_core.specs.declared.tables.Tables.TheInside.{Inside}
 
 abbrev pub lists_of : Inside → Lists
 lists_of t = record {
-  files = t.files.items;
+  current = t.current;
   dirty = t.dirty;
   earlier = t.earlier.items;
   latest = t.latest;

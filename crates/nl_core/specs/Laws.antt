@@ -1,26 +1,28 @@
 -- What the pen's definitions mean.
-use Rattle.std.specs.Prelude.{◌≡◌, ◌≢◌, ◌⊎◌, ℕ, List, Err}
+use Rattle.std.specs.Prelude.{◌≡◌, ◌≢◌, ◌⊎◌, ℕ, List, Err, length}
 use Rattle.nl_types.specs.declared.error.VolError.{VolError}
 use Rattle.nl_types.specs.declared.error.VolError.TheVariants.{NoSpace, Fault}
 use Rattle.nl_types.specs.declared.event.Event.{Event}
 use Rattle.nl_types.specs.declared.event.Event.TheVariants.{Checkpoint}
 use Rattle.nl_types.specs.declared.event.Mode.{Mode}
 use Rattle.nl_types.specs.Laws.{IsJudged}
+use Rattle.nl_types.specs.Roots.{Pages}
 use Rattle.nl_types.specs.Worlds.{World, Reply}
 use Rattle.nl_types.specs.Runs.{Run}
-use Rattle.nl_core.specs.Volume.{Volume}
+use Rattle.nl_core.specs.Volume.{Lists}
+use Rattle.nl_layout.specs.declared.root.Root.{Root}
 use Rattle.nl_core.specs.Means.{Means}
-use Rattle.nl_core.specs.Layout.{AllowedBetween, IsPen, Layout, Does, DoesIn, Runs, LacksSpaceFor, volume_of}
+use Rattle.nl_core.specs.Layout.{AllowedBetween, IsPen, Layout, Does, DoesIn, LacksSpaceFor, MeansWorld, Runs, Settled}
 
 -- what a pen holds means one world at most
 abbrev pub MeansOneWorld : Type 0
-MeansOneWorld = (v : Volume) (w other : World) → Means v w → Means v other → w ≡ other
+MeansOneWorld = (pages : Pages) (l : Lists) (w other : World) → Means pages l w → Means pages l other → w ≡ other
 
 -- what an event does to a pen, it does beside each world that the pen means
 abbrev pub EventsLeadOn : AllowedBetween → Type 0
 EventsLeadOn allowed =
     (old new : Layout) (event : Event) (reply : Reply) (w : World)
-    → Does allowed old event reply new → Means (volume_of old) w
+    → Does allowed old event reply new → MeansWorld old w
     → (after : World) × DoesIn allowed (old, w) event reply (new, after)
 
 -- and so does a list of events
@@ -51,5 +53,11 @@ NoSpaceIsTrue allowed =
 abbrev pub NoSpaceIsSaid : AllowedBetween → Type 0
 NoSpaceIsSaid allowed =
     (old new : Layout) (mode : Mode) (moment : ℕ) (reply : Reply)
-    → LacksSpaceFor old (Checkpoint mode moment) → Does allowed old (Checkpoint mode moment) reply new
+    → IsPen old → LacksSpaceFor old (Checkpoint mode moment) → Does allowed old (Checkpoint mode moment) reply new
     → (e : VolError) × (reply ≡ Err e) × (e ≢ Fault)
+
+-- whatever takes the current tree to a checkpoint writes as many blocks, and gives one root: so space is judged by what the
+-- pen holds
+abbrev pub SettlingsAreAlike : Type 0
+SettlingsAreAlike = (l : Layout) (root other : Root) → IsPen l → (one : Settled l root) → (two : Settled l other)
+    → (other ≡ root) × (length two.changes.births ≡ length one.changes.births)

@@ -1,5 +1,5 @@
 -- What a pen holds, its store and device included, and what an event does to it.
-use Rattle.std.specs.Prelude.{◌≡◌, ℕ, ◌+◌, ◌<◌, ◌≤◌, List, [], ◌∷◌, true, max, map, Some, Ok, MatchResult}
+use Rattle.std.specs.Prelude.{◌≡◌, ℕ, ◌+◌, ◌<◌, ◌≤◌, List, [], ◌∷◌, true, length, max, map, All, Some, Ok, MatchResult}
 use Rattle.std.specs.Option.{option_map}
 use Rattle.std.specs.Ordering.{nat_cmp}
 use Rattle.std.specs.FinMap.{find}
@@ -13,18 +13,23 @@ use Rattle.nl_types.specs.declared.reply.Answer.TheVariants.{Done}
 use Rattle.nl_types.specs.Lifetimes.{Numbers, Ledger, IsLedger, KeepsCovered, EndsOnce, Write, Remove, ledger_after_all, blank}
 use Rattle.nl_types.specs.Limits.{checkpoint_number_limit}
 use Rattle.nl_types.specs.Placing.{LacksSpace}
-use Rattle.nl_types.specs.Roots.{pages_of}
+use Rattle.nl_types.specs.Roots.{Pages, pages_of}
 use Rattle.nl_types.specs.Worlds.{World, Reply}
 use Rattle.nl_types.specs.Runs.{AllowedRefusals, Step, Run, alone}
+use Rattle.nl_layout.specs.Root.{root_of}
+use Rattle.nl_layout.specs.declared.root.Root.{Root}
 use Rattle.nl_segwriter.specs.Content.{new_content}
 use Rattle.nl_device.specs.Pages.{DevicePages}
 use Rattle.nl_dat.specs.Batches.{Changes, items_of}
 use Rattle.nl_dat.specs.Stores.{Store, IsStore, IsWritten, IsFaulted, content_in, new_store}
+use Rattle.nl_blocktree.specs.Checkpoints.{WritesWhatDiffers, numbers_of}
+use Rattle.nl_blocktree.specs.Numbering.{CanTake}
+use Rattle.nl_files.specs.Held.{Holding, IsTreeSound, roots_at}
 use Rattle.nl_core.specs.Changes.{HasChanged}
-use Rattle.nl_core.specs.Draft.{HasNextNumber}
-use Rattle.nl_core.specs.Settled.{numbers_of, WritesChanged, AreSettled}
-use Rattle.nl_core.specs.Volume.{Lists, Volume, IsSoundVolume, kept_by, over, changed_count, published, next_checkpoint, with_mount}
-use Rattle.nl_core.specs.Means.{Means, Follows, by_number}
+use Rattle.nl_core.specs.Draft.{HasNextNumber, HoldsNow, SettlesNow}
+use Rattle.nl_core.specs.Means.{LeadsOn, Means}
+use Rattle.nl_core.specs.Tables.{blank_lists}
+use Rattle.nl_core.specs.Volume.{Lists, by_number, kept_by, next_checkpoint, published, with_change, with_mount}
 use Rattle.nl_core.specs.declared.checkpoint.Checkpoint.{Checkpoint as Kept}
 
 pub record Layout : Type 0 where
@@ -34,37 +39,40 @@ pub record Layout : Type 0 where
 abbrev pub layout_of : Lists → Store → Layout
 layout_of lists store = record { lists = lists; store = store }
 
--- the lists, with the store's pages
-abbrev pub volume_of : Layout → Volume
-volume_of l = over (pages_of (content_in l.store)) l.lists
+-- the pages under the virtual block numbers
+abbrev pub pages_in : Layout → Pages
+pages_in l = pages_of (content_in l.store)
 
--- the numbers that a checkpoint reaches
-abbrev pub reached_by : Kept → Numbers
-reached_by c = numbers_of c.files
+-- the layout means the world
+abbrev pub MeansWorld : Layout → World → Type 0
+MeansWorld l w = Means (pages_in l) l.lists w
+
+-- the number at each place of a checkpoint: of its file of inodes, its directories and its files, nodes and data
+abbrev pub reached_by : Pages → Kept → Numbers
+reached_by pages c = numbers_of pages (roots_at pages (root_of c.root))
 
 -- which numbers are in use, and which of them each kept checkpoint reaches
 abbrev pub ledger_of : Layout → Ledger
 ledger_of l = record {
   content = content_in l.store;
   latest = l.lists.latest.number;
-  kept = λ c. option_map reached_by (find nat_cmp c (map by_number (kept_by l.lists)));
+  kept = λ c. option_map (reached_by (pages_in l)) (find nat_cmp c (map by_number (kept_by l.lists)));
 }
 
--- What is true of every pen. It means a world. The ledger: what each kept checkpoint reaches is exactly the numbers in use that cover it, each at its one place. The store: each number in use has a block of its own, and the device holds its page there.
-pub record IsPen (l : Layout) : Type 0 where
-  pub world : (w : World) × Means (volume_of l) w
-  pub sound : IsSoundVolume (volume_of l)
+-- What is true of a pen, but that it means a world. The ledger: what each kept checkpoint reaches is exactly the numbers in
+-- use that cover it, each at its one place. The checkpoints' trees are sound, and the latest one is found under its number.
+-- The store: each number in use has a block of its own, and the device holds its page there.
+pub record IsSoundPen (l : Layout) : Type 0 where
   pub ledger : IsLedger (ledger_of l)
+  pub kept : All (λ c. IsTreeSound (pages_in l) (root_of c.root)) (kept_by l.lists)
   pub latest : find nat_cmp l.lists.latest.number (map by_number (kept_by l.lists)) ≡ Some l.lists.latest
+  pub last : l.lists.latest.number < checkpoint_number_limit
   pub store : IsStore l.store
 
--- no number is in use, and all segments are clean
-pub record IsFresh (geometry : Geometry) (pages : DevicePages) (failures : ℕ) (l : Layout) : Type 0 where
-  pub store : l.store ≡ new_store (new_content geometry pages) failures
-
--- from the blank ledger a checkpoint was written, which has no block yet, and then the blank one went
-abbrev pub IsFormatted : Layout → Type 0
-IsFormatted l = ledger_of l ≡ ledger_after_all (Write [] [] ∷ Remove 0 ∷ []) blank
+-- and what is true of every pen: it means a world too
+pub record IsPen (l : Layout) : Type 0 where
+  pub world : (w : World) × MeansWorld l w
+  pub sound : IsSoundPen l
 
 -- ---- what an event does to the numbers
 
@@ -75,40 +83,62 @@ pub record KeepsNumbers (old new : Layout) : Type 0 where
 
 -- ---- what a done event does to the lists and the blocks
 
--- each changed block was written under a number of its own, and the files and the new checkpoint name it there
-pub record HasPublished (mode : Mode) (moment : ℕ) (old new : Layout) : Type 0 where
+-- a batch takes the current tree to a checkpoint of this root, over the latest one
+pub record Settled (l : Layout) (root : Root) : Type 0 where
+  pub base : Holding
+  pub held : Holding
+  pub current : HoldsNow (content_in l.store) l.lists base held
   pub changes : Changes
-  pub writes : WritesChanged (content_in old.store) old.lists.latest.files old.lists.files changes
-  pub settled : AreSettled changes.births old.lists.files new.lists.files
-  pub lists : new.lists ≡ published (next_checkpoint mode moment new.lists.files old.lists) old.lists
-  pub written : IsWritten new.lists.latest.number new.lists.latest.stamp changes old.store new.store
+  pub settles : SettlesNow (content_in l.store) l.lists root held changes
+  pub fits : CanTake l.store changes
 
--- no block was written, and kept checkpoints name theirs as before
-pub record WritesNothing (old new : Layout) : Type 0 where
-  pub store : new.store ≡ old.store
-  pub kept : kept_by new.lists ≡ kept_by old.lists
+-- what differs between two checkpoints is written: the births stand at exactly the places that differ, in the order of the
+-- payload, the file of inodes last; every other place keeps its number, and what has no place any more ends
+abbrev pub WritesBetween : Layout → Layout → Changes → Type 0
+WritesBetween old new changes = WritesWhatDiffers (pages_in old) (pages_in new)
+    (roots_at (pages_in old) (root_of old.lists.latest.root)) (roots_at (pages_in new) (root_of new.lists.latest.root))
+    6 changes.births changes.ends
+
+-- the current tree was settled and its batch written, as the next checkpoint
+pub record HasWritten (mode : Mode) (moment : ℕ) (old new : Layout) : Type 0 where
+  pub left : HasNextNumber old.lists
+  pub settled : Settled old new.lists.latest.root
+  pub lists : new.lists ≡ published (next_checkpoint mode moment new.lists.latest.root old.lists) old.lists
+  pub written : IsWritten new.lists.latest.number new.lists.latest.stamp settled.changes old.store new.store
+
+-- what differs from the latest checkpoint is written, and nothing else
+pub record HasPublished (mode : Mode) (moment : ℕ) (old new : Layout) : Type 0 where
+  pub writes : HasWritten mode moment old new
+  pub differs : WritesBetween old new writes.settled.changes
 
 abbrev pub HasDone : Layout → Event → Layout → Type 0
 HasDone old (Checkpoint mode moment) new = HasPublished mode moment old new
 HasDone old (Apply change) new =
-    WritesNothing old new × HasChanged change old.lists.files new.lists.files
+    (new ≡ layout_of (with_change change new.lists.current old.lists) old.store)
+    × HasChanged (pages_in old) change old.lists new.lists
 HasDone old (Mount n) new = new ≡ layout_of (with_mount n old.lists) old.store
 HasDone old event new = new ≡ old
 
 -- ---- and a refused one
 
--- the device failed before all logs with the changed blocks were written, and no number has changed
+-- the device failed before all logs with what differs were written, and no number has changed
 pub record HasFaulted (moment : ℕ) (old new : Layout) : Type 0 where
   pub lists : new.lists ≡ old.lists
-  pub changes : Changes
-  pub writes : WritesChanged (content_in old.store) old.lists.latest.files old.lists.files changes
-  pub store : IsFaulted true (old.lists.latest.number + 1) moment (items_of changes.births) old.store new.store
+  pub root : Root
+  pub settled : Settled old root
+  pub store : IsFaulted true (old.lists.latest.number + 1) moment (items_of settled.changes.births) old.store new.store
+
+-- no list of logs fits what differs from the latest checkpoint
+pub record LacksSpaceToSettle (l : Layout) : Type 0 where
+  pub root : Root
+  pub settled : Settled l root
+  pub lacks : LacksSpace l.store.segments true (length settled.changes.births)
 
 -- why a checkpoint is refused before anything is written: numbers are judged first, then memory, then space
 abbrev pub IsCheckpointRefusal : Layout → VolError → Type 0
 IsCheckpointRefusal l NumbersSpent = checkpoint_number_limit ≤ l.lists.latest.number + 1
 IsCheckpointRefusal l Memory = HasNextNumber l.lists
-IsCheckpointRefusal l NoSpace = HasNextNumber l.lists × LacksSpace l.store.segments true (changed_count l.lists)
+IsCheckpointRefusal l NoSpace = HasNextNumber l.lists × LacksSpaceToSettle l
 IsCheckpointRefusal l e = ⊥
 
 abbrev pub HasRefused : Event → VolError → Layout → Layout → Type 0
@@ -121,11 +151,24 @@ abbrev pub Touches : Layout → Event → Reply → Layout → Type 0
 Touches old event reply new =
     MatchResult reply (λ _. HasDone old event new) (λ e. HasRefused event e old new)
 
+-- ---- a new volume
+
+-- before there is a checkpoint: no number is in use, and all segments are clean
+abbrev pub blank_layout : Geometry → DevicePages → ℕ → Layout
+blank_layout geometry pages failures = layout_of blank_lists (new_store (new_content geometry pages) failures)
+
+-- from there the first checkpoint was written, of the root alone, and then the blank one went
+pub record IsFormatted (geometry : Geometry) (pages : DevicePages) (failures now : ℕ) (l : Layout) : Type 0 where
+  pub settled : Settled (blank_layout geometry pages failures) l.lists.latest.root
+  pub written : IsWritten 1 now settled.changes (blank_layout geometry pages failures).store l.store
+  pub ledger : ledger_of l
+      ≡ ledger_after_all (Write settled.changes.births settled.changes.ends ∷ Remove 0 ∷ []) blank
+
 -- ---- refusals in the place of an event
 
 -- no list of logs fits what the event writes
 abbrev pub LacksSpaceFor : Layout → Event → Type 0
-LacksSpaceFor l (Checkpoint mode moment) = LacksSpace l.store.segments true (changed_count l.lists)
+LacksSpaceFor l (Checkpoint mode moment) = LacksSpaceToSettle l
 LacksSpaceFor l event = ⊥
 
 -- the device failed during the event, though there was space
@@ -146,26 +189,35 @@ cleaned l event = Ok Done
 
 -- ---- the whole
 
--- What an event does to a pen. In each world that the pen means, the event is done whole as the definitions say, or it is refused by what is allowed in its place (`follows`). The lists and the blocks become what is due (`touches`). Numbers keep what they stand for (`numbers`), and what is true of every pen still is (`pen`).
+-- from each world that the old layout means, the event leads on to one that the new layout means
+abbrev pub Follows : AllowedBetween → Layout → Event → Reply → Layout → Type 0
+Follows allowed old event reply new = (w : World) → MeansWorld old w
+    → LeadsOn (allowed old new) (cleaned old event) w event reply (pages_in new) new.lists
+
+-- What an event does to a pen. In each world that the pen means, the event is done whole as the definitions say, or it is
+-- refused by what is allowed in its place (`follows`). The lists and the blocks become what is due (`touches`). Numbers keep
+-- what they stand for (`numbers`), and what is true of every pen still is (`pen`).
 pub record Does (allowed : AllowedBetween) (old : Layout) (event : Event) (reply : Reply) (new : Layout) : Type 0 where
-  pub follows : Follows (allowed old new) (cleaned old event) (volume_of old) event reply (volume_of new)
+  pub follows : Follows allowed old event reply new
   pub touches : Touches old event reply new
   pub numbers : KeepsNumbers old new
   pub pen : IsPen new
 
 -- the same beside one world that the pen means
-pub record DoesIn (allowed : AllowedBetween) (old : Layout × World) (event : Event) (reply : Reply) (new : Layout × World) : Type 0 where
+pub record DoesIn (allowed : AllowedBetween) (old : Layout × World) (event : Event) (reply : Reply)
+    (new : Layout × World) : Type 0 where
   pub does : Does allowed old.0 event reply new.0
-  pub means : Means (volume_of new.0) new.1
+  pub means : MeansWorld new.0 new.1
   pub step : Step (allowed old.0 new.0) (cleaned old.0 event) old.1 event reply new.1
 
 -- from a world, a list of events leads to one that the new pen means
-pub record RunsFrom (allowed : AllowedBetween) (w : World) (old : Layout) (events : List Event) (replies : List Reply) (new : Layout) : Type 0 where
+pub record RunsFrom (allowed : AllowedBetween) (w : World) (old : Layout) (events : List Event) (replies : List Reply)
+    (new : Layout) : Type 0 where
   pub after : World
-  pub means : Means (volume_of new) after
+  pub means : MeansWorld new after
   pub run : Run (DoesIn allowed) (old, w) events replies (new, after)
 
 -- so from whatever world the old pen means
 abbrev pub Runs : (allowed : AllowedBetween) → Layout → List Event → List Reply → Layout → Type 0
 Runs allowed old events replies new =
-    (w : World) → Means (volume_of old) w → RunsFrom allowed w old events replies new
+    (w : World) → MeansWorld old w → RunsFrom allowed w old events replies new

@@ -1,13 +1,7 @@
-pub mod Changes
-pub mod Content
-pub mod Over
-pub mod Named
-pub mod Place
-pub mod Settled
 pub mod Volume
 pub mod Means
 pub mod Draft
-pub mod Gains
+pub mod Changes
 pub mod Tables
 pub mod Inside
 pub mod Layout

@@ -2,49 +2,56 @@
 use Rattle.std.specs.Prelude.{◌≡◌, ℕ, map}
 use Rattle.std.specs.List.{AllZip}
 use Rattle.nl_types.specs.declared.event.Event.{Event}
+use Rattle.nl_types.specs.Trees.{Tree}
 use Rattle.nl_types.specs.Worlds.{World, Copy, IsWorld, Reply}
 use Rattle.nl_types.specs.Runs.{AllowedRefusals, Step, memory_alone}
 use Rattle.nl_types.specs.Roots.{Pages}
-use Rattle.nl_core.specs.Content.{TreeMeans}
-use Rattle.nl_core.specs.Volume.{Volume, kept_in}
+use Rattle.nl_layout.specs.Root.{root_of}
+use Rattle.nl_layout.specs.declared.root.Root.{Root}
+use Rattle.nl_files.specs.Became.{Current}
+use Rattle.nl_files.specs.CheckpointTrees.{HoldsTree}
+use Rattle.nl_files.specs.CurrentTrees.{StandsOver}
+use Rattle.nl_files.specs.Held.{Holding}
+use Rattle.nl_files.specs.Reading.{HoldingMeans}
+use Rattle.nl_core.specs.Volume.{Lists, kept_by, mount_of}
 use Rattle.nl_core.specs.declared.checkpoint.Checkpoint.{Checkpoint}
-use Rattle.nl_core.specs.declared.checkpoint.Mounted.{Mounted}
+
+-- the root of a checkpoint stands for the tree
+pub record RootMeans (pages : Pages) (root : Root) (tree : Tree) : Type 0 where
+  pub held : Holding
+  pub holds : HoldsTree pages (root_of root) held
+  pub means : HoldingMeans held tree
+
+-- the current tree over the checkpoint of a root stands for the tree
+pub record CurrentMeans (pages : Pages) (root : Root) (current : Current) (tree : Tree) : Type 0 where
+  pub base : Holding
+  pub holds : HoldsTree pages (root_of root) base
+  pub stands : StandsOver current base tree
 
 pub record CopyMeans (pages : Pages) (c : Checkpoint) (copy : ℕ × Copy) : Type 0 where
   pub number : copy.0 ≡ c.number
   pub mode : copy.1.mode ≡ c.mode
   pub stamp : copy.1.stamp ≡ c.stamp
-  pub tree : TreeMeans pages c.files copy.1.tree
+  pub tree : RootMeans pages c.root copy.1.tree
 
-abbrev pub mount_of : Mounted → ℕ × ℕ
-mount_of m = (m.number, m.checkpoint)
-
--- a checkpoint under its number
-abbrev pub by_number : Checkpoint → ℕ × Checkpoint
-by_number c = (c.number, c)
-
-pub record Means (v : Volume) (w : World) : Type 0 where
+pub record Means (pages : Pages) (l : Lists) (w : World) : Type 0 where
   pub world : IsWorld w
-  pub tree : TreeMeans v.pages v.files w.tree
-  pub dirty : w.dirty ≡ v.dirty
-  pub copies : AllZip (CopyMeans v.pages) (kept_in v) w.copies
-  pub mounts : w.mounts ≡ map mount_of v.mounts
-  pub given : w.given ≡ v.given
+  pub tree : CurrentMeans pages l.latest.root l.current w.tree
+  pub dirty : w.dirty ≡ l.dirty
+  pub copies : AllZip (CopyMeans pages) (kept_by l) w.copies
+  pub mounts : w.mounts ≡ map mount_of l.mounts
+  pub given : w.given ≡ l.given
 
 -- ---- what an event does to the world
 
--- From a world the event leads to one that the new volume means. It is done whole, or refused by what is allowed in its place.
-pub record LeadsOn (allowed : AllowedRefusals) (cleaned : Reply) (w : World) (event : Event) (reply : Reply) (new : Volume) : Type 0 where
+-- From a world the event leads to one that is meant then. It is done whole, or refused by what is allowed in its place.
+pub record LeadsOn (allowed : AllowedRefusals) (cleaned : Reply) (w : World) (event : Event) (reply : Reply)
+    (pages : Pages) (new : Lists) : Type 0 where
   pub after : World
-  pub means : Means new after
+  pub means : Means pages new after
   pub step : Step allowed cleaned w event reply after
 
--- so from whatever world the old volume means
-abbrev pub Follows : (allowed : AllowedRefusals) (cleaned : Reply) → Volume → Event → Reply → Volume → Type 0
-Follows allowed cleaned old event reply new =
-    (w : World) → Means old w → LeadsOn allowed cleaned w event reply new
-
--- the same of an event that writes nothing: memory alone may be refused to it
-abbrev pub FollowsInMemory : Volume → Event → Reply → Volume → Type 0
-FollowsInMemory old event reply new =
-    (cleaned : Reply) → Follows memory_alone cleaned old event reply new
+-- an event that writes nothing, to which memory alone may be refused, leads on from each world that is meant
+abbrev pub FollowsOver : Pages → Lists → Event → Reply → Lists → Type 0
+FollowsOver pages old event reply new =
+    (cleaned : Reply) (w : World) → Means pages old w → LeadsOn memory_alone cleaned w event reply pages new

@@ -1,35 +1,22 @@
 -- What contracts see of the pen's tables.
-use Rattle.std.specs.Prelude.{◌≡◌, ℕ, false, [], IsErr}
+use Rattle.std.specs.Prelude.{ℕ, false, []}
 use Rattle.nl_types.specs.declared.event.Mode.TheVariants.{Plain}
-use Rattle.nl_types.specs.declared.event.Event.{Event}
-use Rattle.nl_types.specs.Roots.{Pages}
-use Rattle.nl_types.specs.Worlds.{Reply}
-use Rattle.nl_core.specs.Means.{FollowsInMemory}
-use Rattle.nl_core.specs.Volume.{Lists, IsSoundVolume, kept_by, over}
+use Rattle.nl_layout.specs.declared.root.Root.TheVariants.{Empty}
+use Rattle.nl_files.specs.TreeLaws.{first_tree}
+use Rattle.nl_core.specs.Volume.{Lists}
 
 pub record Roomy : Type 0 where
   pub lists : Lists
   -- for how many more checkpoints there is room
   pub room : ℕ
 
--- checkpoint 1 of the root alone
-abbrev pub new_lists : ℕ → Lists
-new_lists now = record {
-  files = [];
+-- before a volume is formatted: the root alone, over a checkpoint 0 without files
+abbrev pub blank_lists : Lists
+blank_lists = record {
+  current = first_tree;
   dirty = false;
   earlier = [];
-  latest = record { number = 1; mode = Plain; stamp = now; files = [] };
+  latest = record { number = 0; mode = Plain; stamp = 0; root = Empty };
   mounts = [];
   given = 0;
 }
-
--- what an event that writes nothing does to lists over the same pages
-abbrev pub FollowsOver : Pages → Lists → Event → Reply → Lists → Type 0
-FollowsOver pages old event reply new = FollowsInMemory (over pages old) event reply (over pages new)
-
--- an event that touches no block, and nothing at all where it is refused
-pub record KeepsBlocks (pages : Pages) (old : Lists) (reply : Reply) (new : Lists) : Type 0 where
-  pub kept : kept_by new ≡ kept_by old
-  pub latest : new.latest ≡ old.latest
-  pub refused : IsErr reply → new ≡ old
-  pub sound : IsSoundVolume (over pages new)

@@ -1,6 +1,6 @@
 //! What the pen's definitions mean, as contracts of functions that do nothing.
 ghost use Rattle.nl_core.specs.Layout.{unshared};
-ghost use Rattle.nl_core.specs.Laws.{MeansOneWorld, EventsLeadOn, RunsLeadOn, RefusalsKeepPens, RefusalsHaveReasons, NoSpaceIsTrue, NoSpaceIsSaid};
+ghost use Rattle.nl_core.specs.Laws.{MeansOneWorld, EventsLeadOn, RunsLeadOn, RefusalsKeepPens, RefusalsHaveReasons, NoSpaceIsSaid, NoSpaceIsTrue, SettlingsAreAlike};
 
 /// A pen means one world at most.
 pub fn pens_mean_one_world()
@@ -30,4 +30,10 @@ pub fn refusals_have_reasons()
 pub fn space_is_judged_exactly()
     ensures only { NoSpaceIsTrue unshared }
     ensures always { NoSpaceIsSaid unshared }
+{}
+
+/// Whatever a checkpoint of a pen could write has as many blocks, and gives one root. So whether space lacks is told by what
+/// the pen holds.
+pub fn settlings_are_alike()
+    ensures { SettlingsAreAlike }
 {}

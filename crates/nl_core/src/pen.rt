@@ -1,9 +1,9 @@
 //! The pen: what the writer of a volume holds, the device included.
-ghost use Rattle.std.specs.Prelude.{◌≡◌, ◌↔◌, ◌⊎◌, ◌<◌, IfOk, IsErr, OnErr, IsOkUnless};
+ghost use Rattle.std.specs.Prelude.{◌≡◌, ◌↔◌, ◌⊎◌, ◌<◌, IfErr, IfOk, IsErr, OnErr, IsOkUnless};
 ghost use Rattle.std.specs.Option.{option_map};
-ghost use Rattle.nl_dat.specs.Stores.{capacity, dat_entry_of, numbered_in};
-ghost use Rattle.nl_types.specs.Worlds.{formatted};
 ghost use Rattle.nl_types.specs.Runs.{Run};
+ghost use Rattle.nl_types.specs.Worlds.{formatted};
+ghost use Rattle.nl_dat.specs.Stores.{capacity, content_in, dat_entry_of, numbered_in};
 
 use crate::draft::Draft;
 use crate::tables::Tables;
@@ -11,11 +11,11 @@ use nl_dat::{Dat, DatEntry, Vstore};
 use nl_device::Device;
 use nl_segwriter::LogSpace;
 use nl_sufile::SegTable;
-use nl_types::{Answer, Event, Geometry, Mode, Reply, VirtualNumber, VolError};
+use nl_types::{Answer, CheckpointNumber, Event, Geometry, Mode, Reply, VirtualNumber, VolError};
 use std::alloc::Global;
 use std::marker::Model;
 
-/// The writer's state of a volume: its tables in memory, and the store of their pages on the device that it writes to.
+/// The writer's state of a volume: its tables in memory, and the store of its blocks on the device that it writes to.
 #[derive(Drop)]
 pub struct Pen<D: Device> {
     alloc: Global,
@@ -33,11 +33,32 @@ impl<D: Device> Model for Pen<D> {
     ghost invariant = { λ p. IsPen (layout_of p.tables.lists p.store.store) };
 }
 
-ghost use Rattle.nl_core.specs.Layout.{IsPen, Does, layout_of, unshared, volume_of};
+ghost use Rattle.nl_core.specs.Draft.{CanBeDrafted};
+ghost use Rattle.nl_core.specs.Layout.{IsPen, Does, HasRefused, HasWritten, MeansWorld, layout_of, unshared};
 ghost use Rattle.nl_types.specs.declared.event.Event.TheVariants.{Checkpoint};
 
-/// The next checkpoint: its draft, then the blocks that it writes, and then its lists. The draft takes the memory for the
-/// lists, and the write takes its own before its first put, so a refusal comes before anything is written.
+/// Writes the next checkpoint: its draft, then the blocks that it writes, and then its tables. The draft takes the memory
+/// for the tables, and the write takes its own before its first put, so a refusal comes before anything is written.
+fn write_checkpoint<V: Vstore>(
+    alloc: Global,
+    tables: &mut Tables,
+    store: &mut V,
+    mode: Mode,
+    moment: u64,
+) -> Result<CheckpointNumber, VolError>
+    requires { CanBeDrafted (content_in (V.store store.old)) tables.old.lists }
+    ensures written { IfOk result (λ _. HasWritten mode moment
+        (layout_of tables.old.lists (V.store store.old)) (layout_of tables.new.lists (V.store store.new))) }
+    ensures number { IfOk result (λ number. number ≡ tables.new.lists.latest.number) }
+    ensures refused { IfErr result (λ e. HasRefused (Checkpoint mode moment) e
+        (layout_of tables.old.lists (V.store store.old)) (layout_of tables.new.lists (V.store store.new))) }
+{
+    let Draft { checkpoint, batch } = tables.draft(alloc, store, mode, moment)?;
+    store.write(alloc, &batch, checkpoint.number, checkpoint.stamp)?;
+    Ok(tables.publish(checkpoint))
+}
+
+/// A checkpoint of a pen.
 fn checkpoint<V: Vstore>(
     alloc: Global,
     tables: &mut Tables,
@@ -45,40 +66,37 @@ fn checkpoint<V: Vstore>(
     mode: Mode,
     moment: u64,
 ) -> Reply
-    requires held { IsPen (layout_of tables.old.lists (V.store store.old)) }
+    requires { IsPen (layout_of tables.old.lists (V.store store.old)) }
     ensures { Does unshared (layout_of tables.old.lists (V.store store.old))
         (Checkpoint mode moment) result (layout_of tables.new.lists (V.store store.new)) }
 {
-    let draft = tables.draft(alloc, store, mode, moment)?;
-    let Draft {
-        checkpoint,
-        files,
-        batch,
-    } = draft;
-    store.write(alloc, &batch, checkpoint.number, checkpoint.stamp)?;
-    Ok(Answer::Checkpoint(tables.publish(checkpoint, files)))
+    let number = write_checkpoint(alloc, tables, store, mode, moment)?;
+    Ok(Answer::Checkpoint(number))
 }
 
 impl<D: Device> Pen<D> {
-    ghost use Rattle.nl_core.specs.Layout.{IsFresh, IsFormatted};
-    ghost use Rattle.nl_core.specs.Means.{Means};
+    ghost use Rattle.nl_core.specs.Layout.{IsFormatted};
 
-    /// A volume on a device of this geometry, with checkpoint 1 of the root alone. What the device holds is no part of it.
-    /// It puts nothing yet, so it is refused by `Memory` alone, and the device is dropped then.
+    /// A volume on a device of this geometry, with checkpoint 1 of the root alone, which it writes. What the device holds is
+    /// no part of it.
+    ///
+    /// Refused by `Memory`, and by `Fault` where the device fails; the device is dropped then.
     pub fn format(alloc: Global, device: D, geometry: Geometry, now: u64) -> Result<Self, VolError>
         requires shape { D.shape device ≡ geometry }
-        ensures means { IfOk result (λ pen. Means (volume_of pen) (formatted now)) }
-        ensures fresh { IfOk result (IsFresh geometry (D.pages device) (D.failure_count device)) }
-        ensures ledger { IfOk result IsFormatted }
+        ensures means { IfOk result (λ pen. MeansWorld pen (formatted now)) }
+        ensures formatted { IfOk result (IsFormatted geometry (D.pages device) (D.failure_count device) now) }
         ensures pen { IfOk result IsPen }
-        ensures refused { IsOkUnless result VolError.Memory }
+        ensures refused { IfErr result (λ e. (e ≡ VolError.Memory) ⊎ (e ≡ VolError.Fault)) }
     {
         let space = LogSpace::new(alloc, device, geometry)?;
-        let store = Dat::new(alloc, space)?;
+        let mut store = Dat::new(alloc, space)?;
+        let mut tables = Tables::blank(alloc)?;
+        write_checkpoint(alloc, &mut tables, &mut store, Mode::Plain, now)?;
+        tables.forget_earlier();
         Ok(Pen {
             alloc,
             store,
-            tables: Tables::format(alloc, now),
+            tables,
         })
     }
 
@@ -100,8 +118,8 @@ impl<D: Device> Pen<D> {
         self.store.table()
     }
 
-    /// One event. A refusal leaves the world as it was. `NoSpace` comes only of a checkpoint whose changed blocks no list
-    /// of logs fits, `Fault` only where the device failed during a checkpoint, and `Memory` only by want of memory.
+    /// One event. A refusal leaves the world as it was. `NoSpace` comes only of a checkpoint of which no list of logs fits
+    /// what differs, `Fault` only where the device failed during a checkpoint, and `Memory` only by want of memory.
     /// `nl_core::laws` has what follows.
     pub fn apply(&mut self, event: &Event) -> Reply
         ensures { Does unshared self.old event.now result self.new }

@@ -1,26 +1,23 @@
-//! What the pen lists in memory: files, kept checkpoints and mounts. Their pages are in a store, under virtual block numbers.
-ghost use Rattle.std.specs.Prelude.{◌≡◌, ℕ, ◌+◌, ◌*◌, ◌<◌, ◌≤◌, List, [], true, length, IfOk, OnOk, IfErr, map};
+//! What the pen holds in memory: the current tree, kept checkpoints and mounts. Their blocks are in a store, under virtual
+//! block numbers.
+ghost use Rattle.std.specs.Prelude.{◌≡◌, ◌<◌, [], IfErr, IfOk, OnErr, OnOk, IsOkUnless, map};
 ghost use Rattle.std.specs.Option.{option_copied};
 ghost use Rattle.std.specs.Ordering.{nat_cmp};
 ghost use Rattle.std.specs.FinMap.{find};
-ghost use Rattle.nl_types.specs.Limits.{path_limit};
+ghost use Rattle.nl_types.specs.Calls as calls;
 ghost use Rattle.nl_types.specs.Roots.{Pages};
+ghost use Rattle.nl_types.specs.Worlds.{World};
 ghost use Rattle.nl_dat.specs.Stores.{content_in};
-ghost use Rattle.nl_core.specs.Settled.{AreLive};
-ghost use Rattle.nl_types.specs.Worlds.{IsWorld, formatted};
 
-use crate::checkpoint::{Checkpoint, Mounted};
+use crate::checkpoint::{Checkpoint, Mounted, find_checkpoint, find_mounted};
 use crate::draft::Draft;
-use crate::file::File;
-use crate::find::{answer, find_checkpoint, find_file, find_free, find_mounted, slots_of};
-use nl_dat::{VRead, Vstore};
-use nl_types::{Answer, Ask, Change, CheckpointNumber, Items, Mode, MountNumber, Reply, VolError};
+use nl_dat::{Batch, VRead, Vstore};
+use nl_files::{CurrentTree, ReadTree, answer};
+use nl_layout::Root;
+use nl_types::{Answer, Ask, Change, CheckpointNumber, Mode, MountNumber, Reply, VolError};
 use std::alloc::Global;
 use std::marker::Model;
 use std::mem::replace;
-
-/// The most bytes of a file.
-const FILE_LIMIT: u64 = 67_108_864;
 
 /// The greatest number of a checkpoint.
 const LAST_CHECKPOINT: u64 = u64::MAX - 1;
@@ -28,7 +25,7 @@ const LAST_CHECKPOINT: u64 = u64::MAX - 1;
 /// The pen's tables. Contracts see what they hold, and for how many more checkpoints they have room.
 #[derive(Drop)]
 pub struct Tables {
-    files: Vec<File>,
+    current: CurrentTree,
     dirty: bool,
     earlier: Vec<Checkpoint>,
     latest: Checkpoint,
@@ -48,103 +45,54 @@ impl Model for Tables {
 
 impl Tables {
     ghost use Rattle.nl_types.specs.declared.event.Event.TheVariants.{Apply, Read, Mount, MountRead};
-    ghost use Rattle.nl_types.specs.declared.event.Change.TheVariants.{Create, Write};
-    ghost use Rattle.nl_core.specs.Volume.{IsSoundVolume, kept_by, over, published, with_mount};
-    ghost use Rattle.nl_core.specs.Means.{by_number};
-    ghost use Rattle.nl_core.specs.Draft.{IsDraftRefusal, IsNextDraft};
-    ghost use Rattle.nl_core.specs.Changes.{HasCreated, HasWritten, HasChanged};
-    ghost use Rattle.nl_core.specs.Tables.{FollowsOver, KeepsBlocks, new_lists};
+    ghost use Rattle.nl_core.specs.Changes.{HasChanged};
+    ghost use Rattle.nl_core.specs.Draft.{CanBeDrafted, IsDraftRefusal, IsNextDraft};
+    ghost use Rattle.nl_core.specs.Means.{FollowsOver, Means};
+    ghost use Rattle.nl_core.specs.Tables.{blank_lists};
+    ghost use Rattle.nl_core.specs.Volume.{by_number, kept_by, published, with_change, with_mount};
 
-    /// The tables of a volume just formatted, with checkpoint 1 of the root alone. They take no memory yet.
-    pub fn format(alloc: Global, now: u64) -> Tables
-        ensures { result.lists ≡ new_lists now }
+    /// The tables before a volume is formatted: the root alone, over a checkpoint 0 without files. Refused by `Memory` alone.
+    pub fn blank(alloc: Global) -> Result<Tables, VolError>
+        ensures blank { IfOk result (λ tables. tables.lists ≡ blank_lists) }
+        ensures refused { IsOkUnless result VolError.Memory }
     {
-        Tables {
-            files: Vec::new(alloc),
+        Ok(Tables {
+            current: CurrentTree::first(alloc)?,
             dirty: false,
             earlier: Vec::new(alloc),
             latest: Checkpoint {
-                number: CheckpointNumber::new(1),
+                number: CheckpointNumber::new(0),
                 mode: Mode::Plain,
-                stamp: now,
-                files: Items::new(alloc),
+                stamp: 0,
+                root: Root::Empty,
             },
             mounts: Vec::new(alloc),
             given: 0,
-        }
+        })
     }
 
-    fn create(&mut self, alloc: Global, path: &[u8]) -> Reply
-        ensures follows { (pages : Pages)
-            → FollowsOver pages self.old.lists (Apply (Create path.now)) result self.new.lists }
-        ensures changed { IfOk result (λ _.
-            HasCreated path.now self.old.lists.files self.new.lists.files) }
-        ensures blocks { (pages : Pages) → IsSoundVolume (over pages self.old.lists)
-            → KeepsBlocks pages self.old.lists result self.new.lists }
-    {
-        let name = find_free(alloc, &self.files, path)?;
-        self.files.push(File {
-            name,
-            size: 0,
-            slots: Items::new(alloc),
-        })?;
-        self.dirty = true;
-        Ok(Answer::Done)
-    }
-
-    fn write<V: VRead>(
-        &mut self,
-        alloc: Global,
-        store: &V,
-        path: &[u8],
-        offset: u64,
-        bytes: &[u8],
-    ) -> Reply
-        requires sound { IsSoundVolume (over (V.pages store.now) self.old.lists) }
-        ensures follows { FollowsOver (V.pages store.now) self.old.lists
-            (Apply (Write path.now offset bytes.now)) result self.new.lists }
-        ensures changed { IfOk result (λ _.
-            HasWritten path.now offset (length bytes.now) self.old.lists.files self.new.lists.files) }
-        ensures blocks { KeepsBlocks (V.pages store.now) self.old.lists result self.new.lists }
-    {
-        let index = find_file(&self.files, path)?;
-        let len = bytes.len() as u64;
-        if len == 0 {
-            return Ok(Answer::Written(0));
-        }
-        if len > FILE_LIMIT || offset > FILE_LIMIT - len {
-            return Err(VolError::TooBig);
-        }
-        let latest = slots_of(self.latest.files.as_slice(), index);
-        self.files[index].write(alloc, store, latest, offset, bytes)?;
-        self.dirty = true;
-        Ok(Answer::Written(len))
-    }
-
-    /// A change of the current tree.
+    /// A change of the current tree. Refused as the call is, and by `Memory`.
     pub fn change<V: VRead>(&mut self, alloc: Global, store: &V, change: &Change) -> Reply
-        requires sound { IsSoundVolume (over (V.pages store.now) self.old.lists) }
-        ensures follows { FollowsOver (V.pages store.now) self.old.lists
-            (Apply change.now) result self.new.lists }
+        requires { (w : World) × Means (V.pages store.now) self.old.lists w }
+        ensures follows { FollowsOver (V.pages store.now) self.old.lists (Apply change.now) result self.new.lists }
+        ensures lists { IfOk result (λ _.
+            self.new.lists ≡ with_change change.now self.new.lists.current self.old.lists) }
         ensures changed { IfOk result (λ _.
-            HasChanged change.now self.old.lists.files self.new.lists.files) }
-        ensures blocks { KeepsBlocks (V.pages store.now) self.old.lists result self.new.lists }
+            HasChanged (V.pages store.now) change.now self.old.lists self.new.lists) }
+        ensures same { OnErr result (self.new.lists ≡ self.old.lists) }
     {
-        match change {
-            Change::Create { path } => self.create(alloc, path.as_slice()),
-            Change::Write {
-                path,
-                offset,
-                bytes,
-            } => self.write(alloc, store, path.as_slice(), *offset, bytes.as_slice()),
-        }
+        let base = ReadTree::new(store, self.latest.root);
+        let answer = self.current.change(alloc, &base, change)?;
+        self.dirty = self.dirty || is_dirtying(change);
+        Ok(answer)
     }
 
-    /// What the current tree answers.
+    /// What the current tree answers. Refused as the call is, and by `Memory`.
     pub fn read<V: VRead>(&self, alloc: Global, store: &V, ask: &Ask) -> Reply
         ensures { FollowsOver (V.pages store.now) self.now.lists (Read ask.now) result self.now.lists }
     {
-        answer(alloc, &self.files, store, ask)
+        let base = ReadTree::new(store, self.latest.root);
+        answer(alloc, &self.current.view(&base), ask)
     }
 
     /// The kept checkpoint of a number.
@@ -158,13 +106,13 @@ impl Tables {
         }
     }
 
-    /// Mounts a snapshot.
+    /// Mounts a snapshot. Refused by `NoCheckpoint` where there is none of the number, by `NotSnapshot` where it is a plain
+    /// checkpoint, by `NumbersSpent` where no mount number is left, and by `Memory`.
     pub fn mount(&mut self, number: CheckpointNumber) -> Reply
         ensures follows { (pages : Pages)
             → FollowsOver pages self.old.lists (Mount number) result self.new.lists }
         ensures mounted { IfOk result (λ _. self.new.lists ≡ with_mount number self.old.lists) }
-        ensures blocks { (pages : Pages) → IsSoundVolume (over pages self.old.lists)
-            → KeepsBlocks pages self.old.lists result self.new.lists }
+        ensures same { OnErr result (self.new.lists ≡ self.old.lists) }
     {
         match self.kept(number) {
             None => return Err(VolError::NoCheckpoint),
@@ -185,7 +133,8 @@ impl Tables {
         Ok(Answer::Mount(mount))
     }
 
-    /// What the tree of a mounted snapshot answers.
+    /// What the tree of a mounted snapshot answers. Refused by `BadMount` where there is no such mount, as the call is, and
+    /// by `Memory`.
     pub fn read_mounted<V: VRead>(
         &self,
         alloc: Global,
@@ -202,7 +151,7 @@ impl Tables {
         let Some(checkpoint) = self.kept(number) else {
             return Err(VolError::BadMount);
         };
-        answer(alloc, checkpoint.files.as_slice(), store, ask)
+        answer(alloc, &ReadTree::new(store, checkpoint.root), ask)
     }
 
     /// The next checkpoint, with all the memory that it takes. Refused by `NumbersSpent` and `Memory`.
@@ -213,8 +162,7 @@ impl Tables {
         mode: Mode,
         moment: u64,
     ) -> Result<Draft, VolError>
-        requires few { length self.old.lists.files ≤ path_limit }
-        requires live { AreLive (content_in (V.store store.now)) self.old.lists.latest.files }
+        requires { CanBeDrafted (content_in (V.store store.now)) self.old.lists }
         ensures same { self.new.lists ≡ self.old.lists }
         ensures drafted { IfOk result (IsNextDraft (V.store store.now) mode moment self.old.lists) }
         ensures refused { IfErr result (IsDraftRefusal self.old.lists) }
@@ -223,21 +171,25 @@ impl Tables {
         if self.latest.number.get() >= LAST_CHECKPOINT {
             return Err(VolError::NumbersSpent);
         }
-        let checkpoint = Checkpoint {
-            number: CheckpointNumber::new(self.latest.number.get() + 1),
-            mode,
-            stamp: moment.max(self.latest.stamp),
-            files: Items::new(alloc),
-        };
         self.earlier.reserve(1)?;
-        let latest = self.latest.files.as_slice();
-        Draft::new(alloc, store, &self.files, latest, checkpoint)
+        let mut batch = Batch::new(alloc);
+        let root = self
+            .current
+            .settle(alloc, store, self.latest.root, &mut batch)?;
+        Ok(Draft {
+            checkpoint: Checkpoint {
+                number: CheckpointNumber::new(self.latest.number.get() + 1),
+                mode,
+                stamp: moment.max(self.latest.stamp),
+                root,
+            },
+            batch,
+        })
     }
 
-    /// Keeps the next checkpoint, whose blocks are written.
-    pub fn publish(&mut self, checkpoint: Checkpoint, files: Items<File>) -> CheckpointNumber
-        requires room { 0 < self.old.room }
-        requires files { checkpoint.files ≡ files }
+    /// Keeps the next checkpoint, whose blocks are written, and answers its number.
+    pub fn publish(&mut self, checkpoint: Checkpoint) -> CheckpointNumber
+        requires { 0 < self.old.room }
         ensures lists { self.new.lists ≡ published checkpoint self.old.lists }
         ensures number { result ≡ checkpoint.number }
     {
@@ -246,8 +198,30 @@ impl Tables {
         if self.earlier.push(replaced).is_err() {
             unreachable!();
         }
-        self.files = files.into_vec();
+        self.current.settled();
         self.dirty = false;
         number
+    }
+
+    /// Forgets all checkpoints but the latest one.
+    pub fn forget_earlier(&mut self)
+        ensures { self.new.lists ≡ record self.old.lists { earlier = [] } }
+    {
+        self.earlier.clear();
+    }
+}
+
+/// Whether a change that is done may make the current tree differ from the latest checkpoint's.
+fn is_dirtying(change: &Change) -> bool
+    ensures { result ≡ calls.is_dirtying change.now }
+{
+    match change {
+        Change::Write { bytes, .. } => !bytes.as_slice().is_empty(),
+        Change::Rename { from, to } => from.as_slice() != to.as_slice(),
+        Change::Create { .. }
+        | Change::Mkdir { .. }
+        | Change::Truncate { .. }
+        | Change::Unlink { .. }
+        | Change::Rmdir { .. } => true,
     }
 }

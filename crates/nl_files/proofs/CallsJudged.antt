@@ -1,5 +1,5 @@
 -- What calls by paths answer, by the place that the last name of the path has.
-use Rattle.std.proofs.Common.{◌≡◌, ℕ, Bool, true, false, ◌+◌, ◌<◌, ◌≤◌, ◌^◌, List, [], ◌∷◌, ◌++◌, length, inl, inr, Option, Some, None, Result, Ok, Err, refl, sym, ap, ◌∙◌, arith}
+use Rattle.std.proofs.Common.{◌≡◌, ℕ, Bool, true, false, ◌+◌, ◌<◌, ◌≤◌, List, [], ◌∷◌, ◌++◌, length, inl, inr, Option, Some, None, Result, Ok, Err, refl, sym, ap, ◌∙◌, arith}
 use Rattle.std.specs.Prelude.{nat_lt, IsSome}
 use Rattle.std.specs.Option.{is_some, ok_or, option_map}
 use Rattle.std.proofs.lemmas.Bool.{lt-ltb, le-ltb, ne_eqb}
@@ -19,7 +19,7 @@ use Rattle.nl_types.specs.Judging.{bytes_in, has_any, judge_create}
 use Rattle.nl_types.specs.Resolving.{IsNamed, as_dir, record_in, resolve, resolve_from, step_to}
 use Rattle.nl_types.proofs.Inodes.FullVolumes.{full_volumes_are_too_big}
 use Rattle.nl_types.proofs.Inodes.Judging.{creates_are_judged, files_are_judged, rmdirs_are_judged}
-use Rattle.nl_files.specs.Held.{Held, Holding, IsHolding, Listed, Stored, held_count, inode_content, inodes_of_holding}
+use Rattle.nl_files.specs.Held.{Held, Holding, IsHolding, held_count, inode_content, inodes_of_holding}
 use Rattle.nl_files.specs.Naming.{IsPlaceOf, IsPlaceRefused, listing_of}
 use Rattle.nl_files.specs.Steps.{IsCreateRefused, IsFullOf}
 use Rattle.nl_files.proofs.HeldContents.{held_count-listing, listing_of-IsListing}
@@ -200,12 +200,3 @@ module _ (holding : Holding) (tree : Tree) (means : MeansTree (inodes_of_holding
 
 pub has_none : (holding : Holding) (i : ℕ) → held_count (holding i) ≤ 0 → has_any (listing_of holding) i ≡ false
 has_none holding i none = le-ltb 0 (length (listing_of holding i)) (omega (arith, none, held_count-listing (holding i)))
-
--- a directory's names can be counted
-pub held_count-fits : (holding : Holding) → IsHolding holding → (i : ℕ) → held_count (holding i) < 2 ^ 64
-held_count-fits holding sound i = choose (holding i) refl
-  where
-    choose : (held : Option Held) → holding i ≡ held → held_count held < 2 ^ 64
-    choose None e = omega arith
-    choose (Some (Stored size blocks)) e = omega arith
-    choose (Some (Listed records)) e = let few = sound.count i records e in omega (arith, few)

@@ -54,3 +54,4 @@ pub mod PutsAlike
 pub mod InodesAlike
 pub mod FilesAlike
 pub mod OneSettling
+pub mod Answered

@@ -1,5 +1,5 @@
 -- The overlay as a list and by its maps shows the same.
-use Rattle.std.proofs.Common.{◌≡◌, ℕ, Bool, true, false, List, Option, Some, None, Result, IfErr, IfOk, OnOk, refl, sym, ap, subst, ◌∙◌}
+use Rattle.std.proofs.Common.{◌≡◌, ℕ, Bool, true, false, List, Option, Some, None, Result, OnOk, refl, sym, ap, subst, ◌∙◌}
 use Rattle.std.specs.Prelude.{cond, is_some, nat_lt}
 use Rattle.std.specs.Option.{option_and_then, option_flatten, option_or}
 use Rattle.std.specs.Ordering.{nat_cmp}
@@ -98,22 +98,21 @@ counts_outside o base orderly counts =
 
 -- ---- what is made new
 
-pub as_created : {E : Type 0} (o n : Overlay) (now : Current) (base : Holding) (dir : ℕ) (records : List Record) (name : Name)
-    (kind : Kind) (r : Result ℕ E) → IsOrderly o → IsOrderly n → current_of o ≡ now →
-    IfOk r (IsCreated (holding_now o base) (holding_now n base) dir records name kind) →
-    IfOk r (IsCreated (holding_over now.became base) (holding_over (became_in n) base) dir records name kind)
-as_created o n now base dir records name kind r before after view h =
+pub created_outside : (o n : Overlay) (now : Current) (base : Holding) (dir : ℕ) (records : List Record) (name : Name)
+    (kind : Kind) (inode : ℕ) → IsOrderly o → IsOrderly n → current_of o ≡ now →
+    IsCreated (holding_now o base) (holding_now n base) dir records name kind inode →
+    IsCreated (holding_over now.became base) (holding_over (became_in n) base) dir records name kind inode
+created_outside o n now base dir records name kind inode before after view is =
     let old : holding_now o base ≡ holding_over now.became base =
     sym (one_holding o base before) ∙ ap (λ (c : Current). holding_over c.became base) view in
-    subst (λ (held : Holding). IfOk r (IsCreated held (holding_over (became_in n) base) dir records name kind)) old
-    (subst (λ (held : Holding). IfOk r (IsCreated (holding_now o base) held dir records name kind)) (sym (one_holding n base after)) h)
+    subst (λ (held : Holding). IsCreated held (holding_over (became_in n) base) dir records name kind inode) old
+    (subst (λ (held : Holding). IsCreated (holding_now o base) held dir records name kind inode) (sym (one_holding n base after)) is)
 
-pub as_refused : {A : Type 0} (o : Overlay) (now : Current) (base : Holding) (r : Result A VolError) → IsOrderly o →
-    current_of o ≡ now → IfErr r (IsCreateRefused o.names (holding_now o base)) →
-    IfErr r (IsCreateRefused now.names (holding_over now.became base))
-as_refused o now base r before view h =
-    subst (λ (c : Current). IfErr r (IsCreateRefused c.names (holding_over c.became base))) view
-    (subst (λ (held : Holding). IfErr r (IsCreateRefused o.names held)) (sym (one_holding o base before)) h)
+pub refused_outside : (o : Overlay) (now : Current) (base : Holding) (e : VolError) → IsOrderly o → current_of o ≡ now →
+    IsCreateRefused o.names (holding_now o base) e → IsCreateRefused now.names (holding_over now.became base) e
+refused_outside o now base e before view is =
+    subst (λ (c : Current). IsCreateRefused c.names (holding_over c.became base) e) view
+    (subst (λ (held : Holding). IsCreateRefused o.names held e) (sym (one_holding o base before)) is)
 
 -- what keeps numbers and inodes in use counts them as before
 pub counts_still : (o n : Overlay) (base : Holding) → KeepsRest o n →

@@ -8,15 +8,13 @@ use Rattle.std.proofs.lemmas.List.FromFn.{get_or-map-range_with_len, length-map-
 use Rattle.nl_types.specs.declared.error.VolError.{VolError}
 use Rattle.nl_types.specs.declared.error.VolError.TheVariants.{Memory}
 use Rattle.nl_types.specs.declared.kind.Kind.TheVariants as kind
-use Rattle.nl_types.specs.declared.event.Ask.{Ask}
-use Rattle.nl_types.specs.declared.event.Ask.TheVariants as ask
 use Rattle.nl_types.specs.declared.reply.Answer.{Answer}
 use Rattle.nl_types.specs.declared.reply.Answer.TheVariants as answer
 use Rattle.nl_types.specs.declared.reply.Named.{Named}
 use Rattle.nl_types.specs.declared.reply.Stat.TheVariants as status
 use Rattle.nl_types.specs.Paths.{Name, Path, path_of}
 use Rattle.nl_types.specs.Trees.{Tree}
-use Rattle.nl_types.specs.Calls.{IsUnlessMemory, ShowsUnlessMemory, and_then, list, read, reply_to, stat}
+use Rattle.nl_types.specs.Calls.{IsUnlessMemory, ShowsUnlessMemory, and_then, list, read, stat}
 use Rattle.nl_types.specs.Inodes.{Inodes, Link, Records}
 use Rattle.nl_types.specs.Judging.{bytes_in, bytes_of, shown, stat_in}
 use Rattle.nl_types.specs.Resolving.{as_dir, resolve}
@@ -61,11 +59,15 @@ pub unless_memory : {A : Type 0} (result : Result A VolError) (x : VolError) (ex
 unless_memory (Ok a) x expected is shows = λ other. absurd is
 unless_memory (Err y) x expected is shows = λ other. ap Err is ∙ sym (shows (λ e. other (ap Err (is ∙ e))))
 
--- an answer to each kind of call is one to any
-pub by_ask : (tree : Tree) (result : Result Answer VolError) (asked : Ask)
-    → ((path : List ℕ) (offset len : ℕ) → asked ≡ ask.Bytes path offset len → IsUnlessMemory result (and_then (path_of path) (read tree offset len)))
-    → IsUnlessMemory result (reply_to tree asked)
-by_ask tree result (ask.Bytes path offset len) answers = answers path offset len refl
+-- what a call has found is answered
+pub answered : {A : Type 0} (view : A → Answer) (found : Result A VolError) (a : A) → found ≡ Ok a
+    → Ok (view a) ≡ and_then found (λ a. Ok (view a))
+answered {A = A} view found a is = sym (ap (λ (r : Result A VolError). and_then r (λ a. Ok (view a))) is)
+
+-- and so is its refusal
+pub not_answered : {A : Type 0} (view : A → Answer) (found : Result A VolError) (x : VolError) → found ≡ Err x
+    → and_then found (λ a. Ok (view a)) ≡ Err x
+not_answered {A = A} view found x is = ap (λ (r : Result A VolError). and_then r (λ a. Ok (view a))) is
 
 -- ---- calls on trees
 

@@ -11,20 +11,22 @@ use Rattle.nl_types.specs.declared.reply.Node.{Node}
 use Rattle.nl_types.specs.Paths.{Name, Path, is_name, path_of}
 use Rattle.nl_types.specs.Trees.{Tree}
 use Rattle.nl_types.specs.Calls.{Changed, rename}
-use Rattle.nl_types.specs.Inodes.{Link, MeansTree, Records, node_of}
+use Rattle.nl_types.specs.Inodes.{Link, MeansTree, node_of}
 use Rattle.nl_types.specs.Judging.{judge_rename}
 use Rattle.nl_types.specs.Resolving.{record_in}
-use Rattle.nl_types.proofs.Inodes.Resolving.{child_record, dir_stands, directories_hold_records, inode, node_held}
+use Rattle.nl_types.proofs.Inodes.Resolving.{child_record, dir_stands, inode, node_held}
 use Rattle.nl_types.proofs.Inodes.Standing.{zipped}
 use Rattle.nl_dirs.specs.declared.record.Record.{Record}
 use Rattle.nl_dirs.specs.Records.{NamesAscend, entry_of}
+use Rattle.nl_files.specs.declared.overlay.Overlay.{Overlay}
+use Rattle.nl_files.specs.declared.renames.Move.{Move}
 use Rattle.nl_files.specs.Became.{Current, holding_over}
 use Rattle.nl_files.specs.CurrentTrees.{CallsAs, HasRenamed, LeadsOver, StandsOver, without_replaced}
-use Rattle.nl_files.specs.Held.{Held, Holding, IsHolding, IsInodeNumber, Listed, Stored, inode_content, inodes_of_holding}
-use Rattle.nl_files.specs.Moving.{IsMove}
+use Rattle.nl_files.specs.Held.{Held, Holding, IsHolding, IsInodeNumber, Listed, inode_content, inodes_of_holding}
+use Rattle.nl_files.specs.Moving.{AreDirectoriesOf, FindsMove, IsMove}
 use Rattle.nl_files.specs.Naming.{IsPlaceOf, listing_of}
 use Rattle.nl_files.specs.Numbers.{CountsFree}
-use Rattle.nl_files.specs.Overlays.{IsDirectoryOf}
+use Rattle.nl_files.specs.Overlays.{IsDirectoryOf, IsOrderly, current_of, holding_now}
 use Rattle.nl_files.specs.Records.{with_record, without_record}
 use Rattle.nl_files.specs.Steps.{with_held, with_link_moved, without_link}
 use Rattle.nl_files.specs.TreeMeaning.{MakesTree, StandsForTree}
@@ -33,14 +35,11 @@ use Rattle.nl_files.proofs.HeldContents.{listing_of-IsListing}
 use Rattle.nl_files.proofs.HeldListings.{records-few}
 use Rattle.nl_files.proofs.HoldingSteps.{MayAllHold, all-holding, may-all, moved_link-may, with_held-may}
 use Rattle.nl_files.proofs.InodeSteps.{with_held-other, with_held-there}
+use Rattle.nl_files.proofs.OneHolding.{directory_inside}
+use Rattle.nl_files.proofs.PlacesFound.{place-listed}
 use Rattle.nl_files.proofs.RecordSteps.{ascend-with, ascend-without}
 
 -- ---- what places are
-
-listed_by : (held : Option Held) (records : Name → Option Link) → option_map inode_content held ≡ Some (Records records) → (list : List Record) × (held ≡ Some (Listed list))
-listed_by None records e = absurd cc
-listed_by (Some (Stored size blocks)) records e = absurd cc
-listed_by (Some (Listed list)) records e = (list, refl)
 
 some_held : (held : Option Held) (node : Node) → option_map node_of (option_map inode_content held) ≡ Some node → (what : Held) × (held ≡ Some what)
 some_held None node e = absurd cc
@@ -51,16 +50,33 @@ longer dir name e = omega (arith, sym (length-reverse (dir ++ name ∷ [])) ∙ 
 
 module _ (held : Holding) (tree : Tree) (sound : IsHolding held) (means : MeansTree (inodes_of_holding held) tree)
     (path : Path) (directory : ℕ) (name : Name) (link : Option Link) (place : IsPlaceOf held path directory name link) where
-  -- a place stands in a directory
-  pub place-directory : (records : List Record) × IsDirectoryOf held directory records
-  place-directory =
-      let has = directories_hold_records (inodes_of_holding held) tree means place.dir directory place.named.resolved in
-      let listed : (list : List Record) × (held directory ≡ Some (Listed list)) =
-      listed_by (held directory) has.0.records (ap (inodes_of_holding held) (sym has.1) ∙ has.0.holds) in
-      (listed.0, (listed.1, sound.ascending directory listed.0 listed.1))
-
+  -- a place's directory is one of a tree
   pub directory-number : IsInodeNumber directory
-  directory-number = let is = place-directory in sound.numbers directory (Listed is.0) is.1.0
+  directory-number = let is = place-listed held tree sound means path directory name link place in sound.numbers directory (Listed is.0) is.1.0
+
+module _ (held : Holding) (tree : Tree) (sound : IsHolding held) (means : MeansTree (inodes_of_holding held) tree)
+    (from to : Path) (m : Move) (is : FindsMove held from to m) where
+  -- both directories of a move are listed
+  pub move-directories : (all others : List Record) × AreDirectoriesOf m held all others
+  move-directories =
+      let here = place-listed held tree sound means from m.directory m.name.now (Some m.link) is.place in
+      let there = place-listed held tree sound means to m.target.directory m.target.name.now m.target.link is.target_place in
+      (here.0, there.0, (here.1, there.1))
+
+  pub move-numbers : IsInodeNumber m.directory × IsInodeNumber m.target.directory
+  move-numbers = (
+    directory-number held tree sound means from m.directory m.name.now (Some m.link) is.place,
+    directory-number held tree sound means to m.target.directory m.target.name.now m.target.link is.target_place,
+  )
+
+-- the directories of a move that the lists have are those of the maps
+pub directories_inside : (o : Overlay) (now : Current) (base : Holding) (m : Move) (all others : List Record) →
+    IsOrderly o → current_of o ≡ now → AreDirectoriesOf m (holding_over now.became base) all others →
+    AreDirectoriesOf m (holding_now o base) all others
+directories_inside o now base m all others orderly view are = (
+  directory_inside o now base m.directory all orderly view are.0,
+  directory_inside o now base m.target.directory others orderly view are.1,
+)
 
 -- what a record names: it is in use, neither its directory nor the root
 pub record IsOrdinary (held : Holding) (directory i : ℕ) : Type 0 where

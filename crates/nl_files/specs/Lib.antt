@@ -23,3 +23,4 @@ pub mod CurrentTrees
 pub mod TreeLaws
 pub mod Staying
 pub mod OneSettling
+pub mod Changing

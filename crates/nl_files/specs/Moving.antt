@@ -1,5 +1,5 @@
 -- What a rename by paths finds before it moves anything.
-use Rattle.std.specs.Prelude.{◌≡◌, ℕ, ◌&&◌, true, false, Option, Some, Ok, Err}
+use Rattle.std.specs.Prelude.{◌≡◌, ℕ, ◌&&◌, true, false, List, Option, Some, Ok, Err}
 use Rattle.nl_types.specs.declared.error.VolError.{VolError}
 use Rattle.nl_types.specs.declared.reply.Answer.TheVariants as answer
 use Rattle.nl_types.specs.Paths.{Name, Path}
@@ -7,10 +7,14 @@ use Rattle.nl_types.specs.Calls.{is_above, rename}
 use Rattle.nl_types.specs.Inodes.{Link}
 use Rattle.nl_types.specs.Judging.{is_dir_kind, judge_rename}
 use Rattle.nl_types.specs.Trees.{Tree}
-use Rattle.nl_files.specs.declared.renaming.Move.{Move}
+use Rattle.nl_dirs.specs.declared.record.Record.{Record}
+use Rattle.nl_files.specs.declared.overlay.Overlay.{Overlay}
+use Rattle.nl_files.specs.declared.renames.Move.{Move}
 use Rattle.nl_files.specs.Held.{Holding, inodes_of_holding}
 use Rattle.nl_files.specs.Naming.{IsPlaceOf, listing_of}
+use Rattle.nl_files.specs.Overlays.{HasName, IsDirectoryOf}
 use Rattle.nl_files.specs.Reading.{HoldingMeans}
+use Rattle.nl_files.specs.Steps.{with_link_moved}
 
 -- the rename is refused so, on each tree that the inodes stand for
 abbrev pub IsRenameRefused : Holding → Path → Path → VolError → Type 0
@@ -37,3 +41,18 @@ pub record IsMove (held : Holding) (from to : Path) (directory : ℕ) (name : Na
 abbrev pub FindsMove : Holding → Path → Path → Move → Type 0
 FindsMove held from to m =
     IsMove held from to m.directory m.name.now m.link m.target.directory m.target.name.now m.target.link
+
+-- ---- what a move changes
+
+-- both directories of a move have these records
+abbrev pub AreDirectoriesOf : Move → Holding → List Record → List Record → Type 0
+AreDirectoriesOf m held all others = IsDirectoryOf held m.directory all × IsDirectoryOf held m.target.directory others
+
+-- with places for the name that is moved, and for the new one
+abbrev pub HasNamesOf : Move → Overlay → List Record → List Record → Type 0
+HasNamesOf m o all others = HasName o m.directory all m.name.now × HasName o m.target.directory others m.target.name.now
+
+-- what inodes hold once the record is moved
+abbrev pub with_moved : Move → List Record → List Record → Holding → Holding
+with_moved m all others held = with_link_moved m.directory all m.name.now m.target.directory others
+    (record { name = m.target.name.now; inode = m.link.0; kind = m.link.1 }) held

@@ -11,7 +11,7 @@ ghost use Rattle.nl_files.specs.Limits.{new_node};
 
 use crate::current::CurrentTree;
 use crate::paths::{find_place, names_behind};
-use crate::tree_read::Base;
+use crate::tree_read::{Base, TreeRead};
 use nl_types::{Answer, Kind, VolError};
 use std::alloc::Global;
 
@@ -30,9 +30,10 @@ impl CurrentTree {
     ) -> Result<(), VolError>
         requires { (b : Holding) × (tree : Tree) × B.TreeRead.holds base.now b × StandsOver self.old b tree }
         ensures done { (b : Holding) (tree : Tree) → B.TreeRead.holds base.now b → StandsOver self.old b tree
-            → CallsAs (λ _. Answer.Done) result self.new b (and_then (path_of path.now) (create tree (new_node kind))) }
-        ensures changes { (b : Holding) (tree : Tree) → B.TreeRead.holds base.now b → StandsOver self.old b tree
-            → OnOk result (HasCreated path.now kind
+            → CallsAs (λ _. Answer.Done) result self.new b
+            (and_then (path_of path.now) (create tree (new_node kind))) }
+        ensures changes { (b : Holding) (tree : Tree) → B.TreeRead.holds base.now b
+            → StandsOver self.old b tree → OnOk result (HasCreated path.now kind
             (holding_over self.old.became b) (holding_over self.new.became b)) }
         ensures same { OnErr result (self.new ≡ self.old) }
     {
@@ -48,7 +49,8 @@ impl CurrentTree {
         if place.link.is_some() {
             return Err(VolError::Exists);
         }
-        self.add_inode(alloc, base, place.directory, place.name, kind)?;
+        self.overlay
+            .create(alloc, base, place.directory, place.name, kind)?;
         Ok(())
     }
 
@@ -60,8 +62,8 @@ impl CurrentTree {
         requires { (b : Holding) × (tree : Tree) × B.TreeRead.holds base.now b × StandsOver self.old b tree }
         ensures done { (b : Holding) (tree : Tree) → B.TreeRead.holds base.now b → StandsOver self.old b tree
             → CallsAs (λ _. Answer.Done) result self.new b (and_then (path_of path.now) (unlink tree)) }
-        ensures changes { (b : Holding) (tree : Tree) → B.TreeRead.holds base.now b → StandsOver self.old b tree
-            → OnOk result (HasRemoved path.now kind.File
+        ensures changes { (b : Holding) (tree : Tree) → B.TreeRead.holds base.now b
+            → StandsOver self.old b tree → OnOk result (HasRemoved path.now kind.File
             (holding_over self.old.became b) (holding_over self.new.became b)) }
         ensures same { OnErr result (self.new ≡ self.old) }
     {
@@ -77,7 +79,8 @@ impl CurrentTree {
             None => Err(VolError::NotFound),
             Some((_, Kind::Directory)) => Err(VolError::IsDir),
             Some((inode, Kind::File)) => {
-                self.remove_inode(alloc, base, place.directory, place.name, inode.get())
+                self.overlay
+                    .remove(alloc, base, place.directory, place.name, inode.get())
             }
         }
     }
@@ -91,8 +94,8 @@ impl CurrentTree {
         requires { (b : Holding) × (tree : Tree) × B.TreeRead.holds base.now b × StandsOver self.old b tree }
         ensures done { (b : Holding) (tree : Tree) → B.TreeRead.holds base.now b → StandsOver self.old b tree
             → CallsAs (λ _. Answer.Done) result self.new b (and_then (path_of path.now) (rmdir tree)) }
-        ensures changes { (b : Holding) (tree : Tree) → B.TreeRead.holds base.now b → StandsOver self.old b tree
-            → OnOk result (HasRemoved path.now kind.Directory
+        ensures changes { (b : Holding) (tree : Tree) → B.TreeRead.holds base.now b
+            → StandsOver self.old b tree → OnOk result (HasRemoved path.now kind.Directory
             (holding_over self.old.became b) (holding_over self.new.became b)) }
         ensures same { OnErr result (self.new ≡ self.old) }
     {
@@ -108,10 +111,11 @@ impl CurrentTree {
             None => Err(VolError::NotFound),
             Some((_, Kind::File)) => Err(VolError::NotDir),
             Some((inode, Kind::Directory)) => {
-                if self.name_count(base, inode.get()) > 0 {
+                if self.view(base).name_count(inode.get()) > 0 {
                     return Err(VolError::NotEmpty);
                 }
-                self.remove_inode(alloc, base, place.directory, place.name, inode.get())
+                self.overlay
+                    .remove(alloc, base, place.directory, place.name, inode.get())
             }
         }
     }

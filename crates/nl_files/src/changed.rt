@@ -93,7 +93,8 @@ impl Changed {
         ensures ordered { HasOrderedPages self.old → HasOrderedPages self.new }
         ensures same { became_of self.new ≡ became_of self.old }
         ensures over { (base : Option Held) → over_changed self.new base ≡ over_changed self.old base }
-        ensures place { (base : Option Held) (size : ℕ) (blocks : Blocks) → ShowsFile self.old base size blocks
+        ensures place { (base : Option Held) (size : ℕ) (blocks : Blocks)
+            → ShowsFile self.old base size blocks
             → OnOk result (ShowsFileWith self.new base size blocks first end) }
         ensures refused { IfErr result (λ e. e ≡ VolError.Memory) }
     {

@@ -30,7 +30,8 @@ impl Overlay {
         ensures still { ShowTheSame self.old self.new }
         ensures place { (all : List Record) → HasListing self.old dir all
             → OnOk result (HasName self.new dir all name.now) }
-        ensures listings { (i : ℕ) (all : List Record) → HasListing self.old i all → HasListing self.new i all }
+        ensures listings { (i : ℕ) (all : List Record) → HasListing self.old i all
+            → HasListing self.new i all }
         ensures names { (i : ℕ) (all : List Record) (other : Name) → HasName self.old i all other
             → HasName self.new i all other }
         ensures places { (i : ℕ) → HasSlot self.old i → HasSlot self.new i }
@@ -123,7 +124,8 @@ impl Overlay {
         ensures orderly { IsOrderly self.old → IsInodeNumber dir → IsOrderly self.new }
         ensures created { (b : Holding) (all : List Record) → B.TreeRead.holds base.now b
             → IsDirectoryOf (holding_now self.old b) dir all → CountsFreeNow self.old b
-            → IfOk result (IsCreated (holding_now self.old b) (holding_now self.new b) dir all name.now kind) }
+            → IfOk result
+            (IsCreated (holding_now self.old b) (holding_now self.new b) dir all name.now kind) }
         ensures counts { (b : Holding) (all : List Record) → B.TreeRead.holds base.now b
             → IsDirectoryOf (holding_now self.old b) dir all → CountsFreeNow self.old b
             → OnOk result (CountsFreeNow self.new b) }

@@ -66,7 +66,8 @@ impl Overlay {
         ensures shown { (b : Holding) (was : ℕ) (blocks : Blocks)
             → HasFileWith self.old b inode was blocks first (first + length pages.items)
             → (i : ℕ) → holding_now self.new b i ≡
-            with_held inode (Some (Stored size (put_from first pages.items blocks))) (holding_now self.old b) i }
+            with_held inode (Some (Stored size (put_from first pages.items blocks)))
+            (holding_now self.old b) i }
         ensures file { (b : Holding) (was : ℕ) (blocks : Blocks)
             → HasFileWith self.old b inode was blocks first (first + length pages.items)
             → HasFile self.new b inode size (put_from first pages.items blocks) }
@@ -97,7 +98,8 @@ impl Overlay {
         ensures written { (b : Holding) (was : ℕ) (blocks : Blocks) → B.TreeRead.holds base.now b
             → IsFileOf (holding_now self.old b) inode was blocks
             → OnOk result ((i : ℕ) → holding_now self.new b i ≡
-            with_held inode (Some (Stored size (put_from first pages.items blocks))) (holding_now self.old b) i) }
+            with_held inode (Some (Stored size (put_from first pages.items blocks)))
+            (holding_now self.old b) i) }
         ensures open { (b : Holding) (was : ℕ) (blocks : Blocks) → B.TreeRead.holds base.now b
             → IsFileOf (holding_now self.old b) inode was blocks
             → OnOk result (HasFile self.new b inode size (put_from first pages.items blocks)) }

@@ -3,6 +3,7 @@
 
 mod calls;
 mod changed;
+mod changes;
 mod copying;
 mod current;
 mod directory;

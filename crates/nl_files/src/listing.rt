@@ -107,8 +107,8 @@ impl Listing {
         }
     }
 
-    #[tactic(auto, using(crate::proofs::Shown::hidden))]
     /// Keeps a place for a name. The records stay. Refused by `Memory` alone.
+    #[tactic(auto, using(crate::proofs::Shown::hidden))]
     pub fn reserve(&mut self, alloc: Global, name: &[u8]) -> Result<(), VolError>
         ensures same { records_of self.new ≡ records_of self.old }
         ensures place { OnOk result (HasNamePlace self.new name.now) }
@@ -122,8 +122,8 @@ impl Listing {
         Ok(())
     }
 
-    #[tactic(auto, using(crate::proofs::ByName::put_shown))]
     /// Puts a record into its place.
+    #[tactic(auto, using(crate::proofs::ByName::put_shown))]
     pub fn put(&mut self, name: &[u8], link: Link)
         requires { HasNamePlace self.old name.now }
         ensures { records_of self.new ≡
@@ -134,8 +134,8 @@ impl Listing {
         }
     }
 
-    #[tactic(auto, using(crate::proofs::ByName::take_shown))]
     /// Takes a record out. Its place stays.
+    #[tactic(auto, using(crate::proofs::ByName::take_shown))]
     pub fn take(&mut self, name: &[u8])
         requires { HasNamePlace self.old name.now }
         ensures taken { records_of self.new ≡ without_record name.now (records_of self.old) }

@@ -73,8 +73,8 @@ impl Overlay {
         }
     }
 
-    #[tactic(auto, using(crate::proofs::Shown::hidden))]
     /// Keeps a place for a number that is to be free. Nothing that shows changes.
+    #[tactic(auto, using(crate::proofs::Shown::hidden))]
     pub(crate) fn reserve_number(&mut self, inode: u64) -> Result<(), VolError>
         ensures orderly { IsOrderly self.old → IsOrderly self.new }
         ensures same { current_of self.new ≡ current_of self.old }

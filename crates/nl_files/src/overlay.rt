@@ -1,5 +1,5 @@
 //! What changed since the latest checkpoint, by inode.
-ghost use Rattle.std.specs.Prelude.{◌≡◌, ◌≢◌, ◌==◌, ℕ, cond, [], List, Some, false, IfErr, IfOk, OnOk};
+ghost use Rattle.std.specs.Prelude.{◌≡◌, ◌≢◌, ℕ, [], List, Some, false, IfErr, IfOk, OnOk};
 ghost use Rattle.std.specs.BTreeMap as map;
 ghost use Rattle.std.specs.Ordering.{nat_cmp};
 ghost use Rattle.nl_types.specs.declared.error.VolError;
@@ -117,8 +117,8 @@ impl Overlay {
         }
     }
 
-    #[tactic(auto, using(crate::proofs::Shown::hidden))]
     /// Keeps a place for an inode. Nothing that shows changes.
+    #[tactic(auto, using(crate::proofs::Shown::hidden))]
     pub fn reserve(&mut self, inode: u64) -> Result<(), VolError>
         ensures orderly { IsOrderly self.old → IsInodeNumber inode → IsOrderly self.new }
         ensures same { current_of self.new ≡ current_of self.old }
@@ -148,11 +148,12 @@ impl Overlay {
         }
     }
 
-    #[tactic(auto, using(crate::proofs::Shown::hidden))]
     /// Puts something into an inode's place, where nothing shows.
+    #[tactic(auto, using(crate::proofs::Shown::hidden))]
     pub(crate) fn hide(&mut self, inode: u64, what: Changed) -> Result<(), VolError>
         requires { shows_inode self.old inode ≡ false }
-        ensures orderly { IsOrderly self.old → IsInodeNumber inode → HasOrderedPages what → IsOrderly self.new }
+        ensures orderly { IsOrderly self.old → IsInodeNumber inode → HasOrderedPages what
+            → IsOrderly self.new }
         ensures same { current_of self.new ≡ current_of self.old }
         ensures rest { KeepsRest self.old self.new }
         ensures still { ShowTheSame self.old self.new }
@@ -183,7 +184,8 @@ impl Overlay {
         ensures places { (i : ℕ) → HasSlot self.old i → HasSlot self.new i }
         ensures open { (b : Holding) (all : List Record) → B.TreeRead.holds base.now b
             → IsDirectoryOf (holding_now self.old b) dir all → OnOk result (HasListing self.new dir all) }
-        ensures others { (i : ℕ) (all : List Record) → i ≢ dir → HasListing self.old i all → HasListing self.new i all }
+        ensures others { (i : ℕ) (all : List Record) → i ≢ dir → HasListing self.old i all
+            → HasListing self.new i all }
         ensures refused { IfErr result (λ e. e ≡ VolError.Memory) }
     {
         if self.is_live(dir) {

@@ -2,7 +2,7 @@
 ghost use Rattle.std.specs.Prelude.{◌≡◌, ℕ, ◌+◌, ◌*◌, ◌/◌, ◌<◌, ◌≤◌, IfOk, length, option_copied, slice_index};
 ghost use Rattle.nl_ifile.specs.Contents.{byte_in};
 ghost use Rattle.nl_files.specs.Held.{Holding, held_block};
-ghost use Rattle.nl_files.specs.Bytes.{ArePagesCut, ArePagesWritten, IsPageCut, IsPageWritten, end_of_blocks, byte_written};
+ghost use Rattle.nl_files.specs.Bytes.{ArePagesCut, ArePagesWritten, IsPageCut, IsPageWritten, end_of_blocks};
 
 use crate::tree_read::TreeRead;
 use nl_types::{BLOCK_SIZE, Block, Page};

@@ -11,8 +11,8 @@ use crate::overlay::FileBlocks;
 use nl_types::{Page, VolError};
 
 impl FileBlocks {
-    #[tactic(auto, using(crate::proofs::Shown::hidden))]
     /// Keeps a place for a block. Nothing that shows changes.
+    #[tactic(auto, using(crate::proofs::Shown::hidden))]
     fn reserve(&mut self, index: u64) -> Result<(), VolError>
         ensures same { IsSameFile self.old self.new }
         ensures place { OnOk result (HasPage self.new index) }

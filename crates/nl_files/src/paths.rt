@@ -173,7 +173,8 @@ pub(crate) struct Place<'p> {
 /// One step of a walk, to a directory.
 fn step_into<T: TreeRead>(tree: &T, directory: u64, name: &[u8]) -> Result<u64, VolError>
     ensures { (held : Holding) → T.holds tree.now held
-        → result ≡ and_then (step_to (inodes_of_holding held) (directory, kind.Directory) name.now) as_directory }
+        → result ≡ and_then (step_to (inodes_of_holding held) (directory, kind.Directory) name.now)
+        as_directory }
 {
     let at = (InodeNumber::new(directory), Kind::Directory);
     match step(tree, at, name)? {

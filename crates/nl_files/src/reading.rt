@@ -1,5 +1,5 @@
 //! Calls that read a tree.
-ghost use Rattle.std.specs.Prelude.{◌≡◌, ◌≤◌, List, Some, IfErr, IfOk, OnErr, length, map, take, drop};
+ghost use Rattle.std.specs.Prelude.{◌≡◌, ◌≤◌, List, Some, Ok, IfErr, IfOk, OnErr, length, map, take, drop};
 ghost use Rattle.nl_types.specs.declared.error.VolError;
 ghost use Rattle.nl_types.specs.Paths.{path_of};
 ghost use Rattle.nl_types.specs.Trees.{Tree};
@@ -108,18 +108,6 @@ fn answer_bytes<T: TreeRead>(alloc: Global, tree: &T, path: &[u8], offset: u64, 
     Ok(Answer::Bytes(bytes))
 }
 
-/// What a tree answers. Refused as the call is, and by `Memory`.
-pub fn answer<T: TreeRead>(alloc: Global, tree: &T, ask: &Ask) -> Reply
-    ensures { (held : Holding) (shown : Tree) → T.holds tree.now held → HoldingMeans held shown
-        → IsUnlessMemory result (reply_to shown ask.now) }
-{
-    match ask {
-        Ask::Bytes { path, offset, len } => {
-            answer_bytes(alloc, tree, path.as_slice(), *offset, *len)
-        }
-    }
-}
-
 /// The names of records, with what they stand for. Refused by `Memory` alone.
 fn named(alloc: Global, records: Vec<Record>) -> Result<Items<Named>, VolError>
     ensures names { IfOk result (λ names. names ≡ map named_of records.items) }
@@ -160,4 +148,37 @@ pub fn list<T: TreeRead>(alloc: Global, tree: &T, path: &[u8]) -> Result<Items<N
 {
     let directory = find_directory(tree, path)?;
     listed_names(alloc, tree, directory.get())
+}
+
+/// The names in a directory, as an answer. Refused as `list` is.
+fn answer_names<T: TreeRead>(alloc: Global, tree: &T, path: &[u8]) -> Reply
+    ensures { (held : Holding) (shown : Tree) → T.holds tree.now held → HoldingMeans held shown
+        → IsUnlessMemory result
+        (and_then (and_then (path_of path.now) (list shown)) (λ names. Ok (Answer.Names names))) }
+{
+    let names = list(alloc, tree, path)?;
+    Ok(Answer::Names(names))
+}
+
+/// What stands at a path, as an answer. Refused as `stat` is.
+fn answer_stat<T: TreeRead>(tree: &T, path: &[u8]) -> Reply
+    ensures { (held : Holding) (shown : Tree) → T.holds tree.now held → HoldingMeans held shown
+        → result ≡ and_then (and_then (path_of path.now) (stat shown)) (λ found. Ok (Answer.Stat found)) }
+{
+    let found = stat(tree, path)?;
+    Ok(Answer::Stat(found))
+}
+
+/// What a tree answers. Refused as the call is, and by `Memory`.
+pub fn answer<T: TreeRead>(alloc: Global, tree: &T, ask: &Ask) -> Reply
+    ensures { (held : Holding) (shown : Tree) → T.holds tree.now held → HoldingMeans held shown
+        → IsUnlessMemory result (reply_to shown ask.now) }
+{
+    match ask {
+        Ask::Bytes { path, offset, len } => {
+            answer_bytes(alloc, tree, path.as_slice(), *offset, *len)
+        }
+        Ask::List { path } => answer_names(alloc, tree, path.as_slice()),
+        Ask::Stat { path } => answer_stat(tree, path.as_slice()),
+    }
 }

@@ -8,26 +8,16 @@ ghost use Rattle.nl_dirs.specs.declared.record.Record.{Record};
 ghost use Rattle.nl_files.specs.Became.{holding_over};
 ghost use Rattle.nl_files.specs.CurrentTrees.{CallsAs, HasRenamed, StandsOver, without_replaced};
 ghost use Rattle.nl_files.specs.Held.{Holding};
-ghost use Rattle.nl_files.specs.Moving.{FindsMove, IsRenameRefused, IsSource, MovesNothing};
+ghost use Rattle.nl_files.specs.Moving.{AreDirectoriesOf, FindsMove, IsRenameRefused, IsSource, MovesNothing, with_moved};
 ghost use Rattle.nl_files.specs.Naming.{listing_of};
-ghost use Rattle.nl_files.specs.Overlays.{IsDirectoryOf};
 ghost use Rattle.nl_files.specs.PathParts.{parts_of};
-ghost use Rattle.nl_files.specs.Steps.{with_link_moved};
 
 use crate::current::CurrentTree;
 use crate::paths::{Place, find_place, is_above, names_behind};
+use crate::renames::Move;
 use crate::tree_read::{Base, Link, TreeRead};
 use nl_types::{Answer, Kind, VolError};
 use std::alloc::Global;
-
-/// A record that is to be moved, and the place where it goes.
-#[derive(Clone, Copy)]
-struct Move<'p> {
-    directory: u64,
-    name: &'p [u8],
-    link: Link,
-    target: Place<'p>,
-}
 
 /// The names of two paths, of which neither is the root.
 fn both_names<'p>(from: &'p [u8], to: &'p [u8]) -> Result<(&'p [u8], &'p [u8]), VolError>
@@ -122,43 +112,23 @@ impl CurrentTree {
         &mut self,
         alloc: Global,
         base: &B,
-        found: Move,
+        found: &Move,
     ) -> Result<(), VolError>
         requires found { (b : Holding) × (tree : Tree) × (from to : Path) × B.TreeRead.holds base.now b
-            × StandsOver self.old b tree × FindsMove (holding_over self.old.became b) from to found }
-        requires name { IsTrue (is_name found.target.name.now) }
+            × StandsOver self.old b tree × FindsMove (holding_over self.old.became b) from to found.now }
+        requires name { IsTrue (is_name found.now.target.name.now) }
         ensures done { (b : Holding) (tree : Tree) (from to : Path) → B.TreeRead.holds base.now b
-            → StandsOver self.old b tree → FindsMove (holding_over self.old.became b) from to found.entry
+            → StandsOver self.old b tree → FindsMove (holding_over self.old.became b) from to found.now
             → CallsAs (λ _. Answer.Done) result self.new b (rename tree from to) }
         ensures moved { (b : Holding) (all others : List Record) → B.TreeRead.holds base.now b
-            → IsDirectoryOf (holding_over self.old.became b) found.entry.directory all
-            → IsDirectoryOf (holding_over self.old.became b) found.entry.target.directory others
-            → OnOk result ((i : ℕ) → holding_over self.new.became b i ≡ without_replaced found.entry.target.link
-            (with_link_moved found.entry.directory all found.entry.name.now found.entry.target.directory others
-            (record { name = found.entry.target.name.now; inode = found.entry.link.0; kind = found.entry.link.1 })
-            (holding_over self.old.became b)) i) }
+            → AreDirectoriesOf found.now (holding_over self.old.became b) all others
+            → OnOk result ((i : ℕ) → holding_over self.new.became b i ≡ without_replaced found.now.target.link
+            (with_moved found.now all others (holding_over self.old.became b)) i) }
         ensures same { OnErr result (self.new ≡ self.old) }
     {
         match found.target.link {
-            None => self.move_record(
-                alloc,
-                base,
-                found.directory,
-                found.name,
-                found.target.directory,
-                found.target.name,
-                found.link,
-            ),
-            Some((replaced, _)) => self.move_record_onto(
-                alloc,
-                base,
-                found.directory,
-                found.name,
-                found.target.directory,
-                found.target.name,
-                found.link,
-                replaced.get(),
-            ),
+            None => self.overlay.rename(alloc, base, found),
+            Some((replaced, _)) => { self.overlay.rename_onto(alloc, base, found, replaced.get()) }
         }
     }
 
@@ -180,8 +150,8 @@ impl CurrentTree {
         ensures done { (b : Holding) (tree : Tree) → B.TreeRead.holds base.now b → StandsOver self.old b tree
             → CallsAs (λ _. Answer.Done) result self.new b
             (and_then (path_of from.now) (λ names. and_then (path_of to.now) (rename tree names))) }
-        ensures changes { (b : Holding) (tree : Tree) → B.TreeRead.holds base.now b → StandsOver self.old b tree
-            → OnOk result (HasRenamed from.now to.now
+        ensures changes { (b : Holding) (tree : Tree) → B.TreeRead.holds base.now b
+            → StandsOver self.old b tree → OnOk result (HasRenamed from.now to.now
             (holding_over self.old.became b) (holding_over self.new.became b)) }
         ensures same { OnErr result (self.new ≡ self.old) }
     {
@@ -189,7 +159,7 @@ impl CurrentTree {
         match find_move(&self.view(base), names, target_names) {
             Err(e) => Err(e),
             Ok(None) => Ok(()),
-            Ok(Some(found)) => self.move_to_place(alloc, base, found),
+            Ok(Some(found)) => self.move_to_place(alloc, base, &found),
         }
     }
 }

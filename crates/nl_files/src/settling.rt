@@ -8,11 +8,12 @@ ghost use Rattle.nl_blocktree.specs.Checkpoints.{no_changes};
 ghost use Rattle.nl_blocktree.specs.Numbering.{CanTake};
 ghost use Rattle.nl_files.specs.Became.{Became, EachMayBecome, IsCurrent, MayBecome, over_became};
 ghost use Rattle.nl_files.specs.Held.{Held, Holding, IsCheckpointRoot, IsHolding, IsRootInUse, Stores, root_in, roots_at};
-ghost use Rattle.nl_files.specs.Overlays.{IsOrderly, became_in, became_of, slot_shows};
+ghost use Rattle.nl_files.specs.Overlays.{became_in, became_of, slot_shows};
 ghost use Rattle.nl_files.specs.Planned.{IsBase, inode_size, shaped};
 ghost use Rattle.nl_files.specs.Settles.{IsInodeSettled, Settles, Settling};
 ghost use Rattle.nl_files.specs.Shown.{pair, shown_entries};
 
+use crate::current::CurrentTree;
 use crate::overlay::{Changed, Overlay, Slot};
 use crate::plan::{Shape, plan_changes};
 use nl_blocktree::put_all;
@@ -22,57 +23,38 @@ use nl_layout::{Inode, Root};
 use nl_types::{InodeNumber, VolError};
 use std::alloc::Global;
 
-/// Puts what differs from the checkpoint into an empty batch, and answers the root of the new one. Refused by `Memory`
-/// alone; then the batch is empty again.
-pub(crate) fn settle_overlay<V: Vstore>(
-    alloc: Global,
-    store: &V,
-    batch: &mut Batch,
-    root: Root,
-    overlay: &Overlay,
-) -> Result<Root, VolError>
-    requires empty { batch.old ≡ no_changes }
-    requires fits { CanTake (V.store store.now) batch.old }
-    requires checkpoint { IsCheckpointRoot (content_in (V.store store.now)) (root_of root) }
-    requires orderly { IsOrderly overlay.now }
-    requires current { (base held : Holding) ×
-        IsCurrent (content_in (V.store store.now)) (root_of root) (became_in overlay.now) base held }
-    ensures settles { IfOk result (λ new. (base held : Holding)
-        → IsCurrent (content_in (V.store store.now)) (root_of root) (became_in overlay.now) base held
-        → Settles (content_in (V.store store.now)) (root_of root) (root_of new) (became_in overlay.now) held batch.new) }
-    ensures fits { IfOk result (λ _. CanTake (V.store store.now) batch.new) }
-    ensures same { OnErr result (batch.new ≡ batch.old) }
-    ensures err { IfErr result (λ e. e ≡ VolError.Memory) }
-{
-    let result = settle_files(alloc, store, batch, root, overlay);
-    if result.is_err() {
-        batch.truncate(0, 0);
+impl CurrentTree {
+    /// Puts what differs from the checkpoint into an empty batch, and answers the root of the new one. Refused by `Memory`
+    /// alone; then the batch is empty again.
+    pub fn settle<V: Vstore>(
+        &self,
+        alloc: Global,
+        store: &V,
+        root: Root,
+        batch: &mut Batch,
+    ) -> Result<Root, VolError>
+        requires empty { batch.old ≡ no_changes }
+        requires fits { CanTake (V.store store.now) batch.old }
+        requires checkpoint { IsCheckpointRoot (content_in (V.store store.now)) (root_of root) }
+        requires current { (base held : Holding) ×
+            IsCurrent (content_in (V.store store.now)) (root_of root) self.now.became base held }
+        ensures settles { IfOk result (λ new. (base held : Holding)
+            → IsCurrent (content_in (V.store store.now)) (root_of root) self.now.became base held
+            → Settles (content_in (V.store store.now)) (root_of root) (root_of new)
+            self.now.became held batch.new) }
+        ensures fits { IfOk result (λ _. CanTake (V.store store.now) batch.new) }
+        ensures same { OnErr result (batch.new ≡ batch.old) }
+        ensures err { IfErr result (λ e. e ≡ VolError.Memory) }
+    {
+        let settled = match settle_inodes(alloc, store, batch, &root, &self.overlay) {
+            Ok(inodes) => put_inodes(alloc, store, batch, root, &inodes),
+            Err(refusal) => Err(refusal),
+        };
+        if settled.is_err() {
+            batch.truncate(0, 0);
+        }
+        settled
     }
-    result
-}
-
-/// The same. Where it is refused, what was added stays in the batch.
-fn settle_files<V: Vstore>(
-    alloc: Global,
-    store: &V,
-    batch: &mut Batch,
-    root: Root,
-    overlay: &Overlay,
-) -> Result<Root, VolError>
-    requires empty { batch.old ≡ no_changes }
-    requires fits { CanTake (V.store store.now) batch.old }
-    requires checkpoint { IsCheckpointRoot (content_in (V.store store.now)) (root_of root) }
-    requires orderly { IsOrderly overlay.now }
-    requires current { (base held : Holding) ×
-        IsCurrent (content_in (V.store store.now)) (root_of root) (became_in overlay.now) base held }
-    ensures settles { IfOk result (λ new. (base held : Holding)
-        → IsCurrent (content_in (V.store store.now)) (root_of root) (became_in overlay.now) base held
-        → Settles (content_in (V.store store.now)) (root_of root) (root_of new) (became_in overlay.now) held batch.new) }
-    ensures fits { IfOk result (λ _. CanTake (V.store store.now) batch.new) }
-    ensures err { IfErr result (λ e. e ≡ VolError.Memory) }
-{
-    let inodes = settle_inodes(alloc, store, batch, &root, overlay)?;
-    put_inodes(alloc, store, batch, root, &inodes)
 }
 
 /// Puts the blocks of each inode that changed into the batch, and answers the changes of inodes.

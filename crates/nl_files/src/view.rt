@@ -4,6 +4,7 @@ ghost use Rattle.nl_files.specs.Became.{holding_over};
 ghost use Rattle.nl_files.specs.Held.{Holding, IsHolding};
 
 use crate::current::CurrentTree;
+use crate::overlay::Overlay;
 use crate::tree_read::{Base, Link, TreeRead};
 use nl_dirs::Record;
 use nl_types::{Page, VolError};
@@ -12,7 +13,7 @@ use std::alloc::Global;
 /// The current tree over the latest checkpoint, to be read by paths as the checkpoint's own tree is.
 #[derive(Drop)]
 pub struct View<'a, B: Base> {
-    tree: &'a CurrentTree,
+    overlay: &'a Overlay,
     base: &'a B,
 }
 
@@ -22,39 +23,42 @@ impl CurrentTree {
         ensures { (b : Holding) → B.TreeRead.holds base.now b → IsHolding (holding_over self.now.became b)
             → ⟦<View<'a, B> as TreeRead>⟧.holds result (holding_over self.now.became b) }
     {
-        View { tree: self, base }
+        View {
+            overlay: &self.overlay,
+            base,
+        }
     }
 }
 
 impl<B: Base> TreeRead for View<'_, B> {
     ghost use Rattle.std.specs.Prelude.{◌≡◌};
-    ghost use Rattle.nl_files.specs.Became.{holding_over};
     ghost use Rattle.nl_files.specs.Held.{Holding, IsHolding};
+    ghost use Rattle.nl_files.specs.Overlays.{holding_now};
 
     ghost holds = { λ view held. IsHolding held
-        × ((b : Holding) × B.TreeRead.holds view.base.now b × (held ≡ holding_over view.tree.now.became b)) };
+        × ((b : Holding) × B.TreeRead.holds view.base.now b × (held ≡ holding_now view.overlay.now b)) };
 
     fn find(&self, dir: u64, name: &[u8]) -> Option<Link> {
-        self.tree.find(self.base, dir, name)
+        self.overlay.find(self.base, dir, name)
     }
 
     fn size(&self, file: u64) -> u64 {
-        self.tree.size(self.base, file)
+        self.overlay.size(self.base, file)
     }
 
     fn block(&self, file: u64, index: u64) -> Option<&Page> {
-        self.tree.block(self.base, file, index)
+        self.overlay.block(self.base, file, index)
     }
 
     fn read_bytes(&self, file: u64, offset: u64, into: &mut [u8]) {
-        self.tree.read_bytes(self.base, file, offset, into);
+        self.overlay.read_bytes(self.base, file, offset, into);
     }
 
     fn name_count(&self, dir: u64) -> u64 {
-        self.tree.name_count(self.base, dir)
+        self.overlay.name_count(self.base, dir)
     }
 
     fn records(&self, alloc: Global, dir: u64) -> Result<Vec<Record>, VolError> {
-        self.tree.records(alloc, self.base, dir)
+        self.overlay.records(alloc, self.base, dir)
     }
 }

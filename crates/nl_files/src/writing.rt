@@ -14,7 +14,7 @@ ghost use Rattle.nl_files.specs.Numbers.{CountsFree};
 use crate::current::CurrentTree;
 use crate::page_writing::{cut_pages, written_pages};
 use crate::paths::find_file;
-use crate::tree_read::Base;
+use crate::tree_read::{Base, TreeRead};
 use nl_types::{Answer, BLOCK_SIZE, VolError};
 use std::alloc::Global;
 
@@ -36,8 +36,9 @@ impl CurrentTree {
         requires more { 0 < length bytes.now }
         requires fits { offset + length bytes.now ≤ 67108864 }
         ensures written { (b : Holding) (size : ℕ) (blocks : Blocks) → B.TreeRead.holds base.now b
-            → IsFileIn (holding_over self.old.became b) file size blocks → OnOk result (IsFileWritten
-            (holding_over self.old.became b) (holding_over self.new.became b) file size blocks offset bytes.now) }
+            → IsFileIn (holding_over self.old.became b) file size blocks → OnOk result
+            (IsFileWritten (holding_over self.old.became b) (holding_over self.new.became b)
+            file size blocks offset bytes.now) }
         ensures counts { (b : Holding) (size : ℕ) (blocks : Blocks) → B.TreeRead.holds base.now b
             → IsFileIn (holding_over self.old.became b) file size blocks
             → CountsFree self.old b → OnOk result (CountsFree self.new b) }
@@ -46,8 +47,9 @@ impl CurrentTree {
         ensures refused { IfErr result (λ e. e ≡ VolError.Memory) }
     {
         let pages = written_pages(alloc, &self.view(base), file, offset, bytes)?;
-        let size = self.size(base, file).max(offset + bytes.len() as u64);
-        self.write_blocks(alloc, base, file, size, offset / BLOCK_SIZE as u64, pages)
+        let size = self.view(base).size(file).max(offset + bytes.len() as u64);
+        self.overlay
+            .write_blocks(alloc, base, file, size, offset / BLOCK_SIZE as u64, pages)
     }
 
     /// Gives a file a size in bytes. Refused by `Memory` alone; then the tree is as before.
@@ -72,7 +74,8 @@ impl CurrentTree {
         ensures refused { IfErr result (λ e. e ≡ VolError.Memory) }
     {
         let pages = cut_pages(alloc, &self.view(base), file, size)?;
-        self.truncate_blocks(alloc, base, file, size, size / BLOCK_SIZE as u64, pages)
+        self.overlay
+            .truncate_blocks(alloc, base, file, size, size / BLOCK_SIZE as u64, pages)
     }
 
     /// Writes bytes over those of the file at a path from an offset on, and answers how many (pwrite(2)). Where the offset
@@ -91,9 +94,10 @@ impl CurrentTree {
     ) -> Result<u64, VolError>
         requires { (b : Holding) × (tree : Tree) × B.TreeRead.holds base.now b × StandsOver self.old b tree }
         ensures done { (b : Holding) (tree : Tree) → B.TreeRead.holds base.now b → StandsOver self.old b tree
-            → CallsAs Answer.Written result self.new b (and_then (path_of path.now) (write tree offset bytes.now)) }
-        ensures changes { (b : Holding) (tree : Tree) → B.TreeRead.holds base.now b → StandsOver self.old b tree
-            → OnOk result (HasWrittenAny path.now offset bytes.now
+            → CallsAs Answer.Written result self.new b
+            (and_then (path_of path.now) (write tree offset bytes.now)) }
+        ensures changes { (b : Holding) (tree : Tree) → B.TreeRead.holds base.now b
+            → StandsOver self.old b tree → OnOk result (HasWrittenAny path.now offset bytes.now
             (holding_over self.old.became b) (holding_over self.new.became b)) }
         ensures same { OnErr result (self.new ≡ self.old) }
     {
@@ -124,9 +128,10 @@ impl CurrentTree {
     ) -> Result<(), VolError>
         requires { (b : Holding) × (tree : Tree) × B.TreeRead.holds base.now b × StandsOver self.old b tree }
         ensures done { (b : Holding) (tree : Tree) → B.TreeRead.holds base.now b → StandsOver self.old b tree
-            → CallsAs (λ _. Answer.Done) result self.new b (and_then (path_of path.now) (truncate tree size)) }
-        ensures changes { (b : Holding) (tree : Tree) → B.TreeRead.holds base.now b → StandsOver self.old b tree
-            → OnOk result (HasTruncated path.now size
+            → CallsAs (λ _. Answer.Done) result self.new b
+            (and_then (path_of path.now) (truncate tree size)) }
+        ensures changes { (b : Holding) (tree : Tree) → B.TreeRead.holds base.now b
+            → StandsOver self.old b tree → OnOk result (HasTruncated path.now size
             (holding_over self.old.became b) (holding_over self.new.became b)) }
         ensures same { OnErr result (self.new ≡ self.old) }
     {

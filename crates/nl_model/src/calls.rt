@@ -2,13 +2,13 @@
 ghost use Rattle.std.specs.Prelude.{◌≡◌, []};
 ghost use Rattle.nl_types.specs.declared.reply.Node.TheVariants.{File};
 ghost use Rattle.nl_types.specs.Paths.{path_of};
-ghost use Rattle.nl_types.specs.Calls.{IsUnlessMemory, and_then, create, mkdir, write, truncate, change, is_dirtying, read, reply_to};
+ghost use Rattle.nl_types.specs.Calls.{IsUnlessMemory, and_then, create, mkdir, write, truncate, read};
 
 use crate::bytes::{part, with_over, with_size};
 use crate::path::{Name, Path, parse};
 use crate::tree::{Tree, copy, find, with};
 use crate::walks::{file, walk_to};
-use nl_types::{Answer, Ask, Change, Items, Node, Reply, VolError};
+use nl_types::{Answer, Items, Node, Reply, VolError};
 use std::alloc::Global;
 
 /// The most bytes of a file.
@@ -132,37 +132,4 @@ pub fn read(alloc: Global, entries: &[(Path, Node)], path: &[u8], offset: u64, l
 {
     let path = parse(alloc, path)?;
     read_bytes(alloc, entries, offset, len, path.as_slice())
-}
-
-/// Makes a change.
-pub fn make(alloc: Global, entries: &[(Path, Node)], asked: &Change) -> Changed
-    ensures { IsUnlessMemory result (change entries.now asked.now) }
-{
-    match asked {
-        Change::Create { path } => create(alloc, entries, path.as_slice()),
-        Change::Write {
-            path,
-            offset,
-            bytes,
-        } => write(alloc, entries, path.as_slice(), *offset, bytes.as_slice()),
-    }
-}
-
-/// Whether a change that is not refused counts as one.
-pub fn marks_dirty(asked: &Change) -> bool
-    ensures { result ≡ is_dirtying asked.now }
-{
-    match asked {
-        Change::Create { .. } => true,
-        Change::Write { bytes, .. } => !bytes.as_slice().is_empty(),
-    }
-}
-
-/// What a tree answers.
-pub fn reply(alloc: Global, entries: &[(Path, Node)], asked: &Ask) -> Reply
-    ensures { IsUnlessMemory result (reply_to entries.now asked.now) }
-{
-    match asked {
-        Ask::Bytes { path, offset, len } => read(alloc, entries, path.as_slice(), *offset, *len),
-    }
 }

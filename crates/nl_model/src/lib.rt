@@ -7,6 +7,7 @@ mod bytes;
 mod calls;
 mod copies;
 mod dirs;
+mod dispatch;
 mod path;
 mod runs;
 mod tree;

@@ -6,8 +6,8 @@ ghost use Rattle.nl_types.specs.Calls.{IsUnlessMemory};
 ghost use Rattle.nl_types.specs.Worlds.{formatted, apply_change, checkpoint, mount, mount_read, IsDoneUnlessMemory};
 ghost use Rattle.nl_model.specs.Model.{ModelStep};
 
-use crate::calls::{make, marks_dirty, reply};
 use crate::copies::{Kept, find_copy, greatest_number, is_snapshot_mode, stamp_of_latest};
+use crate::dispatch::{make, marks_dirty, reply};
 use crate::tree::{self, Tree, root_alone_tree};
 use nl_types::{
     Answer, Ask, Change, CheckpointNumber, Event, Items, Mode, MountNumber, Reply, VolError,
@@ -147,13 +147,28 @@ impl World {
     /// - Each file call judges its path first: `BadPath` or `BadName` where the bytes spell none,
     ///   then POSIX's pathname resolution: `NotFound` where a name on the way is missing, `NotDir`
     ///   where it is a file.
-    /// - A create goes by POSIX's `open` with `O_CREAT` and `O_EXCL`: `Exists` where something
-    ///   stands, `TooBig` where the volume has its most paths.
+    /// - A create goes by POSIX's `open` with `O_CREAT` and `O_EXCL`, and a new directory by `mkdir`:
+    ///   `Exists` where something stands, `TooBig` where the volume has its most paths.
     /// - A write goes by POSIX's `pwrite`: where the offset is past the end, zeros stand between.
     ///   No bytes change nothing. `NotFound` where nothing stands, `IsDir` where a directory does,
     ///   `TooBig` where the file would pass its limit.
+    /// - A truncation goes by POSIX's `truncate`: a longer file shows zeros. Refused as a write is.
+    /// - A file is removed by POSIX's `unlink`: `NotFound` where nothing stands, `IsDir` where a
+    ///   directory does. An empty directory is removed by `rmdir`: `BadPath` for the root,
+    ///   `NotFound` where nothing stands, `NotDir` where a file does, `NotEmpty` where there are
+    ///   names in it.
+    /// - A rename goes by POSIX's `rename`, and the same path twice changes nothing. Both paths are
+    ///   judged, the old one first; `BadPath` where either is the root; the walk to the old one;
+    ///   `IntoItself` where a directory would lie below itself; the walk to the new one's directory;
+    ///   `IsDir` and `NotDir` where the target is of the other kind, `NotEmpty` where it is a
+    ///   directory with names in it.
     /// - A read goes by POSIX's `pread`: there are no bytes at and past the end. `NotFound` where
     ///   nothing stands, `IsDir` where a directory does.
+    /// - A list has the names in a directory with their kinds, ascending by bytes, as POSIX's
+    ///   `readdir` has them, without `.` and `..`: `NotFound` where nothing stands, `NotDir` where a
+    ///   file does.
+    /// - A stat has a file's size, or the number of names in a directory, after POSIX's `stat`:
+    ///   `NotFound` where nothing stands.
     /// - A checkpoint goes by mkcp(8): it keeps the current tree under the next number, as a
     ///   snapshot if that is asked for, also where nothing changed. Its stamp is never below the
     ///   latest one's. `NumbersSpent` where the numbers have run out.

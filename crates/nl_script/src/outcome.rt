@@ -2,7 +2,7 @@
 ghost use Rattle.std.specs.Prelude.{◌≡◌};
 
 use crate::status::Status;
-use nl_types::{Answer, VolError};
+use nl_types::{Answer, Items, Kind, Named, Stat, VolError};
 use std::io;
 use std::io::Write;
 
@@ -46,6 +46,9 @@ impl Outcome {
                 writeln!(output, "{}", number.get())?;
             }
             Outcome::Answered(Answer::Mount(number)) => writeln!(output, "{}", number.get())?,
+            Outcome::Answered(Answer::Names(names)) => print_names(names, output)?,
+            Outcome::Answered(Answer::Stat(Stat::File(size))) => writeln!(output, "file {size}")?,
+            Outcome::Answered(Answer::Stat(Stat::Dir(count))) => writeln!(output, "dir {count}")?,
             Outcome::Refused(error) => {
                 writeln!(output, "{line}: error {} {}", error.number(), error.name())?;
             }
@@ -53,4 +56,16 @@ impl Outcome {
         }
         output.flush()
     }
+}
+
+/// Prints names, one a line. A directory's is followed by a slash, as `ls -p` shows it.
+fn print_names(names: &Items<Named>, output: &mut impl Write) -> io::Result<()> {
+    for named in names.as_slice() {
+        output.write_all(named.name.as_slice())?;
+        match named.kind {
+            Kind::Directory => output.write_all(b"/\n")?,
+            Kind::File => output.write_all(b"\n")?,
+        }
+    }
+    Ok(())
 }

@@ -1,20 +1,22 @@
--- How many paths a tree has once a file is made, written or taken away.
-use Rattle.std.proofs.Common.{◌≡◌, ℕ, ◌+◌, Bool, true, false, List, length, Option, Some, None, Result, Ok, Err, refl, sym, ap, ◌∙◌, T, arith}
-use Rattle.std.specs.Prelude.{◌==◌, OnOk, nat_lt, if◌then◌else◌, is_some}
+-- How many paths a tree has once a file is made or taken away.
+use Rattle.std.proofs.Common.{◌≡◌, ℕ, ◌+◌, Bool, true, false, List, [], length, Option, Some, None, Result, Ok, Err, refl, sym, ap, ◌∙◌, subst, T, arith}
+use Rattle.std.specs.Prelude.{OnOk, nat_lt, is_some}
 use Rattle.std.specs.Option.{ok_or}
 use Rattle.std.specs.FinMap.{is_sorted}
 use Rattle.nl_types.specs.declared.error.VolError.{VolError}
 use Rattle.nl_types.specs.declared.error.VolError.TheVariants.{NotFound, Exists, TooBig}
+use Rattle.nl_types.specs.declared.event.Change.{Change}
+use Rattle.nl_types.specs.declared.event.Change.TheVariants.{Create, Unlink}
 use Rattle.nl_types.specs.declared.reply.Answer.{Answer}
 use Rattle.nl_types.specs.declared.reply.Answer.TheVariants as answer
 use Rattle.nl_types.specs.declared.reply.Node.{Node}
-use Rattle.nl_types.specs.declared.reply.Node.TheVariants.{Dir, File}
-use Rattle.nl_types.specs.Limits.{file_limit, path_limit}
+use Rattle.nl_types.specs.declared.reply.Node.TheVariants.{File}
+use Rattle.nl_types.specs.Limits.{path_limit}
 use Rattle.nl_types.specs.Paths.{Path, path_cmp, path_of}
 use Rattle.nl_types.specs.Trees.{Tree, insert, lookup, remove}
-use Rattle.nl_types.specs.Calls.{Changed, and_then, create, file_at, file_in, node_at, overwritten, refuse_if, tree_after, unlink, walk, write}
+use Rattle.nl_types.specs.Calls.{Changed, and_then, change, create, file_at, file_in, node_at, refuse_if, tree_after, unlink, walk}
 use Rattle.nl_types.proofs.Booleans.{holds}
-use Rattle.nl_types.proofs.Inodes.TreeCounts.{length-insert_new, length-insert_old, length-remove}
+use Rattle.nl_types.proofs.Inodes.TreeCounts.{length-insert_new, length-remove}
 use Rattle.nl_files.specs.Became.{Current}
 use Rattle.nl_files.specs.CurrentTrees.{CallsAs, LeadsOver, StandsOver}
 use Rattle.nl_files.specs.Held.{Holding}
@@ -57,27 +59,6 @@ file_there tree path bytes is =
     let there = went_on (walk tree path) (λ _. ok_or (lookup tree path) NotFound) node.0 node.1 in
     (node.0, some_there (lookup tree path) node.0 there.2)
 
--- bytes are written, unless there are none
-abbrev written_or : Bool → Tree → Tree → ℕ → ℕ → Changed
-written_or none tree made count offset =
-    if none then Ok (answer.Written 0, tree) else refuse_if (nat_lt file_limit (offset + count)) TooBig (Ok (answer.Written count, made))
-
-written_either : (none : Bool) (given : Answer) (tree made after : Tree) (count offset : ℕ) → written_or none tree made count offset ≡ Ok (given, after)
-    → length made ≡ length tree → length after ≡ length tree
-written_either true given tree made after count offset is same = leaves (Ok (answer.Written 0, tree)) (answer.Written 0) given tree after refl is
-written_either false given tree made after count offset is same =
-    let wrote : Changed = Ok (answer.Written count, made) in
-    leaves wrote (answer.Written count) given made after refl (passed (nat_lt file_limit (offset + count)) TooBig wrote (given, after) is).1 ∙ same
-
-written-none_more : (tree : Tree) (offset : ℕ) (new : List ℕ) (path : Path) (given : Answer) (after : Tree) → T (is_sorted path_cmp tree)
-    → write tree offset new path ≡ Ok (given, after) → length after ≡ length tree
-written-none_more tree offset new path given after sorted is =
-    let made : List ℕ → Tree = λ bytes. insert tree path (File (overwritten bytes offset new)) in
-    let there = went_on (file_at tree path) (λ bytes. written_or (length new == 0) tree (made bytes) (length new) offset) (given, after) is in
-    let old = file_there tree path there.0 there.1 in
-    written_either (length new == 0) given tree (made there.0) after (length new) offset there.2
-    (length-insert_old tree path (File (overwritten there.0 offset new)) old.0 sorted old.1)
-
 unlinked-one_less : (tree : Tree) (path : Path) (given : Answer) (after : Tree) → T (is_sorted path_cmp tree)
     → unlink tree path ≡ Ok (given, after) → length after + 1 ≡ length tree
 unlinked-one_less tree path given after sorted is =
@@ -90,33 +71,25 @@ unlinked-one_less tree path given after sorted is =
 
 -- ---- of the current tree
 
-module _ (old new : Current) (base : Holding) (tree : Tree) (over : StandsOver old base tree) (path : List ℕ) where
-  create-counts : (given : Answer) (node : Node) → LeadsOver (and_then (path_of path) (create tree node)) given new base → new.names ≡ old.names + 1
-  create-counts given node leads =
-      let at = went_on (path_of path) (create tree node) (given, leads.tree) leads.is in
-      let more : length leads.tree ≡ length tree + 1 = created-one_more tree node at.0 given leads.tree (holds _ over.stands.means.ordered) at.2 in
+module _ (old new : Current) (base : Holding) (tree : Tree) (over : StandsOver old base tree) where
+  create-counts : (given : Answer) (path : List ℕ) → LeadsOver (change tree (Create path)) given new base → new.names ≡ old.names + 1
+  create-counts given path leads =
+      let at = went_on (path_of path) (create tree (File [])) (given, leads.tree) leads.is in
+      let more : length leads.tree ≡ length tree + 1 = created-one_more tree (File []) at.0 given leads.tree (holds _ over.stands.means.ordered) at.2 in
       omega (arith, more, over.stands.count, leads.stands.stands.count)
 
-  pub create-names : {A : Type 0} (result : Result A VolError) (node : Node) → CallsAs (λ _. answer.Done) result new base (and_then (path_of path) (create tree node)) → OnOk result (new.names ≡ old.names + 1)
-  create-names (Ok a) node calls = create-counts answer.Done node calls
-  create-names (Err e) node calls = tt
+  pub create-names : (result : Result Answer VolError) (call : Change) → CallsAs (λ a. a) result new base (change tree call)
+      → OnOk result ((path : List ℕ) → call ≡ Create path → new.names ≡ old.names + 1)
+  create-names (Ok given) call calls = λ path is. create-counts given path (subst (λ (c : Change). LeadsOver (change tree c) given new base) is calls)
+  create-names (Err e) call calls = tt
 
-  write-counts : (given : Answer) (offset : ℕ) (bytes : List ℕ) → LeadsOver (and_then (path_of path) (write tree offset bytes)) given new base → new.names ≡ old.names
-  write-counts given offset bytes leads =
-      let at = went_on (path_of path) (write tree offset bytes) (given, leads.tree) leads.is in
-      let same : length leads.tree ≡ length tree = written-none_more tree offset bytes at.0 given leads.tree (holds _ over.stands.means.ordered) at.2 in
-      omega (arith, same, over.stands.count, leads.stands.stands.count)
-
-  pub write-names : (result : Result ℕ VolError) (offset : ℕ) (bytes : List ℕ) → CallsAs answer.Written result new base (and_then (path_of path) (write tree offset bytes)) → OnOk result (new.names ≡ old.names)
-  write-names (Ok count) offset bytes calls = write-counts (answer.Written count) offset bytes calls
-  write-names (Err e) offset bytes calls = tt
-
-  unlink-counts : (given : Answer) → LeadsOver (and_then (path_of path) (unlink tree)) given new base → new.names + 1 ≡ old.names
-  unlink-counts given leads =
+  unlink-counts : (given : Answer) (path : List ℕ) → LeadsOver (change tree (Unlink path)) given new base → new.names + 1 ≡ old.names
+  unlink-counts given path leads =
       let at = went_on (path_of path) (unlink tree) (given, leads.tree) leads.is in
       let less : length leads.tree + 1 ≡ length tree = unlinked-one_less tree at.0 given leads.tree (holds _ over.stands.means.ordered) at.2 in
       omega (arith, less, over.stands.count, leads.stands.stands.count)
 
-  pub unlink-names : {A : Type 0} (result : Result A VolError) → CallsAs (λ _. answer.Done) result new base (and_then (path_of path) (unlink tree)) → OnOk result (new.names + 1 ≡ old.names)
-  unlink-names (Ok a) calls = unlink-counts answer.Done calls
-  unlink-names (Err e) calls = tt
+  pub unlink-names : (result : Result Answer VolError) (call : Change) → CallsAs (λ a. a) result new base (change tree call)
+      → OnOk result ((path : List ℕ) → call ≡ Unlink path → new.names + 1 ≡ old.names)
+  unlink-names (Ok given) call calls = λ path is. unlink-counts given path (subst (λ (c : Change). LeadsOver (change tree c) given new base) is calls)
+  unlink-names (Err e) call calls = tt

@@ -1,16 +1,17 @@
 -- The current tree stands for a tree after each call, and over each checkpoint.
-use Rattle.std.proofs.Common.{◌≡◌, ℕ, zero, suc, ◌+◌, ◌≤◌, List, [], Option, Some, None, Result, Ok, Err, OnErr, refl, sym, ap, ◌∙◌, subst, get_or, replicate}
+use Rattle.std.proofs.Common.{◌≡◌, ℕ, zero, suc, ◌+◌, ◌≤◌, List, [], Option, None, Result, Ok, Err, OnErr, refl, sym, ap, ◌∙◌, subst, get_or, replicate}
 use Rattle.std.specs.Option.{option_map}
 use Rattle.nl_types.specs.declared.error.VolError.{VolError}
+use Rattle.nl_types.specs.declared.error.VolError.TheVariants.{Fault, Memory, NoSpace}
 use Rattle.nl_types.specs.declared.reply.Answer.{Answer}
 use Rattle.nl_types.specs.Calls.{Changed}
-use Rattle.nl_types.specs.Entries.{Content, Entry, written}
+use Rattle.nl_types.specs.Entries.{Content, written}
 use Rattle.nl_types.specs.Lifetimes.{Ledger, blank}
 use Rattle.nl_types.specs.Roots.{Root, pages_of}
 use Rattle.nl_types.specs.Trees.{Tree}
 use Rattle.nl_segwriter.specs.Content.{SpaceContent}
 use Rattle.nl_dat.specs.Batches.{Changes, Fits}
-use Rattle.nl_dat.specs.Stores.{Store, content_in, entry_now, new_store}
+use Rattle.nl_dat.specs.Stores.{IsWriteRefused, Numbered, Store, content_in, entry_now, new_store}
 use Rattle.nl_files.specs.Held.{Holding, IsCheckpointRoot, IsHolding}
 use Rattle.nl_files.specs.Became.{Became, Current, IsCurrent, holding_over}
 use Rattle.nl_files.specs.CheckpointTrees.{HoldsTree}
@@ -22,17 +23,18 @@ use Rattle.nl_files.specs.TreeLaws.{StandsOverLatest}
 use Rattle.nl_files.specs.TreeMeaning.{StandsForTree}
 use Rattle.nl_files.proofs.TreeLaws.{settled_trees-go_on, trees-can_be_settled}
 
--- the ledger of a store has this checkpoint as its latest, over which the current tree stands for a tree
-abbrev pub IsOverLatest : Store → Root → Current → ℕ → Type 0
-IsOverLatest store root now checkpoint =
-    (ledger : Ledger) × (base : Holding) × (tree : Tree) × StandsOverLatest ledger root now base tree
-    × (ledger.content ≡ content_in store) × (ledger.latest ≡ checkpoint)
-
 -- a call leaves a tree, be it refused or not
-pub call_leaves : {A : Type 0} (given : A → Answer) (result : Result A VolError) (old now : Current) (b : Holding) (called : Changed) (t : Tree)
-    → CallsAs given result now b called → OnErr result (now ≡ old) → StandsOver old b t → (u : Tree) × StandsOver now b u
-call_leaves given (Ok a) old now b called t calls same stands = (calls.tree, calls.stands)
-call_leaves given (Err e) old now b called t calls same stands = (t, subst (λ (c : Current). StandsOver c b t) (sym same) stands)
+pub call_leaves : (result : Result Answer VolError) (old now : Current) (b : Holding) (called : Changed) (t : Tree)
+    → CallsAs (λ a. a) result now b called → OnErr result (now ≡ old) → StandsOver old b t → (u : Tree) × StandsOver now b u
+call_leaves (Ok a) old now b called t calls same stands = (calls.tree, calls.stands)
+call_leaves (Err e) old now b called t calls same stands = (t, subst (λ (c : Current). StandsOver c b t) (sym same) stands)
+
+-- a batch that is not written leaves what numbers stand for
+pub refused-keeps : (e : VolError) (checkpoint stamp : ℕ) (batch : Changes) (old new : Store) → IsWriteRefused checkpoint stamp batch old new e → content_in new ≡ content_in old
+refused-keeps NoSpace checkpoint stamp batch old new why = ap content_in why.1
+refused-keeps Memory checkpoint stamp batch old new why = ap content_in why
+refused-keeps Fault checkpoint stamp batch old new why = ap (λ (numbers : List (Option Numbered)). content_in (record old { numbers = numbers })) why.numbers
+refused-keeps _ checkpoint stamp batch old new why = absurd why
 
 -- a new store has no number in use
 none_stands : {X : Type 0} (total k : ℕ) → get_or (replicate {A = Option X} total None) k None ≡ None

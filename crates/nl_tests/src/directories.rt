@@ -1,5 +1,5 @@
 //! Blocks of directories byte by byte, and what is found in them.
-ghost use Rattle.std.specs.Prelude.{◌≡◌, IsTrue};
+ghost use Rattle.std.specs.Prelude.{IsTrue};
 ghost use Rattle.nl_dirs.specs.Records.{AllFit, RecordFits};
 
 use nl_dirs::{Record, find, first_name, pack, record_count, records};
@@ -67,29 +67,27 @@ const FOUR_SPELLED: [u8; 30] = [
     0xff, 0, 0, 0, 0x80, 2, 255,
 ];
 
-fn is_entry(record: &Record, entry: &Entry) -> bool {
-    record.name.as_slice() == entry.0
-        && record.inode == InodeNumber::new(entry.1)
-        && record.kind == entry.2
-}
-
-/// Whether a block spells the four records, with zeros behind the last one's name.
-fn spells_four(block: &Block) -> bool {
-    let bytes = block.bytes();
+/// Whether a page spells the four records, with zeros behind the last one's name.
+fn spells_four(page: &Page) -> bool {
+    let bytes = page.bytes();
     &bytes[..30] == FOUR_SPELLED.as_slice()
         && bytes[30..285] == [0xff; 255]
         && bytes[285..] == [0; 739]
 }
 
 /// Whether a record is the due one, and its name is found in the page.
-fn is_found(page: &Page, record: &Record, entry: &Entry) -> bool {
-    is_entry(record, entry) && find(page, entry.0) == Some((record.inode, record.kind))
+fn is_found(page: &Page, found: &Record, due: &Entry) -> bool {
+    let (name, inode, kind) = *due;
+    found.name.as_slice() == name
+        && found.inode == InodeNumber::new(inode)
+        && found.kind == kind
+        && find(page, name) == Some((found.inode, kind))
 }
 
 /// Whether these are the four records, and each is found in the page.
 fn are_four(page: &Page, records: &[Record]) -> bool {
-    for (record, entry) in records.iter().zip(FOUR.as_slice()) {
-        if !is_found(page, record, entry) {
+    for (found, due) in records.iter().zip(FOUR.as_slice()) {
+        if !is_found(page, found, due) {
             return false;
         }
     }
@@ -104,90 +102,28 @@ fn reads_four(alloc: Global, page: &Page) -> Result<bool, VolError> {
     }
 }
 
-/// The block of the four records, if it is one.
-fn block_of_four(alloc: Global) -> Result<Option<Block>, VolError> {
+fn begins_with_a(page: &Page) -> bool {
+    record_count(page) == 4
+        && first_name(page) == Some(b"a".as_slice())
+        && find(page, b"b").is_none()
+}
+
+/// The page of the four records. Refused by `BadImage` where they take not one block.
+fn page_of_four(alloc: Global) -> Result<Page, VolError> {
     let blocks = packed(alloc, &records_of(alloc, &FOUR)?)?;
     match blocks.as_slice() {
-        [block] => Ok(Some(Block::new(*block.bytes()))),
-        _ => Ok(None),
+        [block] => Ok(Page::new(alloc, Block::new(*block.bytes()))?),
+        _ => Err(VolError::BadImage(0)),
     }
 }
 
-fn first_is_a(page: &Page) -> bool {
-    first_name(page) == Some(b"a".as_slice())
+fn has_four(alloc: Global) -> Result<bool, VolError> {
+    let page = page_of_four(alloc)?;
+    Ok(spells_four(&page) && begins_with_a(&page) && reads_four(alloc, &page)?)
 }
 
 #[test]
 fn records_are_spelled_and_found(rt: HostRuntime) -> Result<(), Fail> {
-    let alloc = rt.alloc();
-    let Some(block) = block_of_four(alloc)? else {
-        panic!(rt; "not one block");
-    };
-    assert!(rt; spells_four(&block));
-    let page = Page::new(alloc, block)?;
-    assert!(rt; reads_four(alloc, &page)? && record_count(&page) == 4);
-    assert!(rt; first_is_a(&page) && find(&page, b"b").is_none());
-    Ok(())
-}
-
-/// The name of 250 bytes that begins with a number in two decimal digits.
-fn numbered(number: u8) -> [u8; 250] {
-    let mut name = [b'n'; 250];
-    name[0] = b'0' + number / 10 % 10;
-    name[1] = b'0' + number % 10;
-    name
-}
-
-/// Files with the names of the first 70 numbers, and each number as inode.
-fn seventy(alloc: Global) -> Result<Vec<Record>, AllocError> {
-    let mut records = Vec::new(alloc);
-    for number in 0..70 {
-        records.push(Record {
-            name: Items::from_slice(alloc, &numbered(number))?,
-            inode: InodeNumber::new(number.into()),
-            kind: Kind::File,
-        })?;
-    }
-    Ok(records)
-}
-
-/// Whether a block begins with the name that `seventy` has for a number, and has so many.
-fn has_from(alloc: Global, block: &Block, number: u8, count: usize) -> Result<bool, AllocError> {
-    let page = Page::new(alloc, Block::new(*block.bytes()))?;
-    Ok(record_count(&page) == count && first_name(&page) == Some(numbered(number).as_slice()))
-}
-
-/// Whether these are the blocks of `seventy`: four records of 256 bytes in each, and two in the last.
-fn are_of_seventy(alloc: Global, blocks: &[Block]) -> Result<bool, AllocError> {
-    let mut first: u8 = 0;
-    for block in blocks {
-        let count = if first == 68 { 2 } else { 4 };
-        if !has_from(alloc, block, first, count)? {
-            return Ok(false);
-        }
-        first = first.saturating_add(4);
-    }
-    Ok(first == 72)
-}
-
-/// With one allocation failing, the packing that is refused is done again (`rt try --test --fail-alloc N`).
-#[test]
-fn seventy_long_names_take_eighteen_blocks(rt: HostRuntime) -> Result<(), Fail> {
-    let alloc = rt.alloc();
-    let records = seventy(alloc)?;
-    let blocks = match packed(alloc, &records) {
-        Err(VolError::Memory) => packed(alloc, &records)?,
-        packed => packed?,
-    };
-    assert!(rt; are_of_seventy(alloc, &blocks)?);
-    Ok(())
-}
-
-const NONE: [Entry; 0] = [];
-
-#[test]
-fn an_empty_directory_has_no_block(rt: HostRuntime) -> Result<(), Fail> {
-    let alloc = rt.alloc();
-    assert!(rt; packed(alloc, &records_of(alloc, &NONE)?)?.is_empty());
+    assert!(rt; has_four(rt.alloc())?);
     Ok(())
 }

@@ -7,17 +7,21 @@
 #![tactic(auto)]
 
 #[cfg(test)]
+mod beside;
+#[cfg(test)]
 mod directories;
 #[cfg(test)]
-mod file_calls;
+mod events;
 #[cfg(test)]
-mod files;
+mod file_calls;
 #[cfg(test)]
 mod formats;
 #[cfg(test)]
 mod logs;
 #[cfg(test)]
 mod numbers;
+#[cfg(test)]
+mod rows;
 #[cfg(test)]
 mod streams;
 #[cfg(test)]

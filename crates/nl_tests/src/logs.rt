@@ -1,14 +1,13 @@
-//! Logs in 8 segments of 4 blocks: where appends go, what they leave when they are refused, and what the device has.
+//! Logs in 8 segments, mostly of 4 blocks: where appends go, what they leave when they are refused, and what the device has.
 use nl_device::{FaultyDevice, MemDevice};
 use nl_layout::{Level, Summary, Tag};
 use nl_segwriter::{LogSpace, Payload, Space};
 use nl_sufile::SegTable;
 use nl_types::{
-    BLOCK_SIZE, Block, BlockNumber, CheckpointNumber, Geometry, InodeNumber, Log, Page, Segment,
+    BLOCK_SIZE, Block, BlockNumber, CheckpointNumber, Geometry, InodeNumber, Page, Segment,
     SegmentInfo, SegmentState, VirtualNumber, VolError,
 };
 use std::alloc::Global;
-use std::process::Abort;
 use std::test::Fail;
 
 /// What a row does to a space or finds there, with what is due.
@@ -61,11 +60,12 @@ fn payload(alloc: Global, count: u8) -> Result<Vec<Payload>, VolError> {
 }
 
 fn are_numbers(numbers: &[BlockNumber], due: &[u32]) -> bool {
+    for (number, due) in numbers.iter().zip(due) {
+        if number.get() != *due {
+            return false;
+        }
+    }
     numbers.len() == due.len()
-        && numbers
-            .iter()
-            .zip(due)
-            .all(|(number, due)| number.get() == *due)
 }
 
 /// An append at moment 7, while checkpoint 2 is made.
@@ -141,18 +141,23 @@ fn load_block<S: Space>(space: &mut S, segment: u32, block: u32) -> Result<Optio
     Ok(Some(page))
 }
 
+/// Whether these are the tags of such pages of an append.
+fn are_tags(tags: &[Tag], pages: &[u8]) -> bool {
+    for (found, k) in tags.iter().zip(pages) {
+        if *found != tag(*k) {
+            return false;
+        }
+    }
+    tags.len() == pages.len()
+}
+
 /// Whether a page spells the summary of a log of `appends` with these pages.
 fn is_summary(page: &Page, pages: &[u8]) -> bool {
     match Summary::read(page.bytes()) {
         Some(summary) => {
             summary.stamp() == 7
                 && summary.checkpoint() == CheckpointNumber::new(2)
-                && summary.tags().len() == pages.len()
-                && summary
-                    .tags()
-                    .iter()
-                    .zip(pages)
-                    .all(|(found, k)| *found == tag(*k))
+                && are_tags(summary.tags(), pages)
         }
         None => false,
     }
@@ -207,35 +212,51 @@ fn insist<S: Space>(alloc: Global, space: &mut S, step: Step<'_>) -> Result<bool
     does(alloc, space, step)
 }
 
-fn run<S: Space>(
-    rt: &impl Abort,
+/// Row and step of the first one that does not come out as is due.
+fn first_other<S: Space>(
     alloc: Global,
-    mut space: S,
+    space: &mut S,
     rows: &[&[Step<'_>]],
-) -> Result<(), Fail> {
+) -> Result<Option<(usize, usize)>, VolError> {
     for (row, steps) in rows.iter().enumerate() {
         for (k, step) in steps.iter().enumerate() {
-            assert!(rt; insist(alloc, &mut space, *step)?, "row {row}, step {k}");
+            if !insist(alloc, space, *step)? {
+                return Ok(Some((row, k)));
+            }
         }
     }
-    Ok(())
+    Ok(None)
 }
 
-fn in_memory(alloc: Global) -> Result<LogSpace<MemDevice>, VolError> {
-    let geometry = Geometry::new(8, 4)?;
-    LogSpace::new(alloc, MemDevice::new(alloc, geometry)?, geometry)
-}
+/// Segments, blocks of each, and how many puts go before the one that fails.
+pub(crate) type Shape = (u32, u32, u64);
 
-/// On a device that fails the put after so many ones.
-fn failing(alloc: Global, puts: u64) -> Result<LogSpace<FaultyDevice>, VolError> {
-    let geometry = Geometry::new(8, 4)?;
+pub(crate) const NONE_FAILS: u64 = u64::MAX;
+
+/// On a new device of this shape.
+pub(crate) fn space(alloc: Global, shape: Shape) -> Result<LogSpace<FaultyDevice>, VolError> {
+    let (segments, blocks, puts) = shape;
+    let geometry = Geometry::new(segments, blocks)?;
     let device = FaultyDevice::new(MemDevice::new(alloc, geometry)?, puts);
     LogSpace::new(alloc, device, geometry)
+}
+
+/// Rows on a new device of a shape.
+type Case = (Shape, &'static [&'static [Step<'static>]]);
+
+fn other_in(alloc: Global, case: &Case) -> Result<Option<(usize, usize)>, VolError> {
+    let (shape, rows) = *case;
+    let mut space = space(alloc, shape)?;
+    first_other(alloc, &mut space, rows)
 }
 
 // ---- rows
 
 use SegmentState::{Active, Dirty, Error};
+
+const CLEAN: (SegmentState, u64, u32) = (SegmentState::Clean, 0, 0);
+
+const FAILED: (SegmentState, u64, u32) = (Error, 0, 0);
 
 /// Appends of 2 pages and of 7. The second fills up segment 0, which has room for no page then.
 const NINE: &[Step<'static>] = &[
@@ -276,169 +297,112 @@ const FREED: &[Step<'static>] = &[
     Step::Append(1, false, Ok(&[5])),
 ];
 
-const CLEAN: (SegmentState, u64, u32) = (SegmentState::Clean, 0, 0);
+/// A checkpoint leaves two clean segments, and a move none.
+const SEVEN: &[Step<'static>] = &[
+    Step::Append(7, true, Ok(&[15, 17, 18, 19, 21, 22, 23])),
+    Step::Clean(2),
+];
+
+const EIGHT: &[Step<'static>] = &[Step::Append(8, true, Err(VolError::NoSpace))];
+
+const THIRTEEN: &[Step<'static>] = &[
+    Step::Append(
+        13,
+        false,
+        Ok(&[15, 17, 18, 19, 21, 22, 23, 25, 26, 27, 29, 30, 31]),
+    ),
+    Step::Clean(0),
+];
+
+const FOURTEEN: &[Step<'static>] = &[Step::Append(14, false, Err(VolError::NoSpace))];
+
+/// A log has 30 pages at most: in segments of 64 blocks 63 pages take three logs in the first segment, of 30, 30 and 1, and
+/// one in the next.
+const LARGE: &[Step<'static>] = &[
+    Step::Append(
+        63,
+        false,
+        Ok(&[
+            1, 2, 3, 4, 5, 6, 7, 8, 9, 10, 11, 12, 13, 14, 15, 16, 17, 18, 19, 20, 21, 22, 23, 24,
+            25, 26, 27, 28, 29, 30, 32, 33, 34, 35, 36, 37, 38, 39, 40, 41, 42, 43, 44, 45, 46, 47,
+            48, 49, 50, 51, 52, 53, 54, 55, 56, 57, 58, 59, 60, 61, 63, 65, 66,
+        ]),
+    ),
+    Step::Segments(&[(Dirty, 7, 64), (Active, 7, 3)]),
+    Step::Stored(0, 62, Stored::Summary(&[60])),
+    Step::Stored(1, 0, Stored::Summary(&[61, 62])),
+];
+
+const FILLED: &[Case] = &[
+    (
+        (8, 4, NONE_FAILS),
+        &[NINE, HAS_NINE, NOTHING, HAS_NINE, FREED],
+    ),
+    ((8, 4, NONE_FAILS), &[NINE, SEVEN]),
+    ((8, 4, NONE_FAILS), &[NINE, EIGHT]),
+    ((8, 4, NONE_FAILS), &[NINE, THIRTEEN]),
+    ((8, 4, NONE_FAILS), &[NINE, FOURTEEN]),
+    // Where space lacks nothing is put: the next put would fail.
+    ((8, 4, 13), &[NINE, EIGHT, FOURTEEN, HAS_NINE, FAILS]),
+    ((8, 64, NONE_FAILS), &[LARGE]),
+];
 
 #[test]
 fn logs_fill_segments(rt: HostRuntime) -> Result<(), Fail> {
-    let alloc = rt.alloc();
-    run(
-        &rt,
-        alloc,
-        in_memory(alloc)?,
-        &[NINE, HAS_NINE, NOTHING, HAS_NINE, FREED],
-    )
-}
-
-/// A checkpoint leaves two clean segments, and a move none. The last one on each device finds that it fails the next put.
-const FULL: &[&[Step<'static>]] = &[
-    &[
-        Step::Append(7, true, Ok(&[15, 17, 18, 19, 21, 22, 23])),
-        Step::Clean(2),
-    ],
-    &[Step::Append(8, true, Err(VolError::NoSpace))],
-    &[
-        Step::Append(
-            13,
-            false,
-            Ok(&[15, 17, 18, 19, 21, 22, 23, 25, 26, 27, 29, 30, 31]),
-        ),
-        Step::Clean(0),
-    ],
-    &[Step::Append(14, false, Err(VolError::NoSpace))],
-];
-
-#[test]
-fn a_checkpoint_leaves_two_clean_segments(rt: HostRuntime) -> Result<(), Fail> {
-    let alloc = rt.alloc();
-    for steps in FULL {
-        run(&rt, alloc, in_memory(alloc)?, &[NINE, steps])?;
-    }
-    // Where space lacks nothing is put: the next put would fail.
-    run(
-        &rt,
-        alloc,
-        failing(alloc, 13)?,
-        &[NINE, FULL[1], FULL[3], HAS_NINE, FAILS],
-    )
-}
-
-const FAILS: &[Step<'static>] = &[Step::Append(7, true, Err(VolError::Fault))];
-
-/// The 7 pages go to block 15, after a summary at 14, then to 17, 18 and 19, after one at 16, and so on. For each put that
-/// fails: the segments then, and where the next log goes.
-const FAULTS: &[(u64, &[Step<'static>])] = &[
-    (
-        13,
-        &[
-            Step::Segments(&[(Dirty, 7, 3), (Dirty, 7, 4), (Dirty, 7, 4), (Error, 7, 2)]),
-            Step::Append(1, false, Ok(&[17])),
-        ],
-    ),
-    (
-        14,
-        &[
-            Step::Segments(&[(Dirty, 7, 3), (Dirty, 7, 4), (Dirty, 7, 4), (Error, 7, 2)]),
-            Step::Append(1, false, Ok(&[17])),
-        ],
-    ),
-    (
-        15,
-        &[
-            Step::Segments(&[
-                (Dirty, 7, 3),
-                (Dirty, 7, 4),
-                (Dirty, 7, 4),
-                (Dirty, 7, 4),
-                FAILED,
-            ]),
-            Step::Append(1, false, Ok(&[21])),
-        ],
-    ),
-    (
-        16,
-        &[
-            Step::Segments(&[
-                (Dirty, 7, 3),
-                (Dirty, 7, 4),
-                (Dirty, 7, 4),
-                (Dirty, 7, 4),
-                FAILED,
-            ]),
-            Step::Append(1, false, Ok(&[21])),
-        ],
-    ),
-    (
-        18,
-        &[
-            Step::Segments(&[
-                (Dirty, 7, 3),
-                (Dirty, 7, 4),
-                (Dirty, 7, 4),
-                (Dirty, 7, 4),
-                FAILED,
-            ]),
-            Step::Append(1, false, Ok(&[21])),
-        ],
-    ),
-    (
-        19,
-        &[
-            Step::Segments(&[
-                (Dirty, 7, 3),
-                (Dirty, 7, 4),
-                (Dirty, 7, 4),
-                (Dirty, 7, 4),
-                (Dirty, 7, 4),
-                FAILED,
-            ]),
-            Step::Append(1, false, Ok(&[25])),
-        ],
-    ),
-];
-
-const FAILED: (SegmentState, u64, u32) = (SegmentState::Error, 0, 0);
-
-/// What was used stays.
-const STAYS: &[Step<'static>] = &[Step::Held(2, Some(1)), Step::Held(13, Some(6))];
-
-#[test]
-fn a_failed_put_marks_its_segment(rt: HostRuntime) -> Result<(), Fail> {
-    let alloc = rt.alloc();
-    for (puts, steps) in FAULTS {
-        run(
-            &rt,
-            alloc,
-            failing(alloc, *puts)?,
-            &[NINE, FAILS, STAYS, steps],
-        )?;
+    for case in FILLED {
+        assert_eq!(rt; other_in(rt.alloc(), case)?, None);
     }
     Ok(())
 }
 
-/// In segments of 64 blocks the logs of 63 pages: segment, first block and count.
-const LARGE: [(u32, u32, u32); 4] = [(0, 0, 30), (0, 31, 30), (0, 62, 1), (1, 0, 2)];
+const FAILS: &[Step<'static>] = &[Step::Append(7, true, Err(VolError::Fault))];
 
-fn is_log(log: &Log, due: &(u32, u32, u32)) -> bool {
-    log.segment == Segment::new(due.0) && log.first == due.1 && log.count == due.2
-}
+/// What was used stays.
+const STAYS: &[Step<'static>] = &[Step::Held(2, Some(1)), Step::Held(13, Some(6))];
 
-/// Whether these are the logs of 63 pages.
-fn are_large(logs: &[Log]) -> bool {
-    for (log, due) in logs.iter().zip(LARGE.as_slice()) {
-        if !is_log(log, due) {
-            return false;
-        }
-    }
-    logs.len() == LARGE.len()
-}
+/// The segments where a put into segment 3, 4 or 5 failed, and where the next log goes.
+const FAILED_IN_3: &[Step<'static>] = &[
+    Step::Segments(&[(Dirty, 7, 3), (Dirty, 7, 4), (Dirty, 7, 4), (Error, 7, 2)]),
+    Step::Append(1, false, Ok(&[17])),
+];
 
-fn large_logs(alloc: Global) -> Result<Vec<Log>, VolError> {
-    SegTable::new(alloc, Geometry::new(8, 64)?)?.place(alloc, 63, false)
-}
+const FAILED_IN_4: &[Step<'static>] = &[
+    Step::Segments(&[
+        (Dirty, 7, 3),
+        (Dirty, 7, 4),
+        (Dirty, 7, 4),
+        (Dirty, 7, 4),
+        FAILED,
+    ]),
+    Step::Append(1, false, Ok(&[21])),
+];
+
+const FAILED_IN_5: &[Step<'static>] = &[
+    Step::Segments(&[
+        (Dirty, 7, 3),
+        (Dirty, 7, 4),
+        (Dirty, 7, 4),
+        (Dirty, 7, 4),
+        (Dirty, 7, 4),
+        FAILED,
+    ]),
+    Step::Append(1, false, Ok(&[25])),
+];
+
+/// The 7 pages go to block 15, after a summary at 14, then to 17, 18 and 19, after one at 16, and so on.
+const FAULTS: &[Case] = &[
+    ((8, 4, 13), &[NINE, FAILS, STAYS, FAILED_IN_3]),
+    ((8, 4, 14), &[NINE, FAILS, STAYS, FAILED_IN_3]),
+    ((8, 4, 15), &[NINE, FAILS, STAYS, FAILED_IN_4]),
+    ((8, 4, 16), &[NINE, FAILS, STAYS, FAILED_IN_4]),
+    ((8, 4, 18), &[NINE, FAILS, STAYS, FAILED_IN_4]),
+    ((8, 4, 19), &[NINE, FAILS, STAYS, FAILED_IN_5]),
+];
 
 #[test]
-fn large_segments_have_several_logs(rt: HostRuntime) -> Result<(), Fail> {
-    let logs = large_logs(rt.alloc())?;
-    assert!(rt; are_large(&logs));
+fn a_failed_put_marks_its_segment(rt: HostRuntime) -> Result<(), Fail> {
+    for case in FAULTS {
+        assert_eq!(rt; other_in(rt.alloc(), case)?, None);
+    }
     Ok(())
 }

@@ -1,21 +1,18 @@
 //! Virtual block numbers over logs in 8 segments of 4 blocks: their periods and blocks after checkpoints, moves and reclaims,
 //! and what a refusal leaves.
 ghost use Rattle.std.specs.Prelude.{◌≡◌, OnOk, IfOk, IfSome, true};
-ghost use Rattle.nl_dat.specs.Batches.{Fits};
+ghost use Rattle.nl_dat.specs.Batches.{Fits, is_live};
 ghost use Rattle.nl_dat.specs.Stores.{AreInside, capacity, content_in, is_inside, address_in};
 
-use crate::files::is_live_in;
-use crate::logs::are_segments;
+use crate::logs::{NONE_FAILS, Shape, are_segments, space};
 use nl_dat::{Batch, Dat, DatEntry, VRead, Vstore, next_number};
-use nl_device::{FaultyDevice, MemDevice};
 use nl_layout::{Level, Tag};
-use nl_segwriter::{LogSpace, Space};
+use nl_segwriter::Space;
 use nl_types::{
-    BLOCK_SIZE, Block, BlockNumber, CheckpointNumber, Geometry, InodeNumber, Page, Segment,
-    SegmentState, VirtualNumber, VolError,
+    BLOCK_SIZE, Block, BlockNumber, CheckpointNumber, InodeNumber, Page, Segment, SegmentState,
+    VirtualNumber, VolError,
 };
 use std::alloc::Global;
-use std::process::Abort;
 use std::test::Fail;
 
 /// What a row does to a table of numbers or finds there, with what is due.
@@ -82,6 +79,16 @@ fn bear<S: Space>(
     };
     batch.add_birth(tag, page)?;
     Ok(())
+}
+
+/// Whether a number is in use and has not ended.
+fn is_live_in<S: Space>(store: &Dat<S>, number: VirtualNumber) -> bool
+    ensures { result ≡ is_live (content_in store.now.store number) }
+{
+    match store.period(number) {
+        Some(period) => period.end.is_none(),
+        None => false,
+    }
 }
 
 /// Adds the end of a number. Refused by `BadRange` where it is not in use or has ended.
@@ -249,6 +256,22 @@ fn is_due(outcome: Result<(), VolError>, due: Result<(), VolError>) -> Result<bo
     }
 }
 
+/// Whether what a step looks for is there.
+fn has<S: Space>(dat: &Dat<S>, step: Step<'_>) -> bool {
+    match step {
+        Step::Entries(due) => has_entries(dat, due),
+        Step::Page(number, due) => byte_of(dat, number) == due,
+        Step::At(segment, block, due) => {
+            number_at(dat, Segment::new(segment), block).map(VirtualNumber::get) == due
+        }
+        Step::Tagged(segment, block, due) => tagged(dat, Segment::new(segment), block) == due,
+        Step::Payload(segment, due) => payload_count(dat, Segment::new(segment)) == Some(due),
+        Step::Segments(due) => are_segments(dat.table(), due),
+        Step::Clean(due) => dat.table().sustat().clean == due,
+        _ => false,
+    }
+}
+
 /// Does a step, and answers whether it came out as is due. Refused by `Memory`.
 fn does<S: Space>(alloc: Global, dat: &mut Dat<S>, step: Step<'_>) -> Result<bool, VolError> {
     match step {
@@ -257,18 +280,7 @@ fn does<S: Space>(alloc: Global, dat: &mut Dat<S>, step: Step<'_>) -> Result<boo
         }
         Step::Move(segment, blocks, due) => is_due(move_out(alloc, dat, segment, blocks), due),
         Step::Reclaim(segment, due) => Ok(reclaim(dat, segment) == Ok(due)),
-        Step::Entries(due) => Ok(has_entries(dat, due)),
-        Step::Page(number, due) => Ok(byte_of(dat, number) == due),
-        Step::At(segment, block, due) => {
-            let number = number_at(dat, Segment::new(segment), block);
-            Ok(number.map(VirtualNumber::get) == due)
-        }
-        Step::Tagged(segment, block, due) => {
-            Ok(tagged(dat, Segment::new(segment), block) == due)
-        }
-        Step::Payload(segment, due) => Ok(payload_count(dat, Segment::new(segment)) == Some(due)),
-        Step::Segments(due) => Ok(are_segments(dat.table(), due)),
-        Step::Clean(due) => Ok(dat.table().sustat().clean == due),
+        look => Ok(has(dat, look)),
     }
 }
 
@@ -285,31 +297,29 @@ fn insist<S: Space>(alloc: Global, dat: &mut Dat<S>, step: Step<'_>) -> Result<b
     does(alloc, dat, step)
 }
 
-fn run<S: Space>(
-    rt: &impl Abort,
+/// Row and step of the first one that does not come out as is due.
+fn first_other<S: Space>(
     alloc: Global,
-    mut dat: Dat<S>,
+    dat: &mut Dat<S>,
     rows: &[&[Step<'_>]],
-) -> Result<(), Fail> {
+) -> Result<Option<(usize, usize)>, VolError> {
     for (row, steps) in rows.iter().enumerate() {
         for (k, step) in steps.iter().enumerate() {
-            assert!(rt; insist(alloc, &mut dat, *step)?, "row {row}, step {k}");
+            if !insist(alloc, dat, *step)? {
+                return Ok(Some((row, k)));
+            }
         }
     }
-    Ok(())
+    Ok(None)
 }
 
-fn in_memory(alloc: Global) -> Result<Dat<LogSpace<MemDevice>>, VolError> {
-    let geometry = Geometry::new(8, 4)?;
-    let device = MemDevice::new(alloc, geometry)?;
-    Dat::new(alloc, LogSpace::new(alloc, device, geometry)?)
-}
+/// Rows on a new device of a shape.
+type Case = (Shape, &'static [&'static [Step<'static>]]);
 
-/// On a device that fails the put after so many ones.
-fn failing(alloc: Global, puts: u64) -> Result<Dat<LogSpace<FaultyDevice>>, VolError> {
-    let geometry = Geometry::new(8, 4)?;
-    let device = FaultyDevice::new(MemDevice::new(alloc, geometry)?, puts);
-    Dat::new(alloc, LogSpace::new(alloc, device, geometry)?)
+fn other_in(alloc: Global, case: &Case) -> Result<Option<(usize, usize)>, VolError> {
+    let (shape, rows) = *case;
+    let mut dat = Dat::new(alloc, space(alloc, shape)?)?;
+    first_other(alloc, &mut dat, rows)
 }
 
 // ---- rows
@@ -432,23 +442,6 @@ const FULL: &[Step<'static>] = &[
     Step::At(6, 3, Some(3)),
 ];
 
-/// Each on a device of its own.
-const IN_MEMORY: &[&[&[Step<'static>]]] = &[
-    &[ROW, HAS_ROW, MOVED],
-    &[ROW, TAKEN_OUT],
-    &[FREED],
-    &[FULL],
-];
-
-#[test]
-fn numbers_have_periods_and_blocks(rt: HostRuntime) -> Result<(), Fail> {
-    let alloc = rt.alloc();
-    for rows in IN_MEMORY {
-        run(&rt, alloc, in_memory(alloc)?, rows)?;
-    }
-    Ok(())
-}
-
 /// The page of checkpoint 4 is the sixth put, after its summary. Its segment is in error, and the checkpoint made again goes
 /// to the next one.
 const FAILED_WRITE: &[Step<'static>] = &[
@@ -477,50 +470,19 @@ const FAILED_MOVE: &[Step<'static>] = &[
     Step::Page(2, Some(b'B')),
 ];
 
-#[test]
-fn a_fault_changes_no_number(rt: HostRuntime) -> Result<(), Fail> {
-    let alloc = rt.alloc();
-    run(&rt, alloc, failing(alloc, 5)?, &[FAILED_WRITE])?;
-    run(&rt, alloc, failing(alloc, 9)?, &[ROW, FAILED_MOVE])
-}
-
-fn is_bad_range<S: Space>(dat: &Dat<S>, number: u64) -> bool {
-    matches!(
-        dat.entry(VirtualNumber::new(number)),
-        Err(VolError::BadRange)
-    )
-}
-
-/// Whether there is no number for one birth more than these, of which the last has number 32.
-fn are_spent<S: Space>(dat: &Dat<S>, batch: &Batch) -> bool
-    requires { Fits (capacity dat.now.store) (content_in dat.now.store) batch.now }
-{
-    batch.last_number() == VirtualNumber::new(32)
-        && dat.fresh(batch) == Err(VolError::NoSpace)
-        && next_number(dat, batch) == VirtualNumber::new(33)
-}
-
-/// Whether a table has the numbers 1 to 32, and no others.
-fn has_32<S: Space>(dat: &Dat<S>) -> bool {
-    dat.capacity() == 32
-        && is_bad_range(dat, 0)
-        && is_bad_range(dat, 33)
-        && is_bad_range(dat, u64::MAX)
-}
-
-const THIRTY_TWO: &[u8] = &[7; 32];
-
-/// Whether 32 births take all numbers of a new table.
-fn are_spent_by_32<S: Space>(alloc: Global, dat: &Dat<S>) -> Result<bool, VolError> {
-    let batch = batch_of(alloc, dat, THIRTY_TWO, &[])?;
-    Ok(are_spent(dat, &batch))
-}
+const CASES: &[Case] = &[
+    ((8, 4, NONE_FAILS), &[ROW, HAS_ROW, MOVED]),
+    ((8, 4, NONE_FAILS), &[ROW, TAKEN_OUT]),
+    ((8, 4, NONE_FAILS), &[FREED]),
+    ((8, 4, NONE_FAILS), &[FULL]),
+    ((8, 4, 5), &[FAILED_WRITE]),
+    ((8, 4, 9), &[ROW, FAILED_MOVE]),
+];
 
 #[test]
-fn numbers_are_those_of_the_device(rt: HostRuntime) -> Result<(), Fail> {
-    let alloc = rt.alloc();
-    let dat = in_memory(alloc)?;
-    assert!(rt; has_32(&dat));
-    assert!(rt; are_spent_by_32(alloc, &dat)?);
+fn numbers_have_periods_and_blocks(rt: HostRuntime) -> Result<(), Fail> {
+    for case in CASES {
+        assert_eq!(rt; other_in(rt.alloc(), case)?, None);
+    }
     Ok(())
 }

@@ -2,16 +2,17 @@
 use nl_script::session;
 use std::io::{self, ErrorKind, Read, Write};
 
-/// Gives its bytes, at most so many at a call, and then fails.
+/// Gives its bytes, at most so many at a call, and then may fail.
 #[derive(Drop)]
-struct Broken<'a> {
+struct Giving<'a> {
     rest: &'a [u8],
     most: usize,
+    fails: bool,
 }
 
-impl Read for Broken<'_> {
+impl Read for Giving<'_> {
     fn read(&mut self, buf: &mut [u8]) -> io::Result<usize> {
-        if self.rest.is_empty() {
+        if self.rest.is_empty() && self.fails {
             return Err(io::Error::from(ErrorKind::BrokenPipe));
         }
         let count = buf.len().min(self.most);
@@ -19,14 +20,15 @@ impl Read for Broken<'_> {
     }
 }
 
-/// Takes so many bytes, and then fails.
+/// Takes so many bytes, and then fails. It may hand none of them on.
 #[derive(Drop)]
-struct Full<'a> {
+struct Taking<'a> {
     taken: &'a mut Vec<u8>,
     room: usize,
+    is_stuck: bool,
 }
 
-impl Write for Full<'_> {
+impl Write for Taking<'_> {
     fn write(&mut self, buf: &[u8]) -> io::Result<usize> {
         if self.room == 0 {
             return Err(io::Error::from(ErrorKind::BrokenPipe));
@@ -38,128 +40,96 @@ impl Write for Full<'_> {
     }
 
     fn flush(&mut self) -> io::Result<()> {
+        if self.is_stuck {
+            return Err(io::Error::from(ErrorKind::BrokenPipe));
+        }
         Ok(())
     }
 }
 
-/// Takes all bytes, and hands none of them on.
-#[derive(Drop)]
-struct Stuck;
+/// Which streams of a row fail.
+#[derive(Clone, Copy)]
+enum Failing {
+    /// The reader, behind the script.
+    Reader,
+    /// The writer, behind so many bytes.
+    Writer(usize),
+    /// The writer, where it is to hand its bytes on.
+    Flush,
+}
 
-impl Write for Stuck {
-    fn write(&mut self, buf: &[u8]) -> io::Result<usize> {
-        Ok(buf.len())
-    }
+use Failing::{Flush, Reader, Writer};
 
-    fn flush(&mut self) -> io::Result<()> {
-        Err(io::Error::from(ErrorKind::BrokenPipe))
+impl Failing {
+    /// How many bytes the writer takes.
+    fn room(self) -> usize {
+        match self {
+            Writer(room) => room,
+            Reader | Flush => usize::MAX,
+        }
     }
 }
 
-/// A script, what it prints, and its status.
-type Row = (&'static str, &'static str, u8);
+/// What fails, a script, what it prints, and its status.
+type Row = (Failing, &'static str, &'static str, u8);
 
-/// Whether a row's script came to what is due, with no word of errors.
-fn is_due(row: Row, code: u8, output: &[u8], errors: &[u8]) -> bool {
-    let (_, printed, status) = row;
-    code == status && output == printed.as_bytes() && errors.is_empty()
-}
-
-/// Scripts whose reader fails behind them: the line that is read in part is not done.
-const BROKEN: [Row; 7] = [
-    ("", "", 1),
-    ("# one\n# two\n", "", 1),
-    ("# one\n# two\nbog", "", 1),
-    ("# one\nbogus\n", "2: usage\n", 2),
-    ("mkcp\nmkcp\n", "2\n3\n", 1),
-    ("create /f\ncat /f\ncat /", "\n", 1),
-    ("bogus\nmkcp\n", "1: usage\n2\n", 2),
+/// Where the reader fails, the line that is read in part is not done. Where the writer does, a line that can't be told of
+/// counts, and what follows it is not run.
+const ROWS: [Row; 21] = [
+    (Reader, "", "", 1),
+    (Reader, "# one\n# two\n", "", 1),
+    (Reader, "# one\n# two\nbog", "", 1),
+    (Reader, "# one\nbogus\n", "2: usage\n", 2),
+    (Reader, "mkcp\nmkcp\n", "2\n3\n", 1),
+    (Reader, "create /f\ncat /f\ncat /", "\n", 1),
+    (Reader, "bogus\nmkcp\n", "1: usage\n2\n", 2),
+    (Writer(0), "# one\n", "", 0),
+    (Writer(0), "bogus\n", "", 2),
+    (Writer(9), "bogus\nbogus\nbogus\n", "1: usage\n", 2),
+    (Writer(11), "bogus\nbogus\nbogus\n", "1: usage\n2:", 2),
+    (Writer(18), "bogus\nbogus\n", "1: usage\n2: usage\n", 2),
+    (Writer(0), "mkcp\nbogus\n", "", 1),
+    (Writer(2), "mkcp\nmkcp\nbogus\n", "2\n", 1),
+    (Writer(5), "cat /f\nbogus\n", "1: er", 1),
+    (Writer(9), "bogus\nmkcp\n", "1: usage\n", 2),
+    (Writer(4), "create /f\nwrite /f 0 long\ncat /f\n", "long", 1),
+    (Flush, "# one\n", "", 0),
+    (Flush, "mkcp\n", "2\n", 1),
+    (Flush, "mkcp\nbogus\n", "2\n", 1),
+    (Flush, "bogus\n", "1: usage\n", 2),
 ];
 
-/// Whether a row comes to what is due where its reader gives at most so many bytes at a call, and then fails.
-fn ends_broken<R: AllocGlobal>(rt: &R, row: Row, most: usize) -> bool {
-    let (script, ..) = row;
+/// Whether a row comes to what is due, with no word of errors, where its reader gives at most so many bytes at a call.
+fn ends<R: AllocGlobal>(rt: &R, row: &Row, most: usize) -> bool {
+    let (failing, script, printed, status) = *row;
     let (mut output, mut errors) = (Vec::new(rt.alloc()), Vec::new(rt.alloc()));
-    let rest = script.as_bytes();
-    let code = session(rt, Broken { rest, most }, &mut output, &mut errors);
-    is_due(row, code, output.as_slice(), errors.as_slice())
+    let giving = Giving {
+        rest: script.as_bytes(),
+        most,
+        fails: matches!(failing, Reader),
+    };
+    let taking = Taking {
+        taken: &mut output,
+        room: failing.room(),
+        is_stuck: matches!(failing, Flush),
+    };
+    let code = session(rt, giving, taking, &mut errors);
+    code == status && output.as_slice() == printed.as_bytes() && errors.as_slice().is_empty()
 }
 
-/// The first of these rows that comes to something else.
-fn first_not_broken<R: AllocGlobal>(rt: &R, most: usize) -> Option<usize> {
-    for (at, row) in BROKEN.iter().enumerate() {
-        if !ends_broken(rt, *row, most) {
-            return Some(at);
+/// The first row that comes to something else.
+fn first_other<R: AllocGlobal>(rt: &R, most: usize) -> Option<usize> {
+    for (k, row) in ROWS.iter().enumerate() {
+        if !ends(rt, row, most) {
+            return Some(k);
         }
     }
     None
 }
 
 #[test]
-fn a_failing_read_ends_the_script(rt: HostRuntime) {
-    assert!(rt; first_not_broken(&rt, 1).is_none());
-    assert!(rt; first_not_broken(&rt, 7).is_none());
-    assert!(rt; first_not_broken(&rt, 100_000).is_none());
-}
-
-/// Scripts with a writer of so much room. A line that can't be told of counts, and what follows it is not run.
-const FULL: [(usize, Row); 10] = [
-    (0, ("# one\n", "", 0)),
-    (0, ("bogus\n", "", 2)),
-    (9, ("bogus\nbogus\nbogus\n", "1: usage\n", 2)),
-    (11, ("bogus\nbogus\nbogus\n", "1: usage\n2:", 2)),
-    (18, ("bogus\nbogus\n", "1: usage\n2: usage\n", 2)),
-    (0, ("mkcp\nbogus\n", "", 1)),
-    (2, ("mkcp\nmkcp\nbogus\n", "2\n", 1)),
-    (5, ("cat /f\nbogus\n", "1: er", 1)),
-    (9, ("bogus\nmkcp\n", "1: usage\n", 2)),
-    (4, ("create /f\nwrite /f 0 long\ncat /f\n", "long", 1)),
-];
-
-/// Whether a row comes to what is due with a writer of so much room.
-fn ends_full<R: AllocGlobal>(rt: &R, room: usize, row: Row) -> bool {
-    let (script, ..) = row;
-    let (mut output, mut errors) = (Vec::new(rt.alloc()), Vec::new(rt.alloc()));
-    let taken = &mut output;
-    let code = session(rt, script.as_bytes(), Full { taken, room }, &mut errors);
-    is_due(row, code, output.as_slice(), errors.as_slice())
-}
-
-/// The first of these rows that comes to something else.
-fn first_not_full<R: AllocGlobal>(rt: &R) -> Option<usize> {
-    for (at, (room, row)) in FULL.iter().enumerate() {
-        if !ends_full(rt, *room, *row) {
-            return Some(at);
-        }
-    }
-    None
-}
-
-#[test]
-fn a_failing_write_ends_the_script(rt: HostRuntime) {
-    assert!(rt; first_not_full(&rt).is_none());
-}
-
-/// Statuses with a writer that hands nothing on.
-const STUCK: [(&str, u8); 4] = [
-    ("# one\n", 0),
-    ("mkcp\n", 1),
-    ("mkcp\nbogus\n", 1),
-    ("bogus\n", 2),
-];
-
-/// The first of these scripts that has another status.
-fn first_not_stuck<R: AllocGlobal>(rt: &R) -> Option<usize> {
-    for (at, (script, status)) in STUCK.iter().enumerate() {
-        let mut errors = Vec::new(rt.alloc());
-        if session(rt, script.as_bytes(), Stuck, &mut errors) != *status {
-            return Some(at);
-        }
-    }
-    None
-}
-
-#[test]
-fn a_failing_flush_ends_the_script(rt: HostRuntime) {
-    assert!(rt; first_not_stuck(&rt).is_none());
+fn a_failing_stream_ends_the_script(rt: HostRuntime) {
+    assert_eq!(rt; first_other(&rt, 1), None);
+    assert_eq!(rt; first_other(&rt, 7), None);
+    assert_eq!(rt; first_other(&rt, 100_000), None);
 }

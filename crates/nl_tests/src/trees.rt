@@ -1,79 +1,99 @@
-//! Trees of files over checkpoints: rows of file calls, which blocks are stored and written, which inode numbers are given,
-//! and a run of calls beside the plain program.
-ghost use Rattle.std.specs.Prelude.{◌≡◌, ◌<◌, [], IfOk, OnOk};
-ghost use Rattle.nl_types.specs.Trees.{Tree};
-ghost use Rattle.nl_files.specs.CurrentTrees.{StandsOver};
-ghost use Rattle.nl_files.specs.Held.{Holding};
+//! The current tree over checkpoints: which inode numbers are given, what checkpoints write, and a new tree over a checkpoint
+//! that is there.
+ghost use Rattle.std.specs.Prelude.{◌≡◌, ◌+◌, List, ℕ, [], IfOk, OnOk};
+ghost use Rattle.nl_types.specs.declared.event.Change.TheVariants.{Create, Unlink};
 
-mod calls;
-mod reopened;
-
-use crate::file_calls::{Call, FILES, Files, PlainFiles, Step, TREES, run, same_bytes};
-use calls::{create, rename, rmdir, truncate, unlink, write};
+use crate::events::{ALL, Call, Row, Want};
+use crate::logs::{NONE_FAILS, space};
+use crate::rows::{Volume, first_unwanted};
+use nl_blocktree::{WalkError, walk};
 use nl_dat::{Batch, Dat, Vstore};
-use nl_device::MemDevice;
-use nl_files::{Base, CurrentTree, ReadTree, TreeRead, list, read, stat};
+use nl_device::FaultyDevice;
+use nl_files::{CurrentTree, ReadTree, TreeRead, answer, read_into};
 use nl_layout::Root;
-use nl_segwriter::{LogSpace, Payload};
-use nl_types::{CheckpointNumber, Geometry, Items, Kind, Named, Stat, VolError};
+use nl_segwriter::LogSpace;
+use nl_types::{Change, CheckpointNumber, Event, Items, Reply, Stat, VolError};
 use std::alloc::Global;
-use std::process::Abort;
+use std::marker::Model;
 use std::test::Fail;
 
-/// The current tree over the latest checkpoint, whose number is 0 where there is none yet.
+/// What a row does to a tree or finds there, with what is due.
+#[derive(Clone, Copy)]
+enum Step<'a> {
+    /// File calls with their replies.
+    Calls(&'a [Row<'a>]),
+    /// Makes files for the numbers below this one.
+    Create(u32),
+    /// Removes the files of each tenth number, so many of them.
+    UnlinkTenths(u32),
+    /// The inodes of names in the root.
+    Inodes(&'a [(&'a [u8], Option<u64>)]),
+    /// A checkpoint: the number of the first block that it writes, how many it writes, some of them, and how many numbers it
+    /// ends.
+    Checkpoint(u64, usize, &'a [Birth], usize),
+    /// How many blocks the file of inodes has, nodes among them.
+    InodeBlocks(usize),
+    /// What of `/c` is read from an offset on into four bytes.
+    Reads(u64, usize, &'a [u8]),
+}
+
+/// The place among the blocks that are written, inode, level and offset.
+type Birth = (usize, u64, u8, u64);
+
+/// The current tree over the latest checkpoint of a store, whose number is 0 where there is none yet. Contracts see the
+/// current tree.
 #[derive(Drop)]
-struct Volume {
-    store: Dat<LogSpace<MemDevice>>,
+struct Trees {
+    store: Dat<LogSpace<FaultyDevice>>,
     root: Root,
     tree: CurrentTree,
     checkpoint: u64,
 }
 
-fn new_volume(alloc: Global) -> Result<Volume, VolError>
-    ensures sound { IfOk result (λ files. ⟦<Volume as Files>⟧.is_sound files) }
-    ensures names { IfOk result (λ files. files.tree.names ≡ 0) }
-{
-    let geometry = Geometry::new(128, 64)?;
-    let device = MemDevice::new(alloc, geometry)?;
-    Ok(Volume {
-        store: Dat::new(alloc, LogSpace::new(alloc, device, geometry)?)?,
-        root: Root::Empty,
-        tree: CurrentTree::first(alloc)?,
-        checkpoint: 0,
-    })
+impl Model for Trees {
+    ghost use Rattle.std.specs.Prelude.{◌≡◌};
+    ghost use Rattle.nl_types.specs.Lifetimes.{Ledger};
+    ghost use Rattle.nl_types.specs.Trees.{Tree};
+    ghost use Rattle.nl_layout.specs.Root.{root_of};
+    ghost use Rattle.nl_dat.specs.Stores.{content_in};
+    ghost use Rattle.nl_files.specs.Became.{Current};
+    ghost use Rattle.nl_files.specs.Held.{Holding};
+    ghost use Rattle.nl_files.specs.TreeLaws.{StandsOverLatest};
+
+    ghost Value = { Current };
+
+    ghost view = { λ v. v.tree };
+
+    ghost invariant = { λ v. (ledger : Ledger) × (base : Holding) × (tree : Tree)
+        × StandsOverLatest ledger (root_of v.root) v.tree base tree
+        × (ledger.content ≡ content_in v.store.store) × (ledger.latest ≡ v.checkpoint) };
 }
 
-/// Does a call on a tree over a checkpoint.
-fn change<B: Base>(
-    alloc: Global,
-    tree: &mut CurrentTree,
-    base: &B,
-    call: Call<'_>,
-) -> Result<(), VolError>
-    requires { (b : Holding) × (t : Tree) × B.TreeRead.holds base.now b × StandsOver tree.old b t }
-    ensures { (b : Holding) (t : Tree) → B.TreeRead.holds base.now b → StandsOver tree.old b t
-        → (u : Tree) × StandsOver tree.new b u }
-{
-    match call {
-        Call::Create(path) => create(alloc, tree, base, path, Kind::File),
-        Call::Mkdir(path) => create(alloc, tree, base, path, Kind::Directory),
-        Call::Write(path, offset, bytes) => {
-            write(alloc, tree, base, path, offset, bytes)?;
-            Ok(())
-        }
-        Call::Truncate(path, size) => truncate(alloc, tree, base, path, size),
-        Call::Unlink(path) => unlink(alloc, tree, base, path),
-        Call::Rmdir(path) => rmdir(alloc, tree, base, path),
-        Call::Rename(from, to) => rename(alloc, tree, base, from, to),
+impl Trees {
+    fn new(alloc: Global) -> Result<Self, VolError>
+        ensures { IfOk result (λ trees. trees.names ≡ 0) }
+    {
+        Ok(Trees {
+            store: Dat::new(alloc, space(alloc, (128, 64, NONE_FAILS))?)?,
+            root: Root::Empty,
+            tree: CurrentTree::first(alloc)?,
+            checkpoint: 0,
+        })
     }
-}
 
-impl Volume {
+    fn change(&mut self, alloc: Global, change: &Change) -> Reply
+        ensures created { OnOk result ((path : List ℕ) → change.now ≡ Create path
+            → self.new.names ≡ self.old.names + 1) }
+        ensures unlinked { OnOk result ((path : List ℕ) → change.now ≡ Unlink path
+            → self.new.names + 1 ≡ self.old.names) }
+    {
+        let base = ReadTree::new(&self.store, self.root);
+        self.tree.change(alloc, &base, change)
+    }
+
     /// Makes a checkpoint, and answers what it wrote.
     fn checkpoint(&mut self, alloc: Global) -> Result<Batch, VolError>
-        requires { ⟦<Volume as Files>⟧.is_sound self.old }
-        ensures sound { OnOk result (⟦<Volume as Files>⟧.is_sound self.new) }
-        ensures settled { OnOk result (self.new.tree ≡ record self.old.tree { became = [] }) }
+        ensures { OnOk result (self.new ≡ record self.old { became = [] }) }
     {
         if self.checkpoint >= 1_000_000 {
             return Err(VolError::NumbersSpent);
@@ -89,110 +109,99 @@ impl Volume {
         Ok(batch)
     }
 
-    /// Makes a checkpoint behind each tenth call, counted from 0.
-    fn checkpoint_at(&mut self, alloc: Global, done: u32) -> Result<(), VolError>
-        requires { ⟦<Volume as Files>⟧.is_sound self.old }
-        ensures { OnOk result (⟦<Volume as Files>⟧.is_sound self.new) }
+    /// Goes on from the latest checkpoint, which has so many names, with a new tree over it.
+    fn reopen(&mut self, alloc: Global, names: u64)
+        requires names { self.old.names ≡ names }
+        requires settled { self.old.became ≡ [] }
     {
-        if done % 10 == 9 {
-            self.checkpoint(alloc)?;
+        self.tree = CurrentTree::new(alloc, names);
+    }
+}
+
+impl Volume for Trees {
+    fn answer(&mut self, alloc: Global, event: &Event) -> Reply {
+        match event {
+            Event::Apply(call) => self.change(alloc, call),
+            Event::Read(ask) => {
+                let base = ReadTree::new(&self.store, self.root);
+                answer(alloc, &self.tree.view(&base), ask)
+            }
+            _ => Err(VolError::BadRange),
+        }
+    }
+}
+
+// ---- what the steps do
+
+/// The last decimal digit of a number.
+fn digit(number: u32) -> u8 {
+    b'0' + (number % 10) as u8
+}
+
+/// The path of the name that is a number in five decimal digits.
+fn numbered(number: u32) -> [u8; 6] {
+    [
+        b'/',
+        digit(number / 10_000),
+        digit(number / 1_000),
+        digit(number / 100),
+        digit(number / 10),
+        digit(number),
+    ]
+}
+
+fn is_birth(batch: &Batch, first: u64, due: &Birth) -> bool {
+    let (place, inode, level, offset) = *due;
+    match batch.births().get(place) {
+        Some((tag, _)) => {
+            tag.number.get() == first.saturating_add(place as u64)
+                && tag.inode.get() == inode
+                && tag.level.get() == level
+                && tag.offset == offset
+        }
+        None => false,
+    }
+}
+
+/// Whether these are among the births, whose numbers are those from the first one on.
+fn has_births(batch: &Batch, first: u64, due: &[Birth]) -> bool {
+    for birth in due {
+        if !is_birth(batch, first, birth) {
+            return false;
+        }
+    }
+    true
+}
+
+impl Trees {
+    fn create(&mut self, alloc: Global, path: &[u8]) -> Result<(), VolError>
+        ensures { OnOk result (self.new.names ≡ self.old.names + 1) }
+    {
+        let path = Items::from_slice(alloc, path)?;
+        self.change(alloc, &Change::Create { path })?;
+        Ok(())
+    }
+
+    fn unlink(&mut self, alloc: Global, path: &[u8]) -> Result<(), VolError>
+        ensures { OnOk result (self.new.names + 1 ≡ self.old.names) }
+    {
+        let path = Items::from_slice(alloc, path)?;
+        self.change(alloc, &Change::Unlink { path })?;
+        Ok(())
+    }
+
+    fn create_all(&mut self, alloc: Global, end: u32) -> Result<(), VolError> {
+        for number in 0..end {
+            self.create(alloc, &numbered(number))?;
         }
         Ok(())
     }
-}
 
-impl Files for Volume {
-    ghost use Rattle.std.specs.Prelude.{◌≡◌};
-    ghost use Rattle.nl_types.specs.Lifetimes.{Ledger};
-    ghost use Rattle.nl_types.specs.Trees.{Tree};
-    ghost use Rattle.nl_layout.specs.Root.{root_of};
-    ghost use Rattle.nl_dat.specs.Stores.{content_in};
-    ghost use Rattle.nl_files.specs.Held.{Holding};
-    ghost use Rattle.nl_files.specs.TreeLaws.{StandsOverLatest};
-
-    ghost is_sound = { λ v. (ledger : Ledger) × (base : Holding) × (tree : Tree)
-        × StandsOverLatest ledger (root_of v.root) v.tree base tree
-        × (ledger.content ≡ content_in v.store.store) × (ledger.latest ≡ v.checkpoint) };
-
-    fn change(&mut self, alloc: Global, call: Call<'_>) -> Result<(), VolError> {
-        let base = ReadTree::new(&self.store, self.root);
-        change(alloc, &mut self.tree, &base, call)
-    }
-
-    fn bytes_from(&self, alloc: Global, path: &[u8], offset: u64) -> Result<Items<u8>, VolError> {
-        let base = ReadTree::new(&self.store, self.root);
-        read(alloc, &self.tree.view(&base), path, offset, u64::MAX)
-    }
-
-    fn stat(&self, _: Global, path: &[u8]) -> Result<Stat, VolError> {
-        let base = ReadTree::new(&self.store, self.root);
-        stat(&self.tree.view(&base), path)
-    }
-
-    fn list(&self, alloc: Global, path: &[u8]) -> Result<Items<Named>, VolError> {
-        let base = ReadTree::new(&self.store, self.root);
-        list(alloc, &self.tree.view(&base), path)
-    }
-}
-
-fn run_on_new(rt: &impl Abort, alloc: Global, steps: &[Step<'_>]) -> Result<(), Fail> {
-    let mut files = new_volume(alloc)?;
-    run(rt, alloc, &mut files, steps)
-}
-
-#[test]
-fn trees_do_what_plain_files_do(rt: HostRuntime) -> Result<(), Fail> {
-    let alloc = rt.alloc();
-    run_on_new(&rt, alloc, TREES)?;
-    run_on_new(&rt, alloc, FILES)?;
-    run_on_new(&rt, alloc, DEEP)
-}
-
-/// Does calls, none of which is to be refused.
-fn change_all<F: Files>(alloc: Global, files: &mut F, calls: &[Call<'_>]) -> Result<(), VolError>
-    requires { F.is_sound files.old }
-    ensures { F.is_sound files.new }
-{
-    for call in calls {
-        files.change(alloc, *call)?;
-    }
-    Ok(())
-}
-
-use Kind::{Directory, File};
-use Step::{Do, Has, Is, Lists, No};
-
-/// Three levels below a directory move with it.
-const DEEP: &[Step<'static>] = &[
-    Do(Call::Mkdir(b"/a")),
-    Do(Call::Mkdir(b"/a/b")),
-    Do(Call::Mkdir(b"/a/b/c")),
-    Do(Call::Create(b"/a/b/c/f")),
-    Do(Call::Write(b"/a/b/c/f", 0, b"deep")),
-    No(Call::Rename(b"/a", b"/a/b/c/a"), VolError::IntoItself),
-    Do(Call::Rename(b"/a", b"/d")),
-    Lists(b"/", &[(b"d", Directory)]),
-    Lists(b"/d/b/c", &[(b"f", File)]),
-    Has(b"/d/b/c/f", b"deep"),
-    Is(b"/a", Err(VolError::NotFound)),
-];
-
-// ---- blocks and inodes
-
-/// The first inode number that is given.
-const FIRST: u64 = 11;
-
-impl Volume {
-    /// Whether of the first blocks of the first file the one at this index is stored, and no other.
-    fn stores_alone(&self, due: u64) -> bool {
-        let base = ReadTree::new(&self.store, self.root);
-        let view = self.tree.view(&base);
-        for index in 0..8 {
-            if view.block(FIRST, index).is_some() != (index == due) {
-                return false;
-            }
+    fn unlink_tenths(&mut self, alloc: Global, count: u32) -> Result<(), VolError> {
+        for tenth in 0..count {
+            self.unlink(alloc, &numbered(tenth.saturating_mul(10)))?;
         }
-        true
+        Ok(())
     }
 
     /// Whether the name has this inode in the root.
@@ -213,301 +222,283 @@ impl Volume {
         }
         true
     }
-}
 
-const SPARSE: &[Call<'static>] = &[Call::Create(b"/f"), Call::Write(b"/f", 5000, b"end")];
-
-#[test]
-fn writes_store_their_blocks_alone(rt: HostRuntime) -> Result<(), Fail> {
-    let alloc = rt.alloc();
-    let mut files = new_volume(alloc)?;
-    change_all(alloc, &mut files, SPARSE)?;
-    assert!(rt; files.stores_alone(4));
-    Ok(())
-}
-
-/// The last decimal digit of a number.
-fn digit(number: u32) -> u8 {
-    b'0' + (number % 10) as u8
-}
-
-/// The path of the name that is a number in five decimal digits.
-fn numbered(number: u32) -> [u8; 6] {
-    [
-        b'/',
-        digit(number / 10_000),
-        digit(number / 1_000),
-        digit(number / 100),
-        digit(number / 10),
-        digit(number),
-    ]
-}
-
-/// Makes files for the numbers below this one.
-fn create_all<F: Files>(alloc: Global, files: &mut F, end: u32) -> Result<(), VolError>
-    requires { F.is_sound files.old }
-    ensures { F.is_sound files.new }
-{
-    for number in 0..end {
-        files.change(alloc, Call::Create(&numbered(number)))?;
+    /// Makes a checkpoint, again where memory was refused.
+    fn insist(&mut self, alloc: Global) -> Result<Batch, VolError> {
+        match self.checkpoint(alloc) {
+            Err(VolError::Memory) => self.checkpoint(alloc),
+            result => result,
+        }
     }
-    Ok(())
-}
 
-/// Removes the file of a number, if that can be divided by ten.
-fn unlink_tenth<F: Files>(alloc: Global, files: &mut F, number: u32) -> Result<(), VolError>
-    requires { F.is_sound files.old }
-    ensures { F.is_sound files.new }
-{
-    if number % 10 != 0 {
-        return Ok(());
+    /// Whether the file of inodes has so many blocks. Refused by `BadImage` where it can't be in use.
+    fn has_blocks(&self, alloc: Global, due: usize) -> Result<bool, VolError> {
+        match walk(alloc, &self.store, self.root) {
+            Ok(blocks) => Ok(blocks.len() == due),
+            Err(WalkError::Memory) => Err(VolError::Memory),
+            Err(_) => Err(VolError::BadImage(8)),
+        }
     }
-    files.change(alloc, Call::Unlink(&numbered(number)))
-}
 
-/// Removes the files of each tenth number below this one.
-fn unlink_tenths<F: Files>(alloc: Global, files: &mut F, end: u32) -> Result<(), VolError>
-    requires { F.is_sound files.old }
-    ensures { F.is_sound files.new }
-{
-    for number in 0..end {
-        unlink_tenth(alloc, files, number)?;
+    /// Whether so many bytes of `/c` from an offset on are read into a slice of four, which has these then.
+    fn fills(&self, offset: u64, count: usize, due: &[u8]) -> bool {
+        let base = ReadTree::new(&self.store, self.root);
+        let mut into = [b'-'; 4];
+        let read = read_into(&self.tree.view(&base), b"/c", offset, &mut into);
+        read == Ok(count) && into.as_slice() == due
     }
-    Ok(())
+
+    /// Does a step, and answers whether it came out as is due.
+    fn does(&mut self, alloc: Global, step: Step<'_>) -> Result<bool, VolError> {
+        match step {
+            Step::Calls(rows) => Ok(first_unwanted(alloc, self, rows)?.is_none()),
+            Step::Create(end) => Ok(self.create_all(alloc, end) == Ok(())),
+            Step::UnlinkTenths(count) => Ok(self.unlink_tenths(alloc, count) == Ok(())),
+            Step::Inodes(due) => Ok(self.have_inodes(due)),
+            Step::Checkpoint(first, births, due, ends) => {
+                let batch = self.insist(alloc)?;
+                Ok(
+                    batch.birth_count() == births
+                        && batch.end_count() == ends
+                        && has_births(&batch, first, due),
+                )
+            }
+            Step::InodeBlocks(due) => self.has_blocks(alloc, due),
+            Step::Reads(offset, count, due) => Ok(self.fills(offset, count, due)),
+        }
+    }
+
+    /// The first step that does not come out as is due.
+    fn first_other(
+        &mut self,
+        alloc: Global,
+        steps: &[Step<'_>],
+    ) -> Result<Option<usize>, VolError> {
+        for (k, step) in steps.iter().enumerate() {
+            if !self.does(alloc, *step)? {
+                return Ok(Some(k));
+            }
+        }
+        Ok(None)
+    }
+
+    /// Makes a checkpoint with the files `/a` and `/c`, and a free number between theirs. Goes on with a new tree over it.
+    fn go_on_with_two(&mut self, alloc: Global) -> Result<(), VolError>
+        requires { self.old.names ≡ 0 }
+    {
+        self.create(alloc, b"/a")?;
+        self.create(alloc, b"/b")?;
+        self.create(alloc, b"/c")?;
+        self.unlink(alloc, b"/b")?;
+        self.checkpoint(alloc)?;
+        self.reopen(alloc, 2);
+        Ok(())
+    }
 }
 
-/// Names with their inodes.
-type Given = &'static [(&'static [u8], Option<u64>)];
-
-const GIVEN: Given = &[(b"00000", Some(11)), (b"09999", Some(10_010))];
-
-const MADE_AGAIN: &[Call<'static>] = &[Call::Create(b"/first"), Call::Create(b"/next")];
-
-const GIVEN_AGAIN: Given = &[
-    (b"first", Some(11)),
-    (b"next", Some(21)),
-    (b"00001", Some(12)),
-    (b"09990", None),
-];
-
-/// How many names the root has.
-fn root_count<F: Files>(alloc: Global, files: &F) -> Result<usize, VolError> {
-    let names = files.list(alloc, b"/")?;
-    Ok(names.len())
+/// The first step that does not come out as is due on a new tree.
+fn other_of_new(alloc: Global, steps: &[Step<'_>]) -> Result<Option<usize>, VolError> {
+    let mut trees = Trees::new(alloc)?;
+    trees.first_other(alloc, steps)
 }
+
+/// The first one on a new tree over a checkpoint with two files.
+fn other_over_two(alloc: Global, steps: &[Step<'_>]) -> Result<Option<usize>, VolError> {
+    let mut trees = Trees::new(alloc)?;
+    trees.go_on_with_two(alloc)?;
+    trees.first_other(alloc, steps)
+}
+
+// ---- rows
 
 /// Ten thousand names get the numbers from 11 on. Where each tenth is removed, a number that is free is given again, the
 /// lowest first.
+const TEN_THOUSAND: &[Step<'static>] = &[
+    Step::Create(10_000),
+    Step::Inodes(&[(b"00000", Some(11)), (b"09999", Some(10_010))]),
+    Step::UnlinkTenths(1_000),
+    Step::Calls(&[
+        (Call::Create(b"/first"), Want::Done),
+        (Call::Create(b"/next"), Want::Done),
+        (Call::Stat(b"/"), Want::Stat(Stat::Dir(9_002))),
+    ]),
+    Step::Inodes(&[
+        (b"first", Some(11)),
+        (b"next", Some(21)),
+        (b"00001", Some(12)),
+        (b"09990", None),
+    ]),
+];
+
 #[test]
 fn lowest_numbers_are_given(rt: HostRuntime) -> Result<(), Fail> {
-    let alloc = rt.alloc();
-    let mut files = new_volume(alloc)?;
-    create_all(alloc, &mut files, 10_000)?;
-    assert!(rt; files.have_inodes(GIVEN));
-    unlink_tenths(alloc, &mut files, 10_000)?;
-    change_all(alloc, &mut files, MADE_AGAIN)?;
-    assert!(rt; files.have_inodes(GIVEN_AGAIN));
-    assert!(rt; root_count(alloc, &files)? == 9_002);
+    assert_eq!(rt; other_of_new(rt.alloc(), TEN_THOUSAND)?, None);
     Ok(())
 }
 
-// ---- what a checkpoint writes
-
-/// Inode, level and offset of each block that is written, in order.
-type Births = &'static [(u64, u8, u64)];
-
-fn is_birth(birth: &Payload, due: &(u64, u8, u64)) -> bool {
-    let (tag, _) = birth;
-    tag.inode.get() == due.0 && tag.level.get() == due.1 && tag.offset == due.2
-}
-
-fn writes(batch: &Batch, due: Births, ends: usize) -> bool {
-    let births = batch.births();
-    for (birth, due) in births.iter().zip(due) {
-        if !is_birth(birth, due) {
-            return false;
-        }
-    }
-    births.len() == due.len() && batch.end_count() == ends
-}
-
-/// A block of inodes and its node.
-const INODES: Births = &[(6, 0, 0), (6, 1, 0)];
-
-/// A directory block and its node, a data block and its node, two blocks of inodes and their node.
-const ONE_FILE: Births = &[
-    (2, 0, 0),
-    (2, 1, 0),
-    (11, 0, 4),
-    (11, 1, 0),
-    (6, 0, 0),
-    (6, 0, 1),
-    (6, 1, 0),
-];
-
-const NO_BLOCK: Births = &[];
-
-/// Calls, and what the checkpoint behind them is due to write and how many numbers it ends.
-type Turn = (&'static [Call<'static>], Births, usize);
-
-/// Bytes that are the same, and a file that comes and goes between, write nothing. A removed file ends all its numbers.
-const TURNS: &[Turn] = &[
-    (&[], INODES, 0),
-    (SPARSE, ONE_FILE, 2),
-    (
+/// Of 1,006 names, each with a record of 11 bytes, 93 stand in a block, and take 11. Their inodes are those from 11 to 1,016,
+/// with 8 in a block: the blocks from 0 to 127, of which the last one takes a second node.
+const THOUSAND: &[Step<'static>] = &[
+    Step::Create(1_006),
+    Step::Inodes(&[(b"01005", Some(1_016))]),
+    Step::Checkpoint(
+        1,
+        142,
         &[
-            Call::Write(b"/f", 5000, b"end"),
-            Call::Create(b"/g"),
-            Call::Unlink(b"/g"),
+            (0, 2, 0, 0),
+            (10, 2, 0, 10),
+            (11, 2, 1, 0),
+            (12, 6, 0, 0),
+            (139, 6, 0, 127),
+            (140, 6, 1, 0),
+            (141, 6, 1, 1),
         ],
-        NO_BLOCK,
         0,
     ),
-    (&[Call::Unlink(b"/f")], INODES, 7),
+    Step::InodeBlocks(130),
+    Step::Calls(&[(Call::Stat(b"/01005"), Want::Stat(Stat::File(0)))]),
 ];
 
-impl Volume {
-    /// Does the calls of a turn, and answers whether the checkpoint writes what is due.
-    fn takes(&mut self, alloc: Global, turn: &Turn) -> Result<bool, VolError>
-        requires { ⟦<Volume as Files>⟧.is_sound self.old }
-        ensures { OnOk result (⟦<Volume as Files>⟧.is_sound self.new) }
-    {
-        change_all(alloc, self, turn.0)?;
-        let batch = self.checkpoint(alloc)?;
-        Ok(writes(&batch, turn.1, turn.2))
-    }
-}
+/// A block of inodes and its node.
+const INODES: &[Birth] = &[(0, 6, 0, 0), (1, 6, 1, 0)];
 
-/// The first turn whose checkpoint writes something else.
-fn first_other(alloc: Global, files: &mut Volume, turns: &[Turn]) -> Result<Option<usize>, VolError>
-    requires { ⟦<Volume as Files>⟧.is_sound files.old }
-{
-    for (k, turn) in turns.iter().enumerate() {
-        if !files.takes(alloc, turn)? {
-            return Ok(Some(k));
-        }
-    }
-    Ok(None)
-}
+/// A directory block and its node, a data block and its node, two blocks of inodes and their node.
+const ONE_FILE: &[Birth] = &[
+    (0, 2, 0, 0),
+    (1, 2, 1, 0),
+    (2, 11, 0, 4),
+    (3, 11, 1, 0),
+    (4, 6, 0, 0),
+    (5, 6, 0, 1),
+    (6, 6, 1, 0),
+];
+
+/// A write stores its block alone. Bytes that are the same, and a file that comes and goes between, write nothing. A removed
+/// file ends all its numbers.
+const FEW: &[Step<'static>] = &[
+    Step::Checkpoint(1, 2, INODES, 0),
+    Step::Calls(&[
+        (Call::Create(b"/f"), Want::Done),
+        (Call::Write(b"/f", 5000, b"end"), Want::Written(3)),
+    ]),
+    Step::Checkpoint(3, 7, ONE_FILE, 2),
+    Step::Calls(&[
+        (Call::Write(b"/f", 5000, b"end"), Want::Written(3)),
+        (Call::Create(b"/g"), Want::Done),
+        (Call::Unlink(b"/g"), Want::Done),
+    ]),
+    Step::Checkpoint(10, 0, &[], 0),
+    Step::Calls(&[(Call::Unlink(b"/f"), Want::Done)]),
+    Step::Checkpoint(10, 2, INODES, 7),
+];
+
+/// A chain of 300 blocks has 3 nodes. With its first block changed and one more written, both blocks and all nodes are
+/// written, and the old block and the old nodes end. Where the last 47 blocks go, so does a node, and where all go the file
+/// is empty. Each time the file's block of inodes is written, and the node of that.
+const CHAIN: &[Step<'static>] = &[
+    Step::Calls(&[
+        (Call::Create(b"/f"), Want::Done),
+        (Call::Fill(b"/f", 4096, 7, 1024), Want::Written(1024)),
+    ]),
+    Step::Checkpoint(1, 7, ONE_FILE, 0),
+    Step::Calls(&[
+        (Call::Read(b"/f", 4095, 2), Want::Bytes(&[0, 7])),
+        (Call::Fill(b"/f", 0, 1, 307_200), Want::Written(307_200)),
+    ]),
+    Step::Checkpoint(
+        8,
+        305,
+        &[
+            (0, 11, 0, 0),
+            (299, 11, 0, 299),
+            (300, 11, 1, 0),
+            (302, 11, 1, 2),
+            (303, 6, 0, 1),
+            (304, 6, 1, 0),
+        ],
+        4,
+    ),
+    Step::Calls(&[
+        (Call::Fill(b"/f", 0, 2, 1024), Want::Written(1024)),
+        (Call::Fill(b"/f", 307_200, 3, 1024), Want::Written(1024)),
+    ]),
+    Step::Checkpoint(
+        313,
+        7,
+        &[
+            (0, 11, 0, 0),
+            (1, 11, 0, 300),
+            (2, 11, 1, 0),
+            (4, 11, 1, 2),
+            (5, 6, 0, 1),
+            (6, 6, 1, 0),
+        ],
+        6,
+    ),
+    Step::Calls(&[
+        (Call::Read(b"/f", 1023, 2), Want::Bytes(&[2, 1])),
+        (Call::Read(b"/f", 307_199, 2), Want::Bytes(&[1, 3])),
+        (Call::Read(b"/f", 308_223, ALL), Want::Bytes(&[3])),
+        (Call::Fill(b"/f", 0, 2, 1024), Want::Written(1024)),
+    ]),
+    Step::Checkpoint(320, 0, &[], 0),
+    Step::Calls(&[(Call::Truncate(b"/f", 260_096), Want::Done)]),
+    Step::Checkpoint(
+        320,
+        4,
+        &[(0, 11, 1, 0), (1, 11, 1, 1), (2, 6, 0, 1), (3, 6, 1, 0)],
+        52,
+    ),
+    Step::Calls(&[
+        (Call::Read(b"/f", 260_095, ALL), Want::Bytes(&[1])),
+        (Call::Truncate(b"/f", 0), Want::Done),
+    ]),
+    Step::Checkpoint(324, 2, &[(0, 6, 0, 1), (1, 6, 1, 0)], 258),
+];
 
 #[test]
 fn checkpoints_write_what_differs(rt: HostRuntime) -> Result<(), Fail> {
-    let alloc = rt.alloc();
-    let mut files = new_volume(alloc)?;
-    let first = first_other(alloc, &mut files, TURNS)?;
-    assert!(rt; first.is_none());
+    for steps in [THOUSAND, FEW, CHAIN].as_slice() {
+        assert_eq!(rt; other_of_new(rt.alloc(), steps)?, None);
+    }
     Ok(())
 }
 
-// ---- beside the plain program
-
-const PATHS: [&[u8]; 14] = [
-    b"/a",
-    b"/b",
-    b"/c",
-    b"/a/a",
-    b"/a/b",
-    b"/b/a",
-    b"/b/b",
-    b"/c/a",
-    b"/a/a/a",
-    b"/a/a/b",
-    b"/b/a/c",
-    b"/a/a/a/x",
-    b"/",
-    b"/d",
+/// Of the numbers that the checkpoint leaves free the lowest are given.
+const OVER_TWO: &[Step<'static>] = &[
+    Step::Calls(&[
+        (Call::Create(b"/d"), Want::Done),
+        (Call::Create(b"/e"), Want::Done),
+        (Call::Write(b"/c", 0, b"kept"), Want::Written(4)),
+    ]),
+    Step::Inodes(&[
+        (b"a", Some(11)),
+        (b"b", None),
+        (b"c", Some(13)),
+        (b"d", Some(12)),
+        (b"e", Some(14)),
+    ]),
+    Step::Checkpoint(
+        6,
+        7,
+        &[
+            (0, 2, 0, 0),
+            (1, 2, 1, 0),
+            (2, 13, 0, 0),
+            (3, 13, 1, 0),
+            (4, 6, 0, 0),
+            (5, 6, 0, 1),
+            (6, 6, 1, 0),
+        ],
+        5,
+    ),
+    Step::Calls(&[(Call::Read(b"/c", 1, 2), Want::Bytes(b"ep"))]),
+    Step::Reads(1, 3, b"ept-"),
+    Step::Reads(0, 4, b"kept"),
 ];
 
-const BYTES: &[u8] = &[b'q'; 3000];
-
-/// The next number of a linear congruential generator (Knuth's MMIX), below a bound.
-fn next(seed: &mut u64, bound: u64) -> u64
-    requires { 0 < bound }
-    ensures { result < bound }
-{
-    *seed = seed
-        .wrapping_mul(6_364_136_223_846_793_005)
-        .wrapping_add(1_442_695_040_888_963_407);
-    (*seed >> 33) % bound
-}
-
-fn random_path(seed: &mut u64) -> &'static [u8] {
-    PATHS[next(seed, 14) as usize]
-}
-
-fn random_call(seed: &mut u64) -> Call<'static> {
-    let path = random_path(seed);
-    match next(seed, 9) {
-        0 => Call::Create(path),
-        1 => Call::Mkdir(path),
-        2 | 3 => Call::Write(path, next(seed, 5000), &BYTES[..next(seed, 3000) as usize]),
-        4 => Call::Truncate(path, next(seed, 6000)),
-        5 => Call::Unlink(path),
-        6 => Call::Rmdir(path),
-        _ => Call::Rename(path, random_path(seed)),
-    }
-}
-
-/// Whether both have the same at a path.
-fn is_alike<F: Files, G: Files>(alloc: Global, one: &F, other: &G, path: &[u8]) -> bool {
-    one.stat(alloc, path) == other.stat(alloc, path)
-        && same_bytes(
-            &one.bytes_from(alloc, path, 0),
-            &other.bytes_from(alloc, path, 0),
-        )
-}
-
-fn are_alike<F: Files, G: Files>(alloc: Global, one: &F, other: &G) -> bool {
-    for path in PATHS.as_slice() {
-        if !is_alike(alloc, one, other, path) {
-            return false;
-        }
-    }
-    true
-}
-
-/// Does a call on both, and answers whether both did it or refused it alike.
-fn change_both<F: Files, G: Files>(
-    alloc: Global,
-    one: &mut F,
-    other: &mut G,
-    call: Call<'_>,
-) -> bool
-    requires { F.is_sound one.old × G.is_sound other.old }
-    ensures { F.is_sound one.new × G.is_sound other.new }
-{
-    one.change(alloc, call) == other.change(alloc, call)
-}
-
-/// Does so many random calls, with a checkpoint behind each tenth, and answers behind how many of them the files first
-/// differ from those of the plain program.
-fn first_difference(
-    alloc: Global,
-    files: &mut Volume,
-    plain: &mut PlainFiles,
-    calls: u32,
-) -> Result<Option<u32>, VolError>
-    requires { ⟦<Volume as Files>⟧.is_sound files.old }
-{
-    let mut seed = 7;
-    for done in 0..calls {
-        if !change_both(alloc, files, plain, random_call(&mut seed)) {
-            return Ok(Some(done));
-        }
-        files.checkpoint_at(alloc, done)?;
-        if !are_alike(alloc, files, plain) {
-            return Ok(Some(done));
-        }
-    }
-    Ok(None)
-}
-
 #[test]
-fn runs_are_those_of_plain_files(rt: HostRuntime) -> Result<(), Fail> {
-    let alloc = rt.alloc();
-    let mut files = new_volume(alloc)?;
-    let mut plain = PlainFiles::new(alloc)?;
-    let first = first_difference(alloc, &mut files, &mut plain, 2_000)?;
-    assert!(rt; first.is_none());
+fn trees_go_on_from_checkpoints(rt: HostRuntime) -> Result<(), Fail> {
+    assert_eq!(rt; other_over_two(rt.alloc(), OVER_TWO)?, None);
     Ok(())
 }

@@ -76,7 +76,8 @@ rmdirs_remove_one tree path =
 
 -- ---- calls that change nothing
 
-stays : (tree : Tree) (changed : Changed) → Leaves (λ next. next ≡ tree) changed → tree_after tree changed ≡ tree
+-- what is left is the tree that there was
+pub stays : (tree : Tree) (changed : Changed) → Leaves (λ next. next ≡ tree) changed → tree_after tree changed ≡ tree
 stays tree (Ok done) same = same
 stays tree (Err e) same = refl
 

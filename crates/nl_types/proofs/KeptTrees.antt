@@ -1,24 +1,24 @@
 -- What each file call leaves is a tree, within the limits.
-use Rattle.std.proofs.Common.{◌≡◌, ◌≢◌, ℕ, ◌≤◌, Bool, true, false, not, cond, List, [], ◌∷◌, ◌++◌, length, Option, Some, None, Ok, Err, refl, sym, ap, ◌∙◌, subst, true≢false, arith, is_some}
-use Rattle.std.specs.Prelude.{nat_lt}
+use Rattle.std.proofs.Common.{◌≡◌, ◌≢◌, ℕ, ◌+◌, ◌≤◌, Bool, true, false, not, cond, List, [], ◌∷◌, ◌++◌, length, Option, Some, None, Ok, Err, refl, sym, ap, ◌∙◌, subst, true≢false, arith, is_some}
+use Rattle.std.specs.Prelude.{nat_lt, ◌==◌}
+use Rattle.std.specs.List.{list_all}
 use Rattle.std.proofs.lemmas.Bool.{ltb-false}
 use Rattle.std.specs.FinMap.Entries.{is_sorted-where_key}
 use Rattle.nl_types.specs.declared.error.VolError.TheVariants as error
 use Rattle.nl_types.specs.declared.reply.Answer.TheVariants as answer
 use Rattle.nl_types.specs.declared.reply.Node.{Node}
 use Rattle.nl_types.specs.declared.reply.Node.TheVariants.{Dir, File}
-use Rattle.nl_types.specs.Limits.{file_limit}
-use Rattle.nl_types.specs.Paths.{Name, Path, path_of, path_cmp, same_path}
+use Rattle.nl_types.specs.Limits.{file_limit, path_limit}
+use Rattle.nl_types.specs.Paths.{Name, Path, path_of, path_cmp, same_path, is_name}
 use Rattle.nl_types.specs.Trees.{Tree, IsTree, lookup, insert, remove}
-use Rattle.nl_types.specs.Calls.{Changed, tree_after, file_at, dir_at, resized, truncate, unlink, rmdir, has_names, is_root}
+use Rattle.nl_types.specs.Calls.{Changed, refuse_if, tree_after, stop_from, walk, file_at, dir_at, create, write, overwritten, resized, truncate, unlink, rmdir, has_names, is_root}
 use Rattle.nl_types.specs.CallLaws.{CreatesKeepTrees, MkdirsKeepTrees, WritesKeepTrees, TruncatesKeepTrees, UnlinksKeepTrees, RmdirsKeepTrees, RenamesKeepTrees, RefusalsKeepTree}
-use Rattle.nl_types.proofs.FileSizes.{truncated_sizes}
-use Rattle.nl_types.proofs.TreeLaws.{same_path-equal}
-use Rattle.nl_types.proofs.Judgements.{Leaves, and_then_holds, and_then_any, refuse_if_then, path_of_spells, file_at_is, dir_at_is, IsTree-insert_file}
+use Rattle.nl_types.proofs.FileSizes.{written_sizes, truncated_sizes}
+use Rattle.nl_types.proofs.TreeLaws.{IsTree-insert, same_path-equal}
+use Rattle.nl_types.proofs.Judgements.{Leaves, and_then_holds, and_then_any, refuse_if_then, path_of_spells, walk_is, walked, file_at_is, dir_at_is, IsTree-insert_file}
 use Rattle.nl_types.proofs.Lookups.{lookup-remove}
 use Rattle.nl_types.proofs.Children.{listed}
 use Rattle.nl_types.proofs.Subtrees.{length-filtered}
-use Rattle.nl_types.proofs.ChangeLaws.{create-IsTree, write-IsTree}
 use Rattle.nl_types.proofs.Renames.{Parents, rename-IsTree}
 use Rattle.nl_types.proofs.Booleans.{is_true, holds}
 
@@ -78,6 +78,35 @@ IsTree-remove tree at t below_root empty = record {
 
 -- ---- calls
 
+-- a node that is made leaves a tree
+pub create-IsTree : (tree : Tree) (node : Node) (path : Path) → IsTree tree → list_all is_name path ≡ true → ((bytes : List ℕ) → node ≡ File bytes → length bytes ≤ file_limit) → Leaves IsTree (create tree node path)
+create-IsTree tree node path t spelled small =
+    let made : Changed = Ok (answer.Done, insert tree path node) in
+    and_then_holds _ (λ done. IsTree done.1) (walk tree path) _ (walk_is tree path) (λ _ walking.
+    refuse_if_then (λ done. IsTree done.1) (is_some (lookup tree path)) error.Exists _ (λ free.
+    refuse_if_then (λ done. IsTree done.1) (nat_lt path_limit (length tree)) error.TooBig made (λ low.
+    IsTree-insert tree path node t (record {
+      above = λ up name is. walked tree [] up name (ap (stop_from tree []) is ∙ walking);
+      place = λ dir. true≢false (sym (ap is_some dir) ∙ free);
+      spelled = spelled;
+      small = small;
+      room = λ _. ltb-false path_limit (length tree) low;
+    }))))
+
+-- a write leaves a tree
+pub write-IsTree : (tree : Tree) (offset : ℕ) (new : List ℕ) (path : Path) → IsTree tree → Leaves IsTree (write tree offset new path)
+write-IsTree tree offset new path t =
+    and_then_holds _ (λ done. IsTree done.1) (file_at tree path) _ (file_at_is tree path) (λ bytes found.
+    let long = nat_lt file_limit (offset + length new) in
+    let made : Changed = Ok (answer.Written (length new), insert tree path (File (overwritten bytes offset new))) in
+    elim (length new == 0) as (λ b. Leaves IsTree (cond b (Ok (answer.Written 0, tree)) (refuse_if long error.TooBig made))) [
+      | true ↦ t
+      | false ↦ refuse_if_then (λ done. IsTree done.1) long error.TooBig made (λ fits.
+          IsTree-insert_file tree path bytes (overwritten bytes offset new) t found
+          (omega (arith, written_sizes bytes offset new, t.sizes path bytes found, ltb-false file_limit (offset + length new) fits)))
+    ])
+
+-- so does a truncation
 pub truncate-IsTree : (tree : Tree) (size : ℕ) (path : Path) → IsTree tree → Leaves IsTree (truncate tree size path)
 truncate-IsTree tree size path t =
     and_then_holds _ (λ done. IsTree done.1) (file_at tree path) _ (file_at_is tree path) (λ bytes found.
@@ -85,6 +114,7 @@ truncate-IsTree tree size path t =
     refuse_if_then (λ done. IsTree done.1) (nat_lt file_limit size) error.TooBig made (λ fits.
     IsTree-insert_file tree path bytes (resized bytes size) t found (omega (arith, truncated_sizes bytes size, ltb-false file_limit size fits))))
 
+-- and a removal of a file
 pub unlink-IsTree : (tree : Tree) (path : Path) → IsTree tree → Leaves IsTree (unlink tree path)
 unlink-IsTree tree path t =
     and_then_holds _ (λ done. IsTree done.1) (file_at tree path) _ (file_at_is tree path) (λ bytes file.
@@ -92,6 +122,7 @@ unlink-IsTree tree path t =
     (λ root. dir_not_file (lookup tree path) bytes (ap (lookup tree) root ∙ t.root) file)
     (λ name. none_if (lookup tree (path ++ name ∷ [])) (λ node there. dir_not_file (lookup tree path) bytes (t.parents path name (ap is_some there)) file)))
 
+-- and one of an empty directory
 pub rmdir-IsTree : (tree : Tree) (path : Path) → IsTree tree → Leaves IsTree (rmdir tree path)
 rmdir-IsTree tree path t =
     refuse_if_then (λ done. IsTree done.1) (is_root path) error.BadPath _ (λ below_root.
@@ -108,10 +139,12 @@ leaves_tree : (tree : Tree) (changed : Changed) → IsTree tree → Leaves IsTre
 leaves_tree tree (Ok done) t left = left
 leaves_tree tree (Err e) t left = t
 
-no_bytes : (bytes : List ℕ) → File [] ≡ File bytes → length bytes ≤ file_limit
+-- a new file is small
+pub no_bytes : (bytes : List ℕ) → File [] ≡ File bytes → length bytes ≤ file_limit
 no_bytes bytes is = let same : [] ≡ bytes = cc in subst (λ (b : List ℕ). length b ≤ file_limit) same (omega arith)
 
-no_file : (bytes : List ℕ) → Dir ≡ File bytes → length bytes ≤ file_limit
+-- a directory is no file
+pub no_file : (bytes : List ℕ) → Dir ≡ File bytes → length bytes ≤ file_limit
 no_file bytes is = cc
 
 pub creates_keep_trees : CreatesKeepTrees

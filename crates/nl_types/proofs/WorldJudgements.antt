@@ -1,6 +1,6 @@
 -- The definitions judge by the world alone: they refuse nothing for space, a fault or memory.
 use Rattle.std.proofs.Common.{ℕ, ◌+◌, Bool, true, false, cond, List, [], ◌∷◌, ◌++◌, length, Option, Some, None, Result, Ok, Err, is_some}
-use Rattle.std.specs.Prelude.{◌==◌, ◌&&◌, nat_lt, nat_le, not, IfErr}
+use Rattle.std.specs.Prelude.{◌==◌, ◌&&◌, ◌||◌, nat_lt, nat_le, not, IfErr}
 use Rattle.std.specs.List.{list_all, slice_split}
 use Rattle.std.specs.Ordering.{nat_cmp}
 use Rattle.std.specs.FinMap.{find}
@@ -10,15 +10,15 @@ use Rattle.nl_types.specs.declared.error.VolError.TheVariants as error
 use Rattle.nl_types.specs.declared.event.Ask.{Ask}
 use Rattle.nl_types.specs.declared.event.Ask.TheVariants as ask
 use Rattle.nl_types.specs.declared.event.Change.{Change}
-use Rattle.nl_types.specs.declared.event.Change.TheVariants.{Create, Write}
+use Rattle.nl_types.specs.declared.event.Change.TheVariants.{Create, Mkdir, Write, Truncate, Unlink, Rmdir, Rename}
 use Rattle.nl_types.specs.declared.event.Event.TheVariants as event
 use Rattle.nl_types.specs.declared.reply.Answer.TheVariants as answer
 use Rattle.nl_types.specs.declared.reply.Node.{Node}
 use Rattle.nl_types.specs.declared.reply.Node.TheVariants.{Dir, File}
 use Rattle.nl_types.specs.Limits.{file_limit, path_limit, checkpoint_number_limit, mount_number_limit}
-use Rattle.nl_types.specs.Paths.{Path, path_of, names_of, is_name}
-use Rattle.nl_types.specs.Trees.{Tree, lookup, insert}
-use Rattle.nl_types.specs.Calls.{Changed, and_then, refuse_if, ok_unless, stops_walk, stop_from, walk, node_at, file_at, file_in, overwritten, change, reply_to}
+use Rattle.nl_types.specs.Paths.{Path, path_of, same_path, names_of, is_name}
+use Rattle.nl_types.specs.Trees.{Tree, lookup, insert, remove, move_subtree}
+use Rattle.nl_types.specs.Calls.{Changed, and_then, refuse_if, ok_unless, stops_walk, stop_from, walk, node_at, file_at, file_in, dir_at, dir_in, is_root, is_dir, is_above, has_names, overwritten, resized, create, write, truncate, unlink, rmdir, may_replace, rename, change, list, stat, reply_to}
 use Rattle.nl_types.specs.Worlds.{World, Outcome, copy_at, latest, is_snapshot, either, refused_if, kept, mounted, mounted_copy}
 use Rattle.nl_types.specs.Laws.{IsJudged, StepsJudge}
 
@@ -77,23 +77,85 @@ file_judges tree path = and_then_judges (node_at tree path) file_in (node_judges
     by Dir = tt
     by (File bytes) = tt
 
-change_judges : (tree : Tree) (c : Change) → IfErr (change tree c) IsJudged
-change_judges tree (Create path) = and_then_judges (path_of path) _ (path_judges path) (λ p.
-    let made : Changed = Ok (answer.Done, insert tree p (File [])) in
-    and_then_judges (walk tree p) _ (stop_judges tree [] p) (λ _.
-    refuse_if_judges (is_some (lookup tree p)) error.Exists _ tt
-    (refuse_if_judges (nat_lt path_limit (length tree)) error.TooBig made tt tt)))
-change_judges tree (Write path offset bytes) = and_then_judges (path_of path) _ (path_judges path) (λ p.
-    and_then_judges (file_at tree p) _ (file_judges tree p) (λ old.
+dir_judges : (tree : Tree) (path : Path) → IfErr (dir_at tree path) IsJudged
+dir_judges tree path = and_then_judges (node_at tree path) dir_in (node_judges tree path) by
+  where
+    by : (node : Node) → IfErr (dir_in node) IsJudged
+    by Dir = tt
+    by (File bytes) = tt
+
+create_judges : (tree : Tree) (node : Node) (path : Path) → IfErr (create tree node path) IsJudged
+create_judges tree node path =
+    let made : Changed = Ok (answer.Done, insert tree path node) in
+    and_then_judges (walk tree path) _ (stop_judges tree [] path) (λ _.
+    refuse_if_judges (is_some (lookup tree path)) error.Exists _ tt
+    (refuse_if_judges (nat_lt path_limit (length tree)) error.TooBig made tt tt))
+
+write_judges : (tree : Tree) (offset : ℕ) (bytes : List ℕ) (path : Path) → IfErr (write tree offset bytes path) IsJudged
+write_judges tree offset bytes path =
+    and_then_judges (file_at tree path) _ (file_judges tree path) (λ old.
     let long = nat_lt file_limit (offset + length bytes) in
-    let made : Changed = Ok (answer.Written (length bytes), insert tree p (File (overwritten old offset bytes))) in
+    let made : Changed = Ok (answer.Written (length bytes), insert tree path (File (overwritten old offset bytes))) in
     elim (length bytes == 0) as (λ b. IfErr (cond {A = Changed} b (Ok (answer.Written 0, tree)) (refuse_if long error.TooBig made)) IsJudged) [
       | true ↦ tt
       | false ↦ refuse_if_judges long error.TooBig made tt tt
-    ]))
+    ])
+
+truncate_judges : (tree : Tree) (size : ℕ) (path : Path) → IfErr (truncate tree size path) IsJudged
+truncate_judges tree size path =
+    and_then_judges (file_at tree path) _ (file_judges tree path) (λ bytes.
+    let made : Changed = Ok (answer.Done, insert tree path (File (resized bytes size))) in
+    refuse_if_judges (nat_lt file_limit size) error.TooBig made tt tt)
+
+unlink_judges : (tree : Tree) (path : Path) → IfErr (unlink tree path) IsJudged
+unlink_judges tree path = and_then_judges (file_at tree path) _ (file_judges tree path) (λ _. tt)
+
+rmdir_judges : (tree : Tree) (path : Path) → IfErr (rmdir tree path) IsJudged
+rmdir_judges tree path =
+    let made : Changed = Ok (answer.Done, remove tree path) in
+    refuse_if_judges (is_root path) error.BadPath _ tt
+    (and_then_judges (dir_at tree path) _ (dir_judges tree path) (λ _.
+    refuse_if_judges (has_names tree path) error.NotEmpty made tt tt))
+
+may_replace_judges : (tree : Tree) (to : Path) (node : Node) (target : Option Node) → IfErr (may_replace tree to node target) IsJudged
+may_replace_judges tree to node None = tt
+may_replace_judges tree to (File bytes) (Some Dir) = tt
+may_replace_judges tree to (File bytes) (Some (File others)) = tt
+may_replace_judges tree to Dir (Some (File others)) = tt
+may_replace_judges tree to Dir (Some Dir) = refuse_if_judges (has_names tree to) error.NotEmpty (Ok tt) tt tt
+
+rename_judges : (tree : Tree) (from to : Path) → IfErr (rename tree from to) IsJudged
+rename_judges tree from to =
+    let made : Changed = Ok (answer.Done, move_subtree tree from to) in
+    refuse_if_judges (is_root from || is_root to) error.BadPath _ tt
+    (and_then_judges (node_at tree from) _ (node_judges tree from) (λ node.
+    refuse_if_judges (is_dir node && is_above from to) error.IntoItself _ tt
+    (and_then_judges (walk tree to) _ (stop_judges tree [] to) (λ _.
+    elim (same_path from to) as (λ b. IfErr (cond {A = Changed} b (Ok (answer.Done, tree)) (and_then (may_replace tree to node (lookup tree to)) (λ _. made))) IsJudged) [
+      | true ↦ tt
+      | false ↦ and_then_judges (may_replace tree to node (lookup tree to)) _ (may_replace_judges tree to node (lookup tree to)) (λ _. tt)
+    ]))))
+
+change_judges : (tree : Tree) (c : Change) → IfErr (change tree c) IsJudged
+change_judges tree (Create path) = and_then_judges (path_of path) _ (path_judges path) (create_judges tree (File []))
+change_judges tree (Mkdir path) = and_then_judges (path_of path) _ (path_judges path) (create_judges tree Dir)
+change_judges tree (Write path offset bytes) = and_then_judges (path_of path) _ (path_judges path) (write_judges tree offset bytes)
+change_judges tree (Truncate path size) = and_then_judges (path_of path) _ (path_judges path) (truncate_judges tree size)
+change_judges tree (Unlink path) = and_then_judges (path_of path) _ (path_judges path) (unlink_judges tree)
+change_judges tree (Rmdir path) = and_then_judges (path_of path) _ (path_judges path) (rmdir_judges tree)
+change_judges tree (Rename from to) =
+    and_then_judges (path_of from) _ (path_judges from) (λ f. and_then_judges (path_of to) _ (path_judges to) (rename_judges tree f))
+
+list_judges : (tree : Tree) (path : Path) → IfErr (list tree path) IsJudged
+list_judges tree path = and_then_judges (dir_at tree path) _ (dir_judges tree path) (λ _. tt)
+
+stat_judges : (tree : Tree) (path : Path) → IfErr (stat tree path) IsJudged
+stat_judges tree path = and_then_judges (node_at tree path) _ (node_judges tree path) (λ _. tt)
 
 reply_judges : (tree : Tree) (a : Ask) → IfErr (reply_to tree a) IsJudged
 reply_judges tree (ask.Bytes path offset len) = and_then_judges (path_of path) _ (path_judges path) (λ p. and_then_judges (file_at tree p) _ (file_judges tree p) (λ _. tt))
+reply_judges tree (ask.List path) = and_then_judges (and_then (path_of path) (list tree)) _ (and_then_judges (path_of path) _ (path_judges path) (list_judges tree)) (λ _. tt)
+reply_judges tree (ask.Stat path) = and_then_judges (and_then (path_of path) (stat tree)) _ (and_then_judges (path_of path) _ (path_judges path) (stat_judges tree)) (λ _. tt)
 
 -- ---- events
 

@@ -6,7 +6,7 @@ use Rattle.nl_types.specs.Runs.{Run, Run-more}
 use Rattle.nl_types.specs.Worlds.{Reply}
 use Rattle.nl_types.specs.declared.event.Event.{Event}
 use Rattle.nl_core.specs.Layout.{Does, unshared}
-use Rattle.nl_core.proofs.Moving.{runs_lead_on}
+use Rattle.nl_core.proofs.Leading.{runs_lead_on}
 use Rattle.nl_core.proofs.pen.run.Goals as goal
 
 pub loop-event-preserved : goal.loop-event-preserved
@@ -14,13 +14,17 @@ loop-event-preserved g c =
     let i = c.loop-event.event-index in
     let events = c.args.events.now in
     let pushed : c.push.new.self.items ≡ c.loop-event.replies.items ++ c.apply-reply.result ∷ [] = grind (arith, common_steps) in
-    let next : take (i + 1) events ≡ take i events ++ c.event-item.result ∷ [] = take_more events i c.event-item.result c.loop-event-test.true ∙ ap (λ e. take i events ++ e ∷ []) (sym c.event-item.is) in
+    let next : take (i + 1) events ≡ take i events ++ c.event-item.result ∷ [] =
+    take_more events i c.event-item.result c.loop-event-test.true ∙ ap (λ e. take i events ++ e ∷ []) (sym c.event-item.is) in
+    let old = c.args.pen.now in
+    let now = c.apply-reply.new.self in
     record {
       count = grind (arith, common_steps);
       room = omega (arith, c.loop-event.invariant.room, c.push.ensures.capacity);
-      so_far = subst (λ (es : List Event). Run (Does unshared) c.args.pen.now es c.push.new.self.items c.apply-reply.new.self) (sym next)
-          (subst (λ (rs : List Reply). Run (Does unshared) c.args.pen.now (take i events ++ c.event-item.result ∷ []) rs c.apply-reply.new.self) (sym pushed)
-          (Run-more (Does unshared) c.args.pen.now c.loop-event.pen c.apply-reply.new.self (take i events) c.loop-event.replies.items c.event-item.result c.apply-reply.result c.loop-event.invariant.so_far c.apply-reply.ensures));
+      so_far = subst (λ (es : List Event). Run (Does unshared) old es c.push.new.self.items now) (sym next)
+          (subst (λ (rs : List Reply). Run (Does unshared) old (take i events ++ c.event-item.result ∷ []) rs now) (sym pushed)
+          (Run-more (Does unshared) old c.loop-event.pen now (take i events) c.loop-event.replies.items c.event-item.result
+          c.apply-reply.result c.loop-event.invariant.so_far c.apply-reply.ensures));
     }
 
 pub returns-clause-worlds : goal.returns-clause-worlds

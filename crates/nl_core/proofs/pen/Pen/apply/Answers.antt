@@ -1,8 +1,6 @@
 use Rattle.std.proofs.Common.{sym, subst}
-use Rattle.nl_types.specs.Roots.{pages_of}
-use Rattle.nl_dat.specs.Stores.{content_in}
 use Rattle.nl_core.specs.Layout.{Does, layout_of, unshared}
-use Rattle.nl_core.proofs.Moving.{does-Apply, does-Mount, does-Read, does-MountRead}
+use Rattle.nl_core.proofs.Moving.{does-Apply, does-Mount, does-MountRead, does-Read, pages_under}
 use Rattle.nl_core.proofs.pen.Pen.apply.Goals as goal
 
 pub returns-in-Apply : goal.returns-in-Apply
@@ -12,38 +10,34 @@ returns-in-Apply g c =
     let store = c.self.inside.store.store in
     subst (λ o. Does unshared o c.args.event.now c.change.result (layout_of new store)) c.self.view_is
     (subst (λ e. Does unshared (layout_of l store) e c.change.result (layout_of new store)) (sym c.in-Apply.is)
-    (does-Apply l new store c.self.invariant c.in-Apply.change c.change.result c.change.ensures.blocks c.change.ensures.follows c.change.ensures.changed))
+    (does-Apply l new store c.in-Apply.change c.change.result c.self.invariant
+    c.change.ensures.follows c.change.ensures.lists c.change.ensures.changed c.change.ensures.same))
 
 pub returns-in-Mount : goal.returns-in-Mount
 returns-in-Mount g c =
     let l = c.self.inside.tables.lists in
     let new = c.mount.new.self.lists in
     let store = c.self.inside.store.store in
-    let pages = pages_of (content_in store) in
     subst (λ o. Does unshared o c.args.event.now c.mount.result (layout_of new store)) c.self.view_is
     (subst (λ e. Does unshared (layout_of l store) e c.mount.result (layout_of new store)) (sym c.in-Mount.is)
-    (does-Mount l new store c.self.invariant c.in-Mount.number c.mount.result (c.mount.ensures.blocks pages c.self.invariant.sound) (c.mount.ensures.follows pages) c.mount.ensures.mounted))
+    (does-Mount l new store c.in-Mount.number c.mount.result c.self.invariant
+    (c.mount.ensures.follows (pages_under store)) c.mount.ensures.mounted c.mount.ensures.same))
 
 pub returns-in-Read : goal.returns-in-Read
 returns-in-Read g c =
-    let l = layout_of c.self.inside.tables.lists c.self.inside.store.store in
+    let l = c.self.inside.tables.lists in
+    let store = c.self.inside.store.store in
     subst (λ o. Does unshared o c.args.event.now c.read.result o) c.self.view_is
-    (subst (λ e. Does unshared l e c.read.result l) (sym c.in-Read.is)
-    (does-Read l c.in-Read.ask c.read.result c.self.invariant c.read.ensures))
+    (subst (λ e. Does unshared (layout_of l store) e c.read.result (layout_of l store)) (sym c.in-Read.is)
+    (does-Read l store c.in-Read.ask c.read.result c.self.invariant c.read.ensures))
 
 pub returns-in-MountRead : goal.returns-in-MountRead
 returns-in-MountRead g c =
-    let l = layout_of c.self.inside.tables.lists c.self.inside.store.store in
-    subst (λ o. Does unshared o c.args.event.now c.read_mounted.result o) c.self.view_is
-    (subst (λ e. Does unshared l e c.read_mounted.result l) (sym c.in-MountRead.is)
-    (does-MountRead l c.in-MountRead.mount c.in-MountRead.ask c.read_mounted.result c.self.invariant c.read_mounted.ensures))
-
-pub invariant_of-self-in-Mount : goal.invariant_of-self-in-Mount
-invariant_of-self-in-Mount g c =
     let l = c.self.inside.tables.lists in
     let store = c.self.inside.store.store in
-    let pages = pages_of (content_in store) in
-    (does-Mount l c.mount.new.self.lists store c.self.invariant c.in-Mount.number c.mount.result (c.mount.ensures.blocks pages c.self.invariant.sound) (c.mount.ensures.follows pages) c.mount.ensures.mounted).pen
+    subst (λ o. Does unshared o c.args.event.now c.read_mounted.result o) c.self.view_is
+    (subst (λ e. Does unshared (layout_of l store) e c.read_mounted.result (layout_of l store)) (sym c.in-MountRead.is)
+    (does-MountRead l store c.in-MountRead.mount c.in-MountRead.ask c.read_mounted.result c.self.invariant c.read_mounted.ensures))
 
 pub returns-in-Checkpoint : goal.returns-in-Checkpoint
 returns-in-Checkpoint g c =
@@ -52,6 +46,13 @@ returns-in-Checkpoint g c =
     subst (λ o. Does unshared o c.args.event.now c.checkpoint.result new) c.self.view_is
     (subst (λ e. Does unshared l e c.checkpoint.result new) (sym c.in-Checkpoint.is) c.checkpoint.ensures)
 
+pub invariant_of-self-in-Mount : goal.invariant_of-self-in-Mount
+invariant_of-self-in-Mount g c =
+    let store = c.self.inside.store.store in
+    (does-Mount c.self.inside.tables.lists c.mount.new.self.lists store c.in-Mount.number c.mount.result c.self.invariant
+    (c.mount.ensures.follows (pages_under store)) c.mount.ensures.mounted c.mount.ensures.same).pen
+
 pub invariant_of-self : goal.invariant_of-self
 invariant_of-self g c =
-    (does-Apply c.self.inside.tables.lists c.change.new.self.lists c.self.inside.store.store c.self.invariant c.in-Apply.change c.change.result c.change.ensures.blocks c.change.ensures.follows c.change.ensures.changed).pen
+    (does-Apply c.self.inside.tables.lists c.change.new.self.lists c.self.inside.store.store c.in-Apply.change c.change.result c.self.invariant
+    c.change.ensures.follows c.change.ensures.lists c.change.ensures.changed c.change.ensures.same).pen

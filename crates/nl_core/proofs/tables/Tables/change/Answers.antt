@@ -1,36 +1,59 @@
-use Rattle.std.proofs.Common.{sym, subst}
-use Rattle.std.specs.Prelude.{IfOk}
+use Rattle.std.proofs.Common.{◌≡◌, ap, ◌∙◌, subst, sym}
+use Rattle.std.specs.Prelude.{Bool, Err, Ok, ◌||◌}
+use Rattle.std.proofs.lemmas.Result.{err_from_is_err_and}
+use Rattle.nl_types.specs.Calls as calls
 use Rattle.nl_types.specs.declared.event.Event.TheVariants.{Apply}
-use Rattle.nl_types.specs.declared.event.Change.TheVariants.{Create, Write}
-use Rattle.nl_core.specs.Means.{FollowsInMemory}
+use Rattle.nl_files.specs.Became.{Current}
 use Rattle.nl_core.specs.Changes.{HasChanged}
-use Rattle.nl_core.specs.Volume.{over}
+use Rattle.nl_core.specs.Inside.{lists_of}
+use Rattle.nl_core.specs.Means.{FollowsOver, Means}
+use Rattle.nl_core.specs.Tables.{Roomy}
+use Rattle.nl_core.specs.Volume.{Lists}
+use Rattle.nl_core.proofs.Events.{change-follows, refused_change-follows}
 use Rattle.nl_core.proofs.tables.Tables.change.Goals as goal
+use Rattle.nl_core.proofs.tables.Tables.change.Goals.{then-self, else-self}
 
-pub returns-in-Create-clause-follows : goal.returns-in-Create-clause-follows
-returns-in-Create-clause-follows g c =
+pub returns-in_err-answer-clause-follows : goal.returns-in_err-answer-clause-follows
+returns-in_err-answer-clause-follows g c =
+    let p = err_from_is_err_and c.from_residual.result c.from_residual.ensures.1 in
     let pages = g.V.VRead.pages c.args.store.now in
-    let old = over pages c.args.self.now.lists in
-    let new = over pages c.create.new.self.lists in
-    subst (λ change. FollowsInMemory old (Apply change) c.create.result new) (sym c.in-Create.is)
-    (subst (λ path. FollowsInMemory old (Apply (Create path)) c.create.result new) c.as_slice.ensures (c.create.ensures.follows pages))
+    let inside = lists_of c.self.inside in
+    let before : inside ≡ c.args.self.now.lists = ap (λ (r : Roomy). r.lists) c.self.view_is in
+    let call = c.args.change.now in
+    let e = c.in_err-answer.field-0.0 in
+    let refused : FollowsOver pages inside (Apply call) (Err e) inside =
+    refused_change-follows pages inside call e (λ base tree holds stands. c.in_err-answer.ensures.done base tree (c.new-base.ensures base holds) stands) in
+    let follows : FollowsOver pages c.args.self.now.lists (Apply call) (Err e) (record inside { current = c.change.new.self }) =
+    subst (λ (now : Current). FollowsOver pages c.args.self.now.lists (Apply call) (Err e) (record inside { current = now })) (sym c.in_err-answer.ensures.same)
+    (subst (λ (lists : Lists). FollowsOver pages lists (Apply call) (Err e) inside) before refused) in
+    λ cleaned w m. rw (p.1, p.2) (follows cleaned w m)
 
-pub returns-in-Create-clause-blocks : goal.returns-in-Create-clause-blocks
-returns-in-Create-clause-blocks g c = c.create.ensures.blocks (g.V.VRead.pages c.args.store.now) c.requires.sound
-
-pub returns-in-Write-clause-follows : goal.returns-in-Write-clause-follows
-returns-in-Write-clause-follows g c =
+pub returns-clause-follows : goal.returns-clause-follows
+returns-clause-follows g c =
     let pages = g.V.VRead.pages c.args.store.now in
-    let old = over pages c.args.self.now.lists in
-    let new = over pages c.write.new.self.lists in
-    subst (λ change. FollowsInMemory old (Apply change) c.write.result new) (sym c.in-Write.is)
-    (subst (λ path. FollowsInMemory old (Apply (Write path c.in-Write.offset c.in-Write.bytes)) c.write.result new) c.as_slice-in-Write.ensures
-    (subst (λ bytes. FollowsInMemory old (Apply (Write c.as_slice-in-Write.result.now c.in-Write.offset bytes)) c.write.result new) c.as_slice-in-Write-2.ensures c.write.ensures.follows))
+    let inside = lists_of c.self.inside in
+    let before : inside ≡ c.args.self.now.lists = ap (λ (r : Roomy). r.lists) c.self.view_is in
+    let call = c.args.change.now in
+    let now = c.change.new.self in
+    let dirty : c.if-self.self ≡ inside.dirty || calls.is_dirtying call = elim c.if-self.branch [
+      | then-self w ↦ w.self-is ∙ (w.if-self.true ∙ ap (λ (b : Bool). b || calls.is_dirtying call) (sym w.if-self.true))
+      | else-self w ↦ w.self-is ∙ (w.is_dirtying-self-inside.ensures ∙ ap (λ (b : Bool). b || calls.is_dirtying call) (sym w.if-self.false))
+    ] in
+    subst (λ (lists : Lists). FollowsOver pages lists (Apply call) (Ok c.in_ok-answer.answer) (record inside { current = now; dirty = c.if-self.self })) before
+    (subst (λ (b : Bool). FollowsOver pages inside (Apply call) (Ok c.in_ok-answer.answer) (record inside { current = now; dirty = b })) (sym dirty)
+    (change-follows pages inside call c.in_ok-answer.answer now (λ base tree holds stands. c.in_ok-answer.ensures.done base tree (c.new-base.ensures base holds) stands)))
 
-pub returns-in-Write-clause-changed : goal.returns-in-Write-clause-changed
-returns-in-Write-clause-changed g c =
-    let old = c.args.self.now.lists.files in
-    let new = c.write.new.self.lists.files in
-    subst (λ change. IfOk c.write.result (λ _. HasChanged change old new)) (sym c.in-Write.is)
-    (subst (λ path. IfOk c.write.result (λ _. HasChanged (Write path c.in-Write.offset c.in-Write.bytes) old new)) c.as_slice-in-Write.ensures
-    (subst (λ bytes. IfOk c.write.result (λ _. HasChanged (Write c.as_slice-in-Write.result.now c.in-Write.offset bytes) old new)) c.as_slice-in-Write-2.ensures c.write.ensures.changed))
+pub returns-clause-changed : goal.returns-clause-changed
+returns-clause-changed g c =
+    let pages = g.V.VRead.pages c.args.store.now in
+    let inside = lists_of c.self.inside in
+    let before : inside ≡ c.args.self.now.lists = ap (λ (r : Roomy). r.lists) c.self.view_is in
+    let call = c.args.change.now in
+    let new : Lists = record inside { current = c.change.new.self; dirty = c.if-self.self } in
+    let m : Means pages inside c.requires.0 = subst (λ (lists : Lists). Means pages lists c.requires.0) (sym before) c.requires.1 in
+    let changed : HasChanged pages call inside new = record {
+      base = m.tree.base;
+      holds = m.tree.holds;
+      changed = c.in_ok-answer.ensures.changes m.tree.base c.requires.0.tree (c.new-base.ensures m.tree.base m.tree.holds) m.tree.stands;
+    } in
+    subst (λ (lists : Lists). HasChanged pages call lists new) before changed

@@ -1,14 +1,20 @@
-use Rattle.std.proofs.Common.{◌≡◌, ap, ◌∙◌, subst}
-use Rattle.nl_core.specs.Place.{AnswersFrom}
+use Rattle.std.proofs.Common.{◌≡◌, ap, subst}
+use Rattle.nl_types.specs.declared.event.Event.TheVariants.{Read}
+use Rattle.nl_files.specs.Became.{holding_over}
+use Rattle.nl_core.specs.Inside.{lists_of}
+use Rattle.nl_core.specs.Means.{FollowsOver}
 use Rattle.nl_core.specs.Tables.{Roomy}
-use Rattle.nl_core.specs.Volume.{over}
-use Rattle.nl_core.proofs.Events.{asks}
+use Rattle.nl_core.specs.Volume.{Lists}
+use Rattle.nl_core.proofs.Events.{read-follows}
 use Rattle.nl_core.proofs.tables.Tables.read.Goals as goal
 
 pub returns : goal.returns
-returns g c = λ cleaned w m.
+returns g c =
     let pages = g.V.VRead.pages c.args.store.now in
-    let lists = c.args.self.now.lists in
-    let files : c.deref.result.now ≡ lists.files = c.deref.ensures.value ∙ ap (λ (r : Roomy). r.lists.files) c.self.view_is in
-    asks cleaned (over pages lists) w c.args.ask.now c.answer.result m
-    (subst (λ fs. AnswersFrom pages fs c.args.ask.now c.answer.result) files c.answer.ensures)
+    let inside = lists_of c.self.inside in
+    let before : inside ≡ c.args.self.now.lists = ap (λ (r : Roomy). r.lists) c.self.view_is in
+    subst (λ (lists : Lists). FollowsOver pages lists (Read c.args.ask.now) c.answer.result lists) before
+    (read-follows pages inside c.args.ask.now c.answer.result
+    (λ base tree holds stands. c.answer.ensures (holding_over inside.current.became base) tree
+    (c.view.ensures base (c.new-base.ensures base holds) stands.sound)
+    (record { sound = stands.sound; means = stands.stands.means })))

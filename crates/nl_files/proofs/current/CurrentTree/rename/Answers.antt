@@ -4,7 +4,8 @@ use Rattle.nl_files.specs.Became.{holding_over}
 use Rattle.nl_files.specs.Held.{Holding}
 use Rattle.nl_files.specs.PathParts.{parts_of}
 use Rattle.nl_files.proofs.RenamesJudged.{path_of-injective, path_of-last}
-use Rattle.nl_files.proofs.RenamesMake.{has-renamed, place-directory}
+use Rattle.nl_files.proofs.PlacesFound.{place-listed}
+use Rattle.nl_files.proofs.RenamesMake.{has-renamed}
 use Rattle.nl_files.proofs.current.CurrentTree.rename.Goals as goal
 
 pub returns-in_err-names-clause-done : goal.returns-in_err-names-clause-done
@@ -36,9 +37,9 @@ returns-in-Ok-Some-clause-changes g c = λ b tree holds over.
     let names = parts_of c.in_ok-names.names.now in
     let target_names = parts_of c.in_ok-names.target_names.now in
     let move = rw c.in-Ok-Some.field-0-is at (c.in-Ok-Some.ensures old (c.view.ensures b holds over.sound)) in
-    let here = place-directory old tree over.sound over.stands.means names found.directory found.name.now _ move.place in
-    let there = place-directory old tree over.sound over.stands.means target_names found.target.directory found.target.name.now _ move.target_place in
+    let here = place-listed old tree over.sound over.stands.means names found.directory found.name.now _ move.place in
+    let there = place-listed old tree over.sound over.stands.means target_names found.target.directory found.target.name.now _ move.target_place in
     on_ok_weaker c.move_to_place.result
     (has-renamed c.args.from.now c.args.to.now names target_names old new found.directory found.name.now found.link
     found.target.directory found.target.name.now found.target.link here.0 there.0 c.in_ok-names.ensures.0 c.in_ok-names.ensures.1 move here.1 there.1)
-    (c.move_to_place.ensures.moved b here.0 there.0 holds here.1 there.1)
+    (c.move_to_place.ensures.moved b here.0 there.0 holds (here.1, there.1))

@@ -11,27 +11,27 @@ use Rattle.nl_files.proofs.overlay.Overlay.rename.Goals as goal
 pub move_link-requires : goal.move_link-requires
 move_link-requires g c =
     let asked = c.requires in
-    let names = c.in_ok-reserve_move.ensures.names asked.0 asked.1 asked.2 asked.3 asked.4 asked.5 in
-    (asked.1, asked.2, names.0, names.1)
+    let names = c.in_ok-reserve_move.ensures.names asked.0 asked.1 asked.2 asked.3 asked.4 in
+    (asked.1, asked.2, names)
 
 pub returns-clause-moved : goal.returns-clause-moved
-returns-clause-moved g c = λ b all others holds is there i.
-    let names = c.in_ok-reserve_move.ensures.names b all others holds is there in
-    let r : Record = record { name = c.args.to_name.now; inode = c.args.link.0; kind = c.args.link.1 } in
+returns-clause-moved g c = λ b all others holds are i.
+    let names = c.in_ok-reserve_move.ensures.names b all others holds are in
+    let r : Record = record { name = c.args.found.now.target.name.now; inode = c.args.found.now.link.0; kind = c.args.found.now.link.1 } in
     let still : holding_now c.reserve_move.new.self b ≡ holding_now c.args.self.now b =
     λ k. λ j. c.in_ok-reserve_move.ensures.still b j k in
-    c.move_link.ensures.shown all others names.0 names.1 b i
-    ∙ ap (λ (held : Holding). with_link_moved c.args.from all c.args.from_name.now c.args.to others r held i) still
+    c.move_link.ensures.shown all others names b i
+    ∙ ap (λ (held : Holding). with_link_moved c.args.found.now.directory all c.args.found.now.name.now c.args.found.now.target.directory others r held i) still
 
 pub returns-clause-counts : goal.returns-clause-counts
-returns-clause-counts g c = λ b all others holds is there counts.
+returns-clause-counts g c = λ b all others holds are counts.
     let old = c.args.self.now in
     let new = c.move_link.new.self in
-    let r : Record = record { name = c.args.to_name.now; inode = c.args.link.0; kind = c.args.link.1 } in
+    let r : Record = record { name = c.args.found.now.target.name.now; inode = c.args.found.now.link.0; kind = c.args.found.now.link.1 } in
     let done = c.move_link.ensures.rest in
     let begun = c.in_ok-reserve_move.ensures.rest in
     counts_still old new b
     (record { freed = done.freed ∙ begun.freed; mark = done.mark ∙ begun.mark; names = done.names ∙ begun.names })
-    (λ m. ap is_some (returns-clause-moved g c b all others holds is there m)
-    ∙ moved_kept (holding_now old b) c.args.from c.args.to all others c.args.from_name.now r is.0 there.0 m)
+    (λ m. ap is_some (returns-clause-moved g c b all others holds are m)
+    ∙ moved_kept (holding_now old b) c.args.found.now.directory c.args.found.now.target.directory all others c.args.found.now.name.now r are.0.0 are.1.0 m)
     counts

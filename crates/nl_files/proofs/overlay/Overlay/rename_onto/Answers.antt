@@ -18,40 +18,40 @@ move_link-requires g c =
     ap (λ m. λ (i : ℕ). over_place (map.get nat_cmp m i) (b i)) c.in_ok-reserve_number.ensures.changed in
     let still : holding_now c.reserve.new.self b ≡ holding_now c.args.self.now b =
     (λ k. λ i. c.in_ok-reserve.ensures.still b i k) ∙ same in
-    let from : IsDirectoryOf (holding_now c.reserve.new.self b) c.args.from asked.1 =
-    (ap (λ (held : Holding). held c.args.from) still ∙ asked.4.0, asked.4.1) in
-    let to : IsDirectoryOf (holding_now c.reserve.new.self b) c.args.to asked.2 =
-    (ap (λ (held : Holding). held c.args.to) still ∙ asked.5.0, asked.5.1) in
-    let names = c.in_ok-reserve_move.ensures.names b asked.1 asked.2 asked.3 from to in
-    (asked.1, asked.2, names.0, names.1)
+    let from : IsDirectoryOf (holding_now c.reserve.new.self b) c.args.found.now.directory asked.1 =
+    (ap (λ (held : Holding). held c.args.found.now.directory) still ∙ asked.4.0.0, asked.4.0.1) in
+    let to : IsDirectoryOf (holding_now c.reserve.new.self b) c.args.found.now.target.directory asked.2 =
+    (ap (λ (held : Holding). held c.args.found.now.target.directory) still ∙ asked.4.1.0, asked.4.1.1) in
+    let names = c.in_ok-reserve_move.ensures.names b asked.1 asked.2 asked.3 (from, to) in
+    (asked.1, asked.2, names)
 
 pub returns-clause-moved : goal.returns-clause-moved
-returns-clause-moved g c = λ b all others holds is there i.
+returns-clause-moved g c = λ b all others holds are i.
     let same : holding_now c.reserve_number.new.self b ≡ holding_now c.args.self.now b =
     ap (λ m. λ (i : ℕ). over_place (map.get nat_cmp m i) (b i)) c.in_ok-reserve_number.ensures.changed in
     let still : holding_now c.reserve.new.self b ≡ holding_now c.args.self.now b =
     (λ k. λ i. c.in_ok-reserve.ensures.still b i k) ∙ same in
-    let from : IsDirectoryOf (holding_now c.reserve.new.self b) c.args.from all =
-    (ap (λ (held : Holding). held c.args.from) still ∙ is.0, is.1) in
-    let to : IsDirectoryOf (holding_now c.reserve.new.self b) c.args.to others =
-    (ap (λ (held : Holding). held c.args.to) still ∙ there.0, there.1) in
-    let names = c.in_ok-reserve_move.ensures.names b all others holds from to in
-    let r : Record = record { name = c.args.to_name.now; inode = c.args.link.0; kind = c.args.link.1 } in
+    let from : IsDirectoryOf (holding_now c.reserve.new.self b) c.args.found.now.directory all =
+    (ap (λ (held : Holding). held c.args.found.now.directory) still ∙ are.0.0, are.0.1) in
+    let to : IsDirectoryOf (holding_now c.reserve.new.self b) c.args.found.now.target.directory others =
+    (ap (λ (held : Holding). held c.args.found.now.target.directory) still ∙ are.1.0, are.1.1) in
+    let names = c.in_ok-reserve_move.ensures.names b all others holds (from, to) in
+    let r : Record = record { name = c.args.found.now.target.name.now; inode = c.args.found.now.link.0; kind = c.args.found.now.link.1 } in
     let kept : holding_now c.reserve_move.new.self b ≡ holding_now c.args.self.now b =
     (λ k. λ j. c.in_ok-reserve_move.ensures.still b j k) ∙ still in
     let moved : holding_now c.move_link.new.self b ≡
-    with_link_moved c.args.from all c.args.from_name.now c.args.to others r (holding_now c.args.self.now b) =
-    (λ k. λ j. c.move_link.ensures.shown all others names.0 names.1 b j k)
-    ∙ ap (λ (held : Holding). with_link_moved c.args.from all c.args.from_name.now c.args.to others r held) kept in
+    with_link_moved c.args.found.now.directory all c.args.found.now.name.now c.args.found.now.target.directory others r (holding_now c.args.self.now b) =
+    (λ k. λ j. c.move_link.ensures.shown all others names b j k)
+    ∙ ap (λ (held : Holding). with_link_moved c.args.found.now.directory all c.args.found.now.name.now c.args.found.now.target.directory others r held) kept in
     c.drop_inode.ensures.shown b i ∙ ap (λ (held : Holding). with_held c.args.target None held i) moved
 
 pub returns-clause-counts : goal.returns-clause-counts
-returns-clause-counts g c = λ b all others holds is there counts low high.
+returns-clause-counts g c = λ b all others holds are counts low high.
     let old = c.args.self.now in
     let new = c.drop_inode.new.self in
     let target = c.args.target in
-    let r : Record = record { name = c.args.to_name.now; inode = c.args.link.0; kind = c.args.link.1 } in
-    let moved : Holding = with_link_moved c.args.from all c.args.from_name.now c.args.to others r (holding_now old b) in
+    let r : Record = record { name = c.args.found.now.target.name.now; inode = c.args.found.now.link.0; kind = c.args.found.now.link.1 } in
+    let moved : Holding = with_link_moved c.args.found.now.directory all c.args.found.now.name.now c.args.found.now.target.directory others r (holding_now old b) in
     let get : ℕ → Option Bool = λ n. map.get nat_cmp old.freed n in
     let mid : ℕ → Option Bool = λ n. map.get nat_cmp c.move_link.new.self.freed n in
     let now : ℕ → Option Bool = λ n. map.get nat_cmp new.freed n in
@@ -64,11 +64,11 @@ returns-clause-counts g c = λ b all others holds is there counts low high.
     ∙ c.in_ok-reserve_move.ensures.rest.mark ∙ c.in_ok-reserve.ensures.rest.mark
     ∙ c.in_ok-reserve_number.ensures.mark) in
     let shows : (i : ℕ) → holding_now new b i ≡ with_held target None moved i =
-    returns-clause-moved g c b all others holds is there in
+    returns-clause-moved g c b all others holds are in
     subst (λ (k : ℕ). CountsNumbers (IsNumberFreed new) k (holding_now new b) b) mark
     (counts_given (IsNumberFreed old) (IsNumberFreed new) old.mark (holding_now old b) (holding_now new b) b counts
     target low high (held_here moved (holding_now new b) target None shows)
     (λ m ne. ap is_some (held_others moved (holding_now new b) target None shows m ne)
-    ∙ moved_kept (holding_now old b) c.args.from c.args.to all others c.args.from_name.now r is.0 there.0 m)
+    ∙ moved_kept (holding_now old b) c.args.found.now.directory c.args.found.now.target.directory all others c.args.found.now.name.now r are.0.0 are.1.0 m)
     (given_here mid now target c.drop_inode.ensures.freed)
     (λ m ne f. sym (given m ne) ∙ f) (λ m ne f. given m ne ∙ f))

@@ -1,0 +1,54 @@
+-- What comes of the draft of a checkpoint.
+use Rattle.std.proofs.Common.{◌≡◌, ℕ, ◌+◌, refl, ap, sym, subst}
+use Rattle.std.specs.Prelude.{max}
+use Rattle.nl_types.specs.declared.error.VolError.{VolError}
+use Rattle.nl_types.specs.declared.error.VolError.TheVariants as error
+use Rattle.nl_types.specs.declared.event.Event.TheVariants as event
+use Rattle.nl_types.specs.declared.event.Mode.{Mode}
+use Rattle.nl_dat.specs.Stores.{Store, IsWritten, IsWriteRefused, content_in}
+use Rattle.nl_core.specs.Draft.{CanBeDrafted, IsNextDraft}
+use Rattle.nl_core.specs.Layout.{HasRefused, HasWritten, Settled, layout_of}
+use Rattle.nl_core.specs.Volume.{Lists, published}
+use Rattle.nl_core.specs.declared.checkpoint.Checkpoint.{Checkpoint}
+use Rattle.nl_core.specs.declared.draft.Draft.{Draft}
+
+module _ (lists : Lists) (store : Store) (mode : Mode) (moment : ℕ) (draft : Draft)
+    (can : CanBeDrafted (content_in store) lists) (drafted : IsNextDraft store mode moment lists draft) where
+  -- the current tree is settled in its batch
+  abbrev settled-draft : Settled (layout_of lists store) draft.checkpoint.root
+  settled-draft = record {
+    base = can.1;
+    held = can.2;
+    current = can.3;
+    changes = draft.batch;
+    settles = drafted.settles can.1 can.2 can.3;
+    fits = drafted.fits;
+  }
+
+  -- the batch is written, and the checkpoint is kept
+  pub written-draft : (now : Lists) (after : Store) → now ≡ published draft.checkpoint lists
+      → IsWritten draft.checkpoint.number draft.checkpoint.stamp draft.batch store after
+      → HasWritten mode moment (layout_of lists store) (layout_of now after)
+  written-draft now after is written =
+      subst (λ (ls : Lists). HasWritten mode moment (layout_of lists store) (layout_of ls after)) (sym is) (record {
+        left = drafted.left;
+        settled = settled-draft;
+        lists = ap (λ (c : Checkpoint). published c lists) drafted.checkpoint;
+        written = written;
+      })
+
+  -- the batch is not written
+  refused : (e : VolError) (after : Store)
+      → IsWriteRefused (lists.latest.number + 1) (max moment lists.latest.stamp) draft.batch store after e
+      → HasRefused (event.Checkpoint mode moment) e (layout_of lists store) (layout_of lists after)
+  refused error.NoSpace after why =
+      (ap (layout_of lists) why.1, (drafted.left, record { root = draft.checkpoint.root; settled = settled-draft; lacks = why.0 }))
+  refused error.Memory after why = (ap (layout_of lists) why, drafted.left)
+  refused error.Fault after why = record { lists = refl; root = draft.checkpoint.root; settled = settled-draft; store = why }
+  refused _ after why = absurd why
+
+  pub refused-draft : (e : VolError) (after : Store)
+      → IsWriteRefused draft.checkpoint.number draft.checkpoint.stamp draft.batch store after e
+      → HasRefused (event.Checkpoint mode moment) e (layout_of lists store) (layout_of lists after)
+  refused-draft e after why =
+      refused e after (subst (λ (c : Checkpoint). IsWriteRefused c.number c.stamp draft.batch store after e) drafted.checkpoint why)

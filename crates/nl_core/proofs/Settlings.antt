@@ -1,0 +1,63 @@
+-- What a checkpoint of a pen could write.
+use Rattle.std.proofs.Common.{◌≡◌, length, sym, ap, ◌∙◌, subst, refl}
+use Rattle.std.proofs.lemmas.List.{length-map}
+use Rattle.nl_types.specs.Roots as roots
+use Rattle.nl_dat.specs.Batches.{Changes, item_of_birth, items_of}
+use Rattle.nl_dat.specs.Stores.{content_in}
+use Rattle.nl_layout.specs.Root.{root_of}
+use Rattle.nl_layout.specs.declared.root.Root.{Root}
+use Rattle.nl_layout.specs.declared.root.Root.TheVariants.{Empty, Chain}
+use Rattle.nl_files.specs.Became.{holding_over}
+use Rattle.nl_files.specs.Held.{Holding, IsCheckpointRoot}
+use Rattle.nl_files.proofs.Following.{latest-hold}
+use Rattle.nl_files.proofs.OneSettling.{settlings-alike}
+use Rattle.nl_core.specs.Draft.{SettlesNow}
+use Rattle.nl_core.specs.Laws.{SettlingsAreAlike}
+use Rattle.nl_core.specs.Layout.{IsSoundPen, Layout, Settled, ledger_of, pages_in}
+use Rattle.nl_core.proofs.Holdings.{one-held}
+use Rattle.nl_core.proofs.Ledgers.{is-latest}
+
+-- the root that is kept tells the root
+root_of-one : (a b : Root) → root_of a ≡ root_of b → a ≡ b
+root_of-one Empty Empty e = refl
+root_of-one Empty (Chain t) e = cc
+root_of-one (Chain t) Empty e = cc
+root_of-one (Chain t) (Chain u) e = let top : t ≡ u = cc in ap Chain top
+
+module _ (l : Layout) (sound : IsSoundPen l) (root other : Root) (one : Settled l root) (two : Settled l other) where
+  abbrev latest_root : roots.Root
+  latest_root = root_of l.lists.latest.root
+
+  -- what is held is one
+  held-one : two.held ≡ one.held
+  held-one =
+      two.current.holds
+      ∙ (ap (holding_over l.lists.current.became)
+      (one-held (pages_in l) latest_root two.base one.base two.current.base_is one.current.base_is)
+      ∙ sym one.current.holds)
+
+  -- the latest checkpoint can be settled over
+  checkpoint : IsCheckpointRoot (content_in l.store) latest_root
+  checkpoint = latest-hold (ledger_of l) latest_root one.base sound.ledger
+      (is-latest l sound one.base one.current.base_is) one.current.base_sound
+
+  alike : (length one.changes.births ≡ length two.changes.births) × (root_of other ≡ root_of root)
+  alike = settlings-alike (content_in l.store) latest_root (root_of root) (root_of other) l.lists.current.became
+      one.held one.changes two.changes checkpoint one.current.sound one.settles
+      (subst (λ (held : Holding). SettlesNow (content_in l.store) l.lists other held two.changes) held-one two.settles)
+
+  -- as many births
+  pub births-alike : length one.changes.births ≡ length two.changes.births
+  births-alike = alike.0
+
+  -- and one root
+  pub roots-alike : other ≡ root
+  roots-alike = root_of-one other root alike.1
+
+pub settlings_are_alike : SettlingsAreAlike
+settlings_are_alike l root other held one two =
+    (roots-alike l held.sound root other one two, sym (births-alike l held.sound root other one two))
+
+-- as many blocks are written as there are births
+pub count-items : (changes : Changes) → length (items_of changes.births) ≡ length changes.births
+count-items changes = length-map changes.births item_of_birth

@@ -1,0 +1,5 @@
+use Rattle.nl_core.proofs.Settlings.{settlings_are_alike}
+use Rattle.nl_core.proofs.laws.settlings_are_alike.Goals as goal
+
+pub returns : goal.returns
+returns c = settlings_are_alike
