@@ -1,14 +1,17 @@
 //! The bytes of files.
-ghost use Rattle.std.specs.Prelude.{◌≡◌, ◌+◌, ◌^◌, ◌<◌, replicate, take, drop, length, IfOk};
+ghost use Rattle.std.specs.Prelude.{◌≡◌, ◌+◌, ◌^◌, ◌<◌, take, drop, length, IfOk};
 ghost use Rattle.nl_types.specs.Calls.{overwritten, resized};
 
 use nl_types::Items;
 use std::alloc::{AllocError, Global};
 
-fn zeros(alloc: Global, count: usize) -> Result<Vec<u8>, AllocError>
-    ensures { IfOk result (λ zeros. zeros.items ≡ replicate count 0) }
+/// The first `size` bytes, with zeros behind them where there are fewer.
+fn resized(alloc: Global, bytes: &[u8], size: usize) -> Result<Vec<u8>, AllocError>
+    ensures { IfOk result (λ all. all.items ≡ resized bytes.now size) }
 {
-    vec![in alloc; 0; count]
+    let mut all = Vec::from_slice(alloc, bytes)?;
+    all.resize(size, 0)?;
+    Ok(all)
 }
 
 /// The bytes with others over them from `offset` on, zeros standing between where `offset` is past
@@ -22,10 +25,7 @@ pub fn with_over(
     requires { offset + length new.now < 2 ^ 64 }
     ensures { IfOk result (λ all. all ≡ overwritten bytes.now offset new.now) }
 {
-    let kept = bytes.len().min(offset);
-    let mut all = Vec::new(alloc);
-    all.extend_from_slice(&bytes[..kept])?;
-    all.extend_from_slice(zeros(alloc, offset - kept)?.as_slice())?;
+    let mut all = resized(alloc, bytes, offset)?;
     all.extend_from_slice(new)?;
     let end = bytes.len().min(offset + new.len());
     all.extend_from_slice(&bytes[end..])?;
@@ -36,11 +36,7 @@ pub fn with_over(
 pub fn with_size(alloc: Global, bytes: &[u8], size: usize) -> Result<Items<u8>, AllocError>
     ensures { IfOk result (λ all. all ≡ resized bytes.now size) }
 {
-    let kept = bytes.len().min(size);
-    let mut all = Vec::new(alloc);
-    all.extend_from_slice(&bytes[..kept])?;
-    all.extend_from_slice(zeros(alloc, size - kept)?.as_slice())?;
-    Ok(Items::from_vec(all))
+    Ok(Items::from_vec(resized(alloc, bytes, size)?))
 }
 
 /// At most `len` bytes from `offset` on.

@@ -6,7 +6,7 @@ ghost use Rattle.nl_types.specs.Calls.{IsUnlessMemory, and_then, create, mkdir, 
 
 use crate::bytes::{part, with_over, with_size};
 use crate::path::{Name, Path, parse};
-use crate::tree::{Tree, copy, find, with};
+use crate::tree::{Tree, copy, find, with, with_file};
 use crate::walks::{file, walk_to};
 use nl_types::{Answer, Items, Node, Reply, VolError};
 use std::alloc::Global;
@@ -30,7 +30,8 @@ fn create_node(alloc: Global, entries: &[(Path, Node)], node: &Node, path: &[Nam
     if entries.len() > PATH_LIMIT {
         return Err(VolError::TooBig);
     }
-    Ok((Answer::Done, with(alloc, entries, path, node)?))
+    let tree = with(alloc, entries, path, node)?;
+    Ok((Answer::Done, tree))
 }
 
 /// Makes an empty file, by the rules of POSIX's `open` with `O_CREAT` and `O_EXCL`: `Exists` where
@@ -62,17 +63,16 @@ fn write_bytes(
 {
     let bytes = file(alloc, entries, path)?;
     if new.is_empty() {
-        return Ok((Answer::Written(0), copy(alloc, entries)?));
+        let tree = copy(alloc, entries)?;
+        return Ok((Answer::Written(0), tree));
     }
     let count = new.len() as u64;
     if offset > FILE_LIMIT || offset + count > FILE_LIMIT {
         return Err(VolError::TooBig);
     }
     let all = with_over(alloc, bytes, offset as usize, new)?;
-    Ok((
-        Answer::Written(count),
-        with(alloc, entries, path, &Node::File(all))?,
-    ))
+    let tree = with_file(alloc, entries, path, all)?;
+    Ok((Answer::Written(count), tree))
 }
 
 /// Writes bytes over those from an offset on, by the rules of POSIX's `pwrite`: where the offset is
@@ -99,7 +99,8 @@ fn truncate_file(alloc: Global, entries: &[(Path, Node)], size: u64, path: &[Nam
         return Err(VolError::TooBig);
     }
     let all = with_size(alloc, bytes, size as usize)?;
-    Ok((Answer::Done, with(alloc, entries, path, &Node::File(all))?))
+    let tree = with_file(alloc, entries, path, all)?;
+    Ok((Answer::Done, tree))
 }
 
 /// Sets where a file ends, by the rules of POSIX's `truncate`: bytes past a shorter end are gone,

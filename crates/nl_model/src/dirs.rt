@@ -1,8 +1,9 @@
 //! The file calls that remove and move what directories have, and those that show it.
-ghost use Rattle.std.specs.Prelude.{◌≡◌};
+ghost use Rattle.std.specs.Prelude.{◌≡◌, ◌&&◌};
 ghost use Rattle.nl_types.specs.Paths.{path_of};
 ghost use Rattle.nl_types.specs.Trees.{lookup};
-ghost use Rattle.nl_types.specs.Calls.{IsUnlessMemory, and_then, unlink, rmdir, may_replace, rename, list, stat};
+ghost use Rattle.nl_types.specs.Calls.{IsUnlessMemory, and_then, is_dir, unlink, rmdir, may_replace, is_above, rename, list, stat_of, stat};
+ghost use Rattle.nl_model.specs.Model.{rename_onto};
 
 use crate::calls::Changed;
 use crate::path::{Name, Path, begins_with, compare, parse};
@@ -17,7 +18,8 @@ pub fn unlink(alloc: Global, entries: &[(Path, Node)], path: &[u8]) -> Changed
 {
     let path = parse(alloc, path)?;
     file(alloc, entries, path.as_slice())?;
-    Ok((Answer::Done, without(alloc, entries, path.as_slice())?))
+    let tree = without(alloc, entries, path.as_slice())?;
+    Ok((Answer::Done, tree))
 }
 
 fn remove_dir(alloc: Global, entries: &[(Path, Node)], path: &[Name]) -> Changed
@@ -30,7 +32,8 @@ fn remove_dir(alloc: Global, entries: &[(Path, Node)], path: &[Name]) -> Changed
     if count_in(entries, path) > 0 {
         return Err(VolError::NotEmpty);
     }
-    Ok((Answer::Done, without(alloc, entries, path)?))
+    let tree = without(alloc, entries, path)?;
+    Ok((Answer::Done, tree))
 }
 
 /// Removes an empty directory, by the rules of POSIX's `rmdir`. `BadPath` for the root, `NotDir`
@@ -65,6 +68,33 @@ fn judge_target(entries: &[(Path, Node)], to: &[Name], moved: &Node) -> Result<(
     }
 }
 
+/// Whether a directory would come to lie below itself.
+fn is_into_itself(moved: &Node, from: &[Name], to: &[Name]) -> bool
+    ensures { result ≡ (is_dir moved.now && is_above from.now to.now) }
+{
+    let above = begins_with(to, from) && !compare(from, to).is_eq();
+    is_directory(moved) && above
+}
+
+/// Moves a node to a path in a directory that stands.
+fn move_onto(
+    alloc: Global,
+    entries: &[(Path, Node)],
+    from: &[Name],
+    to: &[Name],
+    moved: &Node,
+) -> Changed
+    ensures { IsUnlessMemory result (rename_onto entries.now from.now to.now moved.now) }
+{
+    if compare(from, to).is_eq() {
+        let tree = copy(alloc, entries)?;
+        return Ok((Answer::Done, tree));
+    }
+    judge_target(entries, to, moved)?;
+    let tree = with_moved(alloc, entries, from, to)?;
+    Ok((Answer::Done, tree))
+}
+
 fn move_node(alloc: Global, entries: &[(Path, Node)], from: &[Name], to: &[Name]) -> Changed
     ensures { IsUnlessMemory result (rename entries.now from.now to.now) }
 {
@@ -72,17 +102,11 @@ fn move_node(alloc: Global, entries: &[(Path, Node)], from: &[Name], to: &[Name]
         return Err(VolError::BadPath);
     }
     let moved = node(alloc, entries, from)?;
-    let same = compare(from, to).is_eq();
-    let above = begins_with(to, from) && !same;
-    if is_directory(moved) && above {
+    if is_into_itself(moved, from, to) {
         return Err(VolError::IntoItself);
     }
     walk_to(alloc, entries, to)?;
-    if same {
-        return Ok((Answer::Done, copy(alloc, entries)?));
-    }
-    judge_target(entries, to, moved)?;
-    Ok((Answer::Done, with_moved(alloc, entries, from, to)?))
+    move_onto(alloc, entries, from, to, moved)
 }
 
 /// Moves a file, or a directory with all that lies below it, by the rules of POSIX's `rename`: a
@@ -109,13 +133,20 @@ pub fn list(alloc: Global, entries: &[(Path, Node)], path: &[u8]) -> Result<Item
     Ok(names_in(alloc, entries, path.as_slice())?)
 }
 
+fn stat_of(entries: &[(Path, Node)], path: &[Name], node: &Node) -> Stat
+    ensures { result ≡ stat_of entries.now path.now node.now }
+{
+    match node {
+        Node::Dir => Stat::Dir(count_in(entries, path) as u64),
+        Node::File(bytes) => Stat::File(bytes.as_slice().len() as u64),
+    }
+}
+
 /// The size of a file, or the number of names in a directory, after POSIX's `stat`.
 pub fn stat(alloc: Global, entries: &[(Path, Node)], path: &[u8]) -> Result<Stat, VolError>
     ensures { IsUnlessMemory result (and_then (path_of path.now) (stat entries.now)) }
 {
     let path = parse(alloc, path)?;
-    match node(alloc, entries, path.as_slice())? {
-        Node::Dir => Ok(Stat::Dir(count_in(entries, path.as_slice()) as u64)),
-        Node::File(bytes) => Ok(Stat::File(bytes.as_slice().len() as u64)),
-    }
+    let node = node(alloc, entries, path.as_slice())?;
+    Ok(stat_of(entries, path.as_slice(), node))
 }

@@ -1,5 +1,5 @@
 //! Paths as lists of names.
-ghost use Rattle.std.specs.Prelude.{◌≡◌, ◌==◌, ◌≤◌, true, length, IfOk, OnOk};
+ghost use Rattle.std.specs.Prelude.{◌≡◌, ◌==◌, ◌≤◌, [], ◌∷◌, ◌++◌, if◌then◌else◌, true, length, IfOk, OnOk};
 ghost use Rattle.std.specs.List.{slice_split, onto_first, list_all};
 ghost use Rattle.nl_types.specs.Paths.{same_name, path_cmp, is_within, is_name, names_of, path_of};
 ghost use Rattle.nl_types.specs.Calls.{IsUnlessMemory};
@@ -58,6 +58,13 @@ fn is_valid(name: &[u8]) -> bool
     !is_same_name(name, b".") && !is_same_name(name, b"..")
 }
 
+/// Puts a copy of a name behind the others.
+pub fn push_name(alloc: Global, path: &mut Path, name: &[u8]) -> Result<(), AllocError>
+    ensures { OnOk result (path.new ≡ path.old ++ name.now ∷ []) }
+{
+    path.push(Items::from_slice(alloc, name)?)
+}
+
 /// Puts a byte in front of the first name.
 fn onto_first(alloc: Global, byte: u8, names: &mut Path) -> Result<(), AllocError>
     ensures { OnOk result (names.new ≡ onto_first byte names.old) }
@@ -75,24 +82,33 @@ fn onto_first(alloc: Global, byte: u8, names: &mut Path) -> Result<(), AllocErro
     }
 }
 
+/// The names with a byte in front of them. A slash ends a name.
+fn with_byte(alloc: Global, byte: u8, mut names: Path) -> Result<Path, AllocError>
+    ensures { IfOk result (λ all. all ≡ (if byte == 47 then [] ∷ names else onto_first byte names)) }
+{
+    if byte == b'/' {
+        names.push_front(Items::new(alloc))?;
+    } else {
+        onto_first(alloc, byte, &mut names)?;
+    }
+    Ok(names)
+}
+
+/// One empty name.
+fn no_name(alloc: Global) -> Result<Path, AllocError>
+    ensures { IfOk result (λ names. names ≡ [] ∷ []) }
+{
+    let mut names = Items::new(alloc);
+    names.push(Items::new(alloc))?;
+    Ok(names)
+}
+
 fn split_at_slashes(alloc: Global, bytes: &[u8]) -> Result<Path, AllocError>
     ensures { IfOk result (λ names. names ≡ slice_split (λ b. b == 47) bytes.now) }
 {
     match bytes {
-        [] => {
-            let mut names = Items::new(alloc);
-            names.push(Items::new(alloc))?;
-            Ok(names)
-        }
-        [b, rest @ ..] => {
-            let mut names = split_at_slashes(alloc, rest)?;
-            if *b == b'/' {
-                names.push_front(Items::new(alloc))?;
-            } else {
-                onto_first(alloc, *b, &mut names)?;
-            }
-            Ok(names)
-        }
+        [] => no_name(alloc),
+        [b, rest @ ..] => with_byte(alloc, *b, split_at_slashes(alloc, rest)?),
     }
 }
 

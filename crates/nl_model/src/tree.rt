@@ -1,10 +1,11 @@
 //! A tree as the list of its entries in order.
 ghost use Rattle.std.specs.Prelude.{◌≡◌, ◌≤◌, ◌∷◌, ◌++◌, map, length, OnOk, IfOk};
 ghost use Rattle.std.specs.Option.{option_copied};
+ghost use Rattle.nl_types.specs.declared.reply.Node.TheVariants.{File};
 ghost use Rattle.nl_types.specs.Trees.{lookup, insert, remove, root_alone, name_below, node_kind, children, moved_path, move_subtree};
 ghost use Rattle.nl_types.specs.Calls.{named};
 
-use crate::path::{Name, Path, begins_with, compare, is_same_name};
+use crate::path::{Name, Path, begins_with, compare, is_same_name, push_name};
 use nl_types::{Items, Kind, Named, Node};
 use std::alloc::{AllocError, Global};
 use std::cmp::Ordering;
@@ -69,6 +70,21 @@ fn kind(node: &Node) -> Kind
     }
 }
 
+/// The names with a copy of one more in front, with its kind.
+fn with_named(
+    alloc: Global,
+    mut names: Items<Named>,
+    name: &[u8],
+    node: &Node,
+) -> Result<Items<Named>, AllocError>
+    ensures { IfOk result (λ all. all ≡ named (name.now, node_kind node.now) ∷ names) }
+{
+    let name = Items::from_slice(alloc, name)?;
+    let kind = kind(node);
+    names.push_front(Named { name, kind })?;
+    Ok(names)
+}
+
 /// The names in a directory with their kinds, ascending.
 pub fn names_in(
     alloc: Global,
@@ -80,14 +96,11 @@ pub fn names_in(
     match entries {
         [] => Ok(Items::new(alloc)),
         [first, rest @ ..] => {
-            let mut names = names_in(alloc, rest, dir)?;
-            if let Some(name) = name_in(dir, first.0.as_slice()) {
-                names.push_front(Named {
-                    name: Items::from_slice(alloc, name.as_slice())?,
-                    kind: kind(&first.1),
-                })?;
+            let names = names_in(alloc, rest, dir)?;
+            match name_in(dir, first.0.as_slice()) {
+                Some(name) => with_named(alloc, names, name.as_slice(), &first.1),
+                None => Ok(names),
             }
-            Ok(names)
         }
     }
 }
@@ -110,17 +123,24 @@ pub fn count_in(entries: &[(Path, Node)], dir: &[Name]) -> usize
     }
 }
 
+fn append_copies(alloc: Global, path: &mut Path, names: &[Name]) -> Result<(), AllocError>
+    ensures { OnOk result (path.new ≡ path.old ++ names.now) }
+{
+    match names {
+        [] => Ok(()),
+        [name, rest @ ..] => {
+            push_name(alloc, path, name.as_slice())?;
+            append_copies(alloc, path, rest)
+        }
+    }
+}
+
 fn copy_path(alloc: Global, path: &[Name]) -> Result<Path, AllocError>
     ensures { IfOk result (λ copy. copy ≡ path.now) }
 {
-    match path {
-        [] => Ok(Items::new(alloc)),
-        [name, rest @ ..] => {
-            let mut copy = copy_path(alloc, rest)?;
-            copy.push_front(Items::from_slice(alloc, name.as_slice())?)?;
-            Ok(copy)
-        }
-    }
+    let mut copy = Items::new(alloc);
+    append_copies(alloc, &mut copy, path)?;
+    Ok(copy)
 }
 
 fn copy_node(alloc: Global, node: &Node) -> Result<Node, AllocError>
@@ -132,16 +152,20 @@ fn copy_node(alloc: Global, node: &Node) -> Result<Node, AllocError>
     }
 }
 
-/// Puts a copy of an entry in front.
-fn push_copy(
-    alloc: Global,
-    entries: &mut Tree,
-    path: &[Name],
-    node: &Node,
-) -> Result<(), AllocError>
-    ensures { OnOk result (entries.new ≡ (path.now, node.now) ∷ entries.old) }
+fn copy_entry(alloc: Global, path: &[Name], node: &Node) -> Result<(Path, Node), AllocError>
+    ensures { IfOk result (λ copy. copy ≡ (path.now, node.now)) }
 {
-    entries.push_front((copy_path(alloc, path)?, copy_node(alloc, node)?))
+    let path = copy_path(alloc, path)?;
+    let node = copy_node(alloc, node)?;
+    Ok((path, node))
+}
+
+/// The tree with a copy of an entry in front.
+fn with_first(alloc: Global, mut tree: Tree, path: &[Name], node: &Node) -> Result<Tree, AllocError>
+    ensures { IfOk result (λ all. all ≡ (path.now, node.now) ∷ tree) }
+{
+    tree.push_front(copy_entry(alloc, path, node)?)?;
+    Ok(tree)
 }
 
 pub fn copy(alloc: Global, entries: &[(Path, Node)]) -> Result<Tree, AllocError>
@@ -150,9 +174,7 @@ pub fn copy(alloc: Global, entries: &[(Path, Node)]) -> Result<Tree, AllocError>
     match entries {
         [] => Ok(Items::new(alloc)),
         [first, rest @ ..] => {
-            let mut copied = copy(alloc, rest)?;
-            push_copy(alloc, &mut copied, first.0.as_slice(), &first.1)?;
-            Ok(copied)
+            with_first(alloc, copy(alloc, rest)?, first.0.as_slice(), &first.1)
         }
     }
 }
@@ -167,29 +189,28 @@ pub fn with(
     ensures { IfOk result (λ tree. tree ≡ insert entries.now path.now node.now) }
 {
     match entries {
-        [] => {
-            let mut tree = Items::new(alloc);
-            push_copy(alloc, &mut tree, path, node)?;
-            Ok(tree)
-        }
+        [] => with_first(alloc, Items::new(alloc), path, node),
         [first, rest @ ..] => match compare(path, first.0.as_slice()) {
-            Ordering::Less => {
-                let mut tree = copy(alloc, entries)?;
-                push_copy(alloc, &mut tree, path, node)?;
-                Ok(tree)
-            }
-            Ordering::Equal => {
-                let mut tree = copy(alloc, rest)?;
-                push_copy(alloc, &mut tree, first.0.as_slice(), node)?;
-                Ok(tree)
-            }
+            Ordering::Less => with_first(alloc, copy(alloc, entries)?, path, node),
+            Ordering::Equal => with_first(alloc, copy(alloc, rest)?, first.0.as_slice(), node),
             Ordering::Greater => {
-                let mut tree = with(alloc, rest, path, node)?;
-                push_copy(alloc, &mut tree, first.0.as_slice(), &first.1)?;
-                Ok(tree)
+                let tree = with(alloc, rest, path, node)?;
+                with_first(alloc, tree, first.0.as_slice(), &first.1)
             }
         },
     }
+}
+
+/// The tree with a file at a path.
+pub fn with_file(
+    alloc: Global,
+    entries: &[(Path, Node)],
+    path: &[Name],
+    bytes: Items<u8>,
+) -> Result<Tree, AllocError>
+    ensures { IfOk result (λ tree. tree ≡ insert entries.now path.now (File bytes)) }
+{
+    with(alloc, entries, path, &Node::File(bytes))
 }
 
 /// The tree with nothing at a path.
@@ -199,23 +220,12 @@ pub fn without(alloc: Global, entries: &[(Path, Node)], path: &[Name]) -> Result
     match entries {
         [] => Ok(Items::new(alloc)),
         [first, rest @ ..] => {
-            let mut tree = without(alloc, rest, path)?;
-            if !compare(path, first.0.as_slice()).is_eq() {
-                push_copy(alloc, &mut tree, first.0.as_slice(), &first.1)?;
+            let tree = without(alloc, rest, path)?;
+            if compare(path, first.0.as_slice()).is_eq() {
+                Ok(tree)
+            } else {
+                with_first(alloc, tree, first.0.as_slice(), &first.1)
             }
-            Ok(tree)
-        }
-    }
-}
-
-fn append_copies(alloc: Global, path: &mut Path, names: &[Name]) -> Result<(), AllocError>
-    ensures { OnOk result (path.new ≡ path.old ++ names.now) }
-{
-    match names {
-        [] => Ok(()),
-        [name, rest @ ..] => {
-            path.push(Items::from_slice(alloc, name.as_slice())?)?;
-            append_copies(alloc, path, rest)
         }
     }
 }

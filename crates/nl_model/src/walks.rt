@@ -1,11 +1,23 @@
 //! What stands at a path of a tree, or why a call is refused there.
 ghost use Rattle.std.specs.Prelude.{◌≡◌};
-ghost use Rattle.nl_types.specs.Calls.{IsUnlessMemory, ShowsUnlessMemory, ok_unless, stop_from, walk, node_at, file_at, dir_at, is_dir};
+ghost use Rattle.nl_types.specs.Trees.{lookup};
+ghost use Rattle.nl_types.specs.Calls.{IsUnlessMemory, ShowsUnlessMemory, ok_unless, stops_walk, stop_from, walk, node_at, file_at, dir_at, is_dir};
 
-use crate::path::{Name, Path};
+use crate::path::{Name, Path, push_name};
 use crate::tree::find;
 use nl_types::{Items, Node, VolError};
 use std::alloc::Global;
+
+/// Refuses to walk into what is no directory.
+fn judge_step(entries: &[(Path, Node)], walked: &[Name]) -> Result<(), VolError>
+    ensures { result ≡ ok_unless (stops_walk (lookup entries.now walked.now)) }
+{
+    match find(entries, walked) {
+        None => Err(VolError::NotFound),
+        Some(Node::File(_)) => Err(VolError::NotDir),
+        Some(Node::Dir) => Ok(()),
+    }
+}
 
 /// Goes on with a walk that has come to `walked`, to the directory of the path.
 fn go_on(
@@ -18,14 +30,11 @@ fn go_on(
 {
     match names {
         [] => Ok(()),
-        [name, names @ ..] => match find(entries, walked.as_slice()) {
-            None => Err(VolError::NotFound),
-            Some(Node::File(_)) => Err(VolError::NotDir),
-            Some(Node::Dir) => {
-                walked.push(Items::from_slice(alloc, name.as_slice())?)?;
-                go_on(alloc, entries, walked, names)
-            }
-        },
+        [name, names @ ..] => {
+            judge_step(entries, walked.as_slice())?;
+            push_name(alloc, walked, name.as_slice())?;
+            go_on(alloc, entries, walked, names)
+        }
     }
 }
 
