@@ -1,8 +1,8 @@
 //! Logs made ready to be written: all that needs memory is done here.
-ghost use Rattle.std.specs.Prelude.{◌≡◌, ◌≤◌, length, map, IfOk};
+ghost use Rattle.std.specs.Prelude.{◌≡◌, ◌≤◌, ◌∷◌, length, map, IfOk};
 ghost use Rattle.nl_types.specs.Placing.{payload_count};
-ghost use Rattle.nl_layout.specs.Summary.{Spells};
-ghost use Rattle.nl_segwriter.specs.Content.{payload_tag};
+ghost use Rattle.nl_layout.specs.Summary.{Spells, SummaryFits, summary_bytes};
+ghost use Rattle.nl_segwriter.specs.Content.{payload_tag, payload_page};
 
 use crate::payload::Payload;
 use nl_layout::{Summary, Tag};
@@ -52,6 +52,40 @@ fn summary_page(
     Page::new(alloc, Block::new(bytes))
 }
 
+// For the device: the summary's page, and behind it those of the items.
+fn pages_of(
+    alloc: Global,
+    items: &[Payload],
+    checkpoint: CheckpointNumber,
+    stamp: u64,
+) -> Result<Items<Page>, AllocError>
+    requires some { 1 ≤ length items.now }
+    requires most { length items.now ≤ 30 }
+    ensures fits { IfOk result (λ _.
+        SummaryFits (record { stamp = stamp; checkpoint = checkpoint; tags = map payload_tag items.now })) }
+    ensures pages { IfOk result (λ pages. pages ≡ summary_bytes
+        (record { stamp = stamp; checkpoint = checkpoint; tags = map payload_tag items.now })
+        ∷ map payload_page items.now) }
+{
+    let mut pages = Items::new(alloc);
+    pages.push(summary_page(alloc, items, checkpoint, stamp)?)?;
+    for (_, page) in items {
+        pages.push(page.share()?)?;
+    }
+    Ok(pages)
+}
+
+// For memory: the items again, with shared pages.
+fn payload_of(alloc: Global, items: &[Payload]) -> Result<Items<Payload>, AllocError>
+    ensures { IfOk result (λ payload. payload ≡ items.now) }
+{
+    let mut payload = Items::new(alloc);
+    for (tag, page) in items {
+        payload.push((*tag, page.share()?))?;
+    }
+    Ok(payload)
+}
+
 // One log of these items.
 fn stage_log(
     alloc: Global,
@@ -65,13 +99,8 @@ fn stage_log(
     requires most { log.count ≤ 30 }
     ensures { IfOk result (IsStaged log (record { stamp = stamp; checkpoint = checkpoint; payload = items.now })) }
 {
-    let mut pages = Items::new(alloc);
-    pages.push(summary_page(alloc, items, checkpoint, stamp)?)?;
-    let mut payload = Items::new(alloc);
-    for (tag, page) in items {
-        pages.push(page.share()?)?;
-        payload.push((*tag, page.share()?))?;
-    }
+    let pages = pages_of(alloc, items, checkpoint, stamp)?;
+    let payload = payload_of(alloc, items)?;
     Ok(Staged {
         log,
         stamp,

@@ -78,3 +78,48 @@ returns-in-Ok-clause-stands g c =
     let row : StandInRow (first_block s.blocks log + 1) x.payload (held_in table) = subst (λ (n : ℕ). StandInRow (n + 1) x.payload (held_in table)) at c.hold_row.ensures.there in
     let same : SameOutside (first_block s.blocks log + 1) (length x.payload) old.held (held_in table) = subst (λ (n : ℕ). SameOutside (n + 1) (length x.payload) old.held (held_in table)) at c.hold_row.ensures.others in
     log_stands old x (held_in table) stored c.args.self.now.limits.tidy c.requires.next c.args.self.now.unheld c.requires.ready put row same
+
+pub returns-in-Ok-clause-table : goal.returns-in-Ok-clause-table
+returns-in-Ok-clause-table g c = c.add_log.ensures.log ∙ c.take_segment.ensures.logged c.args.staged.stamp (end_of c.args.staged.log)
+
+pub returns-in-Ok-clause-counted : goal.returns-in-Ok-clause-counted
+returns-in-Ok-clause-counted g c = c.in-Ok.ensures.counted
+
+pub returns-in-Ok-clause-others : goal.returns-in-Ok-clause-others
+returns-in-Ok-clause-others g c =
+    let s : Segments = c.args.self.now.table in
+    let x : Staged = c.args.staged in
+    let log : Log = x.log in
+    let table : List (Option Payload) = c.hold_row.new.table in
+    let stored = g.D.Device.pages c.put_row.new.device in
+    let old : SpaceContent = space_content s c.args.self.now.payload (g.D.Device.pages c.args.self.now.device) in
+    let at : c.get.result * c.blocks-2.result + log.first ≡ first_block s.blocks log = rw (c.get.ensures, c.blocks-2.ensures.blocks) refl in
+    let put : HasPut (first_block s.blocks log) x.pages old.stored stored = subst (λ (n : ℕ). HasPut n x.pages old.stored stored) at c.in-Ok.ensures.put in
+    let same : SameOutside (first_block s.blocks log + 1) (length x.payload) old.held (held_in table) = subst (λ (n : ℕ). SameOutside (n + 1) (length x.payload) old.held (held_in table)) at c.hold_row.ensures.others in
+    record {
+      held = held_outside (first_block s.blocks log) x old.held (held_in table) c.requires.ready same;
+      stored = put_outside (first_block s.blocks log) x old.stored stored c.requires.ready put;
+    }
+
+pub returns-in-Err-clause-broken : goal.returns-in-Err-clause-broken
+returns-in-Err-clause-broken g c = c.mark_error.ensures.error ∙ c.take_segment.ensures.failed
+
+pub returns-in-Err-clause-failed : goal.returns-in-Err-clause-failed
+returns-in-Err-clause-failed g c = c.in-Err.ensures.failed
+
+pub returns-in-Err-clause-counted : goal.returns-in-Err-clause-counted
+returns-in-Err-clause-counted g c = c.in-Err.ensures.counted
+
+pub returns-in-Err-clause-others : goal.returns-in-Err-clause-others
+returns-in-Err-clause-others g c =
+    let s : Segments = c.args.self.now.table in
+    let x : Staged = c.args.staged in
+    let log : Log = x.log in
+    let stored = g.D.Device.pages c.put_row.new.device in
+    let old : SpaceContent = space_content s c.args.self.now.payload (g.D.Device.pages c.args.self.now.device) in
+    let at : c.get.result * c.blocks-2.result + log.first ≡ first_block s.blocks log = rw (c.get.ensures, c.blocks-2.ensures.blocks) refl in
+    let put : HasTried (first_block s.blocks log) c.in-Err.field-0.tried x.pages old.stored stored = subst (λ (n : ℕ). HasTried n c.in-Err.field-0.tried x.pages old.stored stored) at c.in-Err.ensures.tried in
+    record {
+      held = record { below = λ b h. refl; above = λ b h. refl };
+      stored = tried_outside (first_block s.blocks log) c.in-Err.field-0.tried x old.stored stored c.requires.ready put;
+    }

@@ -59,6 +59,48 @@ returns-clause-stand g c =
     let none : into_iter_items c.loop-staged.staged-iterator ≡ [] = no_items (into_iter_items c.loop-staged.staged-iterator) (sym inv.long ∙ c.in-None.ensures.steps.0) in
     inv.stand now (λ b used. (refl, refl)) (subst (λ (r : List Staged). LogsStand start.blocks r now.held now.stored) (sym none) tt)
 
+pub returns-in_err-write_log-clause-failed : goal.returns-in_err-write_log-clause-failed
+returns-in_err-write_log-clause-failed g c =
+    let p = err_from_is_err_and c.from_residual.result c.from_residual.ensures.1 in
+    rw p.1 (omega (arith, c.loop-staged.invariant.counted, c.in_err-write_log.ensures.failed))
+
+pub returns-in_err-write_log-clause-counted : goal.returns-in_err-write_log-clause-counted
+returns-in_err-write_log-clause-counted g c = omega (arith, c.loop-staged.invariant.counted, c.in_err-write_log.ensures.counted)
+
+pub returns-in_err-write_log-clause-others : goal.returns-in_err-write_log-clause-others
+returns-in_err-write_log-clause-others g c =
+    let inv = c.loop-staged.invariant in
+    let s : Segments = c.loop-staged.self.table in
+    let x : Staged = c.in-Some.staged in
+    let blocks : ℕ = c.args.self.now.table.blocks in
+    let device = g.D.Device in
+    let then : SpaceContent = space_content s c.loop-staged.self.payload (device.pages c.loop-staged.self.device) in
+    let now : SpaceContent = space_content c.write_log.new.self.table c.write_log.new.self.payload (device.pages c.write_log.new.self.device) in
+    λ b outside.
+    let o = inv.others b outside in
+    let split : IsOutside blocks b x.log × AllByRecursion (IsOutside blocks b) (logs_of (into_iter_items c.next.new.self)) = subst (λ (r : List Staged). AllByRecursion (IsOutside blocks b) (logs_of r)) c.in-Some.ensures.steps.0 o.0 in
+    let here : IsSameAt then now b = same_outside s.blocks x.log then now b c.in_err-write_log.ensures.others (subst (λ (n : ℕ). IsOutside n b x.log) (sym inv.size) split.0) in
+    (here.0 ∙ o.1.0, here.1 ∙ o.1.1)
+
+pub returns-clause-table : goal.returns-clause-table
+returns-clause-table g c =
+    let inv = c.loop-staged.invariant in
+    let start : Segments = c.args.self.now.table in
+    let none : into_iter_items c.loop-staged.staged-iterator ≡ [] = no_items (into_iter_items c.loop-staged.staged-iterator) (sym inv.long ∙ c.in-None.ensures.steps.0) in
+    subst (λ (r : List Staged). with_logs c.loop-staged.self.table (logs_of r) c.args.now ≡ with_logs start (logs_of c.args.all.items) c.args.now) none inv.table
+
+pub returns-clause-counted : goal.returns-clause-counted
+returns-clause-counted g c = c.loop-staged.invariant.counted
+
+pub returns-clause-others : goal.returns-clause-others
+returns-clause-others g c = λ b outside. (c.loop-staged.invariant.others b outside).1
+
+pub returns-clause-kept : goal.returns-clause-kept
+returns-clause-kept g c = c.loop-staged.invariant.kept
+
+pub returns-clause-stays : goal.returns-clause-stays
+returns-clause-stays g c = c.loop-staged.invariant.stays
+
 pub loop-staged-preserved : goal.loop-staged-preserved
 loop-staged-preserved g c =
     let inv = c.loop-staged.invariant in

@@ -58,3 +58,24 @@ returns-clause-broken_off g c = λ _.
     let staged : AreStaged c.args.now c.args.checkpoint logs c.args.items.now c.in_ok-all.all.items = subst (λ (l : List Log). AreStaged c.args.now c.args.checkpoint l c.args.items.now c.in_ok-all.all.items) c.as_slice-logs.ensures.value c.in_ok-all.ensures in
     is_broken_off old new c.args.reserve c.args.now c.args.checkpoint c.args.items.now logs c.in_ok-all.all.items
     (record { tidy = c.args.self.now.limits.tidy; fits = c.in_ok-planned.ensures.fits; staged = staged }) c.in-Err.ensures.broken
+
+pub returns-in-Ok-clause-kept : goal.returns-in-Ok-clause-kept
+returns-in-Ok-clause-kept g c = c.in-Ok.ensures.kept
+
+pub returns-in-Ok-clause-stays : goal.returns-in-Ok-clause-stays
+returns-in-Ok-clause-stays g c = c.in-Ok.ensures.stays
+
+pub returns-in-Ok-clause-counted : goal.returns-in-Ok-clause-counted
+returns-in-Ok-clause-counted g c = c.in-Ok.ensures.counted
+
+pub returns-clause-kept : goal.returns-clause-kept
+returns-clause-kept g c = c.in-Err.ensures.kept
+
+pub returns-clause-stays : goal.returns-clause-stays
+returns-clause-stays g c = c.in-Err.ensures.stays
+
+pub returns-clause-counted : goal.returns-clause-counted
+returns-clause-counted g c = c.in-Err.ensures.counted
+
+pub returns-clause-fault : goal.returns-clause-fault
+returns-clause-fault g c = λ _. c.in-Err.ensures.failed
