@@ -1,10 +1,10 @@
 //! A device in memory, which never fails.
-ghost use Rattle.std.specs.Prelude.{◌≡◌, ℕ, ◌+◌, ◌*◌, ◌<◌, ◌≤◌, None, IfOk, IsOkUnless, vec_len};
+ghost use Rattle.std.specs.Prelude.{◌≡◌, ℕ, ◌+◌, ◌*◌, ◌<◌, ◌≤◌, None, IfOk, IsOkUnless, replicate, vec_len};
 ghost use Rattle.nl_device.specs.Pages.{IsEmpty};
 
 use crate::device::{Device, DeviceError, Fault};
 use nl_types::{BlockNumber, Geometry, Page, Segment, VolError};
-use std::alloc::Global;
+use std::alloc::{AllocError, Global};
 
 /// A device in memory. Its table has its full length from the start.
 #[derive(Drop)]
@@ -12,6 +12,17 @@ pub struct MemDevice {
     geometry: Geometry,
     blocks: Vec<Option<Page>>,
     ghost sized: { vec_len blocks ≡ geometry.segments * geometry.blocks },
+}
+
+/// So many blocks without a page.
+fn empty_blocks(alloc: Global, total: usize) -> Result<Vec<Option<Page>>, AllocError>
+    ensures { IfOk result (λ blocks. blocks.items ≡ replicate total None) }
+{
+    let mut blocks = Vec::with_capacity(alloc, total)?;
+    for _ in 0..total {
+        blocks.push(None)?;
+    }
+    Ok(blocks)
 }
 
 impl MemDevice {
@@ -23,11 +34,7 @@ impl MemDevice {
         ensures shape { IfOk result (λ device. device.geometry ≡ geometry) }
         ensures refused { IsOkUnless result VolError.Memory }
     {
-        let total = geometry.total() as usize;
-        let mut blocks = Vec::with_capacity(alloc, total)?;
-        for _ in 0..total {
-            blocks.push(None)?;
-        }
+        let blocks = empty_blocks(alloc, geometry.total() as usize)?;
         Ok(MemDevice { geometry, blocks })
     }
 }
