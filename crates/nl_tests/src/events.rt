@@ -38,6 +38,8 @@ pub(crate) enum Want<'a> {
     /// A byte so many times.
     Filled(u8, usize),
     Names(&'a [(&'a [u8], Kind)]),
+    /// So many names, with the first one and the last one.
+    Listed(usize, &'a [u8], &'a [u8]),
     Stat(Stat),
     Checkpoint(u64),
     Mount(u64),
@@ -141,6 +143,15 @@ fn are_named(names: &[Named], due: &[(&[u8], Kind)]) -> bool {
     names.len() == due.len()
 }
 
+fn are_listed(names: &[Named], count: usize, first: &[u8], last: &[u8]) -> bool {
+    match (names.first(), names.last()) {
+        (Some(one), Some(other)) => {
+            names.len() == count && one.name.as_slice() == first && other.name.as_slice() == last
+        }
+        _ => false,
+    }
+}
+
 pub(crate) fn is_wanted(reply: &Reply, want: Want<'_>) -> bool {
     match (reply, want) {
         (Ok(Answer::Done), Want::Done) => true,
@@ -150,6 +161,9 @@ pub(crate) fn is_wanted(reply: &Reply, want: Want<'_>) -> bool {
             is_filled(bytes.as_slice(), byte, count)
         }
         (Ok(Answer::Names(names)), Want::Names(want)) => are_named(names.as_slice(), want),
+        (Ok(Answer::Names(names)), Want::Listed(count, first, last)) => {
+            are_listed(names.as_slice(), count, first, last)
+        }
         (Ok(Answer::Stat(found)), Want::Stat(want)) => *found == want,
         (Ok(Answer::Checkpoint(n)), Want::Checkpoint(want)) => n.get() == want,
         (Ok(Answer::Mount(m)), Want::Mount(want)) => m.get() == want,

@@ -1,8 +1,6 @@
 //! Rows of file calls, on the plain program and on a pen.
 use crate::events::{ALL, Call, Row, SNAPSHOT, Want};
-use crate::logs::NONE_FAILS;
 use crate::rows::first_unwanted;
-use crate::volumes::unwanted;
 use Kind::{Directory, File};
 use Want::{Bytes, Done, Names, Refused, Written};
 use nl_model::World;
@@ -11,7 +9,7 @@ use std::alloc::Global;
 use std::test::Fail;
 
 /// Directories, and renames of and onto them.
-const TREES: &[Row<'static>] = &[
+pub(crate) const TREES: &[Row<'static>] = &[
     (Call::Mkdir(b"/a"), Done),
     (Call::Mkdir(b"/c"), Done),
     (Call::Create(b"/c/x"), Done),
@@ -48,7 +46,7 @@ const TREES: &[Row<'static>] = &[
 ];
 
 /// Refused renames change nothing, and one that is done takes along what lies below.
-const RENAMES: &[Row<'static>] = &[
+pub(crate) const RENAMES: &[Row<'static>] = &[
     (Call::Mkdir(b"/a"), Done),
     (Call::Mkdir(b"/c"), Done),
     (Call::Create(b"/c/x"), Done),
@@ -69,7 +67,7 @@ const RENAMES: &[Row<'static>] = &[
 ];
 
 /// Three levels below a directory move with it.
-const DEEP: &[Row<'static>] = &[
+pub(crate) const DEEP: &[Row<'static>] = &[
     (Call::Mkdir(b"/a"), Done),
     (Call::Mkdir(b"/a/b"), Done),
     (Call::Mkdir(b"/a/b/c"), Done),
@@ -87,7 +85,7 @@ const DEEP: &[Row<'static>] = &[
 ];
 
 /// Files that grow, shrink and replace one another.
-const FILES: &[Row<'static>] = &[
+pub(crate) const FILES: &[Row<'static>] = &[
     (Call::Create(b"/f"), Done),
     (Call::Write(b"/f", 5, b"end"), Written(3)),
     (Call::Read(b"/f", 0, ALL), Bytes(b"\0\0\0\0\0end")),
@@ -121,7 +119,7 @@ const FILES: &[Row<'static>] = &[
 ];
 
 /// A snapshot keeps a file's last byte where the current one changes.
-const COPIES: &[Row<'static>] = &[
+pub(crate) const COPIES: &[Row<'static>] = &[
     (Call::Create(b"/f"), Done),
     (Call::Fill(b"/f", 0, b'a', 1025), Written(1025)),
     (SNAPSHOT, Want::Checkpoint(2)),
@@ -134,7 +132,7 @@ const COPIES: &[Row<'static>] = &[
 ];
 
 /// What is no path, and what has a part that is no name: names have 255 bytes at most, and paths 4,095.
-const PATHS: &[Row<'static>] = &[
+pub(crate) const PATHS: &[Row<'static>] = &[
     (Call::Create(b"a"), Refused(VolError::BadPath)),
     (Call::Create(b""), Refused(VolError::BadPath)),
     (Call::Create(b"/a//b"), Refused(VolError::BadName)),
@@ -163,21 +161,13 @@ const ROWS: &[&[Row<'static>]] = &[TREES, RENAMES, DEEP, FILES, COPIES, PATHS];
 /// The first row that the plain program answers otherwise.
 fn unwanted_plain(alloc: Global, rows: &[Row<'_>]) -> Result<Option<usize>, VolError> {
     let mut world = World::format(alloc, 0)?;
-    Ok(first_unwanted(alloc, &mut world, rows)?)
+    first_unwanted(alloc, &mut world, rows)
 }
 
 #[test]
 fn plain_files_are_those_of_posix(rt: HostRuntime) -> Result<(), Fail> {
     for rows in ROWS {
         assert_eq!(rt; unwanted_plain(rt.alloc(), rows)?, None);
-    }
-    Ok(())
-}
-
-#[test]
-fn pens_do_what_plain_files_do(rt: HostRuntime) -> Result<(), Fail> {
-    for rows in ROWS {
-        assert_eq!(rt; unwanted(rt.alloc(), (64, 64, NONE_FAILS), rows)?, None);
     }
     Ok(())
 }

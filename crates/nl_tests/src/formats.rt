@@ -52,27 +52,38 @@ const TWO_RECORDS: &[Spelling] = &[
     (120, &[2]),
 ];
 
-#[test]
-fn summaries_are_spelled_byte_by_byte(rt: HostRuntime) {
+fn written_summary() -> [u8; BLOCK_SIZE] {
     let tags = [
         tag(0x0102, 11, Level::new(0), 65_535),
         tag(0x0103, 6, Level::new(2), 0x0102_0304_0506_0708),
     ];
     let mut block = [0xaa; BLOCK_SIZE];
     Summary::new(0x1122_3344_5566_7788, CheckpointNumber::new(9), &tags).write(&mut block);
-    assert!(rt; block == spelled::<BLOCK_SIZE>(TWO_RECORDS));
-    let block: [u8; BLOCK_SIZE] = spelled(ONE_RECORD);
-    let summary = Summary::read(&block).expect(&rt, "a summary");
-    assert_eq!(rt; summary.stamp(), 7);
-    assert_eq!(rt; summary.checkpoint(), CheckpointNumber::new(3));
-    assert!(rt; summary.tags() == [tag(258, 11, Level::new(0), 2)].as_slice());
+    block
+}
+
+/// Whether a block spells the summary of the one record.
+fn has_one_record(block: &[u8; BLOCK_SIZE]) -> bool {
+    match Summary::read(block) {
+        Some(summary) => {
+            summary.stamp() == 7
+                && summary.checkpoint() == CheckpointNumber::new(3)
+                && summary.tags() == [tag(258, 11, Level::new(0), 2)].as_slice()
+        }
+        None => false,
+    }
+}
+
+#[test]
+fn summaries_are_spelled_byte_by_byte(rt: HostRuntime) {
+    assert!(rt; written_summary() == spelled::<BLOCK_SIZE>(TWO_RECORDS));
+    assert!(rt; has_one_record(&spelled(ONE_RECORD)));
 }
 
 /// Slots 0 and 2, and the next node.
 const NODE: &[Spelling] = &[(0, &[0x02, 0x01]), (16, &[3]), (1016, &[0x05, 0x04])];
 
-#[test]
-fn nodes_are_spelled_byte_by_byte(rt: HostRuntime) -> Result<(), Fail> {
+fn written_node() -> [u8; BLOCK_SIZE] {
     let numbers = [
         VirtualNumber::new(0x0102),
         VirtualNumber::new(0),
@@ -80,13 +91,20 @@ fn nodes_are_spelled_byte_by_byte(rt: HostRuntime) -> Result<(), Fail> {
     ];
     let mut block = [0xaa; BLOCK_SIZE];
     Node::of_chain(&numbers, VirtualNumber::new(0x0405)).write(&mut block);
-    assert!(rt; block == spelled::<BLOCK_SIZE>(NODE));
-    let page = Page::new(rt.alloc(), Block::new(block))?;
-    assert_eq!(rt; Node::slot_in(&page, 1), None);
-    assert_eq!(rt;
-        Node::slot_in(&page, NEXT),
-        Some(VirtualNumber::new(0x0405))
-    );
+    block
+}
+
+/// Whether a page spells the node.
+fn has_slots(page: &Page) -> bool {
+    Node::slot_in(page, 0) == Some(VirtualNumber::new(0x0102))
+        && Node::slot_in(page, 1).is_none()
+        && Node::slot_in(page, NEXT) == Some(VirtualNumber::new(0x0405))
+}
+
+#[test]
+fn nodes_are_spelled_byte_by_byte(rt: HostRuntime) -> Result<(), Fail> {
+    assert!(rt; written_node() == spelled::<BLOCK_SIZE>(NODE));
+    assert!(rt; has_slots(&Page::new(rt.alloc(), Block::new(spelled(NODE)))?));
     Ok(())
 }
 
@@ -95,26 +113,21 @@ const DIRECTORY: &[Spelling] = &[(0, &[2, 1]), (8, &[0x00, 0x04]), (16, &[0x0b, 
 
 const EMPTY_FILE: &[Spelling] = &[(0, &[1])];
 
+/// Whether the bytes are what an entry is written as, and it is read from them.
+fn spells(entry: InodeEntry, spelling: &[Spelling]) -> bool {
+    let mut bytes = [0xaa; INODE_SIZE];
+    entry.write(&mut bytes);
+    bytes == spelled::<INODE_SIZE>(spelling) && InodeEntry::read(&bytes) == Some(entry)
+}
+
+fn in_use(kind: InodeKind, root: Root, size: u64) -> InodeEntry {
+    InodeEntry::InUse(Inode { kind, root, size })
+}
+
 #[test]
 fn inodes_are_spelled_byte_by_byte(rt: HostRuntime) {
-    let directory = InodeEntry::InUse(Inode {
-        kind: InodeKind::Directory,
-        root: Root::Chain(VirtualNumber::new(0x0a0b)),
-        size: 1024,
-    });
-    let empty = InodeEntry::InUse(Inode {
-        kind: InodeKind::File,
-        root: Root::Empty,
-        size: 0,
-    });
-    for (entry, spelling) in [
-        (directory, DIRECTORY),
-        (empty, EMPTY_FILE),
-        (InodeEntry::Free, [].as_slice()),
-    ] {
-        let mut bytes = [0xaa; INODE_SIZE];
-        entry.write(&mut bytes);
-        assert!(rt; bytes == spelled::<INODE_SIZE>(spelling));
-        assert_eq!(rt; InodeEntry::read(&bytes), Some(entry));
-    }
+    let root = Root::Chain(VirtualNumber::new(0x0a0b));
+    assert!(rt; spells(in_use(InodeKind::Directory, root, 1024), DIRECTORY));
+    assert!(rt; spells(in_use(InodeKind::File, Root::Empty, 0), EMPTY_FILE));
+    assert!(rt; spells(InodeEntry::Free, &[]));
 }

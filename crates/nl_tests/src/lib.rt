@@ -2,8 +2,8 @@
 //! byte by byte, and refused memory. Nothing stands on this crate, and it has nothing but tests.
 //!
 //! A row is a list of steps in a constant, which the checker evaluates and need not follow; each kind of step is proved once.
-//! But for `streams`, a step of a row that is refused for memory has to leave what is seen as it was, and is done again: so
-//! with one allocation failing, each row still passes (`rt try --test --fail-alloc N`).
+//! But for `streams` and `beside`, a step of a row that is refused for memory has to leave what is seen as it was, and is
+//! done again: so with one allocation failing, each row still passes (`rt try --test --fail-alloc N`).
 #![tactic(auto)]
 
 #[cfg(test)]

@@ -1,5 +1,5 @@
 //! Rows of events with the replies that are due, on anything that does events.
-use crate::events::{Call, Row, event_of, is_wanted, path_of, same_reply};
+use crate::events::{Call, Row, Want, event_of, is_wanted, path_of, same_reply};
 use nl_core::Pen;
 use nl_device::Device;
 use nl_model::World;
@@ -31,37 +31,56 @@ fn insist<V: Volume>(alloc: Global, volume: &mut V, event: &Event) -> Reply {
     }
 }
 
-/// Does the event of a row between two looks, and answers whether its reply is the one that is due. Where it is refused by
-/// `Memory`, the looks have to be the same, and it is done once more.
+/// Whether the reply to an event is the one that is due. None where it is refused by `Memory`.
+fn outcome<V: Volume>(
+    alloc: Global,
+    volume: &mut V,
+    event: &Event,
+    want: Want<'_>,
+) -> Option<bool> {
+    let reply = volume.answer(alloc, event);
+    if matches!(&reply, Err(VolError::Memory)) {
+        return None;
+    }
+    Some(is_wanted(&reply, want))
+}
+
+/// Does an event between two looks, and answers whether its reply is the one that is due. Where it is refused by `Memory`,
+/// the looks have to be the same, and it is done once more.
 fn comes_out<V: Volume>(
     alloc: Global,
     volume: &mut V,
-    row: Row<'_>,
+    event: &Event,
     look: &Event,
-) -> Result<bool, AllocError> {
-    let (call, want) = row;
-    let event = event_of(alloc, call)?;
+    want: Want<'_>,
+) -> bool {
     let before = insist(alloc, volume, look);
-    match volume.answer(alloc, &event) {
-        Err(VolError::Memory) => {}
-        reply => return Ok(is_wanted(&reply, want)),
+    if let Some(is_due) = outcome(alloc, volume, event, want) {
+        return is_due;
     }
-    let after = insist(alloc, volume, look);
-    Ok(same_reply(&before, &after) && is_wanted(&volume.answer(alloc, &event), want))
+    same_reply(&before, &insist(alloc, volume, look))
+        && outcome(alloc, volume, event, want) == Some(true)
 }
 
 /// As many bytes of a file as a look shows at most.
 const LOOK: u64 = 10_240;
 
-/// The first row whose reply is not the one that is due.
+/// Does a row with a look at its file, and answers whether it comes out as is due.
+fn does<V: Volume>(alloc: Global, volume: &mut V, row: Row<'_>) -> Result<bool, AllocError> {
+    let (call, want) = row;
+    let event = event_of(alloc, call)?;
+    let look = event_of(alloc, Call::Read(path_of(call), 0, LOOK))?;
+    Ok(comes_out(alloc, volume, &event, &look, want))
+}
+
+/// The first row whose reply is not the one that is due. Refused by `Memory`.
 pub(crate) fn first_unwanted<V: Volume>(
     alloc: Global,
     volume: &mut V,
     rows: &[Row<'_>],
-) -> Result<Option<usize>, AllocError> {
+) -> Result<Option<usize>, VolError> {
     for (k, row) in rows.iter().enumerate() {
-        let look = event_of(alloc, Call::Read(path_of(row.0), 0, LOOK))?;
-        if !comes_out(alloc, volume, *row, &look)? {
+        if !does(alloc, volume, *row)? {
             return Ok(Some(k));
         }
     }

@@ -223,12 +223,25 @@ impl Trees {
         true
     }
 
-    /// Makes a checkpoint, again where memory was refused.
-    fn insist(&mut self, alloc: Global) -> Result<Batch, VolError> {
-        match self.checkpoint(alloc) {
-            Err(VolError::Memory) => self.checkpoint(alloc),
-            result => result,
-        }
+    /// Makes a checkpoint, again where memory was refused, and answers whether it writes so many blocks, of which the first
+    /// one has this number, these among them, and ends so many numbers.
+    fn writes(
+        &mut self,
+        alloc: Global,
+        first: u64,
+        births: usize,
+        due: &[Birth],
+        ends: usize,
+    ) -> Result<bool, VolError> {
+        let batch = match self.checkpoint(alloc) {
+            Err(VolError::Memory) => self.checkpoint(alloc)?,
+            made => made?,
+        };
+        Ok(
+            batch.birth_count() == births
+                && batch.end_count() == ends
+                && has_births(&batch, first, due),
+        )
     }
 
     /// Whether the file of inodes has so many blocks. Refused by `BadImage` where it can't be in use.
@@ -256,12 +269,7 @@ impl Trees {
             Step::UnlinkTenths(count) => Ok(self.unlink_tenths(alloc, count) == Ok(())),
             Step::Inodes(due) => Ok(self.have_inodes(due)),
             Step::Checkpoint(first, births, due, ends) => {
-                let batch = self.insist(alloc)?;
-                Ok(
-                    batch.birth_count() == births
-                        && batch.end_count() == ends
-                        && has_births(&batch, first, due),
-                )
+                self.writes(alloc, first, births, due, ends)
             }
             Step::InodeBlocks(due) => self.has_blocks(alloc, due),
             Step::Reads(offset, count, due) => Ok(self.fills(offset, count, due)),
@@ -296,17 +304,37 @@ impl Trees {
     }
 }
 
-/// The first step that does not come out as is due on a new tree.
-fn other_of_new(alloc: Global, steps: &[Step<'_>]) -> Result<Option<usize>, VolError> {
-    let mut trees = Trees::new(alloc)?;
-    trees.first_other(alloc, steps)
+/// What the steps of a row begin with.
+#[derive(Clone, Copy)]
+enum Start {
+    /// A new tree.
+    New,
+    /// A new tree over a checkpoint with two files.
+    OverTwo,
 }
 
-/// The first one on a new tree over a checkpoint with two files.
-fn other_over_two(alloc: Global, steps: &[Step<'_>]) -> Result<Option<usize>, VolError> {
+impl Trees {
+    /// The first step that does not come out as is due.
+    fn first_other_from(
+        &mut self,
+        alloc: Global,
+        start: Start,
+        steps: &[Step<'_>],
+    ) -> Result<Option<usize>, VolError>
+        requires { self.old.names ≡ 0 }
+    {
+        match start {
+            Start::New => {}
+            Start::OverTwo => self.go_on_with_two(alloc)?,
+        }
+        self.first_other(alloc, steps)
+    }
+}
+
+/// The first step of a row that does not come out as is due.
+fn other(alloc: Global, start: Start, steps: &[Step<'_>]) -> Result<Option<usize>, VolError> {
     let mut trees = Trees::new(alloc)?;
-    trees.go_on_with_two(alloc)?;
-    trees.first_other(alloc, steps)
+    trees.first_other_from(alloc, start, steps)
 }
 
 // ---- rows
@@ -321,6 +349,7 @@ const TEN_THOUSAND: &[Step<'static>] = &[
         (Call::Create(b"/first"), Want::Done),
         (Call::Create(b"/next"), Want::Done),
         (Call::Stat(b"/"), Want::Stat(Stat::Dir(9_002))),
+        (Call::List(b"/"), Want::Listed(9_002, b"00001", b"next")),
     ]),
     Step::Inodes(&[
         (b"first", Some(11)),
@@ -332,7 +361,7 @@ const TEN_THOUSAND: &[Step<'static>] = &[
 
 #[test]
 fn lowest_numbers_are_given(rt: HostRuntime) -> Result<(), Fail> {
-    assert_eq!(rt; other_of_new(rt.alloc(), TEN_THOUSAND)?, None);
+    assert_eq!(rt; other(rt.alloc(), Start::New, TEN_THOUSAND)?, None);
     Ok(())
 }
 
@@ -459,7 +488,7 @@ const CHAIN: &[Step<'static>] = &[
 #[test]
 fn checkpoints_write_what_differs(rt: HostRuntime) -> Result<(), Fail> {
     for steps in [THOUSAND, FEW, CHAIN].as_slice() {
-        assert_eq!(rt; other_of_new(rt.alloc(), steps)?, None);
+        assert_eq!(rt; other(rt.alloc(), Start::New, steps)?, None);
     }
     Ok(())
 }
@@ -499,6 +528,6 @@ const OVER_TWO: &[Step<'static>] = &[
 
 #[test]
 fn trees_go_on_from_checkpoints(rt: HostRuntime) -> Result<(), Fail> {
-    assert_eq!(rt; other_over_two(rt.alloc(), OVER_TWO)?, None);
+    assert_eq!(rt; other(rt.alloc(), Start::OverTwo, OVER_TWO)?, None);
     Ok(())
 }

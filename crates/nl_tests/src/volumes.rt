@@ -1,7 +1,8 @@
 //! Events on a pen, with the replies that are due: reads and limits, devices that are full or fail, and the numbers that
 //! checkpoints take.
 use crate::events::{ALL, Call, PLAIN, Row, SNAPSHOT, Want};
-use crate::logs::NONE_FAILS;
+use crate::file_calls::{COPIES, DEEP, FILES, PATHS, RENAMES, TREES};
+use crate::logs::{NONE_FAILS, Shape};
 use crate::rows::first_unwanted;
 use nl_core::Pen;
 use nl_dat::DatEntry;
@@ -10,9 +11,6 @@ use nl_types::{BlockNumber, CheckpointNumber, Geometry, Stat, VirtualNumber, Vol
 use std::alloc::Global;
 use std::test::Fail;
 
-/// Segments, blocks of each, and how many puts go before the one that fails.
-type Shape = (u32, u32, u64);
-
 pub(crate) fn volume(alloc: Global, shape: Shape) -> Result<Pen<FaultyDevice>, VolError> {
     let (segments, blocks, puts) = shape;
     let geometry = Geometry::new(segments, blocks)?;
@@ -20,14 +18,14 @@ pub(crate) fn volume(alloc: Global, shape: Shape) -> Result<Pen<FaultyDevice>, V
     Pen::format(alloc, device, geometry, 0)
 }
 
-/// The first row that a new volume of this shape answers otherwise.
-pub(crate) fn unwanted(
-    alloc: Global,
-    shape: Shape,
-    rows: &[Row<'_>],
-) -> Result<Option<usize>, VolError> {
+/// Rows on a new volume of a shape.
+type Table = (Shape, &'static [Row<'static>]);
+
+/// The first row that comes out otherwise.
+fn unwanted(alloc: Global, table: &Table) -> Result<Option<usize>, VolError> {
+    let (shape, rows) = *table;
     let mut pen = volume(alloc, shape)?;
-    Ok(first_unwanted(alloc, &mut pen, rows)?)
+    first_unwanted(alloc, &mut pen, rows)
 }
 
 // ---- reads and limits
@@ -197,35 +195,42 @@ const REFUSED: &[Row<'static>] = &[
     (Call::ReadMount(1, b"/f", 0, ALL), Want::Bytes(b"old")),
 ];
 
-/// Rows on a new volume of a shape.
-type Table = (Shape, &'static [Row<'static>]);
+const USUAL: Shape = (64, 64, NONE_FAILS);
+
+const SMALL: Shape = (8, 4, NONE_FAILS);
 
 const TABLES: &[Table] = &[
+    (USUAL, TREES),
+    (USUAL, RENAMES),
+    (USUAL, DEEP),
+    (USUAL, FILES),
+    (USUAL, COPIES),
+    (USUAL, PATHS),
     ((16, 8, 4), FAULT),
-    ((8, 4, NONE_FAILS), FULL),
-    ((8, 4, NONE_FAILS), TOO_FULL),
-    ((8, 4, NONE_FAILS), FAR),
-    ((8, 4, NONE_FAILS), TOO_FAR),
-    ((8, 4, NONE_FAILS), ZEROS),
-    ((8, 4, NONE_FAILS), NO_ZEROS),
-    ((8, 4, NONE_FAILS), REFUSED),
+    (SMALL, FULL),
+    (SMALL, TOO_FULL),
+    (SMALL, FAR),
+    (SMALL, TOO_FAR),
+    (SMALL, ZEROS),
+    (SMALL, NO_ZEROS),
+    (SMALL, REFUSED),
 ];
 
 /// With one allocation failing, the rows pass where a refused event did nothing.
 #[test]
-fn refusals_keep_the_world(rt: HostRuntime) -> Result<(), Fail> {
-    for (shape, rows) in TABLES {
-        assert_eq!(rt; unwanted(rt.alloc(), *shape, rows)?, None);
+fn events_come_out_as_is_due(rt: HostRuntime) -> Result<(), Fail> {
+    for table in TABLES {
+        assert_eq!(rt; unwanted(rt.alloc(), table)?, None);
     }
     Ok(())
 }
 
-const LARGE_TABLES: &[Table] = &[((64, 64, NONE_FAILS), READS), ((64, 64, NONE_FAILS), LARGE)];
+const LARGE_TABLES: &[Table] = &[(USUAL, READS), (USUAL, LARGE)];
 
 #[test]
 fn large_files_and_volumes_have_limits(rt: HostRuntime) -> Result<(), Fail> {
-    for (shape, rows) in LARGE_TABLES {
-        assert_eq!(rt; unwanted(rt.alloc(), *shape, rows)?, None);
+    for table in LARGE_TABLES {
+        assert_eq!(rt; unwanted(rt.alloc(), table)?, None);
     }
     Ok(())
 }
@@ -323,44 +328,56 @@ fn entry_of(due: Entry) -> DatEntry {
     }
 }
 
-fn has_entry<D: Device>(pen: &Pen<D>, number: usize, due: Option<DatEntry>) -> bool {
-    pen.entry(VirtualNumber::new(number as u64)) == Ok(due)
+fn has_entry<D: Device>(
+    pen: &Pen<D>,
+    number: u64,
+    due: Result<Option<DatEntry>, VolError>,
+) -> bool {
+    pen.entry(VirtualNumber::new(number)) == due
 }
 
-/// Whether the numbers from 1 on have these entries, and the next one and the last are free.
+/// Whether the numbers from 1 on have these entries.
 fn has_entries<D: Device>(pen: &Pen<D>, entries: &[Entry]) -> bool {
     for (k, entry) in entries.iter().enumerate() {
-        if !has_entry(pen, k + 1, Some(entry_of(*entry))) {
+        if !has_entry(pen, k as u64 + 1, Ok(Some(entry_of(*entry)))) {
             return false;
         }
     }
-    has_entry(pen, entries.len() + 1, None) && has_entry(pen, 128, None)
+    true
 }
 
-fn is_bad_range<D: Device>(pen: &Pen<D>, number: u64) -> bool {
-    pen.entry(VirtualNumber::new(number)) == Err(VolError::BadRange)
-}
-
-/// Whether the numbers are those of the device's 128 blocks, and these are what the rows leave.
+/// Whether the numbers are those of the device's 128 blocks, the next one and the last are free, and so many segments are
+/// clean.
 fn are_left<D: Device>(pen: &Pen<D>, entries: &[Entry], clean: usize) -> bool {
     has_entries(pen, entries)
-        && is_bad_range(pen, 0)
-        && is_bad_range(pen, 129)
+        && has_entry(pen, entries.len() as u64 + 1, Ok(None))
+        && has_entry(pen, 128, Ok(None))
+        && has_entry(pen, 0, Err(VolError::BadRange))
+        && has_entry(pen, 129, Err(VolError::BadRange))
         && pen.segments().sustat().clean == clean
 }
 
-/// Whether this is what rows leave on a new volume.
-fn leaves(alloc: Global, numbered: &Numbered) -> Result<bool, VolError> {
+/// Whether the rows come out as is due, and leave this.
+fn leaves<D: Device>(
+    alloc: Global,
+    pen: &mut Pen<D>,
+    numbered: &Numbered,
+) -> Result<bool, VolError> {
     let (rows, entries, clean) = *numbered;
-    let mut pen = volume(alloc, (16, 8, NONE_FAILS))?;
-    let unwanted = first_unwanted(alloc, &mut pen, rows)?;
-    Ok(unwanted.is_none() && are_left(&pen, entries, clean))
+    Ok(first_unwanted(alloc, pen, rows)?.is_none() && are_left(pen, entries, clean))
 }
+
+fn are_left_on_new(alloc: Global, numbered: &Numbered) -> Result<bool, VolError> {
+    let mut pen = volume(alloc, (16, 8, NONE_FAILS))?;
+    leaves(alloc, &mut pen, numbered)
+}
+
+const NUMBERED: &[Numbered] = &[UNCHANGED, FIRST_FILE, BYTES];
 
 #[test]
 fn numbers_have_periods_and_blocks(rt: HostRuntime) -> Result<(), Fail> {
-    assert!(rt; leaves(rt.alloc(), &UNCHANGED)?);
-    assert!(rt; leaves(rt.alloc(), &FIRST_FILE)?);
-    assert!(rt; leaves(rt.alloc(), &BYTES)?);
+    for numbered in NUMBERED {
+        assert!(rt; are_left_on_new(rt.alloc(), numbered)?);
+    }
     Ok(())
 }
