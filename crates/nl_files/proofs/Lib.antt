@@ -6,6 +6,7 @@ pub mod Places
 pub mod Freed
 pub mod Lowest
 pub mod AsList
+pub mod CopiedBytes
 pub mod Counting
 pub mod OneHolding
 pub mod CurrentReads
@@ -37,8 +38,11 @@ pub mod RecordSteps
 pub mod InodeSteps
 pub mod HoldingSteps
 pub mod PageBytes
+pub mod ReadBytes
 pub mod StoredBytes
 pub mod WrittenBlocks
+pub mod WrittenSlots
+pub mod Refusals
 pub mod CutBlocks
 pub mod CallsLead
 pub mod HeldListings

@@ -48,7 +48,7 @@ overwrote block {part} {bytes} within n k {x} same room e is =
 
 -- ---- the part of the bytes that lies in a block
 
-part_get : (bytes : List ℕ) (first count j : ℕ) → j < count → get_or (take count (drop first bytes)) j 0 ≡ get_or bytes (first + j) 0
+pub part_get : (bytes : List ℕ) (first count j : ℕ) → j < count → get_or (take count (drop first bytes)) j 0 ≡ get_or bytes (first + j) 0
 part_get bytes first count j low = get_or-take count (drop first bytes) j 0 low ∙ get_or-drop first bytes j 0
 
 -- the first byte of the block that is written, and the one behind the last

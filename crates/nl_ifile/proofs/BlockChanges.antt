@@ -1,5 +1,5 @@
 -- Changes of blocks for changes of inodes, one block after the other.
-use Rattle.std.proofs.Common.{◌≡◌, ◌≢◌, ℕ, ◌+◌, ◌-◌, ◌*◌, ◌/◌, ◌<◌, ◌≤◌, List, [], ◌∷◌, ◌++◌, take, drop, length, get_or, Option, ap, sym, subst, ◌∙◌, arith, inl, inr, ◌⊎◌}
+use Rattle.std.proofs.Common.{◌≡◌, ◌≢◌, ℕ, ◌+◌, ◌-◌, ◌*◌, ◌/◌, ◌<◌, ◌≤◌, List, [], ◌∷◌, ◌++◌, take, drop, length, get_or, length-drop, Option, ap, sym, subst, ◌∙◌, arith, inl, inr, ◌⊎◌}
 use Rattle.std.proofs.Math.Seq.{take-add}
 use Rattle.std.specs.List.{All, Contains}
 use Rattle.std.proofs.lemmas.Bool.{cases_eq}
@@ -13,7 +13,7 @@ use Rattle.nl_blocktree.proofs.HeldPages.{Sets}
 use Rattle.nl_blocktree.proofs.MoreChanges.{sets-one}
 use Rattle.nl_ifile.specs.declared.change.InodeChange.{InodeChange}
 use Rattle.nl_ifile.specs.Inodes.{InodeMap, block_for, entry_for, in_block}
-use Rattle.nl_ifile.specs.Changing.{AreBlockChanges, AreFirstBlockChanges, inodes_with}
+use Rattle.nl_ifile.specs.Changing.{AreBlockChanges, AreFirstBlockChanges, NumbersAscend, inodes_with}
 use Rattle.nl_ifile.proofs.BlockBytes.{block_for-cong}
 use Rattle.nl_ifile.proofs.Changes.{inodes_with-absent, inodes_with-append, inodes_with-cong}
 
@@ -38,6 +38,15 @@ all-between changes start end i h k d l =
     let near : k < end - start = omega (arith, length-take (end - start) (drop start changes)) in
     let here : get_or (take (end - start) (drop start changes)) k d ≡ get_or changes (start + k) d = get_or-take (end - start) (drop start changes) k d near ∙ get_or-drop start changes k d in
     ap (λ (c : InodeChange). c.number / 8) here ∙ h (start + k) d (omega arith) (omega arith)
+
+pub ascending-between : (changes : List InodeChange) (start end : ℕ) → NumbersAscend changes → NumbersAscend (take (end - start) (drop start changes))
+ascending-between changes start end h i j d l m =
+    let these : List InodeChange = take (end - start) (drop start changes) in
+    let near : j < end - start = omega (arith, length-take (end - start) (drop start changes)) in
+    let within : start + j < length changes = omega (arith, length-take (end - start) (drop start changes), length-drop start changes) in
+    let at : (k : ℕ) → k < end - start → get_or these k d ≡ get_or changes (start + k) d = λ k low. get_or-take (end - start) (drop start changes) k d low ∙ get_or-drop start changes k d in
+    let less = h (start + i) (start + j) d (omega arith) within in
+    omega (arith, less, ap (λ (c : InodeChange). c.number) (at i (omega arith)), ap (λ (c : InodeChange). c.number) (at j near))
 
 module _ (pages : ℕ → Option (List ℕ)) (inodes : InodeMap) (changes : List InodeChange) (start end : ℕ) (blocks : List BlockChange) (b : BlockChange) (i : ℕ)
     (before : AreFirstBlockChanges pages inodes changes start blocks) (low : start < end) (high : end ≤ length changes)

@@ -1,4 +1,6 @@
 use Rattle.std.proofs.Common.{ℕ, List, ap, subst, ◌∙◌}
+use Rattle.std.proofs.lemmas.Result.{IfOk-from_err}
+use Rattle.nl_types.specs.declared.error.VolError.TheVariants.{Memory}
 use Rattle.nl_types.specs.Roots.{pages_of}
 use Rattle.nl_layout.specs.Root.{root_of}
 use Rattle.nl_dat.specs.Stores.{content_in}
@@ -7,6 +9,7 @@ use Rattle.nl_files.specs.Held.{roots_at}
 use Rattle.nl_files.specs.Overlays.{became_in, slot_shows}
 use Rattle.nl_files.specs.Settles.{Settling}
 use Rattle.nl_files.specs.Shown.{pair, shown_entries}
+use Rattle.nl_files.proofs.Refusals.{passed_on}
 use Rattle.nl_files.proofs.Slots.{changes-rest, shown-split}
 use Rattle.nl_files.proofs.settling.settle_inodes.Goals as goal
 
@@ -29,3 +32,19 @@ loop-number-preserved g c =
           Settling content roots base c.args.batch.now c.loop-number.batch c.loop-number.inodes.items xs all)
           (step ∙ shown-split number slot rest) (c.loop-number.invariant.settling base stores holding));
     }
+
+pub returns-in_err-settle_slot-clause-settling : goal.returns-in_err-settle_slot-clause-settling
+returns-in_err-settle_slot-clause-settling g c = IfOk-from_err c.from_residual.result _ c.from_residual.ensures.0
+
+pub returns-in_err-settle_slot-clause-fits : goal.returns-in_err-settle_slot-clause-fits
+returns-in_err-settle_slot-clause-fits g c = IfOk-from_err c.from_residual.result _ c.from_residual.ensures.0
+
+pub returns-in_err-settle_slot-clause-err : goal.returns-in_err-settle_slot-clause-err
+returns-in_err-settle_slot-clause-err g c =
+    passed_on c.from_residual.result c.in_err-settle_slot.field-0.0 Memory c.from_residual.ensures.1 c.in_err-settle_slot.ensures.err
+
+pub settle_slot-requires-clause-fits : goal.settle_slot-requires-clause-fits
+settle_slot-requires-clause-fits g c = c.loop-number.invariant.fits
+
+pub settle_slot-requires-clause-checkpoint : goal.settle_slot-requires-clause-checkpoint
+settle_slot-requires-clause-checkpoint g c = c.requires.checkpoint

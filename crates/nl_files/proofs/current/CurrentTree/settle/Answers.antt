@@ -79,3 +79,19 @@ returns-else-is_err-clause-settles g c =
           w.put_inodes-settled.ensures.ok w.put_inodes-settled.ensures.fits)
       | in-Err w ↦ rw w.settled-is (record {})
     ]
+
+pub settle_inodes-requires-clause-fits : goal.settle_inodes-requires-clause-fits
+settle_inodes-requires-clause-fits g c = c.requires.fits
+
+pub settle_inodes-requires-clause-checkpoint : goal.settle_inodes-requires-clause-checkpoint
+settle_inodes-requires-clause-checkpoint g c = c.requires.checkpoint
+
+pub put_inodes-settled-requires-clause-inodes : goal.put_inodes-settled-requires-clause-inodes
+put_inodes-settled-requires-clause-inodes g c = c.requires.checkpoint.inodes
+
+pub put_inodes-settled-requires-clause-file : goal.put_inodes-settled-requires-clause-file
+put_inodes-settled-requires-clause-file g c = record {
+  fits = c.in-Ok.ensures.fits;
+  sound = c.requires.checkpoint.inode_file.sound;
+  live = c.requires.checkpoint.inode_file.live;
+}

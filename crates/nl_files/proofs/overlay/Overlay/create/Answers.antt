@@ -8,6 +8,8 @@ use Rattle.nl_files.specs.Numbers.{IsNumberFreed}
 use Rattle.nl_files.specs.Overlays.{holding_now, over_place}
 use Rattle.nl_files.specs.Records.{with_record}
 use Rattle.nl_files.proofs.Counting.{counts_taken, taken_new, taken_old}
+use Rattle.std.proofs.lemmas.Result.{IfOk-from_err}
+use Rattle.nl_files.proofs.Refusals.{holds_on_err}
 use Rattle.nl_files.proofs.overlay.Overlay.create.Goals as goal
 
 pub returns-clause-created : goal.returns-clause-created
@@ -33,3 +35,27 @@ returns-clause-counts g c = λ b all holds is counts.
     ∙ c.in_ok-add.ensures.added b all holds is i)
     (taken_old get now inode taken) (taken_new get now inode taken)
     (c.take_number.ensures.mark ∙ ap (λ (k : ℕ). if nat_le k inode then inode + 1 else k) c.add.ensures.rest.mark)
+
+pub returns-in_err-add-clause-created : goal.returns-in_err-add-clause-created
+returns-in_err-add-clause-created g c = λ _ _ _ _ _.
+    IfOk-from_err c.from_residual.result _ c.from_residual.ensures.0
+
+pub returns-in_err-add-clause-counts : goal.returns-in_err-add-clause-counts
+returns-in_err-add-clause-counts g c = λ _ _ _ _ _.
+    IfOk-from_err c.from_residual.result _ c.from_residual.ensures.0
+
+pub returns-in_err-add-clause-names : goal.returns-in_err-add-clause-names
+returns-in_err-add-clause-names g c = IfOk-from_err c.from_residual.result _ c.from_residual.ensures.0
+
+pub returns-in_err-add-clause-limit : goal.returns-in_err-add-clause-limit
+returns-in_err-add-clause-limit g c = IfOk-from_err c.from_residual.result _ c.from_residual.ensures.0
+
+pub returns-in_err-add-clause-same : goal.returns-in_err-add-clause-same
+returns-in_err-add-clause-same g c =
+    holds_on_err c.from_residual.result _ (c.in_err-add.ensures.same)
+
+pub returns-clause-same : goal.returns-clause-same
+returns-clause-same g c = tt
+
+pub returns-clause-refused : goal.returns-clause-refused
+returns-clause-refused g c = λ _ _ _. tt

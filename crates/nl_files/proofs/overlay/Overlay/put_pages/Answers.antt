@@ -1,4 +1,4 @@
-use Rattle.std.proofs.Common.{◌+◌, length, true, Some, sym, ap, subst}
+use Rattle.std.proofs.Common.{◌+◌, length, true, Some, refl, sym, ap, subst}
 use Rattle.std.specs.Option.{is_some}
 use Rattle.nl_files.specs.declared.overlay.Slot.{Slot}
 use Rattle.nl_files.specs.Files.{ShowsFileWith}
@@ -6,6 +6,7 @@ use Rattle.nl_files.specs.Held.{Stored}
 use Rattle.nl_files.specs.Pages.{put_from}
 use Rattle.nl_files.proofs.FilePages.{written_at}
 use Rattle.nl_files.proofs.Places.{one_slot, slot_written}
+use Rattle.nl_files.proofs.WrittenSlots.{written_orderly}
 use Rattle.nl_files.proofs.overlay.Overlay.put_pages.Goals as goal
 
 pub put_pages-requires-clause-places : goal.put_pages-requires-clause-places
@@ -44,3 +45,13 @@ returns-in-Some-clause-file c = λ b was blocks has.
           (c.get_mut.follows.holds written) (ap is_some has.1),
       c.put_pages.ensures.file (b c.args.inode) was blocks shows,
     )
+
+pub returns-in-Some-clause-orderly : goal.returns-in-Some-clause-orderly
+returns-in-Some-clause-orderly c =
+    let slot = c.in-Some.slot.now in
+    let written : Slot = record { live = true; what = c.put_pages.new.self } in
+    written_orderly c.args.self.now.changed (c.get_mut.follows.lender written) c.args.inode slot written
+    (c.get_mut.follows.holds written) c.in-Some.ensures.value c.args.self.now refl c.put_pages.ensures.ordered
+
+pub returns-in-Some-clause-rest : goal.returns-in-Some-clause-rest
+returns-in-Some-clause-rest c = record { freed = refl; mark = refl; names = refl }

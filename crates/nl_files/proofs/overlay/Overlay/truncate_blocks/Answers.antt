@@ -6,6 +6,9 @@ use Rattle.nl_files.specs.Steps.{with_held}
 use Rattle.nl_files.proofs.Counting.{held_kept}
 use Rattle.nl_files.proofs.FilePages.{held_twice}
 use Rattle.nl_files.proofs.OneHolding.{counts_still}
+use Rattle.std.proofs.lemmas.Result.{IfOk-from_err}
+use Rattle.nl_types.specs.declared.error.VolError.TheVariants.{Memory}
+use Rattle.nl_files.proofs.Refusals.{holds_on_err, passed_on}
 use Rattle.nl_files.proofs.overlay.Overlay.truncate_blocks.Goals as goal
 
 pub cut_blocks-requires : goal.cut_blocks-requires
@@ -40,3 +43,46 @@ returns-clause-counts g c = λ b was blocks holds is counts.
     (held_kept old (holding_now c.cut_blocks.new.self b) c.args.inode (Stored was blocks) now is.0
     (returns-clause-truncated g c b was blocks holds is))
     counts
+
+pub returns-in_err-write_blocks-clause-orderly : goal.returns-in_err-write_blocks-clause-orderly
+returns-in_err-write_blocks-clause-orderly g c = λ is inode.
+    c.in_err-write_blocks.ensures.orderly is inode
+
+pub returns-in_err-write_blocks-clause-truncated : goal.returns-in_err-write_blocks-clause-truncated
+returns-in_err-write_blocks-clause-truncated g c = λ _ _ _ _ _.
+    IfOk-from_err c.from_residual.result _ c.from_residual.ensures.0
+
+pub returns-in_err-write_blocks-clause-counts : goal.returns-in_err-write_blocks-clause-counts
+returns-in_err-write_blocks-clause-counts g c = λ _ _ _ _ _ _.
+    IfOk-from_err c.from_residual.result _ c.from_residual.ensures.0
+
+pub returns-in_err-write_blocks-clause-rest : goal.returns-in_err-write_blocks-clause-rest
+returns-in_err-write_blocks-clause-rest g c = record {
+  freed = c.in_err-write_blocks.ensures.rest.freed;
+  mark = c.in_err-write_blocks.ensures.rest.mark;
+  names = c.in_err-write_blocks.ensures.rest.names;
+}
+
+pub returns-in_err-write_blocks-clause-same : goal.returns-in_err-write_blocks-clause-same
+returns-in_err-write_blocks-clause-same g c =
+    holds_on_err c.from_residual.result _ (c.in_err-write_blocks.ensures.same)
+
+pub returns-in_err-write_blocks-clause-refused : goal.returns-in_err-write_blocks-clause-refused
+returns-in_err-write_blocks-clause-refused g c =
+    passed_on c.from_residual.result c.in_err-write_blocks.field-0.0 Memory c.from_residual.ensures.1 c.in_err-write_blocks.ensures.refused
+
+pub returns-clause-orderly : goal.returns-clause-orderly
+returns-clause-orderly g c = λ is inode. c.cut_blocks.ensures.orderly (c.in_ok-write_blocks.ensures.orderly is inode)
+
+pub returns-clause-rest : goal.returns-clause-rest
+returns-clause-rest g c = record {
+  freed = c.cut_blocks.ensures.rest.freed ∙ c.in_ok-write_blocks.ensures.rest.freed;
+  mark = c.cut_blocks.ensures.rest.mark ∙ c.in_ok-write_blocks.ensures.rest.mark;
+  names = c.cut_blocks.ensures.rest.names ∙ c.in_ok-write_blocks.ensures.rest.names;
+}
+
+pub returns-clause-same : goal.returns-clause-same
+returns-clause-same g c = tt
+
+pub returns-clause-refused : goal.returns-clause-refused
+returns-clause-refused g c = tt

@@ -1,4 +1,4 @@
-use Rattle.std.proofs.Common.{List, true, Some, sym, ap, subst, ◌∙◌}
+use Rattle.std.proofs.Common.{List, true, Some, refl, sym, ap, subst, ◌∙◌}
 use Rattle.std.specs.Option.{is_some}
 use Rattle.nl_dirs.specs.declared.record.Record.{Record}
 use Rattle.nl_files.specs.declared.overlay.Slot.{Slot}
@@ -6,6 +6,7 @@ use Rattle.nl_files.specs.Held.{Listed}
 use Rattle.nl_files.specs.Overlays.{IsListedWith}
 use Rattle.nl_files.specs.Records.{without_record}
 use Rattle.nl_files.proofs.Places.{listed_over, one_slot, slot_kept, slot_written, written_over}
+use Rattle.nl_files.proofs.WrittenSlots.{places_stay, written_orderly}
 use Rattle.nl_files.proofs.overlay.Overlay.unlink.Goals as goal
 
 pub returns-in-Some-clause-shown : goal.returns-in-Some-clause-shown
@@ -45,3 +46,20 @@ returns-in-Some-clause-names c = λ all other has also.
           (c.get_mut.follows.holds written) (ap is_some has.1),
       c.take.ensures.names all other named too,
     )
+
+pub returns-in-Some-clause-orderly : goal.returns-in-Some-clause-orderly
+returns-in-Some-clause-orderly c =
+    let slot = c.in-Some.slot.now in
+    let written : Slot = record { live = true; what = c.take.new.self } in
+    written_orderly c.args.self.now.changed (c.get_mut.follows.lender written) c.args.dir slot written
+    (c.get_mut.follows.holds written) c.in-Some.ensures.value c.args.self.now refl c.take.ensures.ordered
+
+pub returns-in-Some-clause-rest : goal.returns-in-Some-clause-rest
+returns-in-Some-clause-rest c = record { freed = refl; mark = refl; names = refl }
+
+pub returns-in-Some-clause-places : goal.returns-in-Some-clause-places
+returns-in-Some-clause-places c =
+    let slot = c.in-Some.slot.now in
+    let written : Slot = record { live = true; what = c.take.new.self } in
+    places_stay c.args.self.now.changed (c.get_mut.follows.lender written) c.args.dir slot written
+    (c.get_mut.follows.holds written) c.in-Some.ensures.value

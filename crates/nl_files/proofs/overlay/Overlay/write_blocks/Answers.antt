@@ -6,6 +6,9 @@ use Rattle.nl_files.specs.Pages.{put_from}
 use Rattle.nl_files.specs.Steps.{with_held}
 use Rattle.nl_files.proofs.Counting.{held_kept}
 use Rattle.nl_files.proofs.OneHolding.{counts_still}
+use Rattle.std.proofs.lemmas.Result.{IfOk-from_err}
+use Rattle.nl_types.specs.declared.error.VolError.TheVariants.{Memory}
+use Rattle.nl_files.proofs.Refusals.{holds_on_err, passed_on}
 use Rattle.nl_files.proofs.overlay.Overlay.write_blocks.Goals as goal
 
 pub put_pages-requires-clause-places : goal.put_pages-requires-clause-places
@@ -48,3 +51,82 @@ returns-clause-open g c = λ b was blocks holds is.
     subst (λ (end : ℕ). HasFileWith c.reserve_pages.new.self b c.args.inode was blocks c.args.first end)
     (ap (λ (n : ℕ). c.args.first + n) (c.len.ensures ∙ c.args.pages.ok.0)) (c.in_ok-reserve_pages.ensures.place b was blocks opened) in
     c.put_pages.ensures.file b was blocks placed
+
+pub returns-in_err-open_file-clause-orderly : goal.returns-in_err-open_file-clause-orderly
+returns-in_err-open_file-clause-orderly g c = λ is inode.
+    c.in_err-open_file.ensures.orderly is inode
+
+pub returns-in_err-open_file-clause-written : goal.returns-in_err-open_file-clause-written
+returns-in_err-open_file-clause-written g c = λ _ _ _ _ _.
+    IfOk-from_err c.from_residual.result _ c.from_residual.ensures.0
+
+pub returns-in_err-open_file-clause-open : goal.returns-in_err-open_file-clause-open
+returns-in_err-open_file-clause-open g c = λ _ _ _ _ _.
+    IfOk-from_err c.from_residual.result _ c.from_residual.ensures.0
+
+pub returns-in_err-open_file-clause-counts : goal.returns-in_err-open_file-clause-counts
+returns-in_err-open_file-clause-counts g c = λ _ _ _ _ _ _.
+    IfOk-from_err c.from_residual.result _ c.from_residual.ensures.0
+
+pub returns-in_err-open_file-clause-rest : goal.returns-in_err-open_file-clause-rest
+returns-in_err-open_file-clause-rest g c = record {
+  freed = c.in_err-open_file.ensures.rest.freed;
+  mark = c.in_err-open_file.ensures.rest.mark;
+  names = c.in_err-open_file.ensures.rest.names;
+}
+
+pub returns-in_err-open_file-clause-same : goal.returns-in_err-open_file-clause-same
+returns-in_err-open_file-clause-same g c =
+    holds_on_err c.from_residual.result _ (c.in_err-open_file.ensures.same)
+
+pub returns-in_err-open_file-clause-refused : goal.returns-in_err-open_file-clause-refused
+returns-in_err-open_file-clause-refused g c =
+    passed_on c.from_residual.result c.in_err-open_file.field-0.0 Memory c.from_residual.ensures.1 c.in_err-open_file.ensures.refused
+
+pub returns-in_err-reserve_pages-clause-orderly : goal.returns-in_err-reserve_pages-clause-orderly
+returns-in_err-reserve_pages-clause-orderly g c = λ is inode.
+    c.in_err-reserve_pages.ensures.orderly (c.in_ok-open_file.ensures.orderly is inode)
+
+pub returns-in_err-reserve_pages-clause-written : goal.returns-in_err-reserve_pages-clause-written
+returns-in_err-reserve_pages-clause-written g c = λ _ _ _ _ _.
+    IfOk-from_err c.from_residual-in_err-reserve_pages.result _ c.from_residual-in_err-reserve_pages.ensures.0
+
+pub returns-in_err-reserve_pages-clause-open : goal.returns-in_err-reserve_pages-clause-open
+returns-in_err-reserve_pages-clause-open g c = λ _ _ _ _ _.
+    IfOk-from_err c.from_residual-in_err-reserve_pages.result _ c.from_residual-in_err-reserve_pages.ensures.0
+
+pub returns-in_err-reserve_pages-clause-counts : goal.returns-in_err-reserve_pages-clause-counts
+returns-in_err-reserve_pages-clause-counts g c = λ _ _ _ _ _ _.
+    IfOk-from_err c.from_residual-in_err-reserve_pages.result _ c.from_residual-in_err-reserve_pages.ensures.0
+
+pub returns-in_err-reserve_pages-clause-rest : goal.returns-in_err-reserve_pages-clause-rest
+returns-in_err-reserve_pages-clause-rest g c = record {
+  freed = c.in_err-reserve_pages.ensures.rest.freed ∙ c.in_ok-open_file.ensures.rest.freed;
+  mark = c.in_err-reserve_pages.ensures.rest.mark ∙ c.in_ok-open_file.ensures.rest.mark;
+  names = c.in_err-reserve_pages.ensures.rest.names ∙ c.in_ok-open_file.ensures.rest.names;
+}
+
+pub returns-in_err-reserve_pages-clause-same : goal.returns-in_err-reserve_pages-clause-same
+returns-in_err-reserve_pages-clause-same g c =
+    holds_on_err c.from_residual-in_err-reserve_pages.result _ (c.in_err-reserve_pages.ensures.same ∙ c.in_ok-open_file.ensures.same)
+
+pub returns-in_err-reserve_pages-clause-refused : goal.returns-in_err-reserve_pages-clause-refused
+returns-in_err-reserve_pages-clause-refused g c =
+    passed_on c.from_residual-in_err-reserve_pages.result c.in_err-reserve_pages.field-0.0 Memory c.from_residual-in_err-reserve_pages.ensures.1 c.in_err-reserve_pages.ensures.refused
+
+pub returns-clause-orderly : goal.returns-clause-orderly
+returns-clause-orderly g c = λ is inode.
+    c.put_pages.ensures.orderly (c.in_ok-reserve_pages.ensures.orderly (c.in_ok-open_file.ensures.orderly is inode))
+
+pub returns-clause-rest : goal.returns-clause-rest
+returns-clause-rest g c = record {
+  freed = c.put_pages.ensures.rest.freed ∙ c.in_ok-reserve_pages.ensures.rest.freed ∙ c.in_ok-open_file.ensures.rest.freed;
+  mark = c.put_pages.ensures.rest.mark ∙ c.in_ok-reserve_pages.ensures.rest.mark ∙ c.in_ok-open_file.ensures.rest.mark;
+  names = c.put_pages.ensures.rest.names ∙ c.in_ok-reserve_pages.ensures.rest.names ∙ c.in_ok-open_file.ensures.rest.names;
+}
+
+pub returns-clause-same : goal.returns-clause-same
+returns-clause-same g c = tt
+
+pub returns-clause-refused : goal.returns-clause-refused
+returns-clause-refused g c = tt
