@@ -21,10 +21,11 @@ use Rattle.nl_layout.specs.Root.{root_of}
 use Rattle.nl_dat.specs.Batches.{items_of}
 use Rattle.nl_dat.specs.Stores.{Store, IsStore, content_in, entry_now}
 use Rattle.nl_files.specs.Held.{IsTreeSound}
-use Rattle.nl_core.specs.declared.checkpoint.Checkpoint.{Checkpoint}
+use Rattle.nl_cpfile.specs.declared.checkpoint.Checkpoint.{Checkpoint}
 use Rattle.nl_core.specs.Layout.{Layout, IsPen, IsSoundPen, IsCheckpointRefusal, Does, Follows, HasFaulted, HasRefused, HasWritten, LacksSpaceToSettle, MeansWorld, Touches, cleaned, layout_of, ledger_of, unshared}
 use Rattle.nl_core.specs.Means.{Means}
-use Rattle.nl_core.specs.Volume.{Lists, by_number, kept_by}
+use Rattle.nl_cpfile.specs.Tables.{by_number, root_in}
+use Rattle.nl_core.specs.Volume.{Lists, kept_by}
 use Rattle.nl_core.proofs.Checkpoints.{differs-behind, numbers-behind, sound-behind}
 use Rattle.nl_core.proofs.Ledgers.{same-numbers, stands-latest}
 use Rattle.nl_core.proofs.Published.{latest-means, means-published}
@@ -34,17 +35,17 @@ use Rattle.nl_core.proofs.Settlings.{births-alike, count-items}
 
 module _ (old new : Layout) (mode : Mode) (moment : ℕ) (pen : IsPen old) (writes : HasWritten mode moment old new) where
   -- where it leads from a world
-  follows-written : Follows unshared old (event.Checkpoint mode moment) (Ok (answer.Checkpoint new.lists.latest.number)) new
+  follows-written : Follows unshared old (event.Checkpoint mode moment) (Ok (answer.Checkpoint new.lists.table.latest.number)) new
   follows-written w means =
       let done = event.Checkpoint mode moment in
       let given = cleaned old done in
-      let reply : Reply = Ok (answer.Checkpoint new.lists.latest.number) in
+      let reply : Reply = Ok (answer.Checkpoint new.lists.table.latest.number) in
       let next = means-published old new mode moment pen.sound writes given w means in
       record { after = next.0; means = next.1 (steps_keep_worlds given reply w next.0 done means.world next.2); step = inl next.2 }
 
   -- all that it does
   pub does-written : IsStore new.store
-      → Does unshared old (event.Checkpoint mode moment) (Ok (answer.Checkpoint new.lists.latest.number)) new
+      → Does unshared old (event.Checkpoint mode moment) (Ok (answer.Checkpoint new.lists.table.latest.number)) new
   does-written is_store =
       let w = pen.world.0 in
       let tree = pen.world.1.tree in
@@ -63,10 +64,10 @@ module _ (old new : Layout) (mode : Mode) (moment : ℕ) (pen : IsPen old) (writ
 
 -- the world has no number left either
 spent : (given : Reply) (l : Layout) (w : World) (mode : Mode) (moment : ℕ) → MeansWorld l w
-    → checkpoint_number_limit ≤ l.lists.latest.number + 1
+    → checkpoint_number_limit ≤ l.lists.table.latest.number + 1
     → step given w (event.Checkpoint mode moment) ≡ (Err error.NumbersSpent, w)
 spent given l w mode moment means over =
-    let number : latest w ≡ l.lists.latest.number = latest-means (pages_of (content_in l.store)) l.lists w means in
+    let number : latest w ≡ l.lists.table.latest.number = latest-means (pages_of (content_in l.store)) l.lists w means in
     cond-true (nat_le checkpoint_number_limit (latest w + 1)) _ _
     (le-leb checkpoint_number_limit (latest w + 1) (omega (arith, number, over)))
 
@@ -114,7 +115,7 @@ same-content : (old new : Store) → new.numbers ≡ old.numbers → content_in 
 same-content old new same i v = option_map entry_now (get_or (same i) v None)
 
 module _ (old new : Layout) (mode : Mode) (moment : ℕ) (pen : IsPen old)
-    (fault : HasFaulted (max moment old.lists.latest.stamp) old new) where
+    (fault : HasFaulted (max moment old.lists.table.latest.stamp) old new) where
   content-same : content_in new.store ≡ content_in old.store
   content-same = same-content old.store new.store fault.store.numbers
 
@@ -137,16 +138,16 @@ module _ (old new : Layout) (mode : Mode) (moment : ℕ) (pen : IsPen old)
       lacks.lacks logs (subst (λ (n : ℕ). placing.LogsFit old.store.segments true n logs) count broken.fits)
 
   abbrev AreSound : Pages → List Checkpoint → Type 0
-  AreSound pages kept = All (λ (c : Checkpoint). IsTreeSound pages (root_of c.root)) kept
+  AreSound pages kept = All (λ (c : Checkpoint). IsTreeSound pages (root_of (root_in c))) kept
 
   sound-same : IsStore new.store → IsSoundPen new
   sound-same is_store = record {
     ledger = subst IsLedger (sym ledger-same) pen.sound.ledger;
     kept = subst (λ (l : Lists). AreSound (pages_of (content_in new.store)) (kept_by l)) (sym fault.lists)
         (subst (λ (content : Content). AreSound (pages_of content) (kept_by old.lists)) (sym content-same) pen.sound.kept);
-    latest = subst (λ (l : Lists). find nat_cmp l.latest.number (map by_number (kept_by l)) ≡ Some l.latest) (sym fault.lists)
+    latest = subst (λ (l : Lists). find nat_cmp l.table.latest.number (map by_number (kept_by l)) ≡ Some l.table.latest) (sym fault.lists)
         pen.sound.latest;
-    last = subst (λ (l : Lists). l.latest.number < checkpoint_number_limit) (sym fault.lists) pen.sound.last;
+    last = subst (λ (l : Lists). l.table.latest.number < checkpoint_number_limit) (sym fault.lists) pen.sound.last;
     store = is_store;
   }
 

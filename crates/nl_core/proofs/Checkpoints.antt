@@ -31,10 +31,11 @@ use Rattle.nl_files.specs.TreeLaws.{StandsOverLatest}
 use Rattle.nl_files.proofs.Following.{settled-differ, settled-follow}
 use Rattle.nl_files.proofs.TreeLaws.{settled_trees-go_on}
 use Rattle.nl_core.specs.Layout.{HasWritten, IsSoundPen, KeepsNumbers, Layout, WritesBetween, ledger_of, pages_in, reached_by}
-use Rattle.nl_core.specs.Volume.{Lists, by_number, kept_by, next_checkpoint}
-use Rattle.nl_core.specs.declared.checkpoint.Checkpoint.{Checkpoint}
+use Rattle.nl_cpfile.specs.Tables.{by_number, root_in}
+use Rattle.nl_core.specs.Volume.{Lists, kept_by, latest_root, next_checkpoint}
+use Rattle.nl_cpfile.specs.declared.checkpoint.Checkpoint.{Checkpoint}
+use Rattle.nl_cpfile.proofs.Found.{found-push}
 use Rattle.nl_core.proofs.Holdings.{one-held}
-use Rattle.nl_core.proofs.KeptLemmas.{find-by_number_push}
 use Rattle.nl_core.proofs.Ledgers.{found-all, none-next}
 use Rattle.nl_core.proofs.MorePages.{sound-stays}
 
@@ -45,25 +46,25 @@ module _ (old new : Layout) (mode : Mode) (moment : ℕ) (writes : HasWritten mo
   changes = writes.settled.changes
 
   -- the new latest checkpoint is the next one
-  pub latest-next : new.lists.latest ≡ next_checkpoint mode moment new.lists.latest.root old.lists
-  latest-next = ap (λ (l : Lists). l.latest) writes.lists
+  pub latest-next : new.lists.table.latest ≡ next_checkpoint mode moment (latest_root new.lists) old.lists
+  latest-next = ap (λ (l : Lists). l.table.latest) writes.lists
 
-  pub number-next : new.lists.latest.number ≡ old.lists.latest.number + 1
+  pub number-next : new.lists.table.latest.number ≡ old.lists.table.latest.number + 1
   number-next = ap (λ (c : Checkpoint). c.number) latest-next
 
   -- it is kept behind the others
-  pub kept-next : kept_by new.lists ≡ kept_by old.lists ++ new.lists.latest ∷ []
+  pub kept-next : kept_by new.lists ≡ kept_by old.lists ++ new.lists.table.latest ∷ []
   kept-next = ap kept_by writes.lists ∙ ap (λ (c : Checkpoint). kept_by old.lists ++ c ∷ []) (sym latest-next)
 
   content-next : content_in new.store
-      ≡ written writes.settled.changes.births writes.settled.changes.ends (old.lists.latest.number + 1) (content_in old.store)
+      ≡ written writes.settled.changes.births writes.settled.changes.ends (old.lists.table.latest.number + 1) (content_in old.store)
   content-next =
       writes.written.content ∙ ap (λ (n : ℕ). written changes.births changes.ends n (content_in old.store)) number-next
 
   births-next : pages_in new ≡ with_births writes.settled.changes.births (pages_in old)
   births-next =
       ap pages_of content-next
-      ∙ pages-written changes.births changes.ends (old.lists.latest.number + 1) (content_in old.store) writes.settled.fits.once
+      ∙ pages-written changes.births changes.ends (old.lists.table.latest.number + 1) (content_in old.store) writes.settled.fits.once
 
   -- the pages that there were stay
   pub pages-stay : Keeps (pages_in old) (pages_in new)
@@ -73,24 +74,24 @@ module _ (old new : Layout) (mode : Mode) (moment : ℕ) (writes : HasWritten mo
 
   -- and so do the kept checkpoints
   pub kept-stay : IsSoundPen old
-      → All (λ (c : Checkpoint). CheckpointStays (pages_in old) (pages_in new) (root_of c.root)) (kept_by old.lists)
-  kept-stay sound = All-weaker (λ (c : Checkpoint). IsTreeSound (pages_in old) (root_of c.root))
-      (λ (c : Checkpoint). CheckpointStays (pages_in old) (pages_in new) (root_of c.root))
-      (λ c is. sound-stays (pages_in old) (pages_in new) (root_of c.root) is pages-stay) (kept_by old.lists) sound.kept
+      → All (λ (c : Checkpoint). CheckpointStays (pages_in old) (pages_in new) (root_of (root_in c))) (kept_by old.lists)
+  kept-stay sound = All-weaker (λ (c : Checkpoint). IsTreeSound (pages_in old) (root_of (root_in c)))
+      (λ (c : Checkpoint). CheckpointStays (pages_in old) (pages_in new) (root_of (root_in c)))
+      (λ c is. sound-stays (pages_in old) (pages_in new) (root_of (root_in c)) is pages-stay) (kept_by old.lists) sound.kept
 
 -- ---- behind it
 
 module _ (old new : Layout) (mode : Mode) (moment : ℕ) (sound : IsSoundPen old) (base : Holding) (tree : Tree)
-    (stands : StandsOverLatest (ledger_of old) (root_of old.lists.latest.root) old.lists.current base tree)
+    (stands : StandsOverLatest (ledger_of old) (root_of (latest_root old.lists)) old.lists.current base tree)
     (writes : HasWritten mode moment old new) where
   abbrev batch : Changes
   batch = writes.settled.changes
 
   abbrev old_root : Root
-  old_root = root_of old.lists.latest.root
+  old_root = root_of (latest_root old.lists)
 
   abbrev new_root : Root
-  new_root = root_of new.lists.latest.root
+  new_root = root_of (latest_root new.lists)
 
   abbrev held : Holding
   held = holding_over old.lists.current.became base
@@ -116,7 +117,7 @@ module _ (old new : Layout) (mode : Mode) (moment : ℕ) (sound : IsSoundPen old
   pages-behind : pages_in new ≡ pages_of behind.content
   pages-behind = ap pages_of content-behind
 
-  number-behind : new.lists.latest.number ≡ behind.latest
+  number-behind : new.lists.table.latest.number ≡ behind.latest
   number-behind = number-next old new mode moment writes
 
   -- ---- what is found under a number
@@ -126,25 +127,25 @@ module _ (old new : Layout) (mode : Mode) (moment : ℕ) (sound : IsSoundPen old
 
   -- the checkpoint behind those that were kept, where none of them has the number
   abbrev or_latest : ℕ → Option Checkpoint → Option Checkpoint
-  or_latest n o = option_or o (cond (eqb new.lists.latest.number n) (Some new.lists.latest) None)
+  or_latest n o = option_or o (cond (eqb new.lists.table.latest.number n) (Some new.lists.table.latest) None)
 
   found-next : (n : ℕ) → found new n ≡ or_latest n (found old n)
   found-next n =
       ap (λ (kept : List Checkpoint). find nat_cmp n (map by_number kept)) (kept-next old new mode moment writes)
-      ∙ sym (find-by_number_push n (kept_by old.lists) new.lists.latest (found old n) refl)
+      ∙ sym (found-push n (kept_by old.lists) new.lists.table.latest (found old n) refl)
 
-  found-latest : found new new.lists.latest.number ≡ Some new.lists.latest
+  found-latest : found new new.lists.table.latest.number ≡ Some new.lists.table.latest
   found-latest =
-      found-next new.lists.latest.number
-      ∙ (ap (or_latest new.lists.latest.number) (ap (found old) number-behind ∙ none-next old sound)
-      ∙ cond-true (eqb new.lists.latest.number new.lists.latest.number) (Some new.lists.latest) None
-      (eq-eqb new.lists.latest.number new.lists.latest.number refl))
+      found-next new.lists.table.latest.number
+      ∙ (ap (or_latest new.lists.table.latest.number) (ap (found old) number-behind ∙ none-next old sound)
+      ∙ cond-true (eqb new.lists.table.latest.number new.lists.table.latest.number) (Some new.lists.table.latest) None
+      (eq-eqb new.lists.table.latest.number new.lists.table.latest.number refl))
 
-  found-others : (n : ℕ) → (new.lists.latest.number ≡ n → ⊥) → found new n ≡ found old n
+  found-others : (n : ℕ) → (new.lists.table.latest.number ≡ n → ⊥) → found new n ≡ found old n
   found-others n other =
       found-next n
       ∙ (ap (option_or (found old n))
-      (cond-false (eqb new.lists.latest.number n) (Some new.lists.latest) None (ne_eqb new.lists.latest.number n other))
+      (cond-false (eqb new.lists.table.latest.number n) (Some new.lists.table.latest) None (ne_eqb new.lists.table.latest.number n other))
       ∙ or_none (found old n))
     where
       or_none : (o : Option Checkpoint) → option_or o None ≡ o
@@ -153,14 +154,14 @@ module _ (old new : Layout) (mode : Mode) (moment : ℕ) (sound : IsSoundPen old
 
   -- ---- what kept checkpoints reach
 
-  reached-latest : reached_by (pages_in new) new.lists.latest ≡ numbers_at behind behind.latest
+  reached-latest : reached_by (pages_in new) new.lists.table.latest ≡ numbers_at behind behind.latest
   reached-latest = ap (λ (pages : Pages). numbers_of pages (roots_at pages new_root)) pages-behind ∙ sym follows.is_latest.numbers
 
   reached-others : (n : ℕ) (o : Option Checkpoint) → found old n ≡ o
       → option_map (reached_by (pages_in new)) o ≡ option_map (reached_by (pages_in old)) o
   reached-others n None is = refl
   reached-others n (Some c) is =
-      ap Some (found-all (λ (k : Checkpoint). CheckpointStays (pages_in old) (pages_in new) (root_of k.root)) n (kept_by old.lists) c
+      ap Some (found-all (λ (k : Checkpoint). CheckpointStays (pages_in old) (pages_in new) (root_of (root_in k))) n (kept_by old.lists) c
       (kept-stay old new mode moment writes sound) is).numbers
 
   reached-behind : (n : ℕ) → option_map (reached_by (pages_in new)) (found new n) ≡ behind.kept n
@@ -171,7 +172,7 @@ module _ (old new : Layout) (mode : Mode) (moment : ℕ) (sound : IsSoundPen old
         ∙ (ap (option_map (reached_by (pages_in new))) found-latest
         ∙ (ap Some reached-latest ∙ (sym follows.is_ledger.latest_kept ∙ ap behind.kept (sym is))))
     | inr t ↦
-        let other : new.lists.latest.number ≡ n → ⊥ = λ same.
+        let other : new.lists.table.latest.number ≡ n → ⊥ = λ same.
         let no : true ≡ false = sym (eq-eqb n behind.latest (sym same ∙ number-behind)) ∙ t in cc in
         ap (option_map (reached_by (pages_in new))) (found-others n other)
         ∙ (reached-others n (found old n) refl ∙ sym (cond-false (eqb n behind.latest) _ _ t))
@@ -187,17 +188,17 @@ module _ (old new : Layout) (mode : Mode) (moment : ℕ) (sound : IsSoundPen old
     kept = λ n. reached-behind n i;
   }
 
-  kept-behind : All (λ (c : Checkpoint). IsTreeSound (pages_in new) (root_of c.root)) (kept_by old.lists)
-  kept-behind = All-weaker (λ (c : Checkpoint). CheckpointStays (pages_in old) (pages_in new) (root_of c.root))
-      (λ (c : Checkpoint). IsTreeSound (pages_in new) (root_of c.root)) (λ c stays. stays.sound) (kept_by old.lists)
+  kept-behind : All (λ (c : Checkpoint). IsTreeSound (pages_in new) (root_of (root_in c))) (kept_by old.lists)
+  kept-behind = All-weaker (λ (c : Checkpoint). CheckpointStays (pages_in old) (pages_in new) (root_of (root_in c)))
+      (λ (c : Checkpoint). IsTreeSound (pages_in new) (root_of (root_in c))) (λ c stays. stays.sound) (kept_by old.lists)
       (kept-stay old new mode moment writes sound)
 
   -- what is true of every pen, but that it means a world
   pub sound-behind : IsStore new.store → IsSoundPen new
   sound-behind is_store = record {
     ledger = subst IsLedger (sym ledger-behind) follows.is_ledger;
-    kept = subst (All (λ (c : Checkpoint). IsTreeSound (pages_in new) (root_of c.root))) (sym (kept-next old new mode moment writes))
-        (All-push (λ (c : Checkpoint). IsTreeSound (pages_in new) (root_of c.root)) (kept_by old.lists) new.lists.latest kept-behind
+    kept = subst (All (λ (c : Checkpoint). IsTreeSound (pages_in new) (root_of (root_in c)))) (sym (kept-next old new mode moment writes))
+        (All-push (λ (c : Checkpoint). IsTreeSound (pages_in new) (root_of (root_in c))) (kept_by old.lists) new.lists.table.latest kept-behind
         (subst (λ (pages : Pages). IsTreeSound pages new_root) (sym pages-behind) follows.is_latest.sound));
     latest = found-latest;
     last = subst (λ (n : ℕ). n < checkpoint_number_limit) (sym number-behind) writes.left;
@@ -205,7 +206,7 @@ module _ (old new : Layout) (mode : Mode) (moment : ℕ) (sound : IsSoundPen old
   }
 
   -- the current tree stands for the same over the new checkpoint
-  pub stands-behind : StandsOverLatest (ledger_of new) (root_of new.lists.latest.root) new.lists.current
+  pub stands-behind : StandsOverLatest (ledger_of new) (root_of (latest_root new.lists)) new.lists.current
       (holding_over old.lists.current.became base) tree
   stands-behind =
       subst (λ (now : Current). StandsOverLatest (ledger_of new) new_root now held tree) (sym (ap (λ (l : Lists). l.current) writes.lists))

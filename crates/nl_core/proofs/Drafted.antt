@@ -1,5 +1,5 @@
 -- What comes of the draft of a checkpoint.
-use Rattle.std.proofs.Common.{◌≡◌, ℕ, ◌+◌, refl, ap, sym, subst}
+use Rattle.std.proofs.Common.{◌≡◌, ℕ, ◌+◌, refl, ap, sym, subst, arith}
 use Rattle.std.specs.Prelude.{max}
 use Rattle.nl_types.specs.declared.error.VolError.{VolError}
 use Rattle.nl_types.specs.declared.error.VolError.TheVariants as error
@@ -8,14 +8,15 @@ use Rattle.nl_types.specs.declared.event.Mode.{Mode}
 use Rattle.nl_dat.specs.Stores.{Store, IsWritten, IsWriteRefused, content_in}
 use Rattle.nl_core.specs.Draft.{CanBeDrafted, IsNextDraft}
 use Rattle.nl_core.specs.Layout.{HasRefused, HasWritten, Settled, layout_of}
+use Rattle.nl_cpfile.specs.Tables.{ComesNext, root_in}
 use Rattle.nl_core.specs.Volume.{Lists, published}
-use Rattle.nl_core.specs.declared.checkpoint.Checkpoint.{Checkpoint}
+use Rattle.nl_cpfile.specs.declared.checkpoint.Checkpoint.{Checkpoint}
 use Rattle.nl_core.specs.declared.draft.Draft.{Draft}
 
 module _ (lists : Lists) (store : Store) (mode : Mode) (moment : ℕ) (draft : Draft)
     (can : CanBeDrafted (content_in store) lists) (drafted : IsNextDraft store mode moment lists draft) where
   -- the current tree is settled in its batch
-  abbrev settled-draft : Settled (layout_of lists store) draft.checkpoint.root
+  abbrev settled-draft : Settled (layout_of lists store) (root_in draft.checkpoint)
   settled-draft = record {
     base = can.1;
     held = can.2;
@@ -24,6 +25,15 @@ module _ (lists : Lists) (store : Store) (mode : Mode) (moment : ℕ) (draft : D
     settles = drafted.settles can.1 can.2 can.3;
     fits = drafted.fits;
   }
+
+  -- the checkpoint comes behind those that are kept
+  pub draft-comes_next : (now : Lists) → now ≡ lists → ComesNext draft.checkpoint now.table
+  draft-comes_next now is =
+      subst (λ (ls : Lists). ComesNext draft.checkpoint ls.table) (sym is)
+      (subst (λ (c : Checkpoint). ComesNext c lists.table) (sym drafted.checkpoint) (record {
+        follows = record { number = omega arith; stamp = omega arith };
+        limit = drafted.left;
+      }))
 
   -- the batch is written, and the checkpoint is kept
   pub written-draft : (now : Lists) (after : Store) → now ≡ published draft.checkpoint lists
@@ -39,12 +49,12 @@ module _ (lists : Lists) (store : Store) (mode : Mode) (moment : ℕ) (draft : D
 
   -- the batch is not written
   refused : (e : VolError) (after : Store)
-      → IsWriteRefused (lists.latest.number + 1) (max moment lists.latest.stamp) draft.batch store after e
+      → IsWriteRefused (lists.table.latest.number + 1) (max moment lists.table.latest.stamp) draft.batch store after e
       → HasRefused (event.Checkpoint mode moment) e (layout_of lists store) (layout_of lists after)
   refused error.NoSpace after why =
-      (ap (layout_of lists) why.1, (drafted.left, record { root = draft.checkpoint.root; settled = settled-draft; lacks = why.0 }))
+      (ap (layout_of lists) why.1, (drafted.left, record { root = root_in draft.checkpoint; settled = settled-draft; lacks = why.0 }))
   refused error.Memory after why = (ap (layout_of lists) why, drafted.left)
-  refused error.Fault after why = record { lists = refl; root = draft.checkpoint.root; settled = settled-draft; store = why }
+  refused error.Fault after why = record { lists = refl; root = root_in draft.checkpoint; settled = settled-draft; store = why }
   refused _ after why = absurd why
 
   pub refused-draft : (e : VolError) (after : Store)

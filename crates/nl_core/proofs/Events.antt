@@ -21,8 +21,9 @@ use Rattle.nl_types.specs.declared.reply.Answer.TheVariants as answer
 use Rattle.nl_types.specs.Limits.{mount_number_limit}
 use Rattle.nl_types.specs.Trees.{Tree}
 use Rattle.nl_types.specs.Calls.{IsUnlessMemory, and_then, change, reply_to, is_dirtying, Changed}
-use Rattle.nl_types.specs.Worlds.{World, Copy, Reply, Outcome, IsWorld, step, either, refused_if, copy_at, is_snapshot, mount_read}
-use Rattle.nl_types.specs.Runs.{memory_alone}
+use Rattle.nl_types.specs.Worlds.{World, Copy, Reply, Outcome, IsWorld, step, either, refused_if, copy_at, mount_read}
+use Rattle.nl_types.specs.Rows.{is_snapshot}
+use Rattle.nl_types.specs.Runs.{TakesMemory, memory_alone}
 use Rattle.nl_types.specs.Roots.{Pages}
 use Rattle.nl_types.proofs.WorldLaws.{steps_keep_worlds}
 use Rattle.nl_layout.specs.Root.{root_of}
@@ -31,9 +32,10 @@ use Rattle.nl_files.specs.CheckpointTrees.{HoldsTree}
 use Rattle.nl_files.specs.CurrentTrees.{LeadsOver, StandsOver}
 use Rattle.nl_files.specs.Held.{Holding}
 use Rattle.nl_files.specs.Reading.{HoldingMeans}
-use Rattle.nl_core.specs.Volume.{Lists, by_number, kept_by, mount_of, with_change, with_mount}
+use Rattle.nl_cpfile.specs.Tables.{by_number, root_in}
+use Rattle.nl_core.specs.Volume.{Lists, kept_by, latest_root, mount_of, with_change, with_mount}
 use Rattle.nl_core.specs.Means.{CopyMeans, FollowsOver, LeadsOn, Means}
-use Rattle.nl_core.specs.declared.checkpoint.Checkpoint.{Checkpoint}
+use Rattle.nl_cpfile.specs.declared.checkpoint.Checkpoint.{Checkpoint}
 
 -- ---- checkpoints and mounts by number
 
@@ -48,7 +50,7 @@ same_number pages n c copy m = ap (eq_by_cmp nat_cmp n) m.number
 
 found_by : (pages : Pages) (b : Bool) (c : Checkpoint) (copy : ℕ × Copy) (o : Option Checkpoint) (p : Option Copy)
     → CopyMeans pages c copy → HasCopy pages o p → HasCopy pages (cond b (Some c) o) (cond b (Some copy.1) p)
-found_by pages true c copy o p m rest = (copy.1, refl, record { number = refl; mode = m.mode; stamp = m.stamp; tree = m.tree })
+found_by pages true c copy o p m rest = (copy.1, refl, record { number = refl; mode = m.mode; stamp = m.stamp; inodes = m.inodes; tree = m.tree })
 found_by pages false c copy o p m rest = rest
 
 find_copy : (pages : Pages) (kept : List Checkpoint) (copies : List (ℕ × Copy)) (n : ℕ) → AllZip (CopyMeans pages) kept copies
@@ -71,7 +73,7 @@ copy_of pages l w n o m is = subst (λ c. HasCopy pages c (copy_at w n)) is (fin
 -- ---- refusals and steps
 
 -- an event that writes nothing leads on from a world
-abbrev LeadsInMemory : Reply → World → Event → Reply → Pages → Lists → Type 0
+abbrev pub LeadsInMemory : Reply → World → Event → Reply → Pages → Lists → Type 0
 LeadsInMemory cleaned w event reply pages new = LeadsOn memory_alone cleaned w event reply pages new
 
 is_memory : (e : VolError) → (e ≡ error.Memory) ⊎ (e ≢ error.Memory)
@@ -79,29 +81,29 @@ is_memory error.Memory = inl refl
 is_memory _ = inr (λ same. cc)
 
 -- where the step leaves a world, it leads on to what stands for that
-leads : (cleaned : Reply) (w after : World) (event : Event) (reply : Reply) (pages : Pages) (new : Lists) → IsWorld w
+pub leads : (cleaned : Reply) (w after : World) (event : Event) (reply : Reply) (pages : Pages) (new : Lists) → IsWorld w
     → (IsWorld after → Means pages new after) → step cleaned w event ≡ (reply, after)
     → LeadsInMemory cleaned w event reply pages new
 leads cleaned w after event reply pages new world means is =
     record { after = after; means = means (steps_keep_worlds cleaned reply w after event world is); step = inl is }
 
 -- an event that keeps the world, as the step does
-keeps : (cleaned : Reply) (w : World) (event : Event) (reply : Reply) (pages : Pages) (l : Lists) → Means pages l w
+pub keeps : (cleaned : Reply) (w : World) (event : Event) (reply : Reply) (pages : Pages) (l : Lists) → Means pages l w
     → step cleaned w event ≡ (reply, w) → LeadsInMemory cleaned w event reply pages l
 keeps cleaned w event reply pages l m is = record { after = w; means = m; step = inl is }
 
 -- memory ran out
 lacks_memory : (cleaned : Reply) (w : World) (event : Event) (pages : Pages) (l : Lists) → Means pages l w
-    → LeadsInMemory cleaned w event (Err error.Memory) pages l
-lacks_memory cleaned w event pages l m =
-    record { after = w; means = m; step = inr (record { error = error.Memory; reply_is = refl; may_be = tt; unchanged = refl }) }
+    → TakesMemory event → LeadsInMemory cleaned w event (Err error.Memory) pages l
+lacks_memory cleaned w event pages l m takes =
+    record { after = w; means = m; step = inr (record { error = error.Memory; reply_is = refl; may_be = takes; unchanged = refl }) }
 
 -- the step's refusal, unless memory ran out
-refuses_unless_memory : (cleaned : Reply) (w : World) (event : Event) (e : VolError) (pages : Pages) (l : Lists) → Means pages l w
-    → ((e ≢ error.Memory) → step cleaned w event ≡ (Err e, w)) → LeadsInMemory cleaned w event (Err e) pages l
-refuses_unless_memory cleaned w event e pages l m is =
+pub refuses_unless_memory : (cleaned : Reply) (w : World) (event : Event) (e : VolError) (pages : Pages) (l : Lists) → Means pages l w
+    → TakesMemory event → ((e ≢ error.Memory) → step cleaned w event ≡ (Err e, w)) → LeadsInMemory cleaned w event (Err e) pages l
+refuses_unless_memory cleaned w event e pages l m takes is =
     elim (is_memory e) [
-      | inl same ↦ subst (λ d. LeadsInMemory cleaned w event (Err d) pages l) (sym same) (lacks_memory cleaned w event pages l m)
+      | inl same ↦ subst (λ d. LeadsInMemory cleaned w event (Err d) pages l) (sym same) (lacks_memory cleaned w event pages l m takes)
       | inr other ↦ keeps cleaned w event (Err e) pages l m (is other)
     ]
 
@@ -113,7 +115,7 @@ outcome_of w c r = either w r (λ done. (Ok done.0, record w { tree = done.1; di
 
 -- the current tree then stands for the tree that the change leaves
 pub change-follows : (pages : Pages) (l : Lists) (c : Change) (a : Answer) (now : Current)
-    → ((base : Holding) (tree : Tree) → HoldsTree pages (root_of l.latest.root) base → StandsOver l.current base tree
+    → ((base : Holding) (tree : Tree) → HoldsTree pages (root_of (latest_root l)) base → StandsOver l.current base tree
     → LeadsOver (change tree c) a now base)
     → FollowsOver pages l (Apply c) (Ok a) (with_change c now l)
 change-follows pages l c a now called = λ cleaned w m.
@@ -131,30 +133,31 @@ change-follows pages l c a now called = λ cleaned w m.
 
 -- a refused change is refused as the call on the tree is
 pub refused_change-follows : (pages : Pages) (l : Lists) (c : Change) (e : VolError)
-    → ((base : Holding) (tree : Tree) → HoldsTree pages (root_of l.latest.root) base → StandsOver l.current base tree
+    → ((base : Holding) (tree : Tree) → HoldsTree pages (root_of (latest_root l)) base → StandsOver l.current base tree
     → (e ≢ error.Memory) → change tree c ≡ Err e)
     → FollowsOver pages l (Apply c) (Err e) l
 refused_change-follows pages l c e called = λ cleaned w m.
-    refuses_unless_memory cleaned w (Apply c) e pages l m
+    refuses_unless_memory cleaned w (Apply c) e pages l m tt
     (λ other. ap (outcome_of w c) (called m.tree.base w.tree m.tree.holds m.tree.stands other))
 
 -- ---- reads
 
 -- an answer that is the expected one unless memory ran out
-answers : (cleaned : Reply) (w : World) (event : Event) (reply expected : Reply) (pages : Pages) (l : Lists) → Means pages l w
-    → step cleaned w event ≡ (expected, w) → IsUnlessMemory reply expected → LeadsInMemory cleaned w event reply pages l
-answers cleaned w event (Ok found) expected pages l m steps is =
+pub answers : (cleaned : Reply) (w : World) (event : Event) (reply expected : Reply) (pages : Pages) (l : Lists) → Means pages l w
+    → TakesMemory event → step cleaned w event ≡ (expected, w) → IsUnlessMemory reply expected
+    → LeadsInMemory cleaned w event reply pages l
+answers cleaned w event (Ok found) expected pages l m takes steps is =
     keeps cleaned w event (Ok found) pages l m (steps ∙ ap (λ r. (r, w)) (sym (is (λ same. cc))))
-answers cleaned w event (Err e) expected pages l m steps is =
-    refuses_unless_memory cleaned w event e pages l m (λ other. steps ∙ ap (λ r. (r, w)) (sym (is (λ same. other cc))))
+answers cleaned w event (Err e) expected pages l m takes steps is =
+    refuses_unless_memory cleaned w event e pages l m takes (λ other. steps ∙ ap (λ r. (r, w)) (sym (is (λ same. other cc))))
 
 -- what the current tree answers
 pub read-follows : (pages : Pages) (l : Lists) (a : Ask) (reply : Reply)
-    → ((base : Holding) (tree : Tree) → HoldsTree pages (root_of l.latest.root) base → StandsOver l.current base tree
+    → ((base : Holding) (tree : Tree) → HoldsTree pages (root_of (latest_root l)) base → StandsOver l.current base tree
     → IsUnlessMemory reply (reply_to tree a))
     → FollowsOver pages l (Read a) reply l
 read-follows pages l a reply is = λ cleaned w m.
-    answers cleaned w (Read a) reply (reply_to w.tree a) pages l m refl (is m.tree.base w.tree m.tree.holds m.tree.stands)
+    answers cleaned w (Read a) reply (reply_to w.tree a) pages l m tt refl (is m.tree.base w.tree m.tree.holds m.tree.stands)
 
 -- ---- mounts
 
@@ -245,11 +248,11 @@ gone_mount_read-follows pages l mount n a found none = λ cleaned w m.
 -- what the tree of a mounted checkpoint answers
 pub mount_read-follows : (pages : Pages) (l : Lists) (mount n : ℕ) (c : Checkpoint) (a : Ask) (reply : Reply)
     → find nat_cmp mount (map mount_of l.mounts) ≡ Some n → find nat_cmp n (map by_number (kept_by l)) ≡ Some c
-    → ((held : Holding) (tree : Tree) → HoldsTree pages (root_of c.root) held → HoldingMeans held tree
+    → ((held : Holding) (tree : Tree) → HoldsTree pages (root_of (root_in c)) held → HoldingMeans held tree
     → IsUnlessMemory reply (reply_to tree a))
     → FollowsOver pages l (MountRead mount a) reply l
 mount_read-follows pages l mount n c a reply mounted kept is = λ cleaned w m.
     let copy = copy_of pages l w n (Some c) m kept in
-    answers cleaned w (MountRead mount a) reply (reply_to copy.0.tree a) pages l m
+    answers cleaned w (MountRead mount a) reply (reply_to copy.0.tree a) pages l m tt
     (ap (λ r. (r, w)) (mount_read-found w mount n a (Some copy.0) (mount_at pages l w mount (Some n) m mounted) copy.1))
     (is copy.2.tree.held copy.0.tree copy.2.tree.holds copy.2.tree.means)

@@ -34,16 +34,17 @@ use Rattle.nl_files.specs.TreeLaws.{StandsOverLatest, first_tree}
 use Rattle.nl_files.proofs.Few.{few-births}
 use Rattle.nl_files.proofs.First.{latest-first, stores-nothing}
 use Rattle.nl_files.proofs.TreeLaws.{first_trees-stand, trees-can_be_settled}
-use Rattle.nl_core.specs.Draft.{CanBeDrafted, SettlesNow}
+use Rattle.nl_core.specs.Draft.{CanBeDrafted, HasFewNames, SettlesNow}
 use Rattle.nl_core.specs.Layout.{HasRefused, HasWritten, IsFormatted, IsPen, IsSoundPen, LacksSpaceToSettle, Layout, MeansWorld, Settled, blank_layout, layout_of, ledger_of, pages_in, reached_by}
 use Rattle.nl_core.specs.Means.{RootMeans}
-use Rattle.nl_core.specs.Tables.{blank_lists}
-use Rattle.nl_core.specs.Volume.{Lists, by_number, kept_by, mount_of}
-use Rattle.nl_core.specs.declared.checkpoint.Checkpoint.{Checkpoint as Kept}
+use Rattle.nl_core.specs.Tables.{blank_checkpoint, blank_lists}
+use Rattle.nl_cpfile.specs.Tables.{by_number, kept_at, root_in}
+use Rattle.nl_core.specs.Volume.{Lists, latest_alone, mount_of}
+use Rattle.nl_cpfile.specs.declared.checkpoint.Checkpoint.{Checkpoint as Kept}
 use Rattle.nl_core.proofs.Checkpoints.{ledger-behind, stands-behind}
 use Rattle.nl_core.proofs.FirstLogs.{first_logs}
 use Rattle.nl_core.proofs.Holdings.{one-held}
-use Rattle.nl_core.proofs.KeptLemmas.{eq_by_cmp-nat_cmp}
+use Rattle.nl_cpfile.proofs.Found.{eq_by_cmp-nat_cmp}
 use Rattle.nl_core.proofs.Published.{current-means, root-means}
 
 -- ---- what is found under a number
@@ -69,10 +70,6 @@ none-stands : {X : Type 0} (total k : ℕ) → get_or (replicate {A = Option X} 
 none-stands zero k = refl
 none-stands (suc total) zero = refl
 none-stands (suc total) (suc k) = none-stands total k
-
--- the checkpoint without files
-abbrev blank_checkpoint : Kept
-blank_checkpoint = blank_lists.latest
 
 module _ (geometry : Geometry) (device : DevicePages) (failures : ℕ) where
   abbrev before : Layout
@@ -109,8 +106,8 @@ module _ (geometry : Geometry) (device : DevicePages) (failures : ℕ) where
   sound-before : IsStore before.store → IsSoundPen before
   sound-before is_store = record {
     ledger = stands-before.is_ledger;
-    kept = All-cons (λ (c : Kept). IsTreeSound (pages_in before) (root_of c.root)) blank_checkpoint []
-        stands-before.latest.sound (All-nil (λ (c : Kept). IsTreeSound (pages_in before) (root_of c.root)));
+    kept = All-cons (λ (c : Kept). IsTreeSound (pages_in before) (root_of (root_in c))) blank_checkpoint []
+        stands-before.latest.sound (All-nil (λ (c : Kept). IsTreeSound (pages_in before) (root_of (root_in c))));
     latest = found-one blank_checkpoint;
     last = omega arith;
     store = is_store;
@@ -160,22 +157,25 @@ module _ (geometry : Geometry) (device : DevicePages) (failures : ℕ) where
 
   module _ (new : Layout) (now : ℕ) (writes : HasWritten Plain now before new) (old_store : IsStore before.store) where
     abbrev after : Layout
-    after = layout_of (record new.lists { earlier = [] }) new.store
+    after = layout_of (latest_alone new.lists) new.store
 
     abbrev latest : Kept
-    latest = new.lists.latest
+    latest = new.lists.table.latest
 
     number : latest.number ≡ 1
-    number = ap (λ (l : Lists). l.latest.number) writes.lists
+    number = ap (λ (l : Lists). l.table.latest.number) writes.lists
 
     mode : latest.mode ≡ Plain
-    mode = ap (λ (l : Lists). l.latest.mode) writes.lists
+    mode = ap (λ (l : Lists). l.table.latest.mode) writes.lists
 
     stamp : latest.stamp ≡ now
-    stamp = ap (λ (l : Lists). l.latest.stamp) writes.lists ∙ (let most : max now 0 ≡ now = omega arith in most)
+    stamp = ap (λ (l : Lists). l.table.latest.stamp) writes.lists ∙ (let most : max now 0 ≡ now = omega arith in most)
+
+    inodes : latest.inodes ≡ 1
+    inodes = ap (λ (l : Lists). l.table.latest.inodes) writes.lists
 
     -- the tree stands over it
-    stands : StandsOverLatest (ledger_of new) (root_of latest.root) new.lists.current first_holding root_alone
+    stands : StandsOverLatest (ledger_of new) (root_of (root_in latest)) new.lists.current first_holding root_alone
     stands = stands-behind before new Plain now (sound-before old_store) nothing_held root_alone stands-before writes
 
     -- ---- its ledger
@@ -189,8 +189,8 @@ module _ (geometry : Geometry) (device : DevicePages) (failures : ℕ) where
       | inr other ↦
           ap (option_map (reached_by (pages_in new)))
           (sym (found-behind c blank_checkpoint (by_number latest ∷ []) (λ same. other (sym same)))
-          ∙ ap (λ (earlier : List Kept). find nat_cmp c (map by_number (kept_by (record new.lists { earlier = earlier }))))
-          (sym (ap (λ (l : Lists). l.earlier) writes.lists)))
+          ∙ ap (λ (earlier : List Kept). kept_at c (record new.lists.table { earlier = earlier }))
+          (sym (ap (λ (l : Lists). l.table.earlier) writes.lists)))
           ∙ sym (cond-false (c == 0) _ _ (ne_eqb c 0 other))
     ]
 
@@ -221,17 +221,17 @@ module _ (geometry : Geometry) (device : DevicePages) (failures : ℕ) where
     sound-after : IsStore new.store → IsSoundPen after
     sound-after is_store = record {
       ledger = is_ledger;
-      kept = All-cons (λ (c : Kept). IsTreeSound (pages_in new) (root_of c.root)) latest [] stands.latest.sound
-          (All-nil (λ (c : Kept). IsTreeSound (pages_in new) (root_of c.root)));
+      kept = All-cons (λ (c : Kept). IsTreeSound (pages_in new) (root_of (root_in c))) latest [] stands.latest.sound
+          (All-nil (λ (c : Kept). IsTreeSound (pages_in new) (root_of (root_in c))));
       latest = found-one latest;
       last = omega (arith, number);
       store = is_store;
     }
 
     -- nothing differs from the checkpoint, so it stands for the tree too
-    copy-after : RootMeans (pages_in new) latest.root root_alone
+    copy-after : RootMeans (pages_in new) (root_in latest) root_alone
     copy-after = root-means new before.lists.current first_holding root_alone
-        (subst (λ (now : Current). StandsOverLatest (ledger_of new) (root_of latest.root) now first_holding root_alone)
+        (subst (λ (now : Current). StandsOverLatest (ledger_of new) (root_of (root_in latest)) now first_holding root_alone)
         (ap (λ (l : Lists). l.current) writes.lists) stands)
 
     means-after : MeansWorld after (formatted now)
@@ -239,7 +239,7 @@ module _ (geometry : Geometry) (device : DevicePages) (failures : ℕ) where
       world = formatted_is_world now;
       tree = current-means new first_holding root_alone stands;
       dirty = sym (ap (λ (l : Lists). l.dirty) writes.lists);
-      copies = (record { number = sym number; mode = sym mode; stamp = sym stamp; tree = copy-after }, tt);
+      copies = (record { number = sym number; mode = sym mode; stamp = sym stamp; inodes = inodes; tree = copy-after }, tt);
       mounts = sym (ap (λ (l : Lists). map mount_of l.mounts) writes.lists);
       given = sym (ap (λ (l : Lists). l.given) writes.lists);
     }
@@ -265,6 +265,9 @@ module _ (geometry : Geometry) (device : DevicePages) (failures : ℕ) (lists : 
   is-blank : old ≡ blank_layout geometry device failures
   is-blank i = layout_of (blank_then i) ((fresh ∙ (λ j. new_store (clean j) (same_count j))) i)
 
+  pub has_few-names : HasFewNames lists
+  has_few-names = subst HasFewNames (sym blank_then) (omega arith)
+
   pub can_be-drafted : CanBeDrafted (content_in store) lists
   can_be-drafted = subst (λ (l : Layout). CanBeDrafted (content_in l.store) l.lists) (sym is-blank)
       (drafted-before geometry device failures)
@@ -276,7 +279,7 @@ module _ (geometry : Geometry) (device : DevicePages) (failures : ℕ) (lists : 
         (subst (λ (l : Layout). HasRefused (Checkpoint Plain now) e l new) is-blank refused)
 
     pub new-volume : (left : Lists) → HasWritten Plain now old new → IsStore store → IsStore new.store
-        → left ≡ record new.lists { earlier = [] }
+        → left ≡ latest_alone new.lists
         → IsNew geometry device failures now (layout_of left new.store)
     new-volume left writes old_store is_store is =
         subst (λ (ls : Lists). IsNew geometry device failures now (layout_of ls new.store)) (sym is) (record {

@@ -14,11 +14,12 @@ use Rattle.nl_files.specs.Held.{Holding, IsTreeSound, Stores}
 use Rattle.nl_files.specs.Laws.{IsLatest}
 use Rattle.nl_files.specs.TreeLaws.{StandsOverLatest}
 use Rattle.nl_files.proofs.TreeLaws.{trees-can_be_settled}
-use Rattle.nl_core.specs.Draft.{CanBeDrafted}
+use Rattle.nl_core.specs.Draft.{CanBeDrafted, HasFewNames}
 use Rattle.nl_core.specs.Layout.{IsPen, IsSoundPen, KeepsNumbers, Layout, ledger_of, pages_in, reached_by}
 use Rattle.nl_core.specs.Means.{CurrentMeans}
-use Rattle.nl_core.specs.Volume.{by_number, kept_by}
-use Rattle.nl_core.specs.declared.checkpoint.Checkpoint.{Checkpoint}
+use Rattle.nl_cpfile.specs.Tables.{by_number, root_in}
+use Rattle.nl_core.specs.Volume.{kept_by, latest_root}
+use Rattle.nl_cpfile.specs.declared.checkpoint.Checkpoint.{Checkpoint}
 
 -- ---- the same ledger
 
@@ -48,37 +49,37 @@ found-all P n (k ∷ kept) c all e = elim (cases_Bool (eq_by_cmp nat_cmp n k.num
 
 module _ (l : Layout) (sound : IsSoundPen l) where
   -- no checkpoint is kept under the next number
-  pub none-next : find nat_cmp (l.lists.latest.number + 1) (map by_number (kept_by l.lists)) ≡ None
-  none-next = go (find nat_cmp (l.lists.latest.number + 1) (map by_number (kept_by l.lists))) refl
+  pub none-next : find nat_cmp (l.lists.table.latest.number + 1) (map by_number (kept_by l.lists)) ≡ None
+  none-next = go (find nat_cmp (l.lists.table.latest.number + 1) (map by_number (kept_by l.lists))) refl
     where
       go : (o : Option Checkpoint)
-          → find nat_cmp (l.lists.latest.number + 1) (map by_number (kept_by l.lists)) ≡ o
-          → find nat_cmp (l.lists.latest.number + 1) (map by_number (kept_by l.lists)) ≡ None
+          → find nat_cmp (l.lists.table.latest.number + 1) (map by_number (kept_by l.lists)) ≡ o
+          → find nat_cmp (l.lists.table.latest.number + 1) (map by_number (kept_by l.lists)) ≡ None
       go None is = is
       go (Some c) is =
-          let low = sound.ledger.below (l.lists.latest.number + 1) (reached_by (pages_in l) c)
+          let low = sound.ledger.below (l.lists.table.latest.number + 1) (reached_by (pages_in l) c)
           (ap (option_map (reached_by (pages_in l))) is) in
           absurd (omega (arith, low))
 
   -- ---- the latest checkpoint
 
   -- it reaches the places of its files
-  latest-numbers : numbers_at (ledger_of l) l.lists.latest.number ≡ reached_by (pages_in l) l.lists.latest
+  latest-numbers : numbers_at (ledger_of l) l.lists.table.latest.number ≡ reached_by (pages_in l) l.lists.table.latest
   latest-numbers = ap (λ (o : Option Checkpoint). unwrap_or (option_map (reached_by (pages_in l)) o) (λ _. None)) sound.latest
 
   -- what it holds is what the latest checkpoint of the ledger holds
-  pub is-latest : (base : Holding) → Stores (pages_in l) (root_of l.lists.latest.root) base
-      → IsLatest (ledger_of l) (root_of l.lists.latest.root) base
+  pub is-latest : (base : Holding) → Stores (pages_in l) (root_of (latest_root l.lists)) base
+      → IsLatest (ledger_of l) (root_of (latest_root l.lists)) base
   is-latest base stores = record {
     numbers = latest-numbers;
-    sound = found-all (λ (c : Checkpoint). IsTreeSound (pages_in l) (root_of c.root)) l.lists.latest.number
-        (kept_by l.lists) l.lists.latest sound.kept sound.latest;
+    sound = found-all (λ (c : Checkpoint). IsTreeSound (pages_in l) (root_of (root_in c))) l.lists.table.latest.number
+        (kept_by l.lists) l.lists.table.latest sound.kept sound.latest;
     stores = stores;
   }
 
   -- a current tree over it stands over the latest checkpoint of the ledger
-  pub stands-latest : (tree : Tree) (means : CurrentMeans (pages_in l) l.lists.latest.root l.lists.current tree)
-      → StandsOverLatest (ledger_of l) (root_of l.lists.latest.root) l.lists.current means.base tree
+  pub stands-latest : (tree : Tree) (means : CurrentMeans (pages_in l) (latest_root l.lists) l.lists.current tree)
+      → StandsOverLatest (ledger_of l) (root_of (latest_root l.lists)) l.lists.current means.base tree
   stands-latest tree means = record {
     is_ledger = sound.ledger;
     latest = is-latest means.base means.holds.stores;
@@ -86,11 +87,15 @@ module _ (l : Layout) (sound : IsSoundPen l) where
     stands = means.stands;
   }
 
+-- the paths of a pen's current tree can be counted
+pub has_few-names : (l : Layout) → IsPen l → HasFewNames l.lists
+has_few-names l pen = pen.world.1.tree.stands.few
+
 -- the next checkpoint of a pen can be drafted
 pub can_be-drafted : (l : Layout) → IsPen l → CanBeDrafted (content_in l.store) l.lists
 can_be-drafted l pen =
     let means = pen.world.1.tree in
     let tree = pen.world.0.tree in
-    let can = trees-can_be_settled (ledger_of l) (root_of l.lists.latest.root) l.lists.current means.base tree
+    let can = trees-can_be_settled (ledger_of l) (root_of (latest_root l.lists)) l.lists.current means.base tree
     (stands-latest l pen.sound tree means) in
     (can.checkpoint, means.base, holding_over l.lists.current.became means.base, can.current)

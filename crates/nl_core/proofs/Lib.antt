@@ -1,4 +1,3 @@
-pub mod KeptLemmas
 pub mod Holdings
 pub mod OneWorld
 pub mod Leading
@@ -6,9 +5,14 @@ pub mod Events
 pub mod Settlings
 pub mod Ledgers
 pub mod Moving
+pub mod TableChanges
+pub mod Removals
+pub mod ModeChanges
+pub mod Published
 pub mod MorePages
 pub mod Checkpoints
-pub mod Published
+pub mod CheckpointEvents
+pub mod Views
 pub mod Drafted
 pub mod Checkpointing
 pub mod Refusals

@@ -1,11 +1,15 @@
 -- From what an event that writes nothing does to the tables to what it does to the pen.
-use Rattle.std.proofs.Common.{◌≡◌, ℕ, Bool, List, refl, sym, subst, inl, inr}
+use Rattle.std.proofs.Common.{◌≡◌, ℕ, Bool, List, [], ◌∷◌, refl, sym, ap, subst, inl, inr}
 use Rattle.std.specs.Prelude.{◌||◌, Ok, Err, IfOk, OnErr}
 use Rattle.nl_types.specs.declared.error.VolError.{VolError}
 use Rattle.nl_types.specs.declared.error.VolError.TheVariants as error
 use Rattle.nl_types.specs.declared.event.Event.{Event}
-use Rattle.nl_types.specs.declared.event.Event.TheVariants.{Apply, Read, Mount, MountRead}
+use Rattle.nl_types.specs.declared.event.Event.TheVariants.{Apply, Read, ChangeMode, Remove, RemoveRange, Mount, Unmount, MountRead, Listing}
 use Rattle.nl_types.specs.declared.event.Change.{Change}
+use Rattle.nl_types.specs.declared.event.Mode.{Mode}
+use Rattle.nl_types.specs.declared.reply.Answer.{Answer}
+use Rattle.nl_types.specs.declared.reply.Answer.TheVariants as answer
+use Rattle.nl_types.specs.declared.row.ListOptions.{ListOptions}
 use Rattle.nl_types.specs.declared.event.Ask.{Ask}
 use Rattle.nl_types.specs.Calls.{is_dirtying}
 use Rattle.nl_types.specs.Roots.{Pages, pages_of}
@@ -15,10 +19,12 @@ use Rattle.nl_dat.specs.Stores.{Store, content_in}
 use Rattle.nl_files.specs.Became.{Current}
 use Rattle.nl_core.specs.Changes.{HasChanged}
 use Rattle.nl_core.specs.Means.{FollowsOver}
-use Rattle.nl_core.specs.Volume.{Lists, with_change, with_mount}
-use Rattle.nl_core.specs.Layout.{Does, Follows, IsPen, IsSoundPen, Touches, cleaned, layout_of, unshared}
-use Rattle.nl_core.specs.declared.checkpoint.Mounted.{Mounted}
+use Rattle.nl_core.specs.Volume.{IsTakenOut, IsTakenOutRange, Lists, with_change, with_checkpoint_mode, with_mount, without_mount}
+use Rattle.nl_core.specs.Layout.{Does, Follows, HasDone, IsPen, IsSoundPen, KeepsNumbers, Touches, cleaned, layout_of, unshared}
+use Rattle.nl_core.specs.declared.mounts.Mounted.{Mounted}
 use Rattle.nl_core.proofs.Ledgers.{same-numbers}
+use Rattle.nl_core.proofs.ModeChanges.{numbers-moded, sound-moded}
+use Rattle.nl_core.proofs.Removals.{numbers-left, sound-left}
 
 -- ---- steps
 
@@ -45,6 +51,21 @@ follows-more l new store event reply follows = λ w m.
       | inr refused ↦ inr (record { error = refused.error; reply_is = refused.reply_is; may_be = more refused.error refused.may_be; unchanged = refused.unchanged })
     ]
 
+-- the store stays, and what is true of the pen but for its world is shown
+does-kept : (l new : Lists) (store : Store) (event : Event) (reply : Reply) → IsPen (layout_of l store)
+    → FollowsOver (pages_under store) l event reply new
+    → Touches (layout_of l store) event reply (layout_of new store)
+    → IsSoundPen (layout_of new store) → KeepsNumbers (layout_of l store) (layout_of new store)
+    → Does unshared (layout_of l store) event reply (layout_of new store)
+does-kept l new store event reply pen follows touches sound numbers =
+    let next = follows (cleaned (layout_of l store) event) pen.world.0 pen.world.1 in
+    record {
+      follows = follows-more l new store event reply follows;
+      touches = touches;
+      numbers = numbers;
+      pen = record { world = (next.after, next.means); sound = sound };
+    }
+
 -- ---- events that keep the checkpoints
 
 module _ (l : Lists) (store : Store) (pen : IsPen (layout_of l store)) (current : Current) (dirty : Bool) (mounts : List Mounted) (given : ℕ) where
@@ -66,13 +87,8 @@ module _ (l : Lists) (store : Store) (pen : IsPen (layout_of l store)) (current 
       → Touches (layout_of l store) event reply (layout_of moved store)
       → Does unshared (layout_of l store) event reply (layout_of moved store)
   does-moved event reply follows touches =
-      let next = follows (cleaned (layout_of l store) event) pen.world.0 pen.world.1 in
-      record {
-        follows = follows-more l moved store event reply follows;
-        touches = touches;
-        numbers = same-numbers (layout_of l store) (layout_of moved store) refl;
-        pen = record { world = (next.after, next.means); sound = sound-moved };
-      }
+      does-kept l moved store event reply pen follows touches sound-moved
+      (same-numbers (layout_of l store) (layout_of moved store) refl)
 
 -- an event that leaves all as it was
 does-nothing : (l : Lists) (store : Store) (event : Event) (reply : Reply) → IsPen (layout_of l store)
@@ -81,6 +97,28 @@ does-nothing : (l : Lists) (store : Store) (event : Event) (reply : Reply) → I
     → Does unshared (layout_of l store) event reply (layout_of l store)
 does-nothing l store event reply pen follows touches =
     does-moved l store pen l.current l.dirty l.mounts l.given event reply follows touches
+
+-- a refused event leaves all as it was
+does-refused : (l new : Lists) (store : Store) (event : Event) (e : VolError) → IsPen (layout_of l store)
+    → FollowsOver (pages_under store) l event (Err e) new
+    → Touches (layout_of l store) event (Err e) (layout_of l store) → new ≡ l
+    → Does unshared (layout_of l store) event (Err e) (layout_of new store)
+does-refused l new store event e pen follows touches same =
+    subst (λ lists. Does unshared (layout_of l store) event (Err e) (layout_of lists store)) (sym same)
+    (does-nothing l store event (Err e) pen
+    (subst (λ lists. FollowsOver (pages_under store) l event (Err e) lists) same follows) touches)
+
+-- some checkpoints are gone
+does-taken_out : (l new : Lists) (store : Store) (event : Event) (a : Answer) (gone : List ℕ) → IsPen (layout_of l store)
+    → FollowsOver (pages_under store) l event (Ok a) new → IsTakenOut gone l new
+    → HasDone (layout_of l store) event a (layout_of new store)
+    → Does unshared (layout_of l store) event (Ok a) (layout_of new store)
+does-taken_out l new store event a gone pen follows taken done =
+    does-kept l new store event (Ok a) pen follows done
+    (subst (λ lists. IsSoundPen (layout_of lists store)) (sym taken.lists)
+    (sound-left (layout_of l store) gone taken.stays pen.sound))
+    (subst (λ lists. KeepsNumbers (layout_of l store) (layout_of lists store)) (sym taken.lists)
+    (numbers-left (layout_of l store) gone taken.stays pen.sound))
 
 -- ---- each event
 
@@ -97,9 +135,7 @@ does-Apply l new store c (Ok a) pen follows is changed same =
     (subst (λ lists. FollowsOver (pages_under store) l (Apply c) (Ok a) lists) is follows)
     (refl, subst (λ lists. HasChanged (pages_under store) c l lists) is changed))
 does-Apply l new store c (Err e) pen follows is changed same =
-    subst (λ lists. Does unshared (layout_of l store) (Apply c) (Err e) (layout_of lists store)) (sym same)
-    (does-nothing l store (Apply c) (Err e) pen
-    (subst (λ lists. FollowsOver (pages_under store) l (Apply c) (Err e) lists) same follows) refl)
+    does-refused l new store (Apply c) e pen follows refl same
 
 -- a mount
 pub does-Mount : (l new : Lists) (store : Store) (n : ℕ) (reply : Reply) → IsPen (layout_of l store)
@@ -113,9 +149,61 @@ does-Mount l new store n (Ok a) pen follows is same =
     (does-moved l store pen l.current l.dirty next.mounts next.given (Mount n) (Ok a)
     (subst (λ lists. FollowsOver (pages_under store) l (Mount n) (Ok a) lists) is follows) refl)
 does-Mount l new store n (Err e) pen follows is same =
-    subst (λ lists. Does unshared (layout_of l store) (Mount n) (Err e) (layout_of lists store)) (sym same)
-    (does-nothing l store (Mount n) (Err e) pen
-    (subst (λ lists. FollowsOver (pages_under store) l (Mount n) (Err e) lists) same follows) refl)
+    does-refused l new store (Mount n) e pen follows refl same
+
+-- an unmount
+pub does-Unmount : (l new : Lists) (store : Store) (m : ℕ) (reply : Reply) → IsPen (layout_of l store)
+    → FollowsOver (pages_under store) l (Unmount m) reply new
+    → IfOk reply (λ _. new ≡ without_mount m l)
+    → OnErr reply (new ≡ l)
+    → Does unshared (layout_of l store) (Unmount m) reply (layout_of new store)
+does-Unmount l new store m (Ok a) pen follows is same =
+    let next = without_mount m l in
+    subst (λ lists. Does unshared (layout_of l store) (Unmount m) (Ok a) (layout_of lists store)) (sym is)
+    (does-moved l store pen l.current l.dirty next.mounts l.given (Unmount m) (Ok a)
+    (subst (λ lists. FollowsOver (pages_under store) l (Unmount m) (Ok a) lists) is follows) refl)
+does-Unmount l new store m (Err e) pen follows is same = does-refused l new store (Unmount m) e pen follows refl same
+
+-- a change of a mode
+pub does-ChangeMode : (l new : Lists) (store : Store) (n : ℕ) (mode : Mode) (reply : Reply) → IsPen (layout_of l store)
+    → FollowsOver (pages_under store) l (ChangeMode n mode) reply new
+    → IfOk reply (λ _. new ≡ with_checkpoint_mode n mode l)
+    → OnErr reply (new ≡ l)
+    → Does unshared (layout_of l store) (ChangeMode n mode) reply (layout_of new store)
+does-ChangeMode l new store n mode (Ok a) pen follows is same =
+    does-kept l new store (ChangeMode n mode) (Ok a) pen follows (ap (λ lists. layout_of lists store) is)
+    (subst (λ lists. IsSoundPen (layout_of lists store)) (sym is) (sound-moded (layout_of l store) n mode pen.sound))
+    (subst (λ lists. KeepsNumbers (layout_of l store) (layout_of lists store)) (sym is) (numbers-moded (layout_of l store) n mode))
+does-ChangeMode l new store n mode (Err e) pen follows is same = does-refused l new store (ChangeMode n mode) e pen follows refl same
+
+-- a removal
+pub does-Remove : (l new : Lists) (store : Store) (n : ℕ) (reply : Reply) → IsPen (layout_of l store)
+    → FollowsOver (pages_under store) l (Remove n) reply new
+    → IfOk reply (λ _. IsTakenOut (n ∷ []) l new)
+    → OnErr reply (new ≡ l)
+    → Does unshared (layout_of l store) (Remove n) reply (layout_of new store)
+does-Remove l new store n (Ok a) pen follows taken same =
+    does-taken_out l new store (Remove n) a (n ∷ []) pen follows taken (taken, refl)
+does-Remove l new store n (Err e) pen follows taken same = does-refused l new store (Remove n) e pen follows refl same
+
+-- a removal of a range
+pub does-RemoveRange : (l new : Lists) (store : Store) (first last : ℕ) (reply : Reply) → IsPen (layout_of l store)
+    → FollowsOver (pages_under store) l (RemoveRange first last) reply new
+    → IfOk reply (λ a. IsTakenOutRange a l new)
+    → OnErr reply (new ≡ l)
+    → Does unshared (layout_of l store) (RemoveRange first last) reply (layout_of new store)
+does-RemoveRange l new store first last (Ok (answer.Removed range)) pen follows taken same =
+    does-taken_out l new store (RemoveRange first last) (answer.Removed range) range.removed pen follows taken (taken, refl)
+does-RemoveRange l new store first last (Ok _) pen follows taken same = absurd taken
+does-RemoveRange l new store first last (Err e) pen follows taken same =
+    does-refused l new store (RemoveRange first last) e pen follows refl same
+
+-- a listing
+pub does-Listing : (l : Lists) (store : Store) (options : ListOptions) (reply : Reply) → IsPen (layout_of l store)
+    → FollowsOver (pages_under store) l (Listing options) reply l
+    → Does unshared (layout_of l store) (Listing options) reply (layout_of l store)
+does-Listing l store options (Ok a) pen follows = does-nothing l store (Listing options) (Ok a) pen follows refl
+does-Listing l store options (Err e) pen follows = does-nothing l store (Listing options) (Err e) pen follows refl
 
 -- a read of the current tree
 pub does-Read : (l : Lists) (store : Store) (a : Ask) (reply : Reply) → IsPen (layout_of l store)

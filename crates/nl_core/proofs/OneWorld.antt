@@ -12,8 +12,9 @@ use Rattle.nl_files.specs.Became.{Current, holding_over}
 use Rattle.nl_files.specs.Held.{Holding, inodes_of_holding}
 use Rattle.nl_core.specs.Laws.{MeansOneWorld}
 use Rattle.nl_core.specs.Means.{CopyMeans, CurrentMeans, RootMeans}
-use Rattle.nl_core.specs.Volume.{kept_by}
-use Rattle.nl_core.specs.declared.checkpoint.Checkpoint.{Checkpoint}
+use Rattle.nl_cpfile.specs.Tables.{root_in}
+use Rattle.nl_core.specs.Volume.{kept_by, latest_root}
+use Rattle.nl_cpfile.specs.declared.checkpoint.Checkpoint.{Checkpoint}
 use Rattle.nl_core.proofs.Holdings.{one-held}
 
 -- what is held stands for one tree
@@ -43,7 +44,7 @@ copy-one : (pages : Pages) (c : Checkpoint) (copy other : ℕ × Copy) → CopyM
     → CopyMeans pages c other → copy ≡ other
 copy-one pages c copy other m n =
     let number = m.number ∙ sym n.number in
-    let tree = root-one pages c.root copy.1.tree other.1.tree m.tree n.tree in
+    let tree = root-one pages (root_in c) copy.1.tree other.1.tree m.tree n.tree in
     let mode = m.mode ∙ sym n.mode in
     let stamp = m.stamp ∙ sym n.stamp in
     λ i. (number i, record { tree = tree i; mode = mode i; stamp = stamp i })
@@ -63,7 +64,7 @@ copies-one pages (c ∷ kept) (x ∷ xs) (y ∷ ys) m n =
 
 pub means_one : MeansOneWorld
 means_one pages l w other m n =
-    let tree = current-one pages l.latest.root l.current w.tree other.tree m.tree n.tree in
+    let tree = current-one pages (latest_root l) l.current w.tree other.tree m.tree n.tree in
     let dirty = m.dirty ∙ sym n.dirty in
     let copies = copies-one pages (kept_by l) w.copies other.copies m.copies n.copies in
     let mounts = m.mounts ∙ sym n.mounts in

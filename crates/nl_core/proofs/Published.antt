@@ -22,10 +22,11 @@ use Rattle.nl_files.specs.Became.{Current, holding_over}
 use Rattle.nl_files.specs.Held.{Holding}
 use Rattle.nl_files.specs.Staying.{CheckpointStays}
 use Rattle.nl_files.specs.TreeLaws.{StandsOverLatest}
-use Rattle.nl_core.specs.declared.checkpoint.Checkpoint.{Checkpoint}
+use Rattle.nl_cpfile.specs.declared.checkpoint.Checkpoint.{Checkpoint}
 use Rattle.nl_core.specs.Layout.{HasWritten, IsSoundPen, Layout, MeansWorld, ledger_of, pages_in}
 use Rattle.nl_core.specs.Means.{CopyMeans, CurrentMeans, Means, RootMeans}
-use Rattle.nl_core.specs.Volume.{Lists, kept_by, mount_of}
+use Rattle.nl_cpfile.specs.Tables.{root_in}
+use Rattle.nl_core.specs.Volume.{Lists, kept_by, latest_root, mount_of}
 use Rattle.nl_core.proofs.Checkpoints.{kept-next, kept-stay, latest-next, number-next, stands-behind}
 use Rattle.nl_core.proofs.Ledgers.{stands-latest}
 
@@ -82,19 +83,19 @@ ends-in pages (k ∷ kept) c (copy ∷ copies) means =
 
 module _ (pages : Pages) (l : Lists) (w : World) (means : Means pages l w) where
   -- how the copies end
-  ends : EndsIn pages l.latest w.copies
-  ends = ends-in pages l.earlier l.latest w.copies means.copies
+  ends : EndsIn pages l.table.latest w.copies
+  ends = ends-in pages l.table.earlier l.table.latest w.copies means.copies
 
   -- they ascend
   sorted : IsTrue (is_sorted nat_cmp (ends.front ++ ends.last ∷ []))
   sorted = subst (λ (copies : List (ℕ × Copy)). IsTrue (is_sorted nat_cmp copies)) ends.is means.world.numbers_rise
 
   -- the latest number of a world is the latest checkpoint's
-  pub latest-means : latest w ≡ l.latest.number
+  pub latest-means : latest w ≡ l.table.latest.number
   latest-means = ap (λ copies. greatest (numbers copies)) ends.is ∙ greatest-push ends.front ends.last sorted ∙ ends.means.number
 
   -- and so is the latest stamp
-  pub latest_stamp-means : latest_stamp w ≡ l.latest.stamp
+  pub latest_stamp-means : latest_stamp w ≡ l.table.latest.stamp
   latest_stamp-means =
       let stamp_of : Option Copy → ℕ = λ found. option_map_or (λ (copy : Copy). copy.stamp) found 0 in
       ap (λ copies. stamp_of (find nat_cmp (greatest (numbers copies)) copies)) ends.is
@@ -114,11 +115,12 @@ copies-push pages (k ∷ kept) (d ∷ copies) c copy means here = (means.0, copi
 
 -- a checkpoint that stays stands for its copy
 copy-stays : (pages more : Pages) (c : Checkpoint) (copy : ℕ × Copy)
-    → CheckpointStays pages more (root_of c.root) → CopyMeans pages c copy → CopyMeans more c copy
+    → CheckpointStays pages more (root_of (root_in c)) → CopyMeans pages c copy → CopyMeans more c copy
 copy-stays pages more c copy stays means = record {
   number = means.number;
   mode = means.mode;
   stamp = means.stamp;
+  inodes = means.inodes;
   tree = record {
     held = means.tree.held;
     holds = record { stores = stays.stores means.tree.held means.tree.holds.stores; sound = means.tree.holds.sound };
@@ -128,22 +130,22 @@ copy-stays pages more c copy stays means = record {
 
 -- and so do all
 copies-stay : (pages more : Pages) (kept : List Checkpoint) (copies : List (ℕ × Copy))
-    → All (λ (c : Checkpoint). CheckpointStays pages more (root_of c.root)) kept
+    → All (λ (c : Checkpoint). CheckpointStays pages more (root_of (root_in c))) kept
     → AllZip (CopyMeans pages) kept copies → AllZip (CopyMeans more) kept copies
 copies-stay pages more [] [] stay means = means
 copies-stay pages more [] (copy ∷ copies) stay means = absurd means
 copies-stay pages more (c ∷ kept) [] stay means = absurd means
 copies-stay pages more (c ∷ kept) (copy ∷ copies) stay means = (
-  copy-stays pages more c copy (All-head (λ (c : Checkpoint). CheckpointStays pages more (root_of c.root)) c kept stay) means.0,
-  copies-stay pages more kept copies (All-tail (λ (c : Checkpoint). CheckpointStays pages more (root_of c.root)) c kept stay) means.1,
+  copy-stays pages more c copy (All-head (λ (c : Checkpoint). CheckpointStays pages more (root_of (root_in c))) c kept stay) means.0,
+  copies-stay pages more kept copies (All-tail (λ (c : Checkpoint). CheckpointStays pages more (root_of (root_in c))) c kept stay) means.1,
 )
 
 -- ---- the next checkpoint
 
 -- a tree that stands over the latest checkpoint is meant
 pub current-means : (l : Layout) (base : Holding) (tree : Tree)
-    → StandsOverLatest (ledger_of l) (root_of l.lists.latest.root) l.lists.current base tree
-    → CurrentMeans (pages_in l) l.lists.latest.root l.lists.current tree
+    → StandsOverLatest (ledger_of l) (root_of (latest_root l.lists)) l.lists.current base tree
+    → CurrentMeans (pages_in l) (latest_root l.lists) l.lists.current tree
 current-means l base tree stands = record {
   base = base;
   holds = record { stores = stands.latest.stores; sound = stands.base_sound };
@@ -152,8 +154,8 @@ current-means l base tree stands = record {
 
 -- where nothing differs from the checkpoint, that stands for the tree too
 pub root-means : (l : Layout) (now : Current) (base : Holding) (tree : Tree)
-    → StandsOverLatest (ledger_of l) (root_of l.lists.latest.root) (record now { became = [] }) base tree
-    → RootMeans (pages_in l) l.lists.latest.root tree
+    → StandsOverLatest (ledger_of l) (root_of (latest_root l.lists)) (record now { became = [] }) base tree
+    → RootMeans (pages_in l) (latest_root l.lists) tree
 root-means l now base tree stands = record {
   held = base;
   holds = record { stores = stands.latest.stores; sound = stands.base_sound };
@@ -171,10 +173,10 @@ world_behind w mode moment = record w { dirty = false; copies = w.copies ++ (lat
 module _ (old new : Layout) (mode : Mode) (moment : ℕ) (sound : IsSoundPen old) (writes : HasWritten mode moment old new)
     (cleaned : Reply) (w : World) (means : MeansWorld old w) where
   -- the world takes the step
-  stepped : step cleaned w (event.Checkpoint mode moment) ≡ (Ok (answer.Checkpoint new.lists.latest.number), world_behind w mode moment)
+  stepped : step cleaned w (event.Checkpoint mode moment) ≡ (Ok (answer.Checkpoint new.lists.table.latest.number), world_behind w mode moment)
   stepped =
-      let number : latest w ≡ old.lists.latest.number = latest-means (pages_in old) old.lists w means in
-      let next : latest w + 1 ≡ new.lists.latest.number = ap (λ n. n + 1) number ∙ sym (number-next old new mode moment writes) in
+      let number : latest w ≡ old.lists.table.latest.number = latest-means (pages_in old) old.lists w means in
+      let next : latest w + 1 ≡ new.lists.table.latest.number = ap (λ n. n + 1) number ∙ sym (number-next old new mode moment writes) in
       let left = writes.left in
       subst (λ n. step cleaned w (event.Checkpoint mode moment) ≡ (Ok (answer.Checkpoint n), world_behind w mode moment)) next
       (cond-false (nat_le checkpoint_number_limit (latest w + 1)) (Err NumbersSpent, w)
@@ -184,28 +186,29 @@ module _ (old new : Layout) (mode : Mode) (moment : ℕ) (sound : IsSoundPen old
   abbrev held : Holding
   held = holding_over old.lists.current.became means.tree.base
 
-  stands : StandsOverLatest (ledger_of new) (root_of new.lists.latest.root) new.lists.current held w.tree
+  stands : StandsOverLatest (ledger_of new) (root_of (latest_root new.lists)) new.lists.current held w.tree
   stands = stands-behind old new mode moment sound means.tree.base w.tree (stands-latest old sound w.tree means.tree) writes
 
   current : new.lists.current ≡ record old.lists.current { became = [] }
   current = ap (λ (l : Lists). l.current) writes.lists
 
   -- the new checkpoint stands for the copy
-  copied : CopyMeans (pages_in new) new.lists.latest (latest w + 1, copy_behind w mode moment)
+  copied : CopyMeans (pages_in new) new.lists.table.latest (latest w + 1, copy_behind w mode moment)
   copied = record {
     number = ap (λ n. n + 1) (latest-means (pages_in old) old.lists w means) ∙ sym (number-next old new mode moment writes);
     mode = sym (ap (λ (c : Checkpoint). c.mode) (latest-next old new mode moment writes));
     stamp = ap (max moment) (latest_stamp-means (pages_in old) old.lists w means)
         ∙ sym (ap (λ (c : Checkpoint). c.stamp) (latest-next old new mode moment writes));
+    inodes = ap (λ (c : Checkpoint). c.inodes) (latest-next old new mode moment writes) ∙ sym means.tree.stands.stands.count;
     tree = root-means new old.lists.current held w.tree
-        (subst (λ (now : Current). StandsOverLatest (ledger_of new) (root_of new.lists.latest.root) now held w.tree) current stands);
+        (subst (λ (now : Current). StandsOverLatest (ledger_of new) (root_of (latest_root new.lists)) now held w.tree) current stands);
   }
 
   copies_behind : AllZip (CopyMeans (pages_in new)) (kept_by new.lists) (world_behind w mode moment).copies
   copies_behind =
       subst (λ (kept : List Checkpoint). AllZip (CopyMeans (pages_in new)) kept (world_behind w mode moment).copies)
       (sym (kept-next old new mode moment writes))
-      (copies-push (pages_in new) (kept_by old.lists) w.copies new.lists.latest (latest w + 1, copy_behind w mode moment)
+      (copies-push (pages_in new) (kept_by old.lists) w.copies new.lists.table.latest (latest w + 1, copy_behind w mode moment)
       (copies-stay (pages_in old) (pages_in new) (kept_by old.lists) w.copies (kept-stay old new mode moment writes sound) means.copies)
       copied)
 
@@ -222,5 +225,5 @@ module _ (old new : Layout) (mode : Mode) (moment : ℕ) (sound : IsSoundPen old
 
   -- the world that the step leaves
   pub means-published : (after : World) × (IsWorld after → MeansWorld new after)
-      × (step cleaned w (event.Checkpoint mode moment) ≡ (Ok (answer.Checkpoint new.lists.latest.number), after))
+      × (step cleaned w (event.Checkpoint mode moment) ≡ (Ok (answer.Checkpoint new.lists.table.latest.number), after))
   means-published = (world_behind w mode moment, means_behind, stepped)

@@ -4,7 +4,7 @@ use Rattle.std.specs.Prelude.{true, length, List, ◌++◌, ◌∷◌, Ok, Err, 
 use Rattle.nl_types.specs.declared.error.VolError.{VolError}
 use Rattle.nl_types.specs.declared.error.VolError.TheVariants as error
 use Rattle.nl_types.specs.declared.event.Event.{Event}
-use Rattle.nl_types.specs.declared.event.Event.TheVariants.{Apply, Read, Checkpoint, Mount, MountRead}
+use Rattle.nl_types.specs.declared.event.Event.TheVariants.{Apply, Read, Checkpoint, ChangeMode, Remove, RemoveRange, Mount, Unmount, MountRead, Listing}
 use Rattle.nl_types.specs.declared.segment.Log.{Log}
 use Rattle.nl_types.specs.Laws.{IsJudged}
 use Rattle.nl_types.specs.Placing.{LogsFit}
@@ -12,8 +12,9 @@ use Rattle.nl_types.specs.Worlds.{Outcome}
 use Rattle.nl_types.proofs.WorldJudgements.{steps_judge}
 use Rattle.nl_dat.specs.Batches.{items_of}
 use Rattle.nl_layout.specs.declared.root.Root.{Root}
-use Rattle.nl_core.specs.Laws.{RefusalsKeepPens, RefusalsHaveReasons, NoSpaceIsTrue, NoSpaceIsSaid}
-use Rattle.nl_core.specs.Layout.{AllowedBetween, HasRefused, IsPen, LacksSpaceToSettle, Layout, Settled, cleaned}
+use Rattle.nl_core.specs.Laws.{MemoryIsTaken, RefusalsKeepPens, RefusalsHaveReasons, NoSpaceIsTrue, NoSpaceIsSaid}
+use Rattle.nl_core.specs.Volume.{latest_root}
+use Rattle.nl_core.specs.Layout.{AllowedBetween, HasRefused, IsPen, LacksSpaceToSettle, Layout, Settled, cleaned, unshared}
 use Rattle.nl_core.proofs.Settlings.{births-alike, count-items}
 
 -- what is refused but for a fault is as it was
@@ -23,7 +24,12 @@ refused_same (Checkpoint mode moment) error.Fault old new refused other = absurd
 refused_same (Checkpoint mode moment) _ old new refused other = refused.0
 refused_same (Apply change) e old new refused other = refused
 refused_same (Read ask) e old new refused other = refused
+refused_same (ChangeMode n mode) e old new refused other = refused
+refused_same (Remove n) e old new refused other = refused
+refused_same (RemoveRange first last) e old new refused other = refused
 refused_same (Mount n) e old new refused other = refused
+refused_same (Unmount m) e old new refused other = refused
+refused_same (Listing options) e old new refused other = refused
 refused_same (MountRead m ask) e old new refused other = refused
 
 pub refusals_keep_pens : (allowed : AllowedBetween) → RefusalsKeepPens allowed
@@ -37,6 +43,14 @@ refusals_have_reasons allowed old new event e held does =
       | inl is ↦
           inl (subst (λ (done : Outcome). IfErr done.0 IsJudged) is (steps_judge (cleaned old event) held.world.0 event tt))
       | inr refused ↦ let same : e ≡ refused.error = cc in inr (subst (allowed old new event) (sym same) refused.may_be)
+    ]
+
+-- memory is a reason only where it is taken
+pub memory_is_taken : MemoryIsTaken
+memory_is_taken old new event held does =
+    elim (refusals_have_reasons unshared old new event error.Memory held does) [
+      | inl judged ↦ absurd judged
+      | inr taken ↦ taken
     ]
 
 -- space is a reason only where it lacks
@@ -55,7 +69,7 @@ pub no_space_is_said : (allowed : AllowedBetween) → NoSpaceIsSaid allowed
 no_space_is_said allowed old new mode moment (Ok answer) held lacks does =
     let writes = does.touches.writes in
     let appended = writes.written.appended in
-    absurd (none-fits old new.lists.latest.root lacks writes.settled appended.logs held appended.fits)
+    absurd (none-fits old (latest_root new.lists) lacks writes.settled appended.logs held appended.fits)
 no_space_is_said allowed old new mode moment (Err error.Fault) held lacks does =
     let faulted = does.touches in
     let broken = faulted.store.broken_off in

@@ -13,6 +13,7 @@ use Rattle.nl_files.proofs.Following.{latest-hold}
 use Rattle.nl_files.proofs.OneSettling.{settlings-alike}
 use Rattle.nl_core.specs.Draft.{SettlesNow}
 use Rattle.nl_core.specs.Laws.{SettlingsAreAlike}
+use Rattle.nl_core.specs.Volume.{latest_root}
 use Rattle.nl_core.specs.Layout.{IsSoundPen, Layout, Settled, ledger_of, pages_in}
 use Rattle.nl_core.proofs.Holdings.{one-held}
 use Rattle.nl_core.proofs.Ledgers.{is-latest}
@@ -25,24 +26,24 @@ root_of-one (Chain t) Empty e = cc
 root_of-one (Chain t) (Chain u) e = let top : t ≡ u = cc in ap Chain top
 
 module _ (l : Layout) (sound : IsSoundPen l) (root other : Root) (one : Settled l root) (two : Settled l other) where
-  abbrev latest_root : roots.Root
-  latest_root = root_of l.lists.latest.root
+  abbrev old_root : roots.Root
+  old_root = root_of (latest_root l.lists)
 
   -- what is held is one
   held-one : two.held ≡ one.held
   held-one =
       two.current.holds
       ∙ (ap (holding_over l.lists.current.became)
-      (one-held (pages_in l) latest_root two.base one.base two.current.base_is one.current.base_is)
+      (one-held (pages_in l) old_root two.base one.base two.current.base_is one.current.base_is)
       ∙ sym one.current.holds)
 
   -- the latest checkpoint can be settled over
-  checkpoint : IsCheckpointRoot (content_in l.store) latest_root
-  checkpoint = latest-hold (ledger_of l) latest_root one.base sound.ledger
+  checkpoint : IsCheckpointRoot (content_in l.store) old_root
+  checkpoint = latest-hold (ledger_of l) old_root one.base sound.ledger
       (is-latest l sound one.base one.current.base_is) one.current.base_sound
 
   alike : (length one.changes.births ≡ length two.changes.births) × (root_of other ≡ root_of root)
-  alike = settlings-alike (content_in l.store) latest_root (root_of root) (root_of other) l.lists.current.became
+  alike = settlings-alike (content_in l.store) old_root (root_of root) (root_of other) l.lists.current.became
       one.held one.changes two.changes checkpoint one.current.sound one.settles
       (subst (λ (held : Holding). SettlesNow (content_in l.store) l.lists other held two.changes) held-one two.settles)
 

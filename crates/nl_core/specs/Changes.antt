@@ -6,10 +6,10 @@ use Rattle.nl_files.specs.Became.{holding_over}
 use Rattle.nl_files.specs.Changing.{HasChangedHolding}
 use Rattle.nl_files.specs.CheckpointTrees.{HoldsTree}
 use Rattle.nl_files.specs.Held.{Holding}
-use Rattle.nl_core.specs.Volume.{Lists}
+use Rattle.nl_core.specs.Volume.{Lists, latest_root}
 
 -- what the inodes of the current tree hold changes as the call says
 pub record HasChanged (pages : Pages) (change : Change) (old new : Lists) : Type 0 where
   pub base : Holding
-  pub holds : HoldsTree pages (root_of old.latest.root) base
+  pub holds : HoldsTree pages (root_of (latest_root old)) base
   pub changed : HasChangedHolding change (holding_over old.current.became base) (holding_over new.current.became base)

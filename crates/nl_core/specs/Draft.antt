@@ -13,37 +13,42 @@ use Rattle.nl_blocktree.specs.Numbering.{CanTake}
 use Rattle.nl_files.specs.Became.{IsCurrent}
 use Rattle.nl_files.specs.Held.{Holding, IsCheckpointRoot}
 use Rattle.nl_files.specs.Settles.{Settles}
-use Rattle.nl_core.specs.Volume.{Lists, next_checkpoint}
+use Rattle.nl_cpfile.specs.Tables.{root_in}
+use Rattle.nl_core.specs.Volume.{Lists, latest_root, next_checkpoint}
 use Rattle.nl_core.specs.declared.draft.Draft.{Draft}
 
 -- there is a number for one more checkpoint
 abbrev pub HasNextNumber : Lists → Type 0
-HasNextNumber l = l.latest.number + 1 < checkpoint_number_limit
+HasNextNumber l = l.table.latest.number + 1 < checkpoint_number_limit
 
 -- the current tree is one over the latest checkpoint, and holds this
 abbrev pub HoldsNow : Content → Lists → Holding → Holding → Type 0
-HoldsNow content l base held = IsCurrent content (root_of l.latest.root) l.current.became base held
+HoldsNow content l base held = IsCurrent content (root_of (latest_root l)) l.current.became base held
 
 -- the latest checkpoint can be settled over
 abbrev pub CanBeDrafted : Content → Lists → Type 0
 CanBeDrafted content l =
-    IsCheckpointRoot content (root_of l.latest.root) × (base : Holding) × (held : Holding) × HoldsNow content l base held
+    IsCheckpointRoot content (root_of (latest_root l)) × (base : Holding) × (held : Holding) × HoldsNow content l base held
+
+-- the paths of the current tree can be counted
+abbrev pub HasFewNames : Lists → Type 0
+HasFewNames l = l.current.names ≤ 524277
 
 -- the batch takes what the current tree holds to a checkpoint of this root
 abbrev pub SettlesNow : Content → Lists → Root → Holding → Changes → Type 0
 SettlesNow content l root held batch =
-    Settles content (root_of l.latest.root) (root_of root) l.current.became held batch
+    Settles content (root_of (latest_root l)) (root_of root) l.current.became held batch
 
 -- The draft of the lists' next checkpoint, for which there is a number. The store can be given its batch.
 pub record IsNextDraft (store : Store) (mode : Mode) (moment : ℕ) (l : Lists) (draft : Draft) : Type 0 where
   pub left : HasNextNumber l
-  pub checkpoint : draft.checkpoint ≡ next_checkpoint mode moment draft.checkpoint.root l
+  pub checkpoint : draft.checkpoint ≡ next_checkpoint mode moment (root_in draft.checkpoint) l
   pub settles : (base held : Holding) → HoldsNow (content_in store) l base held
-      → SettlesNow (content_in store) l draft.checkpoint.root held draft.batch
+      → SettlesNow (content_in store) l (root_in draft.checkpoint) held draft.batch
   pub fits : CanTake store draft.batch
 
 -- Why no draft is made: numbers are judged first. Space is no reason, as a batch may hold numbers above those that there are.
 abbrev pub IsDraftRefusal : Lists → VolError → Type 0
-IsDraftRefusal l NumbersSpent = checkpoint_number_limit ≤ l.latest.number + 1
+IsDraftRefusal l NumbersSpent = checkpoint_number_limit ≤ l.table.latest.number + 1
 IsDraftRefusal l Memory = HasNextNumber l
 IsDraftRefusal l e = ⊥

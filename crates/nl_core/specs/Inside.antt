@@ -1,5 +1,4 @@
 -- What the fields of the pen's tables hold.
-use Rattle.std.specs.Prelude.{◌-◌, vec_capacity, vec_len}
 use Rattle.nl_core.specs.Volume.{Lists}
 use Rattle.nl_core.specs.Tables.{Roomy}
 use Rattle.nl_core.specs.declared.tables.Tables.TheInside.{Inside}
@@ -8,11 +7,10 @@ abbrev pub lists_of : Inside → Lists
 lists_of t = record {
   current = t.current;
   dirty = t.dirty;
-  earlier = t.earlier.items;
-  latest = t.latest;
+  table = t.checkpoints.table;
   mounts = t.mounts.items;
   given = t.given;
 }
 
 abbrev pub roomy_of : Inside → Roomy
-roomy_of t = record { lists = lists_of t; room = vec_capacity t.earlier - vec_len t.earlier }
+roomy_of t = record { lists = lists_of t; room = t.checkpoints.room }

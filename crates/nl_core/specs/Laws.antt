@@ -1,18 +1,21 @@
 -- What the pen's definitions mean.
-use Rattle.std.specs.Prelude.{◌≡◌, ◌≢◌, ◌⊎◌, ℕ, List, Err, length}
+use Rattle.std.specs.Prelude.{◌≡◌, ◌≢◌, ◌⊎◌, ℕ, List, Ok, Err, length, map}
 use Rattle.nl_types.specs.declared.error.VolError.{VolError}
-use Rattle.nl_types.specs.declared.error.VolError.TheVariants.{NoSpace, Fault}
+use Rattle.nl_types.specs.declared.error.VolError.TheVariants.{NoSpace, Fault, Memory}
 use Rattle.nl_types.specs.declared.event.Event.{Event}
-use Rattle.nl_types.specs.declared.event.Event.TheVariants.{Checkpoint}
+use Rattle.nl_types.specs.declared.event.Event.TheVariants.{Checkpoint, RemoveRange}
 use Rattle.nl_types.specs.declared.event.Mode.{Mode}
+use Rattle.nl_types.specs.declared.reply.Answer.TheVariants.{Removed}
+use Rattle.nl_types.specs.declared.row.Range.{Range}
 use Rattle.nl_types.specs.Laws.{IsJudged}
+use Rattle.nl_types.specs.Lifetimes.{EachAllowed, Remove, ledger_after_all}
 use Rattle.nl_types.specs.Roots.{Pages}
 use Rattle.nl_types.specs.Worlds.{World, Reply}
-use Rattle.nl_types.specs.Runs.{Run}
+use Rattle.nl_types.specs.Runs.{Run, TakesMemory}
 use Rattle.nl_core.specs.Volume.{Lists}
 use Rattle.nl_layout.specs.declared.root.Root.{Root}
 use Rattle.nl_core.specs.Means.{Means}
-use Rattle.nl_core.specs.Layout.{AllowedBetween, IsPen, Layout, Does, DoesIn, LacksSpaceFor, MeansWorld, Runs, Settled}
+use Rattle.nl_core.specs.Layout.{AllowedBetween, IsPen, Layout, Does, DoesIn, LacksSpaceFor, MeansWorld, Runs, Settled, ledger_of, unshared}
 
 -- what a pen holds means one world at most
 abbrev pub MeansOneWorld : Type 0
@@ -55,6 +58,19 @@ NoSpaceIsSaid allowed =
     (old new : Layout) (mode : Mode) (moment : ℕ) (reply : Reply)
     → IsPen old → LacksSpaceFor old (Checkpoint mode moment) → Does allowed old (Checkpoint mode moment) reply new
     → (e : VolError) × (reply ≡ Err e) × (e ≢ Fault)
+
+-- memory is refused only to events that take it
+abbrev pub MemoryIsTaken : Type 0
+MemoryIsTaken =
+    (old new : Layout) (event : Event) → IsPen old → Does unshared old event (Err Memory) new → TakesMemory event
+
+-- a removal of a range leaves the ledger that removals of the answered numbers leave, one after another
+abbrev pub RangesGoOneByOne : AllowedBetween → Type 0
+RangesGoOneByOne allowed =
+    (old new : Layout) (first last : ℕ) (range : Range)
+    → Does allowed old (RemoveRange first last) (Ok (Removed range)) new
+    → EachAllowed (map Remove range.removed) (ledger_of old)
+    × (ledger_of new ≡ ledger_after_all (map Remove range.removed) (ledger_of old))
 
 -- whatever takes the current tree to a checkpoint writes as many blocks, and gives one root: so space is judged by what the
 -- pen holds

@@ -1,14 +1,14 @@
 -- What a pen holds, its store and device included, and what an event does to it.
-use Rattle.std.specs.Prelude.{◌≡◌, ℕ, ◌+◌, ◌<◌, ◌≤◌, List, [], ◌∷◌, true, length, max, map, All, Some, Ok, MatchResult}
+use Rattle.std.specs.Prelude.{◌≡◌, ℕ, ◌+◌, ◌<◌, ◌≤◌, List, [], ◌∷◌, true, length, max, All, Some, Ok, MatchResult}
 use Rattle.std.specs.Option.{option_map}
-use Rattle.std.specs.Ordering.{nat_cmp}
-use Rattle.std.specs.FinMap.{find}
 use Rattle.nl_types.specs.declared.error.VolError.{VolError}
 use Rattle.nl_types.specs.declared.error.VolError.TheVariants.{NoSpace, Fault, Memory, NumbersSpent}
 use Rattle.nl_types.specs.declared.event.Event.{Event}
 use Rattle.nl_types.specs.declared.event.Mode.{Mode}
-use Rattle.nl_types.specs.declared.event.Event.TheVariants.{Apply, Checkpoint, Mount}
+use Rattle.nl_types.specs.declared.event.Event.TheVariants as variant
+use Rattle.nl_types.specs.declared.event.Event.TheVariants.{Apply, ChangeMode, Checkpoint, Mount, RemoveRange, Unmount}
 use Rattle.nl_types.specs.declared.geometry.Geometry.{Geometry}
+use Rattle.nl_types.specs.declared.reply.Answer.{Answer}
 use Rattle.nl_types.specs.declared.reply.Answer.TheVariants.{Done}
 use Rattle.nl_types.specs.Lifetimes.{Numbers, Ledger, IsLedger, KeepsCovered, EndsOnce, Write, Remove, ledger_after_all, blank}
 use Rattle.nl_types.specs.Limits.{checkpoint_number_limit}
@@ -29,8 +29,9 @@ use Rattle.nl_core.specs.Changes.{HasChanged}
 use Rattle.nl_core.specs.Draft.{HasNextNumber, HoldsNow, SettlesNow}
 use Rattle.nl_core.specs.Means.{LeadsOn, Means}
 use Rattle.nl_core.specs.Tables.{blank_lists}
-use Rattle.nl_core.specs.Volume.{Lists, by_number, kept_by, next_checkpoint, published, with_change, with_mount}
-use Rattle.nl_core.specs.declared.checkpoint.Checkpoint.{Checkpoint as Kept}
+use Rattle.nl_core.specs.Volume.{IsTakenOut, IsTakenOutRange, Lists, kept_by, latest_root, next_checkpoint, published, with_change, with_checkpoint_mode, with_mount, without_mount}
+use Rattle.nl_cpfile.specs.Tables.{kept_at, root_in}
+use Rattle.nl_cpfile.specs.declared.checkpoint.Checkpoint.{Checkpoint as Kept}
 
 pub record Layout : Type 0 where
   pub lists : Lists
@@ -49,14 +50,14 @@ MeansWorld l w = Means (pages_in l) l.lists w
 
 -- the number at each place of a checkpoint: of its file of inodes, its directories and its files, nodes and data
 abbrev pub reached_by : Pages → Kept → Numbers
-reached_by pages c = numbers_of pages (roots_at pages (root_of c.root))
+reached_by pages c = numbers_of pages (roots_at pages (root_of (root_in c)))
 
 -- which numbers are in use, and which of them each kept checkpoint reaches
 abbrev pub ledger_of : Layout → Ledger
 ledger_of l = record {
   content = content_in l.store;
-  latest = l.lists.latest.number;
-  kept = λ c. option_map (reached_by (pages_in l)) (find nat_cmp c (map by_number (kept_by l.lists)));
+  latest = l.lists.table.latest.number;
+  kept = λ c. option_map (reached_by (pages_in l)) (kept_at c l.lists.table);
 }
 
 -- What is true of a pen, but that it means a world. The ledger: what each kept checkpoint reaches is exactly the numbers in
@@ -64,9 +65,9 @@ ledger_of l = record {
 -- The store: each number in use has a block of its own, and the device holds its page there.
 pub record IsSoundPen (l : Layout) : Type 0 where
   pub ledger : IsLedger (ledger_of l)
-  pub kept : All (λ c. IsTreeSound (pages_in l) (root_of c.root)) (kept_by l.lists)
-  pub latest : find nat_cmp l.lists.latest.number (map by_number (kept_by l.lists)) ≡ Some l.lists.latest
-  pub last : l.lists.latest.number < checkpoint_number_limit
+  pub kept : All (λ c. IsTreeSound (pages_in l) (root_of (root_in c))) (kept_by l.lists)
+  pub latest : kept_at l.lists.table.latest.number l.lists.table ≡ Some l.lists.table.latest
+  pub last : l.lists.table.latest.number < checkpoint_number_limit
   pub store : IsStore l.store
 
 -- and what is true of every pen: it means a world too
@@ -96,28 +97,37 @@ pub record Settled (l : Layout) (root : Root) : Type 0 where
 -- payload, the file of inodes last; every other place keeps its number, and what has no place any more ends
 abbrev pub WritesBetween : Layout → Layout → Changes → Type 0
 WritesBetween old new changes = WritesWhatDiffers (pages_in old) (pages_in new)
-    (roots_at (pages_in old) (root_of old.lists.latest.root)) (roots_at (pages_in new) (root_of new.lists.latest.root))
+    (roots_at (pages_in old) (root_of (latest_root old.lists)))
+    (roots_at (pages_in new) (root_of (latest_root new.lists)))
     6 changes.births changes.ends
 
 -- the current tree was settled and its batch written, as the next checkpoint
 pub record HasWritten (mode : Mode) (moment : ℕ) (old new : Layout) : Type 0 where
   pub left : HasNextNumber old.lists
-  pub settled : Settled old new.lists.latest.root
-  pub lists : new.lists ≡ published (next_checkpoint mode moment new.lists.latest.root old.lists) old.lists
-  pub written : IsWritten new.lists.latest.number new.lists.latest.stamp settled.changes old.store new.store
+  pub settled : Settled old (latest_root new.lists)
+  pub lists : new.lists ≡ published (next_checkpoint mode moment (latest_root new.lists) old.lists) old.lists
+  pub written : IsWritten new.lists.table.latest.number new.lists.table.latest.stamp
+      settled.changes old.store new.store
 
 -- what differs from the latest checkpoint is written, and nothing else
 pub record HasPublished (mode : Mode) (moment : ℕ) (old new : Layout) : Type 0 where
   pub writes : HasWritten mode moment old new
   pub differs : WritesBetween old new writes.settled.changes
 
-abbrev pub HasDone : Layout → Event → Layout → Type 0
-HasDone old (Checkpoint mode moment) new = HasPublished mode moment old new
-HasDone old (Apply change) new =
+abbrev pub HasDone : Layout → Event → Answer → Layout → Type 0
+HasDone old (Checkpoint mode moment) answer new = HasPublished mode moment old new
+HasDone old (Apply change) answer new =
     (new ≡ layout_of (with_change change new.lists.current old.lists) old.store)
     × HasChanged (pages_in old) change old.lists new.lists
-HasDone old (Mount n) new = new ≡ layout_of (with_mount n old.lists) old.store
-HasDone old event new = new ≡ old
+HasDone old (ChangeMode n mode) answer new =
+    new ≡ layout_of (with_checkpoint_mode n mode old.lists) old.store
+HasDone old (variant.Remove n) answer new =
+    IsTakenOut (n ∷ []) old.lists new.lists × (new.store ≡ old.store)
+HasDone old (RemoveRange first last) answer new =
+    IsTakenOutRange answer old.lists new.lists × (new.store ≡ old.store)
+HasDone old (Mount n) answer new = new ≡ layout_of (with_mount n old.lists) old.store
+HasDone old (Unmount m) answer new = new ≡ layout_of (without_mount m old.lists) old.store
+HasDone old event answer new = new ≡ old
 
 -- ---- and a refused one
 
@@ -126,7 +136,8 @@ pub record HasFaulted (moment : ℕ) (old new : Layout) : Type 0 where
   pub lists : new.lists ≡ old.lists
   pub root : Root
   pub settled : Settled old root
-  pub store : IsFaulted true (old.lists.latest.number + 1) moment (items_of settled.changes.births) old.store new.store
+  pub store : IsFaulted true (old.lists.table.latest.number + 1) moment
+      (items_of settled.changes.births) old.store new.store
 
 -- no list of logs fits what differs from the latest checkpoint
 pub record LacksSpaceToSettle (l : Layout) : Type 0 where
@@ -136,20 +147,20 @@ pub record LacksSpaceToSettle (l : Layout) : Type 0 where
 
 -- why a checkpoint is refused before anything is written: numbers are judged first, then memory, then space
 abbrev pub IsCheckpointRefusal : Layout → VolError → Type 0
-IsCheckpointRefusal l NumbersSpent = checkpoint_number_limit ≤ l.lists.latest.number + 1
+IsCheckpointRefusal l NumbersSpent = checkpoint_number_limit ≤ l.lists.table.latest.number + 1
 IsCheckpointRefusal l Memory = HasNextNumber l.lists
 IsCheckpointRefusal l NoSpace = HasNextNumber l.lists × LacksSpaceToSettle l
 IsCheckpointRefusal l e = ⊥
 
 abbrev pub HasRefused : Event → VolError → Layout → Layout → Type 0
 HasRefused (Checkpoint mode moment) Fault old new =
-    HasFaulted (max moment old.lists.latest.stamp) old new
+    HasFaulted (max moment old.lists.table.latest.stamp) old new
 HasRefused (Checkpoint mode moment) e old new = (new ≡ old) × IsCheckpointRefusal old e
 HasRefused event e old new = new ≡ old
 
 abbrev pub Touches : Layout → Event → Reply → Layout → Type 0
 Touches old event reply new =
-    MatchResult reply (λ _. HasDone old event new) (λ e. HasRefused event e old new)
+    MatchResult reply (λ answer. HasDone old event answer new) (λ e. HasRefused event e old new)
 
 -- ---- a new volume
 
@@ -159,7 +170,7 @@ blank_layout geometry pages failures = layout_of blank_lists (new_store (new_con
 
 -- from there the first checkpoint was written, of the root alone, and then the blank one went
 pub record IsFormatted (geometry : Geometry) (pages : DevicePages) (failures now : ℕ) (l : Layout) : Type 0 where
-  pub settled : Settled (blank_layout geometry pages failures) l.lists.latest.root
+  pub settled : Settled (blank_layout geometry pages failures) (latest_root l.lists)
   pub written : IsWritten 1 now settled.changes (blank_layout geometry pages failures).store l.store
   pub ledger : ledger_of l
       ≡ ledger_after_all (Write settled.changes.births settled.changes.ends ∷ Remove 0 ∷ []) blank

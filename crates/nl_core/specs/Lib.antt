@@ -1,5 +1,6 @@
 pub mod Volume
 pub mod Means
+pub mod Views
 pub mod Draft
 pub mod Changes
 pub mod Tables

@@ -1,5 +1,5 @@
 -- How what a pen holds stands for a world.
-use Rattle.std.specs.Prelude.{◌≡◌, ℕ, map}
+use Rattle.std.specs.Prelude.{◌≡◌, ℕ, length, map}
 use Rattle.std.specs.List.{AllZip}
 use Rattle.nl_types.specs.declared.event.Event.{Event}
 use Rattle.nl_types.specs.Trees.{Tree}
@@ -13,8 +13,9 @@ use Rattle.nl_files.specs.CheckpointTrees.{HoldsTree}
 use Rattle.nl_files.specs.CurrentTrees.{StandsOver}
 use Rattle.nl_files.specs.Held.{Holding}
 use Rattle.nl_files.specs.Reading.{HoldingMeans}
-use Rattle.nl_core.specs.Volume.{Lists, kept_by, mount_of}
-use Rattle.nl_core.specs.declared.checkpoint.Checkpoint.{Checkpoint}
+use Rattle.nl_cpfile.specs.Tables.{root_in}
+use Rattle.nl_cpfile.specs.declared.checkpoint.Checkpoint.{Checkpoint}
+use Rattle.nl_core.specs.Volume.{Lists, kept_by, latest_root, mount_of}
 
 -- the root of a checkpoint stands for the tree
 pub record RootMeans (pages : Pages) (root : Root) (tree : Tree) : Type 0 where
@@ -32,11 +33,12 @@ pub record CopyMeans (pages : Pages) (c : Checkpoint) (copy : ℕ × Copy) : Typ
   pub number : copy.0 ≡ c.number
   pub mode : copy.1.mode ≡ c.mode
   pub stamp : copy.1.stamp ≡ c.stamp
-  pub tree : RootMeans pages c.root copy.1.tree
+  pub inodes : c.inodes ≡ length copy.1.tree
+  pub tree : RootMeans pages (root_in c) copy.1.tree
 
 pub record Means (pages : Pages) (l : Lists) (w : World) : Type 0 where
   pub world : IsWorld w
-  pub tree : CurrentMeans pages l.latest.root l.current w.tree
+  pub tree : CurrentMeans pages (latest_root l) l.current w.tree
   pub dirty : w.dirty ≡ l.dirty
   pub copies : AllZip (CopyMeans pages) (kept_by l) w.copies
   pub mounts : w.mounts ≡ map mount_of l.mounts

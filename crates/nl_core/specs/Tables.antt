@@ -3,6 +3,7 @@ use Rattle.std.specs.Prelude.{ℕ, false, []}
 use Rattle.nl_types.specs.declared.event.Mode.TheVariants.{Plain}
 use Rattle.nl_layout.specs.declared.root.Root.TheVariants.{Empty}
 use Rattle.nl_files.specs.TreeLaws.{first_tree}
+use Rattle.nl_cpfile.specs.declared.checkpoint.Checkpoint.{Checkpoint}
 use Rattle.nl_core.specs.Volume.{Lists}
 
 pub record Roomy : Type 0 where
@@ -10,13 +11,16 @@ pub record Roomy : Type 0 where
   -- for how many more checkpoints there is room
   pub room : ℕ
 
--- before a volume is formatted: the root alone, over a checkpoint 0 without files
+-- a checkpoint 0, without files
+abbrev pub blank_checkpoint : Checkpoint
+blank_checkpoint = record { number = 0; mode = Plain; stamp = 0; root = Empty; inodes = 0 }
+
+-- before a volume is formatted: the root alone, over that checkpoint
 abbrev pub blank_lists : Lists
 blank_lists = record {
   current = first_tree;
   dirty = false;
-  earlier = [];
-  latest = record { number = 0; mode = Plain; stamp = 0; root = Empty };
+  table = record { earlier = []; latest = blank_checkpoint };
   mounts = [];
   given = 0;
 }

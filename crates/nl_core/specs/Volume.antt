@@ -1,31 +1,42 @@
 -- What a pen holds in memory.
-use Rattle.std.specs.Prelude.{ℕ, ◌+◌, ◌||◌, max, Bool, false, List, [], ◌∷◌, ◌++◌}
-use Rattle.nl_types.specs.Calls.{is_dirtying}
+use Rattle.std.specs.Prelude.{◌≡◌, ℕ, ◌+◌, ◌||◌, ◌&&◌, ◌==◌, max, not, Bool, false, List, [], ◌∷◌, ◌++◌, map, Result, Ok, Err}
+use Rattle.std.specs.List.{filter}
+use Rattle.nl_types.specs.Calls.{and_then, is_dirtying}
+use Rattle.std.specs.Option.{ok_or}
+use Rattle.std.specs.Ordering.{nat_cmp}
+use Rattle.std.specs.FinMap.{find}
+use Rattle.nl_types.specs.declared.error.VolError.{VolError}
+use Rattle.nl_types.specs.declared.error.VolError.TheVariants.{BadMount}
 use Rattle.nl_types.specs.declared.event.Change.{Change}
 use Rattle.nl_types.specs.declared.event.Mode.{Mode}
+use Rattle.nl_types.specs.declared.reply.Answer.{Answer}
+use Rattle.nl_types.specs.declared.reply.Answer.TheVariants.{Removed}
+use Rattle.nl_types.specs.declared.row.Row.{Row}
+use Rattle.nl_types.specs.Rows.{is_among, kept_row}
+use Rattle.nl_types.specs.Worlds.{is_given_up, is_mounted}
 use Rattle.nl_layout.specs.declared.root.Root.{Root}
+use Rattle.nl_cpfile.specs.Tables.{Table, all, root_in, rows, with_latest_alone, with_mode, with_next, without}
+use Rattle.nl_cpfile.specs.declared.checkpoint.Checkpoint.{Checkpoint}
 use Rattle.nl_files.specs.Became.{Current}
-use Rattle.nl_core.specs.declared.checkpoint.Checkpoint.{Checkpoint}
-use Rattle.nl_core.specs.declared.checkpoint.Mounted.{Mounted}
+use Rattle.nl_core.specs.declared.mounts.Mounted.{Mounted}
 
 -- what the tables hold
 pub record Lists : Type 0 where
   -- the current tree over the latest checkpoint
   pub current : Current
   pub dirty : Bool
-  -- the kept checkpoints but the latest one
-  pub earlier : List Checkpoint
-  pub latest : Checkpoint
+  -- the kept checkpoints
+  pub table : Table
   pub mounts : List Mounted
   -- how many mount numbers were given
   pub given : ℕ
 
 abbrev pub kept_by : Lists → List Checkpoint
-kept_by l = l.earlier ++ l.latest ∷ []
+kept_by l = all l.table
 
--- a checkpoint under its number
-abbrev pub by_number : Checkpoint → ℕ × Checkpoint
-by_number c = (c.number, c)
+-- the root of the latest checkpoint
+abbrev pub latest_root : Lists → Root
+latest_root l = root_in l.table.latest
 
 abbrev pub mount_of : Mounted → ℕ × ℕ
 mount_of m = (m.number, m.checkpoint)
@@ -45,18 +56,65 @@ with_mount checkpoint l = record l {
   given = l.given + 1;
 }
 
+abbrev pub is_other_mount : ℕ → Mounted → Bool
+is_other_mount m mounted = not (mounted.number == m)
+
+-- the lists without a mount
+abbrev pub without_mount : ℕ → Lists → Lists
+without_mount m l = record l { mounts = filter (is_other_mount m) l.mounts }
+
+-- whether there is a mount to take out
+abbrev pub unmounting : ℕ → List Mounted → Result (Unit {0}) VolError
+unmounting m mounts = and_then (ok_or (find nat_cmp m (map mount_of mounts)) BadMount) (λ _. Ok tt)
+
+-- ---- kept checkpoints
+
+-- whether what is told of a checkpoint is that of a mounted snapshot, which can't be made plain
+abbrev pub is_held : (mounted : Bool) → Mode → Result Row VolError → Bool
+is_held mounted mode (Ok row) = is_given_up row.mode mode && mounted
+is_held mounted mode (Err e) = false
+
+abbrev pub is_held_at : ℕ → Mode → Lists → Bool
+is_held_at n mode l = is_held (is_mounted (map mount_of l.mounts) n) mode (kept_row n (rows l.table))
+
+-- the lists, with this mode at the checkpoint of a number
+abbrev pub with_checkpoint_mode : ℕ → Mode → Lists → Lists
+with_checkpoint_mode n mode l = record l { table = with_mode n mode l.table }
+
+-- the lists without earlier checkpoints of some numbers
+abbrev pub without_checkpoints : List ℕ → Lists → Lists
+without_checkpoints gone l = record l { table = without gone l.table }
+
+-- earlier checkpoints of these numbers are gone, the latest one stays, and nothing else changes
+pub record IsTakenOut (gone : List ℕ) (old new : Lists) : Type 0 where
+  pub stays : is_among gone old.table.latest.number ≡ false
+  pub lists : new ≡ without_checkpoints gone old
+
+-- so are those that the answer to a removal tells
+abbrev pub IsTakenOutRange : Answer → Lists → Lists → Type 0
+IsTakenOutRange (Removed range) old new = IsTakenOut range.removed old new
+IsTakenOutRange answer old new = ⊥
+
 -- ---- a checkpoint
 
--- the checkpoint that comes next, with this root
+-- the checkpoint that comes next, with this root: it has the paths of the current tree
 abbrev pub next_checkpoint : Mode → ℕ → Root → Lists → Checkpoint
-next_checkpoint mode moment root l =
-    record { number = l.latest.number + 1; mode = mode; stamp = max moment l.latest.stamp; root = root }
+next_checkpoint mode moment root l = record {
+  number = l.table.latest.number + 1;
+  mode = mode;
+  stamp = max moment l.table.latest.stamp;
+  root = root;
+  inodes = l.current.names + 1;
+}
 
 -- the lists behind a checkpoint, from which nothing differs yet
 abbrev pub published : Checkpoint → Lists → Lists
 published checkpoint l = record l {
   current = record l.current { became = [] };
   dirty = false;
-  earlier = kept_by l;
-  latest = checkpoint;
+  table = with_next checkpoint l.table;
 }
+
+-- the lists with the latest checkpoint alone
+abbrev pub latest_alone : Lists → Lists
+latest_alone l = record l { table = with_latest_alone l.table }

@@ -1,5 +1,5 @@
 //! A checkpoint that is not published yet.
-use crate::checkpoint::Checkpoint;
+use nl_cpfile::Checkpoint;
 use nl_dat::Batch;
 
 /// The next checkpoint, and what a store has to write for it.

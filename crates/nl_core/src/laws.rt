@@ -1,6 +1,6 @@
 //! What the pen's definitions mean, as contracts of functions that do nothing.
 ghost use Rattle.nl_core.specs.Layout.{unshared};
-ghost use Rattle.nl_core.specs.Laws.{MeansOneWorld, EventsLeadOn, RunsLeadOn, RefusalsKeepPens, RefusalsHaveReasons, NoSpaceIsSaid, NoSpaceIsTrue, SettlingsAreAlike};
+ghost use Rattle.nl_core.specs.Laws.{MeansOneWorld, EventsLeadOn, RunsLeadOn, RefusalsKeepPens, RefusalsHaveReasons, NoSpaceIsSaid, NoSpaceIsTrue, MemoryIsTaken, RangesGoOneByOne, SettlingsAreAlike};
 
 /// A pen means one world at most.
 pub fn pens_mean_one_world()
@@ -23,6 +23,17 @@ pub fn refusals_keep_pens()
 /// or the event takes memory.
 pub fn refusals_have_reasons()
     ensures { RefusalsHaveReasons unshared }
+{}
+
+/// Memory is refused only to events that take it: changes of modes, removals of one checkpoint and unmounts take none.
+pub fn memory_is_refused_where_it_is_taken()
+    ensures { MemoryIsTaken }
+{}
+
+/// A removal of a range leaves the same numbers in use, each with the same period, and the same checkpoints as removals of
+/// the answered ones, one after another.
+pub fn ranges_go_one_by_one()
+    ensures { RangesGoOneByOne unshared }
 {}
 
 /// A checkpoint is refused for space only where no list of logs fits what it writes. Where none fits, it is refused before

@@ -1,10 +1,11 @@
 //! The pen: a volume's current tree, checkpoints and mounts over a device, one event at a time.
 #![tactic(auto)]
 
-mod checkpoint;
 mod draft;
 pub mod laws;
+mod mounts;
 mod pen;
 mod tables;
 
+pub use nl_cpfile::Cpstat;
 pub use pen::{Pen, run};

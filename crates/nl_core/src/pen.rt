@@ -1,17 +1,26 @@
 //! The pen: what the writer of a volume holds, the device included.
-ghost use Rattle.std.specs.Prelude.{◌≡◌, ◌↔◌, ◌⊎◌, ◌<◌, IfErr, IfOk, IsErr, OnErr, IsOkUnless};
+ghost use Rattle.std.specs.Prelude.{◌≡◌, ◌↔◌, ◌⊎◌, ◌<◌, ◌≤◌, IfErr, IfOk, IsErr, IsErrOf, OnErr, IsOkUnless, length};
 ghost use Rattle.std.specs.Option.{option_map};
 ghost use Rattle.nl_types.specs.Runs.{Run};
-ghost use Rattle.nl_types.specs.Worlds.{formatted};
+ghost use Rattle.nl_types.specs.Rows.{kept_row};
+ghost use Rattle.nl_types.specs.Worlds as worlds;
+ghost use Rattle.nl_types.specs.Worlds.{World, formatted};
+ghost use Rattle.nl_cpfile.specs.Tables as cpfile;
+ghost use Rattle.nl_core.specs.Views.{counted};
+ghost use Rattle.nl_dat.specs.Described.{descs_of};
 ghost use Rattle.nl_dat.specs.Stores.{capacity, content_in, dat_entry_of, numbered_in};
+ghost use Rattle.nl_dat.specs.Summaries.{payload_row};
 
 use crate::draft::Draft;
 use crate::tables::Tables;
-use nl_dat::{Dat, DatEntry, Vstore};
+use nl_cpfile::Cpstat;
+use nl_dat::{Bdesc, Dat, DatEntry, Vstore};
 use nl_device::Device;
 use nl_segwriter::LogSpace;
 use nl_sufile::SegTable;
-use nl_types::{Answer, CheckpointNumber, Event, Geometry, Mode, Reply, VirtualNumber, VolError};
+use nl_types::{
+    Answer, CheckpointNumber, Event, Geometry, Mode, Reply, Row, Segment, VirtualNumber, VolError,
+};
 use std::alloc::Global;
 use std::marker::Model;
 
@@ -33,7 +42,7 @@ impl<D: Device> Model for Pen<D> {
     ghost invariant = { λ p. IsPen (layout_of p.tables.lists p.store.store) };
 }
 
-ghost use Rattle.nl_core.specs.Draft.{CanBeDrafted};
+ghost use Rattle.nl_core.specs.Draft.{CanBeDrafted, HasFewNames};
 ghost use Rattle.nl_core.specs.Layout.{IsPen, Does, HasRefused, HasWritten, MeansWorld, layout_of, unshared};
 ghost use Rattle.nl_types.specs.declared.event.Event.TheVariants.{Checkpoint};
 
@@ -46,10 +55,11 @@ fn write_checkpoint<V: Vstore>(
     mode: Mode,
     moment: u64,
 ) -> Result<CheckpointNumber, VolError>
-    requires { CanBeDrafted (content_in (V.store store.old)) tables.old.lists }
+    requires base { CanBeDrafted (content_in (V.store store.old)) tables.old.lists }
+    requires few { HasFewNames tables.old.lists }
     ensures written { IfOk result (λ _. HasWritten mode moment
         (layout_of tables.old.lists (V.store store.old)) (layout_of tables.new.lists (V.store store.new))) }
-    ensures number { IfOk result (λ number. number ≡ tables.new.lists.latest.number) }
+    ensures number { IfOk result (λ number. number ≡ tables.new.lists.table.latest.number) }
     ensures refused { IfErr result (λ e. HasRefused (Checkpoint mode moment) e
         (layout_of tables.old.lists (V.store store.old)) (layout_of tables.new.lists (V.store store.new))) }
 {
@@ -100,6 +110,13 @@ impl<D: Device> Pen<D> {
         })
     }
 
+    /// Every pen means a world, and is sound. This says so to its callers, and does nothing.
+    pub fn means_a_world(&self)
+        ensures { IsPen self.now }
+    {
+        let _ = &self.tables;
+    }
+
     /// What a virtual block number stands for: its period and its block, where it is in use. Refused by `BadRange` for 0 and
     /// for numbers above those that there are: one for each block of the device. It takes no memory.
     pub fn entry(&self, number: VirtualNumber) -> Result<Option<DatEntry>, VolError>
@@ -118,6 +135,59 @@ impl<D: Device> Pen<D> {
         self.store.table()
     }
 
+    /// A description of each payload block of the logs of a segment, in the order of the blocks, be their numbers in use or
+    /// not. Refused by `BadRange` where there is no such segment, and by `Memory` for the list.
+    pub fn bdescs(&self, alloc: Global, segment: Segment) -> Result<Vec<Bdesc>, VolError>
+        ensures range { IsErrOf result VolError.BadRange
+            ↔ (length self.now.store.segments.each ≤ segment) }
+        ensures kinds { IfErr result (λ e. (e ≡ VolError.BadRange) ⊎ (e ≡ VolError.Memory)) }
+        ensures descs { IfOk result (λ descs. descs.items
+            ≡ descs_of self.now.store segment (payload_row self.now.store segment)) }
+    {
+        self.store.bdescs(alloc, segment)
+    }
+
+    /// Whether the current tree may differ from the latest checkpoint's.
+    pub fn is_dirty(&self) -> bool
+        ensures layout { result ≡ self.now.lists.dirty }
+        ensures world { (w : World) → MeansWorld self.now w → result ≡ w.dirty }
+    {
+        self.tables.is_dirty()
+    }
+
+    /// The latest checkpoint's number.
+    pub fn latest(&self) -> CheckpointNumber
+        ensures layout { result ≡ self.now.lists.table.latest.number }
+        ensures world { (w : World) → MeansWorld self.now w → result ≡ worlds.latest w }
+    {
+        self.tables.latest()
+    }
+
+    /// What is told of a kept checkpoint. It takes no memory. Refused by `NoCheckpoint` where it isn't kept.
+    pub fn cpinfo(&self, number: CheckpointNumber) -> Result<Row, VolError>
+        ensures layout { result ≡ kept_row number (cpfile.rows self.now.lists.table) }
+        ensures world { (w : World) → MeansWorld self.now w
+            → result ≡ kept_row number (worlds.rows w) }
+    {
+        self.tables.cpinfo(number)
+    }
+
+    /// How many checkpoints and snapshots are kept, and the latest one's number. It takes no memory.
+    pub fn cpstat(&self) -> Cpstat
+        ensures layout { result ≡ cpfile.cpstat_of self.now.lists.table }
+        ensures world { (w : World) → MeansWorld self.now w → result ≡ counted w }
+    {
+        self.tables.cpstat()
+    }
+
+    /// How many mounts there are.
+    pub fn mount_count(&self) -> usize
+        ensures layout { result ≡ length self.now.lists.mounts }
+        ensures world { (w : World) → MeansWorld self.now w → result ≡ length w.mounts }
+    {
+        self.tables.mount_count()
+    }
+
     /// One event. A refusal leaves the world as it was. `NoSpace` comes only of a checkpoint of which no list of logs fits
     /// what differs, `Fault` only where the device failed during a checkpoint, and `Memory` only by want of memory.
     /// `nl_core::laws` has what follows.
@@ -134,10 +204,17 @@ impl<D: Device> Pen<D> {
                 *mode,
                 *moment,
             ),
+            Event::ChangeMode(number, mode) => self.tables.change_mode(*number, *mode),
+            Event::Remove(number) => self.tables.remove(*number),
+            Event::RemoveRange { first, last } => self
+                .tables
+                .remove_range(self.alloc, *first, *last),
             Event::Mount(number) => self.tables.mount(*number),
+            Event::Unmount(mount) => self.tables.unmount(*mount),
             Event::MountRead(mount, ask) => self
                 .tables
                 .read_mounted(self.alloc, &self.store, *mount, ask),
+            Event::Listing(options) => self.tables.listing(self.alloc, options),
         }
     }
 }

@@ -1,23 +1,25 @@
 //! What the pen holds in memory: the current tree, kept checkpoints and mounts. Their blocks are in a store, under virtual
 //! block numbers.
-ghost use Rattle.std.specs.Prelude.{◌≡◌, ◌<◌, [], IfErr, IfOk, OnErr, OnOk, IsOkUnless, map};
-ghost use Rattle.std.specs.Option.{option_copied};
-ghost use Rattle.std.specs.Ordering.{nat_cmp};
-ghost use Rattle.std.specs.FinMap.{find};
+ghost use Rattle.std.specs.Prelude.{◌≡◌, ◌<◌, [], ◌∷◌, IfErr, IfOk, OnErr, OnOk, IsOkUnless, length};
 ghost use Rattle.nl_types.specs.Calls as calls;
 ghost use Rattle.nl_types.specs.Roots.{Pages};
+ghost use Rattle.nl_types.specs.Rows.{kept_row};
+ghost use Rattle.nl_types.specs.Worlds as worlds;
+ghost use Rattle.nl_cpfile.specs.Tables as cpfile;
 ghost use Rattle.nl_types.specs.Worlds.{World};
 ghost use Rattle.nl_dat.specs.Stores.{content_in};
 
-use crate::checkpoint::{Checkpoint, Mounted, find_checkpoint, find_mounted};
 use crate::draft::Draft;
+use crate::mounts::{Mounted, find_mounted, is_mounted, unmount};
+use nl_cpfile::{Checkpoint, Checkpoints, Cpstat};
 use nl_dat::{Batch, VRead, Vstore};
 use nl_files::{CurrentTree, ReadTree, answer};
 use nl_layout::Root;
-use nl_types::{Answer, Ask, Change, CheckpointNumber, Mode, MountNumber, Reply, VolError};
+use nl_types::{
+    Answer, Ask, Change, CheckpointNumber, ListOptions, Mode, MountNumber, Reply, Row, VolError,
+};
 use std::alloc::Global;
 use std::marker::Model;
-use std::mem::replace;
 
 /// The greatest number of a checkpoint.
 const LAST_CHECKPOINT: u64 = u64::MAX - 1;
@@ -27,8 +29,7 @@ const LAST_CHECKPOINT: u64 = u64::MAX - 1;
 pub struct Tables {
     current: CurrentTree,
     dirty: bool,
-    earlier: Vec<Checkpoint>,
-    latest: Checkpoint,
+    checkpoints: Checkpoints,
     mounts: Vec<Mounted>,
     given: u64,
 }
@@ -44,31 +45,71 @@ impl Model for Tables {
 }
 
 impl Tables {
-    ghost use Rattle.nl_types.specs.declared.event.Event.TheVariants.{Apply, Read, Mount, MountRead};
+    ghost use Rattle.nl_types.specs.declared.event.Event.TheVariants.{Apply, Read, ChangeMode, Remove, RemoveRange, Mount, Unmount, MountRead, Listing};
+    ghost use Rattle.nl_cpfile.specs.Tables.{ComesNext};
     ghost use Rattle.nl_core.specs.Changes.{HasChanged};
-    ghost use Rattle.nl_core.specs.Draft.{CanBeDrafted, IsDraftRefusal, IsNextDraft};
+    ghost use Rattle.nl_core.specs.Draft.{CanBeDrafted, HasFewNames, IsDraftRefusal, IsNextDraft};
     ghost use Rattle.nl_core.specs.Means.{FollowsOver, Means};
     ghost use Rattle.nl_core.specs.Tables.{blank_lists};
-    ghost use Rattle.nl_core.specs.Volume.{by_number, kept_by, published, with_change, with_mount};
+    ghost use Rattle.nl_core.specs.Volume.{IsTakenOut, IsTakenOutRange, is_held_at, latest_alone, latest_root, published, with_change, with_checkpoint_mode, with_mount, without_mount};
 
     /// The tables before a volume is formatted: the root alone, over a checkpoint 0 without files. Refused by `Memory` alone.
     pub fn blank(alloc: Global) -> Result<Tables, VolError>
         ensures blank { IfOk result (λ tables. tables.lists ≡ blank_lists) }
         ensures refused { IsOkUnless result VolError.Memory }
     {
+        let blank = Checkpoint {
+            number: CheckpointNumber::new(0),
+            mode: Mode::Plain,
+            stamp: 0,
+            root: Root::Empty,
+            inodes: 0,
+        };
         Ok(Tables {
             current: CurrentTree::first(alloc)?,
             dirty: false,
-            earlier: Vec::new(alloc),
-            latest: Checkpoint {
-                number: CheckpointNumber::new(0),
-                mode: Mode::Plain,
-                stamp: 0,
-                root: Root::Empty,
-            },
+            checkpoints: Checkpoints::new(alloc, blank),
             mounts: Vec::new(alloc),
             given: 0,
         })
+    }
+
+    pub fn is_dirty(&self) -> bool
+        ensures { result ≡ self.now.lists.dirty }
+    {
+        self.dirty
+    }
+
+    /// The latest checkpoint's number.
+    pub fn latest(&self) -> CheckpointNumber
+        ensures { result ≡ self.now.lists.table.latest.number }
+    {
+        self.checkpoints.latest().number
+    }
+
+    pub fn cpinfo(&self, number: CheckpointNumber) -> Result<Row, VolError>
+        ensures { result ≡ kept_row number (cpfile.rows self.now.lists.table) }
+    {
+        self.checkpoints.cpinfo(number)
+    }
+
+    pub fn cpstat(&self) -> Cpstat
+        ensures { result ≡ cpfile.cpstat_of self.now.lists.table }
+    {
+        self.checkpoints.cpstat()
+    }
+
+    pub fn mount_count(&self) -> usize
+        ensures { result ≡ length self.now.lists.mounts }
+    {
+        self.mounts.len()
+    }
+
+    /// The root of the latest checkpoint, over which the current tree stands.
+    fn base_root(&self) -> Root
+        ensures { result ≡ latest_root self.now.lists }
+    {
+        self.checkpoints.latest().root
     }
 
     /// A change of the current tree. Refused as the call is, and by `Memory`.
@@ -81,7 +122,7 @@ impl Tables {
             HasChanged (V.pages store.now) change.now self.old.lists self.new.lists) }
         ensures same { OnErr result (self.new.lists ≡ self.old.lists) }
     {
-        let base = ReadTree::new(store, self.latest.root);
+        let base = ReadTree::new(store, self.base_root());
         let answer = self.current.change(alloc, &base, change)?;
         self.dirty = self.dirty || is_dirtying(change);
         Ok(answer)
@@ -91,19 +132,8 @@ impl Tables {
     pub fn read<V: VRead>(&self, alloc: Global, store: &V, ask: &Ask) -> Reply
         ensures { FollowsOver (V.pages store.now) self.now.lists (Read ask.now) result self.now.lists }
     {
-        let base = ReadTree::new(store, self.latest.root);
+        let base = ReadTree::new(store, self.base_root());
         answer(alloc, &self.current.view(&base), ask)
-    }
-
-    /// The kept checkpoint of a number.
-    fn kept(&self, number: CheckpointNumber) -> Option<&Checkpoint>
-        ensures { option_copied result ≡ find nat_cmp number (map by_number (kept_by self.now.lists)) }
-    {
-        match find_checkpoint(&self.earlier, number) {
-            Some(checkpoint) => Some(checkpoint),
-            None if self.latest.number == number => Some(&self.latest),
-            None => None,
-        }
     }
 
     /// Mounts a snapshot. Refused by `NoCheckpoint` where there is none of the number, by `NotSnapshot` where it is a plain
@@ -114,7 +144,7 @@ impl Tables {
         ensures mounted { IfOk result (λ _. self.new.lists ≡ with_mount number self.old.lists) }
         ensures same { OnErr result (self.new.lists ≡ self.old.lists) }
     {
-        match self.kept(number) {
+        match self.checkpoints.kept(number) {
             None => return Err(VolError::NoCheckpoint),
             Some(checkpoint) => match checkpoint.mode {
                 Mode::Plain => return Err(VolError::NotSnapshot),
@@ -148,10 +178,87 @@ impl Tables {
         let Some(number) = find_mounted(&self.mounts, mount) else {
             return Err(VolError::BadMount);
         };
-        let Some(checkpoint) = self.kept(number) else {
+        let Some(checkpoint) = self.checkpoints.kept(number) else {
             return Err(VolError::BadMount);
         };
         answer(alloc, &ReadTree::new(store, checkpoint.root), ask)
+    }
+
+    /// Keeps a checkpoint in this mode, without memory. Refused by `NoCheckpoint` where it isn't kept, and by `Mounted` where
+    /// a mounted snapshot would become plain.
+    pub fn change_mode(&mut self, number: CheckpointNumber, mode: Mode) -> Reply
+        ensures follows { (pages : Pages)
+            → FollowsOver pages self.old.lists (ChangeMode number mode) result self.new.lists }
+        ensures changed { IfOk result (λ _.
+            self.new.lists ≡ with_checkpoint_mode number mode self.old.lists) }
+        ensures same { OnErr result (self.new.lists ≡ self.old.lists) }
+    {
+        if self.is_held(number, mode) {
+            return Err(VolError::Mounted);
+        }
+        self.checkpoints.set_mode(number, mode)?;
+        Ok(Answer::Done)
+    }
+
+    /// Whether a mount keeps a checkpoint from this mode: a mounted snapshot stays one.
+    fn is_held(&self, number: CheckpointNumber, mode: Mode) -> bool
+        ensures { result ≡ is_held_at number mode self.now.lists }
+    {
+        let mounted = is_mounted(&self.mounts, number);
+        match self.checkpoints.cpinfo(number) {
+            Ok(row) => is_given_up(row.mode, mode) && mounted,
+            Err(_) => false,
+        }
+    }
+
+    /// Removes a checkpoint, without memory. Refused by `NoCheckpoint` where it isn't kept, by `IsSnapshot` where it is a
+    /// snapshot, and by `Latest` where it is the latest one.
+    pub fn remove(&mut self, number: CheckpointNumber) -> Reply
+        ensures follows { (pages : Pages)
+            → FollowsOver pages self.old.lists (Remove number) result self.new.lists }
+        ensures removed { IfOk result (λ _. IsTakenOut (number ∷ []) self.old.lists self.new.lists) }
+        ensures same { OnErr result (self.new.lists ≡ self.old.lists) }
+    {
+        self.checkpoints.remove(number)?;
+        Ok(Answer::Done)
+    }
+
+    /// Removes the checkpoints of a range but for snapshots and the latest one, and answers what became of each. Refused by
+    /// `BadRange` where the first number is 0 or above the last one, by `NoCheckpoint` where none of the range is kept, and
+    /// by `Memory`.
+    pub fn remove_range(
+        &mut self,
+        alloc: Global,
+        first: CheckpointNumber,
+        last: CheckpointNumber,
+    ) -> Reply
+        ensures follows { (pages : Pages)
+            → FollowsOver pages self.old.lists (RemoveRange first last) result self.new.lists }
+        ensures removed { IfOk result (λ answer. IsTakenOutRange answer self.old.lists self.new.lists) }
+        ensures same { OnErr result (self.new.lists ≡ self.old.lists) }
+    {
+        let range = self.checkpoints.remove_range(alloc, first, last)?;
+        Ok(Answer::Removed(range))
+    }
+
+    /// Gives a mount back, without memory. Refused by `BadMount` where there is no such mount.
+    pub fn unmount(&mut self, mount: MountNumber) -> Reply
+        ensures follows { (pages : Pages)
+            → FollowsOver pages self.old.lists (Unmount mount) result self.new.lists }
+        ensures gone { IfOk result (λ _. self.new.lists ≡ without_mount mount self.old.lists) }
+        ensures same { OnErr result (self.new.lists ≡ self.old.lists) }
+    {
+        unmount(&mut self.mounts, mount)?;
+        Ok(Answer::Done)
+    }
+
+    /// What is told of the kept checkpoints that a listing shows. Refused by `Memory` alone.
+    pub fn listing(&self, alloc: Global, options: &ListOptions) -> Reply
+        ensures { (pages : Pages)
+            → FollowsOver pages self.now.lists (Listing options.now) result self.now.lists }
+    {
+        let rows = self.checkpoints.listing(alloc, options)?;
+        Ok(Answer::Rows(rows))
     }
 
     /// The next checkpoint, with all the memory that it takes. Refused by `NumbersSpent` and `Memory`.
@@ -162,26 +269,27 @@ impl Tables {
         mode: Mode,
         moment: u64,
     ) -> Result<Draft, VolError>
-        requires { CanBeDrafted (content_in (V.store store.now)) self.old.lists }
+        requires base { CanBeDrafted (content_in (V.store store.now)) self.old.lists }
+        requires few { HasFewNames self.old.lists }
         ensures same { self.new.lists ≡ self.old.lists }
         ensures drafted { IfOk result (IsNextDraft (V.store store.now) mode moment self.old.lists) }
         ensures refused { IfErr result (IsDraftRefusal self.old.lists) }
         ensures room { OnOk result (0 < self.new.room) }
     {
-        if self.latest.number.get() >= LAST_CHECKPOINT {
+        let latest = *self.checkpoints.latest();
+        if latest.number.get() >= LAST_CHECKPOINT {
             return Err(VolError::NumbersSpent);
         }
-        self.earlier.reserve(1)?;
+        self.checkpoints.reserve()?;
         let mut batch = Batch::new(alloc);
-        let root = self
-            .current
-            .settle(alloc, store, self.latest.root, &mut batch)?;
+        let root = self.current.settle(alloc, store, latest.root, &mut batch)?;
         Ok(Draft {
             checkpoint: Checkpoint {
-                number: CheckpointNumber::new(self.latest.number.get() + 1),
+                number: CheckpointNumber::new(latest.number.get() + 1),
                 mode,
-                stamp: moment.max(self.latest.stamp),
+                stamp: moment.max(latest.stamp),
                 root,
+                inodes: self.current.names() + 1,
             },
             batch,
         })
@@ -189,15 +297,13 @@ impl Tables {
 
     /// Keeps the next checkpoint, whose blocks are written, and answers its number.
     pub fn publish(&mut self, checkpoint: Checkpoint) -> CheckpointNumber
-        requires { 0 < self.old.room }
+        requires room { 0 < self.old.room }
+        requires next { ComesNext checkpoint self.old.lists.table }
         ensures lists { self.new.lists ≡ published checkpoint self.old.lists }
         ensures number { result ≡ checkpoint.number }
     {
         let number = checkpoint.number;
-        let replaced = replace(&mut self.latest, checkpoint);
-        if self.earlier.push(replaced).is_err() {
-            unreachable!();
-        }
+        self.checkpoints.add(checkpoint);
         self.current.settled();
         self.dirty = false;
         number
@@ -205,10 +311,17 @@ impl Tables {
 
     /// Forgets all checkpoints but the latest one.
     pub fn forget_earlier(&mut self)
-        ensures { self.new.lists ≡ record self.old.lists { earlier = [] } }
+        ensures { self.new.lists ≡ latest_alone self.old.lists }
     {
-        self.earlier.clear();
+        self.checkpoints.forget_earlier();
     }
+}
+
+/// Whether a snapshot becomes plain.
+fn is_given_up(old: Mode, new: Mode) -> bool
+    ensures { result ≡ worlds.is_given_up old new }
+{
+    old.is_snapshot() && !new.is_snapshot()
 }
 
 /// Whether a change that is done may make the current tree differ from the latest checkpoint's.

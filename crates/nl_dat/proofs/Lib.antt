@@ -19,3 +19,5 @@ pub mod MovedOut
 pub mod NumberAt
 pub mod MovedNumbers
 pub mod CountedRows
+pub mod StoredLogs
+pub mod DescribedRows

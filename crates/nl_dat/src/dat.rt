@@ -1,11 +1,12 @@
 //! The table of virtual block numbers, over a space.
-ghost use Rattle.std.specs.Prelude.{◌≡◌, ◌↔◌, ◌⊎◌, ℕ, ◌+◌, ◌<◌, length, IfOk, OnErr, IsErr, IsOkUnless, Some};
+ghost use Rattle.std.specs.Prelude.{◌≡◌, ◌↔◌, ◌⊎◌, ℕ, ◌+◌, ◌<◌, ◌≤◌, length, IfErr, IfOk, OnErr, IsErr, IsErrOf, IsOkUnless, Some};
 ghost use Rattle.std.specs.Option.{option_map};
 ghost use Rattle.nl_dat.specs.Stores.{IsStore};
 ghost use Rattle.nl_dat.specs.Inside.{store_of, IsTable};
 ghost use Rattle.nl_dat.specs.OneProof.{IsStore-prop, IsTable-prop};
 
 use crate::batch::Batch;
+use crate::bdesc::{Bdesc, describe_row};
 use crate::entries::{
     DatEntry, Period, empty_places, end_entries, enter_births, entry_at, first_free, move_entries,
     number_in, number_with,
@@ -14,11 +15,11 @@ use crate::moving::{count_payload, load_all, row_tag};
 use crate::reclaim::take_out;
 use crate::store::{VRead, Vstore};
 use nl_layout::Tag;
-use nl_segwriter::Space;
+use nl_segwriter::{Payload, Space};
 use nl_sufile::SegTable;
 use nl_types::laws::payload_goes_to_unused_blocks;
 use nl_types::{CheckpointNumber, Items, Page, Segment, VirtualNumber, VolError};
-use std::alloc::Global;
+use std::alloc::{AllocError, Global};
 use std::marker::Model;
 
 /// The table of virtual block numbers, over the space that has their pages. Its length never changes, so no call but
@@ -52,6 +53,8 @@ impl<S: Space> Model for Dat<S> {
 }
 
 impl<S: Space> Dat<S> {
+    ghost use Rattle.nl_dat.specs.Summaries.{payload_row};
+    ghost use Rattle.nl_dat.specs.Described.{descs_of};
     ghost use Rattle.nl_dat.specs.Stores.{new_store, address_in, block_in, capacity, numbered_in, dat_entry_of};
 
     /// The table over a space, with no number in use. Refused by `Memory` alone; the space is dropped then.
@@ -88,6 +91,32 @@ impl<S: Space> Dat<S> {
         ensures { result.now ≡ self.now.store.segments }
     {
         self.space.table()
+    }
+
+    /// A description of each payload block of the logs of a segment, in the order of the blocks, be their numbers in use or
+    /// not. Refused by `BadRange` where there is no such segment, and by `Memory` for the list.
+    pub fn bdescs(&self, alloc: Global, segment: Segment) -> Result<Vec<Bdesc>, VolError>
+        ensures range { IsErrOf result VolError.BadRange
+            ↔ (length self.now.store.segments.each ≤ segment) }
+        ensures kinds { IfErr result (λ e. (e ≡ VolError.BadRange) ⊎ (e ≡ VolError.Memory)) }
+        ensures descs { IfOk result (λ descs. descs.items
+            ≡ descs_of self.now.store segment (payload_row self.now.store segment)) }
+    {
+        self.space.table().suinfo(segment)?;
+        match self.described(alloc, segment) {
+            Ok(descs) => Ok(descs),
+            Err(_) => Err(VolError::Memory),
+        }
+    }
+
+    fn described(&self, alloc: Global, segment: Segment) -> Result<Vec<Bdesc>, AllocError>
+        requires { segment < length self.now.store.segments.each }
+        ensures { IfOk result (λ descs. descs.items
+            ≡ descs_of self.now.store segment (payload_row self.now.store segment)) }
+    {
+        let first = segment.get() * self.space.table().blocks();
+        let row = self.space.summary(segment);
+        describe_row(alloc, self.table.as_slice(), row, first)
     }
 
     /// The number that the payload at a position of a segment was written for: no other number's page can stand there.
@@ -169,6 +198,10 @@ impl<S: Space> Vstore for Dat<S> {
 
     fn tag(&self, segment: Segment, position: u32) -> Option<Tag> {
         row_tag(self.space.summary(segment), position)
+    }
+
+    fn payload(&self, segment: Segment) -> &[Option<Payload>] {
+        self.space.summary(segment)
     }
 
     fn payload_count(&self, segment: Segment) -> u32 {

@@ -66,6 +66,14 @@ pub(crate) fn entry_at(table: &[Option<DatEntry>], number: VirtualNumber) -> Opt
     }
 }
 
+/// Where the page of a number stands, where the number is in use.
+pub(crate) fn block_at(table: &[Option<DatEntry>], number: VirtualNumber) -> Option<BlockNumber>
+    ensures { result ≡ addresses_of (entry_in table.now) number }
+{
+    let entry = entry_at(table, number)?;
+    Some(entry.block)
+}
+
 /// The number of the payload at a position of a row, if there is payload.
 pub(crate) fn number_in(row: &[Option<Payload>], position: u32) -> Option<VirtualNumber>
     ensures { result ≡ option_map number_of_payload (slice_index_or row.now position None) }

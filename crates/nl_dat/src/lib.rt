@@ -2,13 +2,16 @@
 #![tactic(auto)]
 
 mod batch;
+mod bdesc;
 mod dat;
 mod entries;
+pub mod laws;
 mod moving;
 mod reclaim;
 mod store;
 
 pub use batch::Batch;
+pub use bdesc::Bdesc;
 pub use dat::Dat;
 pub use entries::{DatEntry, Period};
 pub use store::{VRead, Vstore, next_number};

@@ -5,11 +5,13 @@ ghost use Rattle.nl_types.specs.Roots.{Pages, pages_of};
 ghost use Rattle.nl_dat.specs.Batches.{Fits, IsLowestFree, LacksSpaceFrom, last_number};
 ghost use Rattle.nl_dat.specs.Table.{Periods, periods_of};
 ghost use Rattle.nl_dat.specs.Located.{IsNumberAt, number_at, payload_count_in};
+ghost use Rattle.nl_dat.specs.Summaries.{IsOfLogs, payload_row};
 ghost use Rattle.nl_dat.specs.Stores.{Store, IsStore, HasNoneFree, IsWritten, IsWriteRefused, AreInside, IsMoved, IsMoveRefused, IsReclaimed, block_in, capacity, content_in, tag_in};
 
 use crate::batch::Batch;
 use crate::entries::Period;
 use nl_layout::Tag;
+use nl_segwriter::Payload;
 use nl_types::{CheckpointNumber, Page, Segment, VirtualNumber, VolError};
 use std::alloc::Global;
 
@@ -81,6 +83,13 @@ pub trait Vstore: VRead {
         requires segment { segment < length (store self.now).segments.each }
         requires position { position < (store self.now).segments.blocks }
         ensures { result ≡ tag_in (store self.now) (block_in (store self.now) segment position) };
+
+    /// The blocks in the used part of a segment, in order: none at a summary block, and at a payload block what the summary of
+    /// its log says of it, with its page, be its number in use or not. It takes no memory.
+    fn payload(&self, segment: Segment) -> &[Option<Payload>]
+        requires { segment < length (store self.now).segments.each }
+        ensures row { result.now ≡ payload_row (store self.now) segment }
+        ensures logs { IsOfLogs (store self.now) segment result.now };
 
     /// How many blocks of the logs of a segment have payload, be their numbers in use or not.
     fn payload_count(&self, segment: Segment) -> u32

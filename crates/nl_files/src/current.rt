@@ -52,6 +52,13 @@ impl CurrentTree {
         })
     }
 
+    /// How many paths there are beside the root.
+    pub fn names(&self) -> u64
+        ensures { result ≡ self.now.names }
+    {
+        self.overlay.names
+    }
+
     /// Nothing differs from the checkpoint that was made of this tree.
     pub fn settled(&mut self)
         ensures settled { self.new ≡ record self.old { became = [] } }

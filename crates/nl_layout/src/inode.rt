@@ -71,7 +71,7 @@ impl InodeEntry {
 }
 
 impl Inode {
-    fn to_bytes(self) -> [u8; INODE_SIZE]
+    pub(crate) fn to_bytes(self) -> [u8; INODE_SIZE]
         ensures bytes { result ≡ inode_bytes self }
         ensures fits { InodeFits self }
     {
@@ -132,7 +132,7 @@ impl Root {
 }
 
 /// What stands in the fields of an entry, whatever the other bytes are. None where a kind is none.
-fn from_fields(bytes: &[u8]) -> Option<InodeEntry>
+pub(crate) fn from_fields(bytes: &[u8]) -> Option<InodeEntry>
     requires { length bytes.now ≡ 128 }
     ensures { result ≡ entry_at bytes.now }
 {

@@ -1,6 +1,8 @@
-//! Blocks of the log as bytes: the summary block at the head of each log, the nodes above the data of a file, and inodes.
+//! Blocks of the log as bytes: the summary block at the head of each log, the nodes above the data of a file, and inodes; and
+//! the entries of the checkpoint file.
 #![tactic(auto)]
 
+mod checkpoint_entry;
 mod inode;
 mod level;
 mod node;
@@ -8,6 +10,7 @@ mod root;
 mod summary;
 mod tag;
 
+pub use checkpoint_entry::{CHECKPOINT_SIZE, CheckpointEntry};
 pub use inode::{INODE_SIZE, Inode, InodeEntry, InodeKind};
 pub use level::Level;
 pub use node::{NEXT, Node, SLOTS};

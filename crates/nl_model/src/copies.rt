@@ -1,13 +1,18 @@
 //! Lists of kept checkpoints.
-ghost use Rattle.std.specs.Prelude.{◌≡◌};
+ghost use Rattle.std.specs.Prelude.{◌≡◌, IfOk};
 ghost use Rattle.std.specs.Option.{option_copied};
 ghost use Rattle.std.specs.Ordering.{nat_cmp};
 ghost use Rattle.std.specs.FinMap.{find};
-ghost use Rattle.nl_types.specs.Worlds.{greatest, greatest_stamp, numbers, is_snapshot};
+ghost use Rattle.nl_types.specs.Rows.{is_among};
+ghost use Rattle.nl_types.specs.Worlds.{greatest, greatest_stamp, numbers, copies_with_mode, copies_without};
 
-use crate::tree::Tree;
-use nl_types::{CheckpointNumber, Mode};
+use crate::tree::{self, Tree};
+use nl_types::{CheckpointNumber, Items, Mode};
+use std::alloc::{AllocError, Global};
 use std::marker::Model;
+
+/// The kept checkpoints with their numbers, ascending.
+pub type Copies = Items<(CheckpointNumber, Kept)>;
 
 /// A kept checkpoint, plain or a snapshot, as nilfs2.rst tells them apart.
 #[derive(Drop)]
@@ -62,11 +67,64 @@ pub fn find_copy(copies: &[(CheckpointNumber, Kept)], n: CheckpointNumber) -> Op
     }
 }
 
-pub fn is_snapshot_mode(mode: Mode) -> bool
-    ensures { result ≡ is_snapshot mode }
+fn copy_kept(alloc: Global, kept: &Kept) -> Result<Kept, AllocError>
+    ensures { IfOk result (λ copy. copy ≡ kept.now) }
 {
-    match mode {
-        Mode::Plain => false,
-        Mode::Snapshot => true,
+    Ok(Kept {
+        tree: tree::copy(alloc, kept.tree.as_slice())?,
+        mode: kept.mode,
+        stamp: kept.stamp,
+    })
+}
+
+/// The copies, with this mode at a number.
+pub fn with_mode(
+    alloc: Global,
+    copies: &[(CheckpointNumber, Kept)],
+    n: CheckpointNumber,
+    mode: Mode,
+) -> Result<Copies, AllocError>
+    ensures { IfOk result (λ new. new ≡ copies_with_mode n mode copies.now) }
+{
+    match copies {
+        [] => Ok(Items::new(alloc)),
+        [first, rest @ ..] => {
+            let mut new = with_mode(alloc, rest, n, mode)?;
+            let mut kept = copy_kept(alloc, &first.1)?;
+            if first.0.get() == n.get() {
+                kept.mode = mode;
+            }
+            new.push_front((first.0, kept))?;
+            Ok(new)
+        }
+    }
+}
+
+fn is_among(numbers: &[CheckpointNumber], n: CheckpointNumber) -> bool
+    ensures { result ≡ is_among numbers.now n }
+{
+    match numbers {
+        [] => false,
+        [first, rest @ ..] => first.get() == n.get() || is_among(rest, n),
+    }
+}
+
+/// The copies without those of some numbers.
+pub fn without(
+    alloc: Global,
+    copies: &[(CheckpointNumber, Kept)],
+    gone: &[CheckpointNumber],
+) -> Result<Copies, AllocError>
+    ensures { IfOk result (λ new. new ≡ copies_without gone.now copies.now) }
+{
+    match copies {
+        [] => Ok(Items::new(alloc)),
+        [first, rest @ ..] => {
+            let mut new = without(alloc, rest, gone)?;
+            if !is_among(gone, first.0) {
+                new.push_front((first.0, copy_kept(alloc, &first.1)?))?;
+            }
+            Ok(new)
+        }
     }
 }

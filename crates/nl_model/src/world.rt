@@ -1,16 +1,22 @@
 //! The volume: a current tree, whole copies of earlier trees, and mounts of these.
-ghost use Rattle.std.specs.Prelude.{◌≡◌, IfOk};
-ghost use Rattle.std.specs.Ordering.{nat_cmp};
-ghost use Rattle.std.specs.FinMap.{find};
+ghost use Rattle.std.specs.Prelude.{◌≡◌, IfOk, Ok, OnOk, OnErr};
+ghost use Rattle.nl_types.specs.declared.reply.Answer.TheVariants.{Rows};
 ghost use Rattle.nl_types.specs.Calls.{IsUnlessMemory};
-ghost use Rattle.nl_types.specs.Worlds.{formatted, apply_change, checkpoint, mount, mount_read, IsDoneUnlessMemory};
+ghost use Rattle.nl_types.specs.Rows.{listing};
+ghost use Rattle.nl_types.specs.Worlds.{formatted, rows, apply_change, checkpoint, change_mode, take_out, remove, remove_range, mount, unmount, mount_read, IsDoneUnlessMemory};
 ghost use Rattle.nl_model.specs.Model.{ModelStep};
 
-use crate::copies::{Kept, find_copy, greatest_number, is_snapshot_mode, stamp_of_latest};
+use crate::copies::{
+    Copies, Kept, find_copy, greatest_number, stamp_of_latest, with_mode, without,
+};
 use crate::dispatch::{make, marks_dirty, reply};
+use crate::judging::{find_row, range_removal, removal, rows_of};
+use crate::listing::listing;
+use crate::mounts::{Mounts, find_mount, is_mounted, without_mount};
 use crate::tree::{self, Tree, root_alone_tree};
 use nl_types::{
-    Answer, Ask, Change, CheckpointNumber, Event, Items, Mode, MountNumber, Reply, VolError,
+    Answer, Ask, Change, CheckpointNumber, Event, Items, ListOptions, Mode, MountNumber, Reply,
+    VolError,
 };
 use std::alloc::{AllocError, Global};
 use std::marker::Model;
@@ -21,9 +27,8 @@ pub struct World {
     tree: Tree,
     /// Whether the current tree may differ from the latest copy.
     dirty: bool,
-    copies: Items<(CheckpointNumber, Kept)>,
-    /// The checkpoint that each mount shows.
-    mounts: Items<(MountNumber, CheckpointNumber)>,
+    copies: Copies,
+    mounts: Mounts,
     /// How many mount numbers were given.
     given: u64,
 }
@@ -40,24 +45,6 @@ impl Model for World {
       mounts = w.mounts;
       given = w.given;
     } };
-}
-
-fn find_mount(
-    mounts: &[(MountNumber, CheckpointNumber)],
-    m: MountNumber,
-) -> Option<CheckpointNumber>
-    ensures { result ≡ find nat_cmp m mounts.now }
-{
-    match mounts {
-        [] => None,
-        [first, rest @ ..] => {
-            if m.get().cmp(&first.0.get()).is_eq() {
-                Some(first.1)
-            } else {
-                find_mount(rest, m)
-            }
-        }
-    }
 }
 
 impl World {
@@ -110,13 +97,62 @@ impl World {
         Ok(Answer::Checkpoint(n))
     }
 
+    fn set_mode(&mut self, alloc: Global, n: CheckpointNumber, mode: Mode) -> Reply
+        ensures { IsDoneUnlessMemory result self.new self.old (change_mode self.old n mode) }
+    {
+        let told = rows_of(alloc, self.copies.as_slice())?;
+        let Some(row) = find_row(told.as_slice(), n) else {
+            return Err(VolError::NoCheckpoint);
+        };
+        let is_given_up = row.mode.is_snapshot() && !mode.is_snapshot();
+        let is_shown = is_mounted(self.mounts.as_slice(), n);
+        if is_given_up && is_shown {
+            return Err(VolError::Mounted);
+        }
+        self.copies = with_mode(alloc, self.copies.as_slice(), n, mode)?;
+        Ok(Answer::Done)
+    }
+
+    fn take_out(&mut self, alloc: Global, gone: &[CheckpointNumber]) -> Result<(), AllocError>
+        ensures ok { OnOk result (self.new ≡ take_out gone.now self.old) }
+        ensures err { OnErr result (self.new ≡ self.old) }
+    {
+        self.copies = without(alloc, self.copies.as_slice(), gone)?;
+        Ok(())
+    }
+
+    fn remove_one(&mut self, alloc: Global, n: CheckpointNumber) -> Reply
+        ensures { IsDoneUnlessMemory result self.new self.old (remove self.old n) }
+    {
+        let latest = greatest_number(self.copies.as_slice());
+        let told = rows_of(alloc, self.copies.as_slice())?;
+        removal(told.as_slice(), n, latest)?;
+        self.take_out(alloc, &[n])?;
+        Ok(Answer::Done)
+    }
+
+    fn remove_between(
+        &mut self,
+        alloc: Global,
+        first: CheckpointNumber,
+        last: CheckpointNumber,
+    ) -> Reply
+        ensures { IsDoneUnlessMemory result self.new self.old (remove_range self.old first last) }
+    {
+        let latest = greatest_number(self.copies.as_slice());
+        let told = rows_of(alloc, self.copies.as_slice())?;
+        let range = range_removal(alloc, told.as_slice(), first, last, latest)?;
+        self.take_out(alloc, range.removed.as_slice())?;
+        Ok(Answer::Removed(range))
+    }
+
     fn add_mount(&mut self, n: CheckpointNumber) -> Reply
         ensures { IsDoneUnlessMemory result self.new self.old (mount self.old n) }
     {
         let Some(kept) = find_copy(self.copies.as_slice(), n) else {
             return Err(VolError::NoCheckpoint);
         };
-        if !is_snapshot_mode(kept.mode) {
+        if !kept.mode.is_snapshot() {
             return Err(VolError::NotSnapshot);
         }
         if self.given == u64::MAX {
@@ -127,6 +163,23 @@ impl World {
         self.mounts.push((m, n))?;
         self.given = given;
         Ok(Answer::Mount(m))
+    }
+
+    fn give_back(&mut self, alloc: Global, m: MountNumber) -> Reply
+        ensures { IsDoneUnlessMemory result self.new self.old (unmount self.old m) }
+    {
+        if find_mount(self.mounts.as_slice(), m).is_none() {
+            return Err(VolError::BadMount);
+        }
+        self.mounts = without_mount(alloc, self.mounts.as_slice(), m)?;
+        Ok(Answer::Done)
+    }
+
+    fn list_copies(&self, alloc: Global, options: &ListOptions) -> Reply
+        ensures { IsUnlessMemory result (Ok (Rows (listing options.now (rows self.now)))) }
+    {
+        let told = rows_of(alloc, self.copies.as_slice())?;
+        Ok(Answer::Rows(listing(alloc, told, options)?))
     }
 
     fn read_mount(&self, alloc: Global, m: MountNumber, asked: &Ask) -> Reply
@@ -172,10 +225,21 @@ impl World {
     /// - A checkpoint goes by mkcp(8): it keeps the current tree under the next number, as a
     ///   snapshot if that is asked for, also where nothing changed. Its stamp is never below the
     ///   latest one's. `NumbersSpent` where the numbers have run out.
+    /// - A change of a mode goes by chcp(8): `NoCheckpoint` where the checkpoint is not kept,
+    ///   `Mounted` where a snapshot that is mounted would become plain. A checkpoint that has the
+    ///   mode stays as it is.
+    /// - A removal goes by rmcp(8): `NoCheckpoint` where the checkpoint is not kept, `IsSnapshot`
+    ///   where it is a snapshot, `Latest` where it is the latest one.
+    /// - A removal of a range removes each plain checkpoint in it but the latest one, and tells why
+    ///   the others stay. `BadRange` where the first number is 0 or above the last, `NoCheckpoint`
+    ///   where no kept number lies between.
     /// - A mount goes by nilfs2.rst: it is read-only, and of a snapshot alone. `NoCheckpoint` where
     ///   the checkpoint is not kept, `NotSnapshot` where it is plain, `NumbersSpent` where the
     ///   numbers have run out.
+    /// - An unmount gives a mount back, whose number is not given again. `BadMount` where no such
+    ///   mount stands.
     /// - A read of a mount is a read of the snapshot's tree. `BadMount` where no such mount stands.
+    /// - A listing goes by lscp(1).
     pub fn apply(&mut self, alloc: Global, event: &Event) -> Reply
         ensures { ModelStep self.old event.now result self.new }
     {
@@ -183,8 +247,13 @@ impl World {
             Event::Apply(asked) => self.change(alloc, asked),
             Event::Read(asked) => reply(alloc, self.tree.as_slice(), asked),
             Event::Checkpoint { mode, moment } => self.add_checkpoint(alloc, *mode, *moment),
+            Event::ChangeMode(n, mode) => self.set_mode(alloc, *n, *mode),
+            Event::Remove(n) => self.remove_one(alloc, *n),
+            Event::RemoveRange { first, last } => self.remove_between(alloc, *first, *last),
             Event::Mount(n) => self.add_mount(*n),
+            Event::Unmount(m) => self.give_back(alloc, *m),
             Event::MountRead(m, asked) => self.read_mount(alloc, *m, asked),
+            Event::Listing(options) => self.list_copies(alloc, options),
         }
     }
 }

@@ -1,4 +1,8 @@
-pub mod Commands
+pub mod Events
+pub mod Outcomes
+pub mod OutcomeTexts
 pub mod ExitStatus
-pub mod Options
-pub mod Splitting
+pub mod Lines
+pub mod Scripts
+pub mod Pens
+pub mod Sessions

@@ -1,13 +1,23 @@
-//! Scripts: a line to an event of the volume, its reply to text, and all lines to an exit status.
+//! Scripts over a volume: each line's command becomes events, and what these came to becomes text and a status.
 #![tactic(auto)]
 
-mod arguments;
-mod command;
-mod error;
-mod outcome;
+mod events;
+mod lines;
+mod pen;
+mod running;
+mod scripts;
 mod sessions;
 mod status;
-mod words;
+mod telling;
+#[cfg(test)]
+mod tests;
+mod volume;
 
+pub use events::{events_of, is_quiet};
+pub use lines::{LineResult, run_line};
+pub use running::run_events;
+pub use scripts::{Done, script};
 pub use sessions::session;
 pub use status::Status;
+pub use telling::{line_status, tell_all};
+pub use volume::Volume;

@@ -1,96 +1,127 @@
-//! A script's lines, run one after the other on one volume.
-ghost use Rattle.std.specs.Prelude.{◌≤◌};
+//! A session of the program: the words behind its name, and then a script on a new volume in memory.
+ghost use Rattle.std.specs.Prelude.{◌≡◌, ◌≤◌, map, IfErr, IfOk, IsOkUnless};
+ghost use Rattle.nl_arguments.specs.Statuses.{fault_status};
+ghost use Rattle.nl_script.specs.Sessions.{IsMemoryOrFault, IsNewVolume, IsScriptRun, IsSession, RunsOnNew, RunsOrRefuses};
 
-use crate::command::read_line;
-use crate::error::LineError;
-use crate::outcome::Outcome;
-use crate::status::Status;
+use crate::scripts::{Done, script};
+use nl_arguments::{Arguments, ArgumentsFault, Asked, read};
 use nl_core::Pen;
 use nl_device::MemDevice;
+use nl_texts::{StartStep, start_text};
 use nl_types::{Geometry, VolError};
 use std::alloc::Global;
-use std::io::{BufRead, BufReader, BufWriter, Read, Write};
+use std::io::{BufReader, BufWriter, Read, Write};
 
-/// How many segments the volume has, and how many blocks each of them.
-const SEGMENTS: u32 = 64;
-
-const BLOCKS: u32 = 64;
-
-/// When the volume is formatted.
+/// When the volume is formatted, and the moment of the first lines, in whole seconds.
 const MOMENT: u64 = 0;
 
-/// A fresh volume in memory.
-fn new_volume(alloc: Global) -> Result<Pen<MemDevice>, VolError> {
-    let geometry = Geometry::new(SEGMENTS, BLOCKS)?;
+/// A new volume in memory.
+fn new_volume(alloc: Global, geometry: Geometry) -> Result<Pen<MemDevice>, VolError>
+    ensures made { IfOk result (IsNewVolume geometry) }
+    ensures refused { IfErr result IsMemoryOrFault }
+{
     let device = MemDevice::new(alloc, geometry)?;
     Pen::format(alloc, device, geometry, MOMENT)
 }
 
-/// Runs one line, without its line break.
-fn run_line(alloc: Global, pen: &mut Pen<MemDevice>, line: &[u8]) -> Outcome {
-    match read_line(alloc, line) {
-        Ok(None) => Outcome::Nothing,
-        Ok(Some(event)) => match pen.apply(&event) {
-            Ok(answer) => Outcome::Answered(answer),
-            Err(error) => Outcome::Refused(error),
-        },
-        Err(LineError::Usage) => Outcome::Misread,
-        Err(LineError::Memory) => Outcome::Refused(VolError::Memory),
-    }
-}
-
-/// Runs the lines up to the end of the input, or until a stream fails.
-fn run_lines<I: BufRead + Drop, O: Write>(
+/// Makes the buffers, and runs the script. Refused by `Memory`, no line was run.
+fn run_on<I: Read + Drop, O: Write + Drop>(
     alloc: Global,
     pen: &mut Pen<MemDevice>,
     input: I,
-    output: &mut O,
-) -> Status {
-    let mut status = Status::Fine;
-    let mut number = 0u64;
-    for line in input.split(alloc, b'\n') {
-        number = number.saturating_add(1);
-        let Ok(line) = line else {
-            return status.and(Status::Refused);
-        };
-        let outcome = run_line(alloc, pen, line.as_slice());
-        status = status.and(outcome.status());
-        if outcome.print(number, output).is_err() {
-            return status.and(Status::Refused);
-        }
-    }
-    status
-}
-
-/// Makes the volume and the buffers, and runs the script. Refused, no line was run.
-fn run_script<I: Read + Drop, O: Write + Drop>(
-    alloc: Global,
-    input: I,
     output: O,
-) -> Result<Status, VolError> {
-    let mut pen = new_volume(alloc)?;
+) -> Result<Done, VolError>
+    ensures run { IfOk result (λ done.
+        IsScriptRun (I.remaining input) (O.contents output) pen.old done) }
+    ensures refused { IsOkUnless result VolError.Memory }
+{
     let input = BufReader::new(alloc, input).map_err(|_| VolError::Memory)?;
     let mut output = BufWriter::new(alloc, output).map_err(|_| VolError::Memory)?;
-    Ok(run_lines(alloc, &mut pen, input, &mut output))
+    Ok(script(alloc, pen, MOMENT, input, &mut output))
 }
 
-/// Runs a script on a fresh volume in memory, and answers the exit status: 2 where a line was no
-/// command, else 1 where one was refused or a stream failed, else 0. What the lines answer goes to
-/// the output, and to `errors` only why no line could be run.
-pub fn session<R: AllocGlobal, I: Read + Drop, O: Write + Drop, E: Write + Drop>(
-    rt: &R,
+/// Runs the script on a new volume. Refused, no line was run.
+fn run_script<I: Read + Drop, O: Write + Drop>(
+    alloc: Global,
+    geometry: Geometry,
     input: I,
     output: O,
-    mut errors: E,
-) -> u8
-    ensures { result ≤ 2 }
+) -> Result<Done, VolError>
+    ensures run { IfOk result (λ done.
+        RunsOnNew geometry (I.remaining input) (O.contents output) done) }
+    ensures refused { IfErr result IsMemoryOrFault }
 {
-    let status = match run_script(rt.alloc(), input, output) {
-        Ok(status) => status,
-        Err(error) => {
-            let _ = writeln!(errors, "start: error {} {}", error.number(), error.name());
-            Status::Refused
-        }
+    let mut pen = new_volume(alloc, geometry)?;
+    run_on(alloc, &mut pen, input, output)
+}
+
+/// Tells of a refusal before the first line, and answers the status for it.
+fn refused<E: Write>(step: StartStep, error: VolError, errors: &mut E) -> u8
+    ensures { result ≡ 1 }
+{
+    // Where this can't be told either, the status still says that something was refused.
+    let _ = start_text(step, error, errors);
+    1
+}
+
+/// Writes the text that a person asked for.
+fn told<O: Write + Drop>(text: &str, mut output: O) -> u8
+    ensures { result ≤ 1 }
+{
+    let written = output
+        .write_all(text.as_bytes())
+        .and_then(|()| output.flush());
+    u8::from(written.is_err())
+}
+
+/// Tells what is wrong with the words.
+fn misread<E: Write>(fault: &ArgumentsFault, errors: &mut E) -> u8
+    ensures { result ≡ fault_status fault.now }
+{
+    // Where this can't be told, the status still says it.
+    let _ = match fault {
+        ArgumentsFault::Misread(text) => errors.write_all(text.as_bytes()),
+        ArgumentsFault::Memory => start_text(StartStep::Start, VolError::Memory, errors),
     };
-    status.code()
+    fault.status()
+}
+
+fn run<I: Read + Drop, O: Write + Drop, E: Write>(
+    alloc: Global,
+    arguments: Arguments,
+    input: I,
+    output: O,
+    errors: &mut E,
+) -> u8
+    ensures { RunsOrRefuses arguments (I.remaining input) (O.contents output)
+        errors.old errors.new result }
+{
+    let geometry = match arguments.geometry() {
+        Ok(geometry) => geometry,
+        Err(error) => return refused(StartStep::Geometry, error, errors),
+    };
+    match run_script(alloc, geometry, input, output) {
+        Ok(done) => done.exit_status(),
+        Err(error) => refused(StartStep::Start, error, errors),
+    }
+}
+
+/// What the words behind the program's name ask for: a script on a new volume in memory, or a text about the program.
+/// Answers the exit status: 2 where the words or a line were no command, else 1 where anything was refused or a stream
+/// failed, else 0. What the lines answer goes to the output, and to `errors` only why no line was run.
+pub fn session<R: AllocGlobal, I: Read + Drop, O: Write + Drop, E: Write>(
+    rt: &R,
+    words: &[&str],
+    input: I,
+    output: O,
+    errors: &mut E,
+) -> u8
+    ensures { IsSession (map (λ w. w.now) words.now)
+        (I.remaining input) (O.contents output) errors.old errors.new result }
+{
+    match read(rt.alloc(), words) {
+        Ok(Asked::Run(arguments)) => run(rt.alloc(), arguments, input, output, errors),
+        Ok(Asked::Help(text) | Asked::Version(text)) => told(text.as_str(), output),
+        Err(fault) => misread(&fault, errors),
+    }
 }

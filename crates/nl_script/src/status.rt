@@ -1,39 +1,12 @@
-//! The exit status of a session.
-ghost use Rattle.std.specs.Prelude.{◌≡◌, max};
+//! What a line makes of the exit status.
 
-/// How a session went, so far.
+/// What a line came to.
 #[derive(Clone, Copy, Debug, PartialEq, Eq)]
 pub enum Status {
-    /// Each line did what it asked for.
+    /// It did what it asked for.
     Fine,
-    /// A line was refused, or a stream failed.
+    /// It was refused, or something that it asked for was.
     Refused,
-    /// A line was no command.
+    /// It was no command.
     Misread,
-}
-
-impl Status {
-    ghost use Rattle.nl_script.specs.ExitStatus.{code_of};
-
-    /// What the process ends with.
-    pub fn code(self) -> u8
-        ensures { result ≡ code_of self }
-    {
-        match self {
-            Status::Fine => 0,
-            Status::Refused => 1,
-            Status::Misread => 2,
-        }
-    }
-
-    /// The status of what went so and then so: the worse one.
-    pub fn and(self, other: Status) -> Status
-        ensures { code_of result ≡ max (code_of self) (code_of other) }
-    {
-        if self.code() < other.code() {
-            other
-        } else {
-            self
-        }
-    }
 }

@@ -2,18 +2,26 @@
 //! checkpoints and looks between them.
 ghost use Rattle.std.specs.Prelude.{◌<◌};
 
-use crate::events::{ALL, Call, PLAIN, SNAPSHOT, event_of, same_reply};
+use crate::events::{ALL, Call, LISTING, PLAIN, SNAPSHOT, Shown, event_of, same_reply};
 use crate::logs::NONE_FAILS;
 use crate::volumes::volume;
 use nl_core::{Pen, run};
 use nl_device::Device;
 use nl_model::World;
-use nl_types::{Event, Reply, VolError};
+use nl_types::{Event, Mode, Reply, VolError};
 use std::alloc::{AllocError, Global};
 use std::test::Fail;
 
 /// Longer than a block.
 const LONG: &[u8] = &[b'l'; 1500];
+
+/// Three from 8 on, downwards.
+const DOWNWARDS: Shown = Shown {
+    reverse: true,
+    snapshots_only: true,
+    from: Some(8),
+    count: Some(3),
+};
 
 /// Events of each kind, refused ones among them.
 const OF_ALL_KINDS: &[Call<'static>] = &[
@@ -89,6 +97,41 @@ const OF_ALL_KINDS: &[Call<'static>] = &[
     Call::Read(b"/a", 1020, 9),
     Call::Rename(b"/a", b"/a"),
     Call::List(b"/a"),
+    LISTING,
+    Call::ChangeMode(3, Mode::Plain),
+    Call::ChangeMode(0, Mode::Plain),
+    Call::ChangeMode(10, Mode::Snapshot),
+    Call::ChangeMode(3, Mode::Snapshot),
+    Call::ChangeMode(6, Mode::Plain),
+    Call::ChangeMode(2, Mode::Snapshot),
+    Call::Mount(2),
+    Call::ReadMount(6, b"/a", 0, ALL),
+    Call::Unmount(6),
+    Call::Unmount(6),
+    Call::Unmount(0),
+    Call::ReadMount(6, b"/a", 0, ALL),
+    Call::ChangeMode(2, Mode::Plain),
+    Call::Mount(2),
+    Call::Remove(2),
+    Call::Remove(2),
+    Call::Remove(3),
+    Call::Remove(9),
+    Call::RemoveRange(0, 5),
+    Call::RemoveRange(5, 4),
+    Call::RemoveRange(2, 2),
+    Call::RemoveRange(10, u64::MAX),
+    Call::RemoveRange(1, u64::MAX),
+    Call::RemoveRange(5, 8),
+    Call::ReadMount(2, b"/b", 0, ALL),
+    Call::Unmount(1),
+    Call::ChangeMode(3, Mode::Plain),
+    Call::Remove(3),
+    Call::CheckpointAt(Mode::Snapshot, 100),
+    Call::CheckpointAt(Mode::Plain, 50),
+    Call::ChangeMode(11, Mode::Snapshot),
+    Call::Remove(11),
+    Call::Mount(11),
+    Call::Listing(DOWNWARDS),
 ];
 
 // ---- random events
@@ -127,15 +170,29 @@ fn random_path(seed: &mut u64) -> &'static [u8] {
     PATHS[next(seed, 14) as usize]
 }
 
+/// The number of a checkpoint, which may be kept, have been removed, or not have come yet.
+fn random_number(seed: &mut u64) -> u64
+    ensures { result < 220 }
+{
+    next(seed, 220)
+}
+
 fn random_call(seed: &mut u64) -> Call<'static> {
     let path = random_path(seed);
-    match next(seed, 9) {
+    let number = random_number(seed);
+    match next(seed, 16) {
         0 => Call::Create(path),
         1 => Call::Mkdir(path),
         2 | 3 => Call::Write(path, next(seed, 5000), &BYTES[..next(seed, 3000) as usize]),
         4 => Call::Truncate(path, next(seed, 6000)),
         5 => Call::Unlink(path),
         6 => Call::Rmdir(path),
+        7 => Call::ChangeMode(number, Mode::Snapshot),
+        8 => Call::ChangeMode(number, Mode::Plain),
+        9 => Call::Remove(number),
+        10 => Call::RemoveRange(number, number + next(seed, 4)),
+        11 | 12 => Call::Mount(number),
+        13 => Call::Unmount(next(seed, 20)),
         _ => Call::Rename(path, random_path(seed)),
     }
 }
@@ -170,6 +227,7 @@ const LOOKS: &[Call<'static>] = &[
     Call::Read(b"/", 0, ALL),
     Call::Stat(b"/d"),
     Call::Read(b"/d", 0, ALL),
+    LISTING,
 ];
 
 /// Adds the events of calls.

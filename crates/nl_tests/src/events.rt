@@ -1,7 +1,7 @@
 //! Events and replies, as rows write them.
 use nl_types::{
-    Answer, Ask, Change, CheckpointNumber, Event, Items, Kind, Mode, MountNumber, Named, Reply,
-    Stat, VolError,
+    Answer, Ask, Change, CheckpointNumber, Event, Items, Kind, ListOptions, Mode, MountNumber,
+    Named, Range, Reply, Stat, VolError,
 };
 use std::alloc::{AllocError, Global};
 
@@ -23,11 +23,30 @@ pub(crate) enum Call<'a> {
     List(&'a [u8]),
     Stat(&'a [u8]),
     Checkpoint(Mode),
+    /// A checkpoint at a moment; the others are at 0.
+    CheckpointAt(Mode, u64),
+    ChangeMode(u64, Mode),
+    Remove(u64),
+    RemoveRange(u64, u64),
+    Listing(Shown),
     Mount(u64),
+    Unmount(u64),
     ReadMount(u64, &'a [u8], u64, u64),
     ListMount(u64, &'a [u8]),
     StatMount(u64, &'a [u8]),
 }
+
+/// What a listing shows, and in which order.
+#[derive(Clone, Copy)]
+pub(crate) struct Shown {
+    pub(crate) reverse: bool,
+    pub(crate) snapshots_only: bool,
+    pub(crate) from: Option<u64>,
+    pub(crate) count: Option<u64>,
+}
+
+/// A checkpoint that is told of: its number, stamp, mode and inodes. None is minor.
+pub(crate) type Told = (u64, u64, Mode, u64);
 
 /// A reply, as a row writes it.
 #[derive(Clone, Copy)]
@@ -43,14 +62,29 @@ pub(crate) enum Want<'a> {
     Stat(Stat),
     Checkpoint(u64),
     Mount(u64),
+    /// The numbers of a range that are removed, and those that stay.
+    Removed(&'a [u64], &'a [(u64, VolError)]),
+    Rows(&'a [Told]),
     Refused(VolError),
 }
 
 pub(crate) type Row<'a> = (Call<'a>, Want<'a>);
 
+pub(crate) type Tables = &'static [&'static [Row<'static>]];
+
 pub(crate) const PLAIN: Call<'static> = Call::Checkpoint(Mode::Plain);
 
 pub(crate) const SNAPSHOT: Call<'static> = Call::Checkpoint(Mode::Snapshot);
+
+/// All checkpoints, ascending.
+pub(crate) const WHOLE: Shown = Shown {
+    reverse: false,
+    snapshots_only: false,
+    from: None,
+    count: None,
+};
+
+pub(crate) const LISTING: Call<'static> = Call::Listing(WHOLE);
 
 /// As the `len` of a read: all that is left of the file.
 pub(crate) const ALL: u64 = u64::MAX;
@@ -66,7 +100,9 @@ pub(crate) fn path_of<'a>(call: Call<'a>) -> &'a [u8] {
         Call::Read(path, _, _) => path,
         Call::List(path) | Call::Stat(path) | Call::ReadMount(_, path, _, _) => path,
         Call::ListMount(_, path) | Call::StatMount(_, path) => path,
-        Call::Checkpoint(_) | Call::Mount(_) => b"/f",
+        Call::Checkpoint(_) | Call::CheckpointAt(_, _) | Call::ChangeMode(_, _) => b"/f",
+        Call::Remove(_) | Call::RemoveRange(_, _) | Call::Listing(_) => b"/f",
+        Call::Mount(_) | Call::Unmount(_) => b"/f",
     }
 }
 
@@ -90,34 +126,68 @@ fn rest_of(alloc: Global, call: Call<'_>) -> Result<Items<u8>, AllocError> {
     }
 }
 
-pub(crate) fn event_of(alloc: Global, call: Call<'_>) -> Result<Event, AllocError> {
+fn options_of(shown: Shown) -> ListOptions {
+    ListOptions {
+        reverse: shown.reverse,
+        snapshots_only: shown.snapshots_only,
+        with_minor: false,
+        from: shown.from.map(CheckpointNumber::new),
+        count: shown.count,
+    }
+}
+
+/// What a call asks of a tree.
+fn ask_of(alloc: Global, call: Call<'_>) -> Result<Ask, AllocError> {
+    let path = whole_path(alloc, call)?;
+    Ok(match call {
+        Call::Read(_, offset, len) | Call::ReadMount(_, _, offset, len) => {
+            Ask::Bytes { path, offset, len }
+        }
+        Call::List(_) | Call::ListMount(_, _) => Ask::List { path },
+        _ => Ask::Stat { path },
+    })
+}
+
+/// What a call changes in the current tree.
+fn change_of(alloc: Global, call: Call<'_>) -> Result<Change, AllocError> {
     let path = whole_path(alloc, call)?;
     let rest = rest_of(alloc, call)?;
     Ok(match call {
-        Call::Create(_) | Call::CreateLong(_, _, _) => Event::Apply(Change::Create { path }),
-        Call::Mkdir(_) => Event::Apply(Change::Mkdir { path }),
-        Call::Write(_, offset, _) | Call::Fill(_, offset, _, _) => Event::Apply(Change::Write {
+        Call::Create(_) | Call::CreateLong(_, _, _) => Change::Create { path },
+        Call::Mkdir(_) => Change::Mkdir { path },
+        Call::Write(_, offset, _) | Call::Fill(_, offset, _, _) => Change::Write {
             path,
             offset,
             bytes: rest,
-        }),
-        Call::Truncate(_, size) => Event::Apply(Change::Truncate { path, size }),
-        Call::Unlink(_) => Event::Apply(Change::Unlink { path }),
-        Call::Rmdir(_) => Event::Apply(Change::Rmdir { path }),
-        Call::Rename(_, _) => Event::Apply(Change::Rename {
+        },
+        Call::Truncate(_, size) => Change::Truncate { path, size },
+        Call::Unlink(_) => Change::Unlink { path },
+        Call::Rmdir(_) => Change::Rmdir { path },
+        _ => Change::Rename {
             from: path,
             to: rest,
-        }),
-        Call::Read(_, offset, len) => Event::Read(Ask::Bytes { path, offset, len }),
-        Call::List(_) => Event::Read(Ask::List { path }),
-        Call::Stat(_) => Event::Read(Ask::Stat { path }),
+        },
+    })
+}
+
+pub(crate) fn event_of(alloc: Global, call: Call<'_>) -> Result<Event, AllocError> {
+    Ok(match call {
         Call::Checkpoint(mode) => Event::Checkpoint { mode, moment: 0 },
+        Call::CheckpointAt(mode, moment) => Event::Checkpoint { mode, moment },
+        Call::ChangeMode(n, mode) => Event::ChangeMode(CheckpointNumber::new(n), mode),
+        Call::Remove(n) => Event::Remove(CheckpointNumber::new(n)),
+        Call::RemoveRange(first, last) => Event::RemoveRange {
+            first: CheckpointNumber::new(first),
+            last: CheckpointNumber::new(last),
+        },
+        Call::Listing(shown) => Event::Listing(options_of(shown)),
         Call::Mount(n) => Event::Mount(CheckpointNumber::new(n)),
-        Call::ReadMount(m, _, offset, len) => {
-            Event::MountRead(MountNumber::new(m), Ask::Bytes { path, offset, len })
+        Call::Unmount(m) => Event::Unmount(MountNumber::new(m)),
+        Call::Read(_, _, _) | Call::List(_) | Call::Stat(_) => Event::Read(ask_of(alloc, call)?),
+        Call::ReadMount(m, _, _, _) | Call::ListMount(m, _) | Call::StatMount(m, _) => {
+            Event::MountRead(MountNumber::new(m), ask_of(alloc, call)?)
         }
-        Call::ListMount(m, _) => Event::MountRead(MountNumber::new(m), Ask::List { path }),
-        Call::StatMount(m, _) => Event::MountRead(MountNumber::new(m), Ask::Stat { path }),
+        _ => Event::Apply(change_of(alloc, call)?),
     })
 }
 
@@ -152,6 +222,41 @@ fn are_listed(names: &[Named], count: usize, first: &[u8], last: &[u8]) -> bool 
     }
 }
 
+/// Whether a range's numbers came to this.
+fn is_parted(range: &Range, removed: &[u64], stayed: &[(u64, VolError)]) -> bool {
+    for (found, number) in range.removed.as_slice().iter().zip(removed) {
+        if found.get() != *number {
+            return false;
+        }
+    }
+    for (found, (number, reason)) in range.stayed.as_slice().iter().zip(stayed) {
+        if found.number.get() != *number || found.reason != *reason {
+            return false;
+        }
+    }
+    range.removed.len() == removed.len() && range.stayed.len() == stayed.len()
+}
+
+pub(crate) fn row_of(told: Told) -> nl_types::Row {
+    let (number, stamp, mode, inodes) = told;
+    nl_types::Row {
+        number: CheckpointNumber::new(number),
+        stamp,
+        mode,
+        minor: false,
+        inodes,
+    }
+}
+
+fn are_told(rows: &[nl_types::Row], due: &[Told]) -> bool {
+    for (found, told) in rows.iter().zip(due) {
+        if *found != row_of(*told) {
+            return false;
+        }
+    }
+    rows.len() == due.len()
+}
+
 pub(crate) fn is_wanted(reply: &Reply, want: Want<'_>) -> bool {
     match (reply, want) {
         (Ok(Answer::Done), Want::Done) => true,
@@ -167,6 +272,10 @@ pub(crate) fn is_wanted(reply: &Reply, want: Want<'_>) -> bool {
         (Ok(Answer::Stat(found)), Want::Stat(want)) => *found == want,
         (Ok(Answer::Checkpoint(n)), Want::Checkpoint(want)) => n.get() == want,
         (Ok(Answer::Mount(m)), Want::Mount(want)) => m.get() == want,
+        (Ok(Answer::Removed(range)), Want::Removed(removed, stayed)) => {
+            is_parted(range, removed, stayed)
+        }
+        (Ok(Answer::Rows(rows)), Want::Rows(want)) => are_told(rows.as_slice(), want),
         (Err(e), Want::Refused(want)) => *e == want,
         _ => false,
     }
@@ -181,6 +290,11 @@ fn same_names(one: &[Named], other: &[Named]) -> bool {
     one.len() == other.len()
 }
 
+fn same_range(one: &Range, other: &Range) -> bool {
+    one.removed.as_slice() == other.removed.as_slice()
+        && one.stayed.as_slice() == other.stayed.as_slice()
+}
+
 fn same_answer(one: &Answer, other: &Answer) -> bool {
     match (one, other) {
         (Answer::Done, Answer::Done) => true,
@@ -190,6 +304,8 @@ fn same_answer(one: &Answer, other: &Answer) -> bool {
         (Answer::Mount(a), Answer::Mount(b)) => a == b,
         (Answer::Names(a), Answer::Names(b)) => same_names(a.as_slice(), b.as_slice()),
         (Answer::Stat(a), Answer::Stat(b)) => a == b,
+        (Answer::Removed(a), Answer::Removed(b)) => same_range(a, b),
+        (Answer::Rows(a), Answer::Rows(b)) => a.as_slice() == b.as_slice(),
         _ => false,
     }
 }

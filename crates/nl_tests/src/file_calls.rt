@@ -1,5 +1,5 @@
 //! Rows of file calls, on the plain program and on a pen.
-use crate::events::{ALL, Call, Row, SNAPSHOT, Want};
+use crate::events::{ALL, Call, Row, SNAPSHOT, Tables, Want};
 use crate::rows::first_unwanted;
 use Kind::{Directory, File};
 use Want::{Bytes, Done, Names, Refused, Written};
@@ -9,7 +9,7 @@ use std::alloc::Global;
 use std::test::Fail;
 
 /// Directories, and renames of and onto them.
-pub(crate) const TREES: &[Row<'static>] = &[
+const TREES: &[Row<'static>] = &[
     (Call::Mkdir(b"/a"), Done),
     (Call::Mkdir(b"/c"), Done),
     (Call::Create(b"/c/x"), Done),
@@ -46,7 +46,7 @@ pub(crate) const TREES: &[Row<'static>] = &[
 ];
 
 /// Refused renames change nothing, and one that is done takes along what lies below.
-pub(crate) const RENAMES: &[Row<'static>] = &[
+const RENAMES: &[Row<'static>] = &[
     (Call::Mkdir(b"/a"), Done),
     (Call::Mkdir(b"/c"), Done),
     (Call::Create(b"/c/x"), Done),
@@ -67,7 +67,7 @@ pub(crate) const RENAMES: &[Row<'static>] = &[
 ];
 
 /// Three levels below a directory move with it.
-pub(crate) const DEEP: &[Row<'static>] = &[
+const DEEP: &[Row<'static>] = &[
     (Call::Mkdir(b"/a"), Done),
     (Call::Mkdir(b"/a/b"), Done),
     (Call::Mkdir(b"/a/b/c"), Done),
@@ -85,7 +85,7 @@ pub(crate) const DEEP: &[Row<'static>] = &[
 ];
 
 /// Files that grow, shrink and replace one another.
-pub(crate) const FILES: &[Row<'static>] = &[
+const FILES: &[Row<'static>] = &[
     (Call::Create(b"/f"), Done),
     (Call::Write(b"/f", 5, b"end"), Written(3)),
     (Call::Read(b"/f", 0, ALL), Bytes(b"\0\0\0\0\0end")),
@@ -119,7 +119,7 @@ pub(crate) const FILES: &[Row<'static>] = &[
 ];
 
 /// A snapshot keeps a file's last byte where the current one changes.
-pub(crate) const COPIES: &[Row<'static>] = &[
+const COPIES: &[Row<'static>] = &[
     (Call::Create(b"/f"), Done),
     (Call::Fill(b"/f", 0, b'a', 1025), Written(1025)),
     (SNAPSHOT, Want::Checkpoint(2)),
@@ -132,7 +132,7 @@ pub(crate) const COPIES: &[Row<'static>] = &[
 ];
 
 /// What is no path, and what has a part that is no name: names have 255 bytes at most, and paths 4,095.
-pub(crate) const PATHS: &[Row<'static>] = &[
+const PATHS: &[Row<'static>] = &[
     (Call::Create(b"a"), Refused(VolError::BadPath)),
     (Call::Create(b""), Refused(VolError::BadPath)),
     (Call::Create(b"/a//b"), Refused(VolError::BadName)),
@@ -156,7 +156,17 @@ pub(crate) const PATHS: &[Row<'static>] = &[
     (Call::Stat(b"/"), Want::Stat(Stat::Dir(1))),
 ];
 
-const ROWS: &[&[Row<'static>]] = &[TREES, RENAMES, DEEP, FILES, COPIES, PATHS];
+const ON_DIRECTORIES: Tables = &[TREES, RENAMES, DEEP];
+
+const ON_FILES: Tables = &[FILES, COPIES, PATHS];
+
+pub(crate) fn on_directories() -> Tables {
+    ON_DIRECTORIES
+}
+
+pub(crate) fn on_files() -> Tables {
+    ON_FILES
+}
 
 /// The first row that the plain program answers otherwise.
 fn unwanted_plain(alloc: Global, rows: &[Row<'_>]) -> Result<Option<usize>, VolError> {
@@ -166,8 +176,10 @@ fn unwanted_plain(alloc: Global, rows: &[Row<'_>]) -> Result<Option<usize>, VolE
 
 #[test]
 fn plain_files_are_those_of_posix(rt: HostRuntime) -> Result<(), Fail> {
-    for rows in ROWS {
-        assert_eq!(rt; unwanted_plain(rt.alloc(), rows)?, None);
+    for tables in [on_directories(), on_files()] {
+        for rows in tables {
+            assert_eq!(rt; unwanted_plain(rt.alloc(), rows)?, None);
+        }
     }
     Ok(())
 }

@@ -2,12 +2,17 @@
 //! byte by byte, and refused memory. Nothing stands on this crate, and it has nothing but tests.
 //!
 //! A row is a list of steps in a constant, which the checker evaluates and need not follow; each kind of step is proved once.
-//! But for `streams` and `beside`, a step of a row that is refused for memory has to leave what is seen as it was, and is
-//! done again: so with one allocation failing, each row still passes (`rt try --test --fail-alloc N`).
+//! A test asks a function for its constants, and a function has few of them: a check goes over a constant's value at each step
+//! of the function that names it, and its time grows faster than the value.
+//!
+//! But for `streams`, `beside` and `library`, a step of a row that is refused for memory has to leave what is seen as it was,
+//! and is done again: so with one allocation failing, each row still passes (`rt try --test --fail-alloc N`).
 #![tactic(auto)]
 
 #[cfg(test)]
 mod beside;
+#[cfg(test)]
+mod checkpoints;
 #[cfg(test)]
 mod directories;
 #[cfg(test)]
@@ -16,6 +21,10 @@ mod events;
 mod file_calls;
 #[cfg(test)]
 mod formats;
+#[cfg(test)]
+mod library;
+#[cfg(test)]
+mod lines;
 #[cfg(test)]
 mod logs;
 #[cfg(test)]

@@ -347,9 +347,13 @@ const FILLED: &[Case] = &[
     ((8, 64, NONE_FAILS), &[LARGE]),
 ];
 
+fn filled() -> &'static [Case] {
+    FILLED
+}
+
 #[test]
 fn logs_fill_segments(rt: HostRuntime) -> Result<(), Fail> {
-    for case in FILLED {
+    for case in filled() {
         assert_eq!(rt; other_in(rt.alloc(), case)?, None);
     }
     Ok(())
@@ -399,9 +403,13 @@ const FAULTS: &[Case] = &[
     ((8, 4, 19), &[NINE, FAILS, STAYS, FAILED_IN_5]),
 ];
 
+fn faults() -> &'static [Case] {
+    FAULTS
+}
+
 #[test]
 fn a_failed_put_marks_its_segment(rt: HostRuntime) -> Result<(), Fail> {
-    for case in FAULTS {
+    for case in faults() {
         assert_eq!(rt; other_in(rt.alloc(), case)?, None);
     }
     Ok(())

@@ -65,12 +65,21 @@ fn comes_out<V: Volume>(
 /// As many bytes of a file as a look shows at most.
 const LOOK: u64 = 10_240;
 
-/// Does a row with a look at its file, and answers whether it comes out as is due.
-fn does<V: Volume>(alloc: Global, volume: &mut V, row: Row<'_>) -> Result<bool, AllocError> {
+/// Does the event of a row with a look at its file, and answers whether it comes out as is due.
+fn does_event<V: Volume>(
+    alloc: Global,
+    volume: &mut V,
+    event: &Event,
+    row: Row<'_>,
+) -> Result<bool, AllocError> {
     let (call, want) = row;
-    let event = event_of(alloc, call)?;
     let look = event_of(alloc, Call::Read(path_of(call), 0, LOOK))?;
-    Ok(comes_out(alloc, volume, &event, &look, want))
+    Ok(comes_out(alloc, volume, event, &look, want))
+}
+
+fn does<V: Volume>(alloc: Global, volume: &mut V, row: Row<'_>) -> Result<bool, AllocError> {
+    let event = event_of(alloc, row.0)?;
+    does_event(alloc, volume, &event, row)
 }
 
 /// The first row whose reply is not the one that is due. Refused by `Memory`.

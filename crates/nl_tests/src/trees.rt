@@ -359,12 +359,6 @@ const TEN_THOUSAND: &[Step<'static>] = &[
     ]),
 ];
 
-#[test]
-fn lowest_numbers_are_given(rt: HostRuntime) -> Result<(), Fail> {
-    assert_eq!(rt; other(rt.alloc(), Start::New, TEN_THOUSAND)?, None);
-    Ok(())
-}
-
 /// Of 1,006 names, each with a record of 11 bytes, 93 stand in a block, and take 11. Their inodes are those from 11 to 1,016,
 /// with 8 in a block: the blocks from 0 to 127, of which the last one takes a second node.
 const THOUSAND: &[Step<'static>] = &[
@@ -485,14 +479,6 @@ const CHAIN: &[Step<'static>] = &[
     Step::Checkpoint(324, 2, &[(0, 6, 0, 1), (1, 6, 1, 0)], 258),
 ];
 
-#[test]
-fn checkpoints_write_what_differs(rt: HostRuntime) -> Result<(), Fail> {
-    for steps in [THOUSAND, FEW, CHAIN].as_slice() {
-        assert_eq!(rt; other(rt.alloc(), Start::New, steps)?, None);
-    }
-    Ok(())
-}
-
 /// Of the numbers that the checkpoint leaves free the lowest are given.
 const OVER_TWO: &[Step<'static>] = &[
     Step::Calls(&[
@@ -526,8 +512,25 @@ const OVER_TWO: &[Step<'static>] = &[
     Step::Reads(0, 4, b"kept"),
 ];
 
+/// Where a row begins, and its steps.
+type Case = (Start, &'static [Step<'static>]);
+
+const CASES: &[Case] = &[
+    (Start::New, TEN_THOUSAND),
+    (Start::New, THOUSAND),
+    (Start::New, FEW),
+    (Start::New, CHAIN),
+    (Start::OverTwo, OVER_TWO),
+];
+
+fn cases() -> &'static [Case] {
+    CASES
+}
+
 #[test]
-fn trees_go_on_from_checkpoints(rt: HostRuntime) -> Result<(), Fail> {
-    assert_eq!(rt; other(rt.alloc(), Start::OverTwo, OVER_TWO)?, None);
+fn trees_take_calls_and_checkpoints(rt: HostRuntime) -> Result<(), Fail> {
+    for (start, steps) in cases() {
+        assert_eq!(rt; other(rt.alloc(), *start, steps)?, None);
+    }
     Ok(())
 }

@@ -1,7 +1,8 @@
 //! Events on a pen, with the replies that are due: reads and limits, devices that are full or fail, and the numbers that
 //! checkpoints take.
-use crate::events::{ALL, Call, PLAIN, Row, SNAPSHOT, Want};
-use crate::file_calls::{COPIES, DEEP, FILES, PATHS, RENAMES, TREES};
+use crate::checkpoints::on_checkpoints;
+use crate::events::{ALL, Call, PLAIN, Row, SNAPSHOT, Tables, Want};
+use crate::file_calls::{on_directories, on_files};
 use crate::logs::{NONE_FAILS, Shape};
 use crate::rows::first_unwanted;
 use nl_core::Pen;
@@ -22,8 +23,7 @@ pub(crate) fn volume(alloc: Global, shape: Shape) -> Result<Pen<FaultyDevice>, V
 type Table = (Shape, &'static [Row<'static>]);
 
 /// The first row that comes out otherwise.
-fn unwanted(alloc: Global, table: &Table) -> Result<Option<usize>, VolError> {
-    let (shape, rows) = *table;
+fn unwanted(alloc: Global, shape: Shape, rows: &[Row<'_>]) -> Result<Option<usize>, VolError> {
     let mut pen = volume(alloc, shape)?;
     first_unwanted(alloc, &mut pen, rows)
 }
@@ -200,12 +200,6 @@ const USUAL: Shape = (64, 64, NONE_FAILS);
 const SMALL: Shape = (8, 4, NONE_FAILS);
 
 const TABLES: &[Table] = &[
-    (USUAL, TREES),
-    (USUAL, RENAMES),
-    (USUAL, DEEP),
-    (USUAL, FILES),
-    (USUAL, COPIES),
-    (USUAL, PATHS),
     ((16, 8, 4), FAULT),
     (SMALL, FULL),
     (SMALL, TOO_FULL),
@@ -216,21 +210,34 @@ const TABLES: &[Table] = &[
     (SMALL, REFUSED),
 ];
 
+fn tables() -> &'static [Table] {
+    TABLES
+}
+
 /// With one allocation failing, the rows pass where a refused event did nothing.
 #[test]
 fn events_come_out_as_is_due(rt: HostRuntime) -> Result<(), Fail> {
-    for table in TABLES {
-        assert_eq!(rt; unwanted(rt.alloc(), table)?, None);
+    for tables in [on_directories(), on_files(), on_checkpoints()] {
+        for rows in tables {
+            assert_eq!(rt; unwanted(rt.alloc(), USUAL, rows)?, None);
+        }
+    }
+    for (shape, rows) in tables() {
+        assert_eq!(rt; unwanted(rt.alloc(), *shape, rows)?, None);
     }
     Ok(())
 }
 
-const LARGE_TABLES: &[Table] = &[(USUAL, READS), (USUAL, LARGE)];
+const LARGE_TABLES: Tables = &[READS, LARGE];
+
+fn large_tables() -> Tables {
+    LARGE_TABLES
+}
 
 #[test]
 fn large_files_and_volumes_have_limits(rt: HostRuntime) -> Result<(), Fail> {
-    for table in LARGE_TABLES {
-        assert_eq!(rt; unwanted(rt.alloc(), table)?, None);
+    for rows in large_tables() {
+        assert_eq!(rt; unwanted(rt.alloc(), USUAL, rows)?, None);
     }
     Ok(())
 }
@@ -241,7 +248,7 @@ fn large_files_and_volumes_have_limits(rt: HostRuntime) -> Result<(), Fail> {
 type Numbered = (&'static [Row<'static>], &'static [Entry], usize);
 
 /// Block, start and end of a number, 0 where it has not ended.
-type Entry = (u32, u64, u64);
+pub(crate) type Entry = (u32, u64, u64);
 
 /// The format has the block of inodes and its node, and a checkpoint without changes writes nothing.
 const UNCHANGED: Numbered = (
@@ -315,7 +322,7 @@ const BYTES: Numbered = (
     13,
 );
 
-fn entry_of(due: Entry) -> DatEntry {
+pub(crate) fn entry_of(due: Entry) -> DatEntry {
     let (block, start, end) = due;
     DatEntry {
         block: BlockNumber::new(block),
@@ -374,9 +381,13 @@ fn are_left_on_new(alloc: Global, numbered: &Numbered) -> Result<bool, VolError>
 
 const NUMBERED: &[Numbered] = &[UNCHANGED, FIRST_FILE, BYTES];
 
+fn numbered() -> &'static [Numbered] {
+    NUMBERED
+}
+
 #[test]
 fn numbers_have_periods_and_blocks(rt: HostRuntime) -> Result<(), Fail> {
-    for numbered in NUMBERED {
+    for numbered in numbered() {
         assert!(rt; are_left_on_new(rt.alloc(), numbered)?);
     }
     Ok(())

@@ -1,7 +1,7 @@
 -- The definitions judge by the world alone: they refuse nothing for space, a fault or memory.
 use Rattle.std.proofs.Common.{ℕ, ◌+◌, Bool, true, false, cond, List, [], ◌∷◌, ◌++◌, length, Option, Some, None, Result, Ok, Err, is_some}
 use Rattle.std.specs.Prelude.{◌==◌, ◌&&◌, ◌||◌, nat_lt, nat_le, not, IfErr}
-use Rattle.std.specs.List.{list_all, slice_split}
+use Rattle.std.specs.List.{list_all, list_any, slice_split}
 use Rattle.std.specs.Ordering.{nat_cmp}
 use Rattle.std.specs.FinMap.{find}
 use Rattle.std.specs.Option.{option_or, ok_or}
@@ -19,7 +19,10 @@ use Rattle.nl_types.specs.Limits.{file_limit, path_limit, checkpoint_number_limi
 use Rattle.nl_types.specs.Paths.{Path, path_of, same_path, names_of, is_name}
 use Rattle.nl_types.specs.Trees.{Tree, lookup, insert, remove, move_subtree}
 use Rattle.nl_types.specs.Calls.{Changed, and_then, refuse_if, ok_unless, stops_walk, stop_from, walk, node_at, file_at, file_in, dir_at, dir_in, is_root, is_dir, is_above, has_names, overwritten, resized, create, write, truncate, unlink, rmdir, may_replace, rename, change, list, stat, reply_to}
-use Rattle.nl_types.specs.Worlds.{World, Outcome, copy_at, latest, is_snapshot, either, refused_if, kept, mounted, mounted_copy}
+use Rattle.nl_types.specs.declared.row.Range.{Range}
+use Rattle.nl_types.specs.declared.row.Row.{Row}
+use Rattle.nl_types.specs.Rows.{is_snapshot, find_row, kept_row, reason_to_stay, removal, is_between, between, judged, is_no_range, range_removal}
+use Rattle.nl_types.specs.Worlds.{World, Outcome, copy_at, latest, rows, is_given_up, is_mounted, either, refused_if, kept, mounted, mounted_copy}
 use Rattle.nl_types.specs.Laws.{IsJudged, StepsJudge}
 
 -- ---- judgements, one after another
@@ -157,6 +160,26 @@ reply_judges tree (ask.Bytes path offset len) = and_then_judges (path_of path) _
 reply_judges tree (ask.List path) = and_then_judges (and_then (path_of path) (list tree)) _ (and_then_judges (path_of path) _ (path_judges path) (list_judges tree)) (λ _. tt)
 reply_judges tree (ask.Stat path) = and_then_judges (and_then (path_of path) (stat tree)) _ (and_then_judges (path_of path) _ (path_judges path) (stat_judges tree)) (λ _. tt)
 
+-- ---- removals
+
+removal_judges : (n last : ℕ) (rs : List Row) → IfErr (removal n last rs) IsJudged
+removal_judges n last rs = and_then_judges (kept_row n rs) _ (ok_or_judges (find_row n rs) error.NoCheckpoint tt) by
+  where
+    by : (row : Row) → IfErr (ok_unless (reason_to_stay last row)) IsJudged
+    by row = elim (is_snapshot row.mode) as (λ s. IfErr (ok_unless (cond s (Some error.IsSnapshot) (cond (row.number == last) (Some error.Latest) None))) IsJudged) [
+      | true ↦ tt
+      | false ↦ elim (row.number == last) as (λ e. IfErr (ok_unless (cond e (Some error.Latest) None)) IsJudged) [ true ↦ tt | false ↦ tt ]
+    ]
+
+range_judges : (first last latest : ℕ) (rs : List Row) → IfErr (range_removal first last latest rs) IsJudged
+range_judges first last latest rs =
+    let answer : Result Range VolError = Ok (judged latest (between first last rs)) in
+    let none = not (list_any (is_between first last) rs) in
+    elim (is_no_range first last) as (λ b. IfErr (cond b (Err error.BadRange) (cond none (Err error.NoCheckpoint) answer)) IsJudged) [
+      | true ↦ tt
+      | false ↦ elim none as (λ b. IfErr (cond b (Err error.NoCheckpoint) answer) IsJudged) [ true ↦ tt | false ↦ tt ]
+    ]
+
 -- ---- events
 
 either_judges : {A : Type 0} (w : World) (r : Result A VolError) (next : A → Outcome) → IfErr r IsJudged → ((a : A) → IfErr (next a).0 IsJudged) → IfErr (either w r next).0 IsJudged
@@ -171,8 +194,14 @@ pub steps_judge : StepsJudge
 steps_judge cleaned w (event.Apply c) judged = either_judges w (change w.tree c) _ (change_judges w.tree c) (λ _. tt)
 steps_judge cleaned w (event.Read a) judged = reply_judges w.tree a
 steps_judge cleaned w (event.Checkpoint mode now) judged = refused_if_judges (nat_le checkpoint_number_limit (latest w + 1)) error.NumbersSpent w _ tt tt
+steps_judge cleaned w (event.ChangeMode n mode) judged = either_judges w (kept_row n (rows w)) _ (ok_or_judges (find_row n (rows w)) error.NoCheckpoint tt) (λ row.
+    refused_if_judges (is_given_up row.mode mode && is_mounted w.mounts n) error.Mounted w _ tt tt)
+steps_judge cleaned w (event.Remove n) judged = either_judges w (removal n (latest w) (rows w)) _ (removal_judges n (latest w) (rows w)) (λ _. tt)
+steps_judge cleaned w (event.RemoveRange first last) judged = either_judges w (range_removal first last (latest w) (rows w)) _ (range_judges first last (latest w) (rows w)) (λ _. tt)
 steps_judge cleaned w (event.Mount n) judged = either_judges w (kept w n) _ (ok_or_judges (copy_at w n) error.NoCheckpoint tt) (λ copy.
     refused_if_judges (not (is_snapshot copy.mode)) error.NotSnapshot w _ tt
     (refused_if_judges (nat_le mount_number_limit (w.given + 1)) error.NumbersSpent w _ tt tt))
+steps_judge cleaned w (event.Unmount m) judged = either_judges w (mounted w m) _ (ok_or_judges (find nat_cmp m w.mounts) error.BadMount tt) (λ _. tt)
+steps_judge cleaned w (event.Listing options) judged = tt
 steps_judge cleaned w (event.MountRead m a) judged =
     and_then_judges (mounted_copy w m) _ (and_then_judges (mounted w m) _ (ok_or_judges (find nat_cmp m w.mounts) error.BadMount tt) (λ n. ok_or_judges (copy_at w n) error.BadMount tt)) (λ copy. reply_judges copy.tree a)

@@ -1,20 +1,55 @@
 //! Runs a script of file calls, checkpoints and mounts on a volume in memory.
 #![tactic(auto)]
 
-use nl_script::{Status, session};
-use std::env::FillError;
+use nl_script::session;
+use std::io::ErrorKind;
 use std::process::ExitCode;
-use std::rt::Env;
+use std::{env, io};
 
-/// Whether a word stands behind the program's name. It need not be text.
-fn has_arguments(rt: &impl Env) -> bool {
-    !matches!(rt.arg(1, &mut [0]), Err(FillError::NotPresent))
+/// The program's name and the words behind it.
+fn words(rt: &HostRuntime) -> io::Result<Vec<String>> {
+    let words = env::args(rt)?.collect(rt.alloc())?;
+    Ok(words)
+}
+
+/// The words behind the program's name, as they lie in these.
+fn arguments<'a>(rt: &HostRuntime, words: &'a [String]) -> io::Result<Vec<&'a str>> {
+    let arguments = words
+        .iter()
+        .skip(1)
+        .map(String::as_str)
+        .collect(rt.alloc())?;
+    Ok(arguments)
+}
+
+/// Answers the exit status.
+fn run(rt: &HostRuntime) -> io::Result<u8> {
+    let words = words(rt)?;
+    let arguments = arguments(rt, words.as_slice())?;
+    let status = session(
+        rt,
+        arguments.as_slice(),
+        rt.stdin(),
+        rt.stdout(),
+        &mut rt.stderr(),
+    );
+    Ok(status)
+}
+
+/// Tells why the words can't be read, and answers the exit status.
+fn refused(rt: &HostRuntime, error: &io::Error) -> u8 {
+    if error.kind() == ErrorKind::OutOfMemory {
+        let _ = eprintln!(rt; "start: error 18 Memory");
+        return 1;
+    }
+    let _ = eprintln!(rt; "error: an argument is not UTF-8");
+    2
 }
 
 fn main(rt: HostRuntime) -> ExitCode {
-    if has_arguments(&rt) {
-        let _ = eprintln!(rt; "nlvol: takes no arguments, and reads a script from standard input");
-        return ExitCode::from(Status::Misread.code());
-    }
-    ExitCode::from(session(&rt, rt.stdin(), rt.stdout(), rt.stderr()))
+    let status = match run(&rt) {
+        Ok(status) => status,
+        Err(error) => refused(&rt, &error),
+    };
+    ExitCode::from(status)
 }

@@ -5,11 +5,16 @@ use Rattle.nl_types.specs.declared.event.Event.TheVariants as event
 use Rattle.nl_types.specs.declared.reply.Answer.TheVariants as answer
 use Rattle.nl_core.specs.Layout.{Does, layout_of, unshared}
 use Rattle.nl_core.proofs.Checkpointing.{does-refused, does-written}
-use Rattle.nl_core.proofs.Ledgers.{can_be-drafted}
+use Rattle.nl_core.proofs.Ledgers.{can_be-drafted, has_few-names}
 use Rattle.nl_core.proofs.pen.checkpoint.Goals as goal
 
-pub write_checkpoint-requires : goal.write_checkpoint-requires
-write_checkpoint-requires g c = can_be-drafted (layout_of c.args.tables.now.lists (g.V.Vstore.store c.args.store.now)) c.requires
+pub write_checkpoint-requires-clause-base : goal.write_checkpoint-requires-clause-base
+write_checkpoint-requires-clause-base g c =
+    can_be-drafted (layout_of c.args.tables.now.lists (g.V.Vstore.store c.args.store.now)) c.requires
+
+pub write_checkpoint-requires-clause-few : goal.write_checkpoint-requires-clause-few
+write_checkpoint-requires-clause-few g c =
+    has_few-names (layout_of c.args.tables.now.lists (g.V.Vstore.store c.args.store.now)) c.requires
 
 pub returns-in_err-number : goal.returns-in_err-number
 returns-in_err-number g c =

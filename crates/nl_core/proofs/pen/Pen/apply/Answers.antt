@@ -1,6 +1,6 @@
 use Rattle.std.proofs.Common.{sym, subst}
 use Rattle.nl_core.specs.Layout.{Does, layout_of, unshared}
-use Rattle.nl_core.proofs.Moving.{does-Apply, does-Mount, does-MountRead, does-Read, pages_under}
+use Rattle.nl_core.proofs.Moving.{does-Apply, does-ChangeMode, does-Listing, does-Mount, does-MountRead, does-Read, does-Remove, does-RemoveRange, does-Unmount, pages_under}
 use Rattle.nl_core.proofs.pen.Pen.apply.Goals as goal
 
 pub returns-in-Apply : goal.returns-in-Apply
@@ -56,3 +56,75 @@ pub invariant_of-self : goal.invariant_of-self
 invariant_of-self g c =
     (does-Apply c.self.inside.tables.lists c.change.new.self.lists c.self.inside.store.store c.in-Apply.change c.change.result c.self.invariant
     c.change.ensures.follows c.change.ensures.lists c.change.ensures.changed c.change.ensures.same).pen
+
+pub returns-in-ChangeMode : goal.returns-in-ChangeMode
+returns-in-ChangeMode g c =
+    let l = c.self.inside.tables.lists in
+    let new = c.change_mode.new.self.lists in
+    let store = c.self.inside.store.store in
+    subst (λ o. Does unshared o c.args.event.now c.change_mode.result (layout_of new store)) c.self.view_is
+    (subst (λ e. Does unshared (layout_of l store) e c.change_mode.result (layout_of new store)) (sym c.in-ChangeMode.is)
+    (does-ChangeMode l new store c.in-ChangeMode.number c.in-ChangeMode.mode c.change_mode.result c.self.invariant
+    (c.change_mode.ensures.follows (pages_under store)) c.change_mode.ensures.changed c.change_mode.ensures.same))
+
+pub returns-in-Remove : goal.returns-in-Remove
+returns-in-Remove g c =
+    let l = c.self.inside.tables.lists in
+    let new = c.remove.new.self.lists in
+    let store = c.self.inside.store.store in
+    subst (λ o. Does unshared o c.args.event.now c.remove.result (layout_of new store)) c.self.view_is
+    (subst (λ e. Does unshared (layout_of l store) e c.remove.result (layout_of new store)) (sym c.in-Remove.is)
+    (does-Remove l new store c.in-Remove.number c.remove.result c.self.invariant
+    (c.remove.ensures.follows (pages_under store)) c.remove.ensures.removed c.remove.ensures.same))
+
+pub returns-in-RemoveRange : goal.returns-in-RemoveRange
+returns-in-RemoveRange g c =
+    let l = c.self.inside.tables.lists in
+    let new = c.remove_range.new.self.lists in
+    let store = c.self.inside.store.store in
+    subst (λ o. Does unshared o c.args.event.now c.remove_range.result (layout_of new store)) c.self.view_is
+    (subst (λ e. Does unshared (layout_of l store) e c.remove_range.result (layout_of new store)) (sym c.in-RemoveRange.is)
+    (does-RemoveRange l new store c.in-RemoveRange.first c.in-RemoveRange.last c.remove_range.result c.self.invariant
+    (c.remove_range.ensures.follows (pages_under store)) c.remove_range.ensures.removed c.remove_range.ensures.same))
+
+pub returns-in-Unmount : goal.returns-in-Unmount
+returns-in-Unmount g c =
+    let l = c.self.inside.tables.lists in
+    let new = c.unmount.new.self.lists in
+    let store = c.self.inside.store.store in
+    subst (λ o. Does unshared o c.args.event.now c.unmount.result (layout_of new store)) c.self.view_is
+    (subst (λ e. Does unshared (layout_of l store) e c.unmount.result (layout_of new store)) (sym c.in-Unmount.is)
+    (does-Unmount l new store c.in-Unmount.mount c.unmount.result c.self.invariant
+    (c.unmount.ensures.follows (pages_under store)) c.unmount.ensures.gone c.unmount.ensures.same))
+
+pub returns-in-Listing : goal.returns-in-Listing
+returns-in-Listing g c =
+    let l = c.self.inside.tables.lists in
+    let store = c.self.inside.store.store in
+    subst (λ o. Does unshared o c.args.event.now c.listing.result o) c.self.view_is
+    (subst (λ e. Does unshared (layout_of l store) e c.listing.result (layout_of l store)) (sym c.in-Listing.is)
+    (does-Listing l store c.in-Listing.options c.listing.result c.self.invariant (c.listing.ensures (pages_under store))))
+
+pub invariant_of-self-in-ChangeMode : goal.invariant_of-self-in-ChangeMode
+invariant_of-self-in-ChangeMode g c =
+    let store = c.self.inside.store.store in
+    (does-ChangeMode c.self.inside.tables.lists c.change_mode.new.self.lists store c.in-ChangeMode.number c.in-ChangeMode.mode c.change_mode.result c.self.invariant
+    (c.change_mode.ensures.follows (pages_under store)) c.change_mode.ensures.changed c.change_mode.ensures.same).pen
+
+pub invariant_of-self-in-Remove : goal.invariant_of-self-in-Remove
+invariant_of-self-in-Remove g c =
+    let store = c.self.inside.store.store in
+    (does-Remove c.self.inside.tables.lists c.remove.new.self.lists store c.in-Remove.number c.remove.result c.self.invariant
+    (c.remove.ensures.follows (pages_under store)) c.remove.ensures.removed c.remove.ensures.same).pen
+
+pub invariant_of-self-in-RemoveRange : goal.invariant_of-self-in-RemoveRange
+invariant_of-self-in-RemoveRange g c =
+    let store = c.self.inside.store.store in
+    (does-RemoveRange c.self.inside.tables.lists c.remove_range.new.self.lists store c.in-RemoveRange.first c.in-RemoveRange.last c.remove_range.result c.self.invariant
+    (c.remove_range.ensures.follows (pages_under store)) c.remove_range.ensures.removed c.remove_range.ensures.same).pen
+
+pub invariant_of-self-in-Unmount : goal.invariant_of-self-in-Unmount
+invariant_of-self-in-Unmount g c =
+    let store = c.self.inside.store.store in
+    (does-Unmount c.self.inside.tables.lists c.unmount.new.self.lists store c.in-Unmount.mount c.unmount.result c.self.invariant
+    (c.unmount.ensures.follows (pages_under store)) c.unmount.ensures.gone c.unmount.ensures.same).pen

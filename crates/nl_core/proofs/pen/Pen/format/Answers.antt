@@ -1,11 +1,17 @@
 use Rattle.std.proofs.lemmas.Result.{err_from_is_err_and}
 use Rattle.nl_core.specs.Layout.{layout_of}
-use Rattle.nl_core.proofs.Formats.{can_be-drafted, new-volume, refused-first}
+use Rattle.nl_core.proofs.Formats.{can_be-drafted, has_few-names, new-volume, refused-first}
 use Rattle.nl_core.proofs.pen.Pen.format.Goals as goal
 
-pub write_checkpoint-requires : goal.write_checkpoint-requires
-write_checkpoint-requires g c =
+pub write_checkpoint-requires-clause-base : goal.write_checkpoint-requires-clause-base
+write_checkpoint-requires-clause-base g c =
     can_be-drafted c.args.geometry (g.D.Device.pages c.args.device) (g.D.Device.failure_count c.args.device)
+    c.in_ok-tables.tables.lists c.in_ok-store.store.store _ _
+    c.in_ok-tables.ensures.blank c.in_ok-store.ensures.new c.in_ok-space.ensures.content c.in_ok-space.ensures.failures
+
+pub write_checkpoint-requires-clause-few : goal.write_checkpoint-requires-clause-few
+write_checkpoint-requires-clause-few g c =
+    has_few-names c.args.geometry (g.D.Device.pages c.args.device) (g.D.Device.failure_count c.args.device)
     c.in_ok-tables.tables.lists c.in_ok-store.store.store _ _
     c.in_ok-tables.ensures.blank c.in_ok-store.ensures.new c.in_ok-space.ensures.content c.in_ok-space.ensures.failures
 

@@ -1,26 +1,34 @@
 use Rattle.std.proofs.Common.{◌≡◌, ℕ, ◌+◌, List, [], ◌∷◌, ◌++◌, sym, ap, ◌∙◌, subst, arith}
-use Rattle.std.specs.Prelude.{Ok}
+use Rattle.std.specs.Prelude.{Ok, Option, None, Some}
 use Rattle.nl_types.specs.declared.event.Event.TheVariants.{Mount}
 use Rattle.nl_types.specs.declared.reply.Answer.TheVariants as answer
+use Rattle.nl_cpfile.specs.Tables.{kept_at}
+use Rattle.nl_cpfile.specs.declared.checkpoint.Checkpoint.{Checkpoint}
 use Rattle.nl_core.specs.Inside.{lists_of}
 use Rattle.nl_core.specs.Means.{FollowsOver}
 use Rattle.nl_core.specs.Tables.{Roomy}
 use Rattle.nl_core.specs.Volume.{Lists, with_mount}
-use Rattle.nl_core.specs.declared.checkpoint.Mounted.{Mounted}
+use Rattle.nl_core.specs.declared.mounts.Mounted.{Mounted}
 use Rattle.nl_core.proofs.Events.{mount-follows, no_mount-follows, plain_mount-follows, spent_mount-follows}
 use Rattle.nl_core.proofs.tables.Tables.mount.Goals as goal
 
+-- what is found in the fields is found in the lists
+found_inside : (n : ℕ) (inside now : Roomy) (found : Option Checkpoint) → inside ≡ now → found ≡ kept_at n inside.lists.table
+    → kept_at n now.lists.table ≡ found
+found_inside n inside now found same is = ap (λ (r : Roomy). kept_at n r.lists.table) (sym same) ∙ sym is
+
 pub returns-in-None-clause-follows : goal.returns-in-None-clause-follows
-returns-in-None-clause-follows c = λ pages. no_mount-follows pages c.args.self.now.lists c.args.number (sym c.in-None.ensures)
+returns-in-None-clause-follows c = λ pages.
+    no_mount-follows pages c.args.self.now.lists c.args.number (found_inside c.args.number _ _ None c.self.view_is c.in-None.ensures)
 
 pub returns-in-Plain-clause-follows : goal.returns-in-Plain-clause-follows
 returns-in-Plain-clause-follows c = λ pages.
-    plain_mount-follows pages c.args.self.now.lists c.args.number c.in-Some.checkpoint.now (sym c.in-Some.ensures) c.in-Plain.is
+    plain_mount-follows pages c.args.self.now.lists c.args.number c.in-Some.checkpoint.now (found_inside c.args.number _ _ (Some c.in-Some.checkpoint.now) c.self.view_is c.in-Some.ensures) c.in-Plain.is
 
 pub returns-then-self-clause-follows : goal.returns-then-self-clause-follows
 returns-then-self-clause-follows c = λ pages.
     let given : c.self.inside.given ≡ c.args.self.now.lists.given = ap (λ (r : Roomy). r.lists.given) c.self.view_is in
-    spent_mount-follows pages c.args.self.now.lists c.args.number c.in-Some.checkpoint.now (sym c.in-Some.ensures) c.in-Snapshot.is
+    spent_mount-follows pages c.args.self.now.lists c.args.number c.in-Some.checkpoint.now (found_inside c.args.number _ _ (Some c.in-Some.checkpoint.now) c.self.view_is c.in-Some.ensures) c.in-Snapshot.is
     (omega (arith, given, c.if-self.true))
 
 pub returns-clause-mounted : goal.returns-clause-mounted
@@ -40,4 +48,4 @@ returns-clause-follows c = λ pages.
     let number : c.new-mount.result ≡ old.given + 1 = c.new-mount.ensures ∙ given in
     subst (λ (l : Lists). FollowsOver pages old (Mount n) (Ok (answer.Mount c.new-mount.result)) l) (sym (returns-clause-mounted c))
     (subst (λ k. FollowsOver pages old (Mount n) (Ok (answer.Mount k)) (with_mount n old)) (sym number)
-    (mount-follows pages old n c.in-Some.checkpoint.now (sym c.in-Some.ensures) c.in-Snapshot.is (omega (arith, given, c.if-self.false))))
+    (mount-follows pages old n c.in-Some.checkpoint.now (found_inside c.args.number _ _ (Some c.in-Some.checkpoint.now) c.self.view_is c.in-Some.ensures) c.in-Snapshot.is (omega (arith, given, c.if-self.false))))

@@ -1,0 +1,86 @@
+-- Words by computation, as a check of the definitions against answers made by hand.
+use Rattle.std.proofs.Common.{◌≡◌, [], ◌∷◌, refl}
+use Rattle.std.specs.Prelude.{codes}
+use Rattle.clap.specs.Words.{Text}
+use Rattle.clap.proofs.OnLiterals.{clap_on_literals}
+use Rattle.nl_arguments.specs.Meanings.{Meaning, run, help, version, misread, meant}
+use Rattle.nl_arguments.specs.Options.{divided}
+
+abbrev one : Text → Meaning
+one a = meant (a ∷ [])
+
+abbrev two : Text → Text → Meaning
+two a b = meant (a ∷ b ∷ [])
+
+abbrev four : Text → Text → Text → Text → Meaning
+four a b c d = meant (a ∷ b ∷ c ∷ d ∷ [])
+
+-- ---- numbers
+
+no_words : meant [] ≡ run (divided 64 64)
+unfolding clap_on_literals
+no_words = refl
+
+segments_alone : two (codes "--segments") (codes "8") ≡ run (divided 8 64)
+unfolding clap_on_literals
+segments_alone = refl
+
+blocks_first : two (codes "--blocks=0004") (codes "--segments=0008") ≡ run (divided 8 4)
+unfolding clap_on_literals
+blocks_first = refl
+
+greatest_number : two (codes "--segments") (codes "4294967295") ≡ run (divided 4294967295 64)
+unfolding clap_on_literals
+greatest_number = refl
+
+number_too_great : two (codes "--segments") (codes "4294967296") ≡ misread
+unfolding clap_on_literals
+number_too_great = refl
+
+plus_sign : two (codes "--blocks") (codes "+4") ≡ misread
+unfolding clap_on_literals
+plus_sign = refl
+
+minus_sign : one (codes "--blocks=-4") ≡ misread
+unfolding clap_on_literals
+minus_sign = refl
+
+no_digits : one (codes "--segments=") ≡ misread
+unfolding clap_on_literals
+no_digits = refl
+
+-- ---- options
+
+no_value : one (codes "--segments") ≡ misread
+unfolding clap_on_literals
+no_value = refl
+
+given_twice : four (codes "--segments") (codes "8") (codes "--segments") (codes "8") ≡ misread
+unfolding clap_on_literals
+given_twice = refl
+
+beginning_of_an_option : two (codes "--seg") (codes "8") ≡ misread
+unfolding clap_on_literals
+beginning_of_an_option = refl
+
+word_too_many : one (codes "extra") ≡ misread
+unfolding clap_on_literals
+word_too_many = refl
+
+short_help : one (codes "-h") ≡ misread
+unfolding clap_on_literals
+short_help = refl
+
+-- ---- texts
+
+help_alone : one (codes "--help") ≡ help
+unfolding clap_on_literals
+help_alone = refl
+
+version_before_a_fault : two (codes "--version") (codes "--size") ≡ version
+unfolding clap_on_literals
+version_before_a_fault = refl
+
+help_behind_a_fault : two (codes "--size") (codes "--help") ≡ misread
+unfolding clap_on_literals
+help_behind_a_fault = refl

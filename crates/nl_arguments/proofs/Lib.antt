@@ -1,0 +1,3 @@
+mod Deciding
+mod ExampleWords
+mod OneFault

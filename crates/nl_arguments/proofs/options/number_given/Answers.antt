@@ -1,0 +1,11 @@
+use Rattle.std.proofs.Common.{◌∙◌, ap}
+use Rattle.clap.specs.Words.{found_of}
+use Rattle.clap.proofs.WalkLemmas.{first_value-rows}
+use Rattle.nl_arguments.specs.Options.{number_or_64}
+use Rattle.nl_arguments.proofs.options.number_given.Goals as goal
+
+pub returns-in-Some : goal.returns-in-Some
+returns-in-Some c = c.number.ensures ∙ ap number_or_64 (c.in-Some.ensures ∙ first_value-rows (found_of c.args.matches.now) c.args.id.now)
+
+pub returns-in-None : goal.returns-in-None
+returns-in-None c = ap number_or_64 (c.in-None.ensures ∙ first_value-rows (found_of c.args.matches.now) c.args.id.now)

@@ -1,0 +1,4 @@
+pub mod Meanings
+pub mod NumberWords
+pub mod Options
+pub mod Statuses

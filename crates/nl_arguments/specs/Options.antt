@@ -1,0 +1,50 @@
+-- The options of the program, and what their values give.
+use Rattle.std.specs.Prelude.{ℕ, true, List, [], codes, Option, None, Some, option_and_then, option_map}
+use Rattle.clap.specs.Words.{App, Row, Rule, Text, first_of, new_rule, with_rule}
+use Rattle.clap.specs.Simple.{new_shape}
+use Rattle.clap.specs.declared.builder.action.ArgAction.{ArgAction}
+use Rattle.clap.specs.declared.builder.action.ArgAction.TheVariants.{Set, Help, Version}
+use Rattle.nl_arguments.specs.declared.arguments.Arguments.{Arguments}
+use Rattle.nl_arguments.specs.NumberWords.{number_in}
+
+-- `--NAME NUMBER`
+abbrev pub number_rule : Text → Rule
+number_rule name = record (new_rule name) { long = Some name; action = Some Set; value_names = 1 }
+
+-- `--NAME`, answered by a text
+abbrev pub request_rule : Text → ArgAction → Rule
+request_rule name action = record (new_rule name) { long = Some name; action = Some action }
+
+-- the program takes nothing yet
+abbrev pub bare : App
+bare = record {
+  top = record (new_shape (codes "nlvol")) {
+    no_binary_name = true;
+    disable_help_flag = true;
+    disable_version_flag = true;
+    has_version = true;
+  };
+  subs = [];
+}
+
+abbrev pub program : App
+program =
+    with_rule (with_rule (with_rule (with_rule bare
+    (number_rule (codes "segments"))) (number_rule (codes "blocks")))
+    (request_rule (codes "help") Help)) (request_rule (codes "version") Version)
+
+-- the number in the word, and 64 without one
+abbrev pub number_or_64 : Option Text → Option ℕ
+number_or_64 None = Some 64
+number_or_64 (Some word) = number_in word
+
+abbrev pub number_given : Text → List Row → Option ℕ
+number_given id rows = number_or_64 (first_of id rows)
+
+abbrev pub divided : ℕ → ℕ → Arguments
+divided segments blocks = record { segments = segments; blocks = blocks }
+
+abbrev pub arguments_given : List Row → Option Arguments
+arguments_given rows =
+    option_and_then (λ segments. option_map (divided segments) (number_given (codes "blocks") rows))
+    (number_given (codes "segments") rows)

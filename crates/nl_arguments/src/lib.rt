@@ -1,0 +1,14 @@
+//! The words that the program is started with, behind its own name: how the volume's device is
+//! divided, or what a person asks to be told.
+#![tactic(auto)]
+
+mod arguments;
+mod asked;
+mod numbers;
+mod options;
+mod script_commands;
+
+pub use arguments::Arguments;
+pub use asked::{ArgumentsFault, Asked};
+pub use options::read;
+pub use script_commands::SCRIPT_COMMANDS;

@@ -1,0 +1,200 @@
+-- Lines by computation, as a check of the definitions against answers made by hand.
+use Rattle.std.proofs.Common.{◌≡◌, ℕ, Bool, true, false, [], ◌∷◌, refl, Option, None, Some, Result, Ok, Err}
+use Rattle.std.specs.Prelude.{codes}
+use Rattle.clap.specs.Words.{Text}
+use Rattle.clap.proofs.OnLiterals.{clap_on_literals}
+use Rattle.nl_types.specs.declared.event.Change.TheVariants.{Create, Write, Rename}
+use Rattle.nl_types.specs.declared.event.Mode.TheVariants.{Snapshot}
+use Rattle.nl_commands.specs.declared.command.CheckpointRange.TheVariants.{One, Between, Since}
+use Rattle.nl_commands.specs.declared.command.Command.{Command}
+use Rattle.nl_commands.specs.declared.command.Command.TheVariants.{At, Chcp, Lscp, Rmcp, Change, Fill, Show}
+use Rattle.nl_commands.specs.declared.command.Shown.TheVariants.{Content}
+use Rattle.nl_commands.specs.declared.error.LineError.{LineError}
+use Rattle.nl_commands.specs.declared.error.LineError.TheVariants.{Usage}
+use Rattle.nl_commands.specs.CommandNames.{command_meant}
+
+abbrev Meant : Type 0
+Meant = Result Command LineError
+
+abbrev two : Text → Text → Meant
+two a b = command_meant (a ∷ b ∷ [])
+
+abbrev three : Text → Text → Text → Meant
+three a b c = command_meant (a ∷ b ∷ c ∷ [])
+
+abbrev four : Text → Text → Text → Text → Meant
+four a b c d = command_meant (a ∷ b ∷ c ∷ d ∷ [])
+
+abbrev five : Text → Text → Text → Text → Text → Meant
+five a b c d e = command_meant (a ∷ b ∷ c ∷ d ∷ e ∷ [])
+
+abbrev listing : (reversed snapshots : Bool) → Option ℕ → Option ℕ → Meant
+listing reversed snapshots from count =
+    Ok (Lscp (record { reverse = reversed; snapshots_only = snapshots; with_minor = false; from = from; count = count }))
+
+-- ---- numbers
+
+leading_zeros : two (codes "at") (codes "007") ≡ Ok (At 7)
+unfolding clap_on_literals
+leading_zeros = refl
+
+greatest_number : two (codes "at") (codes "18446744073709551615") ≡ Ok (At 18446744073709551615)
+unfolding clap_on_literals
+greatest_number = refl
+
+number_too_great : two (codes "at") (codes "18446744073709551616") ≡ Err Usage
+unfolding clap_on_literals
+number_too_great = refl
+
+plus_sign : two (codes "at") (codes "+5") ≡ Err Usage
+unfolding clap_on_literals
+plus_sign = refl
+
+no_digits : two (codes "at") [] ≡ Err Usage
+unfolding clap_on_literals
+no_digits = refl
+
+-- ---- options
+
+options_in_one_word : three (codes "lscp") (codes "-rs") (codes "-n5") ≡ listing true true None (Some 5)
+unfolding clap_on_literals
+options_in_one_word = refl
+
+value_in_the_next_word : four (codes "lscp") (codes "-i") (codes "9") (codes "-r") ≡ listing true false (Some 9) None
+unfolding clap_on_literals
+value_in_the_next_word = refl
+
+value_behind_equals : two (codes "lscp") (codes "-n=5") ≡ listing false false None (Some 5)
+unfolding clap_on_literals
+value_behind_equals = refl
+
+option_twice : three (codes "lscp") (codes "-r") (codes "-r") ≡ Err Usage
+unfolding clap_on_literals
+option_twice = refl
+
+value_twice : three (codes "lscp") (codes "-n5") (codes "-n6") ≡ Err Usage
+unfolding clap_on_literals
+value_twice = refl
+
+value_missing : two (codes "lscp") (codes "-n") ≡ Err Usage
+unfolding clap_on_literals
+value_missing = refl
+
+value_with_a_hyphen : three (codes "lscp") (codes "-n") (codes "-5") ≡ Err Usage
+unfolding clap_on_literals
+value_with_a_hyphen = refl
+
+attached_value_with_a_hyphen : two (codes "lscp") (codes "-n-5") ≡ Err Usage
+unfolding clap_on_literals
+attached_value_with_a_hyphen = refl
+
+unknown_option : two (codes "lscp") (codes "-x") ≡ Err Usage
+unfolding clap_on_literals
+unknown_option = refl
+
+short_help : two (codes "mkcp") (codes "-h") ≡ Err Usage
+unfolding clap_on_literals
+short_help = refl
+
+long_help : two (codes "mkcp") (codes "--help") ≡ Err Usage
+unfolding clap_on_literals
+long_help = refl
+
+version : two (codes "mkcp") (codes "--version") ≡ Err Usage
+unfolding clap_on_literals
+version = refl
+
+lone_hyphen : two (codes "create") (codes "-") ≡ Err Usage
+unfolding clap_on_literals
+lone_hyphen = refl
+
+hyphen_behind_the_options : three (codes "create") (codes "--") (codes "-") ≡ Ok (Change (Create (codes "-")))
+unfolding clap_on_literals
+hyphen_behind_the_options = refl
+
+second_end_of_options : three (codes "create") (codes "--") (codes "--") ≡ Ok (Change (Create (codes "--")))
+unfolding clap_on_literals
+second_end_of_options = refl
+
+option_behind_an_operand : four (codes "cat") (codes "/f") (codes "-m") (codes "2") ≡ Ok (Show Content (Some 2) (codes "/f"))
+unfolding clap_on_literals
+option_behind_an_operand = refl
+
+-- ---- operands
+
+empty_path : two (codes "create") [] ≡ Ok (Change (Create []))
+unfolding clap_on_literals
+empty_path = refl
+
+path_missing : command_meant (codes "create" ∷ []) ≡ Err Usage
+unfolding clap_on_literals
+path_missing = refl
+
+word_too_many : three (codes "create") (codes "/f") (codes "/g") ≡ Err Usage
+unfolding clap_on_literals
+word_too_many = refl
+
+text_with_a_hyphen : four (codes "write") (codes "/f") (codes "0") (codes "-x") ≡ Err Usage
+unfolding clap_on_literals
+text_with_a_hyphen = refl
+
+text_behind_the_options : five (codes "write") (codes "--") (codes "/f") (codes "0") (codes "-x") ≡ Ok (Change (Write (codes "/f") 0 (codes "-x")))
+unfolding clap_on_literals
+text_behind_the_options = refl
+
+moves : three (codes "mv") (codes "/f") (codes "/g") ≡ Ok (Change (Rename (codes "/f") (codes "/g")))
+unfolding clap_on_literals
+moves = refl
+
+fills_at_most : five (codes "fill") (codes "/f") (codes "3") (codes "255") (codes "67108866") ≡ Ok (Fill (codes "/f") 3 255 67108865)
+unfolding clap_on_literals
+fills_at_most = refl
+
+no_byte : five (codes "fill") (codes "/f") (codes "0") (codes "256") (codes "1") ≡ Err Usage
+unfolding clap_on_literals
+no_byte = refl
+
+modes_of_two : four (codes "chcp") (codes "ss") (codes "3") (codes "2") ≡ Ok (Chcp Snapshot (3 ∷ 2 ∷ []))
+unfolding clap_on_literals
+modes_of_two = refl
+
+mode_of_none : two (codes "chcp") (codes "ss") ≡ Err Usage
+unfolding clap_on_literals
+mode_of_none = refl
+
+no_mode : three (codes "chcp") (codes "sp") (codes "3") ≡ Err Usage
+unfolding clap_on_literals
+no_mode = refl
+
+-- ---- ranges
+
+all_ranges : five (codes "rmcp") (codes "4") (codes "1..3") (codes "..2") (codes "5..") ≡ Ok (Rmcp false (One 4 ∷ Between 1 3 ∷ Between 1 2 ∷ Since 5 ∷ []))
+unfolding clap_on_literals
+all_ranges = refl
+
+ranges_that_are_judged : four (codes "rmcp") (codes "0..3") (codes "..0") (codes "-f") ≡ Ok (Rmcp true (Between 0 3 ∷ Between 1 0 ∷ []))
+unfolding clap_on_literals
+ranges_that_are_judged = refl
+
+dots_alone : two (codes "rmcp") (codes "..") ≡ Err Usage
+unfolding clap_on_literals
+dots_alone = refl
+
+three_dots : two (codes "rmcp") (codes "1...2") ≡ Err Usage
+unfolding clap_on_literals
+three_dots = refl
+
+one_bad_word : three (codes "rmcp") (codes "1") (codes "x") ≡ Err Usage
+unfolding clap_on_literals
+one_bad_word = refl
+
+-- ---- names
+
+case_counts : two (codes "At") (codes "5") ≡ Err Usage
+case_counts = refl
+
+help_is_no_command : command_meant (codes "help" ∷ []) ≡ Err Usage
+help_is_no_command = refl
+
+empty_name : command_meant ([] ∷ []) ≡ Err Usage
+empty_name = refl

@@ -1,0 +1,7 @@
+mod DotParts
+mod ExampleLines
+mod Flags
+mod OneSplitting
+mod Parsing
+mod WordLists
+mod WordParts

@@ -1,0 +1,15 @@
+pub mod AskingCommands
+pub mod CheckpointCommands
+pub mod CommandNames
+pub mod FileCommands
+pub mod GivenOperands
+pub mod Grammars
+pub mod Kinds
+pub mod LineMeanings
+pub mod NumberWords
+pub mod Outcomes
+pub mod RangeWords
+pub mod SegmentCommands
+pub mod SharedForms
+pub mod Splitting
+pub mod SplittingLaws

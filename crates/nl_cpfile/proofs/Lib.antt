@@ -1,0 +1,6 @@
+pub mod Rising
+pub mod Found
+pub mod Told
+pub mod Ranges
+pub mod ToldChanges
+pub mod Listings

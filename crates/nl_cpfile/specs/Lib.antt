@@ -1,0 +1,4 @@
+pub mod Tables
+pub mod Searching
+pub mod Judging
+pub mod Inside

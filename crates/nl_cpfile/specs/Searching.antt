@@ -1,0 +1,16 @@
+-- Where the checkpoint of a number stands in a list.
+use Rattle.std.specs.Prelude.{◌≡◌, ℕ, ◌<◌, List, length, map, Option, None}
+use Rattle.std.specs.List.{HoldsAt}
+use Rattle.std.specs.Option.{MatchOption}
+use Rattle.std.specs.FinMap.{find}
+use Rattle.std.specs.Ordering.{nat_cmp}
+use Rattle.nl_cpfile.specs.declared.checkpoint.Checkpoint.{Checkpoint}
+use Rattle.nl_cpfile.specs.Tables.{by_number}
+
+pub record HasNumberAt (kept : List Checkpoint) (n i : ℕ) : Type 0 where
+  pub inside : i < length kept
+  pub number : HoldsAt (λ (c : Checkpoint). c.number ≡ n) kept i
+
+-- the place is that of the number, or no checkpoint has it
+abbrev pub IsPlaceOf : List Checkpoint → ℕ → Option ℕ → Type 0
+IsPlaceOf kept n place = MatchOption place (find nat_cmp n (map by_number kept) ≡ None) (HasNumberAt kept n)

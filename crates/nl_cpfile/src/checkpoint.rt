@@ -1,0 +1,54 @@
+//! A kept checkpoint, and what is judged of it alone.
+ghost use Rattle.std.specs.Prelude.{◌≡◌};
+ghost use Rattle.nl_types.specs.Rows as rows;
+ghost use Rattle.nl_cpfile.specs.Tables as tables;
+
+use nl_layout::Root;
+use nl_types::{CheckpointNumber, Mode, Row, VolError};
+
+/// A kept checkpoint: its tree is read from the blocks under its root.
+#[derive(Clone, Copy, Debug, PartialEq, Eq)]
+pub struct Checkpoint {
+    pub number: CheckpointNumber,
+    pub mode: Mode,
+    /// The moment at which it was made, in whole seconds. Stamps never fall.
+    pub stamp: u64,
+    /// The root of its file of inodes.
+    pub root: Root,
+    /// How many inodes are in use: the paths of its tree, the root's included.
+    pub inodes: u64,
+}
+
+impl Checkpoint {
+    /// What is told of it.
+    pub fn row(&self) -> Row
+        ensures { result ≡ tables.row_of self.now }
+    {
+        Row {
+            number: self.number,
+            stamp: self.stamp,
+            mode: self.mode,
+            minor: false,
+            inodes: self.inodes,
+        }
+    }
+
+    /// Why it can't be removed, where the latest checkpoint has this number: snapshots stay, and so does the latest one.
+    pub(crate) fn reason_to_stay(&self, latest: CheckpointNumber) -> Option<VolError>
+        ensures { result ≡ rows.reason_to_stay latest (tables.row_of self.now) }
+    {
+        if self.mode.is_snapshot() {
+            Some(VolError::IsSnapshot)
+        } else if self.number == latest {
+            Some(VolError::Latest)
+        } else {
+            None
+        }
+    }
+
+    pub(crate) fn is_between(&self, first: CheckpointNumber, last: CheckpointNumber) -> bool
+        ensures { result ≡ rows.is_between first last (tables.row_of self.now) }
+    {
+        first <= self.number && self.number <= last
+    }
+}

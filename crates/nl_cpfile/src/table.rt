@@ -1,0 +1,233 @@
+//! The checkpoints that are kept.
+ghost use Rattle.std.specs.Prelude.{◌≡◌, ◌<◌, [], ◌∷◌, IfOk, OnErr, OnOk};
+ghost use Rattle.std.specs.Option.{option_copied};
+ghost use Rattle.nl_types.specs.Calls.{IsUnlessMemory};
+ghost use Rattle.nl_types.specs.Limits.{checkpoint_number_limit};
+ghost use Rattle.nl_types.specs.Rows.{between, judged, kept_row, mode_change, range_removal, removal};
+ghost use Rattle.nl_types.specs.Rows as told;
+ghost use Rattle.nl_cpfile.specs.Tables as tables;
+
+use crate::checkpoint::Checkpoint;
+use crate::judging::{count_snapshots, is_no_range, judge};
+use crate::listing::listed;
+use crate::searching::place_of;
+use nl_types::{CheckpointNumber, Items, ListOptions, Mode, Range, Row, VolError};
+use std::alloc::{AllocError, Global};
+use std::marker::Model;
+use std::mem::replace;
+
+/// What is told of all kept checkpoints together.
+#[derive(Clone, Copy, Debug, PartialEq, Eq)]
+pub struct Cpstat {
+    /// The latest one's number.
+    pub latest: CheckpointNumber,
+    /// How many are kept.
+    pub count: usize,
+    /// How many of them are snapshots.
+    pub snapshots: usize,
+}
+
+/// The kept checkpoints, ascending by their numbers. Contracts see them, and for how many more there is room.
+#[derive(Drop)]
+pub struct Checkpoints {
+    earlier: Vec<Checkpoint>,
+    latest: Checkpoint,
+}
+
+impl Model for Checkpoints {
+    ghost use Rattle.nl_cpfile.specs.Inside.{roomy_of, table_of};
+    ghost use Rattle.nl_cpfile.specs.Tables.{IsTable, Roomy};
+
+    ghost Value = { Roomy };
+
+    ghost view = { roomy_of };
+
+    ghost invariant = { λ inside. IsTable (table_of inside) };
+}
+
+impl Checkpoints {
+    ghost use Rattle.nl_cpfile.specs.Tables.{ComesNext, IsTable, cpstat_of, kept_at, rows};
+
+    /// The first checkpoint alone, which may be the blank one of number 0. Takes no memory yet.
+    pub fn new(alloc: Global, first: Checkpoint) -> Self
+        requires limit { first.number < checkpoint_number_limit }
+        ensures { result.table ≡ record { earlier = []; latest = first } }
+    {
+        Checkpoints {
+            earlier: Vec::new(alloc),
+            latest: first,
+        }
+    }
+
+    /// The latest checkpoint.
+    pub fn latest(&self) -> &Checkpoint
+        ensures latest { result.now ≡ self.now.table.latest }
+        ensures table { IsTable self.now.table }
+    {
+        &self.latest
+    }
+
+    /// The kept checkpoint of a number.
+    pub fn kept(&self, number: CheckpointNumber) -> Option<&Checkpoint>
+        ensures { option_copied result ≡ kept_at number self.now.table }
+    {
+        match place_of(self.earlier.as_slice(), number) {
+            Some(index) => Some(&self.earlier[index]),
+            None if self.latest.number == number => Some(&self.latest),
+            None => None,
+        }
+    }
+
+    /// Makes room for one more checkpoint. Refused for memory alone.
+    pub fn reserve(&mut self) -> Result<(), AllocError>
+        ensures table { self.new.table ≡ self.old.table }
+        ensures room { OnOk result (0 < self.new.room) }
+        ensures same { OnErr result (self.new ≡ self.old) }
+    {
+        self.earlier.reserve(1)
+    }
+
+    /// Keeps one more checkpoint, which is now the latest one. Takes no memory.
+    pub fn add(&mut self, checkpoint: Checkpoint)
+        requires room { 0 < self.old.room }
+        requires next { ComesNext checkpoint self.old.table }
+        ensures { self.new.table ≡ tables.with_next checkpoint self.old.table }
+    {
+        let replaced = replace(&mut self.latest, checkpoint);
+        if self.earlier.push(replaced).is_err() {
+            unreachable!();
+        }
+    }
+
+    /// Keeps a checkpoint in this mode. Takes no memory. Refused by `NoCheckpoint` where it isn't kept.
+    pub fn set_mode(&mut self, number: CheckpointNumber, mode: Mode) -> Result<(), VolError>
+        ensures judged { result ≡ mode_change number (rows self.old.table) }
+        ensures changed { OnOk result (self.new.table ≡ tables.with_mode number mode self.old.table) }
+        ensures told { OnOk result
+            (rows self.new.table ≡ told.with_mode number mode (rows self.old.table)) }
+        ensures same { OnErr result (self.new ≡ self.old) }
+    {
+        if self.latest.number == number {
+            self.latest.mode = mode;
+            return Ok(());
+        }
+        match place_of(self.earlier.as_slice(), number) {
+            Some(index) => {
+                self.earlier[index].mode = mode;
+                Ok(())
+            }
+            None => Err(VolError::NoCheckpoint),
+        }
+    }
+
+    /// Removes a checkpoint. Takes no memory. Refused by `NoCheckpoint` where it isn't kept, by `IsSnapshot` where it is a
+    /// snapshot, and by `Latest` where it is the latest one.
+    pub fn remove(&mut self, number: CheckpointNumber) -> Result<(), VolError>
+        ensures judged { result ≡ removal number self.old.table.latest.number (rows self.old.table) }
+        ensures removed { OnOk result (self.new.table ≡ tables.without (number ∷ []) self.old.table) }
+        ensures told { OnOk result
+            (rows self.new.table ≡ told.without (number ∷ []) (rows self.old.table)) }
+        ensures same { OnErr result (self.new ≡ self.old) }
+    {
+        if self.latest.number == number {
+            return Err(match self.latest.mode {
+                Mode::Plain => VolError::Latest,
+                Mode::Snapshot => VolError::IsSnapshot,
+            });
+        }
+        match place_of(self.earlier.as_slice(), number) {
+            None => Err(VolError::NoCheckpoint),
+            Some(index) => match self.earlier[index].mode {
+                Mode::Snapshot => Err(VolError::IsSnapshot),
+                Mode::Plain => {
+                    self.earlier.remove(index);
+                    Ok(())
+                }
+            },
+        }
+    }
+
+    /// Removes the checkpoints of a range, both ends included, but for the snapshots and the latest one, and answers what
+    /// became of each. Refused by `BadRange` where the first number is 0 or above the last one, by `NoCheckpoint` where none
+    /// of the range is kept, and by `Memory`.
+    pub fn remove_range(
+        &mut self,
+        alloc: Global,
+        first: CheckpointNumber,
+        last: CheckpointNumber,
+    ) -> Result<Range, VolError>
+        ensures judged { IsUnlessMemory result
+            (range_removal first last self.old.table.latest.number (rows self.old.table)) }
+        ensures removed { IfOk result (λ range.
+            self.new.table ≡ tables.without range.removed self.old.table) }
+        ensures told { IfOk result (λ range.
+            rows self.new.table ≡ told.without range.removed (rows self.old.table)) }
+        ensures same { OnErr result (self.new ≡ self.old) }
+    {
+        let range = self.judge(alloc, first, last)?;
+        self.earlier.retain(|checkpoint| checkpoint.mode.is_snapshot()
+            || !checkpoint.is_between(first, last));
+        Ok(range)
+    }
+
+    /// What becomes of the checkpoints of a range, which is refused as its removal is.
+    fn judge(
+        &self,
+        alloc: Global,
+        first: CheckpointNumber,
+        last: CheckpointNumber,
+    ) -> Result<Range, VolError>
+        ensures judged { IsUnlessMemory result
+            (range_removal first last self.now.table.latest.number (rows self.now.table)) }
+        ensures found { IfOk result (λ range. range ≡ judged self.now.table.latest.number
+            (between first last (rows self.now.table))) }
+    {
+        if is_no_range(first, last) {
+            return Err(VolError::BadRange);
+        }
+        let range = judge(alloc, &self.earlier, &self.latest, first, last)?;
+        if range.is_empty() {
+            return Err(VolError::NoCheckpoint);
+        }
+        Ok(range)
+    }
+
+    /// Forgets all checkpoints but the latest one. Takes no memory.
+    pub fn forget_earlier(&mut self)
+        ensures { self.new.table ≡ tables.with_latest_alone self.old.table }
+    {
+        self.earlier.clear();
+    }
+
+    /// What is told of a kept checkpoint. Takes no memory. Refused by `NoCheckpoint` where it isn't kept.
+    pub fn cpinfo(&self, number: CheckpointNumber) -> Result<Row, VolError>
+        ensures { result ≡ kept_row number (rows self.now.table) }
+    {
+        match self.kept(number) {
+            Some(checkpoint) => Ok(checkpoint.row()),
+            None => Err(VolError::NoCheckpoint),
+        }
+    }
+
+    /// How many checkpoints and snapshots are kept, and the latest one's number. Takes no memory.
+    pub fn cpstat(&self) -> Cpstat
+        ensures { result ≡ cpstat_of self.now.table }
+    {
+        let earlier = self.earlier.as_slice();
+        let latest = usize::from(self.latest.mode.is_snapshot());
+        Cpstat {
+            latest: self.latest.number,
+            count: earlier.len() + 1,
+            snapshots: count_snapshots(earlier) + latest,
+        }
+    }
+
+    /// What is told of the checkpoints that a listing shows, in its order. Takes memory for these alone, and is refused for
+    /// it alone.
+    pub fn listing(&self, alloc: Global, options: &ListOptions) -> Result<Items<Row>, AllocError>
+        ensures { IfOk result (λ listed. listed ≡ told.listing options.now (rows self.now.table)) }
+    {
+        let listed = listed(alloc, self.earlier.as_slice(), &self.latest, options)?;
+        Ok(Items::from_vec(listed))
+    }
+}

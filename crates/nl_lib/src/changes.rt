@@ -1,0 +1,72 @@
+//! Changes of a volume's checkpoints. Each call is one event of the pen, or none.
+ghost use Rattle.std.specs.Prelude.{◌≡◌, ◌≢◌, IfErr, IfOk};
+ghost use Rattle.nl_types.specs.declared.event.Event.TheVariants.{ChangeMode, Checkpoint, Remove};
+ghost use Rattle.nl_types.specs.declared.event.Mode.TheVariants.{Plain};
+ghost use Rattle.nl_types.specs.Worlds as worlds;
+ghost use Rattle.nl_types.specs.Worlds.{World};
+ghost use Rattle.nl_core.specs.Layout.{Does, MeansWorld, unshared};
+ghost use Rattle.nl_lib.specs.Calls.{Syncs, checkpoint_reply, done_reply};
+
+use nl_core::Pen;
+use nl_device::Device;
+use nl_types::{CheckpointNumber, Event, Mode, VolError};
+
+/// Makes a plain checkpoint a snapshot or a snapshot a plain checkpoint, after `nilfs_change_cpmode`. A checkpoint that has
+/// the mode stays as it is. Refused by `NoCheckpoint` where it isn't kept, and by `Mounted` where a snapshot that is mounted
+/// would become plain. It takes no memory.
+pub fn change_cpmode<D: Device>(
+    pen: &mut Pen<D>,
+    number: CheckpointNumber,
+    mode: Mode,
+) -> Result<(), VolError>
+    ensures does { Does unshared pen.old (ChangeMode number mode) (done_reply result) pen.new }
+    ensures memory { IfErr result (λ e. e ≢ VolError.Memory) }
+{
+    pen.means_a_world();
+    pen.apply(&Event::ChangeMode(number, mode))?;
+    Ok(())
+}
+
+/// Removes a plain checkpoint, after `nilfs_delete_checkpoint`. Refused by `NoCheckpoint` where it isn't kept, by `IsSnapshot`
+/// where it is a snapshot, and by `Latest` where it is the latest one, in this order. It takes no memory.
+pub fn delete_checkpoint<D: Device>(
+    pen: &mut Pen<D>,
+    number: CheckpointNumber,
+) -> Result<(), VolError>
+    ensures does { Does unshared pen.old (Remove number) (done_reply result) pen.new }
+    ensures memory { IfErr result (λ e. e ≢ VolError.Memory) }
+{
+    pen.means_a_world();
+    pen.apply(&Event::Remove(number))?;
+    Ok(())
+}
+
+/// Makes a plain checkpoint, and answers its number.
+fn make_checkpoint<D: Device>(pen: &mut Pen<D>, now: u64) -> Result<CheckpointNumber, VolError>
+    ensures does { Does unshared pen.old (Checkpoint Plain now) (checkpoint_reply result) pen.new }
+    ensures latest { IfOk result (λ number. number ≡ pen.new.lists.table.latest.number) }
+    ensures told { IfOk result (λ number. (w : World) → MeansWorld pen.new w → number ≡ worlds.latest w) }
+{
+    pen.means_a_world();
+    pen.apply(&Event::Checkpoint {
+        mode: Mode::Plain,
+        moment: now,
+    })?;
+    Ok(pen.latest())
+}
+
+/// Makes a plain checkpoint where something is dirty, and answers the latest one's number, after `nilfs_sync`. The moment is
+/// in whole seconds. Refused as a checkpoint is, and never where nothing is dirty.
+pub fn sync<D: Device>(pen: &mut Pen<D>, now: u64) -> Result<CheckpointNumber, VolError>
+    ensures synced { Syncs now pen.old.lists.dirty pen.old result pen.new }
+    ensures world { (w : World) → MeansWorld pen.old w
+        → Syncs now w.dirty pen.old result pen.new }
+    ensures latest { IfOk result (λ number. number ≡ pen.new.lists.table.latest.number) }
+    ensures told { IfOk result (λ number. (w : World) → MeansWorld pen.new w → number ≡ worlds.latest w) }
+{
+    if pen.is_dirty() {
+        make_checkpoint(pen, now)
+    } else {
+        Ok(pen.latest())
+    }
+}

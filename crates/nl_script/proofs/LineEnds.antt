@@ -1,0 +1,64 @@
+-- What a line comes to, by what its parts came to.
+use Rattle.std.proofs.Common.{◌≡◌, ◌∙◌, ◌⊎◌, ap, sym, refl, subst, inl, inr, List, ℕ, Bool, Option, Result, OnOk}
+use Rattle.std.specs.Io.KnownBytes.{Appends}
+use Rattle.nl_types.specs.Worlds.{Reply}
+use Rattle.nl_types.specs.declared.error.VolError.TheVariants as error
+use Rattle.nl_types.specs.declared.event.Event.{Event}
+use Rattle.nl_commands.specs.declared.command.Command.{Command}
+use Rattle.nl_commands.specs.declared.command.Command.TheVariants.{Lssu}
+use Rattle.nl_cpfile.specs.declared.table.Cpstat.{Cpstat}
+use Rattle.nl_texts.proofs.Appending.{OnOk-same}
+use Rattle.nl_texts.specs.Texts.{Text}
+use Rattle.nl_script.specs.ExitStatus.{status_of}
+use Rattle.nl_script.specs.Lines.{AreEventsDone, AreListed, AreOutcomesTold, ComesTo, Habits, IsCommandDone, IsListingRefused, LacksMemory, LineEnd, ended, refused}
+use Rattle.nl_script.specs.OutcomeTexts.{text_of}
+use Rattle.nl_script.specs.Outcomes.{is_quiet}
+use Rattle.nl_script.specs.declared.status.Status.{Status}
+
+same : {A : Type 0} (f : Bool → List Event → List Reply → A) (b c : Bool) (es events : List Event) (rs replies : List Reply)
+    → b ≡ c → es ≡ events → rs ≡ replies → f b es rs ≡ f c events replies
+same f b c es events rs replies first second third =
+    ap (λ (x : Bool). f x es rs) first ∙ (ap (λ (xs : List Event). f c xs rs) second ∙ ap (λ (ys : List Reply). f c events ys) third)
+
+-- the events of a command are done and told
+pub told_end : {S X E : Type 0} (does : S → Event → Reply → S → Type 0) (counts : S → Cpstat → Type 0) (number moment : ℕ) (command : Command)
+    (old new : S) (events es : List Event) (replies rs : List Reply) (quiet : Bool) (result : Status × Result X E) (before after : Option Text)
+    → quiet ≡ is_quiet command → es ≡ events → rs ≡ replies
+    → AreEventsDone does counts moment command events replies old new
+    → result.0 ≡ status_of quiet es rs → OnOk result.1 (Appends before after (text_of number quiet es rs))
+    → ComesTo (λ end. AreOutcomesTold does counts number moment command old new end ⊎ LacksMemory number moment old new end) moment result before after
+told_end does counts number moment command old new events es replies rs quiet result before after quiet_is events_are replies_are done status_is written =
+    let text : Text = text_of number (is_quiet command) events replies in
+    let status = same status_of quiet (is_quiet command) es events rs replies quiet_is events_are replies_are in
+    let texts = same (text_of number) quiet (is_quiet command) es events rs replies quiet_is events_are replies_are in
+    record {
+      text = text;
+      does = inl (record {
+        events = events;
+        replies = replies;
+        done = done;
+        end_is = ap (λ (s : Status). ended moment s text) (status_is ∙ status);
+      });
+      written = OnOk-same result.1 before after _ _ texts written;
+    }
+
+listing_cases : {S : Type 0} (habits : Habits S) (number moment : ℕ) (all : Bool) (old : S) (end : LineEnd)
+    → (AreListed habits.tells habits.measures moment all old end ⊎ IsListingRefused habits.tells number moment old end)
+    ⊎ (end ≡ refused number moment error.Memory)
+    → IsCommandDone habits number moment (Lssu all) old old end ⊎ LacksMemory number moment old old end
+listing_cases habits number moment all old end (inl told) = inl (refl, told)
+listing_cases habits number moment all old end (inr lacks) = inr (refl, lacks)
+
+-- segments are listed
+pub listing_end : {S X E : Type 0} (habits : Habits S) (number moment : ℕ) (all : Bool) (command : Command) (old : S)
+    (result : Status × Result X E) (before after : Option Text) → command ≡ Lssu all
+    → ComesTo (λ end. (AreListed habits.tells habits.measures moment all old end ⊎ IsListingRefused habits.tells number moment old end)
+    ⊎ (end ≡ refused number moment error.Memory)) moment result before after
+    → ComesTo (λ end. IsCommandDone habits number moment command old old end ⊎ LacksMemory number moment old old end) moment result before after
+listing_end habits number moment all command old result before after is told = record {
+  text = told.text;
+  does = subst (λ (c : Command). IsCommandDone habits number moment c old old (ended moment result.0 told.text)
+      ⊎ LacksMemory number moment old old (ended moment result.0 told.text)) (sym is)
+      (listing_cases habits number moment all old (ended moment result.0 told.text) told.does);
+  written = told.written;
+}

@@ -1,0 +1,11 @@
+use Rattle.std.proofs.Common.{◌≡◌, ◌≤◌, take, length, vec_len}
+use Rattle.std.specs.Prelude.{vec_capacity}
+use Rattle.nl_types.specs.Runs.{Run}
+use Rattle.nl_script.proofs.running.run_events.Given as goal
+
+abbrev pub invariant-loop-event : goal.invariant-loop-event
+invariant-loop-event g l = record {
+  count : vec_len l.replies ≡ l.event-index;
+  room : length l.events ≤ vec_capacity l.replies;
+  so_far : Run g.V.Volume.does l.fn.volume (take l.event-index l.events) l.replies.items l.volume;
+}

@@ -1,0 +1,16 @@
+use Rattle.std.proofs.Common.{inl, refl}
+use Rattle.nl_script.proofs.sessions.run.Goals as goal
+
+pub returns-in-Ok-run_script : goal.returns-in-Ok-run_script
+returns-in-Ok-run_script g c = inl (
+  (record {
+    geometry = c.in-Ok.geometry;
+    segments = c.in-Ok.ensures.made.0;
+    blocks = c.in-Ok.ensures.made.1;
+    within = c.in-Ok.ensures.within.0 refl;
+    done = c.in-Ok-run_script.done;
+    runs = c.in-Ok-run_script.ensures.run;
+    status_is = c.exit_status.ensures;
+  }),
+  refl,
+)

@@ -1,0 +1,141 @@
+-- What the lines of a script do, one after another.
+use Rattle.std.specs.Prelude.{◌≡◌, ◌⊎◌, ◌+◌, ℕ, Bool, true, false, List, [], ◌∷◌, ◌++◌, length, Option, None, Some, Result, Ok, Err, OnOk}
+use Rattle.std.specs.Io.KnownBytes.{Appends}
+use Rattle.std.specs.List.{list_any}
+use Rattle.nl_types.specs.Runs.{Run}
+use Rattle.nl_types.specs.Worlds.{Reply}
+use Rattle.nl_types.specs.declared.error.VolError.{VolError}
+use Rattle.nl_types.specs.declared.error.VolError.TheVariants as error
+use Rattle.nl_types.specs.declared.event.Event.{Event}
+use Rattle.nl_types.specs.declared.segment.SegmentInfo.{SegmentInfo}
+use Rattle.nl_commands.specs.LineMeanings.{LineRead, MeansLine}
+use Rattle.nl_commands.specs.declared.command.CheckpointRange.{CheckpointRange}
+use Rattle.nl_commands.specs.declared.command.CheckpointRange.TheVariants.{Since}
+use Rattle.nl_commands.specs.declared.command.Command.{Command}
+use Rattle.nl_commands.specs.declared.command.Command.TheVariants.{At, Lssu, Rmcp}
+use Rattle.nl_commands.specs.declared.error.LineError.TheVariants.{Usage, Memory}
+use Rattle.nl_cpfile.specs.declared.table.Cpstat.{Cpstat}
+use Rattle.nl_sufile.specs.declared.table.Sustat.{Sustat}
+use Rattle.nl_texts.specs.RefusalTexts.{refusal_text, usage_text}
+use Rattle.nl_texts.specs.SegmentLines.{seg_header, seg_texts}
+use Rattle.nl_texts.specs.Texts.{Text}
+use Rattle.nl_script.specs.Events.{events_of}
+use Rattle.nl_script.specs.ExitStatus.{status_of}
+use Rattle.nl_script.specs.OutcomeTexts.{text_of}
+use Rattle.nl_script.specs.Outcomes.{is_quiet}
+use Rattle.nl_script.specs.declared.status.Status.{Status}
+use Rattle.nl_script.specs.declared.status.Status.TheVariants.{Fine, Refused, Misread}
+
+-- what a line comes to, with the moment that stands behind it
+pub record LineEnd : Type 0 where
+  pub moment : ℕ
+  pub status : Status
+  pub text : Text
+
+abbrev pub ended : (moment : ℕ) → Status → Text → LineEnd
+ended moment status text = record { moment = moment; status = status; text = text }
+
+-- the line is refused as a whole
+abbrev pub refused : (number moment : ℕ) → VolError → LineEnd
+refused number moment error = ended moment Refused (refusal_text number None error)
+
+-- what a volume does, and what it tells of itself
+pub record Habits (S : Type 0) : Type 1 where
+  pub does : S → Event → Reply → S → Type 0
+  pub tells : S → ℕ → Result SegmentInfo VolError → Type 0
+  pub counts : S → Cpstat → Type 0
+  pub measures : S → Sustat → Type 0
+
+abbrev pub habits_of : {S : Type 0} → (S → Event → Reply → S → Type 0) → (S → ℕ → Result SegmentInfo VolError → Type 0)
+    → (S → Cpstat → Type 0) → (S → Sustat → Type 0) → Habits S
+habits_of does tells counts measures = record { does = does; tells = tells; counts = counts; measures = measures }
+
+-- a range that is open to the right
+abbrev pub is_since : CheckpointRange → Bool
+is_since (Since first) = true
+is_since _ = false
+
+-- the command's events depend on which checkpoint is the latest
+abbrev pub is_open : Command → Bool
+is_open (Rmcp quiet ranges) = list_any is_since ranges
+is_open _ = false
+
+-- the latest checkpoint is what the volume told, where the command's events depend on it
+abbrev pub IsLatestFor : {S : Type 0} → (S → Cpstat → Type 0) → S → Command → ℕ → Type 0
+IsLatestFor counts old command latest = is_open command ≡ true → (stat : Cpstat) × counts old stat × (stat.latest ≡ latest)
+
+-- these are the events of a command, and they came to these replies
+pub record AreEventsDone {S : Type 0} (does : S → Event → Reply → S → Type 0) (counts : S → Cpstat → Type 0)
+    (moment : ℕ) (command : Command) (events : List Event) (replies : List Reply) (old new : S) : Type 0 where
+  pub latest : ℕ
+  pub latest_told : IsLatestFor counts old command latest
+  pub events_are : events ≡ events_of moment latest command
+  pub run : Run does old events replies new
+
+-- the events of a command are done, and all of their outcomes told
+pub record AreOutcomesTold {S : Type 0} (does : S → Event → Reply → S → Type 0) (counts : S → Cpstat → Type 0)
+    (number moment : ℕ) (command : Command) (old new : S) (end : LineEnd) : Type 0 where
+  pub events : List Event
+  pub replies : List Reply
+  pub done : AreEventsDone does counts moment command events replies old new
+  pub end_is : end ≡ ended moment (status_of (is_quiet command) events replies) (text_of number (is_quiet command) events replies)
+
+-- the segments from a number on are told to be these
+abbrev pub AreTold : {S : Type 0} → (S → ℕ → Result SegmentInfo VolError → Type 0) → S → ℕ → List SegmentInfo → Type 0
+AreTold tells old segment [] = Unit {0}
+AreTold tells old segment (info ∷ infos) = tells old segment (Ok info) × AreTold tells old (segment + 1) infos
+
+-- these are all segments, as many as the volume says that there are
+pub record AreAllTold {S : Type 0} (tells : S → ℕ → Result SegmentInfo VolError → Type 0) (measures : S → Sustat → Type 0)
+    (old : S) (infos : List SegmentInfo) : Type 0 where
+  pub stat : Sustat
+  pub measured : measures old stat
+  pub count : length infos ≡ stat.segments
+  pub told : AreTold tells old 0 infos
+
+-- all segments are listed
+abbrev pub AreListed : {S : Type 0} → (S → ℕ → Result SegmentInfo VolError → Type 0) → (S → Sustat → Type 0)
+    → (moment : ℕ) → Bool → S → LineEnd → Type 0
+AreListed tells measures moment all old end =
+    (infos : List SegmentInfo) × AreAllTold tells measures old infos × (end ≡ ended moment Fine (seg_header ++ seg_texts all infos))
+
+-- the volume refuses so to tell of a segment
+abbrev pub IsUntold : {S : Type 0} → (S → ℕ → Result SegmentInfo VolError → Type 0) → S → VolError → Type 0
+IsUntold tells old error = (segment : ℕ) × tells old segment (Err error)
+
+-- the listing is refused, since the volume refuses to tell of a segment
+abbrev pub IsListingRefused : {S : Type 0} → (S → ℕ → Result SegmentInfo VolError → Type 0) → (number moment : ℕ) → S → LineEnd → Type 0
+IsListingRefused tells number moment old end =
+    (error : VolError) × IsUntold tells old error × (end ≡ refused number moment error)
+
+-- a command is done
+abbrev pub IsCommandDone : {S : Type 0} → Habits S → (number moment : ℕ) → Command → S → S → LineEnd → Type 0
+IsCommandDone habits number moment (At later) old new end = (new ≡ old) × (end ≡ ended later Fine [])
+IsCommandDone habits number moment (Lssu all) old new end =
+    (new ≡ old) × (AreListed habits.tells habits.measures moment all old end ⊎ IsListingRefused habits.tells number moment old end)
+IsCommandDone habits number moment command old new end =
+    AreOutcomesTold habits.does habits.counts number moment command old new end
+
+-- memory was refused before anything was asked of the volume
+abbrev pub LacksMemory : {S : Type 0} → (number moment : ℕ) → S → S → LineEnd → Type 0
+LacksMemory number moment old new end = (new ≡ old) × (end ≡ refused number moment error.Memory)
+
+-- what was read is done
+abbrev pub IsReadDone : {S : Type 0} → Habits S → (number moment : ℕ) → LineRead → S → S → LineEnd → Type 0
+IsReadDone habits number moment (Err Usage) old new end = (new ≡ old) × (end ≡ ended moment Misread (usage_text number))
+IsReadDone habits number moment (Err Memory) old new end = LacksMemory number moment old new end
+IsReadDone habits number moment (Ok None) old new end = (new ≡ old) × (end ≡ ended moment Fine [])
+IsReadDone habits number moment (Ok (Some command)) old new end =
+    IsCommandDone habits number moment command old new end ⊎ LacksMemory number moment old new end
+
+-- a line is done: it is read as what it means, or memory was refused
+pub record IsLineDone {S : Type 0} (habits : Habits S) (number moment : ℕ) (line : List ℕ) (old new : S) (end : LineEnd) : Type 0 where
+  pub read : LineRead
+  pub means : MeansLine line read
+  pub does : IsReadDone habits number moment read old new end
+
+-- It is done so, with this status and the moment that stands behind it. Unless the writer failed, it got the text.
+pub record ComesTo {X E : Type 0} (Does : LineEnd → Type 0) (moment : ℕ) (result : Status × Result X E) (before after : Option Text) : Type 0 where
+  pub text : Text
+  pub does : Does (ended moment result.0 text)
+  pub written : OnOk result.1 (Appends before after text)

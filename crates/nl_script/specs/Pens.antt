@@ -1,0 +1,32 @@
+-- A pen as the volume of a script.
+use Rattle.std.specs.Prelude.{◌≡◌, ◌+◌, ℕ, length, Result, slice_get}
+use Rattle.std.specs.Option.{ok_or}
+use Rattle.nl_types.specs.Segments.{clean_segments}
+use Rattle.nl_types.specs.Worlds.{Reply}
+use Rattle.nl_types.specs.declared.error.VolError.{VolError}
+use Rattle.nl_types.specs.declared.error.VolError.TheVariants.{BadRange}
+use Rattle.nl_types.specs.declared.event.Event.{Event}
+use Rattle.nl_types.specs.declared.segment.SegmentInfo.{SegmentInfo}
+use Rattle.nl_cpfile.specs.Tables.{cpstat_of}
+use Rattle.nl_cpfile.specs.declared.table.Cpstat.{Cpstat}
+use Rattle.nl_sufile.specs.declared.table.Sustat.{Sustat}
+use Rattle.nl_core.specs.Layout.{Does, Layout, unshared}
+use Rattle.nl_script.specs.Lines.{Habits, habits_of}
+
+-- it leads on as a pen does that no one shares
+abbrev pub pen_does : Layout → Event → Reply → Layout → Type 0
+pen_does old event reply new = Does unshared old event reply new
+
+abbrev pub pen_tells : Layout → ℕ → Result SegmentInfo VolError → Type 0
+pen_tells l segment result = result ≡ ok_or (slice_get l.store.segments.each segment) BadRange
+
+abbrev pub pen_counts : Layout → Cpstat → Type 0
+pen_counts l stat = stat ≡ cpstat_of l.lists.table
+
+-- all segments, the clean ones, and the rest
+abbrev pub pen_measures : Layout → Sustat → Type 0
+pen_measures l stat = (stat.segments ≡ length l.store.segments.each)
+    × (stat.clean ≡ length (clean_segments l.store.segments)) × (stat.dirty + stat.clean ≡ stat.segments)
+
+abbrev pub pen_habits : Habits Layout
+pen_habits = habits_of pen_does pen_tells pen_counts pen_measures

@@ -1,0 +1,95 @@
+-- What a whole script does.
+use Rattle.std.specs.Prelude.{◌≡◌, ◌+◌, ◌-◌, ◌^◌, ◌<◌, ◌||◌, if◌then◌else◌, not, min, ℕ, Bool, true, false, List, [], ◌∷◌, length, Option, Some, IfSome}
+use Rattle.std.specs.Io.BufRead.{first_piece, drop_through}
+use Rattle.std.specs.Io.KnownBytes.{Appends}
+use Rattle.std.specs.List.{list_any, flat_map}
+use Rattle.nl_texts.specs.Texts.{Text}
+use Rattle.nl_script.specs.Lines.{Habits, IsLineDone, LineEnd}
+use Rattle.nl_script.specs.declared.scripts.Done.{Done}
+use Rattle.nl_script.specs.declared.status.Status.{Status}
+use Rattle.nl_script.specs.declared.status.Status.TheVariants.{Refused, Misread}
+
+-- the number of the line that comes behind so many: there is none above the greatest of 64 bits
+abbrev pub number_behind : (count : ℕ) → ℕ
+number_behind count = min (count + 1) (2 ^ 64 - 1)
+
+-- the lines are done one after another, behind so many others
+abbrev pub AreLinesDone : {S : Type 0} → Habits S → (count moment : ℕ) → List (List ℕ) → S → S → List LineEnd → Type 0
+AreLinesDone habits count moment [] old new [] = new ≡ old
+AreLinesDone {S = S} habits count moment (line ∷ lines) old new (end ∷ ends) =
+    (mid : S) × IsLineDone habits (number_behind count) moment line old mid end
+    × AreLinesDone habits (count + 1) end.moment lines mid new ends
+AreLinesDone habits count moment [] old new (end ∷ ends) = ⊥
+AreLinesDone habits count moment (line ∷ lines) old new [] = ⊥
+
+abbrev pub is_misread_status : Status → Bool
+is_misread_status Misread = true
+is_misread_status _ = false
+
+abbrev pub is_refused_status : Status → Bool
+is_refused_status Refused = true
+is_refused_status _ = false
+
+abbrev pub is_misread : LineEnd → Bool
+is_misread end = is_misread_status end.status
+
+abbrev pub is_refused : LineEnd → Bool
+is_refused end = is_refused_status end.status
+
+abbrev pub text_of_line : LineEnd → Text
+text_of_line end = end.text
+
+-- the moment that stands behind the lines
+abbrev pub last_moment : (moment : ℕ) → List LineEnd → ℕ
+last_moment moment [] = moment
+last_moment moment (end ∷ ends) = last_moment end.moment ends
+
+-- the bytes begin with these lines, each up to a line feed or the end of the bytes, and this is left
+abbrev pub BeginsWithLines : List ℕ → List (List ℕ) → List ℕ → Type 0
+BeginsWithLines bytes [] rest = bytes ≡ rest
+BeginsWithLines bytes (line ∷ lines) rest =
+    (0 < length bytes) × (line ≡ first_piece 10 bytes) × BeginsWithLines (drop_through 10 bytes) lines rest
+
+-- where the bytes of the input are known
+abbrev pub BeginsSo : Option (List ℕ) → List (List ℕ) → Option (List ℕ) → Type 0
+BeginsSo input lines left = IfSome input (λ bytes. (rest : List ℕ) × (left ≡ Some rest) × BeginsWithLines bytes lines rest)
+
+-- the lines of a script so far, of which none failed
+pub record IsRunSoFar {S : Type 0} (habits : Habits S) (moment : ℕ) (old now : S) (done : Done) (number : ℕ)
+    (input left before after : Option (List ℕ)) : Type 0 where
+  pub lines : List (List ℕ)
+  pub ends : List LineEnd
+  pub are_done : AreLinesDone habits 0 moment lines old now ends
+  pub number_is : number ≡ min (length lines) (2 ^ 64 - 1)
+  pub moment_is : done.moment ≡ last_moment moment ends
+  pub misread_is : done.misread ≡ list_any is_misread ends
+  pub refused_is : done.refused ≡ list_any is_refused ends
+  pub written : Appends before after (flat_map text_of_line ends)
+  pub read : BeginsSo input lines left
+
+-- What came of a script. Each flag is given by one of the lines. Unless a stream failed, they are all lines of the input, and all of their texts are written.
+pub record IsScriptDone {S : Type 0} (habits : Habits S) (moment : ℕ) (old new : S) (done : Done)
+    (input before after : Option (List ℕ)) : Type 0 where
+  pub lines : List (List ℕ)
+  pub ends : List LineEnd
+  pub are_done : AreLinesDone habits 0 moment lines old new ends
+  pub moment_is : done.moment ≡ last_moment moment ends
+  pub misread_is : done.misread ≡ list_any is_misread ends
+  pub refused_is : done.refused ≡ list_any is_refused ends
+  pub written : done.failed ≡ false → Appends before after (flat_map text_of_line ends)
+  pub read : IfSome input (λ bytes. (rest : List ℕ) × BeginsWithLines bytes lines rest × (done.failed ≡ false → rest ≡ []))
+
+-- a line is done and counted; where the script goes on, no stream failed
+pub record IsLineCounted {S : Type 0} (habits : Habits S) (number : ℕ) (line : List ℕ) (before_done after_done : Done)
+    (old new : S) (goes_on : Bool) (before after : Option Text) : Type 0 where
+  pub end : LineEnd
+  pub does : IsLineDone habits number before_done.moment line old new end
+  pub moment_is : after_done.moment ≡ end.moment
+  pub misread_is : after_done.misread ≡ (before_done.misread || is_misread end)
+  pub refused_is : after_done.refused ≡ (before_done.refused || is_refused end)
+  pub failed_is : after_done.failed ≡ (before_done.failed || not goes_on)
+  pub written : goes_on ≡ true → Appends before after end.text
+
+-- what the process ends with
+abbrev pub exit_status : Done → ℕ
+exit_status done = if done.misread then 2 else if done.refused || done.failed then 1 else 0

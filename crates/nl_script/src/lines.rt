@@ -1,0 +1,240 @@
+//! A line of a script on a volume.
+ghost use Rattle.std.specs.Prelude.{◌≡◌, ◌⊎◌, ◌≤◌, ◌<◌, ◌^◌, ◌++◌, [], ℕ, None, length, vec_capacity, IfErr, IfOk, OnErr, OnOk};
+ghost use Rattle.std.specs.Io.KnownBytes.{Appends};
+ghost use Rattle.std.specs.List.{list_any};
+ghost use Rattle.nl_texts.specs.RefusalTexts.{refusal_text};
+ghost use Rattle.nl_texts.specs.SegmentLines.{seg_header, seg_texts};
+ghost use Rattle.nl_script.specs.ExitStatus.{status_of};
+ghost use Rattle.nl_script.specs.Lines.{AreAllTold, AreEventsDone, AreListed, AreOutcomesTold, AreTold, ComesTo, IsCommandDone, IsLatestFor, IsLineDone, IsListingRefused, IsUntold, LacksMemory, habits_of, is_open, is_since, refused};
+ghost use Rattle.nl_script.specs.OutcomeTexts.{text_of};
+
+use crate::events::{events_of, is_quiet};
+use crate::running::run_events;
+use crate::status::Status;
+use crate::telling::{line_status, tell_all};
+use crate::volume::Volume;
+use nl_commands::{CheckpointRange, Command, LineError, read_line};
+use nl_texts as texts;
+use nl_types::{CheckpointNumber, Event, Reply, Segment, SegmentInfo, VolError};
+use std::alloc::{AllocError, Global};
+use std::io;
+use std::io::Write;
+
+/// What a line makes of the status, and whether what is told of it was written.
+pub type LineResult = (Status, io::Result<()>);
+
+fn refused<W: Write>(number: u64, error: VolError, out: &mut W) -> LineResult
+    ensures status { result.0 ≡ Status.Refused }
+    ensures written { OnOk result.1 (Appends (W.contents out.old) (W.contents out.new)
+        (refusal_text number None error)) }
+{
+    (
+        Status::Refused,
+        texts::refusal_text(number, None, error, out),
+    )
+}
+
+fn is_since(range: &CheckpointRange) -> bool
+    ensures { result ≡ is_since range.now }
+{
+    matches!(range, CheckpointRange::Since(_))
+}
+
+fn has_since(ranges: &[CheckpointRange]) -> bool
+    ensures { result ≡ list_any is_since ranges.now }
+{
+    for range in ranges {
+        if is_since(range) {
+            return true;
+        }
+    }
+    false
+}
+
+fn is_open(command: &Command) -> bool
+    ensures { result ≡ is_open command.now }
+{
+    match command {
+        Command::Rmcp { ranges, .. } => has_since(ranges.as_slice()),
+        _ => false,
+    }
+}
+
+/// The latest checkpoint, if the command's events depend on it.
+fn latest_for<V: Volume>(volume: &V, command: &Command) -> CheckpointNumber
+    ensures { IsLatestFor V.counts volume.now command.now result }
+{
+    if is_open(command) {
+        volume.cpstat().latest
+    } else {
+        CheckpointNumber::new(0)
+    }
+}
+
+/// Does a command's events. Refused, none was done.
+fn do_events<V: Volume>(
+    alloc: Global,
+    volume: &mut V,
+    moment: u64,
+    command: Command,
+) -> Result<(Vec<Event>, Vec<Reply>), AllocError>
+    ensures done { IfOk result (λ done. AreEventsDone V.does V.counts moment command
+        done.0.items done.1.items volume.old volume.new) }
+    ensures count { IfOk result (λ done. length done.0.items ≡ length done.1.items) }
+    ensures err { OnErr result (volume.new ≡ volume.old) }
+{
+    let latest = latest_for(volume, &command);
+    let events = events_of(alloc, moment, latest, command)?;
+    let replies = run_events(alloc, volume, events.as_slice())?;
+    Ok((events, replies))
+}
+
+fn tell_done<W: Write>(
+    number: u64,
+    quiet: bool,
+    events: &[Event],
+    replies: &[Reply],
+    out: &mut W,
+) -> LineResult
+    requires { length events.now ≡ length replies.now }
+    ensures status { result.0 ≡ status_of quiet events.now replies.now }
+    ensures written { OnOk result.1 (Appends (W.contents out.old) (W.contents out.new)
+        (text_of number quiet events.now replies.now)) }
+{
+    (
+        line_status(quiet, events, replies),
+        tell_all(number, quiet, events, replies, out),
+    )
+}
+
+fn run_all<V: Volume, W: Write>(
+    alloc: Global,
+    volume: &mut V,
+    moment: u64,
+    number: u64,
+    command: Command,
+    out: &mut W,
+) -> LineResult
+    ensures { ComesTo (λ end.
+        AreOutcomesTold V.does V.counts number moment command volume.old volume.new end
+        ⊎ LacksMemory number moment volume.old volume.new end)
+        moment result (W.contents out.old) (W.contents out.new) }
+{
+    let quiet = is_quiet(&command);
+    match do_events(alloc, volume, moment, command) {
+        Ok((events, replies)) => {
+            tell_done(number, quiet, events.as_slice(), replies.as_slice(), out)
+        }
+        Err(_) => refused(number, VolError::Memory, out),
+    }
+}
+
+/// What the volume tells of so many segments, in a vector with room for them.
+fn told_infos<V: Volume>(
+    volume: &V,
+    count: usize,
+    mut infos: Vec<SegmentInfo>,
+) -> Result<Vec<SegmentInfo>, VolError>
+    requires empty { infos.items ≡ [] }
+    requires room { count ≤ vec_capacity infos }
+    requires small { count < 2 ^ 32 }
+    ensures told { IfOk result (λ infos. AreTold V.tells volume.now 0 infos.items) }
+    ensures count { IfOk result (λ infos. length infos.items ≡ count) }
+    ensures refused { IfErr result (λ error. IsUntold V.tells volume.now error) }
+{
+    for segment in 0..count {
+        let info = volume.suinfo(Segment::new(segment as u32))?;
+        if infos.push(info).is_err() {
+            unreachable!();
+        }
+    }
+    Ok(infos)
+}
+
+/// What the volume tells of all segments.
+fn segment_infos<V: Volume>(alloc: Global, volume: &V) -> Result<Vec<SegmentInfo>, VolError>
+    ensures told { IfOk result (λ infos. AreAllTold V.tells V.measures volume.now infos.items) }
+    ensures small { IfOk result (λ infos. length infos.items ≤ 2 ^ 32) }
+    ensures refused { IfErr result (λ error.
+        (error ≡ VolError.Memory) ⊎ IsUntold V.tells volume.now error) }
+{
+    let count = volume.sustat().segments;
+    match Vec::with_capacity(alloc, count) {
+        Ok(infos) => told_infos(volume, count, infos),
+        Err(_) => Err(VolError::Memory),
+    }
+}
+
+fn list_segments<V: Volume, W: Write>(
+    alloc: Global,
+    volume: &V,
+    number: u64,
+    all: bool,
+    out: &mut W,
+) -> LineResult
+    ensures { (moment : ℕ) → ComesTo (λ end.
+        (AreListed V.tells V.measures moment all volume.now end
+        ⊎ IsListingRefused V.tells number moment volume.now end)
+        ⊎ (end ≡ refused number moment VolError.Memory))
+        moment result (W.contents out.old) (W.contents out.new) }
+{
+    match segment_infos(alloc, volume) {
+        Ok(infos) => (Status::Fine, tell_segments(infos.as_slice(), all, out)),
+        Err(error) => refused(number, error, out),
+    }
+}
+
+fn tell_segments<W: Write>(infos: &[SegmentInfo], all: bool, out: &mut W) -> io::Result<()>
+    requires { length infos.now ≤ 2 ^ 32 }
+    ensures { OnOk result (Appends (W.contents out.old) (W.contents out.new)
+        (seg_header ++ seg_texts all infos.now)) }
+{
+    texts::seg_header(out)?;
+    texts::seg_lines(infos, all, out)
+}
+
+fn run_command<V: Volume, W: Write>(
+    alloc: Global,
+    volume: &mut V,
+    moment: &mut u64,
+    number: u64,
+    command: Command,
+    out: &mut W,
+) -> LineResult
+    ensures { ComesTo (λ end.
+        IsCommandDone (habits_of V.does V.tells V.counts V.measures)
+        number moment.old command volume.old volume.new end
+        ⊎ LacksMemory number moment.old volume.old volume.new end)
+        moment.new result (W.contents out.old) (W.contents out.new) }
+{
+    match command {
+        Command::At(later) => {
+            *moment = later;
+            (Status::Fine, Ok(()))
+        }
+        Command::Lssu { all } => list_segments(alloc, volume, number, all, out),
+        command => run_all(alloc, volume, *moment, number, command, out),
+    }
+}
+
+/// Runs a line, without its line break, and writes what is told of it.
+pub fn run_line<V: Volume, W: Write>(
+    alloc: Global,
+    volume: &mut V,
+    moment: &mut u64,
+    number: u64,
+    line: &[u8],
+    out: &mut W,
+) -> LineResult
+    ensures { ComesTo (λ end.
+        IsLineDone (habits_of V.does V.tells V.counts V.measures)
+        number moment.old line.now volume.old volume.new end)
+        moment.new result (W.contents out.old) (W.contents out.new) }
+{
+    match read_line(alloc, line) {
+        Ok(None) => (Status::Fine, Ok(())),
+        Ok(Some(command)) => run_command(alloc, volume, moment, number, command, out),
+        Err(LineError::Usage) => (Status::Misread, texts::usage_text(number, out)),
+        Err(LineError::Memory) => refused(number, VolError::Memory, out),
+    }
+}

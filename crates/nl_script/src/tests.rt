@@ -1,0 +1,67 @@
+//! A script over a volume that answers from a list.
+use crate::{Done, Volume, script};
+use nl_cpfile::Cpstat;
+use nl_sufile::Sustat;
+use nl_types::{Answer, CheckpointNumber, Event, Reply, Segment, SegmentInfo, VolError};
+use std::process::Abort;
+
+/// Does nothing, but counts the checkpoints that it is asked for. It keeps none to remove.
+#[derive(Drop)]
+struct Counting {
+    latest: u64,
+}
+
+impl Volume for Counting {
+    ghost does = { λ old event reply new. Unit {0} };
+
+    ghost tells = { λ old segment result. Unit {0} };
+
+    ghost counts = { λ old stat. Unit {0} };
+
+    ghost measures = { λ old stat. Unit {0} };
+
+    fn apply(&mut self, event: &Event) -> Reply {
+        match event {
+            Event::Checkpoint { .. } => {
+                self.latest = self.latest.saturating_add(1);
+                Ok(Answer::Checkpoint(CheckpointNumber::new(self.latest)))
+            }
+            Event::Remove(_) => Err(VolError::NoCheckpoint),
+            Event::RemoveRange { last, .. } if last.get() == self.latest => Err(VolError::Latest),
+            _ => Ok(Answer::Done),
+        }
+    }
+
+    fn suinfo(&self, _: Segment) -> Result<SegmentInfo, VolError> {
+        Ok(SegmentInfo::clean())
+    }
+
+    fn sustat(&self) -> Sustat {
+        Sustat {
+            segments: 1,
+            clean: 1,
+            dirty: 0,
+        }
+    }
+
+    fn cpstat(&self) -> Cpstat {
+        Cpstat {
+            latest: CheckpointNumber::new(self.latest),
+            count: 1,
+            snapshots: 0,
+        }
+    }
+}
+
+#[test]
+fn a_script_is_told_of_line_by_line(rt: HostRuntime) {
+    let alloc = rt.alloc();
+    let mut volume = Counting { latest: 1 };
+    let mut output = Vec::new(alloc);
+    let input = b"at 5\nmkcp\nrmcp 7\nrmcp -f 7\nrmcp 1..\nmkdir\n# no command\nlssu -a".as_slice();
+    let done = script(alloc, &mut volume, 0, input, &mut output);
+    let expected =
+        b"2\n3: 7: error 10 NoCheckpoint\n5: error 14 Latest\n6: usage\n  SEGNUM       MOMENT STAT  NBLOCKS\n       0            0 ---         0\n";
+    assert!(rt; output.as_slice() == expected.as_slice());
+    assert!(rt; done.moment == 5 && done.misread && done.refused && !done.failed);
+}

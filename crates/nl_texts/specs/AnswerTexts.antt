@@ -1,0 +1,31 @@
+-- What is printed of answers.
+use Rattle.std.specs.Prelude.{ℕ, List, [], ◌∷◌, ◌++◌, codes}
+use Rattle.std.specs.Fmt.{decimal}
+use Rattle.std.specs.List.{flat_map}
+use Rattle.nl_types.specs.declared.kind.Kind.{Kind}
+use Rattle.nl_types.specs.declared.kind.Kind.TheVariants as kind
+use Rattle.nl_types.specs.declared.reply.Named.{Named}
+use Rattle.nl_types.specs.declared.reply.Stat.{Stat}
+use Rattle.nl_types.specs.declared.reply.Stat.TheVariants.{File, Dir}
+use Rattle.nl_texts.specs.Texts.{Text}
+
+abbrev pub number_text : ℕ → Text
+number_text number = decimal number ++ (10 ∷ [])
+
+abbrev pub content_text : List ℕ → Text
+content_text bytes = bytes ++ (10 ∷ [])
+
+abbrev pub stat_text : Stat → Text
+stat_text (File size) = codes "file " ++ (decimal size ++ (10 ∷ []))
+stat_text (Dir count) = codes "dir " ++ (decimal count ++ (10 ∷ []))
+
+-- what follows a name: a directory's has a slash
+abbrev pub name_end : Kind → Text
+name_end kind.File = 10 ∷ []
+name_end kind.Directory = 47 ∷ (10 ∷ [])
+
+abbrev pub name_text : Named → Text
+name_text named = named.name ++ name_end named.kind
+
+abbrev pub name_texts : List Named → Text
+name_texts names = flat_map name_text names

@@ -1,0 +1,29 @@
+-- The lines of kept checkpoints.
+use Rattle.std.specs.Prelude.{Bool, true, false, List, [], ◌∷◌, ◌++◌, codes}
+use Rattle.std.specs.Fmt.{decimal}
+use Rattle.std.specs.List.{flat_map}
+use Rattle.nl_types.specs.declared.event.Mode.{Mode}
+use Rattle.nl_types.specs.declared.event.Mode.TheVariants.{Plain, Snapshot}
+use Rattle.nl_types.specs.declared.row.Row.{Row}
+use Rattle.nl_texts.specs.Texts.{Text, right, left}
+
+abbrev pub mode_name : Mode → Text
+mode_name Plain = codes "cp"
+mode_name Snapshot = codes "ss"
+
+-- whether the volume made the checkpoint by itself
+abbrev pub minor_flag : Bool → Text
+minor_flag true = codes "i"
+minor_flag false = codes "-"
+
+abbrev pub cp_header : Text
+cp_header = codes "     CNO       MOMENT MODE FLG     ICNT" ++ (10 ∷ [])
+
+-- number, stamp, mode, flag, and inodes in use
+abbrev pub cp_text : Row → Text
+cp_text row =
+    right 8 (decimal row.number) ++ (32 ∷ (right 12 (decimal row.stamp) ++ (32 ∷ (left 4 (mode_name row.mode)
+    ++ (32 ∷ (left 3 (minor_flag row.minor) ++ (32 ∷ (right 8 (decimal row.inodes) ++ (10 ∷ [])))))))))
+
+abbrev pub cp_texts : List Row → Text
+cp_texts rows = flat_map cp_text rows

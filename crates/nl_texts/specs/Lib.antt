@@ -1,0 +1,5 @@
+pub mod Texts
+pub mod CheckpointLines
+pub mod SegmentLines
+pub mod RefusalTexts
+pub mod AnswerTexts

@@ -1,0 +1,43 @@
+-- What is printed where a line is refused, or is no command.
+use Rattle.std.specs.Prelude.{ℕ, [], ◌∷◌, ◌++◌, codes, Option, None, Some}
+use Rattle.std.specs.Fmt.{decimal}
+use Rattle.nl_types.specs.Refusals.{refusal_number, name_of}
+use Rattle.nl_types.specs.declared.error.VolError.{VolError}
+use Rattle.nl_types.specs.declared.error.VolError.TheVariants.{BadImage, BadConfig}
+use Rattle.nl_texts.specs.Texts.{Text}
+use Rattle.nl_texts.specs.declared.refusals.StartStep.{StartStep}
+use Rattle.nl_texts.specs.declared.refusals.StartStep.TheVariants.{Geometry, Start}
+
+-- the line of the script, and which of its numbers, where one alone was refused
+abbrev pub place_text : (line : ℕ) → Option ℕ → Text
+place_text line None = decimal line ++ codes ": "
+place_text line (Some number) = decimal line ++ (codes ": " ++ (decimal number ++ codes ": "))
+
+-- the condition of an image, or the line of a configuration
+abbrev pub detail_of : VolError → Option ℕ
+detail_of (BadImage condition) = Some condition
+detail_of (BadConfig line) = Some line
+detail_of _ = None
+
+abbrev pub detail_text : Option ℕ → Text
+detail_text None = []
+detail_text (Some detail) = 32 ∷ decimal detail
+
+-- the number and the name of a refusal
+abbrev pub kind_text : VolError → Text
+kind_text error = codes "error " ++ (decimal (refusal_number error) ++ (32 ∷ name_of error))
+
+abbrev pub refusal_text : (line : ℕ) → Option ℕ → VolError → Text
+refusal_text line number error =
+    place_text line number ++ (kind_text error ++ (detail_text (detail_of error) ++ (10 ∷ [])))
+
+abbrev pub usage_text : (line : ℕ) → Text
+usage_text line = decimal line ++ (codes ": usage" ++ (10 ∷ []))
+
+abbrev pub step_text : StartStep → Text
+step_text Geometry = codes "geometry: "
+step_text Start = codes "start: "
+
+-- what comes before the first line was refused
+abbrev pub start_text : StartStep → VolError → Text
+start_text step error = step_text step ++ (kind_text error ++ (10 ∷ []))

@@ -1,0 +1,17 @@
+//! What the program prints, to the byte.
+//!
+//! Each function writes one text of the program: a listing's header or line, an answer, a refusal. Its contract says which
+//! bytes the writer got, by a definition in `specs/`. Where the writer fails, a part of the text may be written.
+#![tactic(auto)]
+
+mod answers;
+mod checkpoints;
+mod columns;
+mod refusals;
+mod segments;
+
+pub use answers::{content_line, name_line, name_lines, number_line, stat_text};
+pub use checkpoints::{cp_header, cp_line, cp_lines};
+pub use columns::{left, right};
+pub use refusals::{StartStep, refusal_text, start_text, usage_text};
+pub use segments::{listed_seg_line, seg_header, seg_line, seg_lines};

@@ -1,0 +1,113 @@
+-- What changes of modes, removals, unmounts and listings do, in words that do not speak of how copies are listed.
+use Rattle.std.specs.Prelude.{◌≡◌, ℕ, ◌==◌, Bool, true, false, ◌&&◌, ◌||◌, not, if◌then◌else◌, nat_le, nat_lt, IsTrue, List, [], ◌∷◌, map, take, Option, None, Some, Ok}
+use Rattle.std.specs.Option.{option_map, option_map_or}
+use Rattle.std.specs.List.{list_all}
+use Rattle.std.specs.Ordering.{nat_cmp}
+use Rattle.std.specs.FinMap.{find}
+use Rattle.nl_types.specs.declared.event.Event.TheVariants.{ChangeMode, Remove, RemoveRange, Unmount}
+use Rattle.nl_types.specs.declared.event.Mode.{Mode}
+use Rattle.nl_types.specs.declared.reply.Answer.{Answer}
+use Rattle.nl_types.specs.declared.reply.Answer.TheVariants.{Done, Removed}
+use Rattle.nl_types.specs.declared.row.ListOptions.{ListOptions}
+use Rattle.nl_types.specs.declared.row.Range.{Range}
+use Rattle.nl_types.specs.declared.row.Row.{Row}
+use Rattle.nl_types.specs.Rows.{is_snapshot, is_among, find_row, is_shown, in_direction, listing, with_mode, without}
+use Rattle.nl_types.specs.Worlds.{World, Copy, IsWorld, Reply, step, copy_at, latest, row_of, rows, take_out, copies_with_mode}
+use Rattle.nl_types.specs.Runs.{Run}
+
+-- what there is, if it passes the test
+abbrev pub where_passes : {X : Type 0} → (X → Bool) → Option X → Option X
+where_passes test None = None
+where_passes test (Some x) = if test x then Some x else None
+
+-- ---- modes
+
+-- a change of a mode that is not refused gives it
+abbrev pub ModesAreSet : Type 0
+ModesAreSet =
+    (cleaned : Reply) (old new : World) (n : ℕ) (mode : Mode) (answer : Answer)
+    → step cleaned old (ChangeMode n mode) ≡ (Ok answer, new)
+    → option_map (λ copy. copy.mode) (copy_at new n) ≡ Some mode
+
+-- ---- removals
+
+-- a removal that is not refused takes out one copy
+abbrev pub RemovalsTakeOne : Type 0
+RemovalsTakeOne =
+    (cleaned : Reply) (old new : World) (n : ℕ) (answer : Answer)
+    → step cleaned old (Remove n) ≡ (Ok answer, new)
+    → (k : ℕ) → copy_at new k ≡ (if n == k then None else copy_at old k)
+
+-- a plain copy between two numbers that is not the latest one
+abbrev pub is_removable : World → (first last n : ℕ) → Copy → Bool
+is_removable w first last n copy =
+    (nat_le first n && nat_le n last) && not (is_snapshot copy.mode || n == latest w)
+
+-- the removal of a range takes out exactly these
+abbrev pub RangesTakeRemovable : Type 0
+RangesTakeRemovable =
+    (cleaned : Reply) (old new : World) (first last : ℕ) (range : Range)
+    → IsWorld old → step cleaned old (RemoveRange first last) ≡ (Ok (Removed range), new)
+    → (n : ℕ) → copy_at new n ≡ where_passes (λ copy. not (is_removable old first last n copy)) (copy_at old n)
+
+-- and answers exactly their numbers
+abbrev pub RangesAnswerRemovable : Type 0
+RangesAnswerRemovable =
+    (cleaned : Reply) (old new : World) (first last : ℕ) (range : Range)
+    → IsWorld old → step cleaned old (RemoveRange first last) ≡ (Ok (Removed range), new)
+    → (n : ℕ) → is_among range.removed n ≡ option_map_or (is_removable old first last n) (copy_at old n) false
+
+-- it is the removal of each number that it answers, one after another, and none of these is refused
+abbrev pub RangesAreRemovals : Type 0
+RangesAreRemovals =
+    (cleaned : Reply) (old new : World) (first last : ℕ) (range : Range)
+    → IsWorld old → step cleaned old (RemoveRange first last) ≡ (Ok (Removed range), new)
+    → Run (λ before event reply after. step cleaned before event ≡ (reply, after))
+    old (map Remove range.removed) (map (λ _. Ok Done) range.removed) new
+
+-- ---- mounts
+
+-- an unmount that is not refused takes out one mount
+abbrev pub UnmountsTakeOne : Type 0
+UnmountsTakeOne =
+    (cleaned : Reply) (old new : World) (m : ℕ) (answer : Answer)
+    → step cleaned old (Unmount m) ≡ (Ok answer, new)
+    → (k : ℕ) → find nat_cmp k new.mounts ≡ (if k == m then None else find nat_cmp k old.mounts)
+
+-- ---- listings
+
+-- there is a row of each copy
+abbrev pub RowsTellOfCopies : Type 0
+RowsTellOfCopies = (w : World) (n : ℕ) → find_row n (rows w) ≡ option_map (λ copy. row_of (n, copy)) (copy_at w n)
+
+-- rows change as copies do
+abbrev pub RowsFollowRemovals : Type 0
+RowsFollowRemovals = (w : World) (gone : List ℕ) → rows (take_out gone w) ≡ without gone (rows w)
+
+abbrev pub RowsFollowModes : Type 0
+RowsFollowModes =
+    (w : World) (n : ℕ) (mode : Mode)
+    → rows (record w { copies = copies_with_mode n mode w.copies }) ≡ with_mode n mode (rows w)
+
+-- where it is not said how many, a listing shows a row exactly where it is selected
+abbrev pub ListingsShowSelected : Type 0
+ListingsShowSelected =
+    (w : World) (options : ListOptions) (n : ℕ) → IsWorld w → options.count ≡ None
+    → find_row n (listing options (rows w)) ≡ where_passes (is_shown options) (find_row n (rows w))
+
+-- each row has a smaller number than all later ones
+abbrev pub are_numbers_rising : List Row → Bool
+are_numbers_rising [] = true
+are_numbers_rising (row ∷ rows) = list_all (λ later. nat_lt row.number later.number) rows && are_numbers_rising rows
+
+-- and its numbers rise, or fall where it is reversed
+abbrev pub ListingsAreInOrder : Type 0
+ListingsAreInOrder =
+    (w : World) (options : ListOptions) → IsWorld w → options.count ≡ None
+    → IsTrue (are_numbers_rising (in_direction options.reverse (listing options (rows w))))
+
+-- where it is said how many, it shows as many of these, from the first one on
+abbrev pub ListingsEndAtCount : Type 0
+ListingsEndAtCount =
+    (w : World) (options : ListOptions) (count : ℕ) → options.count ≡ Some count
+    → listing options (rows w) ≡ take count (listing (record options { count = None }) (rows w))
