@@ -1,5 +1,5 @@
--- What changes of modes, removals, unmounts and listings do to the world that a pen means.
-use Rattle.std.proofs.Common.{◌≡◌, ◌≢◌, ℕ, Bool, true, false, cond, not, eqb, List, [], ◌∷◌, refl, sym, ap, ◌∙◌, subst, inl, inr}
+-- What changes of modes, removals, expiries, unmounts and listings do to the world that a pen means.
+use Rattle.std.proofs.Common.{◌≡◌, ◌≢◌, ℕ, ◌-◌, Bool, true, false, cond, not, eqb, List, [], ◌∷◌, refl, sym, ap, ◌∙◌, subst, inl, inr}
 use Rattle.std.specs.Prelude.{map, Option, Some, None, Result, Ok, Err, ◌||◌, ◌&&◌}
 use Rattle.std.specs.Option.{is_none, ok_or}
 use Rattle.std.specs.List.{AllZip, filter}
@@ -8,24 +8,27 @@ use Rattle.std.specs.FinMap.{find}
 use Rattle.std.proofs.lemmas.Bool.{cases_Bool, eqb-true}
 use Rattle.nl_types.specs.declared.error.VolError.{VolError}
 use Rattle.nl_types.specs.declared.error.VolError.TheVariants as error
-use Rattle.nl_types.specs.declared.event.Event.TheVariants.{ChangeMode, Listing, Remove, RemoveRange, Unmount}
+use Rattle.nl_types.specs.declared.event.Event.TheVariants.{ChangeMode, Expire, Listing, Remove, RemoveRange, Unmount}
 use Rattle.nl_types.specs.declared.event.Mode.{Mode}
 use Rattle.nl_types.specs.declared.reply.Answer.TheVariants as answer
 use Rattle.nl_types.specs.declared.row.ListOptions.{ListOptions}
 use Rattle.nl_types.specs.declared.row.Range.{Range}
 use Rattle.nl_types.specs.declared.row.Row.{Row}
 use Rattle.nl_types.specs.Calls.{IsUnlessMemory, and_then, ok_unless}
+use Rattle.nl_types.specs.CheckpointLaws.{removed_by}
+use Rattle.nl_types.specs.Protection.{boundary}
 use Rattle.nl_types.specs.Roots.{Pages}
 use Rattle.nl_types.specs.Rows as told
 use Rattle.nl_types.specs.Rows.{is_among, is_snapshot, kept_row, may_go, mode_change, number_of, range_removal, reason_to_stay, removable, removal}
 use Rattle.nl_types.specs.Worlds as worlds
-use Rattle.nl_types.specs.Worlds.{Copy, Outcome, Reply, World, copies_with_mode, copies_without, either, is_given_up, is_mounted, latest, mounts_without, refused_if, take_out}
+use Rattle.nl_types.specs.Worlds.{Copy, Outcome, Reply, World, copies_with_mode, copies_without, either, expiry_of, is_given_up, is_mounted, latest, mounts_without, refused_if, take_out}
 use Rattle.nl_layout.specs.declared.root.Root.{Root}
 use Rattle.nl_cpfile.specs.Tables as tables
 use Rattle.nl_cpfile.specs.Tables.{moded, root_in, rows_of}
 use Rattle.nl_cpfile.specs.declared.checkpoint.Checkpoint.{Checkpoint}
+use Rattle.nl_types.proofs.Expiries.{expiries_are_removals}
 use Rattle.nl_core.specs.Means.{CopyMeans, CurrentMeans, FollowsOver, Means}
-use Rattle.nl_core.specs.Volume.{Lists, is_held, is_held_at, is_other_mount, kept_by, mount_of, unmounting, with_checkpoint_mode, without_checkpoints, without_mount}
+use Rattle.nl_core.specs.Volume.{Lists, gone_from, is_held, is_held_at, is_other_mount, kept_by, mount_of, unmounting, with_checkpoint_mode, without_checkpoints, without_mount}
 use Rattle.nl_core.specs.declared.mounts.Mounted.{Mounted}
 use Rattle.nl_core.proofs.Events.{answers, keeps, leads, refuses_unless_memory}
 use Rattle.nl_core.proofs.Published.{latest-means}
@@ -291,6 +294,42 @@ range_removal-follows pages l first last range done = λ cleaned w m.
     (without_checkpoints range.removed l) m.world
     (taken_out-means pages l w range.removed stays m)
     (ap (range_outcome w) (sym (done ∙ range-same pages l w m first last)))
+
+-- ---- expiries
+
+-- what goes from the pen goes from the world
+expiry-same : (pages : Pages) (l : Lists) (w : World) (now period : ℕ) → Means pages l w
+    → gone_from l.table now period ≡ expiry_of w now period
+expiry-same pages l w now period m =
+    let number = latest-same pages l w m in
+    let rows = rows-means pages l w m in
+    (λ i. removed_by (range_removal 1 (boundary now period (number i) (rows i) - 1) (number i) (rows i)))
+    ∙ sym (expiries_are_removals w now period m.world)
+
+-- the latest checkpoint stays
+pub expiry-stays : (l : Lists) (now period : ℕ) → is_among (gone_from l.table now period) l.table.latest.number ≡ false
+expiry-stays l now period = by (range_removal 1 last l.table.latest.number (tables.rows l.table)) refl
+  where
+    last : ℕ
+    last = boundary now period l.table.latest.number (tables.rows l.table) - 1
+
+    by : (judged : Result Range VolError) → range_removal 1 last l.table.latest.number (tables.rows l.table) ≡ judged
+        → is_among (removed_by judged) l.table.latest.number ≡ false
+    by (Ok range) is = range-stays l.table.latest.number 1 last (tables.rows l.table) range (sym is)
+    by (Err e) is = refl
+
+pub no_expiry-follows : (pages : Pages) (l : Lists) (now period : ℕ) → FollowsOver pages l (Expire now period) (Err error.Memory) l
+no_expiry-follows pages l now period = λ cleaned w m.
+    refuses_unless_memory cleaned w (Expire now period) error.Memory pages l m tt (λ other. absurd (other refl))
+
+pub expiry-follows : (pages : Pages) (l : Lists) (now period : ℕ) (gone : List ℕ) → gone ≡ gone_from l.table now period
+    → FollowsOver pages l (Expire now period) (Ok (answer.Expired gone)) (without_checkpoints gone l)
+expiry-follows pages l now period gone is = λ cleaned w m.
+    let stays = ap (λ ns. is_among ns l.table.latest.number) is ∙ expiry-stays l now period in
+    leads cleaned w (take_out gone w) (Expire now period) (Ok (answer.Expired gone)) pages
+    (without_checkpoints gone l) m.world
+    (taken_out-means pages l w gone stays m)
+    (ap (λ ns. (let o : Outcome = (Ok (answer.Expired ns), take_out ns w) in o)) (sym (is ∙ expiry-same pages l w now period m)))
 
 -- ---- unmounts
 

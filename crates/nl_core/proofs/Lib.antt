@@ -15,6 +15,11 @@ pub mod CheckpointEvents
 pub mod Views
 pub mod Drafted
 pub mod Checkpointing
+pub mod CleaningEvents
+pub mod NeededNumbers
+pub mod ExpiredNumbers
 pub mod Refusals
 pub mod FirstLogs
 pub mod Formats
+pub mod KeptNumbers
+pub mod CleanedPens

@@ -4,7 +4,7 @@ use Rattle.std.specs.Prelude.{◌||◌, Ok, Err, IfOk, OnErr}
 use Rattle.nl_types.specs.declared.error.VolError.{VolError}
 use Rattle.nl_types.specs.declared.error.VolError.TheVariants as error
 use Rattle.nl_types.specs.declared.event.Event.{Event}
-use Rattle.nl_types.specs.declared.event.Event.TheVariants.{Apply, Read, ChangeMode, Remove, RemoveRange, Mount, Unmount, MountRead, Listing}
+use Rattle.nl_types.specs.declared.event.Event.TheVariants.{Apply, Read, ChangeMode, Expire, Remove, RemoveRange, Mount, Unmount, MountRead, Listing}
 use Rattle.nl_types.specs.declared.event.Change.{Change}
 use Rattle.nl_types.specs.declared.event.Mode.{Mode}
 use Rattle.nl_types.specs.declared.reply.Answer.{Answer}
@@ -19,7 +19,7 @@ use Rattle.nl_dat.specs.Stores.{Store, content_in}
 use Rattle.nl_files.specs.Became.{Current}
 use Rattle.nl_core.specs.Changes.{HasChanged}
 use Rattle.nl_core.specs.Means.{FollowsOver}
-use Rattle.nl_core.specs.Volume.{IsTakenOut, IsTakenOutRange, Lists, with_change, with_checkpoint_mode, with_mount, without_mount}
+use Rattle.nl_core.specs.Volume.{IsExpired, IsTakenOut, IsTakenOutRange, Lists, with_change, with_checkpoint_mode, with_mount, without_mount}
 use Rattle.nl_core.specs.Layout.{Does, Follows, HasDone, IsPen, IsSoundPen, KeepsNumbers, Touches, cleaned, layout_of, unshared}
 use Rattle.nl_core.specs.declared.mounts.Mounted.{Mounted}
 use Rattle.nl_core.proofs.Ledgers.{same-numbers}
@@ -197,6 +197,18 @@ does-RemoveRange l new store first last (Ok (answer.Removed range)) pen follows 
 does-RemoveRange l new store first last (Ok _) pen follows taken same = absurd taken
 does-RemoveRange l new store first last (Err e) pen follows taken same =
     does-refused l new store (RemoveRange first last) e pen follows refl same
+
+-- an expiry
+pub does-Expire : (l new : Lists) (store : Store) (now period : ℕ) (reply : Reply) → IsPen (layout_of l store)
+    → FollowsOver (pages_under store) l (Expire now period) reply new
+    → IfOk reply (λ a. IsExpired now period a l new)
+    → OnErr reply (new ≡ l)
+    → Does unshared (layout_of l store) (Expire now period) reply (layout_of new store)
+does-Expire l new store now period (Ok (answer.Expired gone)) pen follows expired same =
+    does-taken_out l new store (Expire now period) (answer.Expired gone) gone pen follows expired.taken (expired, refl)
+does-Expire l new store now period (Ok _) pen follows expired same = absurd expired
+does-Expire l new store now period (Err e) pen follows expired same =
+    does-refused l new store (Expire now period) e pen follows refl same
 
 -- a listing
 pub does-Listing : (l : Lists) (store : Store) (options : ListOptions) (reply : Reply) → IsPen (layout_of l store)

@@ -129,7 +129,7 @@ copy-stays pages more c copy stays means = record {
 }
 
 -- and so do all
-copies-stay : (pages more : Pages) (kept : List Checkpoint) (copies : List (ℕ × Copy))
+pub copies-stay : (pages more : Pages) (kept : List Checkpoint) (copies : List (ℕ × Copy))
     → All (λ (c : Checkpoint). CheckpointStays pages more (root_of (root_in c))) kept
     → AllZip (CopyMeans pages) kept copies → AllZip (CopyMeans more) kept copies
 copies-stay pages more [] [] stay means = means

@@ -1,25 +1,47 @@
 -- What a refused event leaves, and when space is the reason.
-use Rattle.std.proofs.Common.{◌≡◌, ◌≢◌, ℕ, refl, subst, inl, inr, sym, ◌∙◌}
-use Rattle.std.specs.Prelude.{true, length, List, ◌++◌, ◌∷◌, Ok, Err, IfErr}
+use Rattle.std.proofs.Common.{◌≡◌, ◌≢◌, ℕ, refl, subst, inl, inr, sym, ap, take, ◌∙◌}
+use Rattle.std.specs.Prelude.{true, length, List, ◌++◌, ◌∷◌, Result, Ok, Err, IfErr, MatchResult}
 use Rattle.nl_types.specs.declared.error.VolError.{VolError}
 use Rattle.nl_types.specs.declared.error.VolError.TheVariants as error
 use Rattle.nl_types.specs.declared.event.Event.{Event}
-use Rattle.nl_types.specs.declared.event.Event.TheVariants.{Apply, Read, Checkpoint, ChangeMode, Remove, RemoveRange, Mount, Unmount, MountRead, Listing}
+use Rattle.nl_types.specs.declared.event.Event.TheVariants.{Apply, Read, Checkpoint, ChangeMode, Expire, Move, Remove, RemoveRange, Retire, Mount, Unmount, MountRead, Listing}
 use Rattle.nl_types.specs.declared.segment.Log.{Log}
 use Rattle.nl_types.specs.Laws.{IsJudged}
 use Rattle.nl_types.specs.Placing.{LogsFit}
 use Rattle.nl_types.specs.Worlds.{Outcome}
 use Rattle.nl_types.proofs.WorldJudgements.{steps_judge}
+use Rattle.nl_types.specs.declared.segment.SegmentInfo.{SegmentInfo}
 use Rattle.nl_dat.specs.Batches.{items_of}
+use Rattle.nl_dat.specs.Located.{needed_in}
+use Rattle.nl_dat.specs.Stores.{IsMoveRefused, KeepsStored, Store}
+use Rattle.nl_reclaim.specs.Cleaning.{judged_for}
+use Rattle.nl_core.specs.CleaningEvents.{needed_by}
+use Rattle.nl_core.proofs.CleaningEvents.{cleaned_judges}
 use Rattle.nl_layout.specs.declared.root.Root.{Root}
-use Rattle.nl_core.specs.Laws.{MemoryIsTaken, RefusalsKeepPens, RefusalsHaveReasons, NoSpaceIsTrue, NoSpaceIsSaid}
+use Rattle.nl_core.specs.Laws.{IsAsBefore, MemoryIsTaken, RefusalsKeepPens, RefusalsHaveReasons, NoSpaceIsTrue, NoSpaceIsSaid}
 use Rattle.nl_core.specs.Volume.{latest_root}
 use Rattle.nl_core.specs.Layout.{AllowedBetween, HasRefused, IsPen, LacksSpaceToSettle, Layout, Settled, cleaned, unshared}
 use Rattle.nl_core.proofs.Settlings.{births-alike, count-items}
 
+-- a store keeps what it stores where it is the same
+keeps-same : (old new : Store) → new ≡ old → KeepsStored old new
+keeps-same old new same = record {
+  numbers = ap (λ (s : Store). s.numbers) same;
+  segments = ap (λ (s : Store). s.segments) same;
+  device = ap (λ (s : Store). s.device) same;
+  payload = ap (λ (s : Store). s.payload) same;
+}
+
+move-kept : (checkpoint stamp : ℕ) (numbers : List ℕ) (e : VolError) (old new : Store) → IsMoveRefused checkpoint stamp numbers old new e
+    → (e ≢ error.Fault) → KeepsStored old new
+move-kept checkpoint stamp numbers error.NoSpace old new refused other = refused.1
+move-kept checkpoint stamp numbers error.Memory old new refused other = refused
+move-kept checkpoint stamp numbers error.Fault old new refused other = absurd (other refl)
+move-kept checkpoint stamp numbers _ old new refused other = absurd refused
+
 -- what is refused but for a fault is as it was
 refused_same : (event : Event) (e : VolError) (old new : Layout) → HasRefused event e old new
-    → (e ≢ error.Fault) → new ≡ old
+    → (e ≢ error.Fault) → IsAsBefore event old new
 refused_same (Checkpoint mode moment) error.Fault old new refused other = absurd (other refl)
 refused_same (Checkpoint mode moment) _ old new refused other = refused.0
 refused_same (Apply change) e old new refused other = refused
@@ -27,10 +49,22 @@ refused_same (Read ask) e old new refused other = refused
 refused_same (ChangeMode n mode) e old new refused other = refused
 refused_same (Remove n) e old new refused other = refused
 refused_same (RemoveRange first last) e old new refused other = refused
+refused_same (Expire now period) e old new refused other = refused
+refused_same (Retire segment) e old new refused other = refused.0
 refused_same (Mount n) e old new refused other = refused
 refused_same (Unmount m) e old new refused other = refused
 refused_same (Listing options) e old new refused other = refused
 refused_same (MountRead m ask) e old new refused other = refused
+refused_same (Move segment limit moment) e old new refused other = (refused.0, by (judged_for old.store.segments segment limit) refused.1)
+  where
+    numbers : List ℕ
+    numbers = take limit (needed_in old.store (needed_by old.lists) segment)
+
+    by : (r : Result SegmentInfo VolError)
+        → MatchResult r (λ _. IsMoveRefused old.lists.table.latest.number moment numbers old.store new.store e) (λ refusal. (e ≡ refusal) × (new.store ≡ old.store))
+        → KeepsStored old.store new.store
+    by (Ok i) none = move-kept old.lists.table.latest.number moment numbers e old.store new.store none other
+    by (Err f) none = keeps-same old.store new.store none.1
 
 pub refusals_keep_pens : (allowed : AllowedBetween) → RefusalsKeepPens allowed
 refusals_keep_pens allowed old new event e does other = refused_same event e old new does.touches other
@@ -41,7 +75,7 @@ refusals_have_reasons allowed old new event e held does =
     let next = does.follows held.world.0 held.world.1 in
     elim next.step [
       | inl is ↦
-          inl (subst (λ (done : Outcome). IfErr done.0 IsJudged) is (steps_judge (cleaned old event) held.world.0 event tt))
+          inl (subst (λ (done : Outcome). IfErr done.0 IsJudged) is (steps_judge (cleaned old event) held.world.0 event (cleaned_judges old.lists old.store event)))
       | inr refused ↦ let same : e ≡ refused.error = cc in inr (subst (allowed old new event) (sym same) refused.may_be)
     ]
 

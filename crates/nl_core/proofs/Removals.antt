@@ -11,7 +11,7 @@ use Rattle.nl_layout.specs.Root.{root_of}
 use Rattle.nl_files.specs.Held.{IsTreeSound}
 use Rattle.nl_cpfile.specs.declared.checkpoint.Checkpoint.{Checkpoint}
 use Rattle.nl_cpfile.specs.Tables.{all, is_kept_without, kept_at, root_in}
-use Rattle.nl_core.specs.Laws.{RangesGoOneByOne}
+use Rattle.nl_core.specs.Laws.{ExpiriesGoOneByOne, RangesGoOneByOne}
 use Rattle.nl_core.specs.Layout.{AllowedBetween, IsSoundPen, KeepsNumbers, Layout, layout_of, ledger_of, pages_in, reached_by}
 use Rattle.nl_core.specs.Volume.{without_checkpoints}
 use Rattle.nl_core.proofs.TableChanges.{all-without, kept-without, unless}
@@ -117,4 +117,12 @@ ranges_go_one_by_one allowed old new first last range does =
     let store = does.touches.1 in (
       each-allowed old range.removed taken.stays,
       (λ i. ledger_of (layout_of (taken.lists i) (store i))) ∙ ledger-left old range.removed taken.stays,
+    )
+
+pub expiries_go_one_by_one : (allowed : AllowedBetween) → ExpiriesGoOneByOne allowed
+expiries_go_one_by_one allowed old new now period gone does =
+    let taken = does.touches.0.taken in
+    let store = does.touches.1 in (
+      each-allowed old gone taken.stays,
+      (λ i. ledger_of (layout_of (taken.lists i) (store i))) ∙ ledger-left old gone taken.stays,
     )

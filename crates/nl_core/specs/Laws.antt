@@ -3,9 +3,9 @@ use Rattle.std.specs.Prelude.{◌≡◌, ◌≢◌, ◌⊎◌, ℕ, List, Ok, Er
 use Rattle.nl_types.specs.declared.error.VolError.{VolError}
 use Rattle.nl_types.specs.declared.error.VolError.TheVariants.{NoSpace, Fault, Memory}
 use Rattle.nl_types.specs.declared.event.Event.{Event}
-use Rattle.nl_types.specs.declared.event.Event.TheVariants.{Checkpoint, RemoveRange}
+use Rattle.nl_types.specs.declared.event.Event.TheVariants.{Checkpoint, Expire, Move, RemoveRange}
 use Rattle.nl_types.specs.declared.event.Mode.{Mode}
-use Rattle.nl_types.specs.declared.reply.Answer.TheVariants.{Removed}
+use Rattle.nl_types.specs.declared.reply.Answer.TheVariants.{Expired, Removed}
 use Rattle.nl_types.specs.declared.row.Range.{Range}
 use Rattle.nl_types.specs.Laws.{IsJudged}
 use Rattle.nl_types.specs.Lifetimes.{EachAllowed, Remove, ledger_after_all}
@@ -14,6 +14,7 @@ use Rattle.nl_types.specs.Worlds.{World, Reply}
 use Rattle.nl_types.specs.Runs.{Run, TakesMemory}
 use Rattle.nl_core.specs.Volume.{Lists}
 use Rattle.nl_layout.specs.declared.root.Root.{Root}
+use Rattle.nl_dat.specs.Stores.{KeepsStored}
 use Rattle.nl_core.specs.Means.{Means}
 use Rattle.nl_core.specs.Layout.{AllowedBetween, IsPen, Layout, Does, DoesIn, LacksSpaceFor, MeansWorld, Runs, Settled, ledger_of, unshared}
 
@@ -34,11 +35,16 @@ RunsLeadOn allowed =
     (old new : Layout) (events : List Event) (replies : List Reply)
     → Run (Does allowed) old events replies new → Runs allowed old events replies new
 
+-- all is as it was; of a move's reads some may have failed and been tried again, which is counted
+abbrev pub IsAsBefore : Event → Layout → Layout → Type 0
+IsAsBefore (Move segment limit moment) old new = (new.lists ≡ old.lists) × KeepsStored old.store new.store
+IsAsBefore event old new = new ≡ old
+
 -- a refusal but for a fault leaves the pen and its device as they were
 abbrev pub RefusalsKeepPens : AllowedBetween → Type 0
 RefusalsKeepPens allowed =
     (old new : Layout) (event : Event) (e : VolError)
-    → Does allowed old event (Err e) new → (e ≢ Fault) → new ≡ old
+    → Does allowed old event (Err e) new → (e ≢ Fault) → IsAsBefore event old new
 
 -- a refusal is judged by the world, or it has the reason for which it is allowed
 abbrev pub RefusalsHaveReasons : AllowedBetween → Type 0
@@ -71,6 +77,14 @@ RangesGoOneByOne allowed =
     → Does allowed old (RemoveRange first last) (Ok (Removed range)) new
     → EachAllowed (map Remove range.removed) (ledger_of old)
     × (ledger_of new ≡ ledger_after_all (map Remove range.removed) (ledger_of old))
+
+-- and so does an expiry
+abbrev pub ExpiriesGoOneByOne : AllowedBetween → Type 0
+ExpiriesGoOneByOne allowed =
+    (old new : Layout) (now period : ℕ) (gone : List ℕ)
+    → Does allowed old (Expire now period) (Ok (Expired gone)) new
+    → EachAllowed (map Remove gone) (ledger_of old)
+    × (ledger_of new ≡ ledger_after_all (map Remove gone) (ledger_of old))
 
 -- whatever takes the current tree to a checkpoint writes as many blocks, and gives one root: so space is judged by what the
 -- pen holds

@@ -1,16 +1,16 @@
 -- What a pen holds, its store and device included, and what an event does to it.
-use Rattle.std.specs.Prelude.{◌≡◌, ℕ, ◌+◌, ◌<◌, ◌≤◌, List, [], ◌∷◌, true, length, max, All, Some, Ok, MatchResult}
+use Rattle.std.specs.Prelude.{◌≡◌, ℕ, ◌+◌, ◌<◌, ◌≤◌, List, [], ◌∷◌, true, length, max, All, false, Some, Ok, Err, MatchResult}
 use Rattle.std.specs.Option.{option_map}
 use Rattle.nl_types.specs.declared.error.VolError.{VolError}
 use Rattle.nl_types.specs.declared.error.VolError.TheVariants.{NoSpace, Fault, Memory, NumbersSpent}
 use Rattle.nl_types.specs.declared.event.Event.{Event}
 use Rattle.nl_types.specs.declared.event.Mode.{Mode}
 use Rattle.nl_types.specs.declared.event.Event.TheVariants as variant
-use Rattle.nl_types.specs.declared.event.Event.TheVariants.{Apply, ChangeMode, Checkpoint, Mount, RemoveRange, Unmount}
+use Rattle.nl_types.specs.declared.event.Event.TheVariants.{Apply, ChangeMode, Checkpoint, Expire, Mount, Move, RemoveRange, Retire, Unmount}
 use Rattle.nl_types.specs.declared.geometry.Geometry.{Geometry}
 use Rattle.nl_types.specs.declared.reply.Answer.{Answer}
-use Rattle.nl_types.specs.declared.reply.Answer.TheVariants.{Done}
 use Rattle.nl_types.specs.Lifetimes.{Numbers, Ledger, IsLedger, KeepsCovered, EndsOnce, Write, Remove, ledger_after_all, blank}
+use Rattle.nl_types.specs.Entries.{Place}
 use Rattle.nl_types.specs.Limits.{checkpoint_number_limit}
 use Rattle.nl_types.specs.Placing.{LacksSpace}
 use Rattle.nl_types.specs.Roots.{Pages, pages_of}
@@ -21,15 +21,17 @@ use Rattle.nl_layout.specs.declared.root.Root.{Root}
 use Rattle.nl_segwriter.specs.Content.{new_content}
 use Rattle.nl_device.specs.Pages.{DevicePages}
 use Rattle.nl_dat.specs.Batches.{Changes, items_of}
-use Rattle.nl_dat.specs.Stores.{Store, IsStore, IsWritten, IsFaulted, content_in, new_store}
+use Rattle.nl_dat.specs.Stores.{Store, IsStore, IsWritten, IsFaulted, address_in, content_in, is_inside, new_store}
 use Rattle.nl_blocktree.specs.Checkpoints.{WritesWhatDiffers, numbers_of}
 use Rattle.nl_blocktree.specs.Numbering.{CanTake}
 use Rattle.nl_files.specs.Held.{Holding, IsTreeSound, roots_at}
+use Rattle.nl_reclaim.specs.Cleaning.{HasMovedNone, retired}
 use Rattle.nl_core.specs.Changes.{HasChanged}
+use Rattle.nl_core.specs.CleaningEvents.{HasEmptied, HasMovedOut, LacksSpaceToMove, cleaned_by, needed_by}
 use Rattle.nl_core.specs.Draft.{HasNextNumber, HoldsNow, SettlesNow}
 use Rattle.nl_core.specs.Means.{LeadsOn, Means}
 use Rattle.nl_core.specs.Tables.{blank_lists}
-use Rattle.nl_core.specs.Volume.{IsTakenOut, IsTakenOutRange, Lists, kept_by, latest_root, next_checkpoint, published, with_change, with_checkpoint_mode, with_mount, without_mount}
+use Rattle.nl_core.specs.Volume.{IsExpired, IsTakenOut, IsTakenOutRange, Lists, kept_by, latest_root, next_checkpoint, published, with_change, with_checkpoint_mode, with_mount, without_mount}
 use Rattle.nl_cpfile.specs.Tables.{kept_at, root_in}
 use Rattle.nl_cpfile.specs.declared.checkpoint.Checkpoint.{Checkpoint as Kept}
 
@@ -114,6 +116,14 @@ pub record HasPublished (mode : Mode) (moment : ℕ) (old new : Layout) : Type 0
   pub writes : HasWritten mode moment old new
   pub differs : WritesBetween old new writes.settled.changes
 
+-- a segment was emptied, in which no number stood that a kept checkpoint reaches
+pub record HasRetired (segment : ℕ) (answer : Answer) (old new : Layout) : Type 0 where
+  pub lists : new.lists ≡ old.lists
+  pub emptied : HasEmptied segment answer old.lists old.store new.store
+  pub unreached : (c v : ℕ) (q : Place) (numbers : Numbers)
+      → (ledger_of old).kept c ≡ Some numbers → numbers q ≡ Some v
+      → is_inside old.store.segments segment (address_in old.store v) ≡ false
+
 abbrev pub HasDone : Layout → Event → Answer → Layout → Type 0
 HasDone old (Checkpoint mode moment) answer new = HasPublished mode moment old new
 HasDone old (Apply change) answer new =
@@ -125,6 +135,11 @@ HasDone old (variant.Remove n) answer new =
     IsTakenOut (n ∷ []) old.lists new.lists × (new.store ≡ old.store)
 HasDone old (RemoveRange first last) answer new =
     IsTakenOutRange answer old.lists new.lists × (new.store ≡ old.store)
+HasDone old (Expire now period) answer new =
+    IsExpired now period answer old.lists new.lists × (new.store ≡ old.store)
+HasDone old (Move segment limit moment) answer new =
+    (new.lists ≡ old.lists) × HasMovedOut segment limit moment answer old.lists old.store new.store
+HasDone old (Retire segment) answer new = HasRetired segment answer old new
 HasDone old (Mount n) answer new = new ≡ layout_of (with_mount n old.lists) old.store
 HasDone old (Unmount m) answer new = new ≡ layout_of (without_mount m old.lists) old.store
 HasDone old event answer new = new ≡ old
@@ -156,6 +171,10 @@ abbrev pub HasRefused : Event → VolError → Layout → Layout → Type 0
 HasRefused (Checkpoint mode moment) Fault old new =
     HasFaulted (max moment old.lists.table.latest.stamp) old new
 HasRefused (Checkpoint mode moment) e old new = (new ≡ old) × IsCheckpointRefusal old e
+HasRefused (Move segment limit moment) e old new =
+    (new.lists ≡ old.lists)
+    × HasMovedNone (needed_by old.lists) segment limit old.lists.table.latest.number moment old.store new.store e
+HasRefused (Retire segment) e old new = (new ≡ old) × (retired old.store (needed_by old.lists) segment ≡ Err e)
 HasRefused event e old new = new ≡ old
 
 abbrev pub Touches : Layout → Event → Reply → Layout → Type 0
@@ -180,10 +199,12 @@ pub record IsFormatted (geometry : Geometry) (pages : DevicePages) (failures now
 -- no list of logs fits what the event writes
 abbrev pub LacksSpaceFor : Layout → Event → Type 0
 LacksSpaceFor l (Checkpoint mode moment) = LacksSpaceToSettle l
+LacksSpaceFor l (Move segment limit moment) = LacksSpaceToMove l.lists l.store segment limit
 LacksSpaceFor l event = ⊥
 
--- the device failed during the event, though there was space
+-- the device failed during the event, though there was space; a move reads before it looks for space
 abbrev pub FailsIn : Layout → Layout → Event → Type 0
+FailsIn old new (Move segment limit moment) = old.store.failures < new.store.failures
 FailsIn old new event = (LacksSpaceFor old event → ⊥) × (old.store.failures < new.store.failures)
 
 -- which refusals are allowed from one layout to the next
@@ -194,9 +215,9 @@ AllowedBetween = Layout → Layout → AllowedRefusals
 abbrev pub unshared : AllowedBetween
 unshared old new = alone (LacksSpaceFor old) (FailsIn old new)
 
--- what an event answers that only moves or frees blocks: there is none yet, so this is not looked at
+-- what a move or a retirement answers, by the layout before it
 abbrev pub cleaned : Layout → Event → Reply
-cleaned l event = Ok Done
+cleaned l event = cleaned_by l.lists l.store event
 
 -- ---- the whole
 

@@ -5,5 +5,7 @@ pub mod Draft
 pub mod Changes
 pub mod Tables
 pub mod Inside
+pub mod CleaningEvents
 pub mod Layout
 pub mod Laws
+pub mod CleanedPens

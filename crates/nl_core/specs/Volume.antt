@@ -1,18 +1,20 @@
 -- What a pen holds in memory.
-use Rattle.std.specs.Prelude.{◌≡◌, ℕ, ◌+◌, ◌||◌, ◌&&◌, ◌==◌, max, not, Bool, false, List, [], ◌∷◌, ◌++◌, map, Result, Ok, Err}
+use Rattle.std.specs.Prelude.{◌≡◌, ℕ, ◌+◌, ◌-◌, ◌||◌, ◌&&◌, ◌==◌, max, not, Bool, false, true, List, [], ◌∷◌, ◌++◌, map, Result, Ok, Err}
 use Rattle.std.specs.List.{filter}
 use Rattle.nl_types.specs.Calls.{and_then, is_dirtying}
 use Rattle.std.specs.Option.{ok_or}
 use Rattle.std.specs.Ordering.{nat_cmp}
 use Rattle.std.specs.FinMap.{find}
 use Rattle.nl_types.specs.declared.error.VolError.{VolError}
-use Rattle.nl_types.specs.declared.error.VolError.TheVariants.{BadMount}
+use Rattle.nl_types.specs.declared.error.VolError.TheVariants.{BadMount, Memory}
 use Rattle.nl_types.specs.declared.event.Change.{Change}
 use Rattle.nl_types.specs.declared.event.Mode.{Mode}
 use Rattle.nl_types.specs.declared.reply.Answer.{Answer}
-use Rattle.nl_types.specs.declared.reply.Answer.TheVariants.{Removed}
+use Rattle.nl_types.specs.declared.reply.Answer.TheVariants.{Expired, Removed}
 use Rattle.nl_types.specs.declared.row.Row.{Row}
-use Rattle.nl_types.specs.Rows.{is_among, kept_row}
+use Rattle.nl_types.specs.CheckpointLaws.{removed_by}
+use Rattle.nl_types.specs.Protection.{boundary}
+use Rattle.nl_types.specs.Rows.{is_among, kept_row, range_removal}
 use Rattle.nl_types.specs.Worlds.{is_given_up, is_mounted}
 use Rattle.nl_layout.specs.declared.root.Root.{Root}
 use Rattle.nl_cpfile.specs.Tables.{Table, all, root_in, rows, with_latest_alone, with_mode, with_next, without}
@@ -94,6 +96,29 @@ pub record IsTakenOut (gone : List ℕ) (old new : Lists) : Type 0 where
 abbrev pub IsTakenOutRange : Answer → Lists → Lists → Type 0
 IsTakenOutRange (Removed range) old new = IsTakenOut range.removed old new
 IsTakenOutRange answer old new = ⊥
+
+-- ---- an expiry
+
+-- the least number that the period protects, or else the latest one
+abbrev pub boundary_in : Table → (now period : ℕ) → ℕ
+boundary_in t now period = boundary now period t.latest.number (rows t)
+
+-- what an expiry takes out: what the removal of all numbers below the boundary does
+abbrev pub gone_from : Table → (now period : ℕ) → List ℕ
+gone_from t now period = removed_by (range_removal 1 (boundary_in t now period - 1) t.latest.number (rows t))
+
+abbrev pub is_memory : VolError → Bool
+is_memory Memory = true
+is_memory _ = false
+
+-- these are gone, and the answer tells them
+pub record IsExpiredTo (now period : ℕ) (gone : List ℕ) (old new : Lists) : Type 0 where
+  pub expired : gone ≡ gone_from old.table now period
+  pub taken : IsTakenOut gone old new
+
+abbrev pub IsExpired : (now period : ℕ) → Answer → Lists → Lists → Type 0
+IsExpired now period (Expired gone) old new = IsExpiredTo now period gone old new
+IsExpired now period answer old new = ⊥
 
 -- ---- a checkpoint
 

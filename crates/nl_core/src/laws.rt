@@ -1,6 +1,7 @@
 //! What the pen's definitions mean, as contracts of functions that do nothing.
+ghost use Rattle.nl_core.specs.CleanedPens.{MovesKeepPens, RefusedMovesKeepPens, RetirementsKeepPens};
 ghost use Rattle.nl_core.specs.Layout.{unshared};
-ghost use Rattle.nl_core.specs.Laws.{MeansOneWorld, EventsLeadOn, RunsLeadOn, RefusalsKeepPens, RefusalsHaveReasons, NoSpaceIsSaid, NoSpaceIsTrue, MemoryIsTaken, RangesGoOneByOne, SettlingsAreAlike};
+ghost use Rattle.nl_core.specs.Laws.{MeansOneWorld, EventsLeadOn, RunsLeadOn, RefusalsKeepPens, RefusalsHaveReasons, NoSpaceIsSaid, NoSpaceIsTrue, MemoryIsTaken, RangesGoOneByOne, ExpiriesGoOneByOne, SettlingsAreAlike};
 
 /// A pen means one world at most.
 pub fn pens_mean_one_world()
@@ -14,26 +15,28 @@ pub fn worlds_follow_pens()
     ensures events { RunsLeadOn unshared }
 {}
 
-/// A refusal leaves the pen and its device as they were, but for a fault.
+/// A refusal leaves the pen and its device as they were, but for a fault. A move may have counted reads that failed.
 pub fn refusals_keep_pens()
     ensures { RefusalsKeepPens unshared }
 {}
 
-/// A refusal is judged by the world, or it has its reason: space lacks for a checkpoint, or the device failed during one,
-/// or the event takes memory.
+/// A refusal is judged by the world or the segments, or it has its reason: space lacks for a checkpoint or a move, or the
+/// device failed during one, or the event takes memory.
 pub fn refusals_have_reasons()
     ensures { RefusalsHaveReasons unshared }
 {}
 
-/// Memory is refused only to events that take it: changes of modes, removals of one checkpoint and unmounts take none.
+/// Memory is refused only to events that take it: changes of modes, removals of one checkpoint, unmounts and
+/// retirements take none.
 pub fn memory_is_refused_where_it_is_taken()
     ensures { MemoryIsTaken }
 {}
 
 /// A removal of a range leaves the same numbers in use, each with the same period, and the same checkpoints as removals of
-/// the answered ones, one after another.
+/// the answered ones, one after another. So does an expiry.
 pub fn ranges_go_one_by_one()
-    ensures { RangesGoOneByOne unshared }
+    ensures ranges { RangesGoOneByOne unshared }
+    ensures expiries { ExpiriesGoOneByOne unshared }
 {}
 
 /// A checkpoint is refused for space only where no list of logs fits what it writes. Where none fits, it is refused before
@@ -47,4 +50,17 @@ pub fn space_is_judged_exactly()
 /// the pen holds.
 pub fn settlings_are_alike()
     ensures { SettlingsAreAlike }
+{}
+
+/// A move of pages out of a segment leaves a pen that means the same: the same numbers are in use for the same, and each kept
+/// checkpoint reaches the same ones. So does a move that is refused.
+pub fn moves_keep_pens()
+    ensures moved { MovesKeepPens }
+    ensures refused { RefusedMovesKeepPens }
+{}
+
+/// A retirement of a segment in which no number is needed takes out numbers that no kept checkpoint reaches, and leaves a pen
+/// that means the same.
+pub fn retirements_keep_pens()
+    ensures { RetirementsKeepPens }
 {}

@@ -1,7 +1,9 @@
 //! The pen: a volume's current tree, checkpoints and mounts over a device, one event at a time.
 #![tactic(auto)]
 
+mod cleaning;
 mod draft;
+mod expiry;
 pub mod laws;
 mod mounts;
 mod pen;

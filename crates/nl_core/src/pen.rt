@@ -11,6 +11,7 @@ ghost use Rattle.nl_dat.specs.Described.{descs_of};
 ghost use Rattle.nl_dat.specs.Stores.{capacity, content_in, dat_entry_of, numbered_in};
 ghost use Rattle.nl_dat.specs.Summaries.{payload_row};
 
+use crate::cleaning::{empty, move_out};
 use crate::draft::Draft;
 use crate::tables::Tables;
 use nl_cpfile::Cpstat;
@@ -188,8 +189,8 @@ impl<D: Device> Pen<D> {
         self.tables.mount_count()
     }
 
-    /// One event. A refusal leaves the world as it was. `NoSpace` comes only of a checkpoint of which no list of logs fits
-    /// what differs, `Fault` only where the device failed during a checkpoint, and `Memory` only by want of memory.
+    /// One event. A refusal leaves the world as it was. `NoSpace` comes only of a checkpoint or a move of which no list
+    /// of logs fits what is written, `Fault` only where the device failed during one, and `Memory` only by want of memory.
     /// `nl_core::laws` has what follows.
     pub fn apply(&mut self, event: &Event) -> Reply
         ensures { Does unshared self.old event.now result self.new }
@@ -209,6 +210,20 @@ impl<D: Device> Pen<D> {
             Event::RemoveRange { first, last } => self
                 .tables
                 .remove_range(self.alloc, *first, *last),
+            Event::Expire { now, period } => self.tables.expire(self.alloc, *now, *period),
+            Event::Move {
+                segment,
+                limit,
+                now,
+            } => move_out(
+                self.alloc,
+                &self.tables,
+                &mut self.store,
+                *segment,
+                *limit,
+                *now,
+            ),
+            Event::Retire(segment) => empty(&self.tables, &mut self.store, *segment),
             Event::Mount(number) => self.tables.mount(*number),
             Event::Unmount(mount) => self.tables.unmount(*mount),
             Event::MountRead(mount, ask) => self

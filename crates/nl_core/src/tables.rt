@@ -10,13 +10,17 @@ ghost use Rattle.nl_types.specs.Worlds.{World};
 ghost use Rattle.nl_dat.specs.Stores.{content_in};
 
 use crate::draft::Draft;
+use crate::expiry::expire;
 use crate::mounts::{Mounted, find_mounted, is_mounted, unmount};
 use nl_cpfile::{Checkpoint, Checkpoints, Cpstat};
 use nl_dat::{Batch, VRead, Vstore};
 use nl_files::{CurrentTree, ReadTree, answer};
 use nl_layout::Root;
+use nl_protect::needed;
+use nl_reclaim::Keeping;
 use nl_types::{
-    Answer, Ask, Change, CheckpointNumber, ListOptions, Mode, MountNumber, Reply, Row, VolError,
+    Answer, Ask, Change, CheckpointNumber, ListOptions, Mode, MountNumber, Period, Reply, Row,
+    VolError,
 };
 use std::alloc::Global;
 use std::marker::Model;
@@ -45,13 +49,13 @@ impl Model for Tables {
 }
 
 impl Tables {
-    ghost use Rattle.nl_types.specs.declared.event.Event.TheVariants.{Apply, Read, ChangeMode, Remove, RemoveRange, Mount, Unmount, MountRead, Listing};
+    ghost use Rattle.nl_types.specs.declared.event.Event.TheVariants.{Apply, Read, ChangeMode, Remove, RemoveRange, Expire, Mount, Unmount, MountRead, Listing};
     ghost use Rattle.nl_cpfile.specs.Tables.{ComesNext};
     ghost use Rattle.nl_core.specs.Changes.{HasChanged};
     ghost use Rattle.nl_core.specs.Draft.{CanBeDrafted, HasFewNames, IsDraftRefusal, IsNextDraft};
     ghost use Rattle.nl_core.specs.Means.{FollowsOver, Means};
     ghost use Rattle.nl_core.specs.Tables.{blank_lists};
-    ghost use Rattle.nl_core.specs.Volume.{IsTakenOut, IsTakenOutRange, is_held_at, latest_alone, latest_root, published, with_change, with_checkpoint_mode, with_mount, without_mount};
+    ghost use Rattle.nl_core.specs.Volume.{IsTakenOut, IsExpired, IsTakenOutRange, is_held_at, latest_alone, latest_root, published, with_change, with_checkpoint_mode, with_mount, without_mount};
 
     /// The tables before a volume is formatted: the root alone, over a checkpoint 0 without files. Refused by `Memory` alone.
     pub fn blank(alloc: Global) -> Result<Tables, VolError>
@@ -241,6 +245,18 @@ impl Tables {
         Ok(Answer::Removed(range))
     }
 
+    /// Removes the plain checkpoints below the boundary of protection but for the latest one, and answers their numbers.
+    /// Refused by `Memory` alone.
+    pub fn expire(&mut self, alloc: Global, now: u64, period: u64) -> Reply
+        ensures follows { (pages : Pages)
+            → FollowsOver pages self.old.lists (Expire now period) result self.new.lists }
+        ensures expired { IfOk result (λ answer. IsExpired now period answer self.old.lists self.new.lists) }
+        ensures same { OnErr result (self.new.lists ≡ self.old.lists) }
+    {
+        let gone = expire(alloc, &mut self.checkpoints, now, period)?;
+        Ok(Answer::Expired(gone))
+    }
+
     /// Gives a mount back, without memory. Refused by `BadMount` where there is no such mount.
     pub fn unmount(&mut self, mount: MountNumber) -> Reply
         ensures follows { (pages : Pages)
@@ -314,6 +330,17 @@ impl Tables {
         ensures { self.new.lists ≡ latest_alone self.old.lists }
     {
         self.checkpoints.forget_earlier();
+    }
+}
+
+impl Keeping for Tables {
+    ghost use Rattle.nl_types.specs.Protection.{is_period_needed, staying};
+    ghost use Rattle.nl_cpfile.specs.Tables.{rows};
+
+    ghost test = { λ t. is_period_needed (staying 0 (rows t.lists.table)) };
+
+    fn needed(&self, period: Period) -> bool {
+        needed(&self.checkpoints, CheckpointNumber::new(0), period)
     }
 }
 

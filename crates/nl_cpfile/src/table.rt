@@ -67,6 +67,14 @@ impl Checkpoints {
         &self.latest
     }
 
+    /// Those before the latest checkpoint, ascending by their numbers.
+    pub fn earlier(&self) -> &[Checkpoint]
+        ensures earlier { result.now ≡ self.now.table.earlier }
+        ensures table { IsTable self.now.table }
+    {
+        self.earlier.as_slice()
+    }
+
     /// The kept checkpoint of a number.
     pub fn kept(&self, number: CheckpointNumber) -> Option<&Checkpoint>
         ensures { option_copied result ≡ kept_at number self.now.table }

@@ -4,7 +4,7 @@ use Rattle.std.specs.Option.{option_map}
 use Rattle.nl_types.specs.Segments.{info_of}
 use Rattle.nl_types.specs.Placing.{row_of}
 use Rattle.nl_types.specs.Entries.{Content, Entry}
-use Rattle.nl_dat.specs.declared.entries.Period.{Period}
+use Rattle.nl_types.specs.declared.period.Period.{Period}
 use Rattle.nl_dat.specs.Table.{period_of}
 use Rattle.nl_dat.specs.Stores.{Numbered, Store, address_in, content_in, payload_in}
 

@@ -4,7 +4,7 @@ use Rattle.std.specs.Option.{option_map, option_and_then}
 use Rattle.nl_types.specs.PartialMaps.{Partial}
 use Rattle.nl_types.specs.Entries.{Birth, Entry, Content, number_of}
 use Rattle.nl_dat.specs.declared.entries.DatEntry.{DatEntry}
-use Rattle.nl_dat.specs.declared.entries.Period.{Period}
+use Rattle.nl_types.specs.declared.period.Period.{Period}
 
 -- what a table has at a number
 abbrev pub entry_in : List (Option DatEntry) → Partial DatEntry

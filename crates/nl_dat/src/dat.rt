@@ -8,7 +8,7 @@ ghost use Rattle.nl_dat.specs.OneProof.{IsStore-prop, IsTable-prop};
 use crate::batch::Batch;
 use crate::bdesc::{Bdesc, describe_row};
 use crate::entries::{
-    DatEntry, Period, empty_places, end_entries, enter_births, entry_at, first_free, move_entries,
+    DatEntry, empty_places, end_entries, enter_births, entry_at, first_free, move_entries,
     number_in, number_with,
 };
 use crate::moving::{count_payload, load_all, row_tag};
@@ -18,7 +18,7 @@ use nl_layout::Tag;
 use nl_segwriter::{Payload, Space};
 use nl_sufile::SegTable;
 use nl_types::laws::payload_goes_to_unused_blocks;
-use nl_types::{CheckpointNumber, Items, Page, Segment, VirtualNumber, VolError};
+use nl_types::{CheckpointNumber, Items, Page, Period, Segment, VirtualNumber, VolError};
 use std::alloc::{AllocError, Global};
 use std::marker::Model;
 
@@ -86,13 +86,6 @@ impl<S: Space> Dat<S> {
         Ok(entry_at(self.table.as_slice(), number))
     }
 
-    /// What is known of the segments. By it a caller of `relocate` sees that a segment is closed.
-    pub fn table(&self) -> &SegTable
-        ensures { result.now ≡ self.now.store.segments }
-    {
-        self.space.table()
-    }
-
     /// A description of each payload block of the logs of a segment, in the order of the blocks, be their numbers in use or
     /// not. Refused by `BadRange` where there is no such segment, and by `Memory` for the list.
     pub fn bdescs(&self, alloc: Global, segment: Segment) -> Result<Vec<Bdesc>, VolError>
@@ -158,6 +151,10 @@ impl<S: Space> Vstore for Dat<S> {
     ghost reads_pages = { λ d. Rattle.std.specs.Prelude.refl };
 
     ghost reads_periods = { λ d. Rattle.std.specs.Prelude.refl };
+
+    fn table(&self) -> &SegTable {
+        self.space.table()
+    }
 
     fn capacity(&self) -> u64 {
         self.table.len() as u64 - 1

@@ -8,7 +8,7 @@ ghost use Rattle.std.specs.Option.{option_map};
 ghost use Rattle.nl_dat.specs.Table.{AreInUse, IsNumberWith, addresses_of, IsFirstFree, entry_in, new_entry, ended_entry, moved_entry};
 
 use nl_segwriter::Payload;
-use nl_types::{BlockNumber, CheckpointNumber, Items, VirtualNumber};
+use nl_types::{BlockNumber, CheckpointNumber, Items, Period, VirtualNumber};
 use std::alloc::{AllocError, Global};
 
 /// What the table has for a number in use: where its page stands, and its period. As in the DAT of nilfs2.rst.
@@ -19,13 +19,6 @@ pub struct DatEntry {
     /// The first checkpoint that has the page.
     pub start: CheckpointNumber,
     /// The first checkpoint that no longer has it, where there is one.
-    pub end: Option<CheckpointNumber>,
-}
-
-/// The checkpoints that have a page: those from `start` on, and before `end` where there is one.
-#[derive(Clone, Copy, Debug, PartialEq, Eq)]
-pub struct Period {
-    pub start: CheckpointNumber,
     pub end: Option<CheckpointNumber>,
 }
 

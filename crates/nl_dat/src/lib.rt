@@ -13,5 +13,5 @@ mod store;
 pub use batch::Batch;
 pub use bdesc::Bdesc;
 pub use dat::Dat;
-pub use entries::{DatEntry, Period};
+pub use entries::DatEntry;
 pub use store::{VRead, Vstore, next_number};

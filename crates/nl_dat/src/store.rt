@@ -9,10 +9,10 @@ ghost use Rattle.nl_dat.specs.Summaries.{IsOfLogs, payload_row};
 ghost use Rattle.nl_dat.specs.Stores.{Store, IsStore, HasNoneFree, IsWritten, IsWriteRefused, AreInside, IsMoved, IsMoveRefused, IsReclaimed, block_in, capacity, content_in, tag_in};
 
 use crate::batch::Batch;
-use crate::entries::Period;
 use nl_layout::Tag;
 use nl_segwriter::Payload;
-use nl_types::{CheckpointNumber, Page, Segment, VirtualNumber, VolError};
+use nl_sufile::SegTable;
+use nl_types::{CheckpointNumber, Page, Period, Segment, VirtualNumber, VolError};
 use std::alloc::Global;
 
 /// Pages under virtual block numbers, for reading.
@@ -37,6 +37,10 @@ pub trait VRead {
 pub trait Vstore: VRead {
     /// The numbers in use, the segments, and what the device holds.
     ghost store: { Self → Store };
+
+    /// What is known of the segments. By it a caller of `relocate` sees that a segment is closed.
+    fn table(&self) -> &SegTable
+        ensures { result.now ≡ (store self.now).segments };
 
     /// How many numbers there are: one for each block of the device, from 1 on.
     fn capacity(&self) -> u64

@@ -52,7 +52,7 @@ pub fn find_row(rows: &[Row], number: CheckpointNumber) -> Option<Row>
 }
 
 /// Why a kept checkpoint can't be removed.
-fn reason_to_stay(latest: u64, row: &Row) -> Option<VolError>
+pub fn reason_to_stay(latest: u64, row: &Row) -> Option<VolError>
     ensures { result ≡ reason_to_stay latest row.now }
 {
     if row.mode.is_snapshot() {

@@ -8,6 +8,7 @@ mod calls;
 mod copies;
 mod dirs;
 mod dispatch;
+mod expiry;
 mod judging;
 mod listing;
 mod mounts;

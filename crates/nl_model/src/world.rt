@@ -3,13 +3,14 @@ ghost use Rattle.std.specs.Prelude.{◌≡◌, IfOk, Ok, OnOk, OnErr};
 ghost use Rattle.nl_types.specs.declared.reply.Answer.TheVariants.{Rows};
 ghost use Rattle.nl_types.specs.Calls.{IsUnlessMemory};
 ghost use Rattle.nl_types.specs.Rows.{listing};
-ghost use Rattle.nl_types.specs.Worlds.{formatted, rows, apply_change, checkpoint, change_mode, take_out, remove, remove_range, mount, unmount, mount_read, IsDoneUnlessMemory};
-ghost use Rattle.nl_model.specs.Model.{ModelStep};
+ghost use Rattle.nl_types.specs.Worlds.{formatted, rows, apply_change, checkpoint, change_mode, take_out, remove, remove_range, expire, mount, unmount, mount_read, IsDoneUnlessMemory};
+ghost use Rattle.nl_model.specs.Model.{ModelStep, cleaned_by};
 
 use crate::copies::{
     Copies, Kept, find_copy, greatest_number, stamp_of_latest, with_mode, without,
 };
 use crate::dispatch::{make, marks_dirty, reply};
+use crate::expiry::{boundary, expired};
 use crate::judging::{find_row, range_removal, removal, rows_of};
 use crate::listing::listing;
 use crate::mounts::{Mounts, find_mount, is_mounted, without_mount};
@@ -45,6 +46,21 @@ impl Model for World {
       mounts = w.mounts;
       given = w.given;
     } };
+}
+
+/// What a volume may answer to a move or a retirement.
+fn cleaned_by(reply: &Reply) -> Reply
+    ensures { result ≡ cleaned_by reply.now }
+{
+    match reply {
+        Ok(Answer::Moved { moved, left }) => Ok(Answer::Moved {
+            moved: *moved,
+            left: *left,
+        }),
+        Ok(Answer::Freed(count)) => Ok(Answer::Freed(*count)),
+        Ok(_) => Ok(Answer::Done),
+        Err(error) => Err(*error),
+    }
 }
 
 impl World {
@@ -146,6 +162,17 @@ impl World {
         Ok(Answer::Removed(range))
     }
 
+    fn expire(&mut self, alloc: Global, now: u64, period: u64) -> Reply
+        ensures { IsDoneUnlessMemory result self.new self.old (expire self.old now period) }
+    {
+        let latest = greatest_number(self.copies.as_slice());
+        let told = rows_of(alloc, self.copies.as_slice())?;
+        let boundary = boundary(told.as_slice(), now, period, latest);
+        let gone = expired(alloc, told.as_slice(), boundary, latest)?;
+        self.take_out(alloc, gone.as_slice())?;
+        Ok(Answer::Expired(gone))
+    }
+
     fn add_mount(&mut self, n: CheckpointNumber) -> Reply
         ensures { IsDoneUnlessMemory result self.new self.old (mount self.old n) }
     {
@@ -233,6 +260,9 @@ impl World {
     /// - A removal of a range removes each plain checkpoint in it but the latest one, and tells why
     ///   the others stay. `BadRange` where the first number is 0 or above the last, `NoCheckpoint`
     ///   where no kept number lies between.
+    /// - An expiry removes each plain checkpoint below the boundary but the latest one: the least
+    ///   number that the period protects by nilfs_cleanerd.conf(5), or else the latest number.
+    /// - A move and a retirement change nothing, and answer what is handed in.
     /// - A mount goes by nilfs2.rst: it is read-only, and of a snapshot alone. `NoCheckpoint` where
     ///   the checkpoint is not kept, `NotSnapshot` where it is plain, `NumbersSpent` where the
     ///   numbers have run out.
@@ -240,8 +270,8 @@ impl World {
     ///   mount stands.
     /// - A read of a mount is a read of the snapshot's tree. `BadMount` where no such mount stands.
     /// - A listing goes by lscp(1).
-    pub fn apply(&mut self, alloc: Global, event: &Event) -> Reply
-        ensures { ModelStep self.old event.now result self.new }
+    pub fn apply(&mut self, alloc: Global, event: &Event, cleaned: &Reply) -> Reply
+        ensures { ModelStep self.old (event.now, cleaned.now) result self.new }
     {
         match event {
             Event::Apply(asked) => self.change(alloc, asked),
@@ -250,6 +280,8 @@ impl World {
             Event::ChangeMode(n, mode) => self.set_mode(alloc, *n, *mode),
             Event::Remove(n) => self.remove_one(alloc, *n),
             Event::RemoveRange { first, last } => self.remove_between(alloc, *first, *last),
+            Event::Expire { now, period } => self.expire(alloc, *now, *period),
+            Event::Move { .. } | Event::Retire(_) => cleaned_by(cleaned),
             Event::Mount(n) => self.add_mount(*n),
             Event::Unmount(m) => self.give_back(alloc, *m),
             Event::MountRead(m, asked) => self.read_mount(alloc, *m, asked),

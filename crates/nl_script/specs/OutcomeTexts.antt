@@ -15,6 +15,9 @@ abbrev pub answer_text : Answer → Text
 answer_text answer.Done = []
 answer_text (answer.Written count) = []
 answer_text (answer.Removed range) = []
+answer_text (answer.Expired gone) = []
+answer_text (answer.Moved moved left) = []
+answer_text (answer.Freed count) = []
 answer_text (answer.Bytes bytes) = content_text bytes
 answer_text (answer.Names names) = name_texts names
 answer_text (answer.Stat stat) = stat_text stat

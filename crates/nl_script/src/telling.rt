@@ -26,7 +26,8 @@ fn tell_answer<W: Write>(answer: &Answer, out: &mut W) -> io::Result<()>
         (answer_text answer.now)) }
 {
     match answer {
-        Answer::Done | Answer::Written(_) | Answer::Removed(_) => Ok(()),
+        Answer::Done | Answer::Written(_) | Answer::Removed(_) | Answer::Expired(_) => Ok(()),
+        Answer::Moved { .. } | Answer::Freed(_) => Ok(()),
         Answer::Bytes(bytes) => texts::content_line(bytes.as_slice(), out),
         Answer::Names(names) => texts::name_lines(names.as_slice(), out),
         Answer::Stat(stat) => texts::stat_text(*stat, out),

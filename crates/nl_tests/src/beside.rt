@@ -122,6 +122,7 @@ const OF_ALL_KINDS: &[Call<'static>] = &[
     Call::RemoveRange(10, u64::MAX),
     Call::RemoveRange(1, u64::MAX),
     Call::RemoveRange(5, 8),
+    Call::Expire(0, 0),
     Call::ReadMount(2, b"/b", 0, ALL),
     Call::Unmount(1),
     Call::ChangeMode(3, Mode::Plain),
@@ -132,6 +133,19 @@ const OF_ALL_KINDS: &[Call<'static>] = &[
     Call::Remove(11),
     Call::Mount(11),
     Call::Listing(DOWNWARDS),
+    Call::CheckpointAt(Mode::Plain, 150),
+    Call::Expire(149, 50),
+    Call::Expire(150, 50),
+    Call::Expire(u64::MAX, u64::MAX),
+    Call::Expire(u64::MAX, 0),
+    Call::Move(0, 0),
+    Call::Move(0, 1),
+    Call::Move(0, 30),
+    Call::Retire(0),
+    Call::Move(127, 1),
+    Call::Retire(127),
+    Call::Retire(128),
+    LISTING,
 ];
 
 // ---- random events
@@ -180,7 +194,7 @@ fn random_number(seed: &mut u64) -> u64
 fn random_call(seed: &mut u64) -> Call<'static> {
     let path = random_path(seed);
     let number = random_number(seed);
-    match next(seed, 16) {
+    match next(seed, 19) {
         0 => Call::Create(path),
         1 => Call::Mkdir(path),
         2 | 3 => Call::Write(path, next(seed, 5000), &BYTES[..next(seed, 3000) as usize]),
@@ -193,6 +207,9 @@ fn random_call(seed: &mut u64) -> Call<'static> {
         10 => Call::RemoveRange(number, number + next(seed, 4)),
         11 | 12 => Call::Mount(number),
         13 => Call::Unmount(next(seed, 20)),
+        14 => Call::Expire(number, next(seed, 100)),
+        15 => Call::Move(next(seed, 130) as u32, next(seed, 40) as u32),
+        16 => Call::Retire(next(seed, 130) as u32),
         _ => Call::Rename(path, random_path(seed)),
     }
 }
@@ -259,13 +276,26 @@ fn push_turn(
 
 // ---- both
 
-fn are_alike(ours: &[Reply], due: &[Reply]) -> bool {
-    for (our, due) in ours.iter().zip(due) {
-        if !same_reply(our, due) {
+fn are_alike(answered: &[(Event, Reply)], due: &[Reply]) -> bool {
+    for (asked, due) in answered.iter().zip(due) {
+        if !same_reply(&asked.1, due) {
             return false;
         }
     }
-    ours.len() == due.len()
+    answered.len() == due.len()
+}
+
+/// Each event with the pen's reply, which the model answers to moves and retirements.
+fn answered(
+    alloc: Global,
+    events: Vec<Event>,
+    replies: Vec<Reply>,
+) -> Result<Vec<(Event, Reply)>, AllocError> {
+    let mut answered = Vec::new(alloc);
+    for asked in events.into_iter().zip(replies) {
+        answered.push(asked)?;
+    }
+    Ok(answered)
 }
 
 /// Whether both reply alike to events.
@@ -273,11 +303,12 @@ fn reply_alike<D: Device>(
     alloc: Global,
     pen: &mut Pen<D>,
     world: &mut World,
-    events: &[Event],
+    events: Vec<Event>,
 ) -> Result<bool, VolError> {
-    let ours = run(alloc, pen, events)?;
-    let due = nl_model::run(world, alloc, events)?;
-    Ok(are_alike(&ours, due.as_slice()))
+    let replies = run(alloc, pen, &events)?;
+    let answered = answered(alloc, events, replies)?;
+    let due = nl_model::run(world, alloc, &answered)?;
+    Ok(are_alike(&answered, due.as_slice()))
 }
 
 /// Whether both reply alike to the calls of a table and ten random ones.
@@ -290,7 +321,7 @@ fn turn_alike<D: Device>(
 ) -> Result<bool, VolError> {
     let mut events = Vec::new(alloc);
     push_turn(alloc, &mut events, seed, calls)?;
-    reply_alike(alloc, pen, world, &events)
+    reply_alike(alloc, pen, world, events)
 }
 
 /// What comes between ten random calls and the next ten.

@@ -1,7 +1,7 @@
-//! Rows of changes of checkpoints, of mounts given back, and of listings.
+//! Rows of changes and expiries of checkpoints, of mounts given back, and of listings.
 use crate::events::{ALL, Call, LISTING, PLAIN, Row, SNAPSHOT, Shown, Tables, WHOLE, Want};
 use Mode::{Plain, Snapshot};
-use Want::{Bytes, Checkpoint, Done, Mount, Refused, Removed, Rows, Written};
+use Want::{Bytes, Checkpoint, Done, Expired, Mount, Refused, Removed, Rows, Written};
 use nl_types::{Mode, VolError};
 
 /// A range takes the plain checkpoints in it, but the latest one.
@@ -89,6 +89,54 @@ const MODES: &[Row<'static>] = &[
     (Call::Read(b"/f", 0, ALL), Bytes(b"B")),
 ];
 
+/// Where stamp and period together are the moment, a checkpoint isn't protected any more.
+const EXPIRED_AT_100: &[Row<'static>] = &[
+    (Call::CheckpointAt(Plain, 50), Checkpoint(2)),
+    (Call::CheckpointAt(Plain, 100), Checkpoint(3)),
+    (Call::Expire(100, 50), Expired(&[1, 2])),
+    (LISTING, Rows(&[(3, 100, Plain, 1)])),
+];
+
+/// A second before that the second one is protected.
+const EXPIRED_AT_99: &[Row<'static>] = &[
+    (Call::CheckpointAt(Plain, 50), Checkpoint(2)),
+    (Call::CheckpointAt(Plain, 100), Checkpoint(3)),
+    (Call::Expire(99, 50), Expired(&[1])),
+    (LISTING, Rows(&[(2, 50, Plain, 1), (3, 100, Plain, 1)])),
+];
+
+/// Where none is protected any more, the latest one stays.
+const EXPIRED_AT_1000: &[Row<'static>] = &[
+    (Call::CheckpointAt(Plain, 50), Checkpoint(2)),
+    (Call::CheckpointAt(Plain, 100), Checkpoint(3)),
+    (Call::Expire(1000, 50), Expired(&[1, 2])),
+    (Call::Expire(1000, 50), Expired(&[])),
+    (LISTING, Rows(&[(3, 100, Plain, 1)])),
+];
+
+/// Snapshots stay until they are plain, mounted or not.
+const EXPIRED_BUT_SNAPSHOTS: &[Row<'static>] = &[
+    (Call::Create(b"/f"), Done),
+    (Call::Write(b"/f", 0, b"A"), Written(1)),
+    (Call::CheckpointAt(Plain, 10), Checkpoint(2)),
+    (Call::Write(b"/f", 0, b"B"), Written(1)),
+    (Call::CheckpointAt(Snapshot, 20), Checkpoint(3)),
+    (Call::Write(b"/f", 0, b"C"), Written(1)),
+    (Call::CheckpointAt(Plain, 30), Checkpoint(4)),
+    (Call::Expire(100, 50), Expired(&[1, 2])),
+    (Call::ChangeMode(3, Plain), Done),
+    (Call::ChangeMode(3, Snapshot), Done),
+    (Call::Mount(3), Mount(1)),
+    (Call::ReadMount(1, b"/f", 0, ALL), Bytes(b"B")),
+    (Call::Expire(100, 50), Expired(&[])),
+    (Call::Unmount(1), Done),
+    (Call::ChangeMode(3, Plain), Done),
+    (Call::Expire(100, 50), Expired(&[3])),
+    (Call::Expire(u64::MAX, u64::MAX), Expired(&[])),
+    (LISTING, Rows(&[(4, 30, Plain, 2)])),
+    (Call::Read(b"/f", 0, ALL), Bytes(b"C")),
+];
+
 /// The two before checkpoint 5, downwards.
 const BEFORE: Shown = Shown {
     reverse: true,
@@ -154,7 +202,15 @@ const LISTINGS: &[Row<'static>] = &[
     (Call::Listing(NONE), Rows(&[])),
 ];
 
-const ON_CHECKPOINTS: Tables = &[REMOVALS, MODES, LISTINGS];
+const ON_CHECKPOINTS: Tables = &[
+    REMOVALS,
+    MODES,
+    EXPIRED_AT_100,
+    EXPIRED_AT_99,
+    EXPIRED_AT_1000,
+    EXPIRED_BUT_SNAPSHOTS,
+    LISTINGS,
+];
 
 pub(crate) fn on_checkpoints() -> Tables {
     ON_CHECKPOINTS

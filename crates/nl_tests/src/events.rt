@@ -1,7 +1,7 @@
 //! Events and replies, as rows write them.
 use nl_types::{
     Answer, Ask, Change, CheckpointNumber, Event, Items, Kind, ListOptions, Mode, MountNumber,
-    Named, Range, Reply, Stat, VolError,
+    Named, Range, Reply, Segment, Stat, VolError,
 };
 use std::alloc::{AllocError, Global};
 
@@ -28,6 +28,11 @@ pub(crate) enum Call<'a> {
     ChangeMode(u64, Mode),
     Remove(u64),
     RemoveRange(u64, u64),
+    /// An expiry at a moment, with a protection period.
+    Expire(u64, u64),
+    /// A move out of a segment, at moment 0, with its limit.
+    Move(u32, u32),
+    Retire(u32),
     Listing(Shown),
     Mount(u64),
     Unmount(u64),
@@ -64,6 +69,10 @@ pub(crate) enum Want<'a> {
     Mount(u64),
     /// The numbers of a range that are removed, and those that stay.
     Removed(&'a [u64], &'a [(u64, VolError)]),
+    Expired(&'a [u64]),
+    /// How many blocks were moved, and how many needed ones are left.
+    Moved(u32, u32),
+    Freed(u32),
     Rows(&'a [Told]),
     Refused(VolError),
 }
@@ -102,7 +111,8 @@ pub(crate) fn path_of<'a>(call: Call<'a>) -> &'a [u8] {
         Call::ListMount(_, path) | Call::StatMount(_, path) => path,
         Call::Checkpoint(_) | Call::CheckpointAt(_, _) | Call::ChangeMode(_, _) => b"/f",
         Call::Remove(_) | Call::RemoveRange(_, _) | Call::Listing(_) => b"/f",
-        Call::Mount(_) | Call::Unmount(_) => b"/f",
+        Call::Expire(_, _) | Call::Mount(_) | Call::Unmount(_) => b"/f",
+        Call::Move(_, _) | Call::Retire(_) => b"/f",
     }
 }
 
@@ -180,6 +190,13 @@ pub(crate) fn event_of(alloc: Global, call: Call<'_>) -> Result<Event, AllocErro
             first: CheckpointNumber::new(first),
             last: CheckpointNumber::new(last),
         },
+        Call::Expire(now, period) => Event::Expire { now, period },
+        Call::Move(segment, limit) => Event::Move {
+            segment: Segment::new(segment),
+            limit,
+            now: 0,
+        },
+        Call::Retire(segment) => Event::Retire(Segment::new(segment)),
         Call::Listing(shown) => Event::Listing(options_of(shown)),
         Call::Mount(n) => Event::Mount(CheckpointNumber::new(n)),
         Call::Unmount(m) => Event::Unmount(MountNumber::new(m)),
@@ -222,19 +239,23 @@ fn are_listed(names: &[Named], count: usize, first: &[u8], last: &[u8]) -> bool 
     }
 }
 
-/// Whether a range's numbers came to this.
-fn is_parted(range: &Range, removed: &[u64], stayed: &[(u64, VolError)]) -> bool {
-    for (found, number) in range.removed.as_slice().iter().zip(removed) {
-        if found.get() != *number {
+fn are_numbered(found: &[CheckpointNumber], due: &[u64]) -> bool {
+    for (number, want) in found.iter().zip(due) {
+        if number.get() != *want {
             return false;
         }
     }
+    found.len() == due.len()
+}
+
+/// Whether a range's numbers came to this.
+fn is_parted(range: &Range, removed: &[u64], stayed: &[(u64, VolError)]) -> bool {
     for (found, (number, reason)) in range.stayed.as_slice().iter().zip(stayed) {
         if found.number.get() != *number || found.reason != *reason {
             return false;
         }
     }
-    range.removed.len() == removed.len() && range.stayed.len() == stayed.len()
+    are_numbered(range.removed.as_slice(), removed) && range.stayed.len() == stayed.len()
 }
 
 pub(crate) fn row_of(told: Told) -> nl_types::Row {
@@ -275,6 +296,11 @@ pub(crate) fn is_wanted(reply: &Reply, want: Want<'_>) -> bool {
         (Ok(Answer::Removed(range)), Want::Removed(removed, stayed)) => {
             is_parted(range, removed, stayed)
         }
+        (Ok(Answer::Expired(gone)), Want::Expired(want)) => are_numbered(gone.as_slice(), want),
+        (Ok(Answer::Moved { moved, left }), Want::Moved(want, rest)) => {
+            *moved == want && *left == rest
+        }
+        (Ok(Answer::Freed(count)), Want::Freed(want)) => *count == want,
         (Ok(Answer::Rows(rows)), Want::Rows(want)) => are_told(rows.as_slice(), want),
         (Err(e), Want::Refused(want)) => *e == want,
         _ => false,
@@ -305,6 +331,18 @@ fn same_answer(one: &Answer, other: &Answer) -> bool {
         (Answer::Names(a), Answer::Names(b)) => same_names(a.as_slice(), b.as_slice()),
         (Answer::Stat(a), Answer::Stat(b)) => a == b,
         (Answer::Removed(a), Answer::Removed(b)) => same_range(a, b),
+        (Answer::Expired(a), Answer::Expired(b)) => a.as_slice() == b.as_slice(),
+        (
+            Answer::Moved {
+                moved: a,
+                left: rest,
+            },
+            Answer::Moved {
+                moved: b,
+                left: others,
+            },
+        ) => a == b && rest == others,
+        (Answer::Freed(a), Answer::Freed(b)) => a == b,
         (Answer::Rows(a), Answer::Rows(b)) => a.as_slice() == b.as_slice(),
         _ => false,
     }

@@ -3,7 +3,7 @@ use crate::events::{Call, Row, Want, event_of, is_wanted, path_of, same_reply};
 use nl_core::Pen;
 use nl_device::Device;
 use nl_model::World;
-use nl_types::{Event, Reply, VolError};
+use nl_types::{Answer, Event, Reply, VolError};
 use std::alloc::{AllocError, Global};
 
 /// What does events.
@@ -19,7 +19,7 @@ impl<D: Device> Volume for Pen<D> {
 
 impl Volume for World {
     fn answer(&mut self, alloc: Global, event: &Event) -> Reply {
-        self.apply(alloc, event)
+        self.apply(alloc, event, &Ok(Answer::Done))
     }
 }
 

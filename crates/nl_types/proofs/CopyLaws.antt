@@ -1,5 +1,5 @@
 -- What each event does to copies and to mounts.
-use Rattle.std.proofs.Common.{◌≡◌, ◌⊎◌, ℕ, ◌+◌, ◌<◌, ◌≤◌, true, false, cond, not, List, [], ◌∷◌, ◌++◌, Some, None, Ok, refl, sym, ap, ◌∙◌, subst, true≢false, arith, is_some, eqb-true, inl, inr}
+use Rattle.std.proofs.Common.{◌≡◌, ◌≢◌, ◌⊎◌, ℕ, ◌+◌, ◌<◌, ◌≤◌, true, false, cond, not, List, [], ◌∷◌, ◌++◌, Some, None, Ok, refl, sym, ap, ◌∙◌, subst, true≢false, arith, is_some, eqb-true, inl, inr}
 use Rattle.std.specs.Prelude.{◌==◌, IfOk}
 use Rattle.std.specs.Option.{option_map}
 use Rattle.std.proofs.lemmas.Option.{same_Some}
@@ -10,7 +10,7 @@ use Rattle.nl_types.specs.declared.event.Event.TheVariants as event
 use Rattle.nl_types.specs.declared.event.Mode.{Mode}
 use Rattle.nl_types.specs.declared.reply.Answer.TheVariants as answer
 use Rattle.nl_types.specs.Rows.{is_among}
-use Rattle.nl_types.specs.Worlds.{World, Copy, Reply, Outcome, copy_at, latest, moded, take_out}
+use Rattle.nl_types.specs.Worlds.{World, Copy, Reply, Outcome, copy_at, expiry_of, latest, moded, take_out}
 use Rattle.nl_types.specs.Laws.{TakesOut, ChangesMode, GivesBack, CopiesStay, ModesStay, CopiesAreKept, MountsStay, MountNumbersAreNew, GivenNeverFalls}
 use Rattle.nl_types.proofs.ChangeLaws.{IsNoMount, change_gives_no_mount}
 use Rattle.nl_types.proofs.NumberedLists.{find_stays}
@@ -22,7 +22,7 @@ use Rattle.nl_types.proofs.EventCases.{EachEvent, step_gives, after_change, new_
 
 -- ---- copies
 
-module _ (w : World) (n : ℕ) (before : Copy) (was : copy_at w n ≡ Some before) where
+module _ (cleaned : Reply) (w : World) (n : ℕ) (before : Copy) (was : copy_at w n ≡ Some before) where
   -- the copy once another one is given a mode, or it
   found-moded : (k : ℕ) (mode : Mode) → copy_at (after_mode w k mode) n ≡ Some (moded k mode n before)
   found-moded k mode = find-valued (moded k mode) w.copies n ∙ ap (option_map (moded k mode n)) was
@@ -46,15 +46,17 @@ module _ (w : World) (n : ℕ) (before : Copy) (was : copy_at w n ≡ Some befor
   alike : (now copy : Copy) → now ≡ copy → copy.tree ≡ before.tree → copy.stamp ≡ before.stamp → (now.tree ≡ before.tree) × (now.stamp ≡ before.stamp)
   alike now copy same tree stamp = (ap (λ (c : Copy). c.tree) same ∙ tree, ap (λ (c : Copy). c.stamp) same ∙ stamp)
 
-  pub each_is_alike : EachEvent IsAlike w
+  pub each_is_alike : EachEvent cleaned IsAlike w
   each_is_alike = record {
     stays = λ _ _ _ now is. alike now before (same_Some now before (sym is ∙ was)) refl refl;
+    cleans = λ _ now is. alike now before (same_Some now before (sym is ∙ was)) refl refl;
     changed = λ _ _ _ now is. alike now before (same_Some now before (sym is ∙ was)) refl refl;
     copied = λ mode moment _ now is. alike now before (same_Some now before (sym is ∙ found-copied mode moment)) refl refl;
     moded = λ k mode _ now is.
         alike now (moded k mode n before) (same_Some now (moded k mode n before) (sym is ∙ found-moded k mode)) (tree-moded k mode n before) (stamp-moded k mode n before);
     removed = λ k _ now is. alike now before (found-left (k ∷ []) now is) refl refl;
     ranged = λ first last now is. alike now before (found-left (range_of w first last).removed now is) refl refl;
+    expired = λ moment period now is. alike now before (found-left (expiry_of w moment period) now is) refl refl;
     mounted = λ _ _ _ _ _ now is. alike now before (same_Some now before (sym is ∙ was)) refl refl;
     unmounted = λ _ now is. alike now before (same_Some now before (sym is ∙ was)) refl refl;
   }
@@ -74,14 +76,16 @@ module _ (w : World) (n : ℕ) (before : Copy) (was : copy_at w n ≡ Some befor
         | false ↦ λ _ same. inl (ap (λ (c : Copy). c.mode) same)
       ] refl (same_Some now (moded k mode n before) (sym is ∙ found-moded k mode))
 
-  pub each_has_mode : EachEvent HasMode w
+  pub each_has_mode : EachEvent cleaned HasMode w
   each_has_mode = record {
     stays = λ asked _ _ now is. same_mode asked now (same_Some now before (sym is ∙ was));
+    cleans = λ asked now is. same_mode asked now (same_Some now before (sym is ∙ was));
     changed = λ c _ _ now is. same_mode (event.Apply c) now (same_Some now before (sym is ∙ was));
     copied = λ mode moment _ now is. same_mode (event.Checkpoint mode moment) now (same_Some now before (sym is ∙ found-copied mode moment));
     moded = λ k mode _ now is. mode-moded k mode now is;
     removed = λ k _ now is. same_mode (event.Remove k) now (found-left (k ∷ []) now is);
     ranged = λ first last now is. same_mode (event.RemoveRange first last) now (found-left (range_of w first last).removed now is);
+    expired = λ moment period now is. same_mode (event.Expire moment period) now (found-left (expiry_of w moment period) now is);
     mounted = λ k _ _ _ _ now is. same_mode (event.Mount k) now (same_Some now before (sym is ∙ was));
     unmounted = λ m now is. same_mode (event.Unmount m) now (same_Some now before (sym is ∙ was));
   }
@@ -105,14 +109,16 @@ module _ (w : World) (n : ℕ) (before : Copy) (was : copy_at w n ≡ Some befor
     | inr goes ↦ inr (among_one k n goes)
   ]
 
-  pub each_is_kept : EachEvent IsKept w
+  pub each_is_kept : EachEvent cleaned IsKept w
   each_is_kept = record {
     stays = λ _ _ _. inl (ap is_some was);
+    cleans = λ _. inl (ap is_some was);
     changed = λ _ _ _. inl (ap is_some was);
     copied = λ mode now _. inl (ap is_some (found-copied mode now));
     moded = λ k mode _. inl (ap is_some (found-moded k mode));
     removed = λ k _. removed_or_kept k;
     ranged = λ first last. kept-unless (range_of w first last).removed;
+    expired = λ now period. kept-unless (expiry_of w now period);
     mounted = λ _ _ _ _ _. inl (ap is_some was);
     unmounted = λ _. inl (ap is_some was);
   }
@@ -120,21 +126,21 @@ module _ (w : World) (n : ℕ) (before : Copy) (was : copy_at w n ≡ Some befor
 -- a copy kept before and after has the same tree and stamp
 pub copies_stay : CopiesStay
 copies_stay cleaned reply old new asked n before now is was kept =
-    subst (IsAlike old n before was asked) is (step_gives (IsAlike old n before was) old (each_is_alike old n before was) cleaned asked) now kept
+    subst (IsAlike cleaned old n before was asked) is (step_gives cleaned (IsAlike cleaned old n before was) old (each_is_alike cleaned old n before was) asked) now kept
 
 -- and the same mode, unless the event changes that
 pub modes_stay : ModesStay
 modes_stay cleaned reply old new asked n before now is was kept =
-    subst (HasMode old n before was asked) is (step_gives (HasMode old n before was) old (each_has_mode old n before was) cleaned asked) now kept
+    subst (HasMode cleaned old n before was asked) is (step_gives cleaned (HasMode cleaned old n before was) old (each_has_mode cleaned old n before was) asked) now kept
 
 -- it stays kept, unless the event takes it out
 pub copies_are_kept : CopiesAreKept
 copies_are_kept cleaned reply old new asked n copy is was =
-    subst (IsKept old n copy was asked) is (step_gives (IsKept old n copy was) old (each_is_kept old n copy was) cleaned asked)
+    subst (IsKept cleaned old n copy was asked) is (step_gives cleaned (IsKept cleaned old n copy was) old (each_is_kept cleaned old n copy was) asked)
 
 -- ---- mounts
 
-module _ (w : World) (m n : ℕ) (was : find nat_cmp m w.mounts ≡ Some n) where
+module _ (cleaned : Reply) (w : World) (m n : ℕ) (was : find nat_cmp m w.mounts ≡ Some n) where
   abbrev IsMounted : Event → Outcome → Type 0
   IsMounted asked done = (find nat_cmp m done.1.mounts ≡ Some n) ⊎ GivesBack asked m
 
@@ -146,14 +152,16 @@ module _ (w : World) (m n : ℕ) (was : find nat_cmp m w.mounts ≡ Some n) wher
         | false ↦ λ other. inl (found ∙ ap (λ b. cond (not b) (find nat_cmp m w.mounts) None) other ∙ was)
       ] refl
 
-  each_is_mounted : EachEvent IsMounted w
+  each_is_mounted : EachEvent cleaned IsMounted w
   each_is_mounted = record {
     stays = λ _ _ _. inl was;
+    cleans = λ _. inl was;
     changed = λ _ _ _. inl was;
     copied = λ _ _ _. inl was;
     moded = λ _ _ _. inl was;
     removed = λ _ _. inl was;
     ranged = λ _ _. inl was;
+    expired = λ _ _. inl was;
     mounted = λ k _ _ _ _. inl (find_stays w.mounts ((w.given + 1, k) ∷ []) m n was);
     unmounted = unmounted_or_kept;
   }
@@ -161,41 +169,46 @@ module _ (w : World) (m n : ℕ) (was : find nat_cmp m w.mounts ≡ Some n) wher
 -- a mount shows the same checkpoint, until it is given back
 pub mounts_stay : MountsStay
 mounts_stay cleaned reply old new asked m n is was =
-    subst (IsMounted old m n was asked) is (step_gives (IsMounted old m n was) old (each_is_mounted old m n was) cleaned asked)
+    subst (IsMounted cleaned old m n was asked) is (step_gives cleaned (IsMounted cleaned old m n was) old (each_is_mounted cleaned old m n was) asked)
 
--- a mount that is answered has a number above all that were given
-abbrev GivesNew : World → Event → Outcome → Type 0
-GivesNew w asked done = (m : ℕ) → done.0 ≡ Ok (answer.Mount m) → (w.given < m) × (done.1.given ≡ m)
+-- where the mount is answered, it has a number above all that were given
+abbrev GivesNew : ℕ → World → Event → Outcome → Type 0
+GivesNew m w asked done = done.0 ≡ Ok (answer.Mount m) → (w.given < m) × (done.1.given ≡ m)
 
 -- where no mount is answered, there is nothing to show
-no_mount_is_new : (w : World) (asked : Event) (reply : Reply) (new : World) → IfOk reply IsNoMount → GivesNew w asked (reply, new)
-no_mount_is_new w asked reply new none m is = absurd (subst (λ r. IfOk r IsNoMount) is none)
+no_mount_is_new : (m : ℕ) (w : World) (asked : Event) (reply : Reply) (new : World) → IfOk reply IsNoMount → GivesNew m w asked (reply, new)
+no_mount_is_new m w asked reply new none is = absurd (subst (λ r. IfOk r IsNoMount) is none)
 
-each_is_new : (w : World) → EachEvent (GivesNew w) w
-each_is_new w = record {
-  stays = λ asked reply none. no_mount_is_new w asked reply w none;
+each_is_new : (cleaned : Reply) (m : ℕ) → (cleaned ≢ Ok (answer.Mount m)) → (w : World) → EachEvent cleaned (GivesNew m w) w
+each_is_new cleaned m other w = record {
+  stays = λ asked reply none. no_mount_is_new m w asked reply w none;
+  cleans = λ _ is. absurd (other is);
   changed = λ c done is.
-      no_mount_is_new w (event.Apply c) (Ok done.0) (after_change w c done.1) (subst (λ r. IfOk r (λ d. IsNoMount d.0)) is (change_gives_no_mount w.tree c));
-  copied = λ _ _ _ _ is. absurd (subst (λ r. IfOk r IsNoMount) is tt);
-  moded = λ _ _ _ _ is. absurd (subst (λ r. IfOk r IsNoMount) is tt);
-  removed = λ _ _ _ is. absurd (subst (λ r. IfOk r IsNoMount) is tt);
-  ranged = λ _ _ _ is. absurd (subst (λ r. IfOk r IsNoMount) is tt);
-  mounted = λ _ _ _ _ _ m is. let same : w.given + 1 ≡ m = cc in (omega arith, same);
-  unmounted = λ _ _ is. absurd (subst (λ r. IfOk r IsNoMount) is tt);
+      no_mount_is_new m w (event.Apply c) (Ok done.0) (after_change w c done.1) (subst (λ r. IfOk r (λ d. IsNoMount d.0)) is (change_gives_no_mount w.tree c));
+  copied = λ _ _ _ is. absurd (subst (λ r. IfOk r IsNoMount) is tt);
+  moded = λ _ _ _ is. absurd (subst (λ r. IfOk r IsNoMount) is tt);
+  removed = λ _ _ is. absurd (subst (λ r. IfOk r IsNoMount) is tt);
+  ranged = λ _ _ is. absurd (subst (λ r. IfOk r IsNoMount) is tt);
+  expired = λ _ _ is. absurd (subst (λ r. IfOk r IsNoMount) is tt);
+  mounted = λ _ _ _ _ _ is. let same : w.given + 1 ≡ m = cc in (omega arith, same);
+  unmounted = λ _ is. absurd (subst (λ r. IfOk r IsNoMount) is tt);
 }
 
 -- a mount that is made has a number above all that were given
 pub mount_numbers_are_new : MountNumbersAreNew
-mount_numbers_are_new cleaned old new asked m other is = subst (GivesNew old asked) is (step_gives (GivesNew old) old (each_is_new old) cleaned asked) m refl
+mount_numbers_are_new cleaned old new asked m other is =
+    subst (GivesNew m old asked) is (step_gives cleaned (GivesNew m old) old (each_is_new cleaned m other old) asked) refl
 
-each_gives_no_less : (w : World) → EachEvent (λ _ done. w.given ≤ done.1.given) w
-each_gives_no_less w = record {
+each_gives_no_less : (cleaned : Reply) (w : World) → EachEvent cleaned (λ _ done. w.given ≤ done.1.given) w
+each_gives_no_less cleaned w = record {
   stays = λ _ _ _. omega arith;
+  cleans = λ _. omega arith;
   changed = λ _ _ _. omega arith;
   copied = λ _ _ _. omega arith;
   moded = λ _ _ _. omega arith;
   removed = λ _ _. omega arith;
   ranged = λ _ _. omega arith;
+  expired = λ _ _. omega arith;
   mounted = λ _ _ _ _ _. omega arith;
   unmounted = λ _. omega arith;
 }
@@ -203,4 +216,4 @@ each_gives_no_less w = record {
 -- the count of those that were given never falls
 pub given_never_falls : GivenNeverFalls
 given_never_falls cleaned reply old new asked is =
-    subst (λ (done : Outcome). old.given ≤ done.1.given) is (step_gives (λ _ done. old.given ≤ done.1.given) old (each_gives_no_less old) cleaned asked)
+    subst (λ (done : Outcome). old.given ≤ done.1.given) is (step_gives cleaned (λ _ done. old.given ≤ done.1.given) old (each_gives_no_less cleaned old) asked)

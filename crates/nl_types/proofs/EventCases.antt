@@ -15,7 +15,7 @@ use Rattle.nl_types.specs.Limits.{checkpoint_number_limit, mount_number_limit}
 use Rattle.nl_types.specs.Trees.{Tree}
 use Rattle.nl_types.specs.Calls.{change, is_dirtying, reply_to}
 use Rattle.nl_types.specs.Rows.{is_snapshot, kept_row, removal, range_removal, listing}
-use Rattle.nl_types.specs.Worlds.{World, Copy, Reply, Outcome, copy_at, latest, latest_stamp, rows, copies_with_mode, mounts_without, is_given_up, is_mounted, take_out, either, refused_if, kept, mounted, mounted_copy, mount_read, step}
+use Rattle.nl_types.specs.Worlds.{World, Copy, Reply, Outcome, copy_at, latest, latest_stamp, rows, copies_with_mode, mounts_without, is_given_up, is_mounted, take_out, either, refused_if, expiry_of, kept, mounted, mounted_copy, mount_read, step}
 use Rattle.nl_types.proofs.Judgements.{and_then_any, ok_or_is}
 use Rattle.nl_types.proofs.ChangeLaws.{IsNoMount, reply_gives_no_mount}
 use Rattle.nl_types.proofs.ToldCopies.{IsTold, kept_row-told, MayBecome, MayGo, removal-may_go, range_of, range_removal-is}
@@ -55,9 +55,11 @@ after_unmount w m = record w { mounts = mounts_without m w.mounts }
 
 -- ---- each event
 
-pub record EachEvent (P : Event → Outcome → Type 0) (w : World) : Type 0 where
+pub record EachEvent (cleaned : Reply) (P : Event → Outcome → Type 0) (w : World) : Type 0 where
   -- a refusal, or a call that only reads
   pub stays : (asked : Event) (reply : Reply) → IfOk reply IsNoMount → P asked (reply, w)
+  -- an event that only moves or frees blocks
+  pub cleans : (asked : Event) → P asked (cleaned, w)
   pub changed : (c : Change) (done : Answer × Tree) → change w.tree c ≡ Ok done
       → P (event.Apply c) (Ok done.0, after_change w c done.1)
   pub copied : (mode : Mode) (now : ℕ) → leb checkpoint_number_limit (latest w + 1) ≡ false
@@ -67,12 +69,14 @@ pub record EachEvent (P : Event → Outcome → Type 0) (w : World) : Type 0 whe
   pub removed : (n : ℕ) → MayGo w n → P (event.Remove n) (Ok answer.Done, take_out (n ∷ []) w)
   pub ranged : (first last : ℕ)
       → P (event.RemoveRange first last) (Ok (answer.Removed (range_of w first last)), take_out (range_of w first last).removed w)
+  pub expired : (now period : ℕ)
+      → P (event.Expire now period) (Ok (answer.Expired (expiry_of w now period)), take_out (expiry_of w now period) w)
   pub mounted : (n : ℕ) (copy : Copy) → copy_at w n ≡ Some copy → not (is_snapshot copy.mode) ≡ false
       → leb mount_number_limit (w.given + 1) ≡ false
       → P (event.Mount n) (Ok (answer.Mount (w.given + 1)), after_mount w n)
   pub unmounted : (m : ℕ) → P (event.Unmount m) (Ok answer.Done, after_unmount w m)
 
-module _ (P : Event → Outcome → Type 0) (w : World) (each : EachEvent P w) where
+module _ (cleaned : Reply) (P : Event → Outcome → Type 0) (w : World) (each : EachEvent cleaned P w) where
   refused : (asked : Event) (e : VolError) → P asked (Err e, w)
   refused asked e = each.stays asked (Err e) tt
 
@@ -92,25 +96,28 @@ module _ (P : Event → Outcome → Type 0) (w : World) (each : EachEvent P w) w
       let same : range ≡ range_of w first last = subst (λ r. IfOk r (λ g. g ≡ range_of w first last)) is (range_removal-is w first last) in
       subst (λ (g : Range). P (event.RemoveRange first last) (Ok (answer.Removed g), take_out g.removed w)) (sym same) (each.ranged first last)
 
-  pub step_gives : (cleaned : Reply) (asked : Event) → P asked (step cleaned w asked)
-  step_gives cleaned (event.Apply c) = either_gives (P (event.Apply c)) w (change w.tree c) _ (refused (event.Apply c)) (each.changed c)
-  step_gives cleaned (event.Read a) = each.stays (event.Read a) (reply_to w.tree a) (reply_gives_no_mount w.tree a)
-  step_gives cleaned (event.Checkpoint mode now) =
+  pub step_gives : (asked : Event) → P asked (step cleaned w asked)
+  step_gives (event.Apply c) = either_gives (P (event.Apply c)) w (change w.tree c) _ (refused (event.Apply c)) (each.changed c)
+  step_gives (event.Read a) = each.stays (event.Read a) (reply_to w.tree a) (reply_gives_no_mount w.tree a)
+  step_gives (event.Checkpoint mode now) =
       refused_if_gives (P (event.Checkpoint mode now)) (leb checkpoint_number_limit (latest w + 1)) error.NumbersSpent w _ (refused (event.Checkpoint mode now)) (each.copied mode now)
-  step_gives cleaned (event.ChangeMode n mode) =
+  step_gives (event.ChangeMode n mode) =
       either_gives (P (event.ChangeMode n mode)) w (kept_row n (rows w)) _ (refused (event.ChangeMode n mode)) (λ row is.
       refused_if_gives (P (event.ChangeMode n mode)) (is_given_up row.mode mode && is_mounted w.mounts n) error.Mounted w _ (refused (event.ChangeMode n mode)) (mode_judged n mode row is))
-  step_gives cleaned (event.Remove n) =
+  step_gives (event.Remove n) =
       either_gives (P (event.Remove n)) w (removal n (latest w) (rows w)) _ (refused (event.Remove n)) (λ _ is.
       each.removed n (subst (λ r. IfOk r (λ _. MayGo w n)) is (removal-may_go w n)))
-  step_gives cleaned (event.RemoveRange first last) =
+  step_gives (event.RemoveRange first last) =
       either_gives (P (event.RemoveRange first last)) w (range_removal first last (latest w) (rows w)) _ (refused (event.RemoveRange first last)) (range_judged first last)
-  step_gives cleaned (event.Mount n) =
+  step_gives (event.Expire now period) = each.expired now period
+  step_gives (event.Move segment limit now) = each.cleans (event.Move segment limit now)
+  step_gives (event.Retire segment) = each.cleans (event.Retire segment)
+  step_gives (event.Mount n) =
       either_gives (P (event.Mount n)) w (kept w n) _ (refused (event.Mount n)) (λ copy found.
       refused_if_gives (P (event.Mount n)) (not (is_snapshot copy.mode)) error.NotSnapshot w _ (refused (event.Mount n)) (λ snapshot.
       let there = subst (λ r. IfOk r (λ c. copy_at w n ≡ Some c)) found (ok_or_is (copy_at w n) error.NoCheckpoint) in
       refused_if_gives (P (event.Mount n)) (leb mount_number_limit (w.given + 1)) error.NumbersSpent w _ (refused (event.Mount n)) (each.mounted n copy there snapshot)))
-  step_gives cleaned (event.Unmount m) = either_gives (P (event.Unmount m)) w (mounted w m) _ (refused (event.Unmount m)) (λ _ _. each.unmounted m)
-  step_gives cleaned (event.MountRead m a) =
+  step_gives (event.Unmount m) = either_gives (P (event.Unmount m)) w (mounted w m) _ (refused (event.Unmount m)) (λ _ _. each.unmounted m)
+  step_gives (event.MountRead m a) =
       each.stays (event.MountRead m a) (mount_read w m a) (and_then_any IsNoMount (mounted_copy w m) _ (λ copy. reply_gives_no_mount copy.tree a))
-  step_gives cleaned (event.Listing options) = each.stays (event.Listing options) (Ok (answer.Rows (listing options (rows w)))) tt
+  step_gives (event.Listing options) = each.stays (event.Listing options) (Ok (answer.Rows (listing options (rows w)))) tt

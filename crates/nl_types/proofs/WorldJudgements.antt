@@ -198,6 +198,9 @@ steps_judge cleaned w (event.ChangeMode n mode) judged = either_judges w (kept_r
     refused_if_judges (is_given_up row.mode mode && is_mounted w.mounts n) error.Mounted w _ tt tt)
 steps_judge cleaned w (event.Remove n) judged = either_judges w (removal n (latest w) (rows w)) _ (removal_judges n (latest w) (rows w)) (λ _. tt)
 steps_judge cleaned w (event.RemoveRange first last) judged = either_judges w (range_removal first last (latest w) (rows w)) _ (range_judges first last (latest w) (rows w)) (λ _. tt)
+steps_judge cleaned w (event.Expire now period) judged = tt
+steps_judge cleaned w (event.Move segment limit now) judged = judged
+steps_judge cleaned w (event.Retire segment) judged = judged
 steps_judge cleaned w (event.Mount n) judged = either_judges w (kept w n) _ (ok_or_judges (copy_at w n) error.NoCheckpoint tt) (λ copy.
     refused_if_judges (not (is_snapshot copy.mode)) error.NotSnapshot w _ tt
     (refused_if_judges (nat_le mount_number_limit (w.given + 1)) error.NumbersSpent w _ tt tt))

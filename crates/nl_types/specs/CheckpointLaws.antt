@@ -1,18 +1,19 @@
--- What changes of modes, removals, unmounts and listings do, in words that do not speak of how copies are listed.
-use Rattle.std.specs.Prelude.{◌≡◌, ℕ, ◌==◌, Bool, true, false, ◌&&◌, ◌||◌, not, if◌then◌else◌, nat_le, nat_lt, IsTrue, List, [], ◌∷◌, map, take, Option, None, Some, Ok}
+-- What changes of modes, removals, expiries, unmounts and listings do, in words that do not speak of how copies are listed.
+use Rattle.std.specs.Prelude.{◌≡◌, ℕ, ◌+◌, ◌-◌, ◌≤◌, ◌==◌, Bool, true, false, ◌&&◌, ◌||◌, not, if◌then◌else◌, nat_le, nat_lt, IsTrue, List, [], ◌∷◌, map, take, Option, None, Some, Result, Ok, Err}
+use Rattle.nl_types.specs.declared.error.VolError.{VolError}
 use Rattle.std.specs.Option.{option_map, option_map_or}
 use Rattle.std.specs.List.{list_all}
 use Rattle.std.specs.Ordering.{nat_cmp}
 use Rattle.std.specs.FinMap.{find}
-use Rattle.nl_types.specs.declared.event.Event.TheVariants.{ChangeMode, Remove, RemoveRange, Unmount}
+use Rattle.nl_types.specs.declared.event.Event.TheVariants.{ChangeMode, Expire, Remove, RemoveRange, Unmount}
 use Rattle.nl_types.specs.declared.event.Mode.{Mode}
 use Rattle.nl_types.specs.declared.reply.Answer.{Answer}
-use Rattle.nl_types.specs.declared.reply.Answer.TheVariants.{Done, Removed}
+use Rattle.nl_types.specs.declared.reply.Answer.TheVariants.{Done, Expired, Removed}
 use Rattle.nl_types.specs.declared.row.ListOptions.{ListOptions}
 use Rattle.nl_types.specs.declared.row.Range.{Range}
 use Rattle.nl_types.specs.declared.row.Row.{Row}
-use Rattle.nl_types.specs.Rows.{is_snapshot, is_among, find_row, is_shown, in_direction, listing, with_mode, without}
-use Rattle.nl_types.specs.Worlds.{World, Copy, IsWorld, Reply, step, copy_at, latest, row_of, rows, take_out, copies_with_mode}
+use Rattle.nl_types.specs.Rows.{is_snapshot, is_among, find_row, is_shown, in_direction, listing, range_removal, with_mode, without}
+use Rattle.nl_types.specs.Worlds.{World, Copy, IsWorld, Reply, step, boundary_of, copy_at, expiry_of, latest, row_of, rows, take_out, copies_with_mode}
 use Rattle.nl_types.specs.Runs.{Run}
 
 -- what there is, if it passes the test
@@ -64,6 +65,51 @@ RangesAreRemovals =
     → IsWorld old → step cleaned old (RemoveRange first last) ≡ (Ok (Removed range), new)
     → Run (λ before event reply after. step cleaned before event ≡ (reply, after))
     old (map Remove range.removed) (map (λ _. Ok Done) range.removed) new
+
+-- ---- expiries
+
+-- the copy was made less than the period before the moment, or after it
+abbrev pub is_protected_at : World → (now period n : ℕ) → Bool
+is_protected_at w now period n = option_map_or (λ copy. nat_lt now (copy.stamp + period)) (copy_at w n) false
+
+-- where the period protects copies, it is the least number of these, and else the latest number
+pub record IsBoundary (w : World) (now period b : ℕ) : Type 0 where
+  pub protects : (n : ℕ) → IsTrue (is_protected_at w now period n) → IsTrue (is_protected_at w now period b) × (b ≤ n)
+  pub falls_back : ((n : ℕ) → is_protected_at w now period n ≡ false) → b ≡ latest w
+
+abbrev pub BoundariesAreLeastProtected : Type 0
+BoundariesAreLeastProtected =
+    (w : World) (now period : ℕ) → IsWorld w → IsBoundary w now period (boundary_of w now period)
+
+-- a plain copy below the boundary that is not the latest one
+abbrev pub is_expiring : World → (now period n : ℕ) → Copy → Bool
+is_expiring w now period n copy =
+    nat_lt n (boundary_of w now period) && not (is_snapshot copy.mode || n == latest w)
+
+-- an expiry takes out exactly these
+abbrev pub ExpiriesTakeExpiring : Type 0
+ExpiriesTakeExpiring =
+    (cleaned : Reply) (old new : World) (now period : ℕ) (gone : List ℕ)
+    → IsWorld old → step cleaned old (Expire now period) ≡ (Ok (Expired gone), new)
+    → (n : ℕ) → copy_at new n ≡ where_passes (λ copy. not (is_expiring old now period n copy)) (copy_at old n)
+
+-- and answers exactly their numbers
+abbrev pub ExpiriesAnswerExpiring : Type 0
+ExpiriesAnswerExpiring =
+    (cleaned : Reply) (old new : World) (now period : ℕ) (gone : List ℕ)
+    → IsWorld old → step cleaned old (Expire now period) ≡ (Ok (Expired gone), new)
+    → (n : ℕ) → is_among gone n ≡ option_map_or (is_expiring old now period n) (copy_at old n) false
+
+-- what the removal of a range takes out: nothing where it is refused
+abbrev pub removed_by : Result Range VolError → List ℕ
+removed_by (Ok range) = range.removed
+removed_by (Err e) = []
+
+-- it takes out what the removal of all numbers below the boundary does, and is not refused where that is
+abbrev pub ExpiriesAreRemovals : Type 0
+ExpiriesAreRemovals =
+    (w : World) (now period : ℕ) → IsWorld w
+    → expiry_of w now period ≡ removed_by (range_removal 1 (boundary_of w now period - 1) (latest w) (rows w))
 
 -- ---- mounts
 

@@ -1,6 +1,9 @@
 use Rattle.nl_core.specs.Layout.{unshared}
-use Rattle.nl_core.proofs.Removals.{ranges_go_one_by_one}
+use Rattle.nl_core.proofs.Removals.{expiries_go_one_by_one, ranges_go_one_by_one}
 use Rattle.nl_core.proofs.laws.ranges_go_one_by_one.Goals as goal
 
-pub returns : goal.returns
-returns c = ranges_go_one_by_one unshared
+pub returns-clause-ranges : goal.returns-clause-ranges
+returns-clause-ranges c = ranges_go_one_by_one unshared
+
+pub returns-clause-expiries : goal.returns-clause-expiries
+returns-clause-expiries c = expiries_go_one_by_one unshared

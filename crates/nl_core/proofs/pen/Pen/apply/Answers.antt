@@ -1,6 +1,6 @@
 use Rattle.std.proofs.Common.{sym, subst}
 use Rattle.nl_core.specs.Layout.{Does, layout_of, unshared}
-use Rattle.nl_core.proofs.Moving.{does-Apply, does-ChangeMode, does-Listing, does-Mount, does-MountRead, does-Read, does-Remove, does-RemoveRange, does-Unmount, pages_under}
+use Rattle.nl_core.proofs.Moving.{does-Apply, does-ChangeMode, does-Expire, does-Listing, does-Mount, does-MountRead, does-Read, does-Remove, does-RemoveRange, does-Unmount, pages_under}
 use Rattle.nl_core.proofs.pen.Pen.apply.Goals as goal
 
 pub returns-in-Apply : goal.returns-in-Apply
@@ -46,6 +46,20 @@ returns-in-Checkpoint g c =
     subst (λ o. Does unshared o c.args.event.now c.checkpoint.result new) c.self.view_is
     (subst (λ e. Does unshared l e c.checkpoint.result new) (sym c.in-Checkpoint.is) c.checkpoint.ensures)
 
+pub returns-in-Move : goal.returns-in-Move
+returns-in-Move g c =
+    let l = layout_of c.self.inside.tables.lists c.self.inside.store.store in
+    let new = layout_of c.self.inside.tables.lists c.move_out.new.store.store in
+    subst (λ o. Does unshared o c.args.event.now c.move_out.result new) c.self.view_is
+    (subst (λ e. Does unshared l e c.move_out.result new) (sym c.in-Move.is) c.move_out.ensures)
+
+pub returns-in-Retire : goal.returns-in-Retire
+returns-in-Retire g c =
+    let l = layout_of c.self.inside.tables.lists c.self.inside.store.store in
+    let new = layout_of c.self.inside.tables.lists c.empty.new.store.store in
+    subst (λ o. Does unshared o c.args.event.now c.empty.result new) c.self.view_is
+    (subst (λ e. Does unshared l e c.empty.result new) (sym c.in-Retire.is) c.empty.ensures)
+
 pub invariant_of-self-in-Mount : goal.invariant_of-self-in-Mount
 invariant_of-self-in-Mount g c =
     let store = c.self.inside.store.store in
@@ -87,6 +101,16 @@ returns-in-RemoveRange g c =
     (does-RemoveRange l new store c.in-RemoveRange.first c.in-RemoveRange.last c.remove_range.result c.self.invariant
     (c.remove_range.ensures.follows (pages_under store)) c.remove_range.ensures.removed c.remove_range.ensures.same))
 
+pub returns-in-Expire : goal.returns-in-Expire
+returns-in-Expire g c =
+    let l = c.self.inside.tables.lists in
+    let new = c.expire.new.self.lists in
+    let store = c.self.inside.store.store in
+    subst (λ o. Does unshared o c.args.event.now c.expire.result (layout_of new store)) c.self.view_is
+    (subst (λ e. Does unshared (layout_of l store) e c.expire.result (layout_of new store)) (sym c.in-Expire.is)
+    (does-Expire l new store c.in-Expire.now c.in-Expire.period c.expire.result c.self.invariant
+    (c.expire.ensures.follows (pages_under store)) c.expire.ensures.expired c.expire.ensures.same))
+
 pub returns-in-Unmount : goal.returns-in-Unmount
 returns-in-Unmount g c =
     let l = c.self.inside.tables.lists in
@@ -122,6 +146,12 @@ invariant_of-self-in-RemoveRange g c =
     let store = c.self.inside.store.store in
     (does-RemoveRange c.self.inside.tables.lists c.remove_range.new.self.lists store c.in-RemoveRange.first c.in-RemoveRange.last c.remove_range.result c.self.invariant
     (c.remove_range.ensures.follows (pages_under store)) c.remove_range.ensures.removed c.remove_range.ensures.same).pen
+
+pub invariant_of-self-in-Expire : goal.invariant_of-self-in-Expire
+invariant_of-self-in-Expire g c =
+    let store = c.self.inside.store.store in
+    (does-Expire c.self.inside.tables.lists c.expire.new.self.lists store c.in-Expire.now c.in-Expire.period c.expire.result c.self.invariant
+    (c.expire.ensures.follows (pages_under store)) c.expire.ensures.expired c.expire.ensures.same).pen
 
 pub invariant_of-self-in-Unmount : goal.invariant_of-self-in-Unmount
 invariant_of-self-in-Unmount g c =

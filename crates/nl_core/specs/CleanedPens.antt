@@ -1,0 +1,60 @@
+-- What moves out of segments and retirements of segments leave of a pen.
+use Rattle.std.specs.Prelude.{◌≡◌, ℕ, List, [], Some, map, false}
+use Rattle.nl_types.specs.declared.error.VolError.{VolError}
+use Rattle.nl_types.specs.Entries.{Place}
+use Rattle.nl_types.specs.Lifetimes.{Allowed, Numbers, Reclaim, ledger_after}
+use Rattle.nl_types.specs.Worlds.{World}
+use Rattle.nl_cpfile.specs.declared.checkpoint.Checkpoint.{Checkpoint}
+use Rattle.nl_dat.specs.Stores.{IsMoved, IsMoveRefused, IsReclaimed, IsStore, address_in, is_inside}
+use Rattle.nl_reclaim.specs.Moves.{KeptStore, needed_now}
+use Rattle.nl_reclaim.specs.Reclaims.{gone_from}
+use Rattle.nl_core.specs.Layout.{IsPen, KeepsNumbers, Layout, MeansWorld, ledger_of}
+use Rattle.nl_core.specs.Volume.{kept_by}
+
+abbrev pub number_in : Checkpoint → ℕ
+number_in c = c.number
+
+-- a pen as its cleaner sees it: its store, and the numbers of its kept checkpoints
+abbrev pub kept_store : Layout → KeptStore
+kept_store l = record { kept = map number_in (kept_by l.lists); store = l.store }
+
+-- ---- moves
+
+-- the same numbers are in use for the same, each kept checkpoint reaches the same ones, and the same worlds are meant
+pub record StaysPen (old new : Layout) : Type 0 where
+  pub pen : IsPen new
+  pub ledger : ledger_of new ≡ ledger_of old
+  pub numbers : KeepsNumbers old new
+  pub means : (w : World) → MeansWorld old w → MeansWorld new w
+
+-- a move of pages leaves a pen that means the same
+abbrev pub MovesKeepPens : Type 0
+MovesKeepPens = (segment checkpoint stamp : ℕ) (numbers : List ℕ) (old new : Layout)
+    → IsPen old → new.lists ≡ old.lists → IsStore new.store
+    → IsMoved segment checkpoint stamp numbers old.store new.store → StaysPen old new
+
+-- and so does one that is refused, be it in the middle of its writes
+abbrev pub RefusedMovesKeepPens : Type 0
+RefusedMovesKeepPens = (checkpoint stamp : ℕ) (numbers : List ℕ) (e : VolError) (old new : Layout)
+    → IsPen old → new.lists ≡ old.lists → IsStore new.store
+    → IsMoveRefused checkpoint stamp numbers old.store new.store e → StaysPen old new
+
+-- ---- retirements
+
+-- The numbers whose pages stood in the segment are out of use, which is allowed, and the ledger is as it is then. No kept
+-- checkpoint reaches one of them, and the same worlds are meant.
+pub record LeavesPen (segment : ℕ) (old new : Layout) : Type 0 where
+  pub allowed : Allowed (Reclaim (gone_from old.store segment)) (ledger_of old)
+  pub unreached : (c v : ℕ) (q : Place) (numbers : Numbers)
+      → (ledger_of old).kept c ≡ Some numbers → numbers q ≡ Some v
+      → is_inside old.store.segments segment (address_in old.store v) ≡ false
+  pub ledger : ledger_of new ≡ ledger_after (Reclaim (gone_from old.store segment)) (ledger_of old)
+  pub pen : IsPen new
+  pub numbers : KeepsNumbers old new
+  pub means : (w : World) → MeansWorld old w → MeansWorld new w
+
+-- a retirement of a segment that has no needed number leaves a pen
+abbrev pub RetirementsKeepPens : Type 0
+RetirementsKeepPens = (segment count : ℕ) (old new : Layout)
+    → IsPen old → new.lists ≡ old.lists → IsStore new.store → needed_now (kept_store old) segment ≡ []
+    → IsReclaimed segment count old.store new.store → LeavesPen segment old new

@@ -1,0 +1,65 @@
+-- What moves out of segments and retirements of segments answer, and what they do to the blocks.
+use Rattle.std.specs.Prelude.{◌≡◌, ℕ, Bool, false, List, Ok, map, min}
+use Rattle.nl_types.specs.declared.event.Event.{Event}
+use Rattle.nl_types.specs.declared.event.Event.TheVariants.{Move, Retire}
+use Rattle.nl_types.specs.declared.reply.Answer.{Answer}
+use Rattle.nl_types.specs.declared.reply.Answer.TheVariants.{Done, Freed, Moved}
+use Rattle.nl_types.specs.Calls.{and_then}
+use Rattle.nl_types.specs.Entries.{Entry, is_needed}
+use Rattle.nl_types.specs.Placing.{LacksSpace}
+use Rattle.nl_types.specs.Worlds.{Reply}
+use Rattle.nl_dat.specs.Located.{needed_count}
+use Rattle.nl_dat.specs.Stores.{IsReclaimed, Store}
+use Rattle.nl_reclaim.specs.Cleaning.{HasMovedFirst, judged_for, retired, split}
+use Rattle.nl_reclaim.specs.declared.moving.MoveCount.{MoveCount}
+use Rattle.nl_core.specs.Volume.{Lists, kept_by}
+
+-- the numbers of the kept checkpoints
+abbrev pub kept_numbers : Lists → List ℕ
+kept_numbers l = map (λ c. c.number) (kept_by l)
+
+-- a number that has not ended, or belongs to one of these, is needed
+abbrev pub needed_by : Lists → Entry → Bool
+needed_by l = is_needed (kept_numbers l)
+
+-- ---- answers
+
+abbrev pub moved_answer : MoveCount → Answer
+moved_answer m = Moved m.moved m.left
+
+-- how many of a segment's needed blocks a move takes, and how many are left
+abbrev pub move_count : Lists → Store → (segment limit : ℕ) → MoveCount
+move_count l s segment limit = split limit (needed_count s (needed_by l) segment)
+
+-- what a move answers, where it is not refused for space, a fault or memory
+abbrev pub moved_by : Lists → Store → (segment limit : ℕ) → Reply
+moved_by l s segment limit =
+    and_then (judged_for s.segments segment limit) (λ _. Ok (moved_answer (move_count l s segment limit)))
+
+abbrev pub retired_by : Lists → Store → (segment : ℕ) → Reply
+retired_by l s segment = and_then (retired s (needed_by l) segment) (λ count. Ok (Freed count))
+
+-- what these two answer; that of other events is not looked at
+abbrev pub cleaned_by : Lists → Store → Event → Reply
+cleaned_by l s (Move segment limit now) = moved_by l s segment limit
+cleaned_by l s (Retire segment) = retired_by l s segment
+cleaned_by l s event = Ok Done
+
+-- ---- what they do
+
+-- the first needed blocks of the segment were moved, as the answer says
+pub record HasMovedOut (segment limit moment : ℕ) (answer : Answer) (l : Lists) (old new : Store) : Type 0 where
+  pub count : MoveCount
+  pub answer_is : answer ≡ moved_answer count
+  pub moved : HasMovedFirst (needed_by l) segment limit l.table.latest.number moment old new count
+
+-- the segment had no needed block, and is clean
+pub record HasEmptied (segment : ℕ) (answer : Answer) (l : Lists) (old new : Store) : Type 0 where
+  pub count : ℕ
+  pub answer_is : answer ≡ Freed count
+  pub judged : retired old (needed_by l) segment ≡ Ok count
+  pub reclaimed : IsReclaimed segment count old new
+
+-- no list of logs fits the blocks that a move takes
+abbrev pub LacksSpaceToMove : Lists → Store → (segment limit : ℕ) → Type 0
+LacksSpaceToMove l s segment limit = LacksSpace s.segments false (min limit (needed_count s (needed_by l) segment))

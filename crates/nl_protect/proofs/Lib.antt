@@ -1,0 +1,4 @@
+mod Comments
+mod ConfigurationLaws
+mod Kept
+mod Numerals

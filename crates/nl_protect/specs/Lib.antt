@@ -1,0 +1,3 @@
+pub mod Configuration
+pub mod Laws
+pub mod Keeping

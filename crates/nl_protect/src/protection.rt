@@ -1,0 +1,154 @@
+//! Which checkpoints a protection period protects, and which pages the kept ones need.
+ghost use Rattle.std.specs.Prelude.{◌≡◌, ◌&&◌, [], ◌∷◌, ◌++◌, IfOk, OnErr};
+ghost use Rattle.std.specs.List.{filter, list_any};
+ghost use Rattle.nl_types.specs.Protection as protection;
+ghost use Rattle.nl_types.specs.Rows as told;
+ghost use Rattle.nl_cpfile.specs.Tables as tables;
+ghost use Rattle.nl_protect.specs.Keeping.{found, is_before, is_from, is_staying};
+
+use nl_cpfile::{Checkpoint, Checkpoints};
+use nl_types::{CheckpointNumber, Items, Period, Row, VolError};
+use std::alloc::{AllocError, Global};
+use std::slice::from_ref;
+
+fn is_protected(checkpoint: &Checkpoint, now: u64, period: u64) -> bool
+    ensures { result ≡ protection.is_protected now period (tables.row_of checkpoint.now) }
+{
+    match checkpoint.stamp.checked_add(period) {
+        Some(end) => now < end,
+        None => true,
+    }
+}
+
+/// The number of the first checkpoint that a protection period protects, or else of the latest one: plain checkpoints below
+/// it may go. A checkpoint is protected where its stamp and the period, in seconds, come to more than the moment.
+pub fn boundary(kept: &Checkpoints, now: u64, period: u64) -> CheckpointNumber
+    ensures { result ≡ protection.boundary now period kept.now.table.latest.number
+        (tables.rows kept.now.table) }
+{
+    let first = kept
+        .earlier()
+        .iter()
+        .find(|checkpoint| is_protected(checkpoint, now, period));
+    match first {
+        Some(checkpoint) => checkpoint.number,
+        None => kept.latest().number,
+    }
+}
+
+fn is_below(row: &Row, boundary: CheckpointNumber) -> bool
+    ensures { result ≡ protection.is_below boundary row.now }
+{
+    row.number < boundary
+}
+
+fn may_go(row: &Row, latest: CheckpointNumber) -> bool
+    ensures { result ≡ told.may_go latest row.now }
+{
+    !row.mode.is_snapshot() && row.number != latest
+}
+
+fn expired_among(
+    alloc: Global,
+    earlier: &[Checkpoint],
+    latest: &Checkpoint,
+    boundary: CheckpointNumber,
+) -> Result<Vec<CheckpointNumber>, AllocError>
+    ensures { IfOk result (λ numbers. numbers.items ≡ protection.expired boundary latest.now.number
+        (tables.rows_of (earlier.now ++ latest.now ∷ []))) }
+{
+    earlier
+        .iter()
+        .chain(from_ref(latest).iter())
+        .map(|checkpoint| checkpoint.row())
+        .filter(|row| is_below(row, boundary))
+        .filter(|row| may_go(row, latest.number))
+        .map(|row| row.number)
+        .collect(alloc)
+}
+
+/// The numbers of the checkpoints below a boundary that may go, ascending: neither snapshots nor the latest one.
+///
+/// # Errors
+/// `Memory` alone.
+pub fn expired(
+    alloc: Global,
+    kept: &Checkpoints,
+    boundary: CheckpointNumber,
+) -> Result<Items<CheckpointNumber>, VolError>
+    ensures numbers { IfOk result (λ numbers.
+        numbers ≡ protection.expired boundary kept.now.table.latest.number (tables.rows kept.now.table)) }
+    ensures refused { OnErr result (result ≡ Err VolError.Memory) }
+{
+    let numbers = expired_among(alloc, kept.earlier(), kept.latest(), boundary)?;
+    Ok(Items::from_vec(numbers))
+}
+
+fn stays(checkpoint: &Checkpoint, below: CheckpointNumber) -> bool
+    ensures { result ≡ protection.is_staying below (tables.row_of checkpoint.now) }
+{
+    checkpoint.mode.is_snapshot() || below <= checkpoint.number
+}
+
+/// Those from a first number on, in a list that ascends.
+fn beginning_at(kept: &[Checkpoint], first: CheckpointNumber) -> &[Checkpoint]
+    requires { tables.IsRising kept.now }
+    ensures { result.now ≡ filter (is_from first) kept.now }
+{
+    &kept[kept.partition_point(|checkpoint| checkpoint.number < first)..]
+}
+
+/// Those before an end, in a list that ascends.
+fn ending_before(kept: &[Checkpoint], end: CheckpointNumber) -> &[Checkpoint]
+    requires { tables.IsRising kept.now }
+    ensures { result.now ≡ filter (is_before end) kept.now }
+{
+    &kept[..kept.partition_point(|checkpoint| checkpoint.number < end)]
+}
+
+/// Whether one of them stays. The last ones are asked first.
+fn one_stays(kept: &[Checkpoint], below: CheckpointNumber) -> bool
+    ensures { result ≡ list_any (is_staying below) kept.now }
+{
+    kept.iter().rev().any(|checkpoint| stays(checkpoint, below))
+}
+
+/// Whether one of those that a period holds stays, in a list that ascends.
+fn earlier_stays(
+    kept: &[Checkpoint],
+    below: CheckpointNumber,
+    start: CheckpointNumber,
+    end: CheckpointNumber,
+) -> bool
+    requires { tables.IsRising kept.now }
+    ensures { result ≡ found below start end kept.now }
+{
+    one_stays(beginning_at(ending_before(kept, end), start), below)
+}
+
+fn latest_stays(
+    latest: &Checkpoint,
+    below: CheckpointNumber,
+    start: CheckpointNumber,
+    end: CheckpointNumber,
+) -> bool
+    ensures { result ≡ ((is_from start latest.now && is_before end latest.now) && is_staying below latest.now) }
+{
+    start <= latest.number && latest.number < end && stays(latest, below)
+}
+
+/// Whether a page of this period is needed: the period has not ended, or has a kept checkpoint. Plain checkpoints below a
+/// number are taken as removed; from 0 on, all are kept.
+pub fn needed(kept: &Checkpoints, below: CheckpointNumber, period: Period) -> bool
+    ensures { result ≡ protection.is_period_needed
+        (protection.staying below (tables.rows kept.now.table)) period }
+{
+    let start = period.start;
+    let Some(end) = period.end else {
+        return true;
+    };
+    if latest_stays(kept.latest(), below, start, end) {
+        return true;
+    }
+    earlier_stays(kept.earlier(), below, start, end)
+}

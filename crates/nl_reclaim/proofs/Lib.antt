@@ -1,0 +1,6 @@
+pub mod Moves
+pub mod Rows
+pub mod Rounds
+pub mod Reclaims
+pub mod Calls
+pub mod ClosedSegments

@@ -1,0 +1,7 @@
+use Rattle.std.proofs.Common.{◌*◌}
+use Rattle.nl_dat.specs.Located.{by_period, needed_at}
+use Rattle.nl_reclaim.specs.Loops.{AreSeen}
+use Rattle.nl_reclaim.proofs.needed.first_needed.Given as goal
+
+abbrev pub invariant-loop-position : goal.invariant-loop-position
+invariant-loop-position g l = AreSeen (needed_at (g.V.Vstore.store l.store) (by_period (g.K.Keeping.test l.keeping))) (l.segment * (g.V.Vstore.store l.store).segments.blocks) l.limit l.position l.count l.first.items

@@ -1,0 +1,5 @@
+pub mod Cleaning
+pub mod Loops
+pub mod Moves
+pub mod Reclaims
+pub mod Rounds
