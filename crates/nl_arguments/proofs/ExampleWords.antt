@@ -1,5 +1,5 @@
 -- Words by computation, as a check of the definitions against answers made by hand.
-use Rattle.std.proofs.Common.{◌≡◌, [], ◌∷◌, refl}
+use Rattle.std.proofs.Common.{◌≡◌, [], ◌∷◌, refl, None, Some}
 use Rattle.std.specs.Prelude.{codes}
 use Rattle.clap.specs.Words.{Text}
 use Rattle.clap.proofs.OnLiterals.{clap_on_literals}
@@ -17,19 +17,19 @@ four a b c d = meant (a ∷ b ∷ c ∷ d ∷ [])
 
 -- ---- numbers
 
-no_words : meant [] ≡ run (divided 64 64)
+no_words : meant [] ≡ run (divided 64 64 None)
 unfolding clap_on_literals
 no_words = refl
 
-segments_alone : two (codes "--segments") (codes "8") ≡ run (divided 8 64)
+segments_alone : two (codes "--segments") (codes "8") ≡ run (divided 8 64 None)
 unfolding clap_on_literals
 segments_alone = refl
 
-blocks_first : two (codes "--blocks=0004") (codes "--segments=0008") ≡ run (divided 8 4)
+blocks_first : two (codes "--blocks=0004") (codes "--segments=0008") ≡ run (divided 8 4 None)
 unfolding clap_on_literals
 blocks_first = refl
 
-greatest_number : two (codes "--segments") (codes "4294967295") ≡ run (divided 4294967295 64)
+greatest_number : two (codes "--segments") (codes "4294967295") ≡ run (divided 4294967295 64 None)
 unfolding clap_on_literals
 greatest_number = refl
 
@@ -70,6 +70,28 @@ word_too_many = refl
 short_help : one (codes "-h") ≡ misread
 unfolding clap_on_literals
 short_help = refl
+
+-- ---- a configuration
+
+configuration_alone : two (codes "--conf") (codes "a.conf") ≡ run (divided 64 64 (Some (codes "a.conf")))
+unfolding clap_on_literals
+configuration_alone = refl
+
+configuration_before_a_number : four (codes "--conf=/a b") (codes "--blocks") (codes "8") (codes "--segments=9") ≡ run (divided 9 8 (Some (codes "/a b")))
+unfolding clap_on_literals
+configuration_before_a_number = refl
+
+configuration_twice : two (codes "--conf=a") (codes "--conf=a") ≡ misread
+unfolding clap_on_literals
+configuration_twice = refl
+
+configuration_missing : one (codes "--conf") ≡ misread
+unfolding clap_on_literals
+configuration_missing = refl
+
+option_for_a_configuration : two (codes "--conf") (codes "--blocks=8") ≡ misread
+unfolding clap_on_literals
+option_for_a_configuration = refl
 
 -- ---- texts
 

@@ -7,9 +7,9 @@ use Rattle.clap.specs.declared.builder.action.ArgAction.TheVariants.{Set, Help, 
 use Rattle.nl_arguments.specs.declared.arguments.Arguments.{Arguments}
 use Rattle.nl_arguments.specs.NumberWords.{number_in}
 
--- `--NAME NUMBER`
-abbrev pub number_rule : Text → Rule
-number_rule name = record (new_rule name) { long = Some name; action = Some Set; value_names = 1 }
+-- `--NAME VALUE`
+abbrev pub value_rule : Text → Rule
+value_rule name = record (new_rule name) { long = Some name; action = Some Set; value_names = 1 }
 
 -- `--NAME`, answered by a text
 abbrev pub request_rule : Text → ArgAction → Rule
@@ -29,8 +29,8 @@ bare = record {
 
 abbrev pub program : App
 program =
-    with_rule (with_rule (with_rule (with_rule bare
-    (number_rule (codes "segments"))) (number_rule (codes "blocks")))
+    with_rule (with_rule (with_rule (with_rule (with_rule bare
+    (value_rule (codes "segments"))) (value_rule (codes "blocks"))) (value_rule (codes "conf")))
     (request_rule (codes "help") Help)) (request_rule (codes "version") Version)
 
 -- the number in the word, and 64 without one
@@ -41,10 +41,14 @@ number_or_64 (Some word) = number_in word
 abbrev pub number_given : Text → List Row → Option ℕ
 number_given id rows = number_or_64 (first_of id rows)
 
-abbrev pub divided : ℕ → ℕ → Arguments
-divided segments blocks = record { segments = segments; blocks = blocks }
+-- segments, and blocks in each
+abbrev pub geometry_given : List Row → Option (ℕ × ℕ)
+geometry_given rows =
+    option_and_then (λ segments. option_map (λ blocks. (segments, blocks)) (number_given (codes "blocks") rows))
+    (number_given (codes "segments") rows)
+
+abbrev pub divided : ℕ → ℕ → Option Text → Arguments
+divided segments blocks configuration = record { segments = segments; blocks = blocks; configuration = configuration }
 
 abbrev pub arguments_given : List Row → Option Arguments
-arguments_given rows =
-    option_and_then (λ segments. option_map (divided segments) (number_given (codes "blocks") rows))
-    (number_given (codes "segments") rows)
+arguments_given rows = option_map (λ g. divided g.0 g.1 (first_of (codes "conf") rows)) (geometry_given rows)

@@ -1,14 +1,16 @@
 //! What the program is given.
 ghost use Rattle.std.specs.Prelude.{◌≡◌, ◌↔◌, IfOk, IsOk, OnErr};
 
-use nl_types::{Geometry, VolError};
+use nl_types::{Geometry, Items, VolError};
 
-/// How the device of a new volume is to be divided. Nothing is judged yet.
-#[derive(Clone, Copy, Debug, PartialEq, Eq)]
+/// How the device of a new volume is to be divided, and where the cleaner's configuration stands. Nothing is judged yet.
+#[derive(Debug, Drop)]
 pub struct Arguments {
     pub segments: u32,
     /// Blocks in each segment.
     pub blocks: u32,
+    /// The path of a file.
+    pub configuration: Option<Items<u8>>,
 }
 
 impl Arguments {
@@ -16,10 +18,10 @@ impl Arguments {
 
     /// # Errors
     /// `BadGeometry` where the numbers are outside the limits of a volume.
-    pub fn geometry(self) -> Result<Geometry, VolError>
-        ensures within { IsOk result ↔ IsGeometry self.segments self.blocks }
+    pub fn geometry(&self) -> Result<Geometry, VolError>
+        ensures within { IsOk result ↔ IsGeometry self.now.segments self.now.blocks }
         ensures made { IfOk result
-            (λ g. (g.segments ≡ self.segments) × (g.blocks ≡ self.blocks)) }
+            (λ g. (g.segments ≡ self.now.segments) × (g.blocks ≡ self.now.blocks)) }
         ensures refused { OnErr result (result ≡ Err VolError.BadGeometry) }
     {
         Geometry::new(self.segments, self.blocks)

@@ -1,7 +1,7 @@
 //! The program's options. This module alone knows the library that reads them.
 ghost use Rattle.std.specs.Prelude.{◌≡◌, IfOk, Some, map};
-ghost use Rattle.clap.specs.Words.{FailsBy, app_of, fault_of, found_of, kind_of, matches_of, rows_of, with_rule};
-ghost use Rattle.nl_arguments.specs.Options.{arguments_given, bare, number_given, number_rule, program, request_rule};
+ghost use Rattle.clap.specs.Words.{FailsBy, app_of, fault_of, first_of, found_of, kind_of, matches_of, rows_of, with_rule};
+ghost use Rattle.nl_arguments.specs.Options.{bare, geometry_given, number_given, program, request_rule, value_rule};
 ghost use Rattle.nl_arguments.specs.Meanings.{Asks, IsUnlessMemory, error_meaning, given};
 
 use crate::arguments::Arguments;
@@ -10,6 +10,7 @@ use crate::numbers::number;
 use crate::script_commands::SCRIPT_COMMANDS;
 use clap::error::ErrorKind;
 use clap::{Arg, ArgAction, ArgMatches, Command};
+use nl_types::Items;
 use std::alloc::{AllocError, Global};
 
 const NO_NUMBER: &str = "\
@@ -18,8 +19,8 @@ error: a value of '--segments' or '--blocks' is no decimal number below 42949672
 For more information, try '--help'.
 ";
 
-/// With an option that takes a number.
-fn with_number<'a>(
+/// With an option that takes a value.
+fn with_value<'a>(
     alloc: Global,
     command: Command<'a>,
     name: &'a str,
@@ -27,7 +28,7 @@ fn with_number<'a>(
     help: &'a str,
 ) -> Result<Command<'a>, AllocError>
     ensures { IfOk result
-        (λ c. app_of c ≡ with_rule (app_of command.entry) (number_rule name.entry.now)) }
+        (λ c. app_of c ≡ with_rule (app_of command.entry) (value_rule name.entry.now)) }
 {
     let option = Arg::new(alloc, name)
         .long(name)
@@ -71,8 +72,10 @@ fn program<'a>(alloc: Global) -> Result<Command<'a>, AllocError>
 {
     let segments = "Segments of the device [default: 64]";
     let blocks = "Blocks in each segment [default: 64]";
-    let command = with_number(alloc, bare(alloc), "segments", "S", segments)?;
-    let command = with_number(alloc, command, "blocks", "B", blocks)?;
+    let conf = "Configuration of the cleaner, as of nilfs_cleanerd.conf(5)";
+    let command = with_value(alloc, bare(alloc), "segments", "S", segments)?;
+    let command = with_value(alloc, command, "blocks", "B", blocks)?;
+    let command = with_value(alloc, command, "conf", "FILE", conf)?;
     let command = with_request(alloc, command, "help", ArgAction::Help, "Print help")?;
     with_request(
         alloc,
@@ -100,20 +103,39 @@ fn number_given(matches: &ArgMatches<'_>, id: &str) -> Option<u32>
     }
 }
 
-/// None where a value is no number.
-fn arguments_given(matches: &ArgMatches<'_>) -> Option<Arguments>
-    ensures { result ≡ arguments_given (rows_of (found_of matches.now)) }
+/// Segments, and blocks in each; none where a value is no number.
+fn geometry_given(matches: &ArgMatches<'_>) -> Option<(u32, u32)>
+    ensures { result ≡ geometry_given (rows_of (found_of matches.now)) }
 {
     let segments = number_given(matches, "segments")?;
     let blocks = number_given(matches, "blocks")?;
-    Some(Arguments { segments, blocks })
+    Some((segments, blocks))
+}
+
+/// The value of an option, where it is given.
+fn word_given(
+    alloc: Global,
+    matches: &ArgMatches<'_>,
+    id: &str,
+) -> Result<Option<Items<u8>>, AllocError>
+    ensures { IfOk result (λ word. word ≡ first_of id.now (rows_of (found_of matches.now))) }
+{
+    match matches.get_str(id) {
+        Some(word) => Ok(Some(Items::from_slice(alloc, word.as_bytes())?)),
+        None => Ok(None),
+    }
 }
 
 fn run(alloc: Global, matches: &ArgMatches<'_>) -> Result<Asked, ArgumentsFault>
     ensures { IsUnlessMemory result (Some (given (rows_of (found_of matches.now)))) }
 {
-    match arguments_given(matches) {
-        Some(arguments) => Ok(Asked::Run(arguments)),
+    let configuration = word_given(alloc, matches, "conf")?;
+    match geometry_given(matches) {
+        Some((segments, blocks)) => Ok(Asked::Run(Arguments {
+            segments,
+            blocks,
+            configuration,
+        })),
         None => Err(ArgumentsFault::Misread(String::from_str(alloc, NO_NUMBER)?)),
     }
 }
@@ -131,13 +153,13 @@ fn told(alloc: Global, error: &clap::Error) -> Result<Asked, ArgumentsFault>
     }
 }
 
-/// What the words behind the program's name ask for. An option that is not given is 64. A request
+/// What the words behind the program's name ask for. A number that is not given is 64. A request
 /// for help or the version is answered where no fault stands before it. The texts are not stated;
 /// that of help ends with `SCRIPT_COMMANDS`.
 ///
 /// # Errors
 /// `Misread` where a word is no option of the program, an option comes twice or lacks its value, or
-/// a value is no decimal number below 2^32; `Memory`.
+/// segments or blocks are no decimal number below 2^32; `Memory`.
 pub fn read(alloc: Global, words: &[&str]) -> Result<Asked, ArgumentsFault>
     ensures { Asks (map (λ w. w.now) words.now) result }
 {

@@ -9,6 +9,7 @@ A script is read from standard input, a command a line:
   lscp [-r] [-s] [-a] [-i N] [-n K]          list checkpoints
   rmcp [-f] R..                              remove checkpoints: N, A..B, A.. or ..B
   lssu [-a]                                  list segments, clean ones too with -a
+  clean                                      do one round of cleaning
   mount N                                    mount a snapshot, and print the mount
   umount M                                   give a mount back
   create PATH                                make an empty file

@@ -7,7 +7,7 @@ use Rattle.nl_types.specs.declared.event.Change.TheVariants.{Create, Write, Rena
 use Rattle.nl_types.specs.declared.event.Mode.TheVariants.{Snapshot}
 use Rattle.nl_commands.specs.declared.command.CheckpointRange.TheVariants.{One, Between, Since}
 use Rattle.nl_commands.specs.declared.command.Command.{Command}
-use Rattle.nl_commands.specs.declared.command.Command.TheVariants.{At, Chcp, Lscp, Rmcp, Change, Fill, Show}
+use Rattle.nl_commands.specs.declared.command.Command.TheVariants.{At, Chcp, Lscp, Rmcp, Clean, Change, Fill, Show}
 use Rattle.nl_commands.specs.declared.command.Shown.TheVariants.{Content}
 use Rattle.nl_commands.specs.declared.error.LineError.{LineError}
 use Rattle.nl_commands.specs.declared.error.LineError.TheVariants.{Usage}
@@ -165,6 +165,18 @@ mode_of_none = refl
 no_mode : three (codes "chcp") (codes "sp") (codes "3") ≡ Err Usage
 unfolding clap_on_literals
 no_mode = refl
+
+round_alone : command_meant (codes "clean" ∷ []) ≡ Ok Clean
+unfolding clap_on_literals
+round_alone = refl
+
+round_with_a_word : two (codes "clean") (codes "1") ≡ Err Usage
+unfolding clap_on_literals
+round_with_a_word = refl
+
+round_with_an_option : two (codes "clean") (codes "-a") ≡ Err Usage
+unfolding clap_on_literals
+round_with_an_option = refl
 
 -- ---- ranges
 

@@ -10,7 +10,7 @@ use Rattle.nl_commands.specs.declared.names.CommandName.TheVariants as name
 use Rattle.nl_commands.specs.AskingCommands.{cat_meant, ls_meant, stat_meant}
 use Rattle.nl_commands.specs.CheckpointCommands.{at_meant, chcp_meant, lscp_meant, mkcp_meant, rmcp_meant}
 use Rattle.nl_commands.specs.FileCommands.{create_meant, fill_meant, mkdir_meant, mv_meant, rm_meant, rmdir_meant, truncate_meant, write_meant}
-use Rattle.nl_commands.specs.SegmentCommands.{lssu_meant, mount_meant, umount_meant}
+use Rattle.nl_commands.specs.SegmentCommands.{clean_meant, lssu_meant, mount_meant, umount_meant}
 
 abbrev pub asking_name : Text → Option CommandName
 asking_name word =
@@ -32,8 +32,9 @@ file_name word =
 abbrev pub segment_name : Text → Option CommandName
 segment_name word =
     if bytes_eq word (codes "lssu") then Some name.Lssu else (
+    if bytes_eq word (codes "clean") then Some name.Clean else (
     if bytes_eq word (codes "mount") then Some name.Mount else (
-    if bytes_eq word (codes "umount") then Some name.Umount else file_name word))
+    if bytes_eq word (codes "umount") then Some name.Umount else file_name word)))
 
 -- the command that a word names
 abbrev pub command_name : Text → Option CommandName
@@ -52,6 +53,7 @@ named_meant name.Chcp words = chcp_meant words
 named_meant name.Lscp words = lscp_meant words
 named_meant name.Rmcp words = rmcp_meant words
 named_meant name.Lssu words = lssu_meant words
+named_meant name.Clean words = clean_meant words
 named_meant name.Mount words = mount_meant words
 named_meant name.Umount words = umount_meant words
 named_meant name.Create words = create_meant words

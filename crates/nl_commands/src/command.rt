@@ -46,6 +46,8 @@ pub enum Command {
     Lssu {
         all: bool,
     },
+    /// Does one round of cleaning.
+    Clean,
     /// Mounts a snapshot.
     Mount(CheckpointNumber),
     /// Gives a mount back.

@@ -1,7 +1,7 @@
 //! The forms that several commands share. Each function is given the name of the command and the
 //! words behind it. Their errors: `Usage` where the words are not of the form, and `Memory`.
 ghost use Rattle.std.specs.Prelude.{◌≡◌, IfOk, IsOkUnless, map};
-ghost use Rattle.nl_commands.specs.Grammars.{parsed};
+ghost use Rattle.nl_commands.specs.Grammars.{grammar, parsed};
 ghost use Rattle.nl_commands.specs.Outcomes.{IsUnlessMemory};
 ghost use Rattle.nl_commands.specs.SharedForms.{flag_grammar, flag_meant, number_grammar, number_meant, path_grammar, path_meant};
 
@@ -10,6 +10,18 @@ use crate::grammar::{Given, Grammar};
 use crate::operands::{bytes_at, number_at};
 use nl_types::Items;
 use std::alloc::Global;
+
+/// `NAME`, with nothing behind it.
+pub fn bare_form<'a>(
+    alloc: Global,
+    name: &'a str,
+    words: &'a [&'a str],
+) -> Result<Given<'a>, LineError>
+    ensures { IsUnlessMemory result
+        (parsed (grammar name.entry.now) (map (λ w. w.now) words.entry.now)) }
+{
+    Grammar::new(alloc, name).read(words)
+}
 
 fn number_grammar<'a>(alloc: Global, name: &'a str) -> Result<Grammar<'a>, LineError>
     ensures ok { IfOk result (λ g. g ≡ number_grammar name.entry.now) }

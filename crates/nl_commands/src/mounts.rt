@@ -2,11 +2,11 @@
 //! Their errors: `Usage` where the words are not of the command's form, and `Memory`.
 ghost use Rattle.std.specs.Prelude.{map};
 ghost use Rattle.nl_commands.specs.Outcomes.{IsUnlessMemory};
-ghost use Rattle.nl_commands.specs.SegmentCommands.{lssu_meant, mount_meant, umount_meant};
+ghost use Rattle.nl_commands.specs.SegmentCommands.{clean_meant, lssu_meant, mount_meant, umount_meant};
 
 use crate::command::Command;
 use crate::error::LineError;
-use crate::forms::{flag_form, number_form};
+use crate::forms::{bare_form, flag_form, number_form};
 use nl_types::{CheckpointNumber, MountNumber};
 use std::alloc::Global;
 
@@ -16,6 +16,14 @@ pub fn lssu(alloc: Global, words: &[&str]) -> Result<Command, LineError>
 {
     let all = flag_form(alloc, "lssu", 'a', words)?;
     Ok(Command::Lssu { all })
+}
+
+/// `clean`
+pub fn clean(alloc: Global, words: &[&str]) -> Result<Command, LineError>
+    ensures { IsUnlessMemory result (clean_meant (map (λ w. w.now) words.now)) }
+{
+    let _ = bare_form(alloc, "clean", words)?;
+    Ok(Command::Clean)
 }
 
 /// `mount CHECKPOINT`

@@ -8,7 +8,7 @@ use crate::checkpoints::{at, chcp, lscp, mkcp, rmcp};
 use crate::command::Command;
 use crate::error::LineError;
 use crate::files::{create, fill, mkdir, mv, rm, rmdir, truncate, write};
-use crate::mounts::{lssu, mount, umount};
+use crate::mounts::{clean, lssu, mount, umount};
 use std::alloc::Global;
 
 /// A command, without what it is given.
@@ -20,6 +20,7 @@ pub enum CommandName {
     Lscp,
     Rmcp,
     Lssu,
+    Clean,
     Mount,
     Umount,
     Create,
@@ -67,6 +68,7 @@ fn segment_name(word: &str) -> Option<CommandName>
 {
     match word {
         "lssu" => Some(CommandName::Lssu),
+        "clean" => Some(CommandName::Clean),
         "mount" => Some(CommandName::Mount),
         "umount" => Some(CommandName::Umount),
         _ => file_name(word),
@@ -101,6 +103,7 @@ pub fn read_named(alloc: Global, name: CommandName, words: &[&str]) -> Result<Co
         CommandName::Lscp => lscp(alloc, words),
         CommandName::Rmcp => rmcp(alloc, words),
         CommandName::Lssu => lssu(alloc, words),
+        CommandName::Clean => clean(alloc, words),
         CommandName::Mount => mount(alloc, words),
         CommandName::Umount => umount(alloc, words),
         CommandName::Create => create(alloc, words),

@@ -24,7 +24,7 @@ use Rattle.nl_cpfile.specs.Tables.{kept_at, root_in}
 use Rattle.nl_cpfile.specs.declared.checkpoint.Checkpoint.{Checkpoint}
 use Rattle.nl_cpfile.proofs.Found.{found}
 use Rattle.nl_reclaim.specs.Moves.{KeptStore, needed_now}
-use Rattle.nl_reclaim.specs.Reclaims.{gone_from}
+use Rattle.nl_reclaim.specs.Reclaims.{stood_in}
 use Rattle.nl_reclaim.proofs.Reclaims.{retired-segments-are-unreached, retiring-is-allowed}
 use Rattle.nl_core.specs.CleanedPens.{LeavesPen, MovesKeepPens, RefusedMovesKeepPens, RetirementsKeepPens, StaysPen, kept_store, number_in}
 use Rattle.nl_core.specs.Layout.{IsPen, IsSoundPen, KeepsNumbers, Layout, MeansWorld, layout_of, ledger_of, pages_in, reached_by}
@@ -119,7 +119,7 @@ module _ (segment count : ℕ) (old : Layout) (store : Store) (pen : IsPen old) 
   left_layout = layout_of old.lists store
 
   abbrev gone : ℕ → Bool
-  gone = gone_from old.store segment
+  gone = stood_in old.store segment
 
   abbrev StaysHere : Checkpoint → Type 0
   StaysHere c = CheckpointStays (pages_in old) (pages_in left_layout) (root_of (root_in c))

@@ -23,3 +23,5 @@ pub mod FirstLogs
 pub mod Formats
 pub mod KeptNumbers
 pub mod CleanedPens
+pub mod Outside
+pub mod NextCleaning

@@ -7,7 +7,7 @@ use Rattle.nl_types.specs.Worlds.{World}
 use Rattle.nl_cpfile.specs.declared.checkpoint.Checkpoint.{Checkpoint}
 use Rattle.nl_dat.specs.Stores.{IsMoved, IsMoveRefused, IsReclaimed, IsStore, address_in, is_inside}
 use Rattle.nl_reclaim.specs.Moves.{KeptStore, needed_now}
-use Rattle.nl_reclaim.specs.Reclaims.{gone_from}
+use Rattle.nl_reclaim.specs.Reclaims.{stood_in}
 use Rattle.nl_core.specs.Layout.{IsPen, KeepsNumbers, Layout, MeansWorld, ledger_of}
 use Rattle.nl_core.specs.Volume.{kept_by}
 
@@ -44,11 +44,11 @@ RefusedMovesKeepPens = (checkpoint stamp : ℕ) (numbers : List ℕ) (e : VolErr
 -- The numbers whose pages stood in the segment are out of use, which is allowed, and the ledger is as it is then. No kept
 -- checkpoint reaches one of them, and the same worlds are meant.
 pub record LeavesPen (segment : ℕ) (old new : Layout) : Type 0 where
-  pub allowed : Allowed (Reclaim (gone_from old.store segment)) (ledger_of old)
+  pub allowed : Allowed (Reclaim (stood_in old.store segment)) (ledger_of old)
   pub unreached : (c v : ℕ) (q : Place) (numbers : Numbers)
       → (ledger_of old).kept c ≡ Some numbers → numbers q ≡ Some v
       → is_inside old.store.segments segment (address_in old.store v) ≡ false
-  pub ledger : ledger_of new ≡ ledger_after (Reclaim (gone_from old.store segment)) (ledger_of old)
+  pub ledger : ledger_of new ≡ ledger_after (Reclaim (stood_in old.store segment)) (ledger_of old)
   pub pen : IsPen new
   pub numbers : KeepsNumbers old new
   pub means : (w : World) → MeansWorld old w → MeansWorld new w

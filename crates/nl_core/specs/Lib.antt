@@ -9,3 +9,4 @@ pub mod CleaningEvents
 pub mod Layout
 pub mod Laws
 pub mod CleanedPens
+pub mod CleanerViews

@@ -1,6 +1,7 @@
 //! The pen: a volume's current tree, checkpoints and mounts over a device, one event at a time.
 #![tactic(auto)]
 
+mod cleaner_views;
 mod cleaning;
 mod draft;
 mod expiry;

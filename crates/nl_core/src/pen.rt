@@ -10,17 +10,23 @@ ghost use Rattle.nl_core.specs.Views.{counted};
 ghost use Rattle.nl_dat.specs.Described.{descs_of};
 ghost use Rattle.nl_dat.specs.Stores.{capacity, content_in, dat_entry_of, numbered_in};
 ghost use Rattle.nl_dat.specs.Summaries.{payload_row};
+ghost use Rattle.nl_dat.specs.Located.{payload_count_in};
+ghost use Rattle.nl_core.specs.CleanerViews.{cleaning_event, needed_after};
+ghost use Rattle.nl_core.specs.Volume.{boundary_in};
 
+use crate::cleaner_views::{needed_in, payload_count};
 use crate::cleaning::{empty, move_out};
 use crate::draft::Draft;
 use crate::tables::Tables;
 use nl_cpfile::Cpstat;
 use nl_dat::{Bdesc, Dat, DatEntry, Vstore};
 use nl_device::Device;
+use nl_protect::boundary;
 use nl_segwriter::LogSpace;
 use nl_sufile::SegTable;
 use nl_types::{
-    Answer, CheckpointNumber, Event, Geometry, Mode, Reply, Row, Segment, VirtualNumber, VolError,
+    Answer, CheckpointNumber, Event, Geometry, MAX_PAYLOAD, Mode, Reply, Row, Segment,
+    VirtualNumber, VolError,
 };
 use std::alloc::Global;
 use std::marker::Model;
@@ -187,6 +193,43 @@ impl<D: Device> Pen<D> {
         ensures world { (w : World) → MeansWorld self.now w → result ≡ length w.mounts }
     {
         self.tables.mount_count()
+    }
+
+    /// The boundary of protection: plain checkpoints below it may go.
+    pub fn boundary(&self, now: u64, period: u64) -> CheckpointNumber
+        ensures { result ≡ boundary_in self.now.lists.table now period }
+    {
+        boundary(self.tables.checkpoints(), now, period)
+    }
+
+    /// How many numbers whose pages stand in a segment are needed once the plain checkpoints below one are gone. From 0 on
+    /// none goes. It looks at each block of the segment; there is none where there is no such segment.
+    pub fn needed_in(&self, segment: Segment, below: CheckpointNumber) -> u32
+        ensures { result ≡ needed_after self.now below segment }
+    {
+        needed_in(&self.store, self.tables.checkpoints(), segment, below)
+    }
+
+    /// How many blocks of the logs of a segment have payload, be their numbers in use or not: 0 where there is no such segment.
+    pub fn payload_count(&self, segment: Segment) -> u32
+        ensures { result ≡ payload_count_in self.now.store segment }
+    {
+        payload_count(&self.store, segment)
+    }
+
+    /// The event that cleans a segment next: its retirement, or a move where pages in it are needed.
+    pub fn cleaning_event(&self, segment: Segment, now: u64) -> Event
+        ensures { result ≡ cleaning_event self.now segment now }
+    {
+        if self.needed_in(segment, CheckpointNumber::new(0)) == 0 {
+            Event::Retire(segment)
+        } else {
+            Event::Move {
+                segment,
+                limit: MAX_PAYLOAD,
+                now,
+            }
+        }
     }
 
     /// One event. A refusal leaves the world as it was. `NoSpace` comes only of a checkpoint or a move of which no list

@@ -91,6 +91,13 @@ impl Tables {
         self.checkpoints.latest().number
     }
 
+    /// The kept checkpoints.
+    pub fn checkpoints(&self) -> &Checkpoints
+        ensures { result.now.table ≡ self.now.lists.table }
+    {
+        &self.checkpoints
+    }
+
     pub fn cpinfo(&self, number: CheckpointNumber) -> Result<Row, VolError>
         ensures { result ≡ kept_row number (cpfile.rows self.now.lists.table) }
     {

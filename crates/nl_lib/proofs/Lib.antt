@@ -1,1 +1,3 @@
 pub mod Replies
+pub mod MovedAway
+pub mod CleanedLists

@@ -14,11 +14,14 @@ use Rattle.nl_protect.specs.Configuration.{configuration_in, line_setting, lines
 -- the line at an index can't be read, and each before it can
 pub record IsFirstBad (lines : List (List ℕ)) (i : ℕ) : Type 0 where
   pub bad : (line : List ℕ) × (slice_get lines i ≡ Some line) × (line_setting line ≡ None)
-  pub before : (k : ℕ) (line : List ℕ) → k < i → slice_get lines k ≡ Some line → (s : Setting) × (line_setting line ≡ Some s)
+  pub before : (k : ℕ) (line : List ℕ) → k < i → slice_get lines k ≡ Some line
+      → (s : Setting) × (line_setting line ≡ Some s)
 
 -- the first bad line is told by its number from 1, whatever stands behind it
 abbrev pub FirstBadLineIsTold : Type 0
-FirstBadLineIsTold = (text : List ℕ) (i : ℕ) → IsFirstBad (lines_in text) i → configuration_in text ≡ Err (BadConfig (i + 1))
+FirstBadLineIsTold =
+    (text : List ℕ) (i : ℕ) → IsFirstBad (lines_in text) i
+    → configuration_in text ≡ Err (BadConfig (i + 1))
 
 -- nothing else is refused
 abbrev pub OnlyBadLinesAreTold : Type 0

@@ -12,7 +12,7 @@ use Rattle.nl_dat.specs.Stores.{IsStore, Numbered, address_in, block_now, conten
 use Rattle.nl_dat.specs.Located.{entry_needed}
 use Rattle.nl_dat.proofs.NumberAt.{needed-member}
 use Rattle.nl_reclaim.specs.Moves.{KeptStore, needed_now}
-use Rattle.nl_reclaim.specs.Reclaims.{IsLedgerOf, RetiredSegmentsAreUnreached, RetiringIsAllowed, gone_from}
+use Rattle.nl_reclaim.specs.Reclaims.{IsLedgerOf, RetiredSegmentsAreUnreached, RetiringIsAllowed, stood_in}
 
 none-covers : (e : Entry) (c : ℕ) (kept : List ℕ) → list_any (λ k. covers k e) kept ≡ false → is_one_of kept c ≡ true → covers c e ≡ false
 none-covers e c [] none among = cc
@@ -31,7 +31,7 @@ address-of s v e is = by_number (numbered_in s.store v) refl is
     by_number (Some n) at h = (n.block, ap (option_map block_now) at)
 
 -- nothing that a kept checkpoint needs goes
-none-goes : (segment : ℕ) (ledger : Ledger) (s : KeptStore) → IsStore s.store → IsLedgerOf ledger s → needed_now s segment ≡ [] → Allowed (Reclaim (gone_from s.store segment)) ledger
+none-goes : (segment : ℕ) (ledger : Ledger) (s : KeptStore) → IsStore s.store → IsLedgerOf ledger s → needed_now s segment ≡ [] → Allowed (Reclaim (stood_in s.store segment)) ledger
 none-goes segment ledger s store same none v e c numbers gone at kept = elim (cases_Bool (is_needed s.kept e)) [
   | inl needed ↦ absurd (unneeded (sym (ap (λ (m : Content). m v) same.content) ∙ at) needed)
   | inr free ↦ none-covers e c s.kept (or_false (is_none e.end) (list_any (λ k. covers k e) s.kept) free).1 (same.kept c numbers kept)
@@ -46,15 +46,15 @@ none-goes segment ledger s store same none v e c numbers gone at kept = elim (ca
 pub retiring-is-allowed : RetiringIsAllowed
 retiring-is-allowed segment count ledger old new store same none reclaimed = (none-goes segment ledger old store same none, content)
   where
-    content : (v : ℕ) → content_in new.store v ≡ cond (gone_from old.store segment v) None (content_in old.store v)
-    content v = ap (option_map entry_now) (reclaimed.numbers v) ∙ by_test (gone_from old.store segment v)
+    content : (v : ℕ) → content_in new.store v ≡ cond (stood_in old.store segment v) None (content_in old.store v)
+    content v = ap (option_map entry_now) (reclaimed.numbers v) ∙ by_test (stood_in old.store segment v)
       where
         by_test : (t : Bool) → option_map entry_now (cond t None (numbered_in old.store v)) ≡ cond t None (content_in old.store v)
         by_test true = refl
         by_test false = refl
 
 pub retired-segments-are-unreached : RetiredSegmentsAreUnreached
-retired-segments-are-unreached segment c v q numbers ledger s store same exact none kept reaches = elim (cases_Bool (gone_from s.store segment v)) [
+retired-segments-are-unreached segment c v q numbers ledger s store same exact none kept reaches = elim (cases_Bool (stood_in s.store segment v)) [
   | inl gone ↦ let (e, at, place, covering) = (exact c numbers kept).reached q v reaches in
       absurd (both_ways (covers c e) (none-goes segment ledger s store same none v e c numbers gone at kept) covering)
   | inr stays ↦ stays

@@ -15,7 +15,7 @@ use Rattle.nl_dat.specs.Located.{entry_needed, needs}
 use Rattle.nl_dat.proofs.NumberAt.{inside-of, needed-inside, needed-needs}
 use Rattle.nl_dat.proofs.MovedNumbers.{among-front, blocks-moved, needs-moved, stays}
 use Rattle.nl_reclaim.specs.Moves.{KeptStore, HasMoved, info_now, needed_now}
-use Rattle.nl_reclaim.specs.Rounds.{Cleans, CleansAll, HasRetired, IsLeftOut, IsNeeded, RoundsLeaveNothingDead, is_left_out}
+use Rattle.nl_reclaim.specs.Rounds.{IsRoundEvent, AreRoundEvents, IsEmptied, IsLeftOut, IsNeeded, RoundsLeaveNothingDead, is_left_out}
 
 -- the block lies in a segment whose turn is to come
 pub record IsToCome (start : KeptStore) (left : List ℕ) (b : ℕ) : Type 0 where
@@ -77,7 +77,7 @@ moved-fate start old new segment checkpoint stamp m rest kept has = record {
       ]
     ]
 
-retired-fate : (start old new : KeptStore) (segment count : ℕ) (rest : List ℕ) → Kept start (segment ∷ rest) old → HasRetired segment count old new → Kept start rest new
+retired-fate : (start old new : KeptStore) (segment count : ℕ) (rest : List ℕ) → Kept start (segment ∷ rest) old → IsEmptied segment count old new → Kept start rest new
 retired-fate start old new segment count rest kept has = record {
   store = has.store;
   blocks = ap (λ (s : Segments). s.blocks) has.reclaimed.freed.segments ∙ kept.blocks;
@@ -116,12 +116,12 @@ retired-fate start old new segment count rest kept has = record {
           ]
         ]
 
-one-event : (start old new : KeptStore) (before left : List ℕ) → Kept start before old → Cleans before old left new → Kept start left new
+one-event : (start old new : KeptStore) (before left : List ℕ) → Kept start before old → IsRoundEvent before old left new → Kept start left new
 one-event start old new [] left kept step = absurd step
 one-event start old new (segment ∷ rest) left kept (inl (same, checkpoint, stamp, m, has)) = subst (λ (l : List ℕ). Kept start l new) (sym same) (moved-fate start old new segment checkpoint stamp m rest kept has)
 one-event start old new (segment ∷ rest) left kept (inr (same, count, has)) = subst (λ (l : List ℕ). Kept start l new) (sym same) (retired-fate start old new segment count rest kept has)
 
-all-events : (n : ℕ) (start old new : KeptStore) (before left : List ℕ) → Kept start before old → CleansAll n before old left new → Kept start left new
+all-events : (n : ℕ) (start old new : KeptStore) (before left : List ℕ) → Kept start before old → AreRoundEvents n before old left new → Kept start left new
 all-events zero start old new before left kept (same, is) = subst (λ (l : List ℕ). Kept start l new) (sym same) (subst (Kept start before) (sym is) kept)
 all-events (suc n) start old new before left kept (between, mid, step, rest) = all-events n start mid new between left (one-event start old mid before between kept step) rest
 

@@ -45,7 +45,9 @@ pub record MovesOut (segment m : ℕ) (old new : KeptStore) : Type 0 where
   pub closed : (j : ℕ) → IsClosedIn old j → info_now new j ≡ info_now old j
 
 abbrev pub MoveTakesFirst : Type 0
-MoveTakesFirst = (segment checkpoint stamp m : ℕ) (old new : KeptStore) → IsStore old.store → IsClosedIn old segment → HasMoved segment checkpoint stamp m old new → MovesOut segment m old new
+MoveTakesFirst =
+    (segment checkpoint stamp m : ℕ) (old new : KeptStore) → IsStore old.store → IsClosedIn old segment
+    → HasMoved segment checkpoint stamp m old new → MovesOut segment m old new
 
 -- ---- a retirement
 
@@ -58,17 +60,23 @@ pub record Retires (segment : ℕ) (reply : Result ℕ VolError) (old new : Kept
 
 -- whatever is moved, a closed segment stays as it is
 abbrev pub MovesKeepClosed : Type 0
-MovesKeepClosed = (segment checkpoint stamp j : ℕ) (numbers : List ℕ) (old new : Store) → IsStore old → IsMoved segment checkpoint stamp numbers old new
-    → IsClosed old.segments j → info_of new.segments.each j ≡ info_of old.segments.each j
+MovesKeepClosed =
+    (segment checkpoint stamp j : ℕ) (numbers : List ℕ) (old new : Store) → IsStore old
+    → IsMoved segment checkpoint stamp numbers old new → IsClosed old.segments j
+    → info_of new.segments.each j ≡ info_of old.segments.each j
 
 -- and where the move is refused, be it in the middle of its writes
 abbrev pub RefusedMovesKeepClosed : Type 0
-RefusedMovesKeepClosed = (checkpoint stamp j : ℕ) (numbers : List ℕ) (old new : Store) (e : VolError) → IsStore old → IsMoveRefused checkpoint stamp numbers old new e
-    → IsClosed old.segments j → info_of new.segments.each j ≡ info_of old.segments.each j
+RefusedMovesKeepClosed =
+    (checkpoint stamp j : ℕ) (numbers : List ℕ) (old new : Store) (e : VolError) → IsStore old
+    → IsMoveRefused checkpoint stamp numbers old new e → IsClosed old.segments j
+    → info_of new.segments.each j ≡ info_of old.segments.each j
 
 -- a retirement leaves every other segment as it is
 abbrev pub RetirementsKeepOthers : Type 0
-RetirementsKeepOthers = (segment count j : ℕ) (old new : Store) → IsReclaimed segment count old new → j ≢ segment → info_of new.segments.each j ≡ info_of old.segments.each j
+RetirementsKeepOthers =
+    (segment count j : ℕ) (old new : Store) → IsReclaimed segment count old new → j ≢ segment
+    → info_of new.segments.each j ≡ info_of old.segments.each j
 
 -- ---- a run of moves
 
@@ -79,16 +87,22 @@ Moves segment m (suc n) old new = (mid : KeptStore) × MovesOut segment m old mi
 -- After n moves of up to m numbers each, n times m being no less than the needed ones, a dirty segment can be retired: the
 -- answer is how many numbers it still had, none of them needed, and it is clean then.
 abbrev pub SegmentsComeClean : Type 0
-SegmentsComeClean = (segment m n : ℕ) (old mid new : KeptStore) (reply : Result ℕ VolError)
-    → (info_now old segment).state ≡ Dirty → length (needed_now old segment) ≤ n * m → Moves segment m n old mid → Retires segment reply mid new
+SegmentsComeClean =
+    (segment m n : ℕ) (old mid new : KeptStore) (reply : Result ℕ VolError)
+    → (info_now old segment).state ≡ Dirty → length (needed_now old segment) ≤ n * m
+    → Moves segment m n old mid → Retires segment reply mid new
     → (reply ≡ Ok (length (numbers_in mid.store segment))) × (info_now new segment ≡ clean_info)
 
 -- with the same run one move at a time, each in full
 abbrev pub FullMoves : ℕ → ℕ → ℕ → KeptStore → KeptStore → Type 0
 FullMoves segment m zero old new = new ≡ old
-FullMoves segment m (suc n) old new = (checkpoint : ℕ) × (stamp : ℕ) × (mid : KeptStore) × HasMoved segment checkpoint stamp m old mid × FullMoves segment m n mid new
+FullMoves segment m (suc n) old new =
+    (checkpoint : ℕ) × (stamp : ℕ) × (mid : KeptStore) × HasMoved segment checkpoint stamp m old mid
+    × FullMoves segment m n mid new
 
 abbrev pub FullMovesComeClean : Type 0
-FullMovesComeClean = (segment m n : ℕ) (old mid new : KeptStore) (reply : Result ℕ VolError) → IsStore old.store
-    → (info_now old segment).state ≡ Dirty → length (needed_now old segment) ≤ n * m → FullMoves segment m n old mid → Retires segment reply mid new
+FullMovesComeClean =
+    (segment m n : ℕ) (old mid new : KeptStore) (reply : Result ℕ VolError) → IsStore old.store
+    → (info_now old segment).state ≡ Dirty → length (needed_now old segment) ≤ n * m
+    → FullMoves segment m n old mid → Retires segment reply mid new
     → (reply ≡ Ok (length (numbers_in mid.store segment))) × (info_now new segment ≡ clean_info)

@@ -12,15 +12,22 @@ pub record IsLedgerOf (ledger : Ledger) (s : KeptStore) : Type 0 where
   pub kept : (c : ℕ) (numbers : Numbers) → ledger.kept c ≡ Some numbers → is_one_of s.kept c ≡ true
 
 -- whether the page of a number stands in the segment
-abbrev pub gone_from : Store → ℕ → ℕ → Bool
-gone_from s segment v = is_inside s.segments segment (address_in s v)
+abbrev pub stood_in : Store → ℕ → ℕ → Bool
+stood_in s segment v = is_inside s.segments segment (address_in s v)
 
 -- Emptying a segment that has no needed number takes out numbers of which no kept checkpoint has one, and no others.
 abbrev pub RetiringIsAllowed : Type 0
-RetiringIsAllowed = (segment count : ℕ) (ledger : Ledger) (old new : KeptStore) → IsStore old.store → IsLedgerOf ledger old → needed_now old segment ≡ [] → IsReclaimed segment count old.store new.store
-    → Allowed (Reclaim (gone_from old.store segment)) ledger × ((v : ℕ) → content_in new.store v ≡ (if gone_from old.store segment v then None else content_in old.store v))
+RetiringIsAllowed =
+    (segment count : ℕ) (ledger : Ledger) (old new : KeptStore) → IsStore old.store → IsLedgerOf ledger old
+    → needed_now old segment ≡ [] → IsReclaimed segment count old.store new.store
+    → Allowed (Reclaim (stood_in old.store segment)) ledger
+    × ((v : ℕ) → content_in new.store v
+    ≡ (if stood_in old.store segment v then None else content_in old.store v))
 
 -- No number that a kept checkpoint reaches stands in a segment that has no needed one.
 abbrev pub RetiredSegmentsAreUnreached : Type 0
-RetiredSegmentsAreUnreached = (segment c v : ℕ) (q : Place) (numbers : Numbers) (ledger : Ledger) (s : KeptStore) → IsStore s.store → IsLedgerOf ledger s → HasExactLifetimes ledger → needed_now s segment ≡ []
-    → ledger.kept c ≡ Some numbers → numbers q ≡ Some v → is_inside s.store.segments segment (address_in s.store v) ≡ false
+RetiredSegmentsAreUnreached =
+    (segment c v : ℕ) (q : Place) (numbers : Numbers) (ledger : Ledger) (s : KeptStore) → IsStore s.store
+    → IsLedgerOf ledger s → HasExactLifetimes ledger → needed_now s segment ≡ []
+    → ledger.kept c ≡ Some numbers → numbers q ≡ Some v
+    → is_inside s.store.segments segment (address_in s.store v) ≡ false

@@ -25,23 +25,31 @@ pub record IsLeftOut (s : KeptStore) (b : ℕ) : Type 0 where
   pub left_out : is_left_out (info_now s segment).state ≡ true
 
 -- a segment was emptied
-pub record HasRetired (segment count : ℕ) (old new : KeptStore) : Type 0 where
+pub record IsEmptied (segment count : ℕ) (old new : KeptStore) : Type 0 where
   pub needs : KeepsNeeds old new
   pub reclaimed : IsReclaimed segment count old.store new.store
   pub store : IsStore new.store
 
--- one event of a round: a move out of the segment whose turn it is, or its retirement, after which the next one's turn comes
-abbrev pub Cleans : List ℕ → KeptStore → List ℕ → KeptStore → Type 0
-Cleans [] old left new = ⊥
-Cleans (segment ∷ rest) old left new = ((left ≡ segment ∷ rest) × (checkpoint : ℕ) × (stamp : ℕ) × (m : ℕ) × HasMoved segment checkpoint stamp m old new) ⊎ ((left ≡ rest) × (count : ℕ) × HasRetired segment count old new)
+-- one event of a round: a move out of the segment whose turn it is, or its retirement, behind which the next one's comes
+abbrev pub IsRoundEvent : List ℕ → KeptStore → List ℕ → KeptStore → Type 0
+IsRoundEvent [] old left new = ⊥
+IsRoundEvent (segment ∷ rest) old left new =
+    ((left ≡ segment ∷ rest) × (checkpoint : ℕ) × (stamp : ℕ) × (m : ℕ)
+    × HasMoved segment checkpoint stamp m old new)
+    ⊎ ((left ≡ rest) × (count : ℕ) × IsEmptied segment count old new)
 
 -- n events, from the segments that are left to those that are left then
-abbrev pub CleansAll : ℕ → List ℕ → KeptStore → List ℕ → KeptStore → Type 0
-CleansAll zero before old left new = (left ≡ before) × (new ≡ old)
-CleansAll (suc n) before old left new = (between : List ℕ) × (mid : KeptStore) × Cleans before old between mid × CleansAll n between mid left new
+abbrev pub AreRoundEvents : ℕ → List ℕ → KeptStore → List ℕ → KeptStore → Type 0
+AreRoundEvents zero before old left new = (left ≡ before) × (new ≡ old)
+AreRoundEvents (suc n) before old left new =
+    (between : List ℕ) × (mid : KeptStore) × IsRoundEvent before old between mid
+    × AreRoundEvents n between mid left new
 
 -- Checkpoints expire, and then a round goes over every segment that was dirty, to its end. Then each number in use is needed,
 -- or its page stands in a segment that was active or in error.
 abbrev pub RoundsLeaveNothingDead : Type 0
-RoundsLeaveNothingDead = (n : ℕ) (start old new : KeptStore) (victims : List ℕ) → IsStore start.store → ((i : ℕ) → (info_now start i).state ≡ Dirty → is_one_of victims i ≡ true) → old.store ≡ start.store → CleansAll n victims old [] new
+RoundsLeaveNothingDead =
+    (n : ℕ) (start old new : KeptStore) (victims : List ℕ) → IsStore start.store
+    → ((i : ℕ) → (info_now start i).state ≡ Dirty → is_one_of victims i ≡ true)
+    → old.store ≡ start.store → AreRoundEvents n victims old [] new
     → (v b : ℕ) → address_in new.store v ≡ Some b → IsNeeded new v ⊎ IsLeftOut start b

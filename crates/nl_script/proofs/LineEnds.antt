@@ -10,7 +10,9 @@ use Rattle.nl_cpfile.specs.declared.table.Cpstat.{Cpstat}
 use Rattle.nl_texts.proofs.Appending.{OnOk-same}
 use Rattle.nl_texts.specs.Texts.{Text}
 use Rattle.nl_script.specs.ExitStatus.{status_of}
-use Rattle.nl_script.specs.Lines.{AreEventsDone, AreListed, AreOutcomesTold, ComesTo, Habits, IsCommandDone, IsListingRefused, LacksMemory, LineEnd, ended, refused}
+use Rattle.nl_protect.specs.declared.config.Config.{Config}
+use Rattle.nl_script.specs.Habits.{Habits}
+use Rattle.nl_script.specs.Lines.{AreEventsDone, AreListed, AreOutcomesTold, ComesTo, IsCommandDone, IsListingRefused, LacksMemory, LineEnd, ended, refused}
 use Rattle.nl_script.specs.OutcomeTexts.{text_of}
 use Rattle.nl_script.specs.Outcomes.{is_quiet}
 use Rattle.nl_script.specs.declared.status.Status.{Status}
@@ -42,23 +44,23 @@ told_end does counts number moment command old new events es replies rs quiet re
       written = OnOk-same result.1 before after _ _ texts written;
     }
 
-listing_cases : {S : Type 0} (habits : Habits S) (number moment : ℕ) (all : Bool) (old : S) (end : LineEnd)
+listing_cases : {S J : Type 0} (habits : Habits S J) (config : Config) (number moment : ℕ) (all : Bool) (old : S) (end : LineEnd)
     → (AreListed habits.tells habits.measures moment all old end ⊎ IsListingRefused habits.tells number moment old end)
     ⊎ (end ≡ refused number moment error.Memory)
-    → IsCommandDone habits number moment (Lssu all) old old end ⊎ LacksMemory number moment old old end
-listing_cases habits number moment all old end (inl told) = inl (refl, told)
-listing_cases habits number moment all old end (inr lacks) = inr (refl, lacks)
+    → IsCommandDone habits config number moment (Lssu all) old old end ⊎ LacksMemory number moment old old end
+listing_cases habits config number moment all old end (inl told) = inl (refl, told)
+listing_cases habits config number moment all old end (inr lacks) = inr (refl, lacks)
 
 -- segments are listed
-pub listing_end : {S X E : Type 0} (habits : Habits S) (number moment : ℕ) (all : Bool) (command : Command) (old : S)
+pub listing_end : {S J X E : Type 0} (habits : Habits S J) (config : Config) (number moment : ℕ) (all : Bool) (command : Command) (old : S)
     (result : Status × Result X E) (before after : Option Text) → command ≡ Lssu all
     → ComesTo (λ end. (AreListed habits.tells habits.measures moment all old end ⊎ IsListingRefused habits.tells number moment old end)
     ⊎ (end ≡ refused number moment error.Memory)) moment result before after
-    → ComesTo (λ end. IsCommandDone habits number moment command old old end ⊎ LacksMemory number moment old old end) moment result before after
-listing_end habits number moment all command old result before after is told = record {
+    → ComesTo (λ end. IsCommandDone habits config number moment command old old end ⊎ LacksMemory number moment old old end) moment result before after
+listing_end habits config number moment all command old result before after is told = record {
   text = told.text;
-  does = subst (λ (c : Command). IsCommandDone habits number moment c old old (ended moment result.0 told.text)
+  does = subst (λ (c : Command). IsCommandDone habits config number moment c old old (ended moment result.0 told.text)
       ⊎ LacksMemory number moment old old (ended moment result.0 told.text)) (sym is)
-      (listing_cases habits number moment all old (ended moment result.0 told.text) told.does);
+      (listing_cases habits config number moment all old (ended moment result.0 told.text) told.does);
   written = told.written;
 }

@@ -1,25 +1,27 @@
 -- One line more of a script.
 use Rattle.std.proofs.Common.{◌≡◌, ◌∙◌, ◌+◌, ◌<◌, ◌++◌, ap, sym, refl, subst, List, ◌∷◌, [], ℕ, length, arith}
 use Rattle.std.specs.Io.BufRead.{first_piece, drop_through}
-use Rattle.nl_script.specs.Lines.{Habits, IsLineDone, LineEnd}
+use Rattle.nl_protect.specs.declared.config.Config.{Config}
+use Rattle.nl_script.specs.Habits.{Habits}
+use Rattle.nl_script.specs.Lines.{IsLineDone, LineEnd}
 use Rattle.nl_script.specs.Scripts.{AreLinesDone, BeginsWithLines, last_moment, number_behind}
 
-pub AreLinesDone-more : {S : Type 0} (habits : Habits S) (count n moment : ℕ) (old mid new : S) (lines : List (List ℕ)) (ends : List LineEnd)
-    (line : List ℕ) (end : LineEnd) → count + length lines ≡ n → AreLinesDone habits count moment lines old mid ends
-    → IsLineDone habits (number_behind n) (last_moment moment ends) line mid new end
-    → AreLinesDone habits count moment (lines ++ line ∷ []) old new (ends ++ end ∷ [])
-AreLinesDone-more {S = S} habits count n moment old mid new [] [] line end counted done one =
+pub AreLinesDone-more : {S J : Type 0} (habits : Habits S J) (config : Config) (count n moment : ℕ) (old mid new : S) (lines : List (List ℕ)) (ends : List LineEnd)
+    (line : List ℕ) (end : LineEnd) → count + length lines ≡ n → AreLinesDone habits config count moment lines old mid ends
+    → IsLineDone habits config (number_behind n) (last_moment moment ends) line mid new end
+    → AreLinesDone habits config count moment (lines ++ line ∷ []) old new (ends ++ end ∷ [])
+AreLinesDone-more {S = S} habits config count n moment old mid new [] [] line end counted done one =
     let here : n ≡ count = grind (arith, counted) in (
       new,
-      subst (λ (s : S). IsLineDone habits (number_behind count) moment line s new end) done
-          (subst (λ (k : ℕ). IsLineDone habits (number_behind k) moment line mid new end) here one),
+      subst (λ (s : S). IsLineDone habits config (number_behind count) moment line s new end) done
+          (subst (λ (k : ℕ). IsLineDone habits config (number_behind k) moment line mid new end) here one),
       refl,
     )
-AreLinesDone-more habits count n moment old mid new (x ∷ lines) (e ∷ ends) line end counted done one =
+AreLinesDone-more habits config count n moment old mid new (x ∷ lines) (e ∷ ends) line end counted done one =
     let behind : (count + 1) + length lines ≡ n = grind (arith, counted) in
-    (done.0, done.1, AreLinesDone-more habits (count + 1) n e.moment done.0 mid new lines ends line end behind done.2 one)
-AreLinesDone-more habits count n moment old mid new [] (e ∷ ends) line end counted done one = absurd done
-AreLinesDone-more habits count n moment old mid new (x ∷ lines) [] line end counted done one = absurd done
+    (done.0, done.1, AreLinesDone-more habits config (count + 1) n e.moment done.0 mid new lines ends line end behind done.2 one)
+AreLinesDone-more habits config count n moment old mid new [] (e ∷ ends) line end counted done one = absurd done
+AreLinesDone-more habits config count n moment old mid new (x ∷ lines) [] line end counted done one = absurd done
 
 pub last_moment-more : (moment : ℕ) (ends : List LineEnd) (end : LineEnd) → last_moment moment (ends ++ end ∷ []) ≡ end.moment
 last_moment-more moment [] end = refl

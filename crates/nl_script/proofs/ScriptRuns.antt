@@ -8,7 +8,9 @@ use Rattle.std.specs.Io.KnownBytes.{Appends, IsAtEnd}
 use Rattle.std.specs.List.{list_any, flat_map}
 use Rattle.std.specs.Prelude.{◌||◌, not, ◌-◌, ◌^◌, min}
 use Rattle.nl_texts.specs.Texts.{Text}
-use Rattle.nl_script.specs.Lines.{Habits, IsLineDone, LineEnd}
+use Rattle.nl_protect.specs.declared.config.Config.{Config}
+use Rattle.nl_script.specs.Habits.{Habits}
+use Rattle.nl_script.specs.Lines.{IsLineDone, LineEnd}
 use Rattle.nl_script.specs.Scripts.{AreLinesDone, BeginsSo, BeginsWithLines, IsLineCounted, IsRunSoFar, IsScriptDone, is_misread, is_refused, last_moment, number_behind, text_of_line}
 use Rattle.nl_script.specs.declared.scripts.Done.{Done}
 use Rattle.nl_script.proofs.ScriptLines.{AreLinesDone-more, BeginsWithLines-more, last_moment-more}
@@ -76,10 +78,10 @@ read_whole None left lines done end begins = tt
 read_whole (Some bytes) left lines done end begins =
     (begins.0, begins.2, λ fine. subst (λ (o : Option (List ℕ)). IsAtEnd o) begins.1 end)
 
-module _ {S : Type 0} (habits : Habits S) (moment : ℕ) (old : S) (input before : Option (List ℕ)) where
+module _ {S J : Type 0} (habits : Habits S J) (config : Config) (moment : ℕ) (old : S) (input before : Option (List ℕ)) where
   -- no line is done
   pub run-start : (done : Done) (left : Option (List ℕ)) → done.moment ≡ moment → done.misread ≡ false → done.refused ≡ false → left ≡ input
-      → IsRunSoFar habits moment old old done 0 input left before before
+      → IsRunSoFar habits config moment old old done 0 input left before before
   run-start done left moment_is misread_is refused_is left_is = record {
     lines = [];
     ends = [];
@@ -93,8 +95,8 @@ module _ {S : Type 0} (habits : Habits S) (moment : ℕ) (old : S) (input before
   }
 
   -- the script ends where the input does
-  pub ends-whole : (now : S) (done : Done) (number : ℕ) (left after : Option (List ℕ)) → IsRunSoFar habits moment old now done number input left before after
-      → IsAtEnd left → IsScriptDone habits moment old now done input before after
+  pub ends-whole : (now : S) (done : Done) (number : ℕ) (left after : Option (List ℕ)) → IsRunSoFar habits config moment old now done number input left before after
+      → IsAtEnd left → IsScriptDone habits config moment old now done input before after
   ends-whole now done number left after so_far end = record {
     lines = so_far.lines;
     ends = so_far.ends;
@@ -108,9 +110,9 @@ module _ {S : Type 0} (habits : Habits S) (moment : ℕ) (old : S) (input before
 
   -- the script ends where a line can't be read
   pub ends-unread : (now : S) (done after_done : Done) (number : ℕ) (left written after : Option (List ℕ))
-      → IsRunSoFar habits moment old now done number input left before written
+      → IsRunSoFar habits config moment old now done number input left before written
       → after_done.moment ≡ done.moment → after_done.misread ≡ done.misread → after_done.refused ≡ done.refused → after_done.failed ≡ true
-      → IsScriptDone habits moment old now after_done input before after
+      → IsScriptDone habits config moment old now after_done input before after
   ends-unread now done after_done number left written after so_far moment_is misread_is refused_is failed = record {
     lines = so_far.lines;
     ends = so_far.ends;
@@ -123,16 +125,16 @@ module _ {S : Type 0} (habits : Habits S) (moment : ℕ) (old : S) (input before
   }
 
   module _ (mid new : S) (done after_done : Done) (number next : ℕ) (left behind written after : Option (List ℕ)) (line : List ℕ) (goes_on : Bool)
-      (so_far : IsRunSoFar habits moment old mid done number input left before written)
+      (so_far : IsRunSoFar habits config moment old mid done number input left before written)
       (next_is : next ≡ min (number + 1) (2 ^ 64 - 1))
-      (counted : IsLineCounted habits next line done after_done mid new goes_on written after)
+      (counted : IsLineCounted habits config next line done after_done mid new goes_on written after)
       (is_next : IsNext left line) (drops : DropsThrough left behind 10) where
-    lines-more : AreLinesDone habits 0 moment (so_far.lines ++ line ∷ []) old new (so_far.ends ++ counted.end ∷ [])
+    lines-more : AreLinesDone habits config 0 moment (so_far.lines ++ line ∷ []) old new (so_far.ends ++ counted.end ∷ [])
     lines-more =
         let numbered : next ≡ number_behind (length so_far.lines) = grind (arith, next_is, so_far.number_is) in
-        let does = subst (λ (m : ℕ). IsLineDone habits next m line mid new counted.end) so_far.moment_is counted.does in
-        let there = subst (λ (n : ℕ). IsLineDone habits n (last_moment moment so_far.ends) line mid new counted.end) numbered does in
-        AreLinesDone-more habits 0 (length so_far.lines) moment old mid new so_far.lines so_far.ends line counted.end (grind arith) so_far.are_done there
+        let does = subst (λ (m : ℕ). IsLineDone habits config next m line mid new counted.end) so_far.moment_is counted.does in
+        let there = subst (λ (n : ℕ). IsLineDone habits config n (last_moment moment so_far.ends) line mid new counted.end) numbered does in
+        AreLinesDone-more habits config 0 (length so_far.lines) moment old mid new so_far.lines so_far.ends line counted.end (grind arith) so_far.are_done there
 
     moment-more : after_done.moment ≡ last_moment moment (so_far.ends ++ counted.end ∷ [])
     moment-more = counted.moment_is ∙ sym (last_moment-more moment so_far.ends counted.end)
@@ -149,7 +151,7 @@ module _ {S : Type 0} (habits : Habits S) (moment : ℕ) (old : S) (input before
     read-more = begins-more input left behind so_far.lines line so_far.read is_next drops
 
     -- the script goes on behind a line
-    pub run-more : goes_on ≡ true → IsRunSoFar habits moment old new after_done next input behind before after
+    pub run-more : goes_on ≡ true → IsRunSoFar habits config moment old new after_done next input behind before after
     run-more on = record {
       lines = so_far.lines ++ line ∷ [];
       ends = so_far.ends ++ counted.end ∷ [];
@@ -164,7 +166,7 @@ module _ {S : Type 0} (habits : Habits S) (moment : ℕ) (old : S) (input before
     }
 
     -- the script ends behind a line that can't be told of
-    pub ends-untold : after_done.failed ≡ true → IsScriptDone habits moment old new after_done input before after
+    pub ends-untold : after_done.failed ≡ true → IsScriptDone habits config moment old new after_done input before after
     ends-untold failed = record {
       lines = so_far.lines ++ line ∷ [];
       ends = so_far.ends ++ counted.end ∷ [];

@@ -41,6 +41,7 @@ events_of moment latest (command.Chcp mode numbers) = map (mode_change mode) num
 events_of moment latest (command.Lscp options) = event.Listing options ∷ []
 events_of moment latest (command.Rmcp quiet ranges) = map (removal_event latest) ranges
 events_of moment latest (command.Lssu all) = []
+events_of moment latest command.Clean = []
 events_of moment latest (command.Mount number) = event.Mount number ∷ []
 events_of moment latest (command.Umount mount) = event.Unmount mount ∷ []
 events_of moment latest (command.Change change) = event.Apply change ∷ []

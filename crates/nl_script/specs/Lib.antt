@@ -2,7 +2,10 @@ pub mod Events
 pub mod Outcomes
 pub mod OutcomeTexts
 pub mod ExitStatus
+pub mod Rounds
+pub mod Habits
 pub mod Lines
 pub mod Scripts
 pub mod Pens
+pub mod Configurations
 pub mod Sessions

@@ -1,5 +1,5 @@
 -- What the lines of a script do, one after another.
-use Rattle.std.specs.Prelude.{◌≡◌, ◌⊎◌, ◌+◌, ℕ, Bool, true, false, List, [], ◌∷◌, ◌++◌, length, Option, None, Some, Result, Ok, Err, OnOk}
+use Rattle.std.specs.Prelude.{◌≡◌, ◌⊎◌, ◌+◌, ℕ, Bool, true, false, List, [], ◌∷◌, ◌++◌, length, Option, None, Some, is_some, Result, Ok, Err, OnOk}
 use Rattle.std.specs.Io.KnownBytes.{Appends}
 use Rattle.std.specs.List.{list_any}
 use Rattle.nl_types.specs.Runs.{Run}
@@ -12,7 +12,7 @@ use Rattle.nl_commands.specs.LineMeanings.{LineRead, MeansLine}
 use Rattle.nl_commands.specs.declared.command.CheckpointRange.{CheckpointRange}
 use Rattle.nl_commands.specs.declared.command.CheckpointRange.TheVariants.{Since}
 use Rattle.nl_commands.specs.declared.command.Command.{Command}
-use Rattle.nl_commands.specs.declared.command.Command.TheVariants.{At, Lssu, Rmcp}
+use Rattle.nl_commands.specs.declared.command.Command.TheVariants.{At, Clean, Lssu, Rmcp}
 use Rattle.nl_commands.specs.declared.error.LineError.TheVariants.{Usage, Memory}
 use Rattle.nl_cpfile.specs.declared.table.Cpstat.{Cpstat}
 use Rattle.nl_sufile.specs.declared.table.Sustat.{Sustat}
@@ -20,9 +20,13 @@ use Rattle.nl_texts.specs.RefusalTexts.{refusal_text, usage_text}
 use Rattle.nl_texts.specs.SegmentLines.{seg_header, seg_texts}
 use Rattle.nl_texts.specs.Texts.{Text}
 use Rattle.nl_script.specs.Events.{events_of}
-use Rattle.nl_script.specs.ExitStatus.{status_of}
+use Rattle.nl_protect.specs.declared.config.Config.{Config}
+use Rattle.nl_script.specs.Habits.{Habits}
+use Rattle.nl_script.specs.ExitStatus.{refused_if, status_of}
 use Rattle.nl_script.specs.OutcomeTexts.{text_of}
 use Rattle.nl_script.specs.Outcomes.{is_quiet}
+use Rattle.nl_script.specs.Rounds.{IsRoundOver, round_text}
+use Rattle.nl_script.specs.declared.rounds.RoundSum.{RoundSum}
 use Rattle.nl_script.specs.declared.status.Status.{Status}
 use Rattle.nl_script.specs.declared.status.Status.TheVariants.{Fine, Refused, Misread}
 
@@ -38,17 +42,6 @@ ended moment status text = record { moment = moment; status = status; text = tex
 -- the line is refused as a whole
 abbrev pub refused : (number moment : ℕ) → VolError → LineEnd
 refused number moment error = ended moment Refused (refusal_text number None error)
-
--- what a volume does, and what it tells of itself
-pub record Habits (S : Type 0) : Type 1 where
-  pub does : S → Event → Reply → S → Type 0
-  pub tells : S → ℕ → Result SegmentInfo VolError → Type 0
-  pub counts : S → Cpstat → Type 0
-  pub measures : S → Sustat → Type 0
-
-abbrev pub habits_of : {S : Type 0} → (S → Event → Reply → S → Type 0) → (S → ℕ → Result SegmentInfo VolError → Type 0)
-    → (S → Cpstat → Type 0) → (S → Sustat → Type 0) → Habits S
-habits_of does tells counts measures = record { does = does; tells = tells; counts = counts; measures = measures }
 
 -- a range that is open to the right
 abbrev pub is_since : CheckpointRange → Bool
@@ -108,12 +101,24 @@ abbrev pub IsListingRefused : {S : Type 0} → (S → ℕ → Result SegmentInfo
 IsListingRefused tells number moment old end =
     (error : VolError) × IsUntold tells old error × (end ≡ refused number moment error)
 
+-- a round is planned and done, and all that it came to is told
+pub record IsRoundDone {S J : Type 0} (habits : Habits S J) (config : Config) (number moment : ℕ) (old new : S)
+    (end : LineEnd) : Type 0 where
+  pub job : J
+  pub planned : habits.plans old config moment job
+  pub sum : RoundSum
+  pub over : IsRoundOver habits.steps job old new sum
+  pub end_is : end ≡ ended moment (refused_if (is_some sum.refusal)) (round_text number sum)
+
 -- a command is done
-abbrev pub IsCommandDone : {S : Type 0} → Habits S → (number moment : ℕ) → Command → S → S → LineEnd → Type 0
-IsCommandDone habits number moment (At later) old new end = (new ≡ old) × (end ≡ ended later Fine [])
-IsCommandDone habits number moment (Lssu all) old new end =
-    (new ≡ old) × (AreListed habits.tells habits.measures moment all old end ⊎ IsListingRefused habits.tells number moment old end)
-IsCommandDone habits number moment command old new end =
+abbrev pub IsCommandDone : {S J : Type 0} → Habits S J → Config → (number moment : ℕ) → Command → S → S → LineEnd
+    → Type 0
+IsCommandDone habits config number moment (At later) old new end = (new ≡ old) × (end ≡ ended later Fine [])
+IsCommandDone habits config number moment (Lssu all) old new end =
+    (new ≡ old)
+    × (AreListed habits.tells habits.measures moment all old end ⊎ IsListingRefused habits.tells number moment old end)
+IsCommandDone habits config number moment Clean old new end = IsRoundDone habits config number moment old new end
+IsCommandDone habits config number moment command old new end =
     AreOutcomesTold habits.does habits.counts number moment command old new end
 
 -- memory was refused before anything was asked of the volume
@@ -121,18 +126,20 @@ abbrev pub LacksMemory : {S : Type 0} → (number moment : ℕ) → S → S → 
 LacksMemory number moment old new end = (new ≡ old) × (end ≡ refused number moment error.Memory)
 
 -- what was read is done
-abbrev pub IsReadDone : {S : Type 0} → Habits S → (number moment : ℕ) → LineRead → S → S → LineEnd → Type 0
-IsReadDone habits number moment (Err Usage) old new end = (new ≡ old) × (end ≡ ended moment Misread (usage_text number))
-IsReadDone habits number moment (Err Memory) old new end = LacksMemory number moment old new end
-IsReadDone habits number moment (Ok None) old new end = (new ≡ old) × (end ≡ ended moment Fine [])
-IsReadDone habits number moment (Ok (Some command)) old new end =
-    IsCommandDone habits number moment command old new end ⊎ LacksMemory number moment old new end
+abbrev pub IsReadDone : {S J : Type 0} → Habits S J → Config → (number moment : ℕ) → LineRead → S → S → LineEnd
+    → Type 0
+IsReadDone habits config number moment (Err Usage) old new end = (new ≡ old) × (end ≡ ended moment Misread (usage_text number))
+IsReadDone habits config number moment (Err Memory) old new end = LacksMemory number moment old new end
+IsReadDone habits config number moment (Ok None) old new end = (new ≡ old) × (end ≡ ended moment Fine [])
+IsReadDone habits config number moment (Ok (Some command)) old new end =
+    IsCommandDone habits config number moment command old new end ⊎ LacksMemory number moment old new end
 
 -- a line is done: it is read as what it means, or memory was refused
-pub record IsLineDone {S : Type 0} (habits : Habits S) (number moment : ℕ) (line : List ℕ) (old new : S) (end : LineEnd) : Type 0 where
+pub record IsLineDone {S J : Type 0} (habits : Habits S J) (config : Config) (number moment : ℕ) (line : List ℕ)
+    (old new : S) (end : LineEnd) : Type 0 where
   pub read : LineRead
   pub means : MeansLine line read
-  pub does : IsReadDone habits number moment read old new end
+  pub does : IsReadDone habits config number moment read old new end
 
 -- It is done so, with this status and the moment that stands behind it. Unless the writer failed, it got the text.
 pub record ComesTo {X E : Type 0} (Does : LineEnd → Type 0) (moment : ℕ) (result : Status × Result X E) (before after : Option Text) : Type 0 where

@@ -1,5 +1,5 @@
 -- A pen as the volume of a script.
-use Rattle.std.specs.Prelude.{◌≡◌, ◌+◌, ℕ, length, Result, slice_get}
+use Rattle.std.specs.Prelude.{◌≡◌, ◌+◌, ℕ, length, MatchOption, Option, Result, slice_get}
 use Rattle.std.specs.Option.{ok_or}
 use Rattle.nl_types.specs.Segments.{clean_segments}
 use Rattle.nl_types.specs.Worlds.{Reply}
@@ -10,8 +10,11 @@ use Rattle.nl_types.specs.declared.segment.SegmentInfo.{SegmentInfo}
 use Rattle.nl_cpfile.specs.Tables.{cpstat_of}
 use Rattle.nl_cpfile.specs.declared.table.Cpstat.{Cpstat}
 use Rattle.nl_sufile.specs.declared.table.Sustat.{Sustat}
+use Rattle.nl_protect.specs.declared.config.Config.{Config}
 use Rattle.nl_core.specs.Layout.{Does, Layout, unshared}
-use Rattle.nl_script.specs.Lines.{Habits, habits_of}
+use Rattle.nl_cleaner.specs.Job.{IsOver, JobView, Stepped}
+use Rattle.nl_cleaner.specs.Plan.{IsPlan}
+use Rattle.nl_script.specs.Habits.{Habits}
 
 -- it leads on as a pen does that no one shares
 abbrev pub pen_does : Layout → Event → Reply → Layout → Type 0
@@ -28,5 +31,21 @@ abbrev pub pen_measures : Layout → Sustat → Type 0
 pen_measures l stat = (stat.segments ≡ length l.store.segments.each)
     × (stat.clean ≡ length (clean_segments l.store.segments)) × (stat.dirty + stat.clean ≡ stat.segments)
 
-abbrev pub pen_habits : Habits Layout
-pen_habits = habits_of pen_does pen_tells pen_counts pen_measures
+-- a round is planned as the cleaner's own contract says
+abbrev pub pen_plans : Layout → Config → (moment : ℕ) → JobView → Type 0
+pen_plans l config moment job = IsPlan l config moment job
+
+-- a step leads on as the cleaner's own contract says
+abbrev pub pen_steps : Layout → JobView → Option Reply → Layout → JobView → Type 0
+pen_steps old job reply new next =
+    MatchOption reply (IsOver (job, old) (next, new)) (λ r. (event : Event) × Stepped (job, old) event r (next, new))
+
+abbrev pub pen_habits : Habits Layout JobView
+pen_habits = record {
+  does = pen_does;
+  tells = pen_tells;
+  counts = pen_counts;
+  measures = pen_measures;
+  plans = pen_plans;
+  steps = pen_steps;
+}

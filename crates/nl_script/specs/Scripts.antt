@@ -4,7 +4,9 @@ use Rattle.std.specs.Io.BufRead.{first_piece, drop_through}
 use Rattle.std.specs.Io.KnownBytes.{Appends}
 use Rattle.std.specs.List.{list_any, flat_map}
 use Rattle.nl_texts.specs.Texts.{Text}
-use Rattle.nl_script.specs.Lines.{Habits, IsLineDone, LineEnd}
+use Rattle.nl_protect.specs.declared.config.Config.{Config}
+use Rattle.nl_script.specs.Habits.{Habits}
+use Rattle.nl_script.specs.Lines.{IsLineDone, LineEnd}
 use Rattle.nl_script.specs.declared.scripts.Done.{Done}
 use Rattle.nl_script.specs.declared.status.Status.{Status}
 use Rattle.nl_script.specs.declared.status.Status.TheVariants.{Refused, Misread}
@@ -14,13 +16,14 @@ abbrev pub number_behind : (count : ℕ) → ℕ
 number_behind count = min (count + 1) (2 ^ 64 - 1)
 
 -- the lines are done one after another, behind so many others
-abbrev pub AreLinesDone : {S : Type 0} → Habits S → (count moment : ℕ) → List (List ℕ) → S → S → List LineEnd → Type 0
-AreLinesDone habits count moment [] old new [] = new ≡ old
-AreLinesDone {S = S} habits count moment (line ∷ lines) old new (end ∷ ends) =
-    (mid : S) × IsLineDone habits (number_behind count) moment line old mid end
-    × AreLinesDone habits (count + 1) end.moment lines mid new ends
-AreLinesDone habits count moment [] old new (end ∷ ends) = ⊥
-AreLinesDone habits count moment (line ∷ lines) old new [] = ⊥
+abbrev pub AreLinesDone : {S J : Type 0} → Habits S J → Config → (count moment : ℕ) → List (List ℕ) → S → S
+    → List LineEnd → Type 0
+AreLinesDone habits config count moment [] old new [] = new ≡ old
+AreLinesDone {S = S} habits config count moment (line ∷ lines) old new (end ∷ ends) =
+    (mid : S) × IsLineDone habits config (number_behind count) moment line old mid end
+    × AreLinesDone habits config (count + 1) end.moment lines mid new ends
+AreLinesDone habits config count moment [] old new (end ∷ ends) = ⊥
+AreLinesDone habits config count moment (line ∷ lines) old new [] = ⊥
 
 abbrev pub is_misread_status : Status → Bool
 is_misread_status Misread = true
@@ -55,11 +58,11 @@ abbrev pub BeginsSo : Option (List ℕ) → List (List ℕ) → Option (List ℕ
 BeginsSo input lines left = IfSome input (λ bytes. (rest : List ℕ) × (left ≡ Some rest) × BeginsWithLines bytes lines rest)
 
 -- the lines of a script so far, of which none failed
-pub record IsRunSoFar {S : Type 0} (habits : Habits S) (moment : ℕ) (old now : S) (done : Done) (number : ℕ)
-    (input left before after : Option (List ℕ)) : Type 0 where
+pub record IsRunSoFar {S J : Type 0} (habits : Habits S J) (config : Config) (moment : ℕ) (old now : S) (done : Done)
+    (number : ℕ) (input left before after : Option (List ℕ)) : Type 0 where
   pub lines : List (List ℕ)
   pub ends : List LineEnd
-  pub are_done : AreLinesDone habits 0 moment lines old now ends
+  pub are_done : AreLinesDone habits config 0 moment lines old now ends
   pub number_is : number ≡ min (length lines) (2 ^ 64 - 1)
   pub moment_is : done.moment ≡ last_moment moment ends
   pub misread_is : done.misread ≡ list_any is_misread ends
@@ -67,12 +70,13 @@ pub record IsRunSoFar {S : Type 0} (habits : Habits S) (moment : ℕ) (old now :
   pub written : Appends before after (flat_map text_of_line ends)
   pub read : BeginsSo input lines left
 
--- What came of a script. Each flag is given by one of the lines. Unless a stream failed, they are all lines of the input, and all of their texts are written.
-pub record IsScriptDone {S : Type 0} (habits : Habits S) (moment : ℕ) (old new : S) (done : Done)
+-- What came of a script. Each flag is given by one of the lines. Unless a stream failed, they are all lines of the input,
+-- and all of their texts are written.
+pub record IsScriptDone {S J : Type 0} (habits : Habits S J) (config : Config) (moment : ℕ) (old new : S) (done : Done)
     (input before after : Option (List ℕ)) : Type 0 where
   pub lines : List (List ℕ)
   pub ends : List LineEnd
-  pub are_done : AreLinesDone habits 0 moment lines old new ends
+  pub are_done : AreLinesDone habits config 0 moment lines old new ends
   pub moment_is : done.moment ≡ last_moment moment ends
   pub misread_is : done.misread ≡ list_any is_misread ends
   pub refused_is : done.refused ≡ list_any is_refused ends
@@ -80,10 +84,10 @@ pub record IsScriptDone {S : Type 0} (habits : Habits S) (moment : ℕ) (old new
   pub read : IfSome input (λ bytes. (rest : List ℕ) × BeginsWithLines bytes lines rest × (done.failed ≡ false → rest ≡ []))
 
 -- a line is done and counted; where the script goes on, no stream failed
-pub record IsLineCounted {S : Type 0} (habits : Habits S) (number : ℕ) (line : List ℕ) (before_done after_done : Done)
-    (old new : S) (goes_on : Bool) (before after : Option Text) : Type 0 where
+pub record IsLineCounted {S J : Type 0} (habits : Habits S J) (config : Config) (number : ℕ) (line : List ℕ)
+    (before_done after_done : Done) (old new : S) (goes_on : Bool) (before after : Option Text) : Type 0 where
   pub end : LineEnd
-  pub does : IsLineDone habits number before_done.moment line old new end
+  pub does : IsLineDone habits config number before_done.moment line old new end
   pub moment_is : after_done.moment ≡ end.moment
   pub misread_is : after_done.misread ≡ (before_done.misread || is_misread end)
   pub refused_is : after_done.refused ≡ (before_done.refused || is_refused end)

@@ -16,6 +16,8 @@ use Rattle.nl_arguments.specs.declared.asked.ArgumentsFault.{ArgumentsFault}
 use Rattle.nl_texts.specs.Texts.{Text}
 use Rattle.nl_texts.specs.declared.refusals.StartStep.{StartStep}
 use Rattle.nl_texts.specs.declared.refusals.StartStep.TheVariants as step
+use Rattle.nl_protect.specs.declared.config.Config.{Config}
+use Rattle.nl_script.specs.Configurations.{ConfigurationRead, IsConfigured}
 use Rattle.nl_script.specs.Pens.{pen_habits}
 use Rattle.nl_script.specs.Scripts.{IsScriptDone, exit_status}
 use Rattle.nl_script.specs.declared.scripts.Done.{Done}
@@ -27,32 +29,33 @@ pub record IsNewVolume (geometry : Geometry) (l : Layout) : Type 0 where
   pub is_formatted : IsFormatted geometry pages failures 0 l
   pub means : MeansWorld l (formatted 0)
 
--- a script is done on a volume, from moment 0 on
-pub record IsScriptRun (input before : Option Text) (old : Layout) (done : Done) : Type 0 where
+-- a script is done on a volume, from moment 0 on, with rounds by this configuration
+pub record IsScriptRun (config : Config) (input before : Option Text) (old : Layout) (done : Done) : Type 0 where
   pub new : Layout
   pub after : Option Text
-  pub does : IsScriptDone pen_habits 0 old new done input before after
+  pub does : IsScriptDone pen_habits config 0 old new done input before after
 
-pub record RunsOnNew (geometry : Geometry) (input before : Option Text) (done : Done) : Type 0 where
+pub record RunsOnNew (geometry : Geometry) (config : Config) (input before : Option Text) (done : Done) : Type 0 where
   pub volume : Layout
   pub is_new : IsNewVolume geometry volume
-  pub runs : IsScriptRun input before volume done
+  pub runs : IsScriptRun config input before volume done
 
 -- the script is done on a new volume of what was asked for, which is within the limits
-pub record IsRunOf (arguments : Arguments) (input before : Option Text) (status : ℕ) : Type 0 where
+pub record IsRunOf (arguments : Arguments) (config : Config) (input before : Option Text) (status : ℕ) : Type 0 where
   pub geometry : Geometry
   pub segments : geometry.segments ≡ arguments.segments
   pub blocks : geometry.blocks ≡ arguments.blocks
   pub within : IsGeometry arguments.segments arguments.blocks
   pub done : Done
-  pub runs : RunsOnNew geometry input before done
+  pub runs : RunsOnNew geometry config input before done
   pub status_is : status ≡ exit_status done
 
 abbrev pub IsMemoryOrFault : VolError → Type 0
 IsMemoryOrFault error = (error ≡ Memory) ⊎ (error ≡ Fault)
 
--- why a step before the first line is refused: the geometry is judged first, and then the volume is made
+-- why a step is refused behind the configuration and before the first line: the geometry is judged, and then the volume is made
 abbrev pub IsStartRefused : Arguments → StartStep → VolError → Type 0
+IsStartRefused arguments step.Configuration error = ⊥
 IsStartRefused arguments step.Geometry error = (IsGeometry arguments.segments arguments.blocks → ⊥) × (error ≡ BadGeometry)
 IsStartRefused arguments step.Start error = IsGeometry arguments.segments arguments.blocks × IsMemoryOrFault error
 
@@ -64,9 +67,21 @@ pub record IsRefusedBefore (arguments : Arguments) (status : ℕ) : Type 0 where
   pub status_is : status ≡ 1
 
 -- the script is done, and no word is said of errors, or a step before its first line is refused
-abbrev pub RunsOrRefuses : {E : Type 0} → Arguments → (input before : Option Text) → (errors told : E) → (status : ℕ) → Type 0
-RunsOrRefuses arguments input before errors told status =
-    (IsRunOf arguments input before status × (told ≡ errors)) ⊎ IsRefusedBefore arguments status
+abbrev pub RunsWith : {E : Type 0} → Arguments → Config → (input before : Option Text) → (errors told : E) → (status : ℕ) → Type 0
+RunsWith arguments config input before errors told status =
+    (IsRunOf arguments config input before status × (told ≡ errors)) ⊎ IsRefusedBefore arguments status
+
+-- the same where there is a configuration; where there is none, no line is done
+abbrev pub RunsIfRead : {E : Type 0} → ConfigurationRead → Arguments → (input before : Option Text) → (errors told : E)
+    → (status : ℕ) → Type 0
+RunsIfRead (Ok config) arguments input before errors told status = RunsWith arguments config input before errors told status
+RunsIfRead (Err fault) arguments input before errors told status = status ≡ 1
+
+-- the configuration is read first
+pub record RunsOrRefuses {E : Type 0} (arguments : Arguments) (input before : Option Text) (errors told : E) (status : ℕ) : Type 0 where
+  pub read : ConfigurationRead
+  pub is_read : IsConfigured arguments.configuration read
+  pub runs : RunsIfRead read arguments input before errors told status
 
 -- a text that was asked for is told, or a stream failed
 abbrev pub Comes : {E : Type 0} → Result Asked ArgumentsFault → (input before : Option Text) → (errors told : E) → (status : ℕ) → Type 0

@@ -122,7 +122,7 @@ pub fn events_of(
     ensures { IfOk result (λ events. events.items ≡ events_of moment latest command) }
 {
     match command {
-        Command::At(_) | Command::Lssu { .. } => Ok(Vec::new(alloc)),
+        Command::At(_) | Command::Lssu { .. } | Command::Clean => Ok(Vec::new(alloc)),
         Command::Mkcp(mode) => one_event(alloc, Event::Checkpoint { mode, moment }),
         Command::Chcp(mode, numbers) => mode_changes(alloc, mode, numbers.as_slice()),
         Command::Lscp(options) => one_event(alloc, Event::Listing(options)),

@@ -1,9 +1,11 @@
 //! Scripts over a volume: each line's command becomes events, and what these came to becomes text and a status.
 #![tactic(auto)]
 
+mod configuration;
 mod events;
 mod lines;
 mod pen;
+mod rounds;
 mod running;
 mod scripts;
 mod sessions;
@@ -15,6 +17,7 @@ mod volume;
 
 pub use events::{events_of, is_quiet};
 pub use lines::{LineResult, run_line};
+pub use rounds::RoundSum;
 pub use running::run_events;
 pub use scripts::{Done, script};
 pub use sessions::session;

@@ -1,19 +1,24 @@
 //! A line of a script on a volume.
-ghost use Rattle.std.specs.Prelude.{◌≡◌, ◌⊎◌, ◌≤◌, ◌<◌, ◌^◌, ◌++◌, [], ℕ, None, length, vec_capacity, IfErr, IfOk, OnErr, OnOk};
+ghost use Rattle.std.specs.Prelude.{◌≡◌, ◌⊎◌, ◌≤◌, ◌<◌, ◌^◌, ◌++◌, [], ℕ, None, is_some, length, vec_capacity, IfErr, IfOk, OnErr, OnOk};
 ghost use Rattle.std.specs.Io.KnownBytes.{Appends};
 ghost use Rattle.std.specs.List.{list_any};
 ghost use Rattle.nl_texts.specs.RefusalTexts.{refusal_text};
 ghost use Rattle.nl_texts.specs.SegmentLines.{seg_header, seg_texts};
-ghost use Rattle.nl_script.specs.ExitStatus.{status_of};
-ghost use Rattle.nl_script.specs.Lines.{AreAllTold, AreEventsDone, AreListed, AreOutcomesTold, AreTold, ComesTo, IsCommandDone, IsLatestFor, IsLineDone, IsListingRefused, IsUntold, LacksMemory, habits_of, is_open, is_since, refused};
+ghost use Rattle.nl_script.specs.ExitStatus.{refused_if, status_of};
+ghost use Rattle.nl_script.specs.Lines.{AreAllTold, AreEventsDone, AreListed, AreOutcomesTold, AreTold, ComesTo, IsCommandDone, IsLatestFor, IsLineDone, IsListingRefused, IsRoundDone, IsUntold, LacksMemory, ended, is_open, is_since, refused};
+ghost use Rattle.nl_script.specs.Rounds.{IsRoundOver, round_text};
+ghost use Rattle.nl_script.specs.declared.rounds.RoundSum.{RoundSum};
 ghost use Rattle.nl_script.specs.OutcomeTexts.{text_of};
 
 use crate::events::{events_of, is_quiet};
+use crate::rounds::{RoundSum, run_steps, tell_round};
 use crate::running::run_events;
 use crate::status::Status;
 use crate::telling::{line_status, tell_all};
 use crate::volume::Volume;
+use nl_cleaner::Job;
 use nl_commands::{CheckpointRange, Command, LineError, read_line};
+use nl_protect::Config;
 use nl_texts as texts;
 use nl_types::{CheckpointNumber, Event, Reply, Segment, SegmentInfo, VolError};
 use std::alloc::{AllocError, Global};
@@ -62,7 +67,7 @@ fn is_open(command: &Command) -> bool
 
 /// The latest checkpoint, if the command's events depend on it.
 fn latest_for<V: Volume>(volume: &V, command: &Command) -> CheckpointNumber
-    ensures { IsLatestFor V.counts volume.now command.now result }
+    ensures { IsLatestFor V.habits.counts volume.now command.now result }
 {
     if is_open(command) {
         volume.cpstat().latest
@@ -78,7 +83,7 @@ fn do_events<V: Volume>(
     moment: u64,
     command: Command,
 ) -> Result<(Vec<Event>, Vec<Reply>), AllocError>
-    ensures done { IfOk result (λ done. AreEventsDone V.does V.counts moment command
+    ensures done { IfOk result (λ done. AreEventsDone V.habits.does V.habits.counts moment command
         done.0.items done.1.items volume.old volume.new) }
     ensures count { IfOk result (λ done. length done.0.items ≡ length done.1.items) }
     ensures err { OnErr result (volume.new ≡ volume.old) }
@@ -116,7 +121,7 @@ fn run_all<V: Volume, W: Write>(
     out: &mut W,
 ) -> LineResult
     ensures { ComesTo (λ end.
-        AreOutcomesTold V.does V.counts number moment command volume.old volume.new end
+        AreOutcomesTold V.habits.does V.habits.counts number moment command volume.old volume.new end
         ⊎ LacksMemory number moment volume.old volume.new end)
         moment result (W.contents out.old) (W.contents out.new) }
 {
@@ -138,9 +143,9 @@ fn told_infos<V: Volume>(
     requires empty { infos.items ≡ [] }
     requires room { count ≤ vec_capacity infos }
     requires small { count < 2 ^ 32 }
-    ensures told { IfOk result (λ infos. AreTold V.tells volume.now 0 infos.items) }
+    ensures told { IfOk result (λ infos. AreTold V.habits.tells volume.now 0 infos.items) }
     ensures count { IfOk result (λ infos. length infos.items ≡ count) }
-    ensures refused { IfErr result (λ error. IsUntold V.tells volume.now error) }
+    ensures refused { IfErr result (λ error. IsUntold V.habits.tells volume.now error) }
 {
     for segment in 0..count {
         let info = volume.suinfo(Segment::new(segment as u32))?;
@@ -153,10 +158,10 @@ fn told_infos<V: Volume>(
 
 /// What the volume tells of all segments.
 fn segment_infos<V: Volume>(alloc: Global, volume: &V) -> Result<Vec<SegmentInfo>, VolError>
-    ensures told { IfOk result (λ infos. AreAllTold V.tells V.measures volume.now infos.items) }
+    ensures told { IfOk result (λ infos. AreAllTold V.habits.tells V.habits.measures volume.now infos.items) }
     ensures small { IfOk result (λ infos. length infos.items ≤ 2 ^ 32) }
     ensures refused { IfErr result (λ error.
-        (error ≡ VolError.Memory) ⊎ IsUntold V.tells volume.now error) }
+        (error ≡ VolError.Memory) ⊎ IsUntold V.habits.tells volume.now error) }
 {
     let count = volume.sustat().segments;
     match Vec::with_capacity(alloc, count) {
@@ -173,8 +178,8 @@ fn list_segments<V: Volume, W: Write>(
     out: &mut W,
 ) -> LineResult
     ensures { (moment : ℕ) → ComesTo (λ end.
-        (AreListed V.tells V.measures moment all volume.now end
-        ⊎ IsListingRefused V.tells number moment volume.now end)
+        (AreListed V.habits.tells V.habits.measures moment all volume.now end
+        ⊎ IsListingRefused V.habits.tells number moment volume.now end)
         ⊎ (end ≡ refused number moment VolError.Memory))
         moment result (W.contents out.old) (W.contents out.new) }
 {
@@ -193,16 +198,58 @@ fn tell_segments<W: Write>(infos: &[SegmentInfo], all: bool, out: &mut W) -> io:
     texts::seg_lines(infos, all, out)
 }
 
+fn round_status(sum: RoundSum) -> Status
+    ensures { result ≡ refused_if (is_some sum.refusal) }
+{
+    match sum.refusal {
+        Some(_) => Status::Refused,
+        None => Status::Fine,
+    }
+}
+
+/// Does a round, and tells what it came to.
+fn run_round<V: Volume, W: Write>(volume: &mut V, job: Job, number: u64, out: &mut W) -> LineResult
+    ensures { (moment : ℕ) → ComesTo (λ end. (sum : RoundSum)
+        × IsRoundOver V.habits.steps job volume.old volume.new sum
+        × (end ≡ ended moment (refused_if (is_some sum.refusal)) (round_text number sum)))
+        moment result (W.contents out.old) (W.contents out.new) }
+{
+    let sum = run_steps(volume, job);
+    (round_status(sum), tell_round(number, sum, out))
+}
+
+/// Plans a round and does it. A plan is refused for memory alone.
+fn clean<V: Volume, W: Write>(
+    alloc: Global,
+    volume: &mut V,
+    config: &Config,
+    moment: u64,
+    number: u64,
+    out: &mut W,
+) -> LineResult
+    ensures { ComesTo (λ end.
+        IsRoundDone V.habits config.now
+        number moment volume.old volume.new end
+        ⊎ LacksMemory number moment volume.old volume.new end)
+        moment result (W.contents out.old) (W.contents out.new) }
+{
+    match volume.plan(alloc, config, moment) {
+        Ok(job) => run_round(volume, job, number, out),
+        Err(_) => refused(number, VolError::Memory, out),
+    }
+}
+
 fn run_command<V: Volume, W: Write>(
     alloc: Global,
     volume: &mut V,
+    config: &Config,
     moment: &mut u64,
     number: u64,
     command: Command,
     out: &mut W,
 ) -> LineResult
     ensures { ComesTo (λ end.
-        IsCommandDone (habits_of V.does V.tells V.counts V.measures)
+        IsCommandDone V.habits config.now
         number moment.old command volume.old volume.new end
         ⊎ LacksMemory number moment.old volume.old volume.new end)
         moment.new result (W.contents out.old) (W.contents out.new) }
@@ -213,27 +260,29 @@ fn run_command<V: Volume, W: Write>(
             (Status::Fine, Ok(()))
         }
         Command::Lssu { all } => list_segments(alloc, volume, number, all, out),
+        Command::Clean => clean(alloc, volume, config, *moment, number, out),
         command => run_all(alloc, volume, *moment, number, command, out),
     }
 }
 
-/// Runs a line, without its line break, and writes what is told of it.
+/// Runs a line, without its line break, and writes what is told of it. Rounds of cleaning go by the configuration.
 pub fn run_line<V: Volume, W: Write>(
     alloc: Global,
     volume: &mut V,
+    config: &Config,
     moment: &mut u64,
     number: u64,
     line: &[u8],
     out: &mut W,
 ) -> LineResult
     ensures { ComesTo (λ end.
-        IsLineDone (habits_of V.does V.tells V.counts V.measures)
+        IsLineDone V.habits config.now
         number moment.old line.now volume.old volume.new end)
         moment.new result (W.contents out.old) (W.contents out.new) }
 {
     match read_line(alloc, line) {
         Ok(None) => (Status::Fine, Ok(())),
-        Ok(Some(command)) => run_command(alloc, volume, moment, number, command, out),
+        Ok(Some(command)) => run_command(alloc, volume, config, moment, number, command, out),
         Err(LineError::Usage) => (Status::Misread, texts::usage_text(number, out)),
         Err(LineError::Memory) => refused(number, VolError::Memory, out),
     }

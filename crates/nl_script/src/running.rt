@@ -13,7 +13,7 @@ pub fn run_events<V: Volume>(
     events: &[Event],
 ) -> Result<Vec<Reply>, AllocError>
     ensures run { IfOk result (λ replies.
-        Run V.does volume.old events.now replies.items volume.new) }
+        Run V.habits.does volume.old events.now replies.items volume.new) }
     ensures count { IfOk result (λ replies. length events.now ≡ length replies.items) }
     ensures err { OnErr result (volume.new ≡ volume.old) }
 {

@@ -1,11 +1,12 @@
 //! A script on a volume: its lines, one after another.
 ghost use Rattle.std.specs.Prelude.{◌≡◌, ◌||◌};
-ghost use Rattle.nl_script.specs.Lines.{ComesTo, IsLineDone, habits_of};
+ghost use Rattle.nl_script.specs.Lines.{ComesTo, IsLineDone};
 ghost use Rattle.nl_script.specs.Scripts.{IsLineCounted, IsScriptDone, exit_status, is_misread_status, is_refused_status};
 
 use crate::lines::{LineResult, run_line};
 use crate::status::Status;
 use crate::volume::Volume;
+use nl_protect::Config;
 use std::alloc::Global;
 use std::io::{BufRead, Write};
 
@@ -54,17 +55,18 @@ impl Done {
 fn run_flushed<V: Volume, W: Write>(
     alloc: Global,
     volume: &mut V,
+    config: &Config,
     moment: &mut u64,
     number: u64,
     line: &[u8],
     out: &mut W,
 ) -> LineResult
     ensures { ComesTo (λ end.
-        IsLineDone (habits_of V.does V.tells V.counts V.measures)
+        IsLineDone V.habits config.now
         number moment.old line.now volume.old volume.new end)
         moment.new result (W.contents out.old) (W.contents out.new) }
 {
-    match run_line(alloc, volume, moment, number, line, out) {
+    match run_line(alloc, volume, config, moment, number, line, out) {
         (status, Ok(())) => (status, out.flush()),
         failed => failed,
     }
@@ -74,17 +76,18 @@ fn run_flushed<V: Volume, W: Write>(
 fn run_counted<V: Volume, W: Write>(
     alloc: Global,
     volume: &mut V,
+    config: &Config,
     done: &mut Done,
     number: u64,
     line: &[u8],
     out: &mut W,
 ) -> bool
-    ensures { IsLineCounted (habits_of V.does V.tells V.counts V.measures)
+    ensures { IsLineCounted V.habits config.now
         number line.now done.old done.new volume.old volume.new result
         (W.contents out.old) (W.contents out.new) }
 {
     let mut moment = done.moment;
-    let (status, told) = run_flushed(alloc, volume, &mut moment, number, line, out);
+    let (status, told) = run_flushed(alloc, volume, config, &mut moment, number, line, out);
     done.moment = moment;
     done.count(status);
     let goes_on = told.is_ok();
@@ -93,15 +96,16 @@ fn run_counted<V: Volume, W: Write>(
 }
 
 /// Runs the lines up to the end of the input, or until a stream fails: a line that is read in part isn't done, and what
-/// follows one that can't be told of isn't done either.
+/// follows one that can't be told of isn't done either. Rounds of cleaning go by the configuration.
 pub fn script<V: Volume, I: BufRead + Drop, O: Write>(
     alloc: Global,
     volume: &mut V,
+    config: &Config,
     moment: u64,
     input: I,
     output: &mut O,
 ) -> Done
-    ensures { IsScriptDone (habits_of V.does V.tells V.counts V.measures)
+    ensures { IsScriptDone V.habits config.now
         moment volume.old volume.new result
         (I.remaining input) (O.contents output.old) (O.contents output.new) }
 {
@@ -118,7 +122,15 @@ pub fn script<V: Volume, I: BufRead + Drop, O: Write>(
             done.failed = true;
             return done;
         };
-        if !run_counted(alloc, volume, &mut done, number, line.as_slice(), output) {
+        if !run_counted(
+            alloc,
+            volume,
+            config,
+            &mut done,
+            number,
+            line.as_slice(),
+            output,
+        ) {
             return done;
         }
     }

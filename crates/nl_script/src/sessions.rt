@@ -1,16 +1,19 @@
 //! A session of the program: the words behind its name, and then a script on a new volume in memory.
-ghost use Rattle.std.specs.Prelude.{◌≡◌, ◌≤◌, map, IfErr, IfOk, IsOkUnless};
+ghost use Rattle.std.specs.Prelude.{◌≡◌, ◌≤◌, map, option_map, IfErr, IfOk, IsOkUnless};
 ghost use Rattle.nl_arguments.specs.Statuses.{fault_status};
-ghost use Rattle.nl_script.specs.Sessions.{IsMemoryOrFault, IsNewVolume, IsScriptRun, IsSession, RunsOnNew, RunsOrRefuses};
+ghost use Rattle.nl_script.specs.Sessions.{IsMemoryOrFault, IsNewVolume, IsScriptRun, IsSession, RunsOnNew, RunsOrRefuses, RunsWith};
 
+use crate::configuration::{ConfigurationFault, configuration};
 use crate::scripts::{Done, script};
 use nl_arguments::{Arguments, ArgumentsFault, Asked, read};
 use nl_core::Pen;
 use nl_device::MemDevice;
-use nl_texts::{StartStep, start_text};
-use nl_types::{Geometry, VolError};
+use nl_protect::Config;
+use nl_texts::{StartStep, start_text, unread_text};
+use nl_types::{Geometry, Items, VolError};
 use std::alloc::Global;
 use std::io::{BufReader, BufWriter, Read, Write};
+use std::rt::Files;
 
 /// When the volume is formatted, and the moment of the first lines, in whole seconds.
 const MOMENT: u64 = 0;
@@ -28,31 +31,33 @@ fn new_volume(alloc: Global, geometry: Geometry) -> Result<Pen<MemDevice>, VolEr
 fn run_on<I: Read + Drop, O: Write + Drop>(
     alloc: Global,
     pen: &mut Pen<MemDevice>,
+    config: &Config,
     input: I,
     output: O,
 ) -> Result<Done, VolError>
     ensures run { IfOk result (λ done.
-        IsScriptRun (I.remaining input) (O.contents output) pen.old done) }
+        IsScriptRun config.now (I.remaining input) (O.contents output) pen.old done) }
     ensures refused { IsOkUnless result VolError.Memory }
 {
     let input = BufReader::new(alloc, input).map_err(|_| VolError::Memory)?;
     let mut output = BufWriter::new(alloc, output).map_err(|_| VolError::Memory)?;
-    Ok(script(alloc, pen, MOMENT, input, &mut output))
+    Ok(script(alloc, pen, config, MOMENT, input, &mut output))
 }
 
 /// Runs the script on a new volume. Refused, no line was run.
 fn run_script<I: Read + Drop, O: Write + Drop>(
     alloc: Global,
     geometry: Geometry,
+    config: &Config,
     input: I,
     output: O,
 ) -> Result<Done, VolError>
     ensures run { IfOk result (λ done.
-        RunsOnNew geometry (I.remaining input) (O.contents output) done) }
+        RunsOnNew geometry config.now (I.remaining input) (O.contents output) done) }
     ensures refused { IfErr result IsMemoryOrFault }
 {
     let mut pen = new_volume(alloc, geometry)?;
-    run_on(alloc, &mut pen, input, output)
+    run_on(alloc, &mut pen, config, input, output)
 }
 
 /// Tells of a refusal before the first line, and answers the status for it.
@@ -86,30 +91,72 @@ fn misread<E: Write>(fault: &ArgumentsFault, errors: &mut E) -> u8
     fault.status()
 }
 
-fn run<I: Read + Drop, O: Write + Drop, E: Write>(
+/// Tells why there is no configuration, and answers the status for it.
+fn unconfigured<E: Write>(path: &[u8], fault: ConfigurationFault, errors: &mut E) -> u8
+    ensures { result ≡ 1 }
+{
+    match fault {
+        ConfigurationFault::Unread => {
+            // Where this can't be told either, the status still says that something was refused.
+            let _ = unread_text(path, errors);
+            1
+        }
+        ConfigurationFault::Refused(VolError::Memory) => {
+            refused(StartStep::Start, VolError::Memory, errors)
+        }
+        ConfigurationFault::Refused(error) => refused(StartStep::Configuration, error, errors),
+    }
+}
+
+fn run_with<I: Read + Drop, O: Write + Drop, E: Write>(
     alloc: Global,
-    arguments: Arguments,
+    arguments: &Arguments,
+    config: &Config,
     input: I,
     output: O,
     errors: &mut E,
 ) -> u8
-    ensures { RunsOrRefuses arguments (I.remaining input) (O.contents output)
+    ensures { RunsWith arguments.now config.now (I.remaining input) (O.contents output)
         errors.old errors.new result }
 {
     let geometry = match arguments.geometry() {
         Ok(geometry) => geometry,
         Err(error) => return refused(StartStep::Geometry, error, errors),
     };
-    match run_script(alloc, geometry, input, output) {
+    match run_script(alloc, geometry, config, input, output) {
         Ok(done) => done.exit_status(),
         Err(error) => refused(StartStep::Start, error, errors),
     }
 }
 
+fn path_of(arguments: &Arguments) -> Option<&[u8]>
+    ensures { option_map (λ p. p.now) result ≡ arguments.now.configuration }
+{
+    arguments.configuration.as_ref().map(Items::as_slice)
+}
+
+/// The configuration is read before anything else is judged.
+fn run<R: AllocGlobal + Files, I: Read + Drop, O: Write + Drop, E: Write>(
+    rt: &R,
+    arguments: &Arguments,
+    input: I,
+    output: O,
+    errors: &mut E,
+) -> u8
+    ensures { RunsOrRefuses arguments.now (I.remaining input) (O.contents output)
+        errors.old errors.new result }
+{
+    let path = path_of(arguments);
+    match configuration(rt, path) {
+        Ok(config) => run_with(rt.alloc(), arguments, &config, input, output, errors),
+        Err(fault) => unconfigured(path.unwrap_or_default(), fault, errors),
+    }
+}
+
 /// What the words behind the program's name ask for: a script on a new volume in memory, or a text about the program.
-/// Answers the exit status: 2 where the words or a line were no command, else 1 where anything was refused or a stream
-/// failed, else 0. What the lines answer goes to the output, and to `errors` only why no line was run.
-pub fn session<R: AllocGlobal, I: Read + Drop, O: Write + Drop, E: Write>(
+/// Answers the exit status: 2 where the words or a line were no command, else 1 where anything was refused, or a stream or
+/// the configuration's file failed, else 0. What the lines answer goes to the output, and to `errors` only why no line was run.
+pub fn session<R: AllocGlobal + Files, I: Read + Drop, O: Write + Drop, E: Write>(
     rt: &R,
     words: &[&str],
     input: I,
@@ -120,7 +167,7 @@ pub fn session<R: AllocGlobal, I: Read + Drop, O: Write + Drop, E: Write>(
         (I.remaining input) (O.contents output) errors.old errors.new result }
 {
     match read(rt.alloc(), words) {
-        Ok(Asked::Run(arguments)) => run(rt.alloc(), arguments, input, output, errors),
+        Ok(Asked::Run(arguments)) => run(rt, &arguments, input, output, errors),
         Ok(Asked::Help(text) | Asked::Version(text)) => told(text.as_str(), output),
         Err(fault) => misread(&fault, errors),
     }

@@ -1,8 +1,11 @@
 //! A script over a volume that answers from a list.
 use crate::{Done, Volume, script};
+use nl_cleaner::Job;
 use nl_cpfile::Cpstat;
+use nl_protect::Config;
 use nl_sufile::Sustat;
 use nl_types::{Answer, CheckpointNumber, Event, Reply, Segment, SegmentInfo, VolError};
+use std::alloc::Global;
 use std::process::Abort;
 
 /// Does nothing, but counts the checkpoints that it is asked for. It keeps none to remove.
@@ -12,13 +15,14 @@ struct Counting {
 }
 
 impl Volume for Counting {
-    ghost does = { λ old event reply new. Unit {0} };
-
-    ghost tells = { λ old segment result. Unit {0} };
-
-    ghost counts = { λ old stat. Unit {0} };
-
-    ghost measures = { λ old stat. Unit {0} };
+    ghost habits = { record {
+      does = λ old event reply new. Unit {0};
+      tells = λ old segment result. Unit {0};
+      counts = λ old stat. Unit {0};
+      measures = λ old stat. Unit {0};
+      plans = λ old config moment job. Unit {0};
+      steps = λ old job reply new next. Unit {0};
+    } };
 
     fn apply(&mut self, event: &Event) -> Reply {
         match event {
@@ -51,6 +55,14 @@ impl Volume for Counting {
             snapshots: 0,
         }
     }
+
+    fn plan(&self, _: Global, _: &Config, _: u64) -> Result<Job, VolError> {
+        Err(VolError::Memory)
+    }
+
+    fn clean_step(&mut self, _: &mut Job) -> Option<Reply> {
+        None
+    }
 }
 
 #[test]
@@ -58,10 +70,12 @@ fn a_script_is_told_of_line_by_line(rt: HostRuntime) {
     let alloc = rt.alloc();
     let mut volume = Counting { latest: 1 };
     let mut output = Vec::new(alloc);
-    let input = b"at 5\nmkcp\nrmcp 7\nrmcp -f 7\nrmcp 1..\nmkdir\n# no command\nlssu -a".as_slice();
-    let done = script(alloc, &mut volume, 0, input, &mut output);
+    let input =
+        b"at 5\nmkcp\nrmcp 7\nrmcp -f 7\nrmcp 1..\nmkdir\n# no command\nlssu -a\nclean".as_slice();
+    let config = Config::standard();
+    let done = script(alloc, &mut volume, &config, 0, input, &mut output);
     let expected =
-        b"2\n3: 7: error 10 NoCheckpoint\n5: error 14 Latest\n6: usage\n  SEGNUM       MOMENT STAT  NBLOCKS\n       0            0 ---         0\n";
+        b"2\n3: 7: error 10 NoCheckpoint\n5: error 14 Latest\n6: usage\n  SEGNUM       MOMENT STAT  NBLOCKS\n       0            0 ---         0\n9: error 18 Memory\n";
     assert!(rt; output.as_slice() == expected.as_slice());
     assert!(rt; done.moment == 5 && done.misread && done.refused && !done.failed);
 }

@@ -32,6 +32,8 @@ mod numbers;
 #[cfg(test)]
 mod rows;
 #[cfg(test)]
+mod segments;
+#[cfg(test)]
 mod streams;
 #[cfg(test)]
 mod trees;

@@ -1,5 +1,5 @@
 //! The calls after libnilfs on a pen, with ample memory.
-use crate::events::{Call, Told, Want, row_of};
+use crate::events::{ALL, Call, Told, Want, row_of};
 use crate::logs::{NONE_FAILS, Shape};
 use crate::rows::first_unwanted;
 use crate::volumes::{Entry, entry_of, volume};
@@ -10,8 +10,8 @@ use nl_dat::Bdesc;
 use nl_device::Device;
 use nl_layout::Level;
 use nl_lib::{
-    change_cpmode, delete_checkpoint, get_bdescs, get_cpinfo, get_cpstat, get_suinfo, get_sustat,
-    get_vinfo, sync,
+    Cleaned, change_cpmode, clean_segments, delete_checkpoint, get_bdescs, get_cpinfo, get_cpstat,
+    get_suinfo, get_sustat, get_vinfo, sync,
 };
 use nl_sufile::Sustat;
 use nl_types::{
@@ -30,6 +30,8 @@ enum Step<'a> {
     Sync(u64, Result<u64, VolError>),
     ChangeMode(u64, Mode, Result<(), VolError>),
     Delete(u64, Result<(), VolError>),
+    /// A cleaning of two segments at a moment: how many it retires, and the refusal that ends it.
+    Clean(u32, u32, u64, usize, Option<VolError>),
     /// What is told of a checkpoint.
     Checkpoint(u64, Result<Told, VolError>),
     /// The latest number, how many are kept, and how many of them are snapshots.
@@ -128,6 +130,10 @@ fn comes_out<D: Device>(alloc: Global, pen: &mut Pen<D>, step: Step<'_>) -> Resu
             change_cpmode(pen, CheckpointNumber::new(number), mode) == due
         }
         Step::Delete(number, due) => delete_checkpoint(pen, CheckpointNumber::new(number)) == due,
+        Step::Clean(first, second, moment, retired, refusal) => {
+            let segments = [Segment::new(first), Segment::new(second)];
+            clean_segments(pen, &segments, moment) == Cleaned { retired, refusal }
+        }
         look => finds(alloc, pen, look),
     })
 }
@@ -155,6 +161,8 @@ const WRITE_A: Step<'static> = Step::Does(Call::Write(b"/f", 0, b"A"), Want::Wri
 const WRITE_B: Step<'static> = Step::Does(Call::Write(b"/f", 0, b"B"), Want::Written(1));
 
 const WRITE_C: Step<'static> = Step::Does(Call::Write(b"/f", 0, b"C"), Want::Written(1));
+
+const WRITE_D: Step<'static> = Step::Does(Call::Write(b"/f", 0, b"D"), Want::Written(1));
 
 /// On 16 segments of 4 blocks, which take 3 blocks behind a summary, or 1 and 1 behind two. A byte is written over another
 /// twice. The format has the block of inodes and its node, of numbers 1 and 2. Checkpoint 2 adds the directory's block and
@@ -255,10 +263,47 @@ const DEAD: &[Step<'static>] = &[
     ),
 ];
 
+/// On 16 segments of 8 blocks. A byte is written over another twice, and the first content is kept by a snapshot. What is
+/// needed is moved out of the first two segments, in the order of the blocks, to segment 3 and then to segment 0, which is
+/// clean by then. The next checkpoint has numbers 1, 2, 10 and 11, which are free again, behind the last one moved.
+const CLEANED: &[Step<'static>] = &[
+    CREATE,
+    WRITE_A,
+    Step::Does(Call::CheckpointAt(Snapshot, 10), Want::Checkpoint(2)),
+    Step::Does(Call::Mount(2), Want::Mount(1)),
+    WRITE_B,
+    Step::Sync(20, Ok(3)),
+    WRITE_C,
+    Step::Sync(30, Ok(4)),
+    Step::Does(Call::Expire(40, 0), Want::Expired(&[1, 3])),
+    Step::Clean(0, 1, 40, 2, None),
+    Step::Segment(0, Ok((Active, 40, 2))),
+    Step::Segment(1, Ok((Clean, 0, 0))),
+    Step::Segment(2, Ok((Dirty, 30, 7))),
+    Step::Segment(3, Ok((Dirty, 40, 8))),
+    WRITE_D,
+    Step::Sync(50, Ok(5)),
+    Step::Number(1, Ok(Some((3, 5, 0)))),
+    Step::Number(2, Ok(Some((4, 5, 0)))),
+    Step::Number(5, Ok(Some((27, 2, 3)))),
+    Step::Number(10, Ok(Some((5, 5, 0)))),
+    Step::Number(11, Ok(Some((6, 5, 0)))),
+    Step::Does(Call::ReadMount(1, b"/f", 0, ALL), Want::Bytes(b"A")),
+    Step::Does(Call::Read(b"/f", 0, ALL), Want::Bytes(b"D")),
+    Step::Clean(16, 3, 60, 0, Some(VolError::BadRange)),
+    Step::Clean(3, 4, 60, 1, Some(VolError::SegClean)),
+    Step::Number(5, Ok(Some((11, 2, 3)))),
+    Step::Does(Call::ReadMount(1, b"/f", 0, ALL), Want::Bytes(b"A")),
+];
+
 /// Steps on a new volume of a shape.
 type Case = (Shape, &'static [Step<'static>]);
 
-const CASES: &[Case] = &[((16, 4, NONE_FAILS), OVERWRITTEN), ((16, 8, 8), DEAD)];
+const CASES: &[Case] = &[
+    ((16, 4, NONE_FAILS), OVERWRITTEN),
+    ((16, 8, 8), DEAD),
+    ((16, 8, NONE_FAILS), CLEANED),
+];
 
 fn cases() -> &'static [Case] {
     CASES

@@ -32,6 +32,7 @@ const LINES: &[(&[u8], Kind)] = &[
     (b"lscp -r -s -a -i 4 -n 2", Command),
     (b"rmcp -f 1 2..3 ..4 5..", Command),
     (b"lssu -a", Command),
+    (b"clean", Command),
     (b"mount 2", Command),
     (b"umount 1", Command),
     (b"create /f", Command),
@@ -55,6 +56,7 @@ const LINES: &[(&[u8], Kind)] = &[
     (b"create \"/f", Usage),
     (b"Mkcp", Usage),
     (b"mkcp -", Usage),
+    (b"clean 1", Usage),
     (b"rmcp ..", Usage),
     (b"write /f 0 \"-x\"", Usage),
 ];

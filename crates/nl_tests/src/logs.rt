@@ -1,5 +1,5 @@
 //! Logs in 8 segments, mostly of 4 blocks: where appends go, what they leave when they are refused, and what the device has.
-use nl_device::{FaultyDevice, MemDevice};
+use nl_device::{Failing, FaultyDevice, MemDevice};
 use nl_layout::{Level, Summary, Tag};
 use nl_segwriter::{LogSpace, Payload, Space};
 use nl_sufile::SegTable;
@@ -237,7 +237,7 @@ pub(crate) const NONE_FAILS: u64 = u64::MAX;
 pub(crate) fn space(alloc: Global, shape: Shape) -> Result<LogSpace<FaultyDevice>, VolError> {
     let (segments, blocks, puts) = shape;
     let geometry = Geometry::new(segments, blocks)?;
-    let device = FaultyDevice::new(MemDevice::new(alloc, geometry)?, puts);
+    let device = FaultyDevice::new(MemDevice::new(alloc, geometry)?, Failing::Put, puts);
     LogSpace::new(alloc, device, geometry)
 }
 

@@ -1,6 +1,7 @@
 //! How a session ends where a stream fails, and that it begins at all. What it prints is shown by the scripts of tests/rows.
 use nl_script::session;
 use std::io::{self, ErrorKind, Read, Write};
+use std::rt::Files;
 
 /// Gives its bytes, at most so many at a call, and then may fail.
 #[derive(Drop)]
@@ -100,7 +101,7 @@ const ROWS: [Row; 21] = [
 ];
 
 /// Whether a row comes to what is due, with no word of errors, where its reader gives at most so many bytes at a call.
-fn ends<R: AllocGlobal>(rt: &R, row: &Row, most: usize) -> bool {
+fn ends<R: AllocGlobal + Files>(rt: &R, row: &Row, most: usize) -> bool {
     let (failing, script, printed, status) = *row;
     let (mut output, mut errors) = (Vec::new(rt.alloc()), Vec::new(rt.alloc()));
     let giving = Giving {
@@ -118,7 +119,7 @@ fn ends<R: AllocGlobal>(rt: &R, row: &Row, most: usize) -> bool {
 }
 
 /// The first row that comes to something else.
-fn first_other<R: AllocGlobal>(rt: &R, most: usize) -> Option<usize> {
+fn first_other<R: AllocGlobal + Files>(rt: &R, most: usize) -> Option<usize> {
     for (k, row) in ROWS.iter().enumerate() {
         if !ends(rt, row, most) {
             return Some(k);

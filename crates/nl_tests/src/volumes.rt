@@ -7,7 +7,7 @@ use crate::logs::{NONE_FAILS, Shape};
 use crate::rows::first_unwanted;
 use nl_core::Pen;
 use nl_dat::DatEntry;
-use nl_device::{Device, FaultyDevice, MemDevice};
+use nl_device::{Device, Failing, FaultyDevice, MemDevice};
 use nl_types::{BlockNumber, CheckpointNumber, Geometry, Stat, VirtualNumber, VolError};
 use std::alloc::Global;
 use std::test::Fail;
@@ -15,7 +15,7 @@ use std::test::Fail;
 pub(crate) fn volume(alloc: Global, shape: Shape) -> Result<Pen<FaultyDevice>, VolError> {
     let (segments, blocks, puts) = shape;
     let geometry = Geometry::new(segments, blocks)?;
-    let device = FaultyDevice::new(MemDevice::new(alloc, geometry)?, puts);
+    let device = FaultyDevice::new(MemDevice::new(alloc, geometry)?, Failing::Put, puts);
     Pen::format(alloc, device, geometry, 0)
 }
 

@@ -19,6 +19,12 @@ abbrev pub stat_text : Stat → Text
 stat_text (File size) = codes "file " ++ (decimal size ++ (10 ∷ []))
 stat_text (Dir count) = codes "dir " ++ (decimal count ++ (10 ∷ []))
 
+-- a round of cleaning: checkpoints, blocks and segments
+abbrev pub clean_text : (expired moved freed : ℕ) → Text
+clean_text expired moved freed =
+    codes "expired " ++ (decimal expired ++ (codes " moved " ++ (decimal moved
+    ++ (codes " freed " ++ (decimal freed ++ (10 ∷ []))))))
+
 -- what follows a name: a directory's has a slash
 abbrev pub name_end : Kind → Text
 name_end kind.File = 10 ∷ []

@@ -1,12 +1,12 @@
 -- What is printed where a line is refused, or is no command.
-use Rattle.std.specs.Prelude.{ℕ, [], ◌∷◌, ◌++◌, codes, Option, None, Some}
+use Rattle.std.specs.Prelude.{ℕ, List, [], ◌∷◌, ◌++◌, codes, Option, None, Some}
 use Rattle.std.specs.Fmt.{decimal}
 use Rattle.nl_types.specs.Refusals.{refusal_number, name_of}
 use Rattle.nl_types.specs.declared.error.VolError.{VolError}
 use Rattle.nl_types.specs.declared.error.VolError.TheVariants.{BadImage, BadConfig}
 use Rattle.nl_texts.specs.Texts.{Text}
 use Rattle.nl_texts.specs.declared.refusals.StartStep.{StartStep}
-use Rattle.nl_texts.specs.declared.refusals.StartStep.TheVariants.{Geometry, Start}
+use Rattle.nl_texts.specs.declared.refusals.StartStep.TheVariants.{Configuration, Geometry, Start}
 
 -- the line of the script, and which of its numbers, where one alone was refused
 abbrev pub place_text : (line : ℕ) → Option ℕ → Text
@@ -35,9 +35,13 @@ abbrev pub usage_text : (line : ℕ) → Text
 usage_text line = decimal line ++ (codes ": usage" ++ (10 ∷ []))
 
 abbrev pub step_text : StartStep → Text
+step_text Configuration = codes "conf: "
 step_text Geometry = codes "geometry: "
 step_text Start = codes "start: "
 
 -- what comes before the first line was refused
 abbrev pub start_text : StartStep → VolError → Text
-start_text step error = step_text step ++ (kind_text error ++ (10 ∷ []))
+start_text step error = step_text step ++ (kind_text error ++ (detail_text (detail_of error) ++ (10 ∷ [])))
+
+abbrev pub unread_text : (path : List ℕ) → Text
+unread_text path = path ++ (codes ": cannot be read" ++ (10 ∷ []))

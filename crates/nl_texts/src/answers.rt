@@ -1,7 +1,7 @@
 //! Answers to a line of the script.
 ghost use Rattle.std.specs.Prelude.{◌≡◌, OnOk};
 ghost use Rattle.std.specs.Io.KnownBytes.{Appends};
-ghost use Rattle.nl_texts.specs.AnswerTexts.{number_text, content_text, stat_text, name_end, name_text, name_texts};
+ghost use Rattle.nl_texts.specs.AnswerTexts.{clean_text, number_text, content_text, stat_text, name_end, name_text, name_texts};
 
 use nl_types::{Kind, Named, Stat};
 use std::io;
@@ -32,6 +32,15 @@ pub fn stat_text<W: Write>(stat: Stat, out: &mut W) -> io::Result<()>
         Stat::File(size) => writeln!(out, "file {size}"),
         Stat::Dir(count) => writeln!(out, "dir {count}"),
     }
+}
+
+/// Writes what a round of cleaning came to: how many checkpoints expired, how many blocks it moved, and how many segments it
+/// freed.
+pub fn clean_line<W: Write>(expired: u64, moved: u64, freed: u64, out: &mut W) -> io::Result<()>
+    ensures { OnOk result (Appends (W.contents out.old) (W.contents out.new)
+        (clean_text expired moved freed)) }
+{
+    writeln!(out, "expired {expired} moved {moved} freed {freed}")
 }
 
 fn name_end(kind: Kind) -> &'static [u8]

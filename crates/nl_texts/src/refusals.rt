@@ -1,7 +1,7 @@
 //! Refusals, and lines that are no command.
 ghost use Rattle.std.specs.Prelude.{◌≡◌, OnOk};
 ghost use Rattle.std.specs.Io.KnownBytes.{Appends};
-ghost use Rattle.nl_texts.specs.RefusalTexts.{place_text, kind_text, detail_of, detail_text, refusal_text, start_text, step_text, usage_text};
+ghost use Rattle.nl_texts.specs.RefusalTexts.{place_text, kind_text, detail_of, detail_text, refusal_text, start_text, step_text, unread_text, usage_text};
 
 use nl_types::VolError;
 use std::io;
@@ -70,6 +70,8 @@ pub fn usage_text<W: Write>(line: u64, out: &mut W) -> io::Result<()>
 /// What the program does before the first line.
 #[derive(Clone, Copy, Debug, PartialEq, Eq)]
 pub enum StartStep {
+    /// It reads the configuration.
+    Configuration,
     /// It judges the geometry.
     Geometry,
     /// It makes the volume, and takes the memory for it and for its streams.
@@ -80,6 +82,7 @@ fn step(step: StartStep) -> &'static [u8]
     ensures { result.now ≡ step_text step }
 {
     match step {
+        StartStep::Configuration => b"conf: ",
         StartStep::Geometry => b"geometry: ",
         StartStep::Start => b"start: ",
     }
@@ -92,5 +95,15 @@ pub fn start_text<W: Write>(what: StartStep, error: VolError, out: &mut W) -> io
 {
     out.write_all(step(what))?;
     kind(error, out)?;
+    detail(detail_of(error), out)?;
     out.write_all(b"\n")
+}
+
+/// Writes that a file can't be read.
+pub fn unread_text<W: Write>(path: &[u8], out: &mut W) -> io::Result<()>
+    ensures { OnOk result (Appends (W.contents out.old) (W.contents out.new)
+        (unread_text path.now)) }
+{
+    out.write_all(path)?;
+    out.write_all(b": cannot be read\n")
 }

@@ -1,4 +1,4 @@
-//! Runs a script of file calls, checkpoints and mounts on a volume in memory.
+//! Runs a script of file calls, checkpoints, mounts and rounds of cleaning on a volume in memory.
 #![tactic(auto)]
 
 use nl_script::session;

@@ -7,5 +7,5 @@ abbrev pub invariant-loop-segment : goal.invariant-loop-segment
 invariant-loop-segment g l = record {
   counted : vec_len l.infos ≡ l.segment;
   room : l.count ≤ vec_capacity l.infos;
-  so_far : AreTold g.V.Volume.tells l.volume 0 l.infos.items;
+  so_far : AreTold g.V.Volume.habits.tells l.volume 0 l.infos.items;
 }

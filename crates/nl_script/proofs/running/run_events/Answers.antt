@@ -19,8 +19,8 @@ loop-event-preserved g c =
     record {
       count = grind (arith, common_steps);
       room = omega (arith, c.loop-event.invariant.room, c.push.ensures.capacity);
-      so_far = subst (λ (es : List Event). Run g.V.Volume.does old es c.push.new.self.items now) (sym next)
-          (subst (λ (rs : List Reply). Run g.V.Volume.does old (take i events ++ c.event-item.result ∷ []) rs now) (sym pushed)
-          (Run-more g.V.Volume.does old c.loop-event.volume now (take i events) c.loop-event.replies.items c.event-item.result
+      so_far = subst (λ (es : List Event). Run g.V.Volume.habits.does old es c.push.new.self.items now) (sym next)
+          (subst (λ (rs : List Reply). Run g.V.Volume.habits.does old (take i events ++ c.event-item.result ∷ []) rs now) (sym pushed)
+          (Run-more g.V.Volume.habits.does old c.loop-event.volume now (take i events) c.loop-event.replies.items c.event-item.result
           c.apply-reply.result c.loop-event.invariant.so_far c.apply-reply.ensures));
     }

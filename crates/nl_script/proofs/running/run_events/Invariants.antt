@@ -7,5 +7,5 @@ abbrev pub invariant-loop-event : goal.invariant-loop-event
 invariant-loop-event g l = record {
   count : vec_len l.replies ≡ l.event-index;
   room : length l.events ≤ vec_capacity l.replies;
-  so_far : Run g.V.Volume.does l.fn.volume (take l.event-index l.events) l.replies.items l.volume;
+  so_far : Run g.V.Volume.habits.does l.fn.volume (take l.event-index l.events) l.replies.items l.volume;
 }

@@ -1,6 +1,5 @@
 use Rattle.std.proofs.Common.{◌≡◌, false}
 use Rattle.std.specs.Io.Iter.{split_byte, split_known_bytes}
-use Rattle.nl_script.specs.Lines.{habits_of}
 use Rattle.nl_script.specs.Scripts.{IsRunSoFar}
 use Rattle.nl_script.proofs.scripts.script.Given as goal
 
@@ -8,7 +7,7 @@ abbrev pub invariant-loop-line : goal.invariant-loop-line
 invariant-loop-line g l = record {
   splits : split_byte l.line-iterator ≡ 10;
   fine : l.done.failed ≡ false;
-  so_far : IsRunSoFar (habits_of g.V.Volume.does g.V.Volume.tells g.V.Volume.counts g.V.Volume.measures) l.fn.moment l.fn.volume l.volume l.done l.number
+  so_far : IsRunSoFar g.V.Volume.habits l.config l.fn.moment l.fn.volume l.volume l.done l.number
       (g.I.Read.remaining l.fn.input) (split_known_bytes g.I.Read.remaining l.line-iterator)
       (g.O.Write.contents l.fn.output) (g.O.Write.contents l.output);
 }

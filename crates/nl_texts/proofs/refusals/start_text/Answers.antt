@@ -1,3 +1,5 @@
+use Rattle.std.proofs.Common.{ap}
+use Rattle.nl_texts.specs.RefusalTexts.{detail_text}
 use Rattle.nl_texts.proofs.Appending.{Appends-same, OnOk-then}
 use Rattle.nl_texts.proofs.refusals.start_text.Goals as goal
 
@@ -5,4 +7,6 @@ pub returns : goal.returns
 returns g c =
     let r = c.write_all-2.result in
     let first = Appends-same _ _ _ _ c.step.ensures c.in_ok-write_all.ensures.bytes in
-    OnOk-then r _ _ _ _ _ first (OnOk-then r _ _ _ _ _ c.in_ok-kind.ensures c.write_all-2.ensures.bytes)
+    let detail = Appends-same _ _ _ _ (ap detail_text c.detail_of.ensures) c.in_ok-detail.ensures in
+    OnOk-then r _ _ _ _ _ first (OnOk-then r _ _ _ _ _ c.in_ok-kind.ensures (
+    OnOk-then r _ _ _ _ _ detail c.write_all-2.ensures.bytes))

@@ -1,0 +1,5 @@
+mod Ages
+mod Victims
+mod Found
+mod CleanRuns
+mod Rounds

@@ -1,0 +1,81 @@
+-- A round of cleaning, event by event.
+use Rattle.std.specs.Prelude.{◌≡◌, ℕ, Bool, true, false, ◌||◌, if◌then◌else◌, List, [], ◌∷◌, drop, Option, None, Some, Ok, Err}
+use Rattle.nl_types.specs.declared.error.VolError.{VolError}
+use Rattle.nl_types.specs.declared.error.VolError.TheVariants.{Fault, Memory, NoSpace}
+use Rattle.nl_types.specs.declared.event.Event.{Event}
+use Rattle.nl_types.specs.declared.event.Event.TheVariants.{Expire}
+use Rattle.nl_types.specs.declared.reply.Answer.{Answer}
+use Rattle.nl_types.specs.declared.reply.Answer.TheVariants.{Freed}
+use Rattle.nl_types.specs.Worlds.{Reply}
+use Rattle.nl_core.specs.CleanerViews.{cleaning_event}
+use Rattle.nl_core.specs.Layout.{Does, Layout, unshared}
+use Rattle.nl_cleaner.specs.declared.job.Stage.{Stage}
+pub use Rattle.nl_cleaner.specs.declared.job.Stage.TheVariants.{Cleaning, Ended, Expiring}
+
+-- what is left of a round
+pub record JobView : Type 0 where
+  pub stage : Stage
+  -- its moment, and the protection period
+  pub moment : ℕ
+  pub period : ℕ
+  -- the segments that aren't done, in their order
+  pub left : List ℕ
+
+-- ---- the next event
+
+abbrev pub next_cleaning : (left : List ℕ) → (now : ℕ) → Layout → Option Event
+next_cleaning [] now l = None
+next_cleaning (segment ∷ rest) now l = Some (cleaning_event l segment now)
+
+abbrev pub next_by : Stage → JobView → Layout → Option Event
+next_by Expiring job l = Some (Expire job.moment job.period)
+next_by Cleaning job l = next_cleaning job.left job.moment l
+next_by Ended job l = None
+
+-- first the expiry, and then what cleans the first segment that isn't done
+abbrev pub next_event : JobView → Layout → Option Event
+next_event job l = next_by job.stage job l
+
+-- ---- what a reply makes of a round
+
+-- these refusals end it, since what comes next would meet them too
+abbrev pub ends_round : VolError → Bool
+ends_round NoSpace = true
+ends_round Fault = true
+ends_round Memory = true
+ends_round _ = false
+
+abbrev pub at_stage : Stage → JobView → JobView
+at_stage stage job = record job { stage = stage }
+
+-- the first segment is done
+abbrev pub first_done : JobView → JobView
+first_done job = record job { left = drop 1 job.left }
+
+abbrev pub answered : Answer → JobView → JobView
+answered (Freed count) job = first_done job
+answered answer job = job
+
+abbrev pub noted_by : Stage → JobView → Reply → JobView
+noted_by Expiring job (Ok answer) = at_stage Cleaning job
+noted_by Expiring job (Err e) = at_stage Ended job
+noted_by Cleaning job (Ok answer) = answered answer job
+noted_by Cleaning job (Err e) = if ends_round e then at_stage Ended job else first_done job
+noted_by Ended job reply = job
+
+-- A segment is done when it is retired, or when it can't be cleaned. Want of space or of memory and faults end the round.
+abbrev pub noted : JobView → Reply → JobView
+noted job reply = noted_by job.stage job reply
+
+-- ---- steps
+
+-- the next event was done or refused, and noted
+pub record Stepped (old : JobView × Layout) (event : Event) (reply : Reply) (new : JobView × Layout) : Type 0 where
+  pub next : next_event old.0 old.1 ≡ Some event
+  pub does : Does unshared old.1 event reply new.1
+  pub job : new.0 ≡ noted old.0 reply
+
+-- nothing is left of the round
+pub record IsOver (old new : JobView × Layout) : Type 0 where
+  pub next : next_event old.0 old.1 ≡ None
+  pub unchanged : new ≡ old

@@ -1,0 +1,4 @@
+pub mod Choice
+pub mod Job
+pub mod Plan
+pub mod Laws

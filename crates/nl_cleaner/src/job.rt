@@ -1,0 +1,124 @@
+//! A round of cleaning as a machine: one event of the pen at a time.
+ghost use Rattle.std.specs.Prelude.{◌≡◌, MatchOption};
+ghost use Rattle.nl_types.specs.declared.event.Event.{Event};
+ghost use Rattle.nl_cleaner.specs.Job.{IsOver, Stepped, ends_round, next_event, noted};
+
+use nl_core::Pen;
+use nl_device::Device;
+use nl_types::{Answer, Event, Reply, Segment, VolError};
+use std::marker::Model;
+
+/// What comes next in a round.
+#[derive(Clone, Copy, Debug, PartialEq, Eq)]
+pub enum Stage {
+    /// The expiry of checkpoints.
+    Expiring,
+    /// The segments, one after another.
+    Cleaning,
+    Ended,
+}
+
+/// A round of cleaning, as `plan` makes it: the expiry of a moment, and then moves out of each of some segments and its
+/// retirement.
+#[derive(Drop)]
+pub struct Job {
+    stage: Stage,
+    moment: u64,
+    period: u64,
+    victims: Vec<Segment>,
+    done: usize,
+}
+
+impl Model for Job {
+    ghost use Rattle.std.specs.Prelude.{drop};
+    ghost use Rattle.nl_cleaner.specs.Job.{JobView};
+
+    ghost Value = { JobView };
+
+    ghost view = { λ j. record { stage = j.stage; moment = j.moment; period = j.period; left = drop j.done j.victims.items } };
+}
+
+/// Whether a round goes no further behind such a refusal of a move or a retirement: the next segment would meet it too.
+pub fn ends_round(refusal: VolError) -> bool
+    ensures { result ≡ ends_round refusal }
+{
+    match refusal {
+        VolError::NoSpace | VolError::Fault | VolError::Memory => true,
+        _ => false,
+    }
+}
+
+impl Job {
+    ghost use Rattle.nl_cleaner.specs.Job.{Expiring, first_done};
+
+    /// A round that takes these segments.
+    pub(crate) fn new(victims: Vec<Segment>, now: u64, period: u64) -> Job
+        ensures { result ≡ record { stage = Expiring; moment = now; period = period; left = victims.items } }
+    {
+        Job {
+            stage: Stage::Expiring,
+            moment: now,
+            period,
+            victims,
+            done: 0,
+        }
+    }
+
+    /// The event that comes next, if one does.
+    fn next<D: Device>(&self, pen: &Pen<D>) -> Option<Event>
+        ensures { result ≡ next_event self.now pen.now }
+    {
+        match self.stage {
+            Stage::Expiring => Some(Event::Expire {
+                now: self.moment,
+                period: self.period,
+            }),
+            Stage::Cleaning => {
+                let segment = self.victims.get(self.done)?;
+                Some(pen.cleaning_event(*segment, self.moment))
+            }
+            Stage::Ended => None,
+        }
+    }
+
+    /// The first segment is done.
+    fn advance(&mut self)
+        ensures { self.new ≡ first_done self.old }
+    {
+        if self.done < self.victims.len() {
+            self.done += 1;
+        }
+    }
+
+    /// Takes note of the reply to the next event.
+    fn note(&mut self, reply: &Reply)
+        ensures { self.new ≡ noted self.old reply.now }
+    {
+        match (self.stage, reply) {
+            (Stage::Expiring, Ok(_)) => self.stage = Stage::Cleaning,
+            (Stage::Expiring, Err(_)) => self.stage = Stage::Ended,
+            (Stage::Cleaning, Ok(Answer::Freed(_))) => self.advance(),
+            (Stage::Cleaning, Ok(_)) => {}
+            (Stage::Cleaning, Err(refusal)) => {
+                if ends_round(*refusal) {
+                    self.stage = Stage::Ended;
+                } else {
+                    self.advance();
+                }
+            }
+            (Stage::Ended, _) => {}
+        }
+    }
+
+    /// Does the next event of the round, and answers the pen's reply to it; None where the round is over. A refusal for want
+    /// of space or of memory or for a fault ends the round; where a segment can't be cleaned, it goes on to the next one.
+    pub fn step<D: Device>(&mut self, pen: &mut Pen<D>) -> Option<Reply>
+        ensures { MatchOption result (IsOver (self.old, pen.old) (self.new, pen.new))
+            (λ reply. (event : Event) × Stepped (self.old, pen.old) event reply (self.new, pen.new)) }
+    {
+        let event = self.next(pen)?;
+        let reply = pen.apply(&event);
+        self.note(&reply);
+        Some(reply)
+    }
+}

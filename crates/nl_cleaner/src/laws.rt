@@ -1,0 +1,13 @@
+//! What moves, retirements and rounds come to, as contracts of functions that do nothing.
+ghost use Rattle.nl_cleaner.specs.Laws.{RoundsLeaveNothingDead, SegmentsComeClean};
+
+/// A dirty segment can be retired after as many moves as its needed numbers ask for, and is clean then.
+pub fn segments_come_clean()
+    ensures { SegmentsComeClean }
+{}
+
+/// A round over every dirty segment that is refused nothing leaves no number in use that isn't needed, but in segments that
+/// were active or in error.
+pub fn rounds_leave_nothing_dead()
+    ensures { RoundsLeaveNothingDead }
+{}

@@ -1,0 +1,12 @@
+//! The cleaner, after nilfs_cleanerd: it plans rounds of cleaning by a configuration, and takes a round event by event.
+#![tactic(auto)]
+
+mod choice;
+mod job;
+pub mod laws;
+mod planning;
+#[cfg(test)]
+mod tests;
+
+pub use job::{Job, ends_round};
+pub use planning::plan;

@@ -1,0 +1,26 @@
+-- What cleans a segment next, by how many numbers are needed there.
+use Rattle.std.proofs.Common.{◌≡◌, ◌≢◌, ℕ, Bool, true, false, cond, eqb, sym, refl, ap, ◌∙◌}
+use Rattle.std.proofs.lemmas.Bool.{eq-eqb, ne_eqb}
+use Rattle.nl_types.specs.declared.event.Event.{Event}
+use Rattle.nl_types.specs.declared.event.Event.TheVariants.{Move, Retire}
+use Rattle.nl_types.specs.Entries.{Entry}
+use Rattle.nl_dat.specs.Located.{needed_count}
+use Rattle.nl_core.specs.CleanerViews.{cleaning_event, needed_after}
+use Rattle.nl_core.specs.CleaningEvents.{needed_by}
+use Rattle.nl_core.specs.Layout.{Layout}
+use Rattle.nl_core.proofs.NeededNumbers.{needs-same}
+
+module _ (l : Layout) (segment now n : ℕ) (is : n ≡ needed_after l 0 segment) where
+  counted : needed_count l.store (needed_by l.lists) segment ≡ n
+  counted = ap (λ (needed : Entry → Bool). needed_count l.store needed segment) (sym (needs-same l.lists)) ∙ sym is
+
+  by-test : (t : Bool) → eqb n 0 ≡ t → cleaning_event l segment now ≡ cond {A = Event} t (Retire segment) (Move segment 30 now)
+  by-test t h =
+      ap (λ (k : ℕ). cond {A = Event} (eqb k 0) (Retire segment) (Move segment 30 now)) counted
+      ∙ ap (λ (b : Bool). cond {A = Event} b (Retire segment) (Move segment 30 now)) h
+
+  pub retire-next : n ≡ 0 → Retire segment ≡ cleaning_event l segment now
+  retire-next none = sym (by-test true (eq-eqb n 0 none))
+
+  pub move-next : n ≢ 0 → Move segment 30 now ≡ cleaning_event l segment now
+  move-next some = sym (by-test false (ne_eqb n 0 some))

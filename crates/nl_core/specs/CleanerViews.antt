@@ -1,0 +1,24 @@
+-- What the cleaner is told of a pen.
+use Rattle.std.specs.Prelude.{ℕ, Bool, ◌==◌, if◌then◌else◌}
+use Rattle.nl_types.specs.declared.event.Event.{Event}
+use Rattle.nl_types.specs.declared.event.Event.TheVariants.{Move, Retire}
+use Rattle.nl_types.specs.Entries.{Entry}
+use Rattle.nl_types.specs.Protection.{is_period_needed, staying}
+use Rattle.nl_cpfile.specs.Tables.{Table, rows}
+use Rattle.nl_dat.specs.Located.{by_period, needed_count}
+use Rattle.nl_core.specs.CleaningEvents.{needed_by}
+use Rattle.nl_core.specs.Layout.{Layout}
+
+-- whether a number is still needed once the plain checkpoints below one are gone
+abbrev pub needed_from : (below : ℕ) → Table → Entry → Bool
+needed_from below t = by_period (is_period_needed (staying below (rows t)))
+
+-- how many numbers, whose pages stand in the segment, are needed then
+abbrev pub needed_after : Layout → (below segment : ℕ) → ℕ
+needed_after l below segment = needed_count l.store (needed_from below l.lists.table) segment
+
+-- What cleans a segment next: its retirement where no number is needed whose page stands there, and else a move. Each moves
+-- as many pages as a log takes.
+abbrev pub cleaning_event : Layout → (segment now : ℕ) → Event
+cleaning_event l segment now =
+    if needed_count l.store (needed_by l.lists) segment == 0 then Retire segment else Move segment 30 now

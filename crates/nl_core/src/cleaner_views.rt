@@ -1,0 +1,54 @@
+//! What the cleaner is told of a pen.
+ghost use Rattle.std.specs.Prelude.{◌≡◌};
+ghost use Rattle.nl_dat.specs.Located.{needed_count, payload_count_in};
+ghost use Rattle.nl_core.specs.CleanerViews.{needed_from};
+
+use nl_cpfile::Checkpoints;
+use nl_dat::Vstore;
+use nl_protect::needed;
+use nl_reclaim::{Keeping, count_needed};
+use nl_types::{CheckpointNumber, Period, Segment};
+
+/// The kept checkpoints without the plain ones below a number.
+#[derive(Clone, Copy)]
+struct Staying<'a> {
+    kept: &'a Checkpoints,
+    below: CheckpointNumber,
+}
+
+impl<'a> Keeping for Staying<'a> {
+    ghost use Rattle.nl_types.specs.Protection.{is_period_needed, staying};
+    ghost use Rattle.nl_cpfile.specs.Tables.{rows};
+
+    ghost test = { λ s. is_period_needed (staying s.below (rows s.kept.now.table)) };
+
+    fn needed(&self, period: Period) -> bool {
+        needed(self.kept, self.below, period)
+    }
+}
+
+/// How many numbers whose pages stand in a segment are needed once the plain checkpoints below one are gone: 0 where there
+/// is no such segment.
+pub fn needed_in<V: Vstore>(
+    store: &V,
+    kept: &Checkpoints,
+    segment: Segment,
+    below: CheckpointNumber,
+) -> u32
+    ensures { result ≡ needed_count (V.store store.now) (needed_from below kept.now.table) segment }
+{
+    match store.table().suinfo(segment) {
+        Ok(_) => count_needed(store, &Staying { kept, below }, segment),
+        Err(_) => 0,
+    }
+}
+
+/// How many blocks of the logs of a segment have payload: 0 where there is no such segment.
+pub fn payload_count<V: Vstore>(store: &V, segment: Segment) -> u32
+    ensures { result ≡ payload_count_in (V.store store.now) segment }
+{
+    match store.table().suinfo(segment) {
+        Ok(_) => store.payload_count(segment),
+        Err(_) => 0,
+    }
+}

@@ -1,0 +1,17 @@
+use Rattle.std.proofs.Common.{inl}
+use Rattle.nl_script.proofs.lines.clean.Goals as goal
+
+pub returns-in-Ok : goal.returns-in-Ok
+returns-in-Ok g c =
+    let told = c.run_round.ensures c.args.moment in
+    record {
+      text = told.text;
+      does = inl (record {
+        job = c.in-Ok.job;
+        planned = c.in-Ok.ensures.planned;
+        sum = told.does.0;
+        over = told.does.1;
+        end_is = told.does.2;
+      });
+      written = told.written;
+    }

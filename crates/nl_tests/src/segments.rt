@@ -1,0 +1,85 @@
+//! Moves out of segments and retirements on a pen, with the replies that are due.
+use crate::events::{ALL, Call, Row, Want};
+use crate::logs::NONE_FAILS;
+use crate::rows::first_unwanted;
+use nl_core::Pen;
+use nl_device::{Failing, FaultyDevice, MemDevice};
+use nl_types::{Geometry, Mode, VolError};
+use std::alloc::Global;
+use std::test::Fail;
+
+/// The device of 16 segments of 4 blocks, and which of its calls fails.
+fn volume(alloc: Global, failing: Failing, calls_left: u64) -> Result<Pen<FaultyDevice>, VolError> {
+    let geometry = Geometry::new(16, 4)?;
+    let device = FaultyDevice::new(MemDevice::new(alloc, geometry)?, failing, calls_left);
+    Pen::format(alloc, device, geometry, 0)
+}
+
+fn unwanted(
+    alloc: Global,
+    failing: Failing,
+    calls_left: u64,
+    rows: &[Row<'_>],
+) -> Result<Option<usize>, VolError> {
+    let mut pen = volume(alloc, failing, calls_left)?;
+    first_unwanted(alloc, &mut pen, rows)
+}
+
+/// The blocks of the second content begin in segment 3 and fill segment 4. They are needed as long as checkpoint 3 is kept, be
+/// it a snapshot or not.
+const RETIRED: &[Row<'static>] = &[
+    (Call::Create(b"/f"), Want::Done),
+    (Call::Write(b"/f", 0, b"A"), Want::Written(1)),
+    (Call::CheckpointAt(Mode::Plain, 10), Want::Checkpoint(2)),
+    (Call::Write(b"/f", 0, b"B"), Want::Written(1)),
+    (Call::CheckpointAt(Mode::Snapshot, 20), Want::Checkpoint(3)),
+    (Call::Write(b"/f", 0, b"C"), Want::Written(1)),
+    (Call::CheckpointAt(Mode::Plain, 30), Want::Checkpoint(4)),
+    (Call::Expire(100, 50), Want::Expired(&[1, 2])),
+    (Call::ChangeMode(3, Mode::Plain), Want::Done),
+    (Call::Retire(4), Want::Refused(VolError::StillNeeded)),
+    (Call::ChangeMode(3, Mode::Snapshot), Want::Done),
+    (Call::Mount(3), Want::Mount(1)),
+    (Call::ReadMount(1, b"/f", 0, ALL), Want::Bytes(b"B")),
+    (Call::Unmount(1), Want::Done),
+    (Call::ChangeMode(3, Mode::Plain), Want::Done),
+    (Call::Expire(100, 50), Want::Expired(&[3])),
+    (Call::Retire(4), Want::Freed(3)),
+    (Call::Retire(4), Want::Refused(VolError::SegClean)),
+    (Call::Read(b"/f", 0, ALL), Want::Bytes(b"C")),
+];
+
+/// The first get is that of a move. It fails, and the same move goes through then.
+const UNREAD: &[Row<'static>] = &[
+    (Call::Create(b"/f"), Want::Done),
+    (Call::Write(b"/f", 0, b"A"), Want::Written(1)),
+    (Call::CheckpointAt(Mode::Snapshot, 10), Want::Checkpoint(2)),
+    (Call::Write(b"/f", 0, b"B"), Want::Written(1)),
+    (Call::CheckpointAt(Mode::Plain, 20), Want::Checkpoint(3)),
+    (Call::Move(1, 30), Want::Refused(VolError::Fault)),
+    (Call::Retire(1), Want::Refused(VolError::StillNeeded)),
+    (Call::Move(1, 2), Want::Moved(2, 1)),
+    (Call::Move(1, 30), Want::Moved(1, 0)),
+    (Call::Retire(1), Want::Freed(0)),
+    (Call::Mount(2), Want::Mount(1)),
+    (Call::ReadMount(1, b"/f", 0, ALL), Want::Bytes(b"A")),
+    (Call::Read(b"/f", 0, ALL), Want::Bytes(b"B")),
+];
+
+fn retired() -> &'static [Row<'static>] {
+    RETIRED
+}
+
+fn unread() -> &'static [Row<'static>] {
+    UNREAD
+}
+
+#[test]
+fn segments_are_emptied(rt: HostRuntime) -> Result<(), Fail> {
+    assert_eq!(rt;
+        unwanted(rt.alloc(), Failing::Put, NONE_FAILS, retired())?,
+        None
+    );
+    assert_eq!(rt; unwanted(rt.alloc(), Failing::Get, 0, unread())?, None);
+    Ok(())
+}
