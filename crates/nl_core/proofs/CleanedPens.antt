@@ -133,7 +133,7 @@ module _ (segment count : ℕ) (old : Layout) (store : Store) (pen : IsPen old) 
       → AgreeAtCheckpoint (pages_in old) (pages_in left_layout) (root_of (root_in c))
   agree c at i level offset v is =
       let numbers : (ledger_of old).kept c.number ≡ Some (reached_by (pages_in old) c) = ap (option_map (reached_by (pages_in old))) at in
-      let (e, in_use, place, covering) = (pen.sound.ledger.exact c.number (reached_by (pages_in old) c) numbers).reached
+      let (e, in_use, covering) = (pen.sound.ledger.exact c.number (reached_by (pages_in old) c) numbers).reached
       (record { inode = i; level = level; offset = offset }) v is in
       elim (cases_Bool (gone v)) [
         | inl t ↦ absurd (both_ways (covers c.number e) (parts.0 v e c.number (reached_by (pages_in old) c) t in_use numbers) covering)

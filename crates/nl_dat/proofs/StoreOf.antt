@@ -5,13 +5,13 @@ use Rattle.std.specs.Option.{option_map, option_and_then}
 use Rattle.std.proofs.Math.ListN.{get_or-map}
 use Rattle.std.proofs.lemmas.List.{get_or_past, length-map, length-replicate}
 use Rattle.std.proofs.lemmas.Bool.{cases_lt}
-use Rattle.nl_types.specs.Segments.{total_blocks}
+use Rattle.nl_types.specs.Segments.{HaveLogs, total_blocks}
 use Rattle.nl_types.specs.PartialMaps.{Partial}
 use Rattle.nl_types.specs.Entries.{Birth, number_of}
 use Rattle.nl_types.proofs.PartialMaps.{same_at_all}
 use Rattle.nl_sufile.specs.Table.{IsSegTable}
 use Rattle.nl_segwriter.specs.Content.{Payload, SpaceContent, HoldsOnlyUsed, payload_page}
-use Rattle.nl_segwriter.specs.Logs.{AreWholeLogs, HaveLogs}
+use Rattle.nl_segwriter.specs.Logs.{AreWholeLogs}
 use Rattle.nl_dat.specs.declared.entries.DatEntry.{DatEntry}
 use Rattle.nl_dat.specs.Batches.{birth_of_item, tag_place, tag_for}
 use Rattle.nl_dat.specs.Table.{entry_in, addresses_of, block_of, content_of, meaning_of, meaning_at, period_of, period_of_entry, HaveOwnPayload}

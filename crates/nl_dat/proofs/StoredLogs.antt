@@ -13,11 +13,11 @@ use Rattle.nl_types.proofs.SegmentChanges.{room_of}
 use Rattle.nl_layout.specs.Summary.{Contents, Spells, summary_bytes}
 use Rattle.nl_layout.proofs.Reading.{contents-Spells}
 use Rattle.nl_segwriter.specs.Content.{Held, Payload, SpaceContent, StandInRow, payload_page, payload_tag}
-use Rattle.nl_segwriter.specs.Logs.{WholeLog, FillUpTo, contents_of}
+use Rattle.nl_segwriter.specs.Logs.{WholeLog, FillDevice, FillUpTo, IsOnDevice, contents_of, slots_of}
 use Rattle.nl_dat.specs.declared.entries.DatEntry.{DatEntry}
 use Rattle.nl_dat.specs.Inside.{store_of}
 use Rattle.nl_dat.specs.Stores.{Store, IsStore, device_in, payload_in}
-use Rattle.nl_dat.specs.Summaries.{IsOnDevice, FillDevice, StandOnDevice, IsOfLogs, slots_of, payload_row}
+use Rattle.nl_dat.specs.Summaries.{StandOnDevice, IsOfLogs, payload_row}
 use Rattle.nl_dat.proofs.ShownSpace.{shown}
 
 -- ---- one list of logs

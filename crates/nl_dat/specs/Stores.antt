@@ -4,14 +4,14 @@ use Rattle.std.specs.List.{range_with_len}
 use Rattle.std.specs.Option.{option_map}
 use Rattle.nl_types.specs.declared.error.VolError.{VolError}
 use Rattle.nl_types.specs.declared.error.VolError.TheVariants.{NoSpace, Fault, Memory}
-use Rattle.nl_types.specs.Segments.{Segments, IsUsed, total_blocks}
+use Rattle.nl_types.specs.Segments.{HaveLogs, IsUsed, Segments, total_blocks}
 use Rattle.nl_types.specs.Placing.{LacksSpace}
 use Rattle.nl_types.specs.PartialMaps.{Partial, put_each, adjust_each, is_one_of, NoneTwice}
 use Rattle.nl_types.specs.Entries.{Birth, Entry, Content, number_of, written}
 use Rattle.nl_layout.specs.declared.tag.Tag.{Tag}
 use Rattle.nl_sufile.specs.Table.{IsSegTable}
 use Rattle.nl_segwriter.specs.Content.{SpaceContent, Payload, HoldsOnlyUsed, KeepsUsed, IsFreed, payload_tag}
-use Rattle.nl_segwriter.specs.Logs.{AreWholeLogs, HaveLogs}
+use Rattle.nl_segwriter.specs.Logs.{AreWholeLogs}
 use Rattle.nl_segwriter.specs.Appended.{IsAppended, IsBrokenOff}
 use Rattle.nl_dat.specs.Batches.{Changes, is_taken, items_of, tag_for}
 use Rattle.nl_dat.specs.declared.entries.DatEntry.{DatEntry}

@@ -1,32 +1,14 @@
 -- What the logs on the device say of the blocks of a segment.
-use Rattle.std.specs.Prelude.{◌≡◌, ℕ, ◌+◌, ◌*◌, List, [], ◌∷◌, ◌++◌, length, map, Option, None, Some}
-use Rattle.nl_types.specs.PartialMaps.{Partial}
+use Rattle.std.specs.Prelude.{◌≡◌, ℕ, ◌+◌, ◌*◌, List, map, Option}
 use Rattle.nl_types.specs.Segments.{info_of}
 use Rattle.nl_types.specs.Placing.{row_of}
-use Rattle.nl_layout.specs.Summary.{SummaryFits, summary_bytes}
-use Rattle.nl_segwriter.specs.Content.{Payload, StandInRow, payload_page}
-use Rattle.nl_segwriter.specs.Logs.{WholeLog, contents_of}
+use Rattle.nl_segwriter.specs.Content.{Payload}
+use Rattle.nl_segwriter.specs.Logs.{FillDevice, WholeLog, slots_of}
 use Rattle.nl_dat.specs.Stores.{Store, IsStore, device_in, payload_in}
-
--- the device has the log from block b on: its summary, and right behind it its pages
-pub record IsOnDevice (b : ℕ) (log : WholeLog) (device : Partial (List ℕ)) : Type 0 where
-  pub fits : SummaryFits (contents_of log)
-  pub summary : device b ≡ Some (summary_bytes (contents_of log))
-  pub pages : StandInRow (b + 1) (map payload_page log.payload) device
-
--- it has the logs one right behind another, from block b up to the end
-abbrev pub FillDevice : ℕ → ℕ → List WholeLog → Partial (List ℕ) → Type 0
-FillDevice b end [] device = b ≡ end
-FillDevice b end (log ∷ logs) device = IsOnDevice b log device × FillDevice (b + 1 + length log.payload) end logs device
 
 -- the used part of a segment is these logs, on the device alone
 abbrev pub StandOnDevice : Store → ℕ → List WholeLog → Type 0
 StandOnDevice s segment logs = FillDevice (segment * s.segments.blocks) (segment * s.segments.blocks + (info_of s.segments.each segment).used) logs (device_in s)
-
--- the blocks of logs, in order: none for a summary, and the payload behind it
-abbrev pub slots_of : List WholeLog → List (Option Payload)
-slots_of [] = []
-slots_of (log ∷ logs) = None ∷ (map Some log.payload ++ slots_of logs)
 
 -- the payload in memory of each block in the used part of a segment
 abbrev pub payload_row : Store → ℕ → List (Option Payload)

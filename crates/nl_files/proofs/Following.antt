@@ -89,7 +89,7 @@ module _ (ledger : Ledger) (is : IsLedger ledger) where
   live-at : (q : Place) (v : ℕ) → numbers_at ledger ledger.latest q ≡ Some v → is_live (ledger.content v) ≡ true
   live-at q v h =
       let at = (is.exact ledger.latest (numbers_at ledger ledger.latest) is.latest_kept).reached q v h in
-      subst (λ (o : Option Entry). is_live o ≡ true) (sym at.1) (live at.0 at.0.end refl at.1 at.3)
+      subst (λ (o : Option Entry). is_live o ≡ true) (sym at.1) (live at.0 at.0.end refl at.1 at.2)
     where
       right : (a b : Bool) → (a && b) ≡ true → b ≡ true
       right true b h = h

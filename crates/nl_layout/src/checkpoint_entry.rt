@@ -1,20 +1,24 @@
 //! Entries of the checkpoint file.
 ghost use Rattle.std.specs.Prelude.{◌≡◌, length, IfSome, Some};
-ghost use Rattle.nl_layout.specs.Checkpoints.{Spells, Fits, checkpoint_bytes, checkpoint_at, checkpoint_of_mode, flags_of, mode_at, ifile_in};
-ghost use Rattle.nl_layout.specs.declared.inode.InodeKind.TheVariants.{InodeFile};
+ghost use Rattle.nl_layout.specs.Checkpoints.{Spells, checkpoint_at, fields_with, flags_of, mode_at, root_fields_at};
 
-use crate::inode::{INODE_SIZE, Inode, InodeEntry, InodeKind, from_fields};
+use crate::root::RootFields;
 use byteorder::{ByteOrder, LittleEndian};
-use nl_types::{CheckpointNumber, Mode};
+use nl_types::{CheckpointNumber, Mode, VirtualNumber};
 
 /// The bytes of an entry of the checkpoint file.
 pub const CHECKPOINT_SIZE: usize = 160;
+
+/// The kind of the file of inodes, as an inode has it.
+const INODE_FILE: u8 = 3;
 
 /// A kept checkpoint, as an entry of the cpfile of nilfs2.rst.
 ///
 /// It has 160 bytes, with numbers in little endian: the checkpoint's number in 8 bytes at 0, its stamp in 8 bytes at 8, its
 /// flags in 4 bytes at 16 (1 for a snapshot, 0 for a plain one), how many inodes are in use in 8 bytes at 24, and at 32 the
-/// inode of its file of inodes, which has 128. All other bytes are zero.
+/// inode of its file of inodes: its kind, which is 3, the root's kind at 33 and height at 34, the size in 8 bytes at 40, and
+/// the root's number in 8 bytes at 48. All other bytes are zero. Whether a root may be so, and the size too, is judged by the
+/// blocks that it leads to, so an entry may have any.
 #[derive(Clone, Copy, Debug, PartialEq, Eq)]
 pub struct CheckpointEntry {
     pub number: CheckpointNumber,
@@ -22,13 +26,15 @@ pub struct CheckpointEntry {
     pub stamp: u64,
     /// How many inodes are in use.
     pub inodes: u64,
-    /// The inode of the file of inodes. One of another kind has no spelling.
-    pub ifile: Inode,
+    /// Where the blocks of the file of inodes begin.
+    pub root: RootFields,
+    /// The size of the file of inodes.
+    pub size: u64,
 }
 
 impl CheckpointEntry {
-    /// The entry that the bytes spell. None where they spell none: not 160 of them, flags other than 0 and 1, an inode that
-    /// is none or is of another kind than the file of inodes, or a byte that isn't zero outside all fields.
+    /// The entry that the bytes spell. None where they spell none: not 160 of them, flags other than 0 and 1, an inode of
+    /// another kind, or a byte that isn't zero outside all fields.
     pub fn read(bytes: &[u8]) -> Option<Self>
         ensures found { IfSome result (Spells bytes.now) }
         ensures only { (entry : CheckpointEntry) → Spells bytes.now entry → result ≡ Some entry }
@@ -49,61 +55,61 @@ impl CheckpointEntry {
 
     /// Fills the place with the one spelling of the entry, from which `read` gives it back.
     pub fn write(&self, out: &mut [u8])
-        requires size { length out.old ≡ 160 }
-        requires kind { self.now.ifile.kind ≡ InodeFile }
+        requires { length out.old ≡ 160 }
         ensures { Spells out.new self.now }
     {
         out.copy_from_slice(&self.to_bytes());
     }
 
     fn to_bytes(self) -> [u8; CHECKPOINT_SIZE]
-        ensures bytes { result ≡ checkpoint_bytes self }
-        ensures fits { self.ifile.kind ≡ InodeFile → Fits self }
+        ensures { Spells result self }
     {
         let mut bytes = [0; CHECKPOINT_SIZE];
         LittleEndian::write_u64(&mut bytes, self.number.get());
         LittleEndian::write_u64(&mut bytes[8..], self.stamp);
         LittleEndian::write_u32(&mut bytes[16..], flags(self.mode));
         LittleEndian::write_u64(&mut bytes[24..], self.inodes);
-        bytes[32..].copy_from_slice(&self.ifile.to_bytes());
+        bytes[32] = INODE_FILE;
+        bytes[33] = self.root.kind;
+        bytes[34] = self.root.height;
+        LittleEndian::write_u64(&mut bytes[40..], self.size);
+        LittleEndian::write_u64(&mut bytes[48..], self.root.number.get());
         bytes
     }
 }
 
-/// What stands in the fields of an entry, whatever the other bytes are. None where the flags or the inode are none.
+/// What stands in the fields of an entry, whatever the other bytes are. None where the flags are none.
 fn from_bytes(bytes: &[u8]) -> Option<CheckpointEntry>
     requires { length bytes.now ≡ 160 }
     ensures { result ≡ checkpoint_at bytes.now }
 {
     let mode = mode_of(LittleEndian::read_u32(&bytes[16..]))?;
-    of_mode(bytes, mode)
+    Some(of_mode(bytes, mode))
 }
 
 /// What stands in the fields but the flags.
-fn of_mode(bytes: &[u8], mode: Mode) -> Option<CheckpointEntry>
+fn of_mode(bytes: &[u8], mode: Mode) -> CheckpointEntry
     requires { length bytes.now ≡ 160 }
-    ensures { result ≡ checkpoint_of_mode bytes.now mode }
+    ensures { result ≡ fields_with bytes.now mode }
 {
-    let ifile = ifile_of(from_fields(&bytes[32..]))?;
-    Some(CheckpointEntry {
+    CheckpointEntry {
         number: CheckpointNumber::new(LittleEndian::read_u64(bytes)),
         mode,
         stamp: LittleEndian::read_u64(&bytes[8..]),
         inodes: LittleEndian::read_u64(&bytes[24..]),
-        ifile,
-    })
+        root: root_fields(bytes),
+        size: LittleEndian::read_u64(&bytes[40..]),
+    }
 }
 
-/// The inode, where the entry is that of a file of inodes.
-fn ifile_of(entry: Option<InodeEntry>) -> Option<Inode>
-    ensures { result ≡ ifile_in entry }
+fn root_fields(bytes: &[u8]) -> RootFields
+    requires { length bytes.now ≡ 160 }
+    ensures { result ≡ root_fields_at bytes.now }
 {
-    match entry {
-        Some(InodeEntry::InUse(inode)) => match inode.kind {
-            InodeKind::InodeFile => Some(inode),
-            InodeKind::File | InodeKind::Directory => None,
-        },
-        Some(InodeEntry::Free) | None => None,
+    RootFields {
+        kind: bytes[33],
+        height: bytes[34],
+        number: VirtualNumber::new(LittleEndian::read_u64(&bytes[48..])),
     }
 }
 

@@ -14,6 +14,6 @@ pub use checkpoint_entry::{CHECKPOINT_SIZE, CheckpointEntry};
 pub use inode::{INODE_SIZE, Inode, InodeEntry, InodeKind};
 pub use level::Level;
 pub use node::{NEXT, Node, SLOTS};
-pub use root::Root;
+pub use root::{Root, RootFields};
 pub use summary::Summary;
 pub use tag::Tag;

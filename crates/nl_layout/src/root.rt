@@ -1,4 +1,7 @@
 //! Where the blocks of a file begin.
+ghost use Rattle.std.specs.Prelude.{◌≡◌, Some};
+ghost use Rattle.nl_layout.specs.Root.{fields_of, root_told};
+
 use nl_types::VirtualNumber;
 
 /// The root of a file, a directory or the file of inodes. A root of the kind that the format calls a tree is not read yet.
@@ -8,4 +11,47 @@ pub enum Root {
     Empty,
     /// The first node of a chain.
     Chain(VirtualNumber),
+}
+
+/// What the fields of an inode tell of its root, whether a root may be so or not.
+#[derive(Clone, Copy, Debug, PartialEq, Eq)]
+pub struct RootFields {
+    pub kind: u8,
+    pub height: u8,
+    pub number: VirtualNumber,
+}
+
+impl Root {
+    /// The one spelling of the root, from which `RootFields::root` gives it back.
+    pub fn fields(self) -> RootFields
+        ensures fields { result ≡ fields_of self }
+        ensures back { root_told result ≡ Some self }
+    {
+        match self {
+            Root::Empty => RootFields {
+                kind: 0,
+                height: 0,
+                number: VirtualNumber::new(0),
+            },
+            Root::Chain(first) => RootFields {
+                kind: 1,
+                height: 0,
+                number: first,
+            },
+        }
+    }
+}
+
+impl RootFields {
+    /// The root that the fields spell. None where they spell none: another kind than 0 and 1, a height, or a number of an
+    /// empty root.
+    pub fn root(self) -> Option<Root>
+        ensures { result ≡ root_told self }
+    {
+        match self.kind {
+            0 if self.height == 0 && self.number.get() == 0 => Some(Root::Empty),
+            1 if self.height == 0 => Some(Root::Chain(self.number)),
+            _ => None,
+        }
+    }
 }

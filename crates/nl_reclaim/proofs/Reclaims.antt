@@ -55,7 +55,7 @@ retiring-is-allowed segment count ledger old new store same none reclaimed = (no
 
 pub retired-segments-are-unreached : RetiredSegmentsAreUnreached
 retired-segments-are-unreached segment c v q numbers ledger s store same exact none kept reaches = elim (cases_Bool (stood_in s.store segment v)) [
-  | inl gone ↦ let (e, at, place, covering) = (exact c numbers kept).reached q v reaches in
+  | inl gone ↦ let (e, at, covering) = (exact c numbers kept).reached q v reaches in
       absurd (both_ways (covers c e) (none-goes segment ledger s store same none v e c numbers gone at kept) covering)
   | inr stays ↦ stays
 ]

@@ -1,8 +1,6 @@
 -- Whole logs: each a summary block, and its payload right behind it.
-use Rattle.std.specs.Prelude.{◌≡◌, ℕ, ◌+◌, ◌*◌, ◌<◌, Bool, true, false, List, [], ◌∷◌, length, map, Some, None}
-use Rattle.nl_types.specs.declared.segment.SegmentState.{SegmentState}
-use Rattle.nl_types.specs.declared.segment.SegmentState.TheVariants.{Clean, Dirty, Active, Error}
-use Rattle.nl_types.specs.Segments.{Segments, info_of}
+use Rattle.std.specs.Prelude.{◌≡◌, ℕ, ◌+◌, ◌*◌, List, [], ◌∷◌, ◌++◌, length, map, Option, Some, None}
+use Rattle.nl_types.specs.Segments.{info_of}
 use Rattle.nl_device.specs.Pages.{DevicePages}
 use Rattle.nl_layout.specs.Summary.{Contents, SummaryFits, summary_bytes}
 use Rattle.nl_segwriter.specs.Content.{Payload, Held, SpaceContent, payload_tag, payload_page, StandInRow}
@@ -39,13 +37,18 @@ IsFilledBy c i logs = FillUpTo (i * c.segments.blocks) (i * c.segments.blocks + 
 abbrev pub AreWholeLogs : SpaceContent → Type 0
 AreWholeLogs c = (i : ℕ) → ∥ ((logs : List WholeLog) × IsFilledBy c i logs) ∥₁
 
--- a segment in such a state has a log
-abbrev pub has_logs : SegmentState → Bool
-has_logs Clean = false
-has_logs Dirty = true
-has_logs Active = true
-has_logs Error = false
+-- the device has the log from block b on: its summary, and right behind it its pages
+pub record IsOnDevice (b : ℕ) (log : WholeLog) (device : DevicePages) : Type 0 where
+  pub fits : SummaryFits (contents_of log)
+  pub summary : device b ≡ Some (summary_bytes (contents_of log))
+  pub pages : StandInRow (b + 1) (map payload_page log.payload) device
 
--- a segment that is neither clean nor in error has logs
-abbrev pub HaveLogs : Segments → Type 0
-HaveLogs s = (i : ℕ) → has_logs (info_of s.each i).state ≡ true → 0 < (info_of s.each i).used
+-- it has the logs one right behind another, from block b up to the end
+abbrev pub FillDevice : ℕ → ℕ → List WholeLog → DevicePages → Type 0
+FillDevice b end [] device = b ≡ end
+FillDevice b end (log ∷ logs) device = IsOnDevice b log device × FillDevice (b + 1 + length log.payload) end logs device
+
+-- the blocks of logs, in order: none for a summary, and the payload behind it
+abbrev pub slots_of : List WholeLog → List (Option Payload)
+slots_of [] = []
+slots_of (log ∷ logs) = None ∷ (map Some log.payload ++ slots_of logs)

@@ -1,12 +1,12 @@
 //! Space as logs on a device.
 ghost use Rattle.std.specs.Prelude.{◌≡◌, ◌+◌, ◌*◌, ◌<◌, ◌≤◌, ◌⊎◌, OnOk, OnErr, IfOk, IsOkUnless, Some, ℕ, length};
 ghost use Rattle.std.specs.List.{AllByRecursion};
-ghost use Rattle.nl_types.specs.Segments.{StaysUsed, active_place, info_of, lowest_clean, with_active, with_error};
+ghost use Rattle.nl_types.specs.Segments.{HaveLogs, StaysUsed, active_place, info_of, lowest_clean, with_active, with_error};
 ghost use Rattle.nl_types.specs.Placing.{IsNextLog, AreNextLogs, first_block, with_log, with_logs};
 ghost use Rattle.std.proofs.Props.{props};
 ghost use Rattle.nl_sufile.specs.Table.{IsSegTable};
 ghost use Rattle.nl_segwriter.specs.Content.{HoldsOnlyUsed, KeepsUsed, new_content};
-ghost use Rattle.nl_segwriter.specs.Logs.{AreWholeLogs, HaveLogs, StandsFrom};
+ghost use Rattle.nl_segwriter.specs.Logs.{AreWholeLogs, StandsFrom};
 ghost use Rattle.nl_segwriter.specs.Appended.{KeepsOtherBlocks};
 ghost use Rattle.nl_segwriter.specs.Staging.{IsReady, logs_of, whole_of};
 ghost use Rattle.nl_segwriter.specs.Writing.{held_in, space_content, SameOutsideLog, MayBeTaken, StagedStands, LogsStand, BreaksOff};

@@ -1,11 +1,11 @@
 //! What the layers above know of a space of blocks.
 ghost use Rattle.std.specs.Prelude.{◌≡◌, ℕ, ◌+◌, ◌*◌, ◌<◌, ◌≤◌, length, IfErr, IfOk, IsErrOf, Some, option_copied};
 ghost use Rattle.std.specs.Option.{option_map};
-ghost use Rattle.nl_types.specs.Segments.{IsUsed, StaysUsed, info_of};
+ghost use Rattle.nl_types.specs.Segments.{HaveLogs, IsUsed, StaysUsed, info_of};
 ghost use Rattle.nl_types.specs.Placing.{LacksSpace};
 ghost use Rattle.nl_sufile.specs.Table.{IsSegTable};
 ghost use Rattle.nl_segwriter.specs.Content.{SpaceContent, HoldsOnlyUsed, IsRowOf, KeepsUsed, IsFreed, payload_page};
-ghost use Rattle.nl_segwriter.specs.Logs.{AreWholeLogs, HaveLogs};
+ghost use Rattle.nl_segwriter.specs.Logs.{AreWholeLogs};
 ghost use Rattle.nl_segwriter.specs.Appended.{IsAppended, IsBrokenOff, IsAppendError, IsLoadError};
 
 use crate::payload::Payload;

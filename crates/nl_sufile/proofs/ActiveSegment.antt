@@ -5,6 +5,7 @@ use Rattle.std.proofs.lemmas.List.{get_or-set_same, get_or-set_other}
 use Rattle.nl_types.specs.declared.segment.Position.{Position}
 use Rattle.nl_types.specs.declared.segment.SegmentInfo.{SegmentInfo}
 use Rattle.nl_types.specs.declared.segment.SegmentState.TheVariants.{Dirty, Active, Error}
+use Rattle.nl_types.specs.Limits.{IsGeometry}
 use Rattle.nl_types.specs.Segments.{Segments, is_active, clean_from, info_of, clean_info, none_active, active_from, active_place, with_active, with_error, with_clean, IsTidy}
 use Rattle.nl_types.proofs.SegmentChanges.{length-none_active, info_same, active_alone, tidy_changed, tidy_cleaned, tidy_at, lowest_is_clean}
 use Rattle.nl_types.proofs.NextLogs.{has_active}
@@ -76,9 +77,7 @@ active_here each a h =
 
 is_table : (s : Segments) (i : ℕ) (info : SegmentInfo) → IsSegTable s → IsTidy s.blocks info → IsSegTable (record s { each = set (none_active s.each) i info })
 is_table s i info h tidy = record {
-  few_blocks = h.few_blocks;
-  many_blocks = h.many_blocks;
-  many_segments = simp (length-set) (rw length-none_active h.many_segments);
+  geometry = simp (length-set) (rw length-none_active h.geometry);
   tidy = tidy_changed s i info h.tidy tidy;
 }
 
@@ -112,9 +111,7 @@ table_error s i h within =
 
 clean_table : (s : Segments) (i : ℕ) → IsSegTable s → IsSegTable (with_clean s i)
 clean_table s i h = record {
-  few_blocks = h.few_blocks;
-  many_blocks = h.many_blocks;
-  many_segments = simp (length-set) h.many_segments;
+  geometry = simp (length-set) h.geometry;
   tidy = tidy_cleaned s i h.tidy;
 }
 
@@ -181,9 +178,13 @@ none_new (suc n) (suc i) = none_new n i
 pub table_new : (g : Geometry) → (let s : Segments = record { blocks = g.blocks; each = replicate g.segments clean_info } in IsSegTable s × IsActiveIn s.each None)
 table_new g = (
   record {
-    few_blocks = g.least_blocks;
-    many_blocks = g.most_blocks;
-    many_segments = rw length-replicate g.most_segments;
+    geometry = subst (λ (n : ℕ). IsGeometry n g.blocks) (sym (length-replicate g.segments clean_info)) (record {
+      least_segments = g.least_segments;
+      most_segments = g.most_segments;
+      least_blocks = g.least_blocks;
+      most_blocks = g.most_blocks;
+      most = g.most;
+    });
     tidy = record {
       each = all_clean g.blocks g.segments;
       one_active = λ i j a b. let none = none_new g.segments i in absurd (cc);

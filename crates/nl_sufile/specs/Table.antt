@@ -1,9 +1,10 @@
 -- What a table of segments keeps.
-use Rattle.std.specs.Prelude.{◌≡◌, ℕ, ◌<◌, ◌≤◌, ◌⊎◌, true, List, length, replicate, Option, Some}
+use Rattle.std.specs.Prelude.{◌≡◌, ℕ, ◌<◌, ◌⊎◌, true, List, length, replicate, Option, Some}
 use Rattle.nl_types.specs.declared.geometry.Geometry.{Geometry}
 use Rattle.nl_types.specs.declared.error.VolError.{VolError}
 use Rattle.nl_types.specs.declared.error.VolError.TheVariants.{NoSpace, Memory}
 use Rattle.nl_types.specs.declared.segment.SegmentInfo.{SegmentInfo}
+use Rattle.nl_types.specs.Limits.{IsGeometry}
 use Rattle.nl_types.specs.Segments.{Segments, AreTidy, clean_info, info_of, is_active}
 
 -- all segments, as they are on a new device
@@ -12,9 +13,7 @@ all_clean g = record { blocks = g.blocks; each = replicate g.segments clean_info
 
 -- what is true of every table
 pub record IsSegTable (s : Segments) : Type 0 where
-  pub few_blocks : 4 ≤ s.blocks
-  pub many_blocks : s.blocks ≤ 2048
-  pub many_segments : length s.each ≤ 4096
+  pub geometry : IsGeometry (length s.each) s.blocks
   pub tidy : AreTidy s
 
 -- this segment is the active one, if one is

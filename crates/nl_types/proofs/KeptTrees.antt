@@ -12,7 +12,7 @@ use Rattle.nl_types.specs.Limits.{file_limit, path_limit}
 use Rattle.nl_types.specs.Paths.{Name, Path, path_of, path_cmp, same_path, is_name}
 use Rattle.nl_types.specs.Trees.{Tree, IsTree, lookup, insert, remove}
 use Rattle.nl_types.specs.Calls.{Changed, refuse_if, tree_after, stop_from, walk, file_at, dir_at, create, write, overwritten, resized, truncate, unlink, rmdir, has_names, is_root}
-use Rattle.nl_types.specs.CallLaws.{CreatesKeepTrees, MkdirsKeepTrees, WritesKeepTrees, TruncatesKeepTrees, UnlinksKeepTrees, RmdirsKeepTrees, RenamesKeepTrees, RefusalsKeepTree}
+use Rattle.nl_types.specs.CallLaws.{CreatesKeepTrees, MkdirsKeepTrees, WritesKeepTrees, TruncatesKeepTrees, UnlinksKeepTrees, RmdirsKeepTrees, RenamesKeepTrees}
 use Rattle.nl_types.proofs.FileSizes.{written_sizes, truncated_sizes}
 use Rattle.nl_types.proofs.TreeLaws.{IsTree-insert, same_path-equal}
 use Rattle.nl_types.proofs.Judgements.{Leaves, and_then_holds, and_then_any, refuse_if_then, path_of_spells, walk_is, walked, file_at_is, dir_at_is, IsTree-insert_file}
@@ -171,6 +171,3 @@ pub renames_keep_trees : RenamesKeepTrees
 renames_keep_trees from to tree t =
     leaves_tree tree _ t (and_then_any (λ done. IsTree done.1) (path_of from) _ (λ f.
     and_then_holds _ (λ done. IsTree done.1) (path_of to) _ (path_of_spells to) (λ p spelled. rename-IsTree tree f p t spelled)))
-
-pub refusals_keep_tree : RefusalsKeepTree
-refusals_keep_tree tree call e refused = ap (tree_after tree) refused

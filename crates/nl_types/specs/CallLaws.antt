@@ -39,12 +39,6 @@ abbrev pub RenamesKeepTrees : Type 0
 RenamesKeepTrees =
     (from to : List ℕ) → KeepsTrees (λ tree. and_then (path_of from) (λ f. and_then (path_of to) (rename tree f)))
 
--- a refusal keeps the tree
-abbrev pub RefusalsKeepTree : Type 0
-RefusalsKeepTree =
-    (tree : Tree) (call : Tree → Changed) (e : VolError)
-    → call tree ≡ Err e → tree_after tree (call tree) ≡ tree
-
 -- ---- what stands at every path
 
 -- what a call that is not refused leaves at every path

@@ -1,4 +1,4 @@
-use Rattle.nl_types.proofs.KeptTrees.{creates_keep_trees, mkdirs_keep_trees, writes_keep_trees, truncates_keep_trees, unlinks_keep_trees, rmdirs_keep_trees, renames_keep_trees, refusals_keep_tree}
+use Rattle.nl_types.proofs.KeptTrees.{creates_keep_trees, mkdirs_keep_trees, writes_keep_trees, truncates_keep_trees, unlinks_keep_trees, rmdirs_keep_trees, renames_keep_trees}
 use Rattle.nl_types.proofs.laws.file_calls_keep_trees.Goals as goal
 
 pub returns-clause-create : goal.returns-clause-create
@@ -21,6 +21,3 @@ returns-clause-rmdir c = rmdirs_keep_trees
 
 pub returns-clause-rename : goal.returns-clause-rename
 returns-clause-rename c = renames_keep_trees
-
-pub returns-clause-refused : goal.returns-clause-refused
-returns-clause-refused c = refusals_keep_tree

@@ -7,7 +7,7 @@ use Rattle.nl_sufile.proofs.table.SegTable.add_log.Goals as goal
 pub end-used-requires : goal.end-used-requires
 end-used-requires c =
     let inside : end_of c.args.log ≤ c.self.inside.blocks = subst (λ (s : Segments). end_of c.args.log ≤ s.blocks) (sym c.self.view_is) c.requires.inside in
-    omega (arith, inside, c.self.invariant.0.many_blocks)
+    omega (arith, inside, c.self.invariant.0.geometry.most_blocks)
 
 pub invariant_of-self : goal.invariant_of-self
 invariant_of-self c =
