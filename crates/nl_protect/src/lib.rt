@@ -8,8 +8,6 @@ pub mod laws;
 mod parsing;
 mod protection;
 mod setting;
-#[cfg(test)]
-mod tests;
 mod words;
 
 pub use amount::Amount;

@@ -30,6 +30,8 @@ mod logs;
 #[cfg(test)]
 mod numbers;
 #[cfg(test)]
+mod protection;
+#[cfg(test)]
 mod rows;
 #[cfg(test)]
 mod segments;

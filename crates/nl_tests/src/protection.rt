@@ -2,9 +2,9 @@
 ghost use Rattle.std.specs.Prelude.{◌≡◌};
 ghost use Rattle.nl_layout.specs.declared.root.Root.TheVariants as root;
 
-use crate::{Amount, Config, expired};
 use nl_cpfile::{Checkpoint, Checkpoints};
 use nl_layout::Root;
+use nl_protect::{Amount, Config, expired};
 use nl_types::{CheckpointNumber, Items, Mode, VolError};
 use std::alloc::Global;
 use std::test::Fail;
