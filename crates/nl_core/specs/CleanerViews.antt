@@ -2,8 +2,8 @@
 use Rattle.std.specs.Prelude.{ℕ, Bool, ◌==◌, if◌then◌else◌}
 use Rattle.nl_types.specs.declared.event.Event.{Event}
 use Rattle.nl_types.specs.declared.event.Event.TheVariants.{Move, Retire}
-use Rattle.nl_types.specs.Entries.{Entry}
-use Rattle.nl_types.specs.Protection.{is_period_needed, staying}
+use Rattle.nl_types.specs.Entries.{Entry, is_period_needed}
+use Rattle.nl_types.specs.Protection.{staying}
 use Rattle.nl_cpfile.specs.Tables.{Table, rows}
 use Rattle.nl_dat.specs.Located.{by_period, needed_count}
 use Rattle.nl_core.specs.CleaningEvents.{needed_by}

@@ -17,7 +17,8 @@ struct Staying<'a> {
 }
 
 impl<'a> Keeping for Staying<'a> {
-    ghost use Rattle.nl_types.specs.Protection.{is_period_needed, staying};
+    ghost use Rattle.nl_types.specs.Entries.{is_period_needed};
+    ghost use Rattle.nl_types.specs.Protection.{staying};
     ghost use Rattle.nl_cpfile.specs.Tables.{rows};
 
     ghost test = { λ s. is_period_needed (staying s.below (rows s.kept.now.table)) };

@@ -341,7 +341,8 @@ impl Tables {
 }
 
 impl Keeping for Tables {
-    ghost use Rattle.nl_types.specs.Protection.{is_period_needed, staying};
+    ghost use Rattle.nl_types.specs.Entries.{is_period_needed};
+    ghost use Rattle.nl_types.specs.Protection.{staying};
     ghost use Rattle.nl_cpfile.specs.Tables.{rows};
 
     ghost test = { λ t. is_period_needed (staying 0 (rows t.lists.table)) };

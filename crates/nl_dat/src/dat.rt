@@ -22,8 +22,8 @@ use nl_types::{CheckpointNumber, Items, Page, Period, Segment, VirtualNumber, Vo
 use std::alloc::{AllocError, Global};
 use std::marker::Model;
 
-/// The table of virtual block numbers, over the space that has their pages. Its length never changes, so no call but
-/// those that append needs memory.
+/// The table of virtual block numbers, over the space that has their pages. Its length never changes, so no call needs
+/// memory but those that append, and those that answer a list.
 #[derive(Drop)]
 pub struct Dat<S: Space> {
     /// By number; 0 is never used.

@@ -9,7 +9,7 @@ use Rattle.std.proofs.lemmas.List.Sorted.{IsPermutation-reverse, list_any-IsPerm
 use Rattle.nl_types.specs.declared.period.Period.{Period}
 use Rattle.nl_types.specs.declared.row.Row.{Row}
 use Rattle.nl_types.specs.Protection as protection
-use Rattle.nl_types.specs.Protection.{is_period_needed}
+use Rattle.nl_types.specs.Entries.{holds, is_period_needed}
 use Rattle.nl_types.specs.Rows.{number_of}
 use Rattle.nl_cpfile.specs.declared.checkpoint.Checkpoint.{Checkpoint}
 use Rattle.nl_cpfile.specs.Tables.{IsRising, Precedes, row_of, rows_of}
@@ -138,7 +138,7 @@ any-reverse p xs = sym (list_any-IsPermutation p xs (reverse xs) (IsPermutation-
 module _ (below start end : ℕ) where
   -- whether a checkpoint that stays is one of the period's
   abbrev is_held : ℕ → Bool
-  is_held = protection.holds (record { start = start; end = Some end })
+  is_held = holds (record { start = start; end = Some end })
 
   abbrev among : List Checkpoint → Bool
   among xs = list_any is_held (protection.staying below (rows_of xs))

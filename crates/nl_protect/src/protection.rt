@@ -1,6 +1,7 @@
 //! Which checkpoints a protection period protects, and which pages the kept ones need.
 ghost use Rattle.std.specs.Prelude.{◌≡◌, ◌&&◌, [], ◌∷◌, ◌++◌, IfOk, OnErr};
 ghost use Rattle.std.specs.List.{filter, list_any};
+ghost use Rattle.nl_types.specs.Entries.{is_period_needed};
 ghost use Rattle.nl_types.specs.Protection as protection;
 ghost use Rattle.nl_types.specs.Rows as told;
 ghost use Rattle.nl_cpfile.specs.Tables as tables;
@@ -140,7 +141,7 @@ fn latest_stays(
 /// Whether a page of this period is needed: the period has not ended, or has a kept checkpoint. Plain checkpoints below a
 /// number are taken as removed; from 0 on, all are kept.
 pub fn needed(kept: &Checkpoints, below: CheckpointNumber, period: Period) -> bool
-    ensures { result ≡ protection.is_period_needed
+    ensures { result ≡ is_period_needed
         (protection.staying below (tables.rows kept.now.table)) period }
 {
     let start = period.start;

@@ -1,10 +1,8 @@
--- Which kept checkpoints a protection period protects, which of them expire, and which numbers the others need.
-use Rattle.std.specs.Prelude.{ℕ, ◌+◌, min, Bool, ◌&&◌, ◌||◌, nat_lt, nat_le, List, [], ◌∷◌, map, is_none, unwrap_or, Option, None, Some}
+-- Which kept checkpoints a protection period protects, which of them expire, and which stay.
+use Rattle.std.specs.Prelude.{ℕ, ◌+◌, min, Bool, ◌||◌, nat_lt, nat_le, List, [], ◌∷◌, map, unwrap_or, Option, None, Some}
 use Rattle.std.specs.Option.{option_map_or}
-use Rattle.std.specs.List.{filter, list_any}
-use Rattle.nl_types.specs.declared.period.Period.{Period}
+use Rattle.std.specs.List.{filter}
 use Rattle.nl_types.specs.declared.row.Row.{Row}
-use Rattle.nl_types.specs.Entries.{is_before_end}
 use Rattle.nl_types.specs.Rows.{is_snapshot, number_of, removable}
 
 -- ---- protection
@@ -33,7 +31,7 @@ is_below boundary row = nat_lt row.number boundary
 abbrev pub expired : (boundary latest : ℕ) → List Row → List ℕ
 expired boundary latest rows = removable latest (filter (is_below boundary) rows)
 
--- ---- what the others need
+-- ---- which stay
 
 -- the checkpoint stays where the plain ones below a number are taken as removed
 abbrev pub is_staying : (below : ℕ) → Row → Bool
@@ -41,11 +39,3 @@ is_staying below row = is_snapshot row.mode || nat_le below row.number
 
 abbrev pub staying : (below : ℕ) → List Row → List ℕ
 staying below rows = map number_of (filter (is_staying below) rows)
-
--- the period has the checkpoint
-abbrev pub holds : Period → ℕ → Bool
-holds period c = nat_le period.start c && is_before_end c period.end
-
--- the period has not ended, or has a kept checkpoint
-abbrev pub is_period_needed : List ℕ → Period → Bool
-is_period_needed kept period = is_none period.end || list_any (holds period) kept
