@@ -1,0 +1,5 @@
+use Rattle.nl_blocktree.proofs.Numbers.{numbers-lowest}
+use Rattle.nl_blocktree.proofs.laws.numbers_are_lowest.Goals as goal
+
+pub returns : goal.returns
+returns c = numbers-lowest
