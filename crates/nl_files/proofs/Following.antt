@@ -8,18 +8,19 @@ use Rattle.nl_types.specs.Entries.{Entry, Place, covers, is_before_end}
 use Rattle.nl_types.specs.Lifetimes.{Allowed, IsLedger, Ledger, Numbers, Write, numbers_at}
 use Rattle.nl_types.specs.Roots.{Pages, Root, Empty, pages_of, place_at}
 use Rattle.nl_types.proofs.Births.{pages-written}
-use Rattle.nl_dat.specs.Batches.{Changes, Fits, is_live}
+use Rattle.nl_dat.specs.Batches.{Changes, Fits, TakeLowestFree, is_live}
 use Rattle.nl_layout.specs.declared.inode.Inode.{Inode}
 use Rattle.nl_layout.specs.declared.inode.InodeKind.{InodeKind}
 use Rattle.nl_layout.specs.declared.inode.InodeKind.TheVariants.{File, Directory, InodeFile}
 use Rattle.nl_blocktree.specs.Checkpoints.{AreRenewed, ComesBefore, FileChange, WritesWhatDiffers, batch_of, inodes_of, no_changes, numbers_of, pages_in, roots_after}
 use Rattle.nl_blocktree.specs.Numbering.{IsLive}
 use Rattle.nl_blocktree.specs.Putting.{pages_after}
+use Rattle.nl_blocktree.proofs.Numbers.{numbers-lowest}
 use Rattle.nl_blocktree.proofs.RootByRoot.{checkpoints-follow, writes-what-differs}
 use Rattle.nl_ifile.specs.Inodes.{inode_at}
 use Rattle.nl_files.specs.Became.{Became}
 use Rattle.nl_files.specs.Held.{Held, Holding, IsCheckpointRoot, IsHolding, IsTreeSound, StandsAs, StandsFor, Stores, root_in, roots_at}
-use Rattle.nl_files.specs.Laws.{FollowsSettled, IsLatest, ledger_with}
+use Rattle.nl_files.specs.Laws.{FollowsSettled, IsLatest, SettledNumbersAreLowest, ledger_with}
 use Rattle.nl_files.specs.Settles.{Settles}
 use Rattle.nl_files.proofs.Ones.{empty-none}
 use Rattle.nl_files.proofs.Slots.{not_six, root-there}
@@ -135,3 +136,9 @@ latest-hold ledger root v is latest volume = record {
     live_each i (inl e) = λ level offset n at.
         absurd (let none : root_in (inode_at (pages_of ledger.content) root i) ≡ Empty = ap (λ (k : ℕ). root_in (inode_at (pages_of ledger.content) root k)) e ∙ no-inode (pages_of ledger.content) (inode_at (pages_of ledger.content) root 6) v (latest.stores 6) volume in
         let no : None ≡ Some n = sym (ap (λ (r : Root). place_at (pages_of ledger.content) r level offset) none ∙ empty-none (pages_of ledger.content) level offset) ∙ at in cc)
+
+pub settled-lowest : SettledNumbersAreLowest
+settled-lowest content root new became held batch s =
+    subst (λ (b : Changes). TakeLowestFree content [] b.births)
+    (batch_after-push s.files s.inode_file no_changes ∙ sym s.batch_is)
+    (numbers-lowest content (roots_at (pages_of content) root) (s.files ++ s.inode_file ∷ []) s.put)

@@ -21,6 +21,7 @@ pub mod Steps
 pub mod Slots
 pub mod Storing
 pub mod Following
+pub mod Holdings
 pub mod First
 pub mod Few
 pub mod FilePages

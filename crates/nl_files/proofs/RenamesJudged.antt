@@ -245,6 +245,7 @@ module _ (held : Holding) (from to : Path) where
 
       pub is-move : (from ≡ to → ⊥) → may_take (listing_of held) link.1 target ≡ Ok tt → IsMove held from to directory n link target_directory target_name target
       is-move ne free = record {
+        differ = ne;
         place = source.place;
         target_place = place;
         judged = differ ne ∙ ap (λ (r : Result (Unit {0}) VolError). and_then {B = Bool} r (λ _. Ok true)) free;

@@ -231,12 +231,17 @@ pub calls-as : (result : Result (Unit {0}) VolError) (new : Current) (base : Hol
 calls-as (Ok u) new base called a b c memory leads = leads a b c
 calls-as (Err e) new base called a b c memory leads = λ other. absurd (other memory)
 
+-- a result has one value
+names-one : (r : Result Path VolError) (a b : Path) → r ≡ Ok a → r ≡ Ok b → a ≡ b
+names-one r a b p q = cc
+
 pub has-renamed : (from to : List ℕ) (names target_names : Path) (old new : Holding) (directory : ℕ) (name : Name) (link : Link) (target_directory : ℕ) (target_name : Name) (target : Option Link) (all others : List Record)
     → path_of from ≡ Ok names → path_of to ≡ Ok target_names → IsMove old names target_names directory name link target_directory target_name target
     → IsDirectoryOf old directory all → IsDirectoryOf old target_directory others
     → ((i : ℕ) → new i ≡ without_replaced target (with_link_moved directory all name target_directory others (record { name = target_name; inode = link.0; kind = link.1 }) old) i)
     → HasRenamed from to old new
 has-renamed from to names target_names old new directory name link target_directory target_name target all others is_from is_to move here there moved = inr (record {
+  differ = λ same. move.differ (names-one (path_of to) names target_names (sym (ap path_of same) ∙ is_from) is_to);
   names = names;
   target_names = target_names;
   is_from = is_from;

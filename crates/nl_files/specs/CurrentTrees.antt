@@ -96,8 +96,9 @@ abbrev pub without_replaced : Option Link → Holding → Holding
 without_replaced None held i = held i
 without_replaced (Some link) held i = with_held link.0 None held i
 
--- a record is moved, with its inode, and what had its new name is gone
+-- a record is moved from one path to another, with its inode, and what had its new name is gone
 pub record HasMoved (from to : List ℕ) (old new : Holding) : Type 0 where
+  pub differ : from ≢ to
   pub names : Path
   pub target_names : Path
   pub is_from : path_of from ≡ Ok names

@@ -1,14 +1,20 @@
 -- From one checkpoint to the next.
 use Rattle.std.specs.Prelude.{◌≡◌, ◌≤◌, ℕ, List, [], ◌∷◌, length, None}
-use Rattle.nl_types.specs.Roots.{Root, Empty}
+use Rattle.nl_types.specs.Entries.{Content}
+use Rattle.nl_types.specs.Roots.{Pages, Root, Empty}
 use Rattle.nl_types.specs.Lifetimes.{Allowed, IsLedger, Ledger, Write, blank, ledger_after, numbers_at}
 use Rattle.nl_layout.specs.Root.{root_of}
 use Rattle.nl_layout.specs.declared.root.Root.{Root as CodeRoot}
-use Rattle.nl_dat.specs.Batches.{Changes, Fits}
+use Rattle.nl_dat.specs.Batches.{Changes, Fits, TakeLowestFree}
 use Rattle.nl_blocktree.specs.Checkpoints.{WritesWhatDiffers, numbers_of, pages_in}
 use Rattle.nl_files.specs.Held.{Holding, IsCheckpointRoot, IsHolding, IsTreeSound, Stores, roots_at}
 use Rattle.nl_files.specs.Became.{Became, BecameDirectory, IsCurrent, holding_over}
 use Rattle.nl_files.specs.Settles.{Settles}
+
+-- a root stands for one holding at most
+abbrev pub RootsHoldOne : Type 0
+RootsHoldOne = (pages : Pages) (root : Root) (one other : Holding) →
+    Stores pages root one → Stores pages root other → one ≡ other
 
 -- the latest checkpoint has this root: its numbers are the places of the root's files, and these hold what inodes hold
 pub record IsLatest (ledger : Ledger) (root : Root) (held : Holding) : Type 0 where
@@ -47,6 +53,13 @@ SettledCheckpointsWriteWhatDiffers =
     Settles ledger.content root new became held batch → Fits room ledger.content batch →
     WritesWhatDiffers (pages_in ledger) (pages_in (ledger_with batch ledger)) (roots_at (pages_in ledger) root)
     (roots_at (pages_in (ledger_with batch ledger)) new) 6 batch.births batch.ends
+
+-- of all births of a settled tree, in the order of the payload, each has the lowest number that is neither in use nor
+-- given to one before it
+abbrev pub SettledNumbersAreLowest : Type 0
+SettledNumbersAreLowest =
+    (content : Content) (root new : Root) (became : List (ℕ × Became)) (held : Holding) (batch : Changes) →
+    Settles content root new became held batch → TakeLowestFree content [] batch.births
 
 -- ---- the first checkpoint
 

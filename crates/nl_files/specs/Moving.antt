@@ -1,5 +1,5 @@
 -- What a rename by paths finds before it moves anything.
-use Rattle.std.specs.Prelude.{◌≡◌, ℕ, ◌&&◌, true, false, List, Option, Some, Ok, Err}
+use Rattle.std.specs.Prelude.{◌≡◌, ◌≢◌, ℕ, ◌&&◌, true, false, List, Option, Some, Ok, Err}
 use Rattle.nl_types.specs.declared.error.VolError.{VolError}
 use Rattle.nl_types.specs.declared.reply.Answer.TheVariants as answer
 use Rattle.nl_types.specs.Paths.{Name, Path}
@@ -30,9 +30,11 @@ pub record IsSource (held : Holding) (from to : Path) (directory : ℕ) (name : 
   pub place : IsPlaceOf held from directory name (Some link)
   pub outside : (is_dir_kind link.1 && is_above from to) ≡ false
 
--- the rename moves this record of a directory to a place in another one, or the same, where the target stands
+-- the rename, to another path, moves this record of a directory to a place in another one, or the same, where the target
+-- stands
 pub record IsMove (held : Holding) (from to : Path) (directory : ℕ) (name : Name) (link : Link)
     (target_directory : ℕ) (target_name : Name) (target : Option Link) : Type 0 where
+  pub differ : from ≢ to
   pub place : IsPlaceOf held from directory name (Some link)
   pub target_place : IsPlaceOf held to target_directory target_name target
   pub judged : judge_rename (inodes_of_holding held) (listing_of held) from target_place.dir target_name ≡ Ok true

@@ -1,5 +1,5 @@
 //! What settling means for checkpoints, as contracts of functions that do nothing.
-ghost use Rattle.nl_files.specs.Laws.{FirstCheckpointsAreSmall, FirstCheckpointsHold, LatestCheckpointsHold, SettledCheckpointsFollow, SettledCheckpointsWriteWhatDiffers};
+ghost use Rattle.nl_files.specs.Laws.{FirstCheckpointsAreSmall, FirstCheckpointsHold, LatestCheckpointsHold, RootsHoldOne, SettledCheckpointsFollow, SettledCheckpointsWriteWhatDiffers, SettledNumbersAreLowest};
 ghost use Rattle.nl_files.specs.OneSettling.{CleanTreesWriteNothing, SettlingsAreAlike};
 ghost use Rattle.nl_files.specs.Staying.{CheckpointsStay, KeptPagesAgree};
 ghost use Rattle.nl_files.specs.TreeLaws.{EmptyRootsHoldNothing, FirstTreesStand, SettledTreesGoOn, TreesCanBeSettled};
@@ -17,6 +17,16 @@ pub fn latest_checkpoints_hold()
 /// A checkpoint writes exactly the blocks that differ.
 pub fn settled_checkpoints_write_what_differs()
     ensures { SettledCheckpointsWriteWhatDiffers }
+{}
+
+/// A checkpoint takes the lowest free numbers, in the order of its payload.
+pub fn settled_numbers_are_lowest()
+    ensures { SettledNumbersAreLowest }
+{}
+
+/// A checkpoint's root stands for the contents of one tree's inodes, and of no other's.
+pub fn roots_hold_one_holding()
+    ensures { RootsHoldOne }
 {}
 
 /// The first checkpoint of a volume has two blocks at most.
