@@ -44,9 +44,9 @@ module _ (old new : Layout) (mode : Mode) (moment : ℕ) (pen : IsPen old) (writ
       record { after = next.0; means = next.1 (steps_keep_worlds given reply w next.0 done means.world next.2); step = inl next.2 }
 
   -- all that it does
-  pub does-written : IsStore new.store
+  pub does-written : IsStore new.store → old.store.failures ≤ new.store.failures
       → Does unshared old (event.Checkpoint mode moment) (Ok (answer.Checkpoint new.lists.table.latest.number)) new
-  does-written is_store =
+  does-written is_store counted =
       let w = pen.world.0 in
       let tree = pen.world.1.tree in
       let stands = stands-latest old pen.sound w.tree tree in
@@ -58,6 +58,7 @@ module _ (old new : Layout) (mode : Mode) (moment : ℕ) (pen : IsPen old) (writ
           world = let next = follows-written w pen.world.1 in (next.after, next.means);
           sound = sound-behind old new mode moment pen.sound tree.base w.tree stands writes is_store;
         };
+        failures = counted;
       }
 
 -- ---- one that is refused before anything is written
@@ -106,6 +107,7 @@ does-unwritten old new mode moment e pen why same =
       touches = touches-refused old mode moment e why;
       numbers = same-numbers old old refl;
       pen = pen;
+      failures = omega arith;
     })
 
 -- ---- one that is broken off
@@ -120,7 +122,7 @@ module _ (old new : Layout) (mode : Mode) (moment : ℕ) (pen : IsPen old)
   content-same = same-content old.store new.store fault.store.numbers
 
   -- lists and numbers are the old ones, and so is the ledger
-  ledger-same : ledger_of new ≡ ledger_of old
+  pub ledger-same : ledger_of new ≡ ledger_of old
   ledger-same i = ledger_of (layout_of (fault.lists i) (record old.store { numbers = fault.store.numbers i }))
 
   means-same : (w : World) → MeansWorld old w → MeansWorld new w
@@ -161,6 +163,7 @@ module _ (old new : Layout) (mode : Mode) (moment : ℕ) (pen : IsPen old)
     touches = fault;
     numbers = same-numbers old new ledger-same;
     pen = record { world = (pen.world.0, means-same pen.world.0 pen.world.1); sound = sound-same is_store };
+    failures = let more = fault.store.failures in omega (arith, more);
   }
 
 -- ---- whichever way

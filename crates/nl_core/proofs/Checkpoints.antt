@@ -8,7 +8,7 @@ use Rattle.std.proofs.lemmas.Bool.{cases_Bool, cond-false, cond-true, eq-eqb, eq
 use Rattle.std.proofs.lemmas.List.Elements.{All-push, All-weaker}
 use Rattle.nl_types.specs.declared.event.Mode.{Mode}
 use Rattle.nl_types.specs.Entries.{written}
-use Rattle.nl_types.specs.Lifetimes.{EndsOnce, IsLedger, KeepsCovered, Ledger, Write, numbers_at}
+use Rattle.nl_types.specs.Lifetimes.{Allowed, EndsOnce, IsLedger, KeepsCovered, Ledger, Write, numbers_at}
 use Rattle.nl_types.specs.Limits.{checkpoint_number_limit}
 use Rattle.nl_types.specs.PartialMaps.{Keeps}
 use Rattle.nl_types.specs.RootChanges.{with_births}
@@ -30,12 +30,12 @@ use Rattle.nl_files.specs.Staying.{CheckpointStays}
 use Rattle.nl_files.specs.TreeLaws.{StandsOverLatest}
 use Rattle.nl_files.proofs.Following.{settled-differ, settled-follow}
 use Rattle.nl_files.proofs.TreeLaws.{settled_trees-go_on}
+use Rattle.nl_files.proofs.Holdings.{roots-hold_one}
 use Rattle.nl_core.specs.Layout.{HasWritten, IsSoundPen, KeepsNumbers, Layout, WritesBetween, ledger_of, pages_in, reached_by}
 use Rattle.nl_cpfile.specs.Tables.{by_number, root_in}
 use Rattle.nl_core.specs.Volume.{Lists, kept_by, latest_root, next_checkpoint}
 use Rattle.nl_cpfile.specs.declared.checkpoint.Checkpoint.{Checkpoint}
 use Rattle.nl_cpfile.proofs.Found.{found-push}
-use Rattle.nl_core.proofs.Holdings.{one-held}
 use Rattle.nl_core.proofs.Ledgers.{found-all, none-next}
 use Rattle.nl_core.proofs.MorePages.{sound-stays}
 
@@ -104,7 +104,7 @@ module _ (old new : Layout) (mode : Mode) (moment : ℕ) (sound : IsSoundPen old
   settles =
       subst (λ (h : Holding). Settles (content_in old.store) old_root new_root old.lists.current.became h batch)
       (writes.settled.current.holds ∙ ap (holding_over old.lists.current.became)
-      (one-held (pages_in old) old_root writes.settled.base base writes.settled.current.base_is stands.latest.stores))
+      (roots-hold_one (pages_in old) old_root writes.settled.base base writes.settled.current.base_is stands.latest.stores))
       writes.settled.settles
 
   follows : FollowsSettled (ledger_of old) new_root held batch
@@ -179,6 +179,10 @@ module _ (old new : Layout) (mode : Mode) (moment : ℕ) (sound : IsSoundPen old
   ]
 
   -- ---- what is left
+
+  -- the write is one that there may be
+  pub allowed-behind : Allowed (Write writes.settled.changes.births writes.settled.changes.ends) (ledger_of old)
+  allowed-behind = follows.allowed
 
   -- the ledger goes on by the births and the ends
   pub ledger-behind : ledger_of new ≡ ledger_with writes.settled.changes (ledger_of old)

@@ -1,10 +1,8 @@
 -- What moves and retirements leave of a pen.
-use Rattle.std.proofs.Common.{◌≡◌, ℕ, Bool, true, false, cond, List, [], ◌∷◌, get_or, Option, Some, None, refl, ap, sym, subst, ◌∙◌, inl, inr, arith, ◌<◌, length, zero, suc}
-use Rattle.std.specs.Prelude.{All, map}
+use Rattle.std.proofs.Common.{◌≡◌, ℕ, Bool, cond, List, [], ◌∷◌, get_or, Option, Some, None, refl, ap, sym, subst, ◌∙◌, inl, inr, arith, zero, suc}
+use Rattle.std.specs.Prelude.{All}
 use Rattle.std.specs.List.{AllZip}
 use Rattle.std.specs.Option.{option_map}
-use Rattle.std.specs.FinMap.{find}
-use Rattle.std.specs.Ordering.{nat_cmp}
 use Rattle.std.proofs.lemmas.Bool.{both_ways, cases_Bool}
 use Rattle.std.proofs.lemmas.List.Elements.{All-weaker}
 use Rattle.nl_types.specs.declared.error.VolError.{VolError}
@@ -23,13 +21,13 @@ use Rattle.nl_files.proofs.Staying.{checkpoints-stay}
 use Rattle.nl_cpfile.specs.Tables.{kept_at, root_in}
 use Rattle.nl_cpfile.specs.declared.checkpoint.Checkpoint.{Checkpoint}
 use Rattle.nl_cpfile.proofs.Found.{found}
-use Rattle.nl_reclaim.specs.Moves.{KeptStore, needed_now}
+use Rattle.nl_reclaim.specs.Moves.{needed_now}
 use Rattle.nl_reclaim.specs.Reclaims.{stood_in}
 use Rattle.nl_reclaim.proofs.Reclaims.{retired-segments-are-unreached, retiring-is-allowed}
-use Rattle.nl_core.specs.CleanedPens.{LeavesPen, MovesKeepPens, RefusedMovesKeepPens, RetirementsKeepPens, StaysPen, kept_store, number_in}
+use Rattle.nl_core.specs.CleanedPens.{LeavesPen, MovesKeepPens, RefusedMovesKeepPens, RetirementsKeepPens, StaysPen, kept_store}
 use Rattle.nl_core.specs.Layout.{IsPen, IsSoundPen, KeepsNumbers, Layout, MeansWorld, layout_of, ledger_of, pages_in, reached_by}
 use Rattle.nl_core.specs.Means.{CopyMeans, Means}
-use Rattle.nl_core.specs.Volume.{Lists, kept_by, latest_root}
+use Rattle.nl_core.specs.Volume.{Lists, kept_by}
 use Rattle.nl_core.proofs.KeptNumbers.{found-own, kept-ledger}
 use Rattle.nl_core.proofs.Ledgers.{found-all, same-numbers}
 use Rattle.nl_core.proofs.Published.{copies-stay}

@@ -1,6 +1,6 @@
 -- What a move and a retirement do to a pen, as events.
-use Rattle.std.proofs.Common.{◌≡◌, ℕ, ◌==◌, Bool, true, false, cond, List, [], ◌∷◌, length, take, refl, sym, ap, subst, ◌∙◌, inl, inr, true≢false}
-use Rattle.std.specs.Prelude.{IfErr, IsOk, is_ok, slice_get, Option, None, Some, Result, Ok, Err, MatchResult}
+use Rattle.std.proofs.Common.{◌≡◌, ℕ, ◌==◌, ◌≤◌, true, false, cond, List, [], ◌∷◌, length, take, refl, sym, ap, subst, ◌∙◌, inl, inr, true≢false}
+use Rattle.std.specs.Prelude.{IfErr, IsOk, is_ok, slice_get, None, Some, Result, Ok, Err, MatchResult}
 use Rattle.std.proofs.Math.Nat.{suc-ne-zero}
 use Rattle.std.proofs.lemmas.Bool.{eqb-true}
 use Rattle.std.proofs.lemmas.List.{length-take}
@@ -16,13 +16,13 @@ use Rattle.nl_types.specs.Calls.{and_then}
 use Rattle.nl_types.specs.Laws.{IsJudged}
 use Rattle.nl_types.specs.Placing.{LacksSpace}
 use Rattle.nl_types.specs.Segments.{Segments}
-use Rattle.nl_types.specs.Worlds.{Reply, World}
+use Rattle.nl_types.specs.Worlds.{Reply}
 use Rattle.nl_dat.specs.Located.{needed_count, needed_in, numbers_in}
 use Rattle.nl_dat.specs.Stores.{IsMoveRefused, IsReclaimed, IsStore, Store}
 use Rattle.nl_reclaim.specs.Cleaning.{HasMovedFirst, HasMovedNone, freed_by, judged, judged_by, judged_for, judged_info, retired}
 use Rattle.nl_reclaim.specs.declared.moving.MoveCount.{MoveCount}
 use Rattle.nl_core.specs.CleanedPens.{LeavesPen, StaysPen}
-use Rattle.nl_core.specs.CleaningEvents.{LacksSpaceToMove, cleaned_by, move_count, moved_answer, moved_by, needed_by, retired_by}
+use Rattle.nl_core.specs.CleaningEvents.{cleaned_by, move_count, moved_answer, moved_by, needed_by, retired_by}
 use Rattle.nl_core.specs.Layout.{Does, IsPen, MeansWorld, layout_of, ledger_of, unshared}
 use Rattle.nl_core.specs.Volume.{Lists}
 use Rattle.nl_core.proofs.CleanedPens.{moves_keep_pens, refused_moves_keep_pens, retirements_keep_pens}
@@ -79,7 +79,8 @@ cleaned_judges l s (Listing options) = tt
 
 -- ---- a move
 
-module _ (l : Lists) (old new : Store) (segment limit moment : ℕ) (pen : IsPen (layout_of l old)) (store : IsStore new) where
+module _ (l : Lists) (old new : Store) (segment limit moment : ℕ) (pen : IsPen (layout_of l old)) (store : IsStore new)
+    (counted : old.failures ≤ new.failures) where
   answered : (r : Result SegmentInfo VolError) → IsOk r → (a : Answer) → ◌≡◌ {A = Reply} (and_then r (λ _. Ok a)) (Ok a)
   answered (Ok i) is a = refl
   answered (Err e) is a = absurd (true≢false (sym is))
@@ -97,6 +98,7 @@ module _ (l : Lists) (old new : Store) (segment limit moment : ℕ) (pen : IsPen
         touches = (refl, record { count = count; answer_is = refl; moved = moved });
         numbers = stays.numbers;
         pen = stays.pen;
+        failures = counted;
       }
 
   -- a refusal that is no judgement has its reason
@@ -133,6 +135,7 @@ module _ (l : Lists) (old new : Store) (segment limit moment : ℕ) (pen : IsPen
             touches = (refl, none);
             numbers = stays.numbers;
             pen = stays.pen;
+            failures = counted;
           }
       by (Err f) is refused =
           let answers : moved_by l old segment limit ≡ Err e =
@@ -146,32 +149,34 @@ module _ (l : Lists) (old new : Store) (segment limit moment : ℕ) (pen : IsPen
             touches = (refl, none);
             numbers = same-numbers (layout_of l old) (layout_of l new) (ap (λ (s : Store). ledger_of (layout_of l s)) refused.1);
             pen = subst (λ (s : Store). IsPen (layout_of l s)) (sym refused.1) pen;
+            failures = counted;
           }
 
 -- ---- a retirement
 
-module _ (l : Lists) (old new : Store) (segment : ℕ) (pen : IsPen (layout_of l old)) (store : IsStore new) where
-  -- where it is done, no number is needed
-  none_needed : (count : ℕ) → retired old (needed_by l) segment ≡ Ok count → needed_in old (needed_by l) segment ≡ []
-  none_needed count is = by (judged old.segments segment) is
-    where
-      empty : (ns : List ℕ) → length ns ≡ 0 → ns ≡ []
-      empty [] is = refl
-      empty (n ∷ ns) is = absurd (suc-ne-zero (length ns) is)
+-- where it is done, no number is needed
+pub none_needed : (l : Lists) (old : Store) (segment count : ℕ) → retired old (needed_by l) segment ≡ Ok count → needed_in old (needed_by l) segment ≡ []
+none_needed l old segment count is = by (judged old.segments segment) is
+  where
+    empty : (ns : List ℕ) → length ns ≡ 0 → ns ≡ []
+    empty [] is = refl
+    empty (n ∷ ns) is = absurd (suc-ne-zero (length ns) is)
 
-      by : (r : Result SegmentInfo VolError) → freed_by r old (needed_by l) segment ≡ Ok count → needed_in old (needed_by l) segment ≡ []
-      by (Err e) is = absurd (true≢false (sym (ap is_ok is)))
-      by (Ok i) is =
-          elim (needed_count old (needed_by l) segment == 0) as (λ b. (needed_count old (needed_by l) segment == 0) ≡ b → cond b (Ok (length (numbers_in old segment))) (Err error.StillNeeded) ≡ Ok count → needed_in old (needed_by l) segment ≡ []) [
-            | true ↦ λ none _. empty (needed_in old (needed_by l) segment) (eqb-true (needed_count old (needed_by l) segment) 0 none)
-            | false ↦ λ _ wrong. absurd (true≢false (sym (ap is_ok wrong)))
-          ] refl is
+    by : (r : Result SegmentInfo VolError) → freed_by r old (needed_by l) segment ≡ Ok count → needed_in old (needed_by l) segment ≡ []
+    by (Err e) is = absurd (true≢false (sym (ap is_ok is)))
+    by (Ok i) is =
+        elim (needed_count old (needed_by l) segment == 0) as (λ b. (needed_count old (needed_by l) segment == 0) ≡ b → cond b (Ok (length (numbers_in old segment))) (Err error.StillNeeded) ≡ Ok count → needed_in old (needed_by l) segment ≡ []) [
+          | true ↦ λ none _. empty (needed_in old (needed_by l) segment) (eqb-true (needed_count old (needed_by l) segment) 0 none)
+          | false ↦ λ _ wrong. absurd (true≢false (sym (ap is_ok wrong)))
+        ] refl is
 
+module _ (l : Lists) (old new : Store) (segment : ℕ) (pen : IsPen (layout_of l old)) (store : IsStore new)
+    (counted : old.failures ≤ new.failures) where
   pub does-retired : (count : ℕ) → retired old (needed_by l) segment ≡ Ok count → IsReclaimed segment count old new
       → Does unshared (layout_of l old) (Retire segment) (Ok (answer.Freed count)) (layout_of l new)
   does-retired count is reclaimed =
       let leaves : LeavesPen segment (layout_of l old) (layout_of l new) =
-      retirements_keep_pens segment count (layout_of l old) (layout_of l new) pen refl store (none_needed count is) reclaimed in
+      retirements_keep_pens segment count (layout_of l old) (layout_of l new) pen refl store (none_needed l old segment count is) reclaimed in
       record {
         follows = λ w m. record {
           after = w;
@@ -185,6 +190,7 @@ module _ (l : Lists) (old new : Store) (segment : ℕ) (pen : IsPen (layout_of l
         };
         numbers = leaves.numbers;
         pen = leaves.pen;
+        failures = counted;
       }
 
   pub does-not-retired : (e : VolError) → retired old (needed_by l) segment ≡ Err e → new ≡ old
@@ -199,4 +205,5 @@ module _ (l : Lists) (old new : Store) (segment : ℕ) (pen : IsPen (layout_of l
         touches = (ap (layout_of l) same, is);
         numbers = same-numbers (layout_of l old) (layout_of l new) (ap (λ (s : Store). ledger_of (layout_of l s)) same);
         pen = subst (λ (s : Store). IsPen (layout_of l s)) (sym same) pen;
+        failures = counted;
       }

@@ -6,10 +6,12 @@ use Rattle.nl_types.specs.declared.error.VolError.TheVariants as error
 use Rattle.nl_types.specs.declared.event.Event.TheVariants as event
 use Rattle.nl_types.specs.declared.event.Mode.{Mode}
 use Rattle.nl_dat.specs.Stores.{Store, IsWritten, IsWriteRefused, content_in}
+use Rattle.nl_files.specs.Laws.{SettledNumbersAreLowest}
 use Rattle.nl_core.specs.Draft.{CanBeDrafted, IsNextDraft}
 use Rattle.nl_core.specs.Layout.{HasRefused, HasWritten, Settled, layout_of}
+use Rattle.nl_layout.specs.Root.{root_of}
 use Rattle.nl_cpfile.specs.Tables.{ComesNext, root_in}
-use Rattle.nl_core.specs.Volume.{Lists, published}
+use Rattle.nl_core.specs.Volume.{Lists, latest_root, published}
 use Rattle.nl_cpfile.specs.declared.checkpoint.Checkpoint.{Checkpoint}
 use Rattle.nl_core.specs.declared.draft.Draft.{Draft}
 
@@ -36,13 +38,15 @@ module _ (lists : Lists) (store : Store) (mode : Mode) (moment : ℕ) (draft : D
       }))
 
   -- the batch is written, and the checkpoint is kept
-  pub written-draft : (now : Lists) (after : Store) → now ≡ published draft.checkpoint lists
+  pub written-draft : SettledNumbersAreLowest → (now : Lists) (after : Store) → now ≡ published draft.checkpoint lists
       → IsWritten draft.checkpoint.number draft.checkpoint.stamp draft.batch store after
       → HasWritten mode moment (layout_of lists store) (layout_of now after)
-  written-draft now after is written =
+  written-draft lowest now after is written =
       subst (λ (ls : Lists). HasWritten mode moment (layout_of lists store) (layout_of ls after)) (sym is) (record {
         left = drafted.left;
         settled = settled-draft;
+        numbers = lowest (content_in store) (root_of (latest_root lists)) (root_of (root_in draft.checkpoint)) lists.current.became can.2 draft.batch
+            (drafted.settles can.1 can.2 can.3);
         lists = ap (λ (c : Checkpoint). published c lists) drafted.checkpoint;
         written = written;
       })
@@ -54,7 +58,7 @@ module _ (lists : Lists) (store : Store) (mode : Mode) (moment : ℕ) (draft : D
   refused error.NoSpace after why =
       (ap (layout_of lists) why.1, (drafted.left, record { root = root_in draft.checkpoint; settled = settled-draft; lacks = why.0 }))
   refused error.Memory after why = (ap (layout_of lists) why, drafted.left)
-  refused error.Fault after why = record { lists = refl; root = root_in draft.checkpoint; settled = settled-draft; store = why }
+  refused error.Fault after why = record { left = drafted.left; lists = refl; root = root_in draft.checkpoint; settled = settled-draft; store = why }
   refused _ after why = absurd why
 
   pub refused-draft : (e : VolError) (after : Store)

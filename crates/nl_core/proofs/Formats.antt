@@ -34,6 +34,7 @@ use Rattle.nl_files.specs.TreeLaws.{StandsOverLatest, first_tree}
 use Rattle.nl_files.proofs.Few.{few-births}
 use Rattle.nl_files.proofs.First.{latest-first, stores-nothing}
 use Rattle.nl_files.proofs.TreeLaws.{first_trees-stand, trees-can_be_settled}
+use Rattle.nl_files.proofs.Holdings.{roots-hold_one}
 use Rattle.nl_core.specs.Draft.{CanBeDrafted, HasFewNames, SettlesNow}
 use Rattle.nl_core.specs.Layout.{HasRefused, HasWritten, IsFormatted, IsPen, IsSoundPen, LacksSpaceToSettle, Layout, MeansWorld, Settled, blank_layout, layout_of, ledger_of, pages_in, reached_by}
 use Rattle.nl_core.specs.Means.{RootMeans}
@@ -41,9 +42,8 @@ use Rattle.nl_core.specs.Tables.{blank_checkpoint, blank_lists}
 use Rattle.nl_cpfile.specs.Tables.{by_number, kept_at, root_in}
 use Rattle.nl_core.specs.Volume.{Lists, latest_alone, mount_of}
 use Rattle.nl_cpfile.specs.declared.checkpoint.Checkpoint.{Checkpoint as Kept}
-use Rattle.nl_core.proofs.Checkpoints.{ledger-behind, stands-behind}
+use Rattle.nl_core.proofs.Checkpoints.{differs-behind, ledger-behind, stands-behind}
 use Rattle.nl_core.proofs.FirstLogs.{first_logs}
-use Rattle.nl_core.proofs.Holdings.{one-held}
 use Rattle.nl_cpfile.proofs.Found.{eq_by_cmp-nat_cmp}
 use Rattle.nl_core.proofs.Published.{current-means, root-means}
 
@@ -127,7 +127,7 @@ module _ (geometry : Geometry) (device : DevicePages) (failures : ℕ) where
     where
       held : settled.held ≡ first_holding
       held = settled.current.holds ∙ ap (holding_over root_directory_alone)
-          (one-held (pages_in before) roots.Empty settled.base nothing_held settled.current.base_is
+          (roots-hold_one (pages_in before) roots.Empty settled.base nothing_held settled.current.base_is
           (stores-nothing (pages_in before)))
 
       settles : Settles blank.content roots.Empty (root_of root) root_directory_alone first_holding settled.changes
@@ -213,6 +213,8 @@ module _ (geometry : Geometry) (device : DevicePages) (failures : ℕ) where
     is-formatted : IsFormatted geometry device failures now after
     is-formatted = record {
       settled = writes.settled;
+      differs = differs-behind before new Plain now (sound-before old_store) nothing_held root_alone stands-before writes;
+      numbers = writes.numbers;
       written = subst (λ n. IsWritten n now writes.settled.changes before.store new.store) number
           (subst (λ n. IsWritten latest.number n writes.settled.changes before.store new.store) stamp writes.written);
       ledger = ledger-formatted;

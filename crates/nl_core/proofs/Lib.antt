@@ -1,4 +1,3 @@
-pub mod Holdings
 pub mod OneWorld
 pub mod Leading
 pub mod Events
@@ -25,3 +24,4 @@ pub mod KeptNumbers
 pub mod CleanedPens
 pub mod Outside
 pub mod NextCleaning
+pub mod LedgerEvents

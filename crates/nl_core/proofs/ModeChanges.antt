@@ -29,7 +29,7 @@ module _ (l : Layout) (n : ℕ) (mode : Mode) where
   reached-moded (Some c) = ap Some (moded-same (reached_by (pages_in l)) n mode c refl)
 
   -- modes play no part in what checkpoints reach
-  ledger-moded : ledger_of moded_layout ≡ ledger_of l
+  pub ledger-moded : ledger_of moded_layout ≡ ledger_of l
   ledger-moded i = record {
     content = (ledger_of l).content;
     latest = latest-number i;

@@ -1,5 +1,5 @@
 -- From what an event that writes nothing does to the tables to what it does to the pen.
-use Rattle.std.proofs.Common.{◌≡◌, ℕ, Bool, List, [], ◌∷◌, refl, sym, ap, subst, inl, inr}
+use Rattle.std.proofs.Common.{◌≡◌, ℕ, Bool, List, [], ◌∷◌, refl, sym, ap, subst, inl, inr, arith}
 use Rattle.std.specs.Prelude.{◌||◌, Ok, Err, IfOk, OnErr}
 use Rattle.nl_types.specs.declared.error.VolError.{VolError}
 use Rattle.nl_types.specs.declared.error.VolError.TheVariants as error
@@ -64,6 +64,7 @@ does-kept l new store event reply pen follows touches sound numbers =
       touches = touches;
       numbers = numbers;
       pen = record { world = (next.after, next.means); sound = sound };
+      failures = omega arith;
     }
 
 -- ---- events that keep the checkpoints

@@ -10,12 +10,12 @@ use Rattle.nl_layout.specs.Root.{root_of}
 use Rattle.nl_layout.specs.declared.root.Root.{Root}
 use Rattle.nl_files.specs.Became.{Current, holding_over}
 use Rattle.nl_files.specs.Held.{Holding, inodes_of_holding}
+use Rattle.nl_files.proofs.Holdings.{roots-hold_one}
 use Rattle.nl_core.specs.Laws.{MeansOneWorld}
 use Rattle.nl_core.specs.Means.{CopyMeans, CurrentMeans, RootMeans}
 use Rattle.nl_cpfile.specs.Tables.{root_in}
 use Rattle.nl_core.specs.Volume.{kept_by, latest_root}
 use Rattle.nl_cpfile.specs.declared.checkpoint.Checkpoint.{Checkpoint}
-use Rattle.nl_core.proofs.Holdings.{one-held}
 
 -- what is held stands for one tree
 tree-one : (a b : Holding) (tree other : Tree) → a ≡ b → MeansTree (inodes_of_holding a) tree
@@ -28,7 +28,7 @@ tree-one a b tree other same m n =
 root-one : (pages : Pages) (root : Root) (tree other : Tree) → RootMeans pages root tree
     → RootMeans pages root other → tree ≡ other
 root-one pages root tree other m n =
-    tree-one m.held n.held tree other (one-held pages (root_of root) m.held n.held m.holds.stores n.holds.stores)
+    tree-one m.held n.held tree other (roots-hold_one pages (root_of root) m.held n.held m.holds.stores n.holds.stores)
     m.means.means n.means.means
 
 -- and so does a current tree over it
@@ -36,7 +36,7 @@ current-one : (pages : Pages) (root : Root) (current : Current) (tree other : Tr
     → CurrentMeans pages root current tree → CurrentMeans pages root current other → tree ≡ other
 current-one pages root current tree other m n =
     tree-one (holding_over current.became m.base) (holding_over current.became n.base) tree other
-    (ap (holding_over current.became) (one-held pages (root_of root) m.base n.base m.holds.stores n.holds.stores))
+    (ap (holding_over current.became) (roots-hold_one pages (root_of root) m.base n.base m.holds.stores n.holds.stores))
     m.stands.stands.means n.stands.stands.means
 
 -- a checkpoint has one copy

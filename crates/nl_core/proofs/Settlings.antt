@@ -11,11 +11,11 @@ use Rattle.nl_files.specs.Became.{holding_over}
 use Rattle.nl_files.specs.Held.{Holding, IsCheckpointRoot}
 use Rattle.nl_files.proofs.Following.{latest-hold}
 use Rattle.nl_files.proofs.OneSettling.{settlings-alike}
+use Rattle.nl_files.proofs.Holdings.{roots-hold_one}
 use Rattle.nl_core.specs.Draft.{SettlesNow}
 use Rattle.nl_core.specs.Laws.{SettlingsAreAlike}
 use Rattle.nl_core.specs.Volume.{latest_root}
 use Rattle.nl_core.specs.Layout.{IsSoundPen, Layout, Settled, ledger_of, pages_in}
-use Rattle.nl_core.proofs.Holdings.{one-held}
 use Rattle.nl_core.proofs.Ledgers.{is-latest}
 
 -- the root that is kept tells the root
@@ -34,7 +34,7 @@ module _ (l : Layout) (sound : IsSoundPen l) (root other : Root) (one : Settled 
   held-one =
       two.current.holds
       ∙ (ap (holding_over l.lists.current.became)
-      (one-held (pages_in l) old_root two.base one.base two.current.base_is one.current.base_is)
+      (roots-hold_one (pages_in l) old_root two.base one.base two.current.base_is one.current.base_is)
       ∙ sym one.current.holds)
 
   -- the latest checkpoint can be settled over

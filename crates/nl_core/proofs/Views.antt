@@ -3,15 +3,16 @@ use Rattle.std.proofs.Common.{◌≡◌, ℕ, suc, true, false, cond, List, [], 
 use Rattle.std.specs.List.{AllZip, filter}
 use Rattle.std.proofs.lemmas.List.{length-map}
 use Rattle.nl_types.specs.declared.event.Mode.{Mode}
+use Rattle.nl_types.specs.Protection.{boundary}
 use Rattle.nl_types.specs.Roots.{Pages}
 use Rattle.nl_types.specs.Rows.{is_snapshot}
-use Rattle.nl_types.specs.Worlds.{Copy, World}
+use Rattle.nl_types.specs.Worlds.{Copy, World, boundary_of}
 use Rattle.nl_cpfile.specs.Tables.{cpstat_of}
 use Rattle.nl_cpfile.specs.declared.checkpoint.Checkpoint.{Checkpoint}
 use Rattle.nl_core.specs.Means.{CopyMeans, Means}
 use Rattle.nl_core.specs.Views.{counted}
-use Rattle.nl_core.specs.Volume.{Lists, kept_by, mount_of}
-use Rattle.nl_core.proofs.CheckpointEvents.{latest-same}
+use Rattle.nl_core.specs.Volume.{Lists, boundary_in, kept_by, mount_of}
+use Rattle.nl_core.proofs.CheckpointEvents.{latest-same, rows-means}
 
 count-told : (pages : Pages) (kept : List Checkpoint) (copies : List (ℕ × Copy)) → AllZip (CopyMeans pages) kept copies
     → length kept ≡ length copies
@@ -42,6 +43,10 @@ module _ (pages : Pages) (l : Lists) (w : World) (m : Means pages l w) where
       let count = count-told pages (kept_by l) w.copies m.copies in
       let snapshots = snapshots-told pages (kept_by l) w.copies m.copies in
       λ i. record { latest = latest-same pages l w m i; count = count i; snapshots = snapshots i }
+
+  -- and so is the boundary of protection
+  pub boundary-means : (now period : ℕ) → boundary_in l.table now period ≡ boundary_of w now period
+  boundary-means now period i = boundary now period (latest-same pages l w m i) (rows-means pages l w m i)
 
   pub mounts-means : length l.mounts ≡ length w.mounts
   mounts-means = sym (ap length m.mounts ∙ length-map l.mounts mount_of)

@@ -1,5 +1,5 @@
 -- What a pen holds, its store and device included, and what an event does to it.
-use Rattle.std.specs.Prelude.{◌≡◌, ℕ, ◌+◌, ◌<◌, ◌≤◌, List, [], ◌∷◌, true, length, max, All, false, Some, Ok, Err, MatchResult}
+use Rattle.std.specs.Prelude.{◌≡◌, ℕ, ◌+◌, ◌<◌, ◌≤◌, List, [], ◌∷◌, true, length, max, All, false, Some, Err, MatchResult}
 use Rattle.std.specs.Option.{option_map}
 use Rattle.nl_types.specs.declared.error.VolError.{VolError}
 use Rattle.nl_types.specs.declared.error.VolError.TheVariants.{NoSpace, Fault, Memory, NumbersSpent}
@@ -20,7 +20,7 @@ use Rattle.nl_layout.specs.Root.{root_of}
 use Rattle.nl_layout.specs.declared.root.Root.{Root}
 use Rattle.nl_segwriter.specs.Content.{new_content}
 use Rattle.nl_device.specs.Pages.{DevicePages}
-use Rattle.nl_dat.specs.Batches.{Changes, items_of}
+use Rattle.nl_dat.specs.Batches.{Changes, TakeLowestFree, items_of}
 use Rattle.nl_dat.specs.Stores.{Store, IsStore, IsWritten, IsFaulted, address_in, content_in, is_inside, new_store}
 use Rattle.nl_blocktree.specs.Checkpoints.{WritesWhatDiffers, numbers_of}
 use Rattle.nl_blocktree.specs.Numbering.{CanTake}
@@ -103,10 +103,12 @@ WritesBetween old new changes = WritesWhatDiffers (pages_in old) (pages_in new)
     (roots_at (pages_in new) (root_of (latest_root new.lists)))
     6 changes.births changes.ends
 
--- the current tree was settled and its batch written, as the next checkpoint
+-- The current tree was settled and its batch written, as the next checkpoint. What is born has the lowest numbers that are
+-- free, in the order of the payload.
 pub record HasWritten (mode : Mode) (moment : ℕ) (old new : Layout) : Type 0 where
   pub left : HasNextNumber old.lists
   pub settled : Settled old (latest_root new.lists)
+  pub numbers : TakeLowestFree (content_in old.store) [] settled.changes.births
   pub lists : new.lists ≡ published (next_checkpoint mode moment (latest_root new.lists) old.lists) old.lists
   pub written : IsWritten new.lists.table.latest.number new.lists.table.latest.stamp
       settled.changes old.store new.store
@@ -146,8 +148,10 @@ HasDone old event answer new = new ≡ old
 
 -- ---- and a refused one
 
--- the device failed before all logs with what differs were written, and no number has changed
+-- The device failed before all logs with what differs were written, and no number has changed. The checkpoint had a number
+-- left: numbers are judged before anything is written.
 pub record HasFaulted (moment : ℕ) (old new : Layout) : Type 0 where
+  pub left : HasNextNumber old.lists
   pub lists : new.lists ≡ old.lists
   pub root : Root
   pub settled : Settled old root
@@ -187,9 +191,12 @@ Touches old event reply new =
 abbrev pub blank_layout : Geometry → DevicePages → ℕ → Layout
 blank_layout geometry pages failures = layout_of blank_lists (new_store (new_content geometry pages) failures)
 
--- from there the first checkpoint was written, of the root alone, and then the blank one went
+-- From there the first checkpoint was written, of the root alone, and then the blank one went. What is born stands at exactly
+-- the places that the checkpoint has, under the lowest numbers in the order of the payload.
 pub record IsFormatted (geometry : Geometry) (pages : DevicePages) (failures now : ℕ) (l : Layout) : Type 0 where
   pub settled : Settled (blank_layout geometry pages failures) (latest_root l.lists)
+  pub differs : WritesBetween (blank_layout geometry pages failures) l settled.changes
+  pub numbers : TakeLowestFree (content_in (blank_layout geometry pages failures).store) [] settled.changes.births
   pub written : IsWritten 1 now settled.changes (blank_layout geometry pages failures).store l.store
   pub ledger : ledger_of l
       ≡ ledger_after_all (Write settled.changes.births settled.changes.ends ∷ Remove 0 ∷ []) blank
@@ -202,7 +209,8 @@ LacksSpaceFor l (Checkpoint mode moment) = LacksSpaceToSettle l
 LacksSpaceFor l (Move segment limit moment) = LacksSpaceToMove l.lists l.store segment limit
 LacksSpaceFor l event = ⊥
 
--- the device failed during the event, though there was space; a move reads before it looks for space
+-- The device failed during the event, and at a checkpoint though there was space. Of a move it is not told whether one of its
+-- reads failed or one of its writes, so nor whether there was space.
 abbrev pub FailsIn : Layout → Layout → Event → Type 0
 FailsIn old new (Move segment limit moment) = old.store.failures < new.store.failures
 FailsIn old new event = (LacksSpaceFor old event → ⊥) × (old.store.failures < new.store.failures)
@@ -228,12 +236,14 @@ Follows allowed old event reply new = (w : World) → MeansWorld old w
 
 -- What an event does to a pen. In each world that the pen means, the event is done whole as the definitions say, or it is
 -- refused by what is allowed in its place (`follows`). The lists and the blocks become what is due (`touches`). Numbers keep
--- what they stand for (`numbers`), and what is true of every pen still is (`pen`).
+-- what they stand for (`numbers`), what is true of every pen still is (`pen`), and how often the device failed is never
+-- forgotten (`failures`).
 pub record Does (allowed : AllowedBetween) (old : Layout) (event : Event) (reply : Reply) (new : Layout) : Type 0 where
   pub follows : Follows allowed old event reply new
   pub touches : Touches old event reply new
   pub numbers : KeepsNumbers old new
   pub pen : IsPen new
+  pub failures : old.store.failures ≤ new.store.failures
 
 -- the same beside one world that the pen means
 pub record DoesIn (allowed : AllowedBetween) (old : Layout × World) (event : Event) (reply : Reply)

@@ -8,5 +8,6 @@ pub mod Inside
 pub mod CleaningEvents
 pub mod Layout
 pub mod Laws
+pub mod LedgerEvents
 pub mod CleanedPens
 pub mod CleanerViews

@@ -1,7 +1,10 @@
 //! What the pen's definitions mean, as contracts of functions that do nothing.
 ghost use Rattle.nl_core.specs.CleanedPens.{MovesKeepPens, RefusedMovesKeepPens, RetirementsKeepPens};
 ghost use Rattle.nl_core.specs.Layout.{unshared};
+ghost use Rattle.nl_core.specs.LedgerEvents.{EventsAreLedgerEvents, RunsAreLedgerEvents, RunsKeepNumbers};
 ghost use Rattle.nl_core.specs.Laws.{MeansOneWorld, EventsLeadOn, RunsLeadOn, RefusalsKeepPens, RefusalsHaveReasons, NoSpaceIsSaid, NoSpaceIsTrue, MemoryIsTaken, RangesGoOneByOne, ExpiriesGoOneByOne, SettlingsAreAlike};
+
+use nl_types::laws::{covered_numbers_stay, numbers_end_once};
 
 /// A pen means one world at most.
 pub fn pens_mean_one_world()
@@ -64,3 +67,21 @@ pub fn moves_keep_pens()
 pub fn retirements_keep_pens()
     ensures { RetirementsKeepPens }
 {}
+
+/// What an event does to the numbers and the kept checkpoints, events of the ledger do, each allowed where it comes. A
+/// checkpoint is a write of its births and ends, a removal, a range or an expiry removes one checkpoint after another, a
+/// retirement takes out the numbers of its segment, and nothing else is one. So all laws about lists of ledger events hold of
+/// lists of a pen's events.
+pub fn events_are_ledger_events()
+    ensures event { EventsAreLedgerEvents unshared }
+    ensures events { RunsAreLedgerEvents unshared }
+{}
+
+/// However many events come, a number keeps its page, its place and its start while a kept checkpoint needs it, and its end
+/// changes once at most: from none to the number of a checkpoint that was made meanwhile.
+pub fn runs_keep_numbers()
+    ensures { RunsKeepNumbers unshared }
+{
+    covered_numbers_stay();
+    numbers_end_once();
+}

@@ -21,6 +21,7 @@ use crate::tables::Tables;
 use nl_cpfile::Cpstat;
 use nl_dat::{Bdesc, Dat, DatEntry, Vstore};
 use nl_device::Device;
+use nl_files::laws::settled_numbers_are_lowest;
 use nl_protect::boundary;
 use nl_segwriter::LogSpace;
 use nl_sufile::SegTable;
@@ -69,7 +70,10 @@ fn write_checkpoint<V: Vstore>(
     ensures number { IfOk result (λ number. number ≡ tables.new.lists.table.latest.number) }
     ensures refused { IfErr result (λ e. HasRefused (Checkpoint mode moment) e
         (layout_of tables.old.lists (V.store store.old)) (layout_of tables.new.lists (V.store store.new))) }
+    ensures counted { (V.store store.old).failures ≤ (V.store store.new).failures }
 {
+    // Whatever is settled takes the lowest numbers that are free.
+    settled_numbers_are_lowest();
     let Draft { checkpoint, batch } = tables.draft(alloc, store, mode, moment)?;
     store.write(alloc, &batch, checkpoint.number, checkpoint.stamp)?;
     Ok(tables.publish(checkpoint))
@@ -197,7 +201,8 @@ impl<D: Device> Pen<D> {
 
     /// The boundary of protection: plain checkpoints below it may go.
     pub fn boundary(&self, now: u64, period: u64) -> CheckpointNumber
-        ensures { result ≡ boundary_in self.now.lists.table now period }
+        ensures layout { result ≡ boundary_in self.now.lists.table now period }
+        ensures world { (w : World) → MeansWorld self.now w → result ≡ worlds.boundary_of w now period }
     {
         boundary(self.tables.checkpoints(), now, period)
     }

@@ -1,5 +1,5 @@
 //! Needed pages are moved out of a segment.
-ghost use Rattle.std.specs.Prelude.{◌≡◌, ◌<◌, IfOk, IfErr, MatchResult, length, take};
+ghost use Rattle.std.specs.Prelude.{◌≡◌, ◌<◌, ◌≤◌, IfOk, IfErr, MatchResult, length, take};
 ghost use Rattle.nl_types.specs.Segments.{IsClosed};
 ghost use Rattle.nl_dat.specs.Located.{by_period, needed_in, needed_count};
 ghost use Rattle.nl_dat.specs.Stores.{IsMoved, IsMoveRefused};
@@ -55,6 +55,7 @@ fn move_first<V: Vstore, K: Keeping>(
         (IsMoveRefused checkpoint now
         (take limit (needed_in (V.store store.old) (by_period (K.test keeping.now)) segment))
         (V.store store.old) (V.store store.new)) }
+    ensures counted { (V.store store.old).failures ≤ (V.store store.new).failures }
 {
     let needed = match first_needed(alloc, &*store, keeping, segment, limit) {
         Ok(needed) => needed,
@@ -84,6 +85,7 @@ pub fn move_needed<V: Vstore, K: Keeping>(
         (V.store store.old) (V.store store.new)) }
     ensures refused { IfErr result (HasMovedNone (by_period (K.test keeping.now)) segment limit checkpoint now
         (V.store store.old) (V.store store.new)) }
+    ensures counted { (V.store store.old).failures ≤ (V.store store.new).failures }
 {
     if limit == 0 {
         return Err(VolError::BadRange);

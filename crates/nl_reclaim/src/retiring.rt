@@ -1,5 +1,5 @@
 //! Segments are emptied, once nothing in them is needed.
-ghost use Rattle.std.specs.Prelude.{◌≡◌, ◌<◌, IfOk, OnErr, length};
+ghost use Rattle.std.specs.Prelude.{◌≡◌, ◌<◌, ◌≤◌, IfOk, OnErr, length};
 ghost use Rattle.nl_dat.specs.Located.{by_period};
 ghost use Rattle.nl_dat.specs.Stores.{IsStore, IsReclaimed};
 ghost use Rattle.nl_reclaim.specs.Cleaning.{freed, retired};
@@ -21,6 +21,7 @@ fn free_unneeded<V: Vstore, K: Keeping>(
     ensures freed { IfOk result (λ count.
         IsReclaimed segment count (V.store store.old) (V.store store.new)) }
     ensures same { OnErr result (V.store store.new ≡ V.store store.old) }
+    ensures counted { (V.store store.old).failures ≤ (V.store store.new).failures }
 {
     if count_needed(&*store, keeping, segment) != 0 {
         return Err(VolError::StillNeeded);
@@ -40,6 +41,7 @@ pub fn retire<V: Vstore, K: Keeping>(
     ensures freed { IfOk result (λ count.
         IsReclaimed segment count (V.store store.old) (V.store store.new)) }
     ensures same { OnErr result (V.store store.new ≡ V.store store.old) }
+    ensures counted { (V.store store.old).failures ≤ (V.store store.new).failures }
 {
     match judge(store.table(), segment) {
         Ok(_) => free_unneeded(store, keeping, segment),

@@ -1,10 +1,11 @@
 //! Moves out of segments and retirements on a pen, with the replies that are due.
 use crate::events::{ALL, Call, Row, Want};
-use crate::logs::NONE_FAILS;
+use crate::logs::{NONE_FAILS, are_segments};
 use crate::rows::first_unwanted;
 use nl_core::Pen;
 use nl_device::{Failing, FaultyDevice, MemDevice};
-use nl_types::{Geometry, Mode, VolError};
+use nl_types::SegmentState::{Active, Dirty};
+use nl_types::{Geometry, Mode, SegmentState, VolError};
 use std::alloc::Global;
 use std::test::Fail;
 
@@ -49,7 +50,7 @@ const RETIRED: &[Row<'static>] = &[
     (Call::Read(b"/f", 0, ALL), Want::Bytes(b"C")),
 ];
 
-/// The first get is that of a move. It fails, and the same move goes through then.
+/// The first get is that of a move, and fails. The format wrote 2 blocks, the first content 7 and the second 4.
 const UNREAD: &[Row<'static>] = &[
     (Call::Create(b"/f"), Want::Done),
     (Call::Write(b"/f", 0, b"A"), Want::Written(1)),
@@ -57,6 +58,19 @@ const UNREAD: &[Row<'static>] = &[
     (Call::Write(b"/f", 0, b"B"), Want::Written(1)),
     (Call::CheckpointAt(Mode::Plain, 20), Want::Checkpoint(3)),
     (Call::Move(1, 30), Want::Refused(VolError::Fault)),
+];
+
+/// The segments that have logs, behind it as before it: none is in error, and the active one stays so.
+const STANDING: &[(SegmentState, u64, u32)] = &[
+    (Dirty, 0, 3),
+    (Dirty, 10, 4),
+    (Dirty, 10, 4),
+    (Dirty, 20, 4),
+    (Active, 20, 4),
+];
+
+/// The same move goes through then.
+const READ_AGAIN: &[Row<'static>] = &[
     (Call::Retire(1), Want::Refused(VolError::StillNeeded)),
     (Call::Move(1, 2), Want::Moved(2, 1)),
     (Call::Move(1, 30), Want::Moved(1, 0)),
@@ -74,12 +88,29 @@ fn unread() -> &'static [Row<'static>] {
     UNREAD
 }
 
+fn standing() -> &'static [(SegmentState, u64, u32)] {
+    STANDING
+}
+
+fn read_again() -> &'static [Row<'static>] {
+    READ_AGAIN
+}
+
+/// Whether a move is refused for a get that fails, changes no segment, and can be done again.
+fn is_read_again(alloc: Global) -> Result<bool, VolError> {
+    let mut pen = volume(alloc, Failing::Get, 0)?;
+    let is_refused = first_unwanted(alloc, &mut pen, unread())?.is_none();
+    let is_standing = are_segments(pen.segments(), standing());
+    let is_done = first_unwanted(alloc, &mut pen, read_again())?.is_none();
+    Ok(is_refused && is_standing && is_done)
+}
+
 #[test]
 fn segments_are_emptied(rt: HostRuntime) -> Result<(), Fail> {
     assert_eq!(rt;
         unwanted(rt.alloc(), Failing::Put, NONE_FAILS, retired())?,
         None
     );
-    assert_eq!(rt; unwanted(rt.alloc(), Failing::Get, 0, unread())?, None);
+    assert!(rt; is_read_again(rt.alloc())?);
     Ok(())
 }

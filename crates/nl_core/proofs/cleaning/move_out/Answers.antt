@@ -1,5 +1,4 @@
 use Rattle.std.proofs.Common.{ℕ, Bool, subst}
-use Rattle.std.specs.Prelude.{Ok, Err}
 use Rattle.std.proofs.lemmas.Result.{err_from_is_err_and}
 use Rattle.nl_types.specs.Entries.{Entry}
 use Rattle.nl_reclaim.specs.Cleaning.{HasMovedFirst, HasMovedNone}
@@ -16,7 +15,7 @@ returns-in_err-count g c =
     let new = g.V.Vstore.store c.move_needed.new.store in
     let e = c.in_err-count.field-0.0 in
     rw (p.1, p.2)
-    (does-not-moved l old new c.args.segment c.args.limit c.args.now c.requires (g.met.V.Vstore.is_store c.move_needed.new.store) e
+    (does-not-moved l old new c.args.segment c.args.limit c.args.now c.requires (g.met.V.Vstore.is_store c.move_needed.new.store) c.move_needed.ensures.counted e
     (subst (λ (number : ℕ). HasMovedNone (needed_by l) c.args.segment c.args.limit number c.args.now old new e) c.latest.ensures
     (subst (λ (needed : Entry → Bool). HasMovedNone needed c.args.segment c.args.limit c.latest.result c.args.now old new e) (needs-same l) c.in_err-count.ensures.refused)))
 
@@ -26,6 +25,6 @@ returns g c =
     let old = g.V.Vstore.store c.args.store.now in
     let new = g.V.Vstore.store c.move_needed.new.store in
     let count = c.in_ok-count.count in
-    does-moved l old new c.args.segment c.args.limit c.args.now c.requires (g.met.V.Vstore.is_store c.move_needed.new.store) count
+    does-moved l old new c.args.segment c.args.limit c.args.now c.requires (g.met.V.Vstore.is_store c.move_needed.new.store) c.move_needed.ensures.counted count
     (subst (λ (number : ℕ). HasMovedFirst (needed_by l) c.args.segment c.args.limit number c.args.now old new count) c.latest.ensures
     (subst (λ (needed : Entry → Bool). HasMovedFirst needed c.args.segment c.args.limit c.latest.result c.args.now old new count) (needs-same l) c.in_ok-count.ensures.moved))

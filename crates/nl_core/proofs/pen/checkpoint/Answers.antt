@@ -32,4 +32,4 @@ returns g c =
     subst (λ n. Does unshared old (event.Checkpoint c.args.mode c.args.moment) (Ok (answer.Checkpoint n)) new)
     (sym c.in_ok-number.ensures.number)
     (does-written old new c.args.mode c.args.moment c.requires c.in_ok-number.ensures.written
-    (g.met.V.Vstore.is_store c.write_checkpoint.new.store))
+    (g.met.V.Vstore.is_store c.write_checkpoint.new.store) c.write_checkpoint.ensures.counted)

@@ -28,5 +28,5 @@ pub returns-clause-written : goal.returns-clause-written
 returns-clause-written g c =
     let draft = c.in_ok-checkpoint.field-0 in
     written-draft c.args.tables.now.lists (g.V.Vstore.store c.args.store.now) c.args.mode c.args.moment draft c.requires.base
-    c.in_ok-checkpoint.ensures.drafted c.publish.new.self.lists (g.V.Vstore.store c.write.new.self)
+    c.in_ok-checkpoint.ensures.drafted c.settled_numbers_are_lowest.ensures c.publish.new.self.lists (g.V.Vstore.store c.write.new.self)
     (c.publish.ensures.lists ∙ ap (published draft.checkpoint) c.draft.ensures.same) c.in_ok-write.ensures.written

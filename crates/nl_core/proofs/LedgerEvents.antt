@@ -1,0 +1,165 @@
+-- Each event of a pen is events of its ledger.
+use Rattle.std.proofs.Common.{◌≡◌, ℕ, List, [], ◌∷◌, ◌++◌, take, refl, ap, sym, subst, ◌∙◌}
+use Rattle.std.specs.Prelude.{Result, Ok, Err, MatchResult, map}
+use Rattle.nl_types.specs.declared.error.VolError.{VolError}
+use Rattle.nl_types.specs.declared.error.VolError.TheVariants as error
+use Rattle.nl_types.specs.declared.event.Event.{Event}
+use Rattle.nl_types.specs.declared.event.Event.TheVariants.{Apply, ChangeMode, Checkpoint, Expire, Listing, Mount, MountRead, Move, Read, RemoveRange, Retire, Unmount}
+use Rattle.nl_types.specs.declared.event.Event.TheVariants as event
+use Rattle.nl_types.specs.declared.event.Mode.{Mode}
+use Rattle.nl_types.specs.declared.reply.Answer.{Answer}
+use Rattle.nl_types.specs.declared.reply.Answer.TheVariants as answer
+use Rattle.nl_types.specs.declared.segment.SegmentInfo.{SegmentInfo}
+use Rattle.nl_types.specs.Lifetimes.{CoveredNumbersStay, EachAllowed, EndsOnceSince, KeepsCovered, Ledger, LedgerEvent, NumbersEndOnce, Reclaim, Remove, Write, ledger_after, ledger_after_all}
+use Rattle.nl_dat.specs.Located.{needed_in}
+use Rattle.nl_dat.specs.Stores.{IsMoveRefused, IsStore}
+use Rattle.nl_reclaim.specs.Cleaning.{judged_for}
+use Rattle.nl_reclaim.specs.Reclaims.{stood_in}
+use Rattle.nl_core.specs.CleanedPens.{LeavesPen, StaysPen}
+use Rattle.nl_core.specs.CleaningEvents.{needed_by}
+use Rattle.nl_core.specs.LedgerEvents.{EventsAreLedgerEvents, LedgerGoesOn, RunsAreLedgerEvents, RunsKeepNumbers, done_events}
+use Rattle.nl_core.specs.Layout.{AllowedBetween, HasDone, HasPublished, HasRefused, HasRetired, IsPen, Layout, layout_of, ledger_of}
+use Rattle.nl_core.specs.Volume.{IsTakenOut}
+use Rattle.nl_core.proofs.Checkpointing.{ledger-same}
+use Rattle.nl_core.proofs.Checkpoints.{allowed-behind, ledger-behind}
+use Rattle.nl_core.proofs.CleanedPens.{moves_keep_pens, refused_moves_keep_pens, retirements_keep_pens}
+use Rattle.nl_core.proofs.CleaningEvents.{none_needed}
+use Rattle.nl_core.proofs.Ledgers.{stands-latest}
+use Rattle.nl_core.proofs.ModeChanges.{ledger-moded}
+use Rattle.nl_core.proofs.Removals.{each-allowed, ledger-left}
+
+-- ---- one event
+
+module _ (old new : Layout) (pen : IsPen old) where
+  abbrev GoesOn : List LedgerEvent → Type 0
+  GoesOn events = LedgerGoesOn events (ledger_of old) (ledger_of new)
+
+  -- no ledger event
+  stays : ledger_of new ≡ ledger_of old → GoesOn []
+  stays same = record { each = tt; after = same }
+
+  same-layout : new ≡ old → ledger_of new ≡ ledger_of old
+  same-layout same = ap ledger_of same
+
+  checkpointed : (mode : Mode) (moment : ℕ) (done : HasPublished mode moment old new)
+      → GoesOn (Write done.writes.settled.changes.births done.writes.settled.changes.ends ∷ [])
+  checkpointed mode moment done =
+      let tree = pen.world.1.tree in
+      let w = pen.world.0 in
+      let stands = stands-latest old pen.sound w.tree tree in
+      record {
+        each = (allowed-behind old new mode moment pen.sound tree.base w.tree stands done.writes, tt);
+        after = ledger-behind old new mode moment pen.sound tree.base w.tree stands done.writes;
+      }
+
+  -- checkpoints are gone
+  removed : (gone : List ℕ) → IsTakenOut gone old.lists new.lists → new.store ≡ old.store → GoesOn (map Remove gone)
+  removed gone taken store = record {
+    each = each-allowed old gone taken.stays;
+    after = (λ i. ledger_of (layout_of (taken.lists i) (store i))) ∙ ledger-left old gone taken.stays;
+  }
+
+  retired-segment : (segment : ℕ) (a : Answer) → HasRetired segment a old new → IsStore new.store
+      → GoesOn (Reclaim (stood_in old.store segment) ∷ [])
+  retired-segment segment a done store =
+      let emptied = done.emptied in
+      let leaves : LeavesPen segment old new =
+      retirements_keep_pens segment emptied.count old new pen done.lists store
+      (none_needed old.lists old.store segment emptied.count emptied.judged) emptied.reclaimed in
+      record { each = (leaves.allowed, tt); after = leaves.ledger }
+
+  done-goes_on : (e : Event) (a : Answer) (done : HasDone old e a new) → IsStore new.store → GoesOn (done_events old new e a done)
+  done-goes_on (Checkpoint mode moment) a done store = checkpointed mode moment done
+  done-goes_on (event.Remove n) a done store = removed (n ∷ []) done.0 done.1
+  done-goes_on (RemoveRange first last) (answer.Removed range) done store = removed range.removed done.0 done.1
+  done-goes_on (RemoveRange first last) a done store = absurd done.0
+  done-goes_on (Expire now period) (answer.Expired gone) done store = removed gone done.0.taken done.1
+  done-goes_on (Expire now period) a done store = absurd done.0
+  done-goes_on (Retire segment) a done store = retired-segment segment a done store
+  done-goes_on (Move segment limit moment) a done store =
+      let numbers : List ℕ = take limit (needed_in old.store (needed_by old.lists) segment) in
+      let kept : StaysPen old new =
+      moves_keep_pens segment old.lists.table.latest.number moment numbers old new pen done.0 store done.1.moved.moved in
+      stays kept.ledger
+  done-goes_on (ChangeMode n mode) a done store = stays (ap ledger_of done ∙ ledger-moded old n mode)
+  done-goes_on (Apply change) a done store = stays (ap ledger_of done.0)
+  done-goes_on (Mount n) a done store = stays (ap ledger_of done)
+  done-goes_on (Unmount m) a done store = stays (ap ledger_of done)
+  done-goes_on (Read ask) a done store = stays (same-layout done)
+  done-goes_on (MountRead m ask) a done store = stays (same-layout done)
+  done-goes_on (Listing options) a done store = stays (same-layout done)
+
+  -- a refusal changes nothing of the ledger
+  refused-same : (event : Event) (e : VolError) → HasRefused event e old new → IsStore new.store → ledger_of new ≡ ledger_of old
+  refused-same (Checkpoint mode moment) error.Fault refused store = ledger-same old new mode moment pen refused
+  refused-same (Checkpoint mode moment) e refused store = same-layout refused.0
+  refused-same (Move segment limit moment) e refused store = by (judged_for old.store.segments segment limit) refused.1
+    where
+      numbers : List ℕ
+      numbers = take limit (needed_in old.store (needed_by old.lists) segment)
+
+      by : (r : Result SegmentInfo VolError)
+          → MatchResult r (λ _. IsMoveRefused old.lists.table.latest.number moment numbers old.store new.store e)
+          (λ refusal. (e ≡ refusal) × (new.store ≡ old.store))
+          → ledger_of new ≡ ledger_of old
+      by (Ok i) none =
+          let kept : StaysPen old new =
+          refused_moves_keep_pens old.lists.table.latest.number moment numbers e old new pen refused.0 store none in
+          kept.ledger
+      by (Err f) none = λ i. ledger_of (layout_of (refused.0 i) (none.1 i))
+  refused-same (Retire segment) e refused store = same-layout refused.0
+  refused-same (Apply change) e refused store = same-layout refused
+  refused-same (Read ask) e refused store = same-layout refused
+  refused-same (ChangeMode n mode) e refused store = same-layout refused
+  refused-same (event.Remove n) e refused store = same-layout refused
+  refused-same (RemoveRange first last) e refused store = same-layout refused
+  refused-same (Expire now period) e refused store = same-layout refused
+  refused-same (Mount n) e refused store = same-layout refused
+  refused-same (Unmount m) e refused store = same-layout refused
+  refused-same (MountRead m ask) e refused store = same-layout refused
+  refused-same (Listing options) e refused store = same-layout refused
+
+pub events_are_ledger_events : (allowed : AllowedBetween) → EventsAreLedgerEvents allowed
+events_are_ledger_events allowed old new event (Ok a) pen does =
+    done-goes_on old new pen event a does.touches does.pen.sound.store
+events_are_ledger_events allowed old new event (Err e) pen does =
+    stays old new pen (refused-same old new pen event e does.touches does.pen.sound.store)
+
+-- ---- a list of events
+
+-- one list of ledger events behind another
+after-append : (es fs : List LedgerEvent) (l : Ledger)
+    → ledger_after_all (es ++ fs) l ≡ ledger_after_all fs (ledger_after_all es l)
+after-append [] fs l = refl
+after-append (e ∷ es) fs l = after-append es fs (ledger_after e l)
+
+each-append : (es fs : List LedgerEvent) (l : Ledger) → EachAllowed es l → EachAllowed fs (ledger_after_all es l)
+    → EachAllowed (es ++ fs) l
+each-append [] fs l here rest = rest
+each-append (e ∷ es) fs l here rest = (here.0, each-append es fs (ledger_after e l) here.1 rest)
+
+goes_on-append : (es fs : List LedgerEvent) (old mid new : Ledger) → LedgerGoesOn es old mid → LedgerGoesOn fs mid new
+    → LedgerGoesOn (es ++ fs) old new
+goes_on-append es fs old mid new first rest = record {
+  each = each-append es fs old first.each (subst (EachAllowed fs) first.after rest.each);
+  after = rest.after ∙ (ap (ledger_after_all fs) first.after ∙ sym (after-append es fs old));
+}
+
+pub runs_are_ledger_events : (allowed : AllowedBetween) → RunsAreLedgerEvents allowed
+runs_are_ledger_events allowed old new [] [] pen run = ([], record { each = tt; after = ap ledger_of run })
+runs_are_ledger_events allowed old new (e ∷ es) (r ∷ rs) pen run =
+    let first = events_are_ledger_events allowed old run.0 e r pen run.1 in
+    let rest = runs_are_ledger_events allowed run.0 new es rs run.1.pen run.2 in
+    (_, goes_on-append _ rest.0 (ledger_of old) (ledger_of run.0) (ledger_of new) first rest.1)
+runs_are_ledger_events allowed old new [] (r ∷ rs) pen run = absurd run
+runs_are_ledger_events allowed old new (e ∷ es) [] pen run = absurd run
+
+-- so numbers keep what they stand for, and end once
+pub runs_keep_numbers : (allowed : AllowedBetween) → CoveredNumbersStay → NumbersEndOnce → RunsKeepNumbers allowed
+runs_keep_numbers allowed stay end old new events replies pen run =
+    let goes = runs_are_ledger_events allowed old new events replies pen run in
+    let is = pen.sound.ledger in
+    record {
+      covered = subst (KeepsCovered (ledger_of old)) (sym goes.1.after) (stay goes.0 (ledger_of old) is goes.1.each);
+      ends = subst (EndsOnceSince (ledger_of old)) (sym goes.1.after) (end goes.0 (ledger_of old) is goes.1.each);
+    }
