@@ -3,3 +3,4 @@ mod Victims
 mod Found
 mod CleanRuns
 mod Rounds
+mod StepsLeft

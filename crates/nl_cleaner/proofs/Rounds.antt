@@ -24,13 +24,13 @@ use Rattle.nl_cleaner.specs.Laws.{RoundsLeaveNothingDead}
 use Rattle.nl_cleaner.proofs.CleanRuns.{IsDone, move-is, same-needs}
 
 -- a round that has come to its segments
-abbrev cleaning : (now period : ℕ) → List ℕ → JobView
+abbrev pub cleaning : (now period : ℕ) → List ℕ → JobView
 cleaning now period left = record { stage = Cleaning; moment = now; period = period; left = left }
 
-some-is : (a b : Event) → Some a ≡ Some b → b ≡ a
+pub some-is : (a b : Event) → Some a ≡ Some b → b ≡ a
 some-is a b h = cc
 
-none-some : (a : Event) → None ≡ Some a → ⊥
+pub none-some : (a : Event) → None ≡ Some a → ⊥
 none-some a h = cc
 
 -- ---- one event

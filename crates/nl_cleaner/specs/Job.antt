@@ -1,5 +1,5 @@
 -- A round of cleaning, event by event.
-use Rattle.std.specs.Prelude.{◌≡◌, ℕ, Bool, true, false, ◌||◌, if◌then◌else◌, List, [], ◌∷◌, drop, Option, None, Some, Ok, Err}
+use Rattle.std.specs.Prelude.{◌≡◌, ◌+◌, ◌*◌, ℕ, Bool, true, false, ◌||◌, if◌then◌else◌, List, [], ◌∷◌, length, drop, Option, None, Some, Ok, Err}
 use Rattle.nl_types.specs.declared.error.VolError.{VolError}
 use Rattle.nl_types.specs.declared.error.VolError.TheVariants.{Fault, Memory, NoSpace}
 use Rattle.nl_types.specs.declared.event.Event.{Event}
@@ -7,7 +7,9 @@ use Rattle.nl_types.specs.declared.event.Event.TheVariants.{Expire}
 use Rattle.nl_types.specs.declared.reply.Answer.{Answer}
 use Rattle.nl_types.specs.declared.reply.Answer.TheVariants.{Freed}
 use Rattle.nl_types.specs.Worlds.{Reply}
+use Rattle.nl_dat.specs.Located.{needed_count}
 use Rattle.nl_core.specs.CleanerViews.{cleaning_event}
+use Rattle.nl_core.specs.CleaningEvents.{needed_by}
 use Rattle.nl_core.specs.Layout.{Does, Layout, unshared}
 use Rattle.nl_cleaner.specs.declared.job.Stage.{Stage}
 pub use Rattle.nl_cleaner.specs.declared.job.Stage.TheVariants.{Cleaning, Ended, Expiring}
@@ -79,3 +81,21 @@ pub record Stepped (old : JobView × Layout) (event : Event) (reply : Reply) (ne
 pub record IsOver (old new : JobView × Layout) : Type 0 where
   pub next : next_event old.0 old.1 ≡ None
   pub unchanged : new ≡ old
+
+-- ---- how many steps are left
+
+-- One for each segment and one for each of its needed numbers, since a move that is done takes one out at least. A segment
+-- that isn't begun counts as full: none has more than 2048 blocks.
+abbrev pub cleaning_left : List ℕ → Layout → ℕ
+cleaning_left [] l = 0
+cleaning_left (segment ∷ rest) l =
+    1 + needed_count l.store (needed_by l.lists) segment + length rest * 2049
+
+abbrev pub left_by : Stage → JobView → Layout → ℕ
+left_by Expiring job l = 1 + length job.left * 2049
+left_by Cleaning job l = cleaning_left job.left l
+left_by Ended job l = 0
+
+-- no more than these: each step lowers the number
+abbrev pub steps_left : JobView → Layout → ℕ
+steps_left job l = left_by job.stage job l

@@ -1,7 +1,7 @@
 //! A round of cleaning as a machine: one event of the pen at a time.
-ghost use Rattle.std.specs.Prelude.{◌≡◌, MatchOption};
+ghost use Rattle.std.specs.Prelude.{◌≡◌, ◌<◌, MatchOption, OnSome};
 ghost use Rattle.nl_types.specs.declared.event.Event.{Event};
-ghost use Rattle.nl_cleaner.specs.Job.{IsOver, Stepped, ends_round, next_event, noted};
+ghost use Rattle.nl_cleaner.specs.Job.{IsOver, Stepped, ends_round, next_event, noted, steps_left};
 
 use nl_core::Pen;
 use nl_device::Device;
@@ -113,9 +113,11 @@ impl Job {
     /// Does the next event of the round, and answers the pen's reply to it; None where the round is over. A refusal for want
     /// of space or of memory or for a fault ends the round; where a segment can't be cleaned, it goes on to the next one.
     pub fn step<D: Device>(&mut self, pen: &mut Pen<D>) -> Option<Reply>
-        ensures { MatchOption result (IsOver (self.old, pen.old) (self.new, pen.new))
+        ensures stepped { MatchOption result (IsOver (self.old, pen.old) (self.new, pen.new))
             (λ reply. (event : Event) × Stepped (self.old, pen.old) event reply (self.new, pen.new)) }
+        ensures fewer { OnSome result (steps_left self.new pen.new < steps_left self.old pen.old) }
     {
+        pen.means_a_world();
         let event = self.next(pen)?;
         let reply = pen.apply(&event);
         self.note(&reply);

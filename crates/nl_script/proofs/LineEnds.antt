@@ -45,7 +45,7 @@ told_end does counts number moment command old new events es replies rs quiet re
     }
 
 listing_cases : {S J : Type 0} (habits : Habits S J) (config : Config) (number moment : ℕ) (all : Bool) (old : S) (end : LineEnd)
-    → (AreListed habits.tells habits.measures moment all old end ⊎ IsListingRefused habits.tells number moment old end)
+    → (AreListed habits.tells habits.measures moment all old end ⊎ IsListingRefused habits.tells habits.measures number moment old end)
     ⊎ (end ≡ refused number moment error.Memory)
     → IsCommandDone habits config number moment (Lssu all) old old end ⊎ LacksMemory number moment old old end
 listing_cases habits config number moment all old end (inl told) = inl (refl, told)
@@ -54,7 +54,7 @@ listing_cases habits config number moment all old end (inr lacks) = inr (refl, l
 -- segments are listed
 pub listing_end : {S J X E : Type 0} (habits : Habits S J) (config : Config) (number moment : ℕ) (all : Bool) (command : Command) (old : S)
     (result : Status × Result X E) (before after : Option Text) → command ≡ Lssu all
-    → ComesTo (λ end. (AreListed habits.tells habits.measures moment all old end ⊎ IsListingRefused habits.tells number moment old end)
+    → ComesTo (λ end. (AreListed habits.tells habits.measures moment all old end ⊎ IsListingRefused habits.tells habits.measures number moment old end)
     ⊎ (end ≡ refused number moment error.Memory)) moment result before after
     → ComesTo (λ end. IsCommandDone habits config number moment command old old end ⊎ LacksMemory number moment old old end) moment result before after
 listing_end habits config number moment all command old result before after is told = record {

@@ -1,8 +1,7 @@
 -- One step more of a round.
-use Rattle.std.proofs.Common.{◌≡◌, ◌∙◌, ◌+◌, ◌-◌, ◌^◌, ◌++◌, ap, sym, refl, subst, List, ◌∷◌, [], ℕ, length, Option, None, Some, inl, inr, arith}
-use Rattle.std.proofs.lemmas.Grind.{common_steps}
+use Rattle.std.proofs.Common.{◌≡◌, ◌∙◌, ◌++◌, ap, sym, refl, subst, List, ◌∷◌, [], Option, None, Some}
 use Rattle.nl_types.specs.Worlds.{Reply}
-use Rattle.nl_script.specs.Rounds.{AreSteps, IsAtEnd, IsRoundOver, nothing_done, sum_behind, with_reply}
+use Rattle.nl_script.specs.Rounds.{AreSteps, IsRoundOver, nothing_done, sum_behind, with_reply}
 use Rattle.nl_script.specs.declared.rounds.RoundSum.{RoundSum}
 
 sum_behind-more : (sum : RoundSum) (replies : List Reply) (reply : Reply)
@@ -20,24 +19,21 @@ AreSteps-more steps job later next old mid new (r ∷ replies) reply done one =
     (done.0, done.1, done.2, AreSteps-more steps done.1 later next done.0 mid new replies reply done.3 one)
 
 -- the steps so far
-pub record IsRoundSoFar {S J : Type 0} (steps : S → J → Option Reply → S → J → Type 0) (job later : J) (old now : S) (sum : RoundSum)
-    (count : ℕ) : Type 0 where
+pub record IsRoundSoFar {S J : Type 0} (steps : S → J → Option Reply → S → J → Type 0) (job later : J) (old now : S) (sum : RoundSum) : Type 0 where
   pub replies : List Reply
   pub done : AreSteps steps job old replies later now
-  pub count_is : count ≡ length replies
   pub sum_is : sum ≡ sum_behind nothing_done replies
 
 module _ {S J : Type 0} (steps : S → J → Option Reply → S → J → Type 0) (job : J) (old : S) where
-  pub round-start : (sum : RoundSum) → sum ≡ nothing_done → IsRoundSoFar steps job job old old sum 0
-  round-start sum is = record { replies = []; done = (refl, refl); count_is = refl; sum_is = is }
+  pub round-start : (sum : RoundSum) → sum ≡ nothing_done → IsRoundSoFar steps job job old old sum
+  round-start sum is = record { replies = []; done = (refl, refl); sum_is = is }
 
-  module _ (later : J) (mid : S) (sum : RoundSum) (count : ℕ) (so_far : IsRoundSoFar steps job later old mid sum count) where
+  module _ (later : J) (mid : S) (sum : RoundSum) (so_far : IsRoundSoFar steps job later old mid sum) where
     pub round-more : (next : J) (new : S) (reply : Reply) (more : RoundSum) → steps mid later (Some reply) new next → more ≡ with_reply sum reply
-        → IsRoundSoFar steps job next old new more (count + 1)
+        → IsRoundSoFar steps job next old new more
     round-more next new reply more one is = record {
       replies = so_far.replies ++ reply ∷ [];
       done = AreSteps-more steps job later next old mid new so_far.replies reply so_far.done one;
-      count_is = grind (arith, common_steps, so_far.count_is);
       sum_is = is ∙ ap (λ (s : RoundSum). with_reply s reply) so_far.sum_is ∙ sym (sum_behind-more nothing_done so_far.replies reply);
     }
 
@@ -48,17 +44,7 @@ module _ {S J : Type 0} (steps : S → J → Option Reply → S → J → Type 0
       later = later;
       mid = mid;
       done = so_far.done;
-      over = inl (last, none);
-      sum_is = so_far.sum_is;
-    }
-
-    -- there is no number for another step
-    pub round-stops : count ≡ 2 ^ 64 - 1 → IsRoundOver steps job old mid sum
-    round-stops is = record {
-      replies = so_far.replies;
-      later = later;
-      mid = mid;
-      done = so_far.done;
-      over = inr (sym so_far.count_is ∙ is, refl);
+      last = last;
+      over = none;
       sum_is = so_far.sum_is;
     }

@@ -3,18 +3,18 @@ use Rattle.std.proofs.Common.{◌≡◌, ◌∙◌, ◌+◌, ◌<◌, ◌++◌, 
 use Rattle.std.specs.Io.BufRead.{first_piece, drop_through}
 use Rattle.nl_protect.specs.declared.config.Config.{Config}
 use Rattle.nl_script.specs.Habits.{Habits}
-use Rattle.nl_script.specs.Lines.{IsLineDone, LineEnd}
+use Rattle.nl_script.specs.Lines.{IsLineAnswered, LineEnd}
 use Rattle.nl_script.specs.Scripts.{AreLinesDone, BeginsWithLines, last_moment, number_behind}
 
 pub AreLinesDone-more : {S J : Type 0} (habits : Habits S J) (config : Config) (count n moment : ℕ) (old mid new : S) (lines : List (List ℕ)) (ends : List LineEnd)
     (line : List ℕ) (end : LineEnd) → count + length lines ≡ n → AreLinesDone habits config count moment lines old mid ends
-    → IsLineDone habits config (number_behind n) (last_moment moment ends) line mid new end
+    → IsLineAnswered habits config (number_behind n) (last_moment moment ends) line mid new end
     → AreLinesDone habits config count moment (lines ++ line ∷ []) old new (ends ++ end ∷ [])
 AreLinesDone-more {S = S} habits config count n moment old mid new [] [] line end counted done one =
     let here : n ≡ count = grind (arith, counted) in (
       new,
-      subst (λ (s : S). IsLineDone habits config (number_behind count) moment line s new end) done
-          (subst (λ (k : ℕ). IsLineDone habits config (number_behind k) moment line mid new end) here one),
+      subst (λ (s : S). IsLineAnswered habits config (number_behind count) moment line s new end) done
+          (subst (λ (k : ℕ). IsLineAnswered habits config (number_behind k) moment line mid new end) here one),
       refl,
     )
 AreLinesDone-more habits config count n moment old mid new (x ∷ lines) (e ∷ ends) line end counted done one =

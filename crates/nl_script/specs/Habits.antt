@@ -23,3 +23,5 @@ pub record Habits (S J : Type 0) : Type 1 where
   pub plans : S → Config → (moment : ℕ) → J → Type 0
   -- a step of a round, with its reply or none, leads from one state to another
   pub steps : Steps S J
+  -- how many steps of a round are left at most: each step lowers it
+  pub left : S → J → ℕ

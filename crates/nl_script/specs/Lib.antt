@@ -6,6 +6,8 @@ pub mod Rounds
 pub mod Habits
 pub mod Lines
 pub mod Scripts
+pub mod Turns
 pub mod Pens
 pub mod Configurations
 pub mod Sessions
+pub mod Laws

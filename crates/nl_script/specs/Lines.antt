@@ -1,5 +1,5 @@
 -- What the lines of a script do, one after another.
-use Rattle.std.specs.Prelude.{◌≡◌, ◌⊎◌, ◌+◌, ℕ, Bool, true, false, List, [], ◌∷◌, ◌++◌, length, Option, None, Some, is_some, Result, Ok, Err, OnOk}
+use Rattle.std.specs.Prelude.{◌≡◌, ◌⊎◌, ◌+◌, ◌<◌, ℕ, Bool, true, false, List, [], ◌∷◌, ◌++◌, length, Option, None, Some, is_some, Result, Ok, Err, OnOk}
 use Rattle.std.specs.Io.KnownBytes.{Appends}
 use Rattle.std.specs.List.{list_any}
 use Rattle.nl_types.specs.Runs.{Run}
@@ -92,14 +92,22 @@ abbrev pub AreListed : {S : Type 0} → (S → ℕ → Result SegmentInfo VolErr
 AreListed tells measures moment all old end =
     (infos : List SegmentInfo) × AreAllTold tells measures old infos × (end ≡ ended moment Fine (seg_header ++ seg_texts all infos))
 
--- the volume refuses so to tell of a segment
-abbrev pub IsUntold : {S : Type 0} → (S → ℕ → Result SegmentInfo VolError → Type 0) → S → VolError → Type 0
-IsUntold tells old error = (segment : ℕ) × tells old segment (Err error)
+-- the volume refuses so to tell of one of the first so many segments
+abbrev pub IsUntoldBelow : {S : Type 0} → (S → ℕ → Result SegmentInfo VolError → Type 0) → (count : ℕ) → S → VolError
+    → Type 0
+IsUntoldBelow tells count old error = (segment : ℕ) × (segment < count) × tells old segment (Err error)
 
--- the listing is refused, since the volume refuses to tell of a segment
-abbrev pub IsListingRefused : {S : Type 0} → (S → ℕ → Result SegmentInfo VolError → Type 0) → (number moment : ℕ) → S → LineEnd → Type 0
-IsListingRefused tells number moment old end =
-    (error : VolError) × IsUntold tells old error × (end ≡ refused number moment error)
+-- the volume refuses so to tell of a segment that there is
+abbrev pub IsUntold : {S : Type 0} → (S → ℕ → Result SegmentInfo VolError → Type 0) → (S → Sustat → Type 0)
+    → S → VolError → Type 0
+IsUntold tells measures old error =
+    (stat : Sustat) × measures old stat × IsUntoldBelow tells stat.segments old error
+
+-- the listing is refused, since the volume refuses to tell of one
+abbrev pub IsListingRefused : {S : Type 0} → (S → ℕ → Result SegmentInfo VolError → Type 0) → (S → Sustat → Type 0)
+    → (number moment : ℕ) → S → LineEnd → Type 0
+IsListingRefused tells measures number moment old end =
+    (error : VolError) × IsUntold tells measures old error × (end ≡ refused number moment error)
 
 -- a round is planned and done, and all that it came to is told
 pub record IsRoundDone {S J : Type 0} (habits : Habits S J) (config : Config) (number moment : ℕ) (old new : S)
@@ -116,7 +124,8 @@ abbrev pub IsCommandDone : {S J : Type 0} → Habits S J → Config → (number 
 IsCommandDone habits config number moment (At later) old new end = (new ≡ old) × (end ≡ ended later Fine [])
 IsCommandDone habits config number moment (Lssu all) old new end =
     (new ≡ old)
-    × (AreListed habits.tells habits.measures moment all old end ⊎ IsListingRefused habits.tells number moment old end)
+    × (AreListed habits.tells habits.measures moment all old end
+    ⊎ IsListingRefused habits.tells habits.measures number moment old end)
 IsCommandDone habits config number moment Clean old new end = IsRoundDone habits config number moment old new end
 IsCommandDone habits config number moment command old new end =
     AreOutcomesTold habits.does habits.counts number moment command old new end
@@ -140,6 +149,12 @@ pub record IsLineDone {S J : Type 0} (habits : Habits S J) (config : Config) (nu
   pub read : LineRead
   pub means : MeansLine line read
   pub does : IsReadDone habits config number moment read old new end
+
+-- a line is done, or there is no memory for it, and its refusal stands in its place
+abbrev pub IsLineAnswered : {S J : Type 0} → Habits S J → Config → (number moment : ℕ) → (line : List ℕ) → S → S
+    → LineEnd → Type 0
+IsLineAnswered habits config number moment line old new end =
+    IsLineDone habits config number moment line old new end ⊎ LacksMemory number moment old new end
 
 -- It is done so, with this status and the moment that stands behind it. Unless the writer failed, it got the text.
 pub record ComesTo {X E : Type 0} (Does : LineEnd → Type 0) (moment : ℕ) (result : Status × Result X E) (before after : Option Text) : Type 0 where

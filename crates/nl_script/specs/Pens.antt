@@ -12,7 +12,7 @@ use Rattle.nl_cpfile.specs.declared.table.Cpstat.{Cpstat}
 use Rattle.nl_sufile.specs.declared.table.Sustat.{Sustat}
 use Rattle.nl_protect.specs.declared.config.Config.{Config}
 use Rattle.nl_core.specs.Layout.{Does, Layout, unshared}
-use Rattle.nl_cleaner.specs.Job.{IsOver, JobView, Stepped}
+use Rattle.nl_cleaner.specs.Job.{IsOver, JobView, Stepped, steps_left}
 use Rattle.nl_cleaner.specs.Plan.{IsPlan}
 use Rattle.nl_script.specs.Habits.{Habits}
 
@@ -40,6 +40,9 @@ abbrev pub pen_steps : Layout → JobView → Option Reply → Layout → JobVie
 pen_steps old job reply new next =
     MatchOption reply (IsOver (job, old) (next, new)) (λ r. (event : Event) × Stepped (job, old) event r (next, new))
 
+abbrev pub pen_left : Layout → JobView → ℕ
+pen_left l job = steps_left job l
+
 abbrev pub pen_habits : Habits Layout JobView
 pen_habits = record {
   does = pen_does;
@@ -48,4 +51,5 @@ pen_habits = record {
   measures = pen_measures;
   plans = pen_plans;
   steps = pen_steps;
+  left = pen_left;
 }

@@ -50,19 +50,14 @@ AreSteps steps job old [] later new = (later ≡ job) × (new ≡ old)
 AreSteps {S = S} {J = K} steps job old (reply ∷ replies) later new =
     (mid : S) × (next : K) × steps old job (Some reply) mid next × AreSteps steps next mid replies later new
 
--- no step is left, or so many were done as there are numbers of 64 bits above 0
-abbrev pub IsAtEnd : {S J : Type 0} → Steps S J → (job : J) → (count : ℕ)
-    → (old new : S) → Type 0
-IsAtEnd {J = K} steps job count old new =
-    ((last : K) × steps old job None new last) ⊎ ((count ≡ 2 ^ 64 - 1) × (new ≡ old))
-
--- the steps of a round are done, and came to this
+-- the steps of a round are done until none is left, and came to this
 pub record IsRoundOver {S J : Type 0} (steps : Steps S J) (job : J) (old new : S) (sum : RoundSum) : Type 0 where
   pub replies : List Reply
   pub later : J
   pub mid : S
   pub done : AreSteps steps job old replies later mid
-  pub over : IsAtEnd steps later (length replies) mid new
+  pub last : J
+  pub over : steps mid later None new last
   pub sum_is : sum ≡ sum_behind nothing_done replies
 
 -- ---- what is told

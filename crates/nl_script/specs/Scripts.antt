@@ -1,12 +1,14 @@
 -- What a whole script does.
-use Rattle.std.specs.Prelude.{◌≡◌, ◌+◌, ◌-◌, ◌^◌, ◌<◌, ◌||◌, if◌then◌else◌, not, min, ℕ, Bool, true, false, List, [], ◌∷◌, length, Option, Some, IfSome}
+use Rattle.std.specs.Prelude.{◌≡◌, ◌+◌, ◌-◌, ◌^◌, ◌<◌, ◌||◌, if◌then◌else◌, min, ℕ, Bool, true, false, List, [], ◌∷◌, ◌++◌, length, Option, None, Some, is_some, IfSome}
 use Rattle.std.specs.Io.BufRead.{first_piece, drop_through}
 use Rattle.std.specs.Io.KnownBytes.{Appends}
 use Rattle.std.specs.List.{list_any, flat_map}
 use Rattle.nl_texts.specs.Texts.{Text}
+use Rattle.nl_texts.specs.declared.streams.StandardStream.{StandardStream}
+use Rattle.nl_texts.specs.declared.streams.StandardStream.TheVariants.{Input, Output}
 use Rattle.nl_protect.specs.declared.config.Config.{Config}
 use Rattle.nl_script.specs.Habits.{Habits}
-use Rattle.nl_script.specs.Lines.{IsLineDone, LineEnd}
+use Rattle.nl_script.specs.Lines.{IsLineAnswered, LineEnd}
 use Rattle.nl_script.specs.declared.scripts.Done.{Done}
 use Rattle.nl_script.specs.declared.status.Status.{Status}
 use Rattle.nl_script.specs.declared.status.Status.TheVariants.{Refused, Misread}
@@ -15,12 +17,12 @@ use Rattle.nl_script.specs.declared.status.Status.TheVariants.{Refused, Misread}
 abbrev pub number_behind : (count : ℕ) → ℕ
 number_behind count = min (count + 1) (2 ^ 64 - 1)
 
--- the lines are done one after another, behind so many others
+-- the lines are done one after another, behind so many others; each may be refused for memory instead
 abbrev pub AreLinesDone : {S J : Type 0} → Habits S J → Config → (count moment : ℕ) → List (List ℕ) → S → S
     → List LineEnd → Type 0
 AreLinesDone habits config count moment [] old new [] = new ≡ old
 AreLinesDone {S = S} habits config count moment (line ∷ lines) old new (end ∷ ends) =
-    (mid : S) × IsLineDone habits config (number_behind count) moment line old mid end
+    (mid : S) × IsLineAnswered habits config (number_behind count) moment line old mid end
     × AreLinesDone habits config (count + 1) end.moment lines mid new ends
 AreLinesDone habits config count moment [] old new (end ∷ ends) = ⊥
 AreLinesDone habits config count moment (line ∷ lines) old new [] = ⊥
@@ -57,43 +59,53 @@ BeginsWithLines bytes (line ∷ lines) rest =
 abbrev pub BeginsSo : Option (List ℕ) → List (List ℕ) → Option (List ℕ) → Type 0
 BeginsSo input lines left = IfSome input (λ bytes. (rest : List ℕ) × (left ≡ Some rest) × BeginsWithLines bytes lines rest)
 
+-- ---- what is written
+
+abbrev pub texts_of : List LineEnd → Text
+texts_of ends = flat_map text_of_line ends
+
+-- the writer fails at the last line: it got the texts of those before
+pub record FailsAtLast {O : Type 0} (contents : O → Option Text) (before : O) (ends : List LineEnd) : Type 0 where
+  pub written : List LineEnd
+  pub last : LineEnd
+  pub ends_are : ends ≡ written ++ last ∷ []
+  pub mid : O
+  pub got : Appends (contents before) (contents mid) (texts_of written)
+
+-- all texts of the lines are written, unless the writer fails
+abbrev pub AreWritten : {O : Type 0} → Option StandardStream → (O → Option Text) → (before after : O) → List LineEnd → Type 0
+AreWritten (Some Output) contents before after ends = FailsAtLast contents before ends
+AreWritten (Some Input) contents before after ends = Appends (contents before) (contents after) (texts_of ends)
+AreWritten None contents before after ends = Appends (contents before) (contents after) (texts_of ends)
+
+-- ---- the whole
+
 -- the lines of a script so far, of which none failed
 pub record IsRunSoFar {S J : Type 0} (habits : Habits S J) (config : Config) (moment : ℕ) (old now : S) (done : Done)
-    (number : ℕ) (input left before after : Option (List ℕ)) : Type 0 where
+    (number : ℕ) (input left before after : Option Text) : Type 0 where
   pub lines : List (List ℕ)
   pub ends : List LineEnd
   pub are_done : AreLinesDone habits config 0 moment lines old now ends
-  pub number_is : number ≡ min (length lines) (2 ^ 64 - 1)
+  pub number_is : number ≡ length lines + 1
   pub moment_is : done.moment ≡ last_moment moment ends
   pub misread_is : done.misread ≡ list_any is_misread ends
   pub refused_is : done.refused ≡ list_any is_refused ends
-  pub written : Appends before after (flat_map text_of_line ends)
+  pub written : Appends before after (texts_of ends)
   pub read : BeginsSo input lines left
 
--- What came of a script. Each flag is given by one of the lines. Unless a stream failed, they are all lines of the input,
--- and all of their texts are written.
-pub record IsScriptDone {S J : Type 0} (habits : Habits S J) (config : Config) (moment : ℕ) (old new : S) (done : Done)
-    (input before after : Option (List ℕ)) : Type 0 where
+-- What came of a script. Each flag is given by one of the lines. Unless a stream failed, they are all lines of the input. All
+-- of their texts are written, but that of the last where the writer failed; so no line behind it is done.
+pub record IsScriptDone {S J O : Type 0} (habits : Habits S J) (config : Config) (moment : ℕ) (old new : S) (done : Done)
+    (input : Option Text) (contents : O → Option Text) (before after : O) : Type 0 where
   pub lines : List (List ℕ)
   pub ends : List LineEnd
   pub are_done : AreLinesDone habits config 0 moment lines old new ends
   pub moment_is : done.moment ≡ last_moment moment ends
   pub misread_is : done.misread ≡ list_any is_misread ends
   pub refused_is : done.refused ≡ list_any is_refused ends
-  pub written : done.failed ≡ false → Appends before after (flat_map text_of_line ends)
-  pub read : IfSome input (λ bytes. (rest : List ℕ) × BeginsWithLines bytes lines rest × (done.failed ≡ false → rest ≡ []))
-
--- a line is done and counted; where the script goes on, no stream failed
-pub record IsLineCounted {S J : Type 0} (habits : Habits S J) (config : Config) (number : ℕ) (line : List ℕ)
-    (before_done after_done : Done) (old new : S) (goes_on : Bool) (before after : Option Text) : Type 0 where
-  pub end : LineEnd
-  pub does : IsLineDone habits config number before_done.moment line old new end
-  pub moment_is : after_done.moment ≡ end.moment
-  pub misread_is : after_done.misread ≡ (before_done.misread || is_misread end)
-  pub refused_is : after_done.refused ≡ (before_done.refused || is_refused end)
-  pub failed_is : after_done.failed ≡ (before_done.failed || not goes_on)
-  pub written : goes_on ≡ true → Appends before after end.text
+  pub written : AreWritten done.failed contents before after ends
+  pub read : IfSome input (λ bytes. (rest : List ℕ) × BeginsWithLines bytes lines rest × (done.failed ≡ None → rest ≡ []))
 
 -- what the process ends with
 abbrev pub exit_status : Done → ℕ
-exit_status done = if done.misread then 2 else if done.refused || done.failed then 1 else 0
+exit_status done = if done.misread then 2 else if done.refused || is_some done.failed then 1 else 0

@@ -1,5 +1,6 @@
 -- What a session of the program does.
-use Rattle.std.specs.Prelude.{◌≡◌, ◌⊎◌, ◌≤◌, ℕ, List, Option, Result, Ok, Err}
+use Rattle.std.specs.Prelude.{◌≡◌, ◌⊎◌, ◌<◌, ◌≤◌, ℕ, List, length, string_bytes, Option, None, Result, Ok, Err}
+use Rattle.std.specs.Io.KnownBytes.{Appends}
 use Rattle.nl_types.specs.Limits.{IsGeometry}
 use Rattle.nl_types.specs.Worlds.{formatted}
 use Rattle.nl_types.specs.declared.error.VolError.{VolError}
@@ -29,25 +30,51 @@ pub record IsNewVolume (geometry : Geometry) (l : Layout) : Type 0 where
   pub is_formatted : IsFormatted geometry pages failures 0 l
   pub means : MeansWorld l (formatted 0)
 
--- a script is done on a volume, from moment 0 on, with rounds by this configuration
-pub record IsScriptRun (config : Config) (input before : Option Text) (old : Layout) (done : Done) : Type 0 where
-  pub new : Layout
-  pub after : Option Text
-  pub does : IsScriptDone pen_habits config 0 old new done input before after
+-- the streams of a session
+pub record Streams (O E : Type 0) : Type 0 where
+  -- the bytes of the input, where they are known
+  pub input : Option Text
+  -- what an output holds, where it is known
+  pub contents : O → Option Text
+  -- the output before the session and behind it
+  pub output : O
+  pub printed : O
+  -- and the stream of errors
+  pub errors : E
+  pub told : E
 
-pub record RunsOnNew (geometry : Geometry) (config : Config) (input before : Option Text) (done : Done) : Type 0 where
+abbrev pub streams : {O E : Type 0} → Option Text → (O → Option Text) → (output printed : O) → (errors told : E) → Streams O E
+streams input contents output printed errors told = record {
+  input = input;
+  contents = contents;
+  output = output;
+  printed = printed;
+  errors = errors;
+  told = told;
+}
+
+-- a script is done on a volume, from moment 0 on, with rounds by this configuration, and nothing but its texts is printed
+pub record IsScriptRun {O : Type 0} (config : Config) (input : Option Text) (contents : O → Option Text)
+    (output printed : O) (old : Layout) (done : Done) : Type 0 where
+  pub new : Layout
+  pub does : IsScriptDone pen_habits config 0 old new done input contents output printed
+
+pub record RunsOnNew {O : Type 0} (geometry : Geometry) (config : Config) (input : Option Text)
+    (contents : O → Option Text) (output printed : O) (done : Done) : Type 0 where
   pub volume : Layout
   pub is_new : IsNewVolume geometry volume
-  pub runs : IsScriptRun config input before volume done
+  pub runs : IsScriptRun config input contents output printed volume done
 
--- the script is done on a new volume of what was asked for, which is within the limits
-pub record IsRunOf (arguments : Arguments) (config : Config) (input before : Option Text) (status : ℕ) : Type 0 where
+-- The script is done on a new volume of what was asked for, which is within the limits. No word is said of errors, unless a
+-- stream failed.
+pub record IsRunOf {O E : Type 0} (arguments : Arguments) (config : Config) (s : Streams O E) (status : ℕ) : Type 0 where
   pub geometry : Geometry
   pub segments : geometry.segments ≡ arguments.segments
   pub blocks : geometry.blocks ≡ arguments.blocks
   pub within : IsGeometry arguments.segments arguments.blocks
   pub done : Done
-  pub runs : RunsOnNew geometry config input before done
+  pub runs : RunsOnNew geometry config s.input s.contents s.output s.printed done
+  pub silent : done.failed ≡ None → s.told ≡ s.errors
   pub status_is : status ≡ exit_status done
 
 abbrev pub IsMemoryOrFault : VolError → Type 0
@@ -59,39 +86,52 @@ IsStartRefused arguments step.Configuration error = ⊥
 IsStartRefused arguments step.Geometry error = (IsGeometry arguments.segments arguments.blocks → ⊥) × (error ≡ BadGeometry)
 IsStartRefused arguments step.Start error = IsGeometry arguments.segments arguments.blocks × IsMemoryOrFault error
 
--- no line is done
-pub record IsRefusedBefore (arguments : Arguments) (status : ℕ) : Type 0 where
+-- no line is run: the output is as it was
+abbrev pub RunsNoLine : {O E : Type 0} → Streams O E → Type 0
+RunsNoLine s = s.printed ≡ s.output
+
+pub record IsRefusedBefore {O E : Type 0} (arguments : Arguments) (s : Streams O E) (status : ℕ) : Type 0 where
   pub step : StartStep
   pub error : VolError
   pub is_refused : IsStartRefused arguments step error
+  pub no_line : RunsNoLine s
   pub status_is : status ≡ 1
 
--- the script is done, and no word is said of errors, or a step before its first line is refused
-abbrev pub RunsWith : {E : Type 0} → Arguments → Config → (input before : Option Text) → (errors told : E) → (status : ℕ) → Type 0
-RunsWith arguments config input before errors told status =
-    (IsRunOf arguments config input before status × (told ≡ errors)) ⊎ IsRefusedBefore arguments status
+-- the script is done, or a step before its first line is refused
+abbrev pub RunsWith : {O E : Type 0} → Arguments → Config → Streams O E → (status : ℕ) → Type 0
+RunsWith arguments config s status = IsRunOf arguments config s status ⊎ IsRefusedBefore arguments s status
 
--- the same where there is a configuration; where there is none, no line is done
-abbrev pub RunsIfRead : {E : Type 0} → ConfigurationRead → Arguments → (input before : Option Text) → (errors told : E)
-    → (status : ℕ) → Type 0
-RunsIfRead (Ok config) arguments input before errors told status = RunsWith arguments config input before errors told status
-RunsIfRead (Err fault) arguments input before errors told status = status ≡ 1
+-- the same where there is a configuration
+abbrev pub RunsIfRead : {O E : Type 0} → ConfigurationRead → Arguments → Streams O E → (status : ℕ) → Type 0
+RunsIfRead (Ok config) arguments s status = RunsWith arguments config s status
+RunsIfRead (Err fault) arguments s status = RunsNoLine s × (status ≡ 1)
 
 -- the configuration is read first
-pub record RunsOrRefuses {E : Type 0} (arguments : Arguments) (input before : Option Text) (errors told : E) (status : ℕ) : Type 0 where
+pub record RunsOrRefuses {O E : Type 0} (arguments : Arguments) (s : Streams O E) (status : ℕ) : Type 0 where
   pub read : ConfigurationRead
   pub is_read : IsConfigured arguments.configuration read
-  pub runs : RunsIfRead read arguments input before errors told status
+  pub runs : RunsIfRead read arguments s status
 
--- a text that was asked for is told, or a stream failed
-abbrev pub Comes : {E : Type 0} → Result Asked ArgumentsFault → (input before : Option Text) → (errors told : E) → (status : ℕ) → Type 0
-Comes (Ok (Run arguments)) input before errors told status = RunsOrRefuses arguments input before errors told status
-Comes (Ok (Help text)) input before errors told status = (status ≤ 1) × (told ≡ errors)
-Comes (Ok (Version text)) input before errors told status = (status ≤ 1) × (told ≡ errors)
-Comes (Err fault) input before errors told status = status ≡ fault_status fault
+-- the text is printed, which isn't empty, and no word is said of errors
+pub record IsTextPrinted {O E : Type 0} (text : Text) (s : Streams O E) : Type 0 where
+  pub something : 0 < length text
+  pub written : Appends (s.contents s.output) (s.contents s.printed) text
+  pub silent : s.told ≡ s.errors
+
+-- a text that was asked for is printed, unless the output fails
+pub record Prints {O E : Type 0} (text : Text) (s : Streams O E) (status : ℕ) : Type 0 where
+  pub most : status ≤ 1
+  pub fine : status ≡ 0 → IsTextPrinted text s
+
+-- what the words ask for is done, or their fault is told
+abbrev pub Comes : {O E : Type 0} → Result Asked ArgumentsFault → Streams O E → (status : ℕ) → Type 0
+Comes (Ok (Run arguments)) s status = RunsOrRefuses arguments s status
+Comes (Ok (Help text)) s status = Prints (string_bytes text) s status
+Comes (Ok (Version text)) s status = Prints (string_bytes text) s status
+Comes (Err fault) s status = RunsNoLine s × (status ≡ fault_status fault)
 
 -- the words are judged first
-pub record IsSession {E : Type 0} (words : List Text) (input before : Option Text) (errors told : E) (status : ℕ) : Type 0 where
+pub record IsSession {O E : Type 0} (words : List Text) (s : Streams O E) (status : ℕ) : Type 0 where
   pub asked : Result Asked ArgumentsFault
   pub asks : Asks words asked
-  pub comes : Comes asked input before errors told status
+  pub comes : Comes asked s status

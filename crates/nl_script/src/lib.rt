@@ -3,8 +3,10 @@
 
 mod configuration;
 mod events;
+pub mod laws;
 mod lines;
 mod pen;
+mod reading;
 mod rounds;
 mod running;
 mod scripts;

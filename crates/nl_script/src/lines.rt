@@ -5,7 +5,7 @@ ghost use Rattle.std.specs.List.{list_any};
 ghost use Rattle.nl_texts.specs.RefusalTexts.{refusal_text};
 ghost use Rattle.nl_texts.specs.SegmentLines.{seg_header, seg_texts};
 ghost use Rattle.nl_script.specs.ExitStatus.{refused_if, status_of};
-ghost use Rattle.nl_script.specs.Lines.{AreAllTold, AreEventsDone, AreListed, AreOutcomesTold, AreTold, ComesTo, IsCommandDone, IsLatestFor, IsLineDone, IsListingRefused, IsRoundDone, IsUntold, LacksMemory, ended, is_open, is_since, refused};
+ghost use Rattle.nl_script.specs.Lines.{AreAllTold, AreEventsDone, AreListed, AreOutcomesTold, AreTold, ComesTo, IsCommandDone, IsLatestFor, IsLineDone, IsListingRefused, IsRoundDone, IsUntold, IsUntoldBelow, LacksMemory, ended, is_open, is_since, refused};
 ghost use Rattle.nl_script.specs.Rounds.{IsRoundOver, round_text};
 ghost use Rattle.nl_script.specs.declared.rounds.RoundSum.{RoundSum};
 ghost use Rattle.nl_script.specs.OutcomeTexts.{text_of};
@@ -28,6 +28,7 @@ use std::io::Write;
 /// What a line makes of the status, and whether what is told of it was written.
 pub type LineResult = (Status, io::Result<()>);
 
+/// Tells that a line is refused as a whole.
 fn refused<W: Write>(number: u64, error: VolError, out: &mut W) -> LineResult
     ensures status { result.0 ≡ Status.Refused }
     ensures written { OnOk result.1 (Appends (W.contents out.old) (W.contents out.new)
@@ -145,7 +146,7 @@ fn told_infos<V: Volume>(
     requires small { count < 2 ^ 32 }
     ensures told { IfOk result (λ infos. AreTold V.habits.tells volume.now 0 infos.items) }
     ensures count { IfOk result (λ infos. length infos.items ≡ count) }
-    ensures refused { IfErr result (λ error. IsUntold V.habits.tells volume.now error) }
+    ensures refused { IfErr result (λ error. IsUntoldBelow V.habits.tells count volume.now error) }
 {
     for segment in 0..count {
         let info = volume.suinfo(Segment::new(segment as u32))?;
@@ -161,7 +162,7 @@ fn segment_infos<V: Volume>(alloc: Global, volume: &V) -> Result<Vec<SegmentInfo
     ensures told { IfOk result (λ infos. AreAllTold V.habits.tells V.habits.measures volume.now infos.items) }
     ensures small { IfOk result (λ infos. length infos.items ≤ 2 ^ 32) }
     ensures refused { IfErr result (λ error.
-        (error ≡ VolError.Memory) ⊎ IsUntold V.habits.tells volume.now error) }
+        (error ≡ VolError.Memory) ⊎ IsUntold V.habits.tells V.habits.measures volume.now error) }
 {
     let count = volume.sustat().segments;
     match Vec::with_capacity(alloc, count) {
@@ -179,7 +180,7 @@ fn list_segments<V: Volume, W: Write>(
 ) -> LineResult
     ensures { (moment : ℕ) → ComesTo (λ end.
         (AreListed V.habits.tells V.habits.measures moment all volume.now end
-        ⊎ IsListingRefused V.habits.tells number moment volume.now end)
+        ⊎ IsListingRefused V.habits.tells V.habits.measures number moment volume.now end)
         ⊎ (end ≡ refused number moment VolError.Memory))
         moment result (W.contents out.old) (W.contents out.new) }
 {

@@ -89,11 +89,8 @@ pub fn run_steps<V: Volume>(volume: &mut V, mut job: Job) -> RoundSum
     ensures { IsRoundOver V.habits.steps job volume.old volume.new result }
 {
     let mut sum = RoundSum::nothing();
-    for _ in 0..u64::MAX {
-        match volume.clean_step(&mut job) {
-            Some(reply) => sum = sum.with_reply(&reply),
-            None => return sum,
-        }
+    while let Some(reply) = volume.clean_step(&mut job) {
+        sum = sum.with_reply(&reply);
     }
     sum
 }

@@ -1,13 +1,20 @@
 //! A script on a volume: its lines, one after another.
-ghost use Rattle.std.specs.Prelude.{◌≡◌, ◌||◌};
-ghost use Rattle.nl_script.specs.Lines.{ComesTo, IsLineDone};
-ghost use Rattle.nl_script.specs.Scripts.{IsLineCounted, IsScriptDone, exit_status, is_misread_status, is_refused_status};
+ghost use Rattle.std.specs.Prelude.{◌≡◌, ◌⊎◌, ◌||◌, None, Some, if◌then◌else◌, OnOk};
+ghost use Rattle.std.specs.Io.KnownBytes.{Appends};
+ghost use Rattle.nl_texts.specs.RefusalTexts.{refusal_text};
+ghost use Rattle.nl_script.specs.Lines.{ComesTo, IsLineDone, LineEnd, refused};
+ghost use Rattle.nl_script.specs.Scripts.{IsScriptDone, exit_status, is_misread_status, is_refused_status};
+ghost use Rattle.nl_script.specs.Turns.{HasDoneLine, HasStopped, IsCounted};
 
 use crate::lines::{LineResult, run_line};
+use crate::reading::{Next, next_line};
 use crate::status::Status;
 use crate::volume::Volume;
 use nl_protect::Config;
+use nl_texts::{self as texts, StandardStream};
+use nl_types::VolError;
 use std::alloc::Global;
+use std::io;
 use std::io::{BufRead, Write};
 
 /// How a script went.
@@ -19,8 +26,8 @@ pub struct Done {
     pub misread: bool,
     /// A line was refused.
     pub refused: bool,
-    /// A stream failed.
-    pub failed: bool,
+    /// The stream that failed, and so ended the script.
+    pub failed: Option<StandardStream>,
 }
 
 impl Done {
@@ -30,7 +37,7 @@ impl Done {
     {
         if self.misread {
             2
-        } else if self.refused || self.failed {
+        } else if self.refused || self.failed.is_some() {
             1
         } else {
             0
@@ -48,6 +55,19 @@ impl Done {
             Status::Refused => self.refused = true,
             Status::Misread => self.misread = true,
         }
+    }
+
+    /// Counts whether a line was told. Returns whether the script goes on.
+    fn goes_on(&mut self, is_told: bool) -> bool
+        ensures same { result ≡ is_told }
+        ensures done { self.new ≡ record self.old {
+          failed = if is_told then self.old.failed else Some StandardStream.Output;
+        } }
+    {
+        if !is_told {
+            self.failed = Some(StandardStream::Output);
+        }
+        is_told
     }
 }
 
@@ -82,57 +102,90 @@ fn run_counted<V: Volume, W: Write>(
     line: &[u8],
     out: &mut W,
 ) -> bool
-    ensures { IsLineCounted V.habits config.now
-        number line.now done.old done.new volume.old volume.new result
-        (W.contents out.old) (W.contents out.new) }
+    ensures { (end : LineEnd)
+        × IsLineDone V.habits config.now number done.old.moment line.now volume.old volume.new end
+        × IsCounted end done.old done.new result (W.contents out.old) (W.contents out.new) }
 {
     let mut moment = done.moment;
     let (status, told) = run_flushed(alloc, volume, config, &mut moment, number, line, out);
     done.moment = moment;
     done.count(status);
-    let goes_on = told.is_ok();
-    done.failed = done.failed || !goes_on;
-    goes_on
+    done.goes_on(told.is_ok())
+}
+
+/// Tells that there is no memory for a line, and hands it on at once.
+fn refuse<W: Write>(number: u64, out: &mut W) -> io::Result<()>
+    ensures { OnOk result (Appends (W.contents out.old) (W.contents out.new)
+        (refusal_text number None VolError.Memory)) }
+{
+    texts::refusal_text(number, None, VolError::Memory, out)?;
+    out.flush()
+}
+
+/// Refuses a line that there is no memory for, and counts it. Returns whether the script goes on.
+fn refuse_counted<W: Write>(done: &mut Done, number: u64, out: &mut W) -> bool
+    ensures { IsCounted (refused number done.old.moment VolError.Memory) done.old done.new result
+        (W.contents out.old) (W.contents out.new) }
+{
+    let told = refuse(number, out);
+    done.count(Status::Refused);
+    done.goes_on(told.is_ok())
+}
+
+/// Does the next line, and counts it. Returns whether the script goes on.
+fn run_next<V: Volume, I: BufRead, O: Write>(
+    alloc: Global,
+    volume: &mut V,
+    config: &Config,
+    done: &mut Done,
+    number: u64,
+    input: &mut I,
+    output: &mut O,
+) -> bool
+    ensures { HasDoneLine V.habits config.now number volume.old volume.new done.old done.new result
+        (I.remaining input.old) (I.remaining input.new) (O.contents output.old) (O.contents output.new)
+        ⊎ HasStopped volume.old volume.new done.old done.new result
+        (I.remaining input.old) (O.contents output.old) (O.contents output.new) }
+{
+    match next_line(alloc, input) {
+        Next::Line(line) => {
+            run_counted(alloc, volume, config, done, number, line.as_slice(), output)
+        }
+        Next::Unheld => refuse_counted(done, number, output),
+        Next::End => false,
+        Next::Unread => {
+            done.failed = Some(StandardStream::Input);
+            false
+        }
+    }
 }
 
 /// Runs the lines up to the end of the input, or until a stream fails: a line that is read in part isn't done, and what
-/// follows one that can't be told of isn't done either. Rounds of cleaning go by the configuration.
+/// follows one that can't be told of isn't done either. A line that there is no memory for is refused by `Memory`, and the
+/// script goes on behind it. Rounds of cleaning go by the configuration.
 pub fn script<V: Volume, I: BufRead + Drop, O: Write>(
     alloc: Global,
     volume: &mut V,
     config: &Config,
     moment: u64,
-    input: I,
+    mut input: I,
     output: &mut O,
 ) -> Done
-    ensures { IsScriptDone V.habits config.now
-        moment volume.old volume.new result
-        (I.remaining input) (O.contents output.old) (O.contents output.new) }
+    ensures { IsScriptDone V.habits config.now moment volume.old volume.new result
+        (I.remaining input) O.contents output.old output.new }
 {
     let mut done = Done {
         moment,
         misread: false,
         refused: false,
-        failed: false,
+        failed: None,
     };
-    let mut number = 0u64;
-    for line in input.split(alloc, b'\n') {
-        number = number.saturating_add(1);
-        let Ok(line) = line else {
-            done.failed = true;
-            return done;
-        };
-        if !run_counted(
-            alloc,
-            volume,
-            config,
-            &mut done,
-            number,
-            line.as_slice(),
-            output,
-        ) {
+    for number in 1..u64::MAX {
+        if !run_next(alloc, volume, config, &mut done, number, &mut input, output) {
             return done;
         }
     }
+    // Nothing says that an input ends: behind so many lines it counts as one that can't be read.
+    done.failed = Some(StandardStream::Input);
     done
 }

@@ -1,7 +1,9 @@
 //! A session of the program: the words behind its name, and then a script on a new volume in memory.
-ghost use Rattle.std.specs.Prelude.{◌≡◌, ◌≤◌, map, option_map, IfErr, IfOk, IsOkUnless};
+ghost use Rattle.std.specs.Prelude.{◌≡◌, map, option_map, IfErr, IfOk, IsOkUnless, List, None, OnErr, OnOk, Option, ℕ};
+ghost use Rattle.std.specs.Io.KnownBytes.{Appends};
 ghost use Rattle.nl_arguments.specs.Statuses.{fault_status};
-ghost use Rattle.nl_script.specs.Sessions.{IsMemoryOrFault, IsNewVolume, IsScriptRun, IsSession, RunsOnNew, RunsOrRefuses, RunsWith};
+ghost use Rattle.nl_script.specs.Scripts.{exit_status};
+ghost use Rattle.nl_script.specs.Sessions.{IsMemoryOrFault, IsNewVolume, IsScriptRun, IsSession, Prints, RunsOnNew, RunsOrRefuses, RunsWith, streams};
 
 use crate::configuration::{ConfigurationFault, configuration};
 use crate::scripts::{Done, script};
@@ -9,10 +11,11 @@ use nl_arguments::{Arguments, ArgumentsFault, Asked, read};
 use nl_core::Pen;
 use nl_device::MemDevice;
 use nl_protect::Config;
-use nl_texts::{StartStep, start_text, unread_text};
+use nl_texts::{StandardStream, StartStep, start_text, stream_text, unread_text};
 use nl_types::{Geometry, Items, VolError};
 use std::alloc::Global;
-use std::io::{BufReader, BufWriter, Read, Write};
+use std::io;
+use std::io::{BufReader, Read, Write};
 use std::rt::Files;
 
 /// When the volume is formatted, and the moment of the first lines, in whole seconds.
@@ -27,34 +30,35 @@ fn new_volume(alloc: Global, geometry: Geometry) -> Result<Pen<MemDevice>, VolEr
     Pen::format(alloc, device, geometry, MOMENT)
 }
 
-/// Makes the buffers, and runs the script. Refused by `Memory`, no line was run.
-fn run_on<I: Read + Drop, O: Write + Drop>(
+/// Makes the input's buffer, and runs the script. Refused by `Memory`, no line was run.
+fn run_on<I: Read + Drop, O: Write>(
     alloc: Global,
     pen: &mut Pen<MemDevice>,
     config: &Config,
     input: I,
-    output: O,
+    output: &mut O,
 ) -> Result<Done, VolError>
     ensures run { IfOk result (λ done.
-        IsScriptRun config.now (I.remaining input) (O.contents output) pen.old done) }
+        IsScriptRun config.now (I.remaining input) O.contents output.old output.new pen.old done) }
     ensures refused { IsOkUnless result VolError.Memory }
+    ensures unprinted { OnErr result (output.new ≡ output.old) }
 {
     let input = BufReader::new(alloc, input).map_err(|_| VolError::Memory)?;
-    let mut output = BufWriter::new(alloc, output).map_err(|_| VolError::Memory)?;
-    Ok(script(alloc, pen, config, MOMENT, input, &mut output))
+    Ok(script(alloc, pen, config, MOMENT, input, output))
 }
 
 /// Runs the script on a new volume. Refused, no line was run.
-fn run_script<I: Read + Drop, O: Write + Drop>(
+fn run_script<I: Read + Drop, O: Write>(
     alloc: Global,
     geometry: Geometry,
     config: &Config,
     input: I,
-    output: O,
+    output: &mut O,
 ) -> Result<Done, VolError>
     ensures run { IfOk result (λ done.
-        RunsOnNew geometry config.now (I.remaining input) (O.contents output) done) }
+        RunsOnNew geometry config.now (I.remaining input) O.contents output.old output.new done) }
     ensures refused { IfErr result IsMemoryOrFault }
+    ensures unprinted { OnErr result (output.new ≡ output.old) }
 {
     let mut pen = new_volume(alloc, geometry)?;
     run_on(alloc, &mut pen, config, input, output)
@@ -69,14 +73,30 @@ fn refused<E: Write>(step: StartStep, error: VolError, errors: &mut E) -> u8
     1
 }
 
-/// Writes the text that a person asked for.
-fn told<O: Write + Drop>(text: &str, mut output: O) -> u8
-    ensures { result ≤ 1 }
+/// Tells that a standard stream failed.
+fn tell_failure<E: Write>(stream: StandardStream, errors: &mut E) {
+    // Where this can't be told either, the status still says it.
+    let _ = stream_text(stream, errors);
+}
+
+/// Writes a text, and hands it on.
+fn written<O: Write>(text: &[u8], output: &mut O) -> io::Result<()>
+    ensures { OnOk result (Appends (O.contents output.old) (O.contents output.new) text.now) }
 {
-    let written = output
-        .write_all(text.as_bytes())
-        .and_then(|()| output.flush());
-    u8::from(written.is_err())
+    output.write_all(text)?;
+    output.flush()
+}
+
+/// Writes the text that a person asked for. An empty one would be no answer.
+fn told<O: Write, E: Write>(text: &str, output: &mut O, errors: &mut E) -> u8
+    ensures { (input : Option (List ℕ)) → Prints text.now
+        (streams input O.contents output.old output.new errors.old errors.new) result }
+{
+    if written(text.as_bytes(), output).is_err() {
+        tell_failure(StandardStream::Output, errors);
+        return 1;
+    }
+    u8::from(text.is_empty())
 }
 
 /// Tells what is wrong with the words.
@@ -108,23 +128,34 @@ fn unconfigured<E: Write>(path: &[u8], fault: ConfigurationFault, errors: &mut E
     }
 }
 
-fn run_with<I: Read + Drop, O: Write + Drop, E: Write>(
+/// Tells which stream failed, if one did, and answers the status of a script.
+fn ended<E: Write>(done: Done, errors: &mut E) -> u8
+    ensures status { result ≡ exit_status done }
+    ensures silent { done.failed ≡ None → errors.new ≡ errors.old }
+{
+    if let Some(stream) = done.failed {
+        tell_failure(stream, errors);
+    }
+    done.exit_status()
+}
+
+fn run_with<I: Read + Drop, O: Write, E: Write>(
     alloc: Global,
     arguments: &Arguments,
     config: &Config,
     input: I,
-    output: O,
+    output: &mut O,
     errors: &mut E,
 ) -> u8
-    ensures { RunsWith arguments.now config.now (I.remaining input) (O.contents output)
-        errors.old errors.new result }
+    ensures { RunsWith arguments.now config.now (streams (I.remaining input) O.contents
+        output.old output.new errors.old errors.new) result }
 {
     let geometry = match arguments.geometry() {
         Ok(geometry) => geometry,
         Err(error) => return refused(StartStep::Geometry, error, errors),
     };
     match run_script(alloc, geometry, config, input, output) {
-        Ok(done) => done.exit_status(),
+        Ok(done) => ended(done, errors),
         Err(error) => refused(StartStep::Start, error, errors),
     }
 }
@@ -136,15 +167,15 @@ fn path_of(arguments: &Arguments) -> Option<&[u8]>
 }
 
 /// The configuration is read before anything else is judged.
-fn run<R: AllocGlobal + Files, I: Read + Drop, O: Write + Drop, E: Write>(
+fn run<R: AllocGlobal + Files, I: Read + Drop, O: Write, E: Write>(
     rt: &R,
     arguments: &Arguments,
     input: I,
-    output: O,
+    output: &mut O,
     errors: &mut E,
 ) -> u8
-    ensures { RunsOrRefuses arguments.now (I.remaining input) (O.contents output)
-        errors.old errors.new result }
+    ensures { RunsOrRefuses arguments.now (streams (I.remaining input) O.contents
+        output.old output.new errors.old errors.new) result }
 {
     let path = path_of(arguments);
     match configuration(rt, path) {
@@ -155,20 +186,22 @@ fn run<R: AllocGlobal + Files, I: Read + Drop, O: Write + Drop, E: Write>(
 
 /// What the words behind the program's name ask for: a script on a new volume in memory, or a text about the program.
 /// Answers the exit status: 2 where the words or a line were no command, else 1 where anything was refused, or a stream or
-/// the configuration's file failed, else 0. What the lines answer goes to the output, and to `errors` only why no line was run.
-pub fn session<R: AllocGlobal + Files, I: Read + Drop, O: Write + Drop, E: Write>(
+/// the configuration's file failed, else 0. What the lines answer goes to the output, which is best buffered: it is flushed
+/// behind each line. Only why no line was run, and that a stream failed, goes to `errors`.
+pub fn session<R: AllocGlobal + Files, I: Read + Drop, O: Write, E: Write>(
     rt: &R,
     words: &[&str],
     input: I,
-    output: O,
+    output: &mut O,
     errors: &mut E,
 ) -> u8
-    ensures { IsSession (map (λ w. w.now) words.now)
-        (I.remaining input) (O.contents output) errors.old errors.new result }
+    ensures { IsSession (map (λ w. w.now) words.now) (streams (I.remaining input) O.contents
+        output.old output.new errors.old errors.new) result }
 {
     match read(rt.alloc(), words) {
         Ok(Asked::Run(arguments)) => run(rt, &arguments, input, output, errors),
-        Ok(Asked::Help(text) | Asked::Version(text)) => told(text.as_str(), output),
+        Ok(Asked::Help(text)) => told(text.as_str(), output, errors),
+        Ok(Asked::Version(text)) => told(text.as_str(), output, errors),
         Err(fault) => misread(&fault, errors),
     }
 }

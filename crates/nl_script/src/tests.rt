@@ -22,6 +22,7 @@ impl Volume for Counting {
       measures = λ old stat. Unit {0};
       plans = λ old config moment job. Unit {0};
       steps = λ old job reply new next. Unit {0};
+      left = λ old job. 0;
     } };
 
     fn apply(&mut self, event: &Event) -> Reply {
@@ -77,5 +78,5 @@ fn a_script_is_told_of_line_by_line(rt: HostRuntime) {
     let expected =
         b"2\n3: 7: error 10 NoCheckpoint\n5: error 14 Latest\n6: usage\n  SEGNUM       MOMENT STAT  NBLOCKS\n       0            0 ---         0\n9: error 18 Memory\n";
     assert!(rt; output.as_slice() == expected.as_slice());
-    assert!(rt; done.moment == 5 && done.misread && done.refused && !done.failed);
+    assert!(rt; done.moment == 5 && done.misread && done.refused && done.failed.is_none());
 }

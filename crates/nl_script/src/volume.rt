@@ -1,5 +1,5 @@
 //! What scripts know of a volume.
-ghost use Rattle.std.specs.Prelude.{◌<◌, ◌^◌, IfOk, IsOkUnless};
+ghost use Rattle.std.specs.Prelude.{◌<◌, ◌^◌, IfOk, IsOkUnless, OnSome};
 ghost use Rattle.nl_types.specs.declared.error.VolError.{VolError};
 ghost use Rattle.nl_cleaner.specs.Job.{JobView};
 ghost use Rattle.nl_script.specs.Habits.{Habits};
@@ -40,5 +40,6 @@ pub trait Volume {
 
     /// Does the next step of a round, if there is one.
     fn clean_step(&mut self, job: &mut Job) -> Option<Reply>
-        ensures { habits.steps self.old job.old result self.new job.new };
+        ensures steps { habits.steps self.old job.old result self.new job.new }
+        ensures fewer { OnSome result (habits.left self.new job.new < habits.left self.old job.old) };
 }

@@ -1,23 +1,34 @@
 //! How a session ends where a stream fails, and that it begins at all. What it prints is shown by the scripts of tests/rows.
 use nl_script::session;
-use std::io::{self, ErrorKind, Read, Write};
+use std::io::{self, BufWriter, ErrorKind, Read, Write};
 use std::rt::Files;
 
-/// Gives its bytes, at most so many at a call, and then may fail.
+/// Gives its bytes, at most so many at a call, and may fail behind so many, once or for good.
 #[derive(Drop)]
 struct Giving<'a> {
     rest: &'a [u8],
     most: usize,
-    fails: bool,
+    /// How many it gives before it fails.
+    given: usize,
+    fault: Option<ErrorKind>,
 }
 
 impl Read for Giving<'_> {
     fn read(&mut self, buf: &mut [u8]) -> io::Result<usize> {
-        if self.rest.is_empty() && self.fails {
-            return Err(io::Error::from(ErrorKind::BrokenPipe));
+        if let (0, Some(kind)) = (self.given, self.fault) {
+            if kind == ErrorKind::OutOfMemory {
+                self.fault = None;
+            }
+            return Err(io::Error::from(kind));
         }
-        let count = buf.len().min(self.most);
-        self.rest.read(&mut buf[..count])
+        let most = match self.fault {
+            Some(_) => self.most.min(self.given),
+            None => self.most,
+        };
+        let count = buf.len().min(most);
+        let count = self.rest.read(&mut buf[..count])?;
+        self.given = self.given.saturating_sub(count);
+        Ok(count)
     }
 }
 
@@ -48,74 +59,142 @@ impl Write for Taking<'_> {
     }
 }
 
-/// Which streams of a row fail.
+/// Which stream of a row fails.
 #[derive(Clone, Copy)]
 enum Failing {
     /// The reader, behind the script.
     Reader,
+    /// Memory for what is read, behind so many bytes, once.
+    Memory(usize),
     /// The writer, behind so many bytes.
     Writer(usize),
     /// The writer, where it is to hand its bytes on.
     Flush,
 }
 
-use Failing::{Flush, Reader, Writer};
+use Failing::{Flush, Memory, Reader, Writer};
 
 impl Failing {
-    /// How many bytes the writer takes.
-    fn room(self) -> usize {
-        match self {
+    fn giving(self, script: &str, most: usize) -> Giving<'_> {
+        let (given, fault) = match self {
+            Reader => (script.len(), Some(ErrorKind::BrokenPipe)),
+            Memory(given) => (given, Some(ErrorKind::OutOfMemory)),
+            Writer(_) | Flush => (0, None),
+        };
+        Giving {
+            rest: script.as_bytes(),
+            most,
+            given,
+            fault,
+        }
+    }
+
+    fn taking(self, taken: &mut Vec<u8>) -> Taking<'_> {
+        let room = match self {
             Writer(room) => room,
-            Reader | Flush => usize::MAX,
+            Reader | Memory(_) | Flush => usize::MAX,
+        };
+        Taking {
+            taken,
+            room,
+            is_stuck: matches!(self, Flush),
         }
     }
 }
 
-/// What fails, a script, what it prints, and its status.
-type Row = (Failing, &'static str, &'static str, u8);
+const UNREAD: &str = "standard input: cannot be read\n";
+
+const UNWRITTEN: &str = "standard output: cannot be written\n";
+
+/// What fails, a script, what it prints, what is told on standard error, and its status.
+type Row = (Failing, &'static str, &'static str, &'static str, u8);
 
 /// Where the reader fails, the line that is read in part is not done. Where the writer does, a line that can't be told of
-/// counts, and what follows it is not run. The output is flushed behind each line, a comment too.
-const ROWS: [Row; 21] = [
-    (Reader, "", "", 1),
-    (Reader, "# one\n# two\n", "", 1),
-    (Reader, "# one\n# two\nbog", "", 1),
-    (Reader, "# one\nbogus\n", "2: usage\n", 2),
-    (Reader, "mkcp\nmkcp\n", "2\n3\n", 1),
-    (Reader, "create /f\ncat /f\ncat /", "\n", 1),
-    (Reader, "bogus\nmkcp\n", "1: usage\n2\n", 2),
-    (Writer(0), "# one\n", "", 0),
-    (Writer(0), "bogus\n", "", 2),
-    (Writer(9), "bogus\nbogus\nbogus\n", "1: usage\n", 2),
-    (Writer(11), "bogus\nbogus\nbogus\n", "1: usage\n2:", 2),
-    (Writer(18), "bogus\nbogus\n", "1: usage\n2: usage\n", 2),
-    (Writer(0), "mkcp\nbogus\n", "", 1),
-    (Writer(2), "mkcp\nmkcp\nbogus\n", "2\n", 1),
-    (Writer(5), "cat /f\nbogus\n", "1: er", 1),
-    (Writer(9), "bogus\nmkcp\n", "1: usage\n", 2),
-    (Writer(4), "create /f\nwrite /f 0 long\ncat /f\n", "long", 1),
-    (Flush, "# one\n", "", 1),
-    (Flush, "mkcp\n", "2\n", 1),
-    (Flush, "mkcp\nbogus\n", "2\n", 1),
-    (Flush, "bogus\n", "1: usage\n", 2),
+/// counts, and what follows it is not run. The output is flushed behind each line, a comment too. A line that there is no
+/// memory for is passed over, and what follows it is run.
+const ROWS: [Row; 29] = [
+    (Reader, "", "", UNREAD, 1),
+    (Reader, "# one\n# two\n", "", UNREAD, 1),
+    (Reader, "# one\n# two\nbog", "", UNREAD, 1),
+    (Reader, "# one\nbogus\n", "2: usage\n", UNREAD, 2),
+    (Reader, "mkcp\nmkcp\n", "2\n3\n", UNREAD, 1),
+    (Reader, "create /f\ncat /f\ncat /", "\n", UNREAD, 1),
+    (Reader, "bogus\nmkcp\n", "1: usage\n2\n", UNREAD, 2),
+    (Writer(0), "# one\n", "", "", 0),
+    (Writer(0), "bogus\n", "", UNWRITTEN, 2),
+    (
+        Writer(9),
+        "bogus\nbogus\nbogus\n",
+        "1: usage\n",
+        UNWRITTEN,
+        2,
+    ),
+    (
+        Writer(11),
+        "bogus\nbogus\nbogus\n",
+        "1: usage\n2:",
+        UNWRITTEN,
+        2,
+    ),
+    (Writer(18), "bogus\nbogus\n", "1: usage\n2: usage\n", "", 2),
+    (Writer(0), "mkcp\nbogus\n", "", UNWRITTEN, 1),
+    (Writer(2), "mkcp\nmkcp\nbogus\n", "2\n", UNWRITTEN, 1),
+    (Writer(5), "cat /f\nbogus\n", "1: er", UNWRITTEN, 1),
+    (Writer(9), "bogus\nmkcp\n", "1: usage\n", UNWRITTEN, 2),
+    (
+        Writer(4),
+        "create /f\nwrite /f 0 long\ncat /f\n",
+        "long",
+        UNWRITTEN,
+        1,
+    ),
+    (Flush, "# one\n", "", UNWRITTEN, 1),
+    (Flush, "mkcp\n", "2\n", UNWRITTEN, 1),
+    (Flush, "mkcp\nbogus\n", "2\n", UNWRITTEN, 1),
+    (Flush, "bogus\n", "1: usage\n", UNWRITTEN, 2),
+    (Memory(0), "", "", "", 0),
+    (Memory(0), "mkcp\nmkcp\n", "1: error 18 Memory\n2\n", "", 1),
+    (Memory(2), "mkcp\nmkcp\n", "1: error 18 Memory\n2\n", "", 1),
+    (Memory(5), "mkcp\nmkcp\n", "2\n2: error 18 Memory\n", "", 1),
+    (
+        Memory(7),
+        "mkcp\n# two\nbogus",
+        "2\n2: error 18 Memory\n3: usage\n",
+        "",
+        2,
+    ),
+    (Memory(7), "mkcp\nat", "2\n2: error 18 Memory\n", "", 1),
+    (Memory(5), "mkcp\n", "2\n", "", 0),
+    (
+        Memory(6),
+        "mkcp\n\nmkcp\n",
+        "2\n3: error 18 Memory\n",
+        "",
+        1,
+    ),
 ];
 
-/// Whether a row comes to what is due, with no word of errors, where its reader gives at most so many bytes at a call.
+/// The status of a row, where its reader gives at most so many bytes at a call. There is memory for the output's buffer.
+fn status_of<R: AllocGlobal + Files>(
+    rt: &R,
+    row: &Row,
+    most: usize,
+    output: &mut Vec<u8>,
+    errors: &mut Vec<u8>,
+) -> Option<u8> {
+    let (failing, script, _, _, _) = *row;
+    let mut output = BufWriter::new(rt.alloc(), failing.taking(output)).ok()?;
+    Some(session(rt, &[], failing.giving(script, most), &mut output, errors))
+}
+
+/// Whether a row comes to what is due, where its reader gives at most so many bytes at a call.
 fn ends<R: AllocGlobal + Files>(rt: &R, row: &Row, most: usize) -> bool {
-    let (failing, script, printed, status) = *row;
+    let (_, _, printed, told, status) = *row;
     let (mut output, mut errors) = (Vec::new(rt.alloc()), Vec::new(rt.alloc()));
-    let giving = Giving {
-        rest: script.as_bytes(),
-        most,
-        fails: matches!(failing, Reader),
-    };
-    let taking = Taking {
-        taken: &mut output,
-        room: failing.room(),
-        is_stuck: matches!(failing, Flush),
-    };
-    let code = session(rt, &[], giving, taking, &mut errors);
-    code == status && output.as_slice() == printed.as_bytes() && errors.as_slice().is_empty()
+    let code = status_of(rt, row, most, &mut output, &mut errors);
+    code == Some(status)
+        && output.as_slice() == printed.as_bytes()
+        && errors.as_slice() == told.as_bytes()
 }
 
 /// The first row that comes to something else.

@@ -3,3 +3,4 @@ pub mod CheckpointLines
 pub mod SegmentLines
 pub mod RefusalTexts
 pub mod AnswerTexts
+pub mod StreamTexts

@@ -2,7 +2,7 @@
 #![tactic(auto)]
 
 use nl_script::session;
-use std::io::ErrorKind;
+use std::io::{BufWriter, ErrorKind};
 use std::process::ExitCode;
 use std::{env, io};
 
@@ -26,17 +26,18 @@ fn arguments<'a>(rt: &HostRuntime, words: &'a [String]) -> io::Result<Vec<&'a st
 fn run(rt: &HostRuntime) -> io::Result<u8> {
     let words = words(rt)?;
     let arguments = arguments(rt, words.as_slice())?;
+    let mut output = BufWriter::new(rt.alloc(), rt.stdout())?;
     let status = session(
         rt,
         arguments.as_slice(),
         rt.stdin(),
-        rt.stdout(),
+        &mut output,
         &mut rt.stderr(),
     );
     Ok(status)
 }
 
-/// Tells why the words can't be read, and answers the exit status.
+/// Tells why the words can't be read or the output has no buffer, and answers the exit status.
 fn refused(rt: &HostRuntime, error: &io::Error) -> u8 {
     if error.kind() == ErrorKind::OutOfMemory {
         let _ = eprintln!(rt; "start: error 18 Memory");

@@ -3,5 +3,5 @@ use Rattle.nl_script.proofs.rounds.run_steps.Goals as goal
 
 pub loop-preserved : goal.loop-preserved
 loop-preserved g c =
-    round-more g.V.Volume.habits.steps c.args.job c.args.volume.now c.loop.job c.loop.volume c.loop.sum c.loop.counter c.loop.invariant
-    c.clean_step.new.job c.clean_step.new.self c.in-Some.reply c.with_reply-sum.result c.in-Some.ensures c.with_reply-sum.ensures
+    round-more g.V.Volume.habits.steps c.args.job c.args.volume.now c.loop.job c.loop.volume c.loop.sum c.loop.invariant
+    c.clean_step.new.job c.clean_step.new.self c.in-Some.reply c.with_reply-sum.result c.in-Some.ensures.steps c.with_reply-sum.ensures

@@ -3,4 +3,7 @@ use Rattle.nl_script.proofs.rounds.run_steps.Given as goal
 
 -- the steps so far came to the sum so far
 abbrev pub invariant-loop : goal.invariant-loop
-invariant-loop g l = IsRoundSoFar g.V.Volume.habits.steps l.fn.job l.job l.fn.volume l.volume l.sum l.counter
+invariant-loop g l = IsRoundSoFar g.V.Volume.habits.steps l.fn.job l.job l.fn.volume l.volume l.sum
+
+abbrev pub decreases-loop : goal.decreases-loop
+decreases-loop g l = g.V.Volume.habits.left l.volume l.job
