@@ -67,9 +67,9 @@ word_too_many : one (codes "extra") ≡ misread
 unfolding clap_on_literals
 word_too_many = refl
 
-short_help : one (codes "-h") ≡ misread
+letter_of_an_option : two (codes "-s") (codes "8") ≡ misread
 unfolding clap_on_literals
-short_help = refl
+letter_of_an_option = refl
 
 -- ---- a configuration
 
@@ -98,6 +98,14 @@ option_for_a_configuration = refl
 help_alone : one (codes "--help") ≡ help
 unfolding clap_on_literals
 help_alone = refl
+
+letter_of_help : one (codes "-h") ≡ help
+unfolding clap_on_literals
+letter_of_help = refl
+
+letter_of_version : one (codes "-V") ≡ version
+unfolding clap_on_literals
+letter_of_version = refl
 
 version_before_a_fault : two (codes "--version") (codes "--size") ≡ version
 unfolding clap_on_literals

@@ -1,3 +1,4 @@
 mod Deciding
 mod ExampleWords
 mod OneFault
+mod Requests

@@ -1,5 +1,5 @@
 -- What the words behind the program's name mean.
-use Rattle.std.specs.Prelude.{◌≡◌, ◌≢◌, List, [], ◌∷◌, Option, None, Some, Result, Ok, Err}
+use Rattle.std.specs.Prelude.{◌≡◌, ◌≢◌, List, [], ◌∷◌, Option, None, Some, Result, Ok, Err, ⊤}
 use Rattle.clap.specs.Words.{Kinds, Row, Text, fault_of, matches_of}
 use Rattle.clap.specs.declared.error.kind.ErrorKind.{ErrorKind}
 use Rattle.clap.specs.declared.error.kind.ErrorKind.TheVariants.{DisplayHelp, DisplayVersion, OutOfMemory}
@@ -33,6 +33,13 @@ meaning_of (Err f) = fault_meaning f
 abbrev pub IsUnlessMemory : Result Asked ArgumentsFault → Option Meaning → Type 0
 IsUnlessMemory result meaning = (meaning_of result ≢ None) → meaning_of result ≡ meaning
 
+-- a part of the arguments is what is given, or that is none and the words are misread; nothing is
+-- said where memory was refused
+abbrev pub IsRead : {A : Type 0} → Result A ArgumentsFault → Option A → Type 0
+IsRead (Ok a) part = part ≡ Some a
+IsRead (Err (fault.Misread text)) part = part ≡ None
+IsRead (Err fault.Memory) part = ⊤
+
 -- a fault of the words, among which the library counts what asks for a text
 abbrev pub kind_meant : ErrorKind → Meaning
 kind_meant DisplayHelp = help
@@ -63,3 +70,7 @@ meant words = unless_fault (fault_of program words) (given (matches_of program w
 
 abbrev pub Asks : List Text → Result Asked ArgumentsFault → Type 0
 Asks words result = IsUnlessMemory result (Some (meant words))
+
+-- a word that asks for a text, where it comes first: whatever stands behind it
+abbrev pub AsksFor : Text → Meaning → Type 0
+AsksFor word meaning = (words : List Text) → meant (word ∷ words) ≡ meaning

@@ -2,8 +2,7 @@
 use Rattle.std.specs.Prelude.{ℕ, true, List, [], codes, Option, None, Some, option_and_then, option_map}
 use Rattle.clap.specs.Words.{App, Row, Rule, Text, first_of, new_rule, with_rule}
 use Rattle.clap.specs.Simple.{new_shape}
-use Rattle.clap.specs.declared.builder.action.ArgAction.{ArgAction}
-use Rattle.clap.specs.declared.builder.action.ArgAction.TheVariants.{Set, Help, Version}
+use Rattle.clap.specs.declared.builder.action.ArgAction.TheVariants.{Set}
 use Rattle.nl_arguments.specs.declared.arguments.Arguments.{Arguments}
 use Rattle.nl_arguments.specs.NumberWords.{number_in}
 
@@ -11,27 +10,18 @@ use Rattle.nl_arguments.specs.NumberWords.{number_in}
 abbrev pub value_rule : Text → Rule
 value_rule name = record (new_rule name) { long = Some name; action = Some Set; value_names = 1 }
 
--- `--NAME`, answered by a text
-abbrev pub request_rule : Text → ArgAction → Rule
-request_rule name action = record (new_rule name) { long = Some name; action = Some action }
-
--- the program takes nothing yet
+-- The program takes no option yet but those that the library adds: `-h` and `--help`, and, since it
+-- has a version, `-V` and `--version`.
 abbrev pub bare : App
 bare = record {
-  top = record (new_shape (codes "nlvol")) {
-    no_binary_name = true;
-    disable_help_flag = true;
-    disable_version_flag = true;
-    has_version = true;
-  };
+  top = record (new_shape (codes "nlvol")) { no_binary_name = true; has_version = true };
   subs = [];
 }
 
 abbrev pub program : App
 program =
-    with_rule (with_rule (with_rule (with_rule (with_rule bare
-    (value_rule (codes "segments"))) (value_rule (codes "blocks"))) (value_rule (codes "conf")))
-    (request_rule (codes "help") Help)) (request_rule (codes "version") Version)
+    with_rule (with_rule (with_rule bare
+    (value_rule (codes "segments"))) (value_rule (codes "blocks"))) (value_rule (codes "conf"))
 
 -- the number in the word, and 64 without one
 abbrev pub number_or_64 : Option Text → Option ℕ

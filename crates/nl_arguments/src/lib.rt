@@ -4,6 +4,7 @@
 
 mod arguments;
 mod asked;
+pub mod laws;
 mod numbers;
 mod options;
 mod script_commands;

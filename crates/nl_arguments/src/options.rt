@@ -1,8 +1,9 @@
 //! The program's options. This module alone knows the library that reads them.
 ghost use Rattle.std.specs.Prelude.{◌≡◌, IfOk, Some, map};
 ghost use Rattle.clap.specs.Words.{FailsBy, app_of, fault_of, first_of, found_of, kind_of, matches_of, rows_of, with_rule};
-ghost use Rattle.nl_arguments.specs.Options.{bare, geometry_given, number_given, program, request_rule, value_rule};
-ghost use Rattle.nl_arguments.specs.Meanings.{Asks, IsUnlessMemory, error_meaning, given};
+ghost use Rattle.nl_arguments.specs.NumberWords.{number_in};
+ghost use Rattle.nl_arguments.specs.Options.{arguments_given, bare, geometry_given, number_given, program, value_rule};
+ghost use Rattle.nl_arguments.specs.Meanings.{Asks, IsRead, IsUnlessMemory, error_meaning, fault_meaning, given, misread};
 
 use crate::arguments::Arguments;
 use crate::asked::{ArgumentsFault, Asked};
@@ -13,11 +14,11 @@ use clap::{Arg, ArgAction, ArgMatches, Command};
 use nl_types::Items;
 use std::alloc::{AllocError, Global};
 
-const NO_NUMBER: &str = "\
-error: a value of '--segments' or '--blocks' is no decimal number below 4294967296
-
-For more information, try '--help'.
-";
+/// Stands in the help, and in the text on an argument that there is none of. So whoever names a
+/// script there reads how to hand it over.
+const USAGE: &str = "\
+nlvol [OPTIONS] < SCRIPT
+A script is read from standard input, a command a line.";
 
 /// With an option that takes a value.
 fn with_value<'a>(
@@ -38,52 +39,29 @@ fn with_value<'a>(
     command.arg(option)
 }
 
-/// With an option that asks for a text.
-fn with_request<'a>(
-    alloc: Global,
-    command: Command<'a>,
-    name: &'a str,
-    action: ArgAction,
-    help: &'a str,
-) -> Result<Command<'a>, AllocError>
-    ensures { IfOk result
-        (λ c. app_of c ≡ with_rule (app_of command.entry) (request_rule name.entry.now action)) }
-{
-    let option = Arg::new(alloc, name).long(name).help(help).action(action);
-    command.arg(option)
-}
-
-/// A command that is given nothing.
+/// A command that is given nothing but a request for help or for the version: the library adds
+/// `-h`, `--help`, `-V` and `--version`.
 fn bare<'a>(alloc: Global) -> Command<'a>
     ensures { app_of result ≡ bare }
 {
     Command::new(alloc, "nlvol")
         .about("Runs a script on a new volume with continuous snapshots, kept in memory")
         .version("0.1.0")
+        .override_usage(USAGE)
         .after_help(SCRIPT_COMMANDS)
         .no_binary_name(true)
-        .disable_help_flag(true)
-        .disable_version_flag(true)
 }
 
-/// The program's options. They have long names alone.
+/// The program's options.
 fn program<'a>(alloc: Global) -> Result<Command<'a>, AllocError>
     ensures { IfOk result (λ c. app_of c ≡ program) }
 {
     let segments = "Segments of the device [default: 64]";
     let blocks = "Blocks in each segment [default: 64]";
-    let conf = "Configuration of the cleaner, as of nilfs_cleanerd.conf(5)";
+    let conf = "Cleaner's configuration, in a part of the language of nilfs_cleanerd.conf(5)";
     let command = with_value(alloc, bare(alloc), "segments", "S", segments)?;
     let command = with_value(alloc, command, "blocks", "B", blocks)?;
-    let command = with_value(alloc, command, "conf", "FILE", conf)?;
-    let command = with_request(alloc, command, "help", ArgAction::Help, "Print help")?;
-    with_request(
-        alloc,
-        command,
-        "version",
-        ArgAction::Version,
-        "Print the version",
-    )
+    with_value(alloc, command, "conf", "FILE", conf)
 }
 
 fn matches<'a>(alloc: Global, words: &'a [&'a str]) -> Result<ArgMatches<'a>, clap::Error>
@@ -94,22 +72,68 @@ fn matches<'a>(alloc: Global, words: &'a [&'a str]) -> Result<ArgMatches<'a>, cl
     program(alloc)?.try_get_matches_from(words)
 }
 
-fn number_given(matches: &ArgMatches<'_>, id: &str) -> Option<u32>
-    ensures { result ≡ number_given id.now (rows_of (found_of matches.now)) }
+/// The fault of a value that is no number, worded as the library words its own.
+fn no_number(
+    alloc: Global,
+    option: &str,
+    value: &str,
+    word: &str,
+) -> Result<ArgumentsFault, AllocError>
+    ensures { IfOk result (λ fault. fault_meaning fault ≡ Some misread) }
 {
-    match matches.get_str(id) {
-        Some(word) => number(word),
-        None => Some(64),
+    let text = format!(in alloc;
+        "error: invalid value '{word}' for '--{option} <{value}>': no decimal number below \
+         4294967296\n\nFor more information, try '--help'.\n"
+    )?;
+    Ok(ArgumentsFault::Misread(text))
+}
+
+/// The number that is the value of an option. `value` is what the help calls it.
+///
+/// # Errors
+/// `Misread` where it is no decimal number below 2^32; `Memory`.
+fn option_number(
+    alloc: Global,
+    option: &str,
+    value: &str,
+    word: &str,
+) -> Result<u32, ArgumentsFault>
+    ensures { IsRead result (number_in word.now) }
+{
+    match number(word) {
+        Some(number) => Ok(number),
+        None => Err(no_number(alloc, option, value, word)?),
     }
 }
 
-/// Segments, and blocks in each; none where a value is no number.
-fn geometry_given(matches: &ArgMatches<'_>) -> Option<(u32, u32)>
-    ensures { result ≡ geometry_given (rows_of (found_of matches.now)) }
+/// The number that an option gives, and 64 where it isn't there.
+///
+/// # Errors
+/// As of `option_number`.
+fn number_given(
+    alloc: Global,
+    matches: &ArgMatches<'_>,
+    id: &str,
+    value: &str,
+) -> Result<u32, ArgumentsFault>
+    ensures { IsRead result (number_given id.now (rows_of (found_of matches.now))) }
 {
-    let segments = number_given(matches, "segments")?;
-    let blocks = number_given(matches, "blocks")?;
-    Some((segments, blocks))
+    match matches.get_str(id) {
+        Some(word) => option_number(alloc, id, value, word),
+        None => Ok(64),
+    }
+}
+
+/// Segments, and blocks in each. The first of them that is no number is told.
+///
+/// # Errors
+/// As of `option_number`.
+fn geometry_given(alloc: Global, matches: &ArgMatches<'_>) -> Result<(u32, u32), ArgumentsFault>
+    ensures { IsRead result (geometry_given (rows_of (found_of matches.now))) }
+{
+    let segments = number_given(alloc, matches, "segments", "S")?;
+    let blocks = number_given(alloc, matches, "blocks", "B")?;
+    Ok((segments, blocks))
 }
 
 /// The value of an option, where it is given.
@@ -126,18 +150,22 @@ fn word_given(
     }
 }
 
+fn arguments_given(alloc: Global, matches: &ArgMatches<'_>) -> Result<Arguments, ArgumentsFault>
+    ensures { IsRead result (arguments_given (rows_of (found_of matches.now))) }
+{
+    let (segments, blocks) = geometry_given(alloc, matches)?;
+    let configuration = word_given(alloc, matches, "conf")?;
+    Ok(Arguments {
+        segments,
+        blocks,
+        configuration,
+    })
+}
+
 fn run(alloc: Global, matches: &ArgMatches<'_>) -> Result<Asked, ArgumentsFault>
     ensures { IsUnlessMemory result (Some (given (rows_of (found_of matches.now)))) }
 {
-    let configuration = word_given(alloc, matches, "conf")?;
-    match geometry_given(matches) {
-        Some((segments, blocks)) => Ok(Asked::Run(Arguments {
-            segments,
-            blocks,
-            configuration,
-        })),
-        None => Err(ArgumentsFault::Misread(String::from_str(alloc, NO_NUMBER)?)),
-    }
+    Ok(Asked::Run(arguments_given(alloc, matches)?))
 }
 
 /// What an error of the library means, with its text.

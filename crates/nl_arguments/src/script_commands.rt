@@ -1,27 +1,33 @@
-//! The part of the help text that says what a script is.
+//! The part of the help text that says what a script is, and how its run ends.
 
-/// Each command of a script with what it does, a line each.
+/// Each command of a script with what it does, and what the exit status says. No line is longer
+/// than 100 characters.
 pub const SCRIPT_COMMANDS: &str = "\
-A script is read from standard input, a command a line:
-  at MOMENT                                  set the moment of later commands
-  mkcp [-s]                                  make a checkpoint, or a snapshot with -s
-  chcp cp|ss N..                             make checkpoints plain, or snapshots
-  lscp [-r] [-s] [-a] [-i N] [-n K]          list checkpoints
-  rmcp [-f] R..                              remove checkpoints: N, A..B, A.. or ..B
-  lssu [-a]                                  list segments, clean ones too with -a
-  clean                                      do one round of cleaning
-  mount N                                    mount a snapshot, and print the mount
-  umount M                                   give a mount back
-  create PATH                                make an empty file
-  mkdir PATH                                 make an empty directory
-  rm PATH                                    remove a file
-  rmdir PATH                                 remove an empty directory
-  mv FROM TO                                 rename a file or a directory
-  write PATH OFFSET TEXT                     write the bytes of a text
-  fill PATH OFFSET BYTE COUNT                write a byte many times
-  truncate PATH SIZE                         give a file another size
-  cat [-m M] PATH                            print a file
-  ls [-m M] PATH                             print the names in a directory
-  stat [-m M] PATH                           print what a path names
+Commands of a script:
+  at MOMENT                    set the moment of later commands, in seconds
+  mkcp [-s]                    make a checkpoint, or a snapshot with -s, and print its number
+  chcp cp|ss N..               make checkpoints plain, or snapshots
+  lscp [-rsa] [-i N] [-n K]    list checkpoints: -r descending, -s snapshots alone, -a those too
+                               that the volume made itself, -i N from N on, -n K the first K
+  rmcp [-f] R..                remove checkpoints: N, A..B, A.. or ..B; with -f not a word of
+                               snapshots, or of numbers that aren't kept
+  lssu [-a]                    list segments, clean ones too with -a
+  clean                        do one round of cleaning, by the configuration of --conf
+  mount N                      mount a snapshot, and print the mount
+  umount M                     give a mount back
+  create PATH                  make an empty file
+  mkdir PATH                   make an empty directory
+  rm PATH                      remove a file
+  rmdir PATH                   remove an empty directory
+  mv FROM TO                   rename a file or a directory
+  write PATH OFFSET TEXT       write the bytes of a text
+  fill PATH OFFSET BYTE COUNT  write COUNT bytes of one value, 0 to 255
+  truncate PATH SIZE           give a file another size
+  cat [-m M] PATH              print a file
+  ls [-m M] PATH               print the names in a directory
+  stat [-m M] PATH             print \"file SIZE\" or \"dir COUNT\"
 Words are parted by blanks, or stand between quotation marks. With -m M a command reads the
-snapshot of that mount. A line that begins with # does nothing.";
+snapshot of that mount. A line that begins with # does nothing.
+
+Exit status: 2 where the arguments or a line are no command, else 1 where something was refused
+or a file or a stream failed, else 0.";

@@ -1,3 +1,4 @@
+mod Building
 mod DotParts
 mod ExampleLines
 mod Flags

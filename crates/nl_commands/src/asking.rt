@@ -1,8 +1,7 @@
 //! Commands that show what is at a path. Each function is given the words behind the command's name.
 //! Their errors: `Usage` where the words are not of the command's form, and `Memory`.
-ghost use Rattle.std.specs.Prelude.{◌≡◌, IfOk, IsOkUnless, map};
-ghost use Rattle.nl_commands.specs.AskingCommands.{cat_meant, ls_meant, show_given, show_grammar, show_meant, stat_meant};
-ghost use Rattle.nl_commands.specs.Grammars.{parsed};
+ghost use Rattle.std.specs.Prelude.{map};
+ghost use Rattle.nl_commands.specs.AskingCommands.{cat_meant, ls_meant, show_given, show_meant, stat_meant};
 ghost use Rattle.nl_commands.specs.Outcomes.{IsUnlessMemory};
 
 use crate::command::{Command, Shown};
@@ -10,22 +9,6 @@ use crate::error::LineError;
 use crate::grammar::{Given, Grammar};
 use crate::operands::{bytes_at, mount_at};
 use std::alloc::Global;
-
-fn show_grammar<'a>(alloc: Global, name: &'a str) -> Result<Grammar<'a>, LineError>
-    ensures ok { IfOk result (λ g. g ≡ show_grammar name.entry.now) }
-    ensures refused { IsOkUnless result LineError.Memory }
-{
-    Grammar::new(alloc, name)
-        .value("mount", 'm')?
-        .operand("path")
-}
-
-fn show_read<'a>(alloc: Global, name: &'a str, words: &'a [&'a str]) -> Result<Given<'a>, LineError>
-    ensures { IsUnlessMemory result
-        (parsed (show_grammar name.entry.now) (map (λ w. w.now) words.entry.now)) }
-{
-    show_grammar(alloc, name)?.read(words)
-}
 
 fn show_given(alloc: Global, what: Shown, given: &Given<'_>) -> Result<Command, LineError>
     ensures { IsUnlessMemory result (show_given what given.now) }
@@ -39,7 +22,10 @@ fn show_given(alloc: Global, what: Shown, given: &Given<'_>) -> Result<Command, 
 fn show(alloc: Global, name: &str, what: Shown, words: &[&str]) -> Result<Command, LineError>
     ensures { IsUnlessMemory result (show_meant name.now what (map (λ w. w.now) words.now)) }
 {
-    let given = show_read(alloc, name, words)?;
+    let given = Grammar::new(alloc, name)
+        .value("mount", 'm')
+        .operand("path")
+        .read(words)?;
     show_given(alloc, what, &given)
 }
 

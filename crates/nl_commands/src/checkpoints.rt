@@ -1,8 +1,8 @@
 //! Commands on checkpoints, and the moment that these are made at. Each function is given the words
 //! behind the command's name. Their errors: `Usage` where the words are not of the command's form,
 //! and `Memory`.
-ghost use Rattle.std.specs.Prelude.{◌≡◌, IfOk, IsOkUnless, map};
-ghost use Rattle.nl_commands.specs.CheckpointCommands.{at_meant, chcp_given, chcp_grammar, chcp_meant, lscp_given, lscp_grammar, lscp_meant, mkcp_meant, mode_at, mode_if, mode_in, rmcp_given, rmcp_grammar, rmcp_meant};
+ghost use Rattle.std.specs.Prelude.{◌≡◌, map};
+ghost use Rattle.nl_commands.specs.CheckpointCommands.{at_meant, chcp_given, chcp_meant, lscp_given, lscp_grammar, lscp_meant, mkcp_meant, mode_at, mode_if, mode_in, rmcp_given, rmcp_meant};
 ghost use Rattle.nl_commands.specs.Grammars.{parsed};
 ghost use Rattle.nl_commands.specs.Outcomes.{after, IsUnlessMemory};
 
@@ -40,21 +40,6 @@ pub fn mkcp(alloc: Global, words: &[&str]) -> Result<Command, LineError>
     Ok(Command::Mkcp(mode_if(is_snapshot)))
 }
 
-fn chcp_grammar<'a>(alloc: Global) -> Result<Grammar<'a>, LineError>
-    ensures ok { IfOk result (λ g. g ≡ chcp_grammar) }
-    ensures refused { IsOkUnless result LineError.Memory }
-{
-    Grammar::new(alloc, "chcp")
-        .operand("mode")?
-        .operands("numbers")
-}
-
-fn chcp_read<'a>(alloc: Global, words: &'a [&'a str]) -> Result<Given<'a>, LineError>
-    ensures { IsUnlessMemory result (parsed chcp_grammar (map (λ w. w.now) words.entry.now)) }
-{
-    chcp_grammar(alloc)?.read(words)
-}
-
 fn mode_in(word: &str) -> Result<Mode, LineError>
     ensures { result ≡ mode_in word.now }
 {
@@ -86,26 +71,11 @@ fn chcp_given(alloc: Global, given: &Given<'_>) -> Result<Command, LineError>
 pub fn chcp(alloc: Global, words: &[&str]) -> Result<Command, LineError>
     ensures { IsUnlessMemory result (chcp_meant (map (λ w. w.now) words.now)) }
 {
-    let given = chcp_read(alloc, words)?;
+    let given = Grammar::new(alloc, "chcp")
+        .operand("mode")
+        .operands("numbers")
+        .read(words)?;
     chcp_given(alloc, &given)
-}
-
-fn lscp_grammar<'a>(alloc: Global) -> Result<Grammar<'a>, LineError>
-    ensures ok { IfOk result (λ g. g ≡ lscp_grammar) }
-    ensures refused { IsOkUnless result LineError.Memory }
-{
-    Grammar::new(alloc, "lscp")
-        .flag("reverse", 'r')?
-        .flag("snapshots", 's')?
-        .flag("minor", 'a')?
-        .value("from", 'i')?
-        .value("count", 'n')
-}
-
-fn lscp_read<'a>(alloc: Global, words: &'a [&'a str]) -> Result<Given<'a>, LineError>
-    ensures { IsUnlessMemory result (parsed lscp_grammar (map (λ w. w.now) words.entry.now)) }
-{
-    lscp_grammar(alloc)?.read(words)
 }
 
 fn lscp_given(given: &Given<'_>) -> Result<ListOptions, LineError>
@@ -126,7 +96,13 @@ fn lscp_options(alloc: Global, words: &[&str]) -> Result<ListOptions, LineError>
     ensures { IsUnlessMemory result
         (after (parsed lscp_grammar (map (λ w. w.now) words.now)) lscp_given) }
 {
-    let given = lscp_read(alloc, words)?;
+    let given = Grammar::new(alloc, "lscp")
+        .flag("reverse", 'r')
+        .flag("snapshots", 's')
+        .flag("minor", 'a')
+        .value("from", 'i')
+        .value("count", 'n')
+        .read(words)?;
     lscp_given(&given)
 }
 
@@ -136,21 +112,6 @@ pub fn lscp(alloc: Global, words: &[&str]) -> Result<Command, LineError>
 {
     let options = lscp_options(alloc, words)?;
     Ok(Command::Lscp(options))
-}
-
-fn rmcp_grammar<'a>(alloc: Global) -> Result<Grammar<'a>, LineError>
-    ensures ok { IfOk result (λ g. g ≡ rmcp_grammar) }
-    ensures refused { IsOkUnless result LineError.Memory }
-{
-    Grammar::new(alloc, "rmcp")
-        .flag("quiet", 'f')?
-        .operands("ranges")
-}
-
-fn rmcp_read<'a>(alloc: Global, words: &'a [&'a str]) -> Result<Given<'a>, LineError>
-    ensures { IsUnlessMemory result (parsed rmcp_grammar (map (λ w. w.now) words.entry.now)) }
-{
-    rmcp_grammar(alloc)?.read(words)
 }
 
 fn rmcp_given(alloc: Global, given: &Given<'_>) -> Result<Command, LineError>
@@ -165,6 +126,9 @@ fn rmcp_given(alloc: Global, given: &Given<'_>) -> Result<Command, LineError>
 pub fn rmcp(alloc: Global, words: &[&str]) -> Result<Command, LineError>
     ensures { IsUnlessMemory result (rmcp_meant (map (λ w. w.now) words.now)) }
 {
-    let given = rmcp_read(alloc, words)?;
+    let given = Grammar::new(alloc, "rmcp")
+        .flag("quiet", 'f')
+        .operands("ranges")
+        .read(words)?;
     rmcp_given(alloc, &given)
 }

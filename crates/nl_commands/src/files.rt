@@ -1,8 +1,7 @@
 //! Commands that change the tree of files. Each function is given the words behind the command's
 //! name. Their errors: `Usage` where the words are not of the command's form, and `Memory`.
-ghost use Rattle.std.specs.Prelude.{◌≡◌, IfOk, IsOkUnless, map, min};
-ghost use Rattle.nl_commands.specs.FileCommands.{create_meant, fill_given, fill_grammar, fill_meant, mkdir_meant, most_filled, mv_given, mv_grammar, mv_meant, rm_meant, rmdir_meant, truncate_given, truncate_grammar, truncate_meant, write_given, write_grammar, write_meant};
-ghost use Rattle.nl_commands.specs.Grammars.{parsed};
+ghost use Rattle.std.specs.Prelude.{◌≡◌, map, min};
+ghost use Rattle.nl_commands.specs.FileCommands.{create_meant, fill_given, fill_meant, mkdir_meant, most_filled, mv_given, mv_meant, rm_meant, rmdir_meant, truncate_given, truncate_meant, write_given, write_meant};
 ghost use Rattle.nl_commands.specs.Outcomes.{IsUnlessMemory};
 
 use crate::command::Command;
@@ -48,19 +47,6 @@ pub fn rmdir(alloc: Global, words: &[&str]) -> Result<Command, LineError>
     Ok(Command::Change(Change::Rmdir { path }))
 }
 
-fn mv_grammar<'a>(alloc: Global) -> Result<Grammar<'a>, LineError>
-    ensures ok { IfOk result (λ g. g ≡ mv_grammar) }
-    ensures refused { IsOkUnless result LineError.Memory }
-{
-    Grammar::new(alloc, "mv").operand("from")?.operand("to")
-}
-
-fn mv_read<'a>(alloc: Global, words: &'a [&'a str]) -> Result<Given<'a>, LineError>
-    ensures { IsUnlessMemory result (parsed mv_grammar (map (λ w. w.now) words.entry.now)) }
-{
-    mv_grammar(alloc)?.read(words)
-}
-
 fn mv_given(alloc: Global, given: &Given<'_>) -> Result<Command, LineError>
     ensures { IsUnlessMemory result (mv_given given.now) }
 {
@@ -73,24 +59,11 @@ fn mv_given(alloc: Global, given: &Given<'_>) -> Result<Command, LineError>
 pub fn mv(alloc: Global, words: &[&str]) -> Result<Command, LineError>
     ensures { IsUnlessMemory result (mv_meant (map (λ w. w.now) words.now)) }
 {
-    let given = mv_read(alloc, words)?;
+    let given = Grammar::new(alloc, "mv")
+        .operand("from")
+        .operand("to")
+        .read(words)?;
     mv_given(alloc, &given)
-}
-
-fn write_grammar<'a>(alloc: Global) -> Result<Grammar<'a>, LineError>
-    ensures ok { IfOk result (λ g. g ≡ write_grammar) }
-    ensures refused { IsOkUnless result LineError.Memory }
-{
-    Grammar::new(alloc, "write")
-        .operand("path")?
-        .operand("offset")?
-        .operand("text")
-}
-
-fn write_read<'a>(alloc: Global, words: &'a [&'a str]) -> Result<Given<'a>, LineError>
-    ensures { IsUnlessMemory result (parsed write_grammar (map (λ w. w.now) words.entry.now)) }
-{
-    write_grammar(alloc)?.read(words)
 }
 
 fn write_given(alloc: Global, given: &Given<'_>) -> Result<Command, LineError>
@@ -110,25 +83,12 @@ fn write_given(alloc: Global, given: &Given<'_>) -> Result<Command, LineError>
 pub fn write(alloc: Global, words: &[&str]) -> Result<Command, LineError>
     ensures { IsUnlessMemory result (write_meant (map (λ w. w.now) words.now)) }
 {
-    let given = write_read(alloc, words)?;
+    let given = Grammar::new(alloc, "write")
+        .operand("path")
+        .operand("offset")
+        .operand("text")
+        .read(words)?;
     write_given(alloc, &given)
-}
-
-fn fill_grammar<'a>(alloc: Global) -> Result<Grammar<'a>, LineError>
-    ensures ok { IfOk result (λ g. g ≡ fill_grammar) }
-    ensures refused { IsOkUnless result LineError.Memory }
-{
-    Grammar::new(alloc, "fill")
-        .operand("path")?
-        .operand("offset")?
-        .operand("byte")?
-        .operand("count")
-}
-
-fn fill_read<'a>(alloc: Global, words: &'a [&'a str]) -> Result<Given<'a>, LineError>
-    ensures { IsUnlessMemory result (parsed fill_grammar (map (λ w. w.now) words.entry.now)) }
-{
-    fill_grammar(alloc)?.read(words)
 }
 
 fn counted(count: u64) -> u64
@@ -160,23 +120,13 @@ fn fill_given(alloc: Global, given: &Given<'_>) -> Result<Command, LineError>
 pub fn fill(alloc: Global, words: &[&str]) -> Result<Command, LineError>
     ensures { IsUnlessMemory result (fill_meant (map (λ w. w.now) words.now)) }
 {
-    let given = fill_read(alloc, words)?;
+    let given = Grammar::new(alloc, "fill")
+        .operand("path")
+        .operand("offset")
+        .operand("byte")
+        .operand("count")
+        .read(words)?;
     fill_given(alloc, &given)
-}
-
-fn truncate_grammar<'a>(alloc: Global) -> Result<Grammar<'a>, LineError>
-    ensures ok { IfOk result (λ g. g ≡ truncate_grammar) }
-    ensures refused { IsOkUnless result LineError.Memory }
-{
-    Grammar::new(alloc, "truncate")
-        .operand("path")?
-        .operand("size")
-}
-
-fn truncate_read<'a>(alloc: Global, words: &'a [&'a str]) -> Result<Given<'a>, LineError>
-    ensures { IsUnlessMemory result (parsed truncate_grammar (map (λ w. w.now) words.entry.now)) }
-{
-    truncate_grammar(alloc)?.read(words)
 }
 
 fn truncate_given(alloc: Global, given: &Given<'_>) -> Result<Command, LineError>
@@ -191,6 +141,9 @@ fn truncate_given(alloc: Global, given: &Given<'_>) -> Result<Command, LineError
 pub fn truncate(alloc: Global, words: &[&str]) -> Result<Command, LineError>
     ensures { IsUnlessMemory result (truncate_meant (map (λ w. w.now) words.now)) }
 {
-    let given = truncate_read(alloc, words)?;
+    let given = Grammar::new(alloc, "truncate")
+        .operand("path")
+        .operand("size")
+        .read(words)?;
     truncate_given(alloc, &given)
 }

@@ -1,9 +1,9 @@
 //! The forms that several commands share. Each function is given the name of the command and the
 //! words behind it. Their errors: `Usage` where the words are not of the form, and `Memory`.
-ghost use Rattle.std.specs.Prelude.{◌≡◌, IfOk, IsOkUnless, map};
+ghost use Rattle.std.specs.Prelude.{map};
 ghost use Rattle.nl_commands.specs.Grammars.{grammar, parsed};
 ghost use Rattle.nl_commands.specs.Outcomes.{IsUnlessMemory};
-ghost use Rattle.nl_commands.specs.SharedForms.{flag_grammar, flag_meant, number_grammar, number_meant, path_grammar, path_meant};
+ghost use Rattle.nl_commands.specs.SharedForms.{flag_meant, number_meant, path_meant};
 
 use crate::error::LineError;
 use crate::grammar::{Given, Grammar};
@@ -23,77 +23,28 @@ pub fn bare_form<'a>(
     Grammar::new(alloc, name).read(words)
 }
 
-fn number_grammar<'a>(alloc: Global, name: &'a str) -> Result<Grammar<'a>, LineError>
-    ensures ok { IfOk result (λ g. g ≡ number_grammar name.entry.now) }
-    ensures refused { IsOkUnless result LineError.Memory }
-{
-    Grammar::new(alloc, name).operand("number")
-}
-
-fn number_read<'a>(
-    alloc: Global,
-    name: &'a str,
-    words: &'a [&'a str],
-) -> Result<Given<'a>, LineError>
-    ensures { IsUnlessMemory result
-        (parsed (number_grammar name.entry.now) (map (λ w. w.now) words.entry.now)) }
-{
-    number_grammar(alloc, name)?.read(words)
-}
-
 /// `NAME NUMBER`
 pub fn number_form(alloc: Global, name: &str, words: &[&str]) -> Result<u64, LineError>
     ensures { IsUnlessMemory result (number_meant name.now (map (λ w. w.now) words.now)) }
 {
-    let given = number_read(alloc, name, words)?;
+    let given = Grammar::new(alloc, name).operand("number").read(words)?;
     number_at(&given, "number")
-}
-
-fn path_grammar<'a>(alloc: Global, name: &'a str) -> Result<Grammar<'a>, LineError>
-    ensures ok { IfOk result (λ g. g ≡ path_grammar name.entry.now) }
-    ensures refused { IsOkUnless result LineError.Memory }
-{
-    Grammar::new(alloc, name).operand("path")
-}
-
-fn path_read<'a>(alloc: Global, name: &'a str, words: &'a [&'a str]) -> Result<Given<'a>, LineError>
-    ensures { IsUnlessMemory result
-        (parsed (path_grammar name.entry.now) (map (λ w. w.now) words.entry.now)) }
-{
-    path_grammar(alloc, name)?.read(words)
 }
 
 /// `NAME PATH`
 pub fn path_form(alloc: Global, name: &str, words: &[&str]) -> Result<Items<u8>, LineError>
     ensures { IsUnlessMemory result (path_meant name.now (map (λ w. w.now) words.now)) }
 {
-    let given = path_read(alloc, name, words)?;
+    let given = Grammar::new(alloc, name).operand("path").read(words)?;
     bytes_at(alloc, &given, "path")
-}
-
-fn flag_grammar<'a>(alloc: Global, name: &'a str, letter: char) -> Result<Grammar<'a>, LineError>
-    ensures ok { IfOk result (λ g. g ≡ flag_grammar name.entry.now letter) }
-    ensures refused { IsOkUnless result LineError.Memory }
-{
-    Grammar::new(alloc, name).flag("option", letter)
-}
-
-fn flag_read<'a>(
-    alloc: Global,
-    name: &'a str,
-    letter: char,
-    words: &'a [&'a str],
-) -> Result<Given<'a>, LineError>
-    ensures { IsUnlessMemory result
-        (parsed (flag_grammar name.entry.now letter) (map (λ w. w.now) words.entry.now)) }
-{
-    flag_grammar(alloc, name, letter)?.read(words)
 }
 
 /// `NAME [-LETTER]`: whether the option is there.
 pub fn flag_form(alloc: Global, name: &str, letter: char, words: &[&str]) -> Result<bool, LineError>
     ensures { IsUnlessMemory result (flag_meant name.now letter (map (λ w. w.now) words.now)) }
 {
-    let given = flag_read(alloc, name, letter, words)?;
+    let given = Grammar::new(alloc, name)
+        .flag("option", letter)
+        .read(words)?;
     Ok(given.has("option"))
 }

@@ -1,8 +1,8 @@
 //! The words behind a command's name, by the command's grammar. This module alone knows the library
 //! that reads them.
-ghost use Rattle.std.specs.Prelude.{◌≡◌, true, map, IfOk, IsOkUnless, option_map};
-ghost use Rattle.clap.specs.Words.{all_of, first_of};
-ghost use Rattle.nl_commands.specs.Grammars.{grammar, with_flag, with_value, with_operand, with_operands, parsed, is_readable, has_hyphen, is_used, is_from_words};
+ghost use Rattle.std.specs.Prelude.{◌≡◌, false, map, option_map, true};
+ghost use Rattle.clap.specs.Words.{all_of, app_of, first_of, rule_of};
+ghost use Rattle.nl_commands.specs.Grammars.{Gains, Reads, flag_rule, grammar, has_hyphen, is_from_words, is_readable, is_used, operand_rule, operands_rule, option_rule, parsed, rule};
 ghost use Rattle.nl_commands.specs.Outcomes.{IsUnlessMemory};
 
 use crate::error::LineError;
@@ -11,19 +11,20 @@ use clap::{Arg, ArgAction, ArgMatches, Command};
 use std::alloc::Global;
 use std::marker::Model;
 
-/// What a command may be given.
-#[derive(Drop)]
+/// What a command may be given. Where memory for a part of it is refused nothing is left of it, and
+/// `read` tells so: a command has one place that asks.
 pub struct Grammar<'a> {
     alloc: Global,
-    command: Command<'a>,
+    command: Option<Command<'a>>,
 }
 
 impl<'a> Model for Grammar<'a> {
+    ghost use Rattle.std.specs.Prelude.{Option, option_map};
     ghost use Rattle.clap.specs.Words.{App, app_of};
 
-    ghost Value = { App };
+    ghost Value = { Option App };
 
-    ghost view = { λ g. app_of g.command };
+    ghost view = { λ g. option_map app_of g.command };
 }
 
 /// What a command is given.
@@ -60,72 +61,88 @@ fn is_from_words(source: Option<ValueSource>) -> bool
     }
 }
 
+/// What the words give by a command.
+fn read_by<'a>(command: Command<'a>, words: &'a [&'a str]) -> Result<Given<'a>, LineError>
+    ensures { is_readable (app_of command.entry) ≡ true
+        → IsUnlessMemory result (parsed (app_of command.entry) (map (λ w. w.now) words.entry.now)) }
+{
+    let matches = command.try_get_matches_from(words)?;
+    if has_hyphen(words) {
+        return Err(LineError::Usage);
+    }
+    Ok(Given { matches })
+}
+
+fn argument<'a>(
+    alloc: Global,
+    id: &'a str,
+    short: Option<char>,
+    is_required: bool,
+    action: ArgAction,
+) -> Arg<'a>
+    ensures local { result.global ≡ false }
+    ensures rule { rule_of result ≡ rule id.entry.now short is_required action }
+{
+    let arg = Arg::new(alloc, id).required(is_required).action(action);
+    match short {
+        Some(short) => arg.short(short),
+        None => arg,
+    }
+}
+
 impl<'a> Grammar<'a> {
     /// A command that is given nothing. It has no help of its own.
     pub fn new(alloc: Global, name: &'a str) -> Self
-        ensures { result ≡ grammar name.entry.now }
+        ensures { result ≡ Some (grammar name.entry.now) }
     {
         let command = Command::new(alloc, name)
             .no_binary_name(true)
             .disable_help_flag(true);
+        Grammar {
+            alloc,
+            command: Some(command),
+        }
+    }
+
+    fn with(self, id: &'a str, short: Option<char>, is_required: bool, action: ArgAction) -> Self
+        ensures { Gains self.entry (rule id.entry.now short is_required action) result }
+    {
+        let Grammar { alloc, command } = self;
+        let command = match command {
+            Some(command) => command
+                .arg(argument(alloc, id, short, is_required, action))
+                .ok(),
+            None => None,
+        };
         Grammar { alloc, command }
     }
 
-    fn with(self, arg: Arg<'a>) -> Result<Self, LineError>
-        requires { arg.global ≡ false }
-        ensures ok { IfOk result (λ g. g ≡ with_rule self.entry (rule_of arg.entry)) }
-        ensures refused { IsOkUnless result LineError.Memory }
-    {
-        let command = self.command.arg(arg)?;
-        Ok(Grammar {
-            alloc: self.alloc,
-            command,
-        })
-    }
-
-    ghost use Rattle.std.specs.Prelude.{false};
-    ghost use Rattle.clap.specs.Words.{rule_of, with_rule, is_simple_and_free};
-
     /// With an option that is there or not.
-    pub fn flag(self, id: &'a str, short: char) -> Result<Self, LineError>
-        ensures ok { IfOk result (λ g. g ≡ with_flag self.entry id.entry.now short) }
-        ensures refused { IsOkUnless result LineError.Memory }
+    pub fn flag(self, id: &'a str, short: char) -> Self
+        ensures { Gains self.entry (flag_rule id.entry.now short) result }
     {
-        let arg = Arg::new(self.alloc, id)
-            .short(short)
-            .action(ArgAction::SetTrue);
-        self.with(arg)
+        self.with(id, Some(short), false, ArgAction::SetTrue)
     }
 
     /// With an option that has a value.
-    pub fn value(self, id: &'a str, short: char) -> Result<Self, LineError>
-        ensures ok { IfOk result (λ g. g ≡ with_value self.entry id.entry.now short) }
-        ensures refused { IsOkUnless result LineError.Memory }
+    pub fn value(self, id: &'a str, short: char) -> Self
+        ensures { Gains self.entry (option_rule id.entry.now short) result }
     {
-        let arg = Arg::new(self.alloc, id).short(short).action(ArgAction::Set);
-        self.with(arg)
+        self.with(id, Some(short), false, ArgAction::Set)
     }
 
     /// With one word more.
-    pub fn operand(self, id: &'a str) -> Result<Self, LineError>
-        ensures ok { IfOk result (λ g. g ≡ with_operand self.entry id.entry.now) }
-        ensures refused { IsOkUnless result LineError.Memory }
+    pub fn operand(self, id: &'a str) -> Self
+        ensures { Gains self.entry (operand_rule id.entry.now) result }
     {
-        let arg = Arg::new(self.alloc, id)
-            .required(true)
-            .action(ArgAction::Set);
-        self.with(arg)
+        self.with(id, None, true, ArgAction::Set)
     }
 
     /// With one word or more at the end.
-    pub fn operands(self, id: &'a str) -> Result<Self, LineError>
-        ensures ok { IfOk result (λ g. g ≡ with_operands self.entry id.entry.now) }
-        ensures refused { IsOkUnless result LineError.Memory }
+    pub fn operands(self, id: &'a str) -> Self
+        ensures { Gains self.entry (operands_rule id.entry.now) result }
     {
-        let arg = Arg::new(self.alloc, id)
-            .required(true)
-            .action(ArgAction::Append);
-        self.with(arg)
+        self.with(id, None, true, ArgAction::Append)
     }
 
     /// What the words give.
@@ -133,14 +150,16 @@ impl<'a> Grammar<'a> {
     /// # Errors
     /// `Usage` where they are not of this grammar; `Memory`.
     pub fn read(self, words: &'a [&'a str]) -> Result<Given<'a>, LineError>
-        requires { is_readable self ≡ true }
-        ensures { IsUnlessMemory result (parsed self.entry (map (λ w. w.now) words.entry.now)) }
+        ensures { Reads self.entry (map (λ w. w.now) words.entry.now) result }
     {
-        if has_hyphen(words) {
-            return Err(LineError::Usage);
+        let Grammar {
+            command,
+            alloc: _alloc,
+        } = self;
+        match command {
+            Some(command) => read_by(command, words),
+            None => Err(LineError::Memory),
         }
-        let matches = self.command.try_get_matches_from(words)?;
-        Ok(Given { matches })
     }
 }
 

@@ -1,25 +1,10 @@
-use Rattle.std.proofs.Common.{rules, ◌≡◌, ◌≢◌, ◌∙◌, ap, sym, true, false, map, List, Ok, Err}
-use Rattle.clap.proofs.WalkLemmas.{both}
-use Rattle.clap.specs.Words.{App, Row, Text, app_of, found_of, is_simple_and_free, kind_of, matches_of, rows_of}
-use Rattle.nl_commands.specs.declared.error.LineError.TheVariants.{Memory}
-use Rattle.nl_commands.specs.Grammars.{has_hyphen, parsed}
-use Rattle.nl_commands.specs.Kinds.{line_error}
-use Rattle.nl_commands.proofs.Parsing.{parsed-ok, error-is}
+use Rattle.std.proofs.Common.{◌≡◌, ◌∙◌, List, Some, ap, map, option_map, sym}
+use Rattle.clap.specs.Words.{Text, app_of}
+use Rattle.nl_commands.proofs.Building.{reads-some}
 use Rattle.nl_commands.proofs.grammar.Grammar.read.Goals as goal
 
-pub returns-in_err-matches : goal.returns-in_err-matches
-returns-in_err-matches c = λ other.
+pub returns-in-Some : goal.returns-in-Some
+returns-in-Some c =
     let words : List Text = map (λ w. w.now) c.args.words.now in
-    let free : is_simple_and_free (app_of c.self.inside.command) ≡ true = ap is_simple_and_free c.self.view_is ∙ c.requires in
-    let is : c.from_residual.result ≡ Err (line_error (kind_of c.in_err-matches.field-0.0)) = search rules in
-    let not_memory : line_error (kind_of c.in_err-matches.field-0.0) ≢ Memory = λ e. other (is ∙ ap (λ x. Err x) e) in
-    is ∙ error-is (app_of c.self.inside.command) words _ (c.in_err-matches.ensures.kinds free) not_memory ∙ ap (λ (a : App). parsed a words) c.self.view_is
-
-pub returns : goal.returns
-returns c = λ other.
-    let words : List Text = map (λ w. w.now) c.args.words.now in
-    let app : App = app_of c.self.inside.command in
-    let free : is_simple_and_free app ≡ true = ap is_simple_and_free c.self.view_is ∙ c.requires in
-    let plain : has_hyphen words ≡ false = sym c.has_hyphen.ensures ∙ c.if-has_hyphen.false in
-    let rows : rows_of (found_of c.in_ok-matches.matches) ≡ matches_of app words = (c.in_ok-matches.ensures.matches (both _ _ free).0).0 in
-    ap (λ (r : List Row). Ok r) rows ∙ sym (parsed-ok app words plain (c.in_ok-matches.ensures.kinds free)) ∙ ap (λ (a : App). parsed a words) c.self.view_is
+    let own : c.args.self ≡ Some (app_of c.in-Some.command) = sym c.self.view_is ∙ ap (option_map app_of) c.in-Some.is in
+    reads-some c.args.self (app_of c.in-Some.command) words c.read_by.result own c.read_by.ensures
