@@ -5,8 +5,6 @@ mod choice;
 mod job;
 pub mod laws;
 mod planning;
-#[cfg(test)]
-mod tests;
 
 pub use job::{Job, ends_round};
 pub use planning::plan;

@@ -13,8 +13,6 @@ mod scripts;
 mod sessions;
 mod status;
 mod telling;
-#[cfg(test)]
-mod tests;
 mod volume;
 
 pub use events::{events_of, is_quiet};

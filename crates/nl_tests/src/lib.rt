@@ -32,7 +32,11 @@ mod numbers;
 #[cfg(test)]
 mod protection;
 #[cfg(test)]
+mod rounds;
+#[cfg(test)]
 mod rows;
+#[cfg(test)]
+mod scripts;
 #[cfg(test)]
 mod segments;
 #[cfg(test)]

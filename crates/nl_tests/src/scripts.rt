@@ -1,8 +1,8 @@
 //! A script over a volume that answers from a list.
-use crate::{Done, Volume, script};
 use nl_cleaner::Job;
 use nl_cpfile::Cpstat;
 use nl_protect::Config;
+use nl_script::{Volume, script};
 use nl_sufile::Sustat;
 use nl_types::{Answer, CheckpointNumber, Event, Reply, Segment, SegmentInfo, VolError};
 use std::alloc::Global;

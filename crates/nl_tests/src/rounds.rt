@@ -1,5 +1,5 @@
 //! Rounds with ample memory, and one whose read fails.
-use crate::plan;
+use nl_cleaner::plan;
 use nl_core::Pen;
 use nl_device::{Device, Failing, FaultyDevice, MemDevice};
 use nl_protect::{Amount, Config};
