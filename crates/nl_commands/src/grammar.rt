@@ -11,8 +11,8 @@ use clap::{Arg, ArgAction, ArgMatches, Command};
 use std::alloc::Global;
 use std::marker::Model;
 
-/// What a command may be given. Where memory for a part of it is refused nothing is left of it, and
-/// `read` tells so: a command has one place that asks.
+/// What a command may be given, named part by part. Where memory for a part is refused nothing is left
+/// of it, and `read` answers `Memory`: so there is one place for the error.
 pub struct Grammar<'a> {
     alloc: Global,
     command: Option<Command<'a>>,
@@ -61,7 +61,8 @@ fn is_from_words(source: Option<ValueSource>) -> bool
     }
 }
 
-/// What the words give by a command.
+/// What the words give by a command. The library takes a lone hyphen for a value; that it is none is
+/// judged behind the library's reading, which has used up the command.
 fn read_by<'a>(command: Command<'a>, words: &'a [&'a str]) -> Result<Given<'a>, LineError>
     ensures { is_readable (app_of command.entry) ≡ true
         → IsUnlessMemory result (parsed (app_of command.entry) (map (λ w. w.now) words.entry.now)) }
@@ -73,6 +74,7 @@ fn read_by<'a>(command: Command<'a>, words: &'a [&'a str]) -> Result<Given<'a>, 
     Ok(Given { matches })
 }
 
+/// An option, or without a letter a word.
 fn argument<'a>(
     alloc: Global,
     id: &'a str,
