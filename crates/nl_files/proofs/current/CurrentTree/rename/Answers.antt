@@ -1,10 +1,11 @@
 use Rattle.std.proofs.Common.{inl, refl}
-use Rattle.std.proofs.lemmas.Result.{err_from_is_err_and, on_ok_weaker}
+use Rattle.std.proofs.lemmas.Result.{IfOk-from_err, err_from_is_err_and, on_ok_weaker}
 use Rattle.nl_files.specs.Became.{holding_over}
 use Rattle.nl_files.specs.Held.{Holding}
 use Rattle.nl_files.specs.PathParts.{parts_of}
 use Rattle.nl_files.proofs.RenamesJudged.{path_of-injective, path_of-last}
 use Rattle.nl_files.proofs.PlacesFound.{place-listed}
+use Rattle.nl_files.proofs.Refusals.{holds_on_err}
 use Rattle.nl_files.proofs.RenamesMake.{has-renamed}
 use Rattle.nl_files.proofs.current.CurrentTree.rename.Goals as goal
 
@@ -43,3 +44,21 @@ returns-in-Ok-Some-clause-changes g c = λ b tree holds over.
     (has-renamed c.args.from.now c.args.to.now names target_names old new found.directory found.name.now found.link
     found.target.directory found.target.name.now found.target.link here.0 there.0 c.in_ok-names.ensures.0 c.in_ok-names.ensures.1 move here.1 there.1)
     (c.move_to_place.ensures.moved b here.0 there.0 holds (here.1, there.1))
+
+pub returns-in_err-names-clause-changes : goal.returns-in_err-names-clause-changes
+returns-in_err-names-clause-changes g c = λ _ _ _ _. IfOk-from_err c.from_residual.result _ c.from_residual.ensures.0
+
+pub returns-in_err-names-clause-same : goal.returns-in_err-names-clause-same
+returns-in_err-names-clause-same g c = holds_on_err c.from_residual.result _ refl
+
+pub returns-in-Err-clause-changes : goal.returns-in-Err-clause-changes
+returns-in-Err-clause-changes g c = λ _ _ _ _. tt
+
+pub returns-in-Err-clause-same : goal.returns-in-Err-clause-same
+returns-in-Err-clause-same g c = refl
+
+pub returns-in-Ok-None-clause-same : goal.returns-in-Ok-None-clause-same
+returns-in-Ok-None-clause-same g c = tt
+
+pub returns-in-Ok-Some-clause-same : goal.returns-in-Ok-Some-clause-same
+returns-in-Ok-Some-clause-same g c = c.move_to_place.ensures.same
