@@ -81,41 +81,41 @@ abbrev Fewer : JobView → Layout → ℕ → Type 0
 Fewer job l n = steps_left job l < n
 
 module _ (now period segment : ℕ) (rest : List ℕ) (old new : Layout) (held : IsPen old) where
-  abbrev before : JobView
-  before = cleaning now period (segment ∷ rest)
+  abbrev here : JobView
+  here = cleaning now period (segment ∷ rest)
 
   next-segment : IsPen new → Fewer (cleaning now period rest) new (cleaning_left (segment ∷ rest) old)
   next-segment still = omega (arith, cleaning-few rest new still)
 
-  refused : (event : Event) (e : VolError) (job : JobView) → Does unshared old event (Err e) new → job ≡ noted_by Cleaning before (Err e)
+  refused : (event : Event) (e : VolError) (job : JobView) → Does unshared old event (Err e) new → job ≡ noted_by Cleaning here (Err e)
       → Fewer job new (cleaning_left (segment ∷ rest) old)
   refused event e job does is = by (ends_round e) refl
     where
-      ended : Fewer (at_stage Ended before) new (cleaning_left (segment ∷ rest) old)
+      ended : Fewer (at_stage Ended here) new (cleaning_left (segment ∷ rest) old)
       ended = omega arith
 
       by : (b : Bool) → ends_round e ≡ b → Fewer job new (cleaning_left (segment ∷ rest) old)
       by true h = subst (λ (j : JobView). Fewer j new (cleaning_left (segment ∷ rest) old))
-          (sym (is ∙ ap (λ (b : Bool). cond {A = JobView} b (at_stage Ended before) (first_done before)) h)) ended
+          (sym (is ∙ ap (λ (b : Bool). cond {A = JobView} b (at_stage Ended here) (first_done here)) h)) ended
       by false h = subst (λ (j : JobView). Fewer j new (cleaning_left (segment ∷ rest) old))
-          (sym (is ∙ ap (λ (b : Bool). cond {A = JobView} b (at_stage Ended before) (first_done before)) h)) (next-segment does.pen)
+          (sym (is ∙ ap (λ (b : Bool). cond {A = JobView} b (at_stage Ended here) (first_done here)) h)) (next-segment does.pen)
 
   moved : (answer : Answer) (job : JobView) → needed_of old segment ≢ 0 → Does unshared old (Move segment 30 now) (Ok answer) new
-      → job ≡ answered answer before → Fewer job new (cleaning_left (segment ∷ rest) old)
+      → job ≡ answered answer here → Fewer job new (cleaning_left (segment ∷ rest) old)
   moved answer job some does is =
-      let same : job ≡ before = is ∙ ap (λ (a : Answer). answered a before) does.touches.1.answer_is in
+      let same : job ≡ here = is ∙ ap (λ (a : Answer). answered a here) does.touches.1.answer_is in
       let fewer : needed_of new segment ≡ needed_of old segment - 30 = after-move old new segment now answer held does in
-      let there : Fewer before new (cleaning_left (segment ∷ rest) old) = omega (arith, fewer, some) in
+      let there : Fewer here new (cleaning_left (segment ∷ rest) old) = omega (arith, fewer, some) in
       subst (λ (j : JobView). Fewer j new (cleaning_left (segment ∷ rest) old)) (sym same) there
 
   retired : (answer : Answer) (job : JobView) → Does unshared old (Retire segment) (Ok answer) new
-      → job ≡ answered answer before → Fewer job new (cleaning_left (segment ∷ rest) old)
+      → job ≡ answered answer here → Fewer job new (cleaning_left (segment ∷ rest) old)
   retired answer job does is =
-      let same : job ≡ cleaning now period rest = is ∙ ap (λ (a : Answer). answered a before) does.touches.emptied.answer_is in
+      let same : job ≡ cleaning now period rest = is ∙ ap (λ (a : Answer). answered a here) does.touches.emptied.answer_is in
       subst (λ (j : JobView). Fewer j new (cleaning_left (segment ∷ rest) old)) (sym same) (next-segment does.pen)
 
   done : (event : Event) (answer : Answer) (job : JobView) → cleaning_event old segment now ≡ event → Does unshared old event (Ok answer) new
-      → job ≡ answered answer before → Fewer job new (cleaning_left (segment ∷ rest) old)
+      → job ≡ answered answer here → Fewer job new (cleaning_left (segment ∷ rest) old)
   done event answer job next does is = by (needed_of old segment == 0) refl
     where
       by : (t : Bool) → (needed_of old segment == 0) ≡ t → Fewer job new (cleaning_left (segment ∷ rest) old)
