@@ -29,5 +29,5 @@ Commands of a script:
 Words are parted by blanks, or stand between quotation marks. With -m M a command reads the
 snapshot of that mount. A line that begins with # does nothing.
 
-Exit status: 2 where the arguments or a line are no command, else 1 where something was refused
-or a file or a stream failed, else 0.";
+Exit status: 2 where the arguments or a line are usage, else 1 where something was refused or a
+file or a stream failed, else 0.";
