@@ -74,12 +74,12 @@ impl RoundSum {
         }
     }
 
-    fn with_reply(self, reply: &Reply) -> RoundSum
-        ensures { result ≡ with_reply self reply.now }
+    fn with_reply(self, reply: Reply) -> RoundSum
+        ensures { result ≡ with_reply self reply }
     {
         match reply {
-            Ok(answer) => self.with_answer(answer),
-            Err(error) => self.with_refusal(*error),
+            Ok(answer) => self.with_answer(&answer),
+            Err(error) => self.with_refusal(error),
         }
     }
 }
@@ -90,7 +90,7 @@ pub fn run_steps<V: Volume>(volume: &mut V, mut job: Job) -> RoundSum
 {
     let mut sum = RoundSum::nothing();
     while let Some(reply) = volume.clean_step(&mut job) {
-        sum = sum.with_reply(&reply);
+        sum = sum.with_reply(reply);
     }
     sum
 }
