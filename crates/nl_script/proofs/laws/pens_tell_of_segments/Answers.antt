@@ -7,5 +7,5 @@ use Rattle.nl_script.proofs.ToldSegments.{told-each}
 use Rattle.nl_script.proofs.laws.pens_tell_of_segments.Goals as goal
 
 pub returns : goal.returns
-returns c l error (stat, measured, segment, within, told) =
-    told-each l.store.segments.each segment error (subst (λ (n : ℕ). segment < n) measured.0 within) told
+returns c l error (stat, measured, below) =
+    told-each l.store.segments.each below.0 error (subst (λ (n : ℕ). below.0 < n) measured.0 below.1) below.2
