@@ -1,5 +1,5 @@
 -- Each step of a round leaves fewer.
-use Rattle.std.proofs.Common.{◌≡◌, ◌≢◌, ℕ, zero, suc, ◌+◌, ◌*◌, ◌-◌, ◌<◌, ◌≤◌, ◌==◌, Bool, true, false, cond, List, [], ◌∷◌, length, drop, map, Option, Some, None, Result, Ok, Err, refl, sym, ap, subst, ◌∙◌, true≢false, arith}
+use Rattle.std.proofs.Common.{◌≡◌, ◌≢◌, ℕ, zero, suc, ◌*◌, ◌-◌, ◌<◌, ◌≤◌, ◌==◌, Bool, true, false, cond, List, [], ◌∷◌, length, Option, Some, None, Ok, Err, refl, sym, ap, subst, ◌∙◌, true≢false, arith}
 use Rattle.std.specs.Prelude.{IsOk, slice_get}
 use Rattle.std.proofs.lemmas.List.{length-drop}
 use Rattle.std.proofs.lemmas.Bool.{eq-eqb}
@@ -10,10 +10,9 @@ use Rattle.nl_types.specs.declared.event.Event.TheVariants.{Move, Retire}
 use Rattle.nl_types.specs.declared.reply.Answer.{Answer}
 use Rattle.nl_types.specs.declared.segment.SegmentInfo.{SegmentInfo}
 use Rattle.nl_types.specs.declared.segment.SegmentState.TheVariants.{Active, Clean, Dirty, Error}
-use Rattle.nl_types.specs.Placing.{row_of}
 use Rattle.nl_types.specs.Segments.{IsClosed, Segments, clean_info, is_closed}
 use Rattle.nl_types.specs.Worlds.{Reply}
-use Rattle.nl_dat.specs.Located.{needed_at, needed_count, onto, pick, picked}
+use Rattle.nl_dat.specs.Located.{needed_at, needed_count, onto, picked}
 use Rattle.nl_reclaim.specs.Cleaning.{judged, judged_by, judged_info}
 use Rattle.nl_reclaim.specs.Moves.{needed_now}
 use Rattle.nl_reclaim.proofs.Moves.{move-takes-first}

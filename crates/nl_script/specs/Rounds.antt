@@ -1,5 +1,5 @@
 -- Rounds of cleaning, and what is told of them.
-use Rattle.std.specs.Prelude.{◌≡◌, ◌⊎◌, ◌+◌, ◌-◌, ◌^◌, if◌then◌else◌, min, ℕ, List, [], ◌∷◌, ◌++◌, length, Option, None, Some, Ok, Err}
+use Rattle.std.specs.Prelude.{◌≡◌, ◌+◌, ◌-◌, ◌^◌, if◌then◌else◌, min, ℕ, List, [], ◌∷◌, ◌++◌, length, Option, None, Some, Ok, Err}
 use Rattle.nl_types.specs.Worlds.{Reply}
 use Rattle.nl_types.specs.declared.error.VolError.{VolError}
 use Rattle.nl_types.specs.declared.reply.Answer.{Answer}

@@ -1,4 +1,4 @@
-use Rattle.std.proofs.Common.{◌≡◌, sym}
+use Rattle.std.proofs.Common.{sym}
 use Rattle.nl_core.specs.Layout.{Layout}
 use Rattle.nl_cleaner.specs.Job.{JobView, Stepped}
 use Rattle.nl_cleaner.proofs.StepsLeft.{fewer-left}
