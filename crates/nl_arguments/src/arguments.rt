@@ -4,7 +4,7 @@ ghost use Rattle.std.specs.Prelude.{◌≡◌, ◌↔◌, IfOk, IsOk, OnErr};
 use nl_types::{Geometry, Items, VolError};
 
 /// How the device of a new volume is to be divided, and where the cleaner's configuration stands. Nothing is judged yet.
-#[derive(Debug, Drop)]
+#[derive(Drop)]
 pub struct Arguments {
     pub segments: u32,
     /// Blocks in each segment.

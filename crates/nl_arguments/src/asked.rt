@@ -6,7 +6,7 @@ use crate::arguments::Arguments;
 use std::alloc::{AllocError, AllocFailed};
 
 /// What the program is to do.
-#[derive(Debug, Drop)]
+#[derive(Drop)]
 pub enum Asked {
     /// To run a script.
     Run(Arguments),
@@ -17,7 +17,7 @@ pub enum Asked {
 }
 
 /// Why the words ask for nothing.
-#[derive(Debug, Drop)]
+#[derive(Drop)]
 pub enum ArgumentsFault {
     /// They are not the program's arguments. The text, for standard error, says what is wrong.
     Misread(String),

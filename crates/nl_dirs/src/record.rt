@@ -13,7 +13,7 @@ const HEAD_SIZE: usize = 6;
 
 /// A record of a directory: a name of 1 to 255 bytes, and what it stands for. Inode numbers are below 2^32. Which names
 /// a path may have is for the caller to judge.
-#[derive(Debug, Drop)]
+#[derive(Drop)]
 pub struct Record {
     pub name: Items<u8>,
     pub inode: InodeNumber,

@@ -27,7 +27,7 @@ pub struct Stays {
 }
 
 /// What became of the checkpoints of a range. Both lists ascend.
-#[derive(Debug, Drop)]
+#[derive(Drop)]
 pub struct Range {
     pub removed: Items<CheckpointNumber>,
     pub stayed: Items<Stays>,
