@@ -27,7 +27,7 @@ pub enum Shown {
 }
 
 /// A command of a script. Its numbers are as they were written: the volume judges them.
-#[derive(Debug, Drop)]
+#[derive(Drop)]
 pub enum Command {
     /// Sets the moment of later commands, in whole seconds.
     At(u64),
