@@ -10,9 +10,8 @@ use Rattle.std.proofs.lemmas.Option.{slice_get_past}
 use Rattle.nl_types.specs.Entries.{Birth, Content, Place, number_of}
 use Rattle.nl_types.specs.RootChanges.{born, with_births}
 use Rattle.nl_types.specs.Roots.{Chain, Empty, Pages, chain_node, child, numbered, pages_of, place_at, slot}
-use Rattle.nl_dat.specs.Batches.{IsLowestFree, with_page}
+use Rattle.nl_vstore.specs.Batches.{IsLowestFree, with_page, TakeLowestFree}
 use Rattle.nl_blocktree.specs.NodePages.{AddsNodes, IsNode, PutsNodes, SameButPage}
-use Rattle.nl_dat.specs.Batches.{TakeLowestFree}
 use Rattle.nl_blocktree.specs.SlotChanges.{IsPlaced}
 use Rattle.nl_blocktree.proofs.Numbers.{born-append, born_in, free-some, numbered-push, numbered-same, numbered_later, numbered_untaken}
 

@@ -5,9 +5,9 @@ ghost use Rattle.nl_layout.specs.Root.{root_of};
 
 use crate::chain::first_node;
 use crate::read::{DATA_SLOTS, child_of, node_at, node_behind, page_under};
-use nl_dat::VRead;
 use nl_layout::Root;
 use nl_types::{Page, VirtualNumber};
+use nl_vstore::VRead;
 
 /// Reads the blocks of a file: for indices that ascend it reads each node once.
 #[derive(Drop)]

@@ -12,12 +12,13 @@ use Rattle.nl_types.specs.Entries.{Entry, is_needed}
 use Rattle.nl_types.specs.Runs.{Run}
 use Rattle.nl_types.specs.Segments.{clean_info, info_of}
 use Rattle.nl_types.specs.Worlds.{Reply}
-use Rattle.nl_dat.specs.Located.{numbers_in}
+use Rattle.nl_vstore.specs.Located.{numbers_in}
 use Rattle.nl_reclaim.specs.Moves.{FullMoves, HasMoved, KeptStore, KeepsNeeds, Retires}
 use Rattle.nl_reclaim.proofs.Moves.{full-moves-come-clean}
 use Rattle.nl_core.specs.CleanedPens.{kept_store, number_in}
 use Rattle.nl_core.specs.Layout.{Does, IsPen, Layout, unshared}
 use Rattle.nl_core.specs.Volume.{Lists, kept_by}
+use Rattle.nl_core.proofs.Refusals.{retirements_are_judged}
 use Rattle.nl_cleaner.specs.Laws.{AreMoves, SegmentsComeClean}
 
 abbrev pub IsDone : Reply → Type 0
@@ -55,6 +56,14 @@ full-moves segment limit old mid (e ∷ es) [] moves run oks = absurd run
 
 -- ---- and then a retirement
 
+-- a run leaves a pen
+pen-behind : (old new : Layout) (events : List Event) (replies : List Reply) → IsPen old → Run (Does unshared) old events replies new
+    → IsPen new
+pen-behind old new [] [] held run = subst IsPen (sym run) held
+pen-behind old new (e ∷ es) (r ∷ rs) held run = pen-behind run.0 new es rs run.1.pen run.2
+pen-behind old new [] (r ∷ rs) held run = absurd run
+pen-behind old new (e ∷ es) [] held run = absurd run
+
 pub segments-come-clean : SegmentsComeClean
 segments-come-clean segment limit old mid new events replies (Ok answer) held dirty moves enough run oks does =
     let emptied = does.touches.emptied in
@@ -67,7 +76,8 @@ segments-come-clean segment limit old mid new events replies (Ok answer) held di
     counts : (count : ℕ) → ◌≡◌ {A = Result ℕ VolError} (Ok count) (Ok (length (numbers_in mid.store segment))) → count ≡ length (numbers_in mid.store segment)
     counts count h = cc
 segments-come-clean segment limit old mid new events replies (Err e) held dirty moves enough run oks does =
-    let retires : Retires segment (Err e) (kept_store mid) (kept_store new) = record { answers = sym does.touches.1; reclaimed = tt } in
+    let judged = retirements_are_judged mid new segment e (pen-behind old mid events replies held run) does in
+    let retires : Retires segment (Err e) (kept_store mid) (kept_store new) = record { answers = sym judged; reclaimed = tt } in
     let clean = full-moves-come-clean segment limit (length events) (kept_store old) (kept_store mid) (kept_store new) (Err e)
     held.sound.store dirty enough (full-moves segment limit old mid events replies moves run oks) retires in
     absurd (apart clean.0)

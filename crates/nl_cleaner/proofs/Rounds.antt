@@ -11,7 +11,7 @@ use Rattle.nl_types.specs.Runs.{Run}
 use Rattle.nl_types.specs.Worlds.{Reply}
 use Rattle.nl_types.specs.PartialMaps.{is_one_of}
 use Rattle.nl_types.proofs.PartialMaps.{is_one_of-get_or}
-use Rattle.nl_dat.specs.Located.{needed_count}
+use Rattle.nl_vstore.specs.Located.{needed_count}
 use Rattle.nl_reclaim.specs.Rounds.{IsRoundEvent, AreRoundEvents}
 use Rattle.nl_reclaim.proofs.Rounds.{rounds-leave-nothing-dead}
 use Rattle.nl_core.specs.CleanedPens.{kept_store}

@@ -12,7 +12,7 @@ use Rattle.nl_types.specs.declared.segment.SegmentInfo.{SegmentInfo}
 use Rattle.nl_types.specs.declared.segment.SegmentState.TheVariants.{Active, Clean, Dirty, Error}
 use Rattle.nl_types.specs.Segments.{IsClosed, Segments, clean_info, is_closed}
 use Rattle.nl_types.specs.Worlds.{Reply}
-use Rattle.nl_dat.specs.Located.{needed_at, needed_count, onto, picked}
+use Rattle.nl_vstore.specs.Located.{needed_at, needed_count, onto, picked}
 use Rattle.nl_reclaim.specs.Cleaning.{judged, judged_by, judged_info}
 use Rattle.nl_reclaim.specs.Moves.{needed_now}
 use Rattle.nl_reclaim.proofs.Moves.{move-takes-first}

@@ -7,8 +7,8 @@ use Rattle.nl_types.specs.declared.segment.SegmentState.TheVariants.{Dirty}
 use Rattle.nl_types.specs.Runs.{Run}
 use Rattle.nl_types.specs.Segments.{clean_info, info_of}
 use Rattle.nl_types.specs.Worlds.{Reply}
-use Rattle.nl_dat.specs.Located.{needed_count, numbers_in}
-use Rattle.nl_dat.specs.Stores.{address_in}
+use Rattle.nl_vstore.specs.Located.{needed_count, numbers_in}
+use Rattle.nl_vstore.specs.Stores.{address_in}
 use Rattle.nl_reclaim.specs.Rounds.{IsLeftOut, IsNeeded}
 use Rattle.nl_core.specs.CleanedPens.{kept_store}
 use Rattle.nl_core.specs.CleaningEvents.{needed_by}

@@ -4,7 +4,7 @@ use Rattle.nl_types.specs.declared.segment.SegmentInfo.{SegmentInfo}
 use Rattle.nl_types.specs.declared.segment.SegmentState.{SegmentState}
 use Rattle.nl_types.specs.declared.segment.SegmentState.TheVariants.{Clean, Dirty, Active, Error}
 use Rattle.nl_types.specs.Segments.{clean_segments, info_of}
-use Rattle.nl_dat.specs.Located.{payload_count_in}
+use Rattle.nl_vstore.specs.Located.{payload_count_in}
 use Rattle.nl_protect.specs.declared.amount.Amount.{Amount}
 use Rattle.nl_protect.specs.declared.config.Config.{Config}
 use Rattle.nl_protect.specs.Configuration.{amount_of}

@@ -64,8 +64,10 @@ impl Job {
         }
     }
 
-    /// The event that comes next, if one does.
-    fn next<D: Device>(&self, pen: &Pen<D>) -> Option<Event>
+    /// The event that comes next in the round, if one does: the expiry, and then moves out of the first segment that is left and
+    /// its retirement, segment by segment in the order of the plan. Whoever does it hands the reply to `note`, and no other
+    /// event's, before asking again; `step` does both on a pen alone.
+    pub fn next<D: Device>(&self, pen: &Pen<D>) -> Option<Event>
         ensures { result ≡ next_event self.now pen.now }
     {
         match self.stage {
@@ -90,8 +92,9 @@ impl Job {
         }
     }
 
-    /// Takes note of the reply to the next event.
-    fn note(&mut self, reply: &Reply)
+    /// Takes note of the reply to the event that came next. A refusal for want of space or of memory or for a fault ends the
+    /// round; a segment that can't be cleaned, or is clean, is done.
+    pub fn note(&mut self, reply: &Reply)
         ensures { self.new ≡ noted self.old reply.now }
     {
         match (self.stage, reply) {

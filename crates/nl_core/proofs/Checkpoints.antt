@@ -17,8 +17,8 @@ use Rattle.nl_types.specs.Trees.{Tree}
 use Rattle.nl_types.proofs.Births.{pages-written}
 use Rattle.nl_types.proofs.ExactLifetimes.{covered_kept_all, ends_once}
 use Rattle.nl_layout.specs.Root.{root_of}
-use Rattle.nl_dat.specs.Batches.{Changes}
-use Rattle.nl_dat.specs.Stores.{IsStore, capacity, content_in}
+use Rattle.nl_vstore.specs.Batches.{Changes}
+use Rattle.nl_vstore.specs.Stores.{IsStore, capacity, content_in}
 use Rattle.nl_blocktree.specs.Checkpoints.{WritesWhatDiffers, numbers_of}
 use Rattle.nl_blocktree.proofs.Frames.{births-keep}
 use Rattle.nl_blocktree.proofs.Numbers.{unused_of_fits}

@@ -13,7 +13,7 @@ use Rattle.nl_types.specs.Roots.{pages_of}
 use Rattle.nl_types.specs.Worlds.{World, Copy}
 use Rattle.nl_types.proofs.ExactLifetimes.{covered_kept_all, ends_once, ledger_after-IsLedger}
 use Rattle.nl_layout.specs.Root.{root_of}
-use Rattle.nl_dat.specs.Stores.{IsMoveRefused, IsReclaimed, IsStore, Numbered, Store, content_in, entry_now}
+use Rattle.nl_vstore.specs.Stores.{IsMoveRefused, IsReclaimed, IsStore, Numbered, Store, content_in, entry_now}
 use Rattle.nl_files.specs.CheckpointTrees.{HoldsTree}
 use Rattle.nl_files.specs.Held.{Holding, IsTreeSound}
 use Rattle.nl_files.specs.Staying.{AgreeAtCheckpoint, CheckpointStays}
@@ -88,7 +88,7 @@ moves_keep_pens segment checkpoint stamp numbers old new pen lists is_store move
 content-of : (old new : Store) → new.numbers ≡ old.numbers → content_in new ≡ content_in old
 content-of old new same = ap (λ (numbers : List (Option Numbered)). λ (v : ℕ). option_map entry_now (get_or numbers v None)) same
 
-refused-numbers : (checkpoint stamp : ℕ) (numbers : List ℕ) (e : VolError) (old new : Store)
+pub refused-numbers : (checkpoint stamp : ℕ) (numbers : List ℕ) (e : VolError) (old new : Store)
     → IsMoveRefused checkpoint stamp numbers old new e → new.numbers ≡ old.numbers
 refused-numbers checkpoint stamp numbers NoSpace old new refused = refused.1.numbers
 refused-numbers checkpoint stamp numbers Memory old new refused = refused.numbers

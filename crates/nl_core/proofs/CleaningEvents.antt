@@ -17,13 +17,13 @@ use Rattle.nl_types.specs.Laws.{IsJudged}
 use Rattle.nl_types.specs.Placing.{LacksSpace}
 use Rattle.nl_types.specs.Segments.{Segments}
 use Rattle.nl_types.specs.Worlds.{Reply}
-use Rattle.nl_dat.specs.Located.{needed_count, needed_in, numbers_in}
-use Rattle.nl_dat.specs.Stores.{IsMoveRefused, IsReclaimed, IsStore, Store}
+use Rattle.nl_vstore.specs.Located.{needed_count, needed_in, numbers_in}
+use Rattle.nl_vstore.specs.Stores.{IsMoveRefused, IsReclaimed, IsStore, Store}
 use Rattle.nl_reclaim.specs.Cleaning.{HasMovedFirst, HasMovedNone, freed_by, judged, judged_by, judged_for, judged_info, retired}
 use Rattle.nl_reclaim.specs.declared.moving.MoveCount.{MoveCount}
 use Rattle.nl_core.specs.CleanedPens.{LeavesPen, StaysPen}
 use Rattle.nl_core.specs.CleaningEvents.{cleaned_by, move_count, moved_answer, moved_by, needed_by, retired_by}
-use Rattle.nl_core.specs.Layout.{Does, IsPen, MeansWorld, layout_of, ledger_of, unshared}
+use Rattle.nl_core.specs.Layout.{Does, IsPen, MeansWorld, layout_of, ledger_of, unshared, IsRetirementRefusal}
 use Rattle.nl_core.specs.Volume.{Lists}
 use Rattle.nl_core.proofs.CleanedPens.{moves_keep_pens, refused_moves_keep_pens, retirements_keep_pens}
 use Rattle.nl_core.proofs.Ledgers.{same-numbers}
@@ -193,6 +193,11 @@ module _ (l : Lists) (old new : Store) (segment : ℕ) (pen : IsPen (layout_of l
         failures = counted;
       }
 
+  -- the judgement is a reason
+  why : (e : VolError) → retired old (needed_by l) segment ≡ Err e → IsRetirementRefusal (layout_of l old) segment e
+  why error.Memory is = tt
+  why e is = is
+
   pub does-not-retired : (e : VolError) → retired old (needed_by l) segment ≡ Err e → new ≡ old
       → Does unshared (layout_of l old) (Retire segment) (Err e) (layout_of l new)
   does-not-retired e is same =
@@ -202,7 +207,7 @@ module _ (l : Lists) (old new : Store) (segment : ℕ) (pen : IsPen (layout_of l
           means = subst (λ (s : Store). MeansWorld (layout_of l s) w) (sym same) m;
           step = inl (ap (λ (r : Result ℕ VolError). (and_then r (λ n. Ok (answer.Freed n)), w)) is);
         };
-        touches = (ap (layout_of l) same, is);
+        touches = (ap (layout_of l) same, why e is);
         numbers = same-numbers (layout_of l old) (layout_of l new) (ap (λ (s : Store). ledger_of (layout_of l s)) same);
         pen = subst (λ (s : Store). IsPen (layout_of l s)) (sym same) pen;
         failures = counted;

@@ -1,15 +1,18 @@
 -- What comes of the draft of a checkpoint.
-use Rattle.std.proofs.Common.{◌≡◌, ℕ, ◌+◌, refl, ap, sym, subst, arith}
+use Rattle.std.proofs.Common.{◌≡◌, ℕ, ◌+◌, List, [], ◌∷◌, ◌++◌, refl, ap, sym, subst, ◌∙◌, arith}
 use Rattle.std.specs.Prelude.{max}
 use Rattle.nl_types.specs.declared.error.VolError.{VolError}
 use Rattle.nl_types.specs.declared.error.VolError.TheVariants as error
 use Rattle.nl_types.specs.declared.event.Event.TheVariants as event
 use Rattle.nl_types.specs.declared.event.Mode.{Mode}
-use Rattle.nl_dat.specs.Stores.{Store, IsWritten, IsWriteRefused, content_in}
+use Rattle.nl_vstore.specs.Stores.{Store, IsWritten, IsWriteRefused, content_in}
 use Rattle.nl_files.specs.Laws.{SettledNumbersAreLowest}
 use Rattle.nl_core.specs.Draft.{CanBeDrafted, IsNextDraft}
 use Rattle.nl_core.specs.Layout.{HasRefused, HasWritten, Settled, layout_of}
 use Rattle.nl_layout.specs.Root.{root_of}
+use Rattle.nl_core.specs.Notes.{HasNotedWrite, new_checkpoint}
+use Rattle.nl_core.specs.declared.commit.Commit.{Commit}
+use Rattle.nl_core.specs.declared.commit.Commit.TheVariants.{Written}
 use Rattle.nl_cpfile.specs.Tables.{ComesNext, root_in}
 use Rattle.nl_core.specs.Volume.{Lists, latest_root, published}
 use Rattle.nl_cpfile.specs.declared.checkpoint.Checkpoint.{Checkpoint}
@@ -49,6 +52,25 @@ module _ (lists : Lists) (store : Store) (mode : Mode) (moment : ℕ) (draft : D
             (drafted.settles can.1 can.2 can.3);
         lists = ap (λ (c : Checkpoint). published c lists) drafted.checkpoint;
         written = written;
+      })
+
+  -- and it is noted
+  pub noted-draft : SettledNumbersAreLowest → (now : Lists) (after : Store) (before notes : List Commit) (commit : Commit)
+      → now ≡ published draft.checkpoint lists
+      → IsWritten draft.checkpoint.number draft.checkpoint.stamp draft.batch store after
+      → commit ≡ Written (new_checkpoint draft.batch draft.checkpoint) → notes ≡ before ++ commit ∷ []
+      → HasNotedWrite mode moment (layout_of lists store) (layout_of now after) before notes
+  noted-draft lowest now after before notes commit is written told behind =
+      subst (λ (ls : Lists). HasNotedWrite mode moment (layout_of lists store) (layout_of ls after) before notes) (sym is) (record {
+        writes = record {
+          left = drafted.left;
+          settled = settled-draft;
+          numbers = lowest (content_in store) (root_of (latest_root lists)) (root_of (root_in draft.checkpoint)) lists.current.became can.2 draft.batch
+              (drafted.settles can.1 can.2 can.3);
+          lists = ap (λ (c : Checkpoint). published c lists) drafted.checkpoint;
+          written = written;
+        };
+        behind = behind ∙ ap (λ (c : Commit). before ++ c ∷ []) told;
       })
 
   -- the batch is not written

@@ -22,9 +22,9 @@ use Rattle.nl_types.proofs.WorldLaws.{formatted_is_world}
 use Rattle.nl_device.specs.Pages.{DevicePages}
 use Rattle.nl_layout.specs.Root.{root_of}
 use Rattle.nl_layout.specs.declared.root.Root.{Root}
-use Rattle.nl_dat.specs.Batches.{Fits}
-use Rattle.nl_segwriter.specs.Content.{SpaceContent, new_content}
-use Rattle.nl_dat.specs.Stores.{IsStore, IsWritten, Numbered, Store, capacity, content_in, entry_now, new_store}
+use Rattle.nl_vstore.specs.Batches.{Fits}
+use Rattle.nl_space.specs.Content.{SpaceContent, new_content}
+use Rattle.nl_vstore.specs.Stores.{IsStore, IsWritten, Numbered, Store, capacity, content_in, entry_now, new_store}
 use Rattle.nl_blocktree.specs.Checkpoints.{numbers_of}
 use Rattle.nl_files.specs.Became.{Current, holding_over}
 use Rattle.nl_files.specs.Held.{Holding, IsTreeSound, roots_at}

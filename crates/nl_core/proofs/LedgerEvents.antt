@@ -11,8 +11,8 @@ use Rattle.nl_types.specs.declared.reply.Answer.{Answer}
 use Rattle.nl_types.specs.declared.reply.Answer.TheVariants as answer
 use Rattle.nl_types.specs.declared.segment.SegmentInfo.{SegmentInfo}
 use Rattle.nl_types.specs.Lifetimes.{CoveredNumbersStay, EachAllowed, EndsOnceSince, KeepsCovered, Ledger, LedgerEvent, NumbersEndOnce, Reclaim, Remove, Write, ledger_after, ledger_after_all}
-use Rattle.nl_dat.specs.Located.{needed_in}
-use Rattle.nl_dat.specs.Stores.{IsMoveRefused, IsStore}
+use Rattle.nl_vstore.specs.Located.{needed_in}
+use Rattle.nl_vstore.specs.Stores.{IsMoveRefused, IsStore}
 use Rattle.nl_reclaim.specs.Cleaning.{judged_for}
 use Rattle.nl_reclaim.specs.Reclaims.{stood_in}
 use Rattle.nl_core.specs.CleanedPens.{LeavesPen, StaysPen}
@@ -71,7 +71,7 @@ module _ (old new : Layout) (pen : IsPen old) where
   done-goes_on : (e : Event) (a : Answer) (done : HasDone old e a new) → IsStore new.store → GoesOn (done_events old new e a done)
   done-goes_on (Checkpoint mode moment) a done store = checkpointed mode moment done
   done-goes_on (event.Remove n) a done store = removed (n ∷ []) done.0 done.1
-  done-goes_on (RemoveRange first last) (answer.Removed range) done store = removed range.removed done.0 done.1
+  done-goes_on (RemoveRange first last) (answer.Removed range) done store = removed range.removed done.0.taken done.1
   done-goes_on (RemoveRange first last) a done store = absurd done.0
   done-goes_on (Expire now period) (answer.Expired gone) done store = removed gone done.0.taken done.1
   done-goes_on (Expire now period) a done store = absurd done.0

@@ -8,7 +8,7 @@ use Rattle.std.proofs.lemmas.Bool.{cases_Bool}
 use Rattle.nl_types.specs.Lifetimes.{EndsOnce, KeepsCovered, Ledger, numbers_at}
 use Rattle.nl_types.specs.Trees.{Tree}
 use Rattle.nl_layout.specs.Root.{root_of}
-use Rattle.nl_dat.specs.Stores.{content_in}
+use Rattle.nl_vstore.specs.Stores.{content_in}
 use Rattle.nl_files.specs.Became.{holding_over}
 use Rattle.nl_files.specs.Held.{Holding, IsTreeSound, Stores}
 use Rattle.nl_files.specs.Laws.{IsLatest}

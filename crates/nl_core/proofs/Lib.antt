@@ -25,3 +25,11 @@ pub mod CleanedPens
 pub mod Outside
 pub mod NextCleaning
 pub mod LedgerEvents
+pub mod ShownNumbers
+pub mod Images
+pub mod Keeping
+pub mod Telling
+pub mod Histories
+pub mod NotedEvents
+pub mod GivenBack
+pub mod ShownStores

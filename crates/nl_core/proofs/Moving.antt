@@ -15,7 +15,7 @@ use Rattle.nl_types.specs.Calls.{is_dirtying}
 use Rattle.nl_types.specs.Roots.{Pages, pages_of}
 use Rattle.nl_types.specs.Worlds.{World, Reply}
 use Rattle.nl_types.specs.Runs.{Step, memory_alone}
-use Rattle.nl_dat.specs.Stores.{Store, content_in}
+use Rattle.nl_vstore.specs.Stores.{Store, content_in}
 use Rattle.nl_files.specs.Became.{Current}
 use Rattle.nl_core.specs.Changes.{HasChanged}
 use Rattle.nl_core.specs.Means.{FollowsOver}
@@ -190,11 +190,11 @@ does-Remove l new store n (Err e) pen follows taken same = does-refused l new st
 -- a removal of a range
 pub does-RemoveRange : (l new : Lists) (store : Store) (first last : ℕ) (reply : Reply) → IsPen (layout_of l store)
     → FollowsOver (pages_under store) l (RemoveRange first last) reply new
-    → IfOk reply (λ a. IsTakenOutRange a l new)
+    → IfOk reply (λ a. IsTakenOutRange first last a l new)
     → OnErr reply (new ≡ l)
     → Does unshared (layout_of l store) (RemoveRange first last) reply (layout_of new store)
 does-RemoveRange l new store first last (Ok (answer.Removed range)) pen follows taken same =
-    does-taken_out l new store (RemoveRange first last) (answer.Removed range) range.removed pen follows taken (taken, refl)
+    does-taken_out l new store (RemoveRange first last) (answer.Removed range) range.removed pen follows taken.taken (taken, refl)
 does-RemoveRange l new store first last (Ok _) pen follows taken same = absurd taken
 does-RemoveRange l new store first last (Err e) pen follows taken same =
     does-refused l new store (RemoveRange first last) e pen follows refl same

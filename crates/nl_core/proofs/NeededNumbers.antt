@@ -6,7 +6,7 @@ use Rattle.std.specs.List.{filter}
 use Rattle.nl_types.specs.Entries.{is_period_needed}
 use Rattle.nl_types.specs.Protection.{is_staying, staying}
 use Rattle.nl_types.specs.Rows.{is_snapshot, number_of}
-use Rattle.nl_dat.specs.Located.{by_period}
+use Rattle.nl_vstore.specs.Located.{by_period}
 use Rattle.nl_cpfile.specs.Tables.{row_of, rows, rows_of}
 use Rattle.nl_cpfile.specs.declared.checkpoint.Checkpoint.{Checkpoint}
 use Rattle.nl_core.specs.CleaningEvents.{needed_by}

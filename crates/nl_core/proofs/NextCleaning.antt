@@ -4,7 +4,7 @@ use Rattle.std.proofs.lemmas.Bool.{eq-eqb, ne_eqb}
 use Rattle.nl_types.specs.declared.event.Event.{Event}
 use Rattle.nl_types.specs.declared.event.Event.TheVariants.{Move, Retire}
 use Rattle.nl_types.specs.Entries.{Entry}
-use Rattle.nl_dat.specs.Located.{needed_count}
+use Rattle.nl_vstore.specs.Located.{needed_count}
 use Rattle.nl_core.specs.CleanerViews.{cleaning_event, needed_after}
 use Rattle.nl_core.specs.CleaningEvents.{needed_by}
 use Rattle.nl_core.specs.Layout.{Layout}

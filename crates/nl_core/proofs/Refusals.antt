@@ -11,16 +11,16 @@ use Rattle.nl_types.specs.Placing.{LogsFit}
 use Rattle.nl_types.specs.Worlds.{Outcome}
 use Rattle.nl_types.proofs.WorldJudgements.{steps_judge}
 use Rattle.nl_types.specs.declared.segment.SegmentInfo.{SegmentInfo}
-use Rattle.nl_dat.specs.Batches.{items_of}
-use Rattle.nl_dat.specs.Located.{needed_in}
-use Rattle.nl_dat.specs.Stores.{IsMoveRefused, KeepsStored, Store}
-use Rattle.nl_reclaim.specs.Cleaning.{judged_for}
+use Rattle.nl_vstore.specs.Batches.{items_of}
+use Rattle.nl_vstore.specs.Located.{needed_in}
+use Rattle.nl_vstore.specs.Stores.{IsMoveRefused, KeepsStored, Store}
+use Rattle.nl_reclaim.specs.Cleaning.{judged_for, retired}
 use Rattle.nl_core.specs.CleaningEvents.{needed_by}
 use Rattle.nl_core.proofs.CleaningEvents.{cleaned_judges}
 use Rattle.nl_layout.specs.declared.root.Root.{Root}
 use Rattle.nl_core.specs.Laws.{IsAsBefore, MemoryIsTaken, RefusalsKeepPens, RefusalsHaveReasons, NoSpaceIsTrue, NoSpaceIsSaid}
 use Rattle.nl_core.specs.Volume.{latest_root}
-use Rattle.nl_core.specs.Layout.{AllowedBetween, HasRefused, IsPen, LacksSpaceToSettle, Layout, Settled, cleaned, unshared}
+use Rattle.nl_core.specs.Layout.{AllowedBetween, Does, HasRefused, IsPen, LacksSpaceToSettle, Layout, Settled, cleaned, unshared}
 use Rattle.nl_core.proofs.Settlings.{births-alike, count-items}
 
 -- a store keeps what it stores where it is the same
@@ -86,6 +86,12 @@ memory_is_taken old new event held does =
       | inl judged ↦ absurd judged
       | inr taken ↦ taken
     ]
+
+-- so a retirement that is refused to a pen alone is judged by the segment
+pub retirements_are_judged : (old new : Layout) (segment : ℕ) (e : VolError) → IsPen old → Does unshared old (Retire segment) (Err e) new
+    → retired old.store (needed_by old.lists) segment ≡ Err e
+retirements_are_judged old new segment error.Memory held does = absurd (memory_is_taken old new (Retire segment) held does)
+retirements_are_judged old new segment e held does = does.touches.1
 
 -- space is a reason only where it lacks
 pub no_space_is_true : (allowed : AllowedBetween) → NoSpaceIsTrue allowed

@@ -113,7 +113,7 @@ module _ (l : Layout) (gone : List ℕ) (stays : is_among gone l.lists.table.lat
 
 pub ranges_go_one_by_one : (allowed : AllowedBetween) → RangesGoOneByOne allowed
 ranges_go_one_by_one allowed old new first last range does =
-    let taken = does.touches.0 in
+    let taken = does.touches.0.taken in
     let store = does.touches.1 in (
       each-allowed old range.removed taken.stays,
       (λ i. ledger_of (layout_of (taken.lists i) (store i))) ∙ ledger-left old range.removed taken.stays,

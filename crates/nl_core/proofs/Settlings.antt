@@ -2,8 +2,8 @@
 use Rattle.std.proofs.Common.{◌≡◌, length, sym, ap, ◌∙◌, subst, refl}
 use Rattle.std.proofs.lemmas.List.{length-map}
 use Rattle.nl_types.specs.Roots as roots
-use Rattle.nl_dat.specs.Batches.{Changes, item_of_birth, items_of}
-use Rattle.nl_dat.specs.Stores.{content_in}
+use Rattle.nl_vstore.specs.Batches.{Changes, item_of_birth, items_of}
+use Rattle.nl_vstore.specs.Stores.{content_in}
 use Rattle.nl_layout.specs.Root.{root_of}
 use Rattle.nl_layout.specs.declared.root.Root.{Root}
 use Rattle.nl_layout.specs.declared.root.Root.TheVariants.{Empty, Chain}

@@ -5,7 +5,7 @@ use Rattle.nl_types.specs.Entries.{Place}
 use Rattle.nl_types.specs.Lifetimes.{Allowed, Numbers, Reclaim, ledger_after}
 use Rattle.nl_types.specs.Worlds.{World}
 use Rattle.nl_cpfile.specs.declared.checkpoint.Checkpoint.{Checkpoint}
-use Rattle.nl_dat.specs.Stores.{IsMoved, IsMoveRefused, IsReclaimed, IsStore, address_in, is_inside}
+use Rattle.nl_vstore.specs.Stores.{IsMoved, IsMoveRefused, IsReclaimed, IsStore, address_in, is_inside}
 use Rattle.nl_reclaim.specs.Moves.{KeptStore, needed_now}
 use Rattle.nl_reclaim.specs.Reclaims.{stood_in}
 use Rattle.nl_core.specs.Layout.{IsPen, KeepsNumbers, Layout, MeansWorld, ledger_of}

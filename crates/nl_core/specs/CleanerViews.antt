@@ -5,7 +5,7 @@ use Rattle.nl_types.specs.declared.event.Event.TheVariants.{Move, Retire}
 use Rattle.nl_types.specs.Entries.{Entry, is_period_needed}
 use Rattle.nl_types.specs.Protection.{staying}
 use Rattle.nl_cpfile.specs.Tables.{Table, rows}
-use Rattle.nl_dat.specs.Located.{by_period, needed_count}
+use Rattle.nl_vstore.specs.Located.{by_period, needed_count}
 use Rattle.nl_core.specs.CleaningEvents.{needed_by}
 use Rattle.nl_core.specs.Layout.{Layout}
 

@@ -8,8 +8,8 @@ use Rattle.nl_types.specs.Calls.{and_then}
 use Rattle.nl_types.specs.Entries.{Entry, is_needed}
 use Rattle.nl_types.specs.Placing.{LacksSpace}
 use Rattle.nl_types.specs.Worlds.{Reply}
-use Rattle.nl_dat.specs.Located.{needed_count}
-use Rattle.nl_dat.specs.Stores.{IsReclaimed, Store}
+use Rattle.nl_vstore.specs.Located.{needed_count}
+use Rattle.nl_vstore.specs.Stores.{IsReclaimed, Store}
 use Rattle.nl_reclaim.specs.Cleaning.{HasMovedFirst, judged_for, retired, split}
 use Rattle.nl_reclaim.specs.declared.moving.MoveCount.{MoveCount}
 use Rattle.nl_core.specs.Volume.{Lists, kept_by}

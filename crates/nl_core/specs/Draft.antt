@@ -7,8 +7,8 @@ use Rattle.nl_types.specs.Entries.{Content}
 use Rattle.nl_types.specs.Limits.{checkpoint_number_limit}
 use Rattle.nl_layout.specs.Root.{root_of}
 use Rattle.nl_layout.specs.declared.root.Root.{Root}
-use Rattle.nl_dat.specs.Batches.{Changes}
-use Rattle.nl_dat.specs.Stores.{Store, content_in}
+use Rattle.nl_vstore.specs.Batches.{Changes}
+use Rattle.nl_vstore.specs.Stores.{Store, content_in}
 use Rattle.nl_blocktree.specs.Numbering.{CanTake}
 use Rattle.nl_files.specs.Became.{IsCurrent}
 use Rattle.nl_files.specs.Held.{Holding, IsCheckpointRoot}

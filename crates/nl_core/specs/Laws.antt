@@ -14,7 +14,7 @@ use Rattle.nl_types.specs.Worlds.{World, Reply}
 use Rattle.nl_types.specs.Runs.{Run, TakesMemory}
 use Rattle.nl_core.specs.Volume.{Lists}
 use Rattle.nl_layout.specs.declared.root.Root.{Root}
-use Rattle.nl_dat.specs.Stores.{KeepsStored}
+use Rattle.nl_vstore.specs.Stores.{KeepsStored}
 use Rattle.nl_core.specs.Means.{Means}
 use Rattle.nl_core.specs.Layout.{AllowedBetween, IsPen, Layout, Does, DoesIn, LacksSpaceFor, MeansWorld, Runs, Settled, ledger_of, unshared}
 

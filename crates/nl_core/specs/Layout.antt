@@ -18,10 +18,10 @@ use Rattle.nl_types.specs.Worlds.{World, Reply}
 use Rattle.nl_types.specs.Runs.{AllowedRefusals, Step, Run, alone}
 use Rattle.nl_layout.specs.Root.{root_of}
 use Rattle.nl_layout.specs.declared.root.Root.{Root}
-use Rattle.nl_segwriter.specs.Content.{new_content}
+use Rattle.nl_space.specs.Content.{new_content}
 use Rattle.nl_device.specs.Pages.{DevicePages}
-use Rattle.nl_dat.specs.Batches.{Changes, TakeLowestFree, items_of}
-use Rattle.nl_dat.specs.Stores.{Store, IsStore, IsWritten, IsFaulted, address_in, content_in, is_inside, new_store}
+use Rattle.nl_vstore.specs.Batches.{Changes, TakeLowestFree, items_of}
+use Rattle.nl_vstore.specs.Stores.{Store, IsStore, IsWritten, IsFaulted, address_in, content_in, is_inside, new_store}
 use Rattle.nl_blocktree.specs.Checkpoints.{WritesWhatDiffers, numbers_of}
 use Rattle.nl_blocktree.specs.Numbering.{CanTake}
 use Rattle.nl_files.specs.Held.{Holding, IsTreeSound, roots_at}
@@ -136,7 +136,7 @@ HasDone old (ChangeMode n mode) answer new =
 HasDone old (variant.Remove n) answer new =
     IsTakenOut (n ∷ []) old.lists new.lists × (new.store ≡ old.store)
 HasDone old (RemoveRange first last) answer new =
-    IsTakenOutRange answer old.lists new.lists × (new.store ≡ old.store)
+    IsTakenOutRange first last answer old.lists new.lists × (new.store ≡ old.store)
 HasDone old (Expire now period) answer new =
     IsExpired now period answer old.lists new.lists × (new.store ≡ old.store)
 HasDone old (Move segment limit moment) answer new =
@@ -171,6 +171,11 @@ IsCheckpointRefusal l Memory = HasNextNumber l.lists
 IsCheckpointRefusal l NoSpace = HasNextNumber l.lists × LacksSpaceToSettle l
 IsCheckpointRefusal l e = ⊥
 
+-- why a retirement is refused: the segment is judged, or memory is refused to it beside readers
+abbrev pub IsRetirementRefusal : Layout → (segment : ℕ) → VolError → Type 0
+IsRetirementRefusal l segment Memory = Unit {0}
+IsRetirementRefusal l segment e = retired l.store (needed_by l.lists) segment ≡ Err e
+
 abbrev pub HasRefused : Event → VolError → Layout → Layout → Type 0
 HasRefused (Checkpoint mode moment) Fault old new =
     HasFaulted (max moment old.lists.table.latest.stamp) old new
@@ -178,7 +183,7 @@ HasRefused (Checkpoint mode moment) e old new = (new ≡ old) × IsCheckpointRef
 HasRefused (Move segment limit moment) e old new =
     (new.lists ≡ old.lists)
     × HasMovedNone (needed_by old.lists) segment limit old.lists.table.latest.number moment old.store new.store e
-HasRefused (Retire segment) e old new = (new ≡ old) × (retired old.store (needed_by old.lists) segment ≡ Err e)
+HasRefused (Retire segment) e old new = (new ≡ old) × IsRetirementRefusal old segment e
 HasRefused event e old new = new ≡ old
 
 abbrev pub Touches : Layout → Event → Reply → Layout → Type 0

@@ -7,6 +7,9 @@ pub mod Tables
 pub mod Inside
 pub mod CleaningEvents
 pub mod Layout
+pub mod Shown
+pub mod Commits
+pub mod Notes
 pub mod Laws
 pub mod LedgerEvents
 pub mod CleanedPens

@@ -11,6 +11,7 @@ use Rattle.nl_types.specs.declared.event.Change.{Change}
 use Rattle.nl_types.specs.declared.event.Mode.{Mode}
 use Rattle.nl_types.specs.declared.reply.Answer.{Answer}
 use Rattle.nl_types.specs.declared.reply.Answer.TheVariants.{Expired, Removed}
+use Rattle.nl_types.specs.declared.row.Range.{Range}
 use Rattle.nl_types.specs.declared.row.Row.{Row}
 use Rattle.nl_types.specs.CheckpointLaws.{removed_by}
 use Rattle.nl_types.specs.Protection.{boundary}
@@ -65,6 +66,10 @@ is_other_mount m mounted = not (mounted.number == m)
 abbrev pub without_mount : ℕ → Lists → Lists
 without_mount m l = record l { mounts = filter (is_other_mount m) l.mounts }
 
+-- the lists without mounts
+abbrev pub without_mounts : Lists → Lists
+without_mounts l = record l { mounts = [] }
+
 -- whether there is a mount to take out
 abbrev pub unmounting : ℕ → List Mounted → Result (Unit {0}) VolError
 unmounting m mounts = and_then (ok_or (find nat_cmp m (map mount_of mounts)) BadMount) (λ _. Ok tt)
@@ -92,10 +97,15 @@ pub record IsTakenOut (gone : List ℕ) (old new : Lists) : Type 0 where
   pub stays : is_among gone old.table.latest.number ≡ false
   pub lists : new ≡ without_checkpoints gone old
 
--- so are those that the answer to a removal tells
-abbrev pub IsTakenOutRange : Answer → Lists → Lists → Type 0
-IsTakenOutRange (Removed range) old new = IsTakenOut range.removed old new
-IsTakenOutRange answer old new = ⊥
+-- those of a range are gone that may go
+pub record IsTakenOutOf (first last : ℕ) (range : Range) (old new : Lists) : Type 0 where
+  pub judged : range_removal first last old.table.latest.number (rows old.table) ≡ Ok range
+  pub taken : IsTakenOut range.removed old new
+
+-- and the answer tells what became of each
+abbrev pub IsTakenOutRange : (first last : ℕ) → Answer → Lists → Lists → Type 0
+IsTakenOutRange first last (Removed range) old new = IsTakenOutOf first last range old new
+IsTakenOutRange first last answer old new = ⊥
 
 -- ---- an expiry
 

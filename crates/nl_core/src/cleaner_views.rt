@@ -1,13 +1,13 @@
 //! What the cleaner is told of a pen.
 ghost use Rattle.std.specs.Prelude.{◌≡◌};
-ghost use Rattle.nl_dat.specs.Located.{needed_count, payload_count_in};
+ghost use Rattle.nl_vstore.specs.Located.{needed_count, payload_count_in};
 ghost use Rattle.nl_core.specs.CleanerViews.{needed_from};
 
 use nl_cpfile::Checkpoints;
-use nl_dat::Vstore;
 use nl_protect::needed;
 use nl_reclaim::{Keeping, count_needed};
 use nl_types::{CheckpointNumber, Period, Segment};
+use nl_vstore::Vstore;
 
 /// The kept checkpoints without the plain ones below a number.
 #[derive(Clone, Copy)]

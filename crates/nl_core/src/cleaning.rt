@@ -4,9 +4,9 @@ ghost use Rattle.nl_types.specs.declared.event.Event.TheVariants.{Move, Retire};
 ghost use Rattle.nl_core.specs.Layout.{Does, IsPen, layout_of, unshared};
 
 use crate::tables::Tables;
-use nl_dat::Vstore;
 use nl_reclaim::{move_needed, retire};
 use nl_types::{Answer, Reply, Segment};
+use nl_vstore::Vstore;
 use std::alloc::Global;
 
 /// Moves the first needed blocks of a segment elsewhere, at the moment `now` in whole seconds.

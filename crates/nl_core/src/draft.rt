@@ -1,6 +1,6 @@
 //! A checkpoint that is not published yet.
 use nl_cpfile::Checkpoint;
-use nl_dat::Batch;
+use nl_vstore::Batch;
 
 /// The next checkpoint, and what a store has to write for it.
 #[derive(Drop)]

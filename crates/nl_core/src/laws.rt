@@ -1,7 +1,9 @@
 //! What the pen's definitions mean, as contracts of functions that do nothing.
 ghost use Rattle.nl_core.specs.CleanedPens.{MovesKeepPens, RefusedMovesKeepPens, RetirementsKeepPens};
+ghost use Rattle.nl_core.specs.Commits.{MountsShowOn};
 ghost use Rattle.nl_core.specs.Layout.{unshared};
 ghost use Rattle.nl_core.specs.LedgerEvents.{EventsAreLedgerEvents, RunsAreLedgerEvents, RunsKeepNumbers};
+ghost use Rattle.nl_core.specs.Notes.{CommitsTellAll, PensAreImages, shared};
 ghost use Rattle.nl_core.specs.Laws.{MeansOneWorld, EventsLeadOn, RunsLeadOn, RefusalsKeepPens, RefusalsHaveReasons, NoSpaceIsSaid, NoSpaceIsTrue, MemoryIsTaken, RangesGoOneByOne, ExpiriesGoOneByOne, SettlingsAreAlike};
 
 use nl_types::laws::{covered_numbers_stay, numbers_end_once};
@@ -85,3 +87,25 @@ pub fn runs_keep_numbers()
     covered_numbers_stay();
     numbers_end_once();
 }
+
+/// Beside readers a pen leads on as alone, but that memory may be refused to any event.
+pub fn worlds_follow_shared_pens()
+    ensures event { EventsLeadOn shared }
+    ensures events { RunsLeadOn shared }
+{}
+
+/// What a mount shows in an image it shows in each later one, until it is given back.
+pub fn mounts_show_on()
+    ensures { MountsShowOn }
+{}
+
+/// What readers see of a pen is an image: every kept checkpoint stands for a tree, and every mount is one of a kept snapshot.
+pub fn pens_are_images()
+    ensures { PensAreImages }
+{}
+
+/// The commits of an event lead from what readers saw of the pen to what they see then, and may follow.
+pub fn commits_tell_all()
+    ensures alone { CommitsTellAll unshared }
+    ensures beside_readers { CommitsTellAll shared }
+{}

@@ -3,12 +3,16 @@
 
 mod cleaner_views;
 mod cleaning;
+mod commit;
 mod draft;
 mod expiry;
 pub mod laws;
 mod mounts;
+mod noting;
 mod pen;
 mod tables;
 
+pub use commit::{Commit, NewPage, ShownPage, Whole, Written};
+pub use mounts::Mounted;
 pub use nl_cpfile::Cpstat;
 pub use pen::{Pen, run};

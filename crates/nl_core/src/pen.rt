@@ -1,5 +1,5 @@
 //! The pen: what the writer of a volume holds, the device included.
-ghost use Rattle.std.specs.Prelude.{◌≡◌, ◌↔◌, ◌⊎◌, ◌<◌, ◌≤◌, IfErr, IfOk, IsErr, IsErrOf, OnErr, IsOkUnless, length};
+ghost use Rattle.std.specs.Prelude.{◌≡◌, ◌↔◌, ◌⊎◌, ◌<◌, ◌≤◌, ◌+◌, ◌-◌, ◌∷◌, ◌++◌, [], if◌then◌else◌, vec_capacity, vec_len, IfErr, IfOk, IsErr, IsErrOf, OnErr, IsOkUnless, length};
 ghost use Rattle.std.specs.Option.{option_map};
 ghost use Rattle.nl_types.specs.Runs.{Run};
 ghost use Rattle.nl_types.specs.Rows.{kept_row};
@@ -8,27 +8,35 @@ ghost use Rattle.nl_types.specs.Worlds.{World, formatted};
 ghost use Rattle.nl_cpfile.specs.Tables as cpfile;
 ghost use Rattle.nl_core.specs.Views.{counted};
 ghost use Rattle.nl_dat.specs.Described.{descs_of};
-ghost use Rattle.nl_dat.specs.Stores.{capacity, content_in, dat_entry_of, numbered_in};
-ghost use Rattle.nl_dat.specs.Summaries.{payload_row};
-ghost use Rattle.nl_dat.specs.Located.{payload_count_in};
+ghost use Rattle.nl_vstore.specs.Stores.{capacity, content_in, numbered_in};
+ghost use Rattle.nl_dat.specs.Table.{dat_entry_of};
+ghost use Rattle.nl_vstore.specs.Summaries.{payload_row};
+ghost use Rattle.nl_vstore.specs.Located.{payload_count_in};
 ghost use Rattle.nl_core.specs.CleanerViews.{cleaning_event, needed_after};
-ghost use Rattle.nl_core.specs.Volume.{boundary_in};
+ghost use Rattle.nl_core.specs.Commits.{IsImage};
+ghost use Rattle.nl_core.specs.Notes.{ChangesLists, DoesNoting, HasNoted, noted_if, shown_of, where_gone};
+ghost use Rattle.nl_core.specs.Shown.{whole_of};
+ghost use Rattle.nl_core.specs.Volume.{boundary_in, without_mounts};
 
 use crate::cleaner_views::{needed_in, payload_count};
 use crate::cleaning::{empty, move_out};
+use crate::commit::{Commit, Whole};
 use crate::draft::Draft;
+use crate::mounts::Mounted;
+use crate::noting::{note, note_checkpoint, note_retirement, whole};
 use crate::tables::Tables;
 use nl_cpfile::Cpstat;
-use nl_dat::{Bdesc, Dat, DatEntry, Vstore};
+use nl_dat::{Bdesc, Dat, DatEntry};
 use nl_device::Device;
 use nl_files::laws::settled_numbers_are_lowest;
 use nl_protect::boundary;
 use nl_segwriter::LogSpace;
 use nl_sufile::SegTable;
 use nl_types::{
-    Answer, CheckpointNumber, Event, Geometry, MAX_PAYLOAD, Mode, Reply, Row, Segment,
+    Answer, CheckpointNumber, Event, Geometry, MAX_PAYLOAD, Mode, MountNumber, Reply, Row, Segment,
     VirtualNumber, VolError,
 };
+use nl_vstore::Vstore;
 use std::alloc::Global;
 use std::marker::Model;
 
@@ -52,7 +60,7 @@ impl<D: Device> Model for Pen<D> {
 
 ghost use Rattle.nl_core.specs.Draft.{CanBeDrafted, HasFewNames};
 ghost use Rattle.nl_core.specs.Layout.{IsPen, Does, HasRefused, HasWritten, MeansWorld, layout_of, unshared};
-ghost use Rattle.nl_types.specs.declared.event.Event.TheVariants.{Checkpoint};
+ghost use Rattle.nl_types.specs.declared.event.Event.TheVariants.{ChangeMode, Checkpoint, Mount};
 
 /// Writes the next checkpoint: its draft, then the blocks that it writes, and then its tables. The draft takes the memory
 /// for the tables, and the write takes its own before its first put, so a refusal comes before anything is written.
@@ -96,7 +104,7 @@ fn checkpoint<V: Vstore>(
 }
 
 impl<D: Device> Pen<D> {
-    ghost use Rattle.nl_core.specs.Layout.{IsFormatted};
+    ghost use Rattle.nl_core.specs.Layout.{IsFormatted, Layout};
 
     /// A volume on a device of this geometry, with checkpoint 1 of the root alone, which it writes. What the device holds is
     /// no part of it.
@@ -279,6 +287,192 @@ impl<D: Device> Pen<D> {
                 .read_mounted(self.alloc, &self.store, *mount, ask),
             Event::Listing(options) => self.tables.listing(self.alloc, options),
         }
+    }
+
+    /// One event beside readers, who are told of it by the commits that are noted behind `notes`: none or one. Their memory
+    /// is taken before anything changes, and may be refused to any event. Else it is as `apply`.
+    pub fn apply_noting(&mut self, event: &Event, notes: &mut Vec<Commit>) -> Reply
+        ensures { DoesNoting self.old event.now result self.new notes.old.items notes.new.items }
+    {
+        match event {
+            Event::Checkpoint { mode, moment } => note_checkpoint(
+                self.alloc,
+                &mut self.tables,
+                &mut self.store,
+                *mode,
+                *moment,
+                notes,
+            ),
+            Event::Retire(segment) => note_retirement(
+                self.alloc,
+                &self.tables,
+                &mut self.store,
+                *segment,
+                notes,
+            ),
+            Event::ChangeMode(number, mode) => self.note_mode(event, *number, *mode, notes),
+            Event::Remove(number) => self.note_done(event, Commit::Removed(*number), notes),
+            Event::Mount(number) => self.note_mount(event, *number, notes),
+            Event::Unmount(mount) => self.note_done(event, Commit::GivenBack(*mount), notes),
+            Event::RemoveRange { first, last } => {
+                let commit = Commit::RangeRemoved {
+                    first: *first,
+                    last: *last,
+                };
+                self.note_gone(event, commit, notes)
+            }
+            Event::Expire { now, period } => {
+                let commit = Commit::RangeRemoved {
+                    first: CheckpointNumber::new(1),
+                    last: self.last_unprotected(*now, *period),
+                };
+                self.note_gone(event, commit, notes)
+            }
+            Event::Apply(_)
+            | Event::Read(_)
+            | Event::Move { .. }
+            | Event::MountRead(..)
+            | Event::Listing(_) => {
+                self.means_a_world();
+                self.apply(event)
+            }
+        }
+    }
+
+    /// An event whose commit is known before it.
+    fn note_done(&mut self, event: &Event, commit: Commit, notes: &mut Vec<Commit>) -> Reply
+        requires lists { ChangesLists event.now }
+        requires commit { (answer : Answer) (new : Layout) → HasNoted self.old event.now answer new (commit ∷ []) }
+        ensures { DoesNoting self.old event.now result self.new notes.old.items notes.new.items }
+    {
+        self.means_a_world();
+        if notes.reserve(1).is_err() {
+            return Err(VolError::Memory);
+        }
+        let answer = self.apply(event)?;
+        note(notes, commit);
+        Ok(answer)
+    }
+
+    /// A change of mode, which is noted where the checkpoint has another mode.
+    fn note_mode(
+        &mut self,
+        event: &Event,
+        number: CheckpointNumber,
+        mode: Mode,
+        notes: &mut Vec<Commit>,
+    ) -> Reply
+        requires { event.now ≡ ChangeMode number mode }
+        ensures { DoesNoting self.old event.now result self.new notes.old.items notes.new.items }
+    {
+        self.means_a_world();
+        if notes.reserve(1).is_err() {
+            return Err(VolError::Memory);
+        }
+        let is_other = self.tables.has_other_mode(number, mode);
+        let answer = self.apply(event)?;
+        note_if(notes, is_other, Commit::ModeSet(number, mode));
+        Ok(answer)
+    }
+
+    /// A removal, which is noted where anything is gone.
+    fn note_gone(&mut self, event: &Event, commit: Commit, notes: &mut Vec<Commit>) -> Reply
+        requires lists { ChangesLists event.now }
+        requires commit { (answer : Answer) (new : Layout)
+            → HasNoted self.old event.now answer new (where_gone answer commit) }
+        ensures { DoesNoting self.old event.now result self.new notes.old.items notes.new.items }
+    {
+        self.means_a_world();
+        if notes.reserve(1).is_err() {
+            return Err(VolError::Memory);
+        }
+        let answer = self.apply(event)?;
+        note_where_gone(notes, &answer, commit);
+        Ok(answer)
+    }
+
+    /// A mount, whose number is known behind it.
+    fn note_mount(
+        &mut self,
+        event: &Event,
+        checkpoint: CheckpointNumber,
+        notes: &mut Vec<Commit>,
+    ) -> Reply
+        requires { event.now ≡ Mount checkpoint }
+        ensures { DoesNoting self.old event.now result self.new notes.old.items notes.new.items }
+    {
+        self.means_a_world();
+        if notes.reserve(1).is_err() {
+            return Err(VolError::Memory);
+        }
+        let answer = self.apply(event)?;
+        let number = self.last_mount();
+        note(notes, Commit::Mounted(Mounted { number, checkpoint }));
+        Ok(answer)
+    }
+
+    /// The number that was given to a mount last.
+    fn last_mount(&self) -> MountNumber
+        ensures { result ≡ self.now.lists.given }
+    {
+        MountNumber::new(self.tables.given())
+    }
+
+    /// The number just below the boundary of protection.
+    fn last_unprotected(&self, now: u64, period: u64) -> CheckpointNumber
+        ensures { result ≡ boundary_in self.now.lists.table now period - 1 }
+    {
+        CheckpointNumber::new(self.boundary(now, period).get().saturating_sub(1))
+    }
+
+    /// The commit that shows all of the pen. Refused by `Memory` alone.
+    pub fn whole(&self) -> Result<Commit, VolError>
+        ensures whole { IfOk result (λ commit.
+            (w : Whole) × (commit ≡ Commit.Whole w) × (whole_of w ≡ shown_of self.now)) }
+        ensures image { IsImage (shown_of self.now) }
+        ensures refused { IsOkUnless result VolError.Memory }
+    {
+        let all = whole(self.alloc, &self.tables, &self.store)?;
+        Ok(Commit::Whole(all))
+    }
+
+    /// Gives all mounts back. It takes no memory.
+    pub fn give_all_back(&mut self)
+        ensures layout { self.new ≡ layout_of (without_mounts self.old.lists) self.old.store }
+        ensures world { (w : World) → MeansWorld self.old w → MeansWorld self.new (record w { mounts = [] }) }
+    {
+        self.tables.give_all_back();
+    }
+}
+
+/// Notes a commit, where it tells anything.
+fn note_if(notes: &mut Vec<Commit>, tells: bool, commit: Commit)
+    requires { vec_len notes.old < vec_capacity notes.old }
+    ensures { notes.new.items ≡ notes.old.items ++ noted_if tells commit }
+{
+    if tells {
+        note(notes, commit);
+    }
+}
+
+/// Whether a removal answers that anything is gone.
+fn is_any_gone(answer: &Answer) -> bool
+    ensures { (commit : Commit) → where_gone answer.now commit ≡ (if result then commit ∷ [] else []) }
+{
+    match answer {
+        Answer::Removed(range) => !range.removed.is_empty(),
+        Answer::Expired(gone) => !gone.is_empty(),
+        _ => false,
+    }
+}
+
+/// Notes a removal, where anything is gone.
+fn note_where_gone(notes: &mut Vec<Commit>, answer: &Answer, commit: Commit)
+    requires { vec_len notes.old < vec_capacity notes.old }
+    ensures { notes.new.items ≡ notes.old.items ++ where_gone answer.now commit }
+{
+    if is_any_gone(answer) {
+        note(notes, commit);
     }
 }
 

@@ -7,22 +7,24 @@ ghost use Rattle.nl_types.specs.Rows.{kept_row};
 ghost use Rattle.nl_types.specs.Worlds as worlds;
 ghost use Rattle.nl_cpfile.specs.Tables as cpfile;
 ghost use Rattle.nl_types.specs.Worlds.{World};
-ghost use Rattle.nl_dat.specs.Stores.{content_in};
+ghost use Rattle.nl_core.specs.Notes as notes;
+ghost use Rattle.nl_vstore.specs.Stores.{content_in};
 
+use crate::commit::{ShownPage, Whole};
 use crate::draft::Draft;
 use crate::expiry::expire;
 use crate::mounts::{Mounted, find_mounted, is_mounted, unmount};
 use nl_cpfile::{Checkpoint, Checkpoints, Cpstat};
-use nl_dat::{Batch, VRead, Vstore};
 use nl_files::{CurrentTree, ReadTree, answer};
 use nl_layout::Root;
 use nl_protect::needed;
 use nl_reclaim::Keeping;
 use nl_types::{
-    Answer, Ask, Change, CheckpointNumber, ListOptions, Mode, MountNumber, Period, Reply, Row,
-    VolError,
+    Answer, Ask, Change, CheckpointNumber, Items, ListOptions, Mode, MountNumber, Period, Reply,
+    Row, VolError,
 };
-use std::alloc::Global;
+use nl_vstore::{Batch, VRead, Vstore};
+use std::alloc::{AllocError, Global};
 use std::marker::Model;
 
 /// The greatest number of a checkpoint.
@@ -55,7 +57,9 @@ impl Tables {
     ghost use Rattle.nl_core.specs.Draft.{CanBeDrafted, HasFewNames, IsDraftRefusal, IsNextDraft};
     ghost use Rattle.nl_core.specs.Means.{FollowsOver, Means};
     ghost use Rattle.nl_core.specs.Tables.{blank_lists};
-    ghost use Rattle.nl_core.specs.Volume.{IsTakenOut, IsExpired, IsTakenOutRange, is_held_at, latest_alone, latest_root, published, with_change, with_checkpoint_mode, with_mount, without_mount};
+    ghost use Rattle.nl_core.specs.Volume.{IsTakenOut, IsExpired, IsTakenOutRange, is_held_at, latest_alone, latest_root, published, with_change, with_checkpoint_mode, with_mount, without_mount, without_mounts};
+    ghost use Rattle.nl_core.specs.Notes.{has_other_mode};
+    ghost use Rattle.nl_core.specs.Shown.{whole_of};
 
     /// The tables before a volume is formatted: the root alone, over a checkpoint 0 without files. Refused by `Memory` alone.
     pub fn blank(alloc: Global) -> Result<Tables, VolError>
@@ -114,6 +118,44 @@ impl Tables {
         ensures { result ≡ length self.now.lists.mounts }
     {
         self.mounts.len()
+    }
+
+    /// How many mount numbers were given.
+    pub fn given(&self) -> u64
+        ensures { result ≡ self.now.lists.given }
+    {
+        self.given
+    }
+
+    /// All that readers see, with these numbers.
+    pub fn whole(
+        &self,
+        alloc: Global,
+        numbers: Items<Option<ShownPage>>,
+    ) -> Result<Whole, AllocError>
+        ensures { IfOk result (λ w. whole_of w ≡ record {
+          numbers = numbers;
+          table = self.now.lists.table;
+          mounts = self.now.lists.mounts;
+          given = self.now.lists.given;
+        }) }
+    {
+        let earlier = self.checkpoints.earlier().to_vec(alloc)?;
+        let mounts = self.mounts.as_slice().to_vec(alloc)?;
+        Ok(Whole {
+            numbers,
+            earlier: Items::from_vec(earlier),
+            latest: *self.checkpoints.latest(),
+            mounts: Items::from_vec(mounts),
+            given: self.given,
+        })
+    }
+
+    /// Gives all mounts back, without memory.
+    pub fn give_all_back(&mut self)
+        ensures { self.new.lists ≡ without_mounts self.old.lists }
+    {
+        self.mounts.clear();
     }
 
     /// The root of the latest checkpoint, over which the current tree stands.
@@ -211,6 +253,16 @@ impl Tables {
         Ok(Answer::Done)
     }
 
+    /// Whether a checkpoint is kept in another mode than this.
+    pub fn has_other_mode(&self, number: CheckpointNumber, mode: Mode) -> bool
+        ensures { result ≡ has_other_mode number mode self.now.lists.table }
+    {
+        match self.checkpoints.kept(number) {
+            Some(checkpoint) => is_other_mode(checkpoint.mode, mode),
+            None => false,
+        }
+    }
+
     /// Whether a mount keeps a checkpoint from this mode: a mounted snapshot stays one.
     fn is_held(&self, number: CheckpointNumber, mode: Mode) -> bool
         ensures { result ≡ is_held_at number mode self.now.lists }
@@ -245,7 +297,8 @@ impl Tables {
     ) -> Reply
         ensures follows { (pages : Pages)
             → FollowsOver pages self.old.lists (RemoveRange first last) result self.new.lists }
-        ensures removed { IfOk result (λ answer. IsTakenOutRange answer self.old.lists self.new.lists) }
+        ensures removed { IfOk result (λ answer.
+            IsTakenOutRange first last answer self.old.lists self.new.lists) }
         ensures same { OnErr result (self.new.lists ≡ self.old.lists) }
     {
         let range = self.checkpoints.remove_range(alloc, first, last)?;
@@ -349,6 +402,16 @@ impl Keeping for Tables {
 
     fn needed(&self, period: Period) -> bool {
         needed(&self.checkpoints, CheckpointNumber::new(0), period)
+    }
+}
+
+/// Whether one mode is another.
+fn is_other_mode(old: Mode, new: Mode) -> bool
+    ensures { result ≡ notes.is_other_mode old new }
+{
+    match (old, new) {
+        (Mode::Plain, Mode::Plain) | (Mode::Snapshot, Mode::Snapshot) => false,
+        (Mode::Plain, Mode::Snapshot) | (Mode::Snapshot, Mode::Plain) => true,
     }
 }
 

@@ -1,5 +1,5 @@
 -- Where the checkpoint of a number stands in a list that rises.
-use Rattle.std.proofs.Common.{◌≡◌, ◌≢◌, ℕ, zero, suc, ◌<◌, true, false, not, eqb, ltb, cond, List, [], ◌∷◌, ◌++◌, length, get_or, map, Option, None, Some, refl, sym, ap, ◌∙◌, subst, arith, inl, inr}
+use Rattle.std.proofs.Common.{◌≡◌, ◌≢◌, ℕ, zero, suc, ◌<◌, Bool, true, false, not, eqb, ltb, cond, List, [], ◌∷◌, ◌++◌, length, get_or, map, Option, None, Some, refl, sym, ap, ◌∙◌, subst, arith, inl, inr}
 use Rattle.std.proofs.Math.ListN.{set}
 use Rattle.std.specs.Prelude.{◌||◌}
 use Rattle.std.specs.List.{AllByRecursion, filter, remove}
@@ -146,6 +146,19 @@ remove-filter n (c ∷ kept) (suc i) d rising lt is =
     sym (ap (λ b. cond b (c ∷ filter (is_kept_without (n ∷ [])) kept) (filter (is_kept_without (n ∷ [])) kept)) (kept_without-apart n c (λ same. absurd (omega (arith, up, is, same))))
     ∙ ap (λ (xs : List Checkpoint). c ∷ xs) (sym (remove-filter n kept i d rising.1 (omega arith) is)))
 
+-- none has the number
+pub filter-absent : (n : ℕ) (kept : List Checkpoint) → found n kept ≡ None → filter (is_kept_without (n ∷ [])) kept ≡ kept
+filter-absent n [] none = refl
+filter-absent n (c ∷ kept) none = by (eqb c.number n) refl (λ later. filter-absent n kept later)
+  where
+    by : (b : Bool) → eqb c.number n ≡ b → (found n kept ≡ None → filter (is_kept_without (n ∷ [])) kept ≡ kept)
+        → filter (is_kept_without (n ∷ [])) (c ∷ kept) ≡ c ∷ kept
+    by true here rest = let no = sym (found-here n c kept (eqb-true c.number n here)) ∙ none in cc
+    by false other rest =
+        let apart = eqb-false c.number n other in
+        ap (λ b. cond b (c ∷ filter (is_kept_without (n ∷ [])) kept) (filter (is_kept_without (n ∷ [])) kept)) (kept_without-apart n c apart)
+        ∙ ap (λ (xs : List Checkpoint). c ∷ xs) (rest (sym (found-later n c kept apart) ∙ none))
+
 -- ---- in a whole table
 
 module _ (t : Table) (is : IsTable t) (n : ℕ) where
@@ -189,3 +202,37 @@ with_mode-earlier t is n mode i c other has at =
     sym (moded-here n mode c (ap (λ (x : Checkpoint). x.number) at ∙ number)) ∙ ap (moded n mode) at in
     same_table (sym (set-moded n mode t.earlier i c (record c { mode = mode }) (earlier-IsRising t is n t.earlier refl) has.inside number value))
     (moded-apart n mode t.latest (eqb-false t.latest.number n other))
+
+-- a mode that a checkpoint has, set once more
+same-moded : (n : ℕ) (mode : Mode) (c : Checkpoint) → c.number ≡ n → c.mode ≡ mode → moded n mode c ≡ c
+same-moded n mode c is has = moded-here n mode c is ∙ ap (λ m. (let d : Checkpoint = record c { mode = m } in d)) (sym has)
+
+map-moded_same : (n : ℕ) (mode : Mode) (kept : List Checkpoint) → IsRising kept
+    → ((c : Checkpoint) → found n kept ≡ Some c → c.mode ≡ mode) → map (moded n mode) kept ≡ kept
+map-moded_same n mode [] rising has = refl
+map-moded_same n mode (c ∷ kept) rising has = by (eqb c.number n) refl (λ later. map-moded_same n mode kept rising.1 later)
+  where
+    both : {a b : Checkpoint} {xs ys : List Checkpoint} → a ≡ b → xs ≡ ys → a ∷ xs ≡ b ∷ ys
+    both p q = cc
+
+    by : (b : Bool) → eqb c.number n ≡ b
+        → (((d : Checkpoint) → found n kept ≡ Some d → d.mode ≡ mode) → map (moded n mode) kept ≡ kept)
+        → map (moded n mode) (c ∷ kept) ≡ c ∷ kept
+    by true here rest =
+        let is = eqb-true c.number n here in
+        both (same-moded n mode c is (has c (found-here n c kept is))) (map-moded_above n mode c kept is rising.0)
+    by false other rest =
+        let apart = eqb-false c.number n other in
+        both (moded-apart n mode c apart) (rest (λ d is. has d (found-later n c kept apart ∙ is)))
+
+pub with_mode-same : (t : Table) → IsTable t → (n : ℕ) (mode : Mode)
+    → ((c : Checkpoint) → kept_at n t ≡ Some c → c.mode ≡ mode) → with_mode n mode t ≡ t
+with_mode-same t is n mode has =
+    same_table
+    (map-moded_same n mode t.earlier (earlier-IsRising t is n t.earlier refl)
+    (λ c at. has c (sym (found-push n t.earlier t.latest (Some c) at))))
+    (by (eqb t.latest.number n) refl)
+  where
+    by : (b : Bool) → eqb t.latest.number n ≡ b → moded n mode t.latest ≡ t.latest
+    by true here = same-moded n mode t.latest (eqb-true t.latest.number n here) (has t.latest (kept-last t is n here))
+    by false other = moded-apart n mode t.latest (eqb-false t.latest.number n other)

@@ -1,11 +1,12 @@
 -- What becomes of the checkpoints of a range.
-use Rattle.std.proofs.Common.{◌≡◌, ◌≢◌, ℕ, ◌<◌, ◌+◌, true, false, Bool, not, ◌&&◌, cond, List, [], ◌∷◌, ◌++◌, length, get_or, map, take, Option, None, Some, refl, sym, ap, ◌∙◌, arith}
+use Rattle.std.proofs.Common.{◌≡◌, ◌≢◌, ℕ, ◌<◌, ◌+◌, true, false, true≢false, Bool, not, ◌&&◌, cond, List, [], ◌∷◌, ◌++◌, length, get_or, map, take, Option, None, Some, refl, sym, ap, ◌∙◌, arith}
 use Rattle.std.specs.Prelude.{◌==◌, ◌||◌, Result, Ok, Err}
 use Rattle.std.specs.List.{AllByRecursion, cons_option, filter, filter_map, list_any}
 use Rattle.std.specs.Option.{is_none, option_map}
 use Rattle.std.proofs.lemmas.Bool.{and_left, and_right, eq-eqb, ne_eqb}
 use Rattle.std.proofs.lemmas.List.{take_more}
 use Rattle.nl_types.specs.Rows.{is_snapshot}
+use Rattle.nl_types.specs.CheckpointLaws.{removed_by}
 use Rattle.nl_types.specs.declared.error.VolError.{VolError}
 use Rattle.nl_types.specs.declared.error.VolError.TheVariants as error
 use Rattle.nl_cpfile.specs.declared.checkpoint.Checkpoint.{Checkpoint}
@@ -14,7 +15,7 @@ use Rattle.nl_types.specs.declared.row.Row.{Row}
 use Rattle.nl_types.specs.declared.row.Stays.{Stays}
 use Rattle.nl_cpfile.specs.Judging.{joined}
 use Rattle.nl_types.specs.Rows.{between, is_among, is_between, is_empty_range, is_no_range, judged, may_go, number_of, range_removal, reason_to_stay, removable, stay_of, staying}
-use Rattle.nl_cpfile.specs.Tables.{IsRising, IsTable, Precedes, Table, is_kept_without, row_of, rows, rows_of}
+use Rattle.nl_cpfile.specs.Tables.{IsRising, IsTable, Precedes, Table, is_kept_without, range_in, row_of, rows, rows_of, without}
 use Rattle.nl_cpfile.proofs.Rising.{IsRising-front, IsRising-last, map-push}
 
 -- ---- of two parts
@@ -220,6 +221,45 @@ range_removal-found first last latest rs range bounds is empty =
     let answer : Result Range VolError = Ok (judged latest (between first last rs)) in
     ap (λ (r : Range). Ok r) is
     ∙ sym (ap (λ b. cond b (Err error.BadRange) (cond (not (list_any (is_between first last) rs)) (Err error.NoCheckpoint) answer)) bounds ∙ ap (λ b. cond b (Err error.NoCheckpoint) answer) some)
+
+-- ---- what the removal of a range takes out
+
+between-none : (first last : ℕ) (rs : List Row) → list_any (is_between first last) rs ≡ false → between first last rs ≡ []
+between-none first last [] none = refl
+between-none first last (row ∷ rs) none =
+    elim (is_between first last row)
+    as (λ b. (b || list_any (is_between first last) rs) ≡ false → cond b (row ∷ between first last rs) (between first last rs) ≡ []) [
+      | true ↦ λ no. absurd (true≢false no)
+      | false ↦ λ later. between-none first last rs later
+    ] none
+
+-- it takes out none where it is no range
+pub no_range-takes_none : (first last : ℕ) (t : Table) → is_no_range first last ≡ true → range_in first last t ≡ []
+no_range-takes_none first last t bounds =
+    ap (λ b. removed_by (cond b (Err error.BadRange)
+    (cond (not (list_any (is_between first last) (rows t))) (Err error.NoCheckpoint) (Ok (judged t.latest.number (between first last (rows t))))))) bounds
+
+-- and else those that may go, be there any or not
+pub range-takes_removable : (first last : ℕ) (t : Table) → is_no_range first last ≡ false
+    → range_in first last t ≡ removable t.latest.number (between first last (rows t))
+range-takes_removable first last t bounds =
+    ap (λ b. removed_by (cond b (Err error.BadRange)
+    (cond (not (list_any (is_between first last) (rows t))) (Err error.NoCheckpoint) (Ok (judged t.latest.number (between first last (rows t))))))) bounds
+    ∙ by (list_any (is_between first last) (rows t)) refl
+  where
+    by : (b : Bool) → list_any (is_between first last) (rows t) ≡ b
+        → removed_by (cond (not b) (Err error.NoCheckpoint) (Ok (judged t.latest.number (between first last (rows t)))))
+        ≡ removable t.latest.number (between first last (rows t))
+    by true some = refl
+    by false none = ap (removable t.latest.number) (sym (between-none first last (rows t) none))
+
+none-gone : (kept : List Checkpoint) → filter (is_kept_without []) kept ≡ kept
+none-gone [] = refl
+none-gone (c ∷ kept) = ap (λ cs. c ∷ cs) (none-gone kept)
+
+-- without a number, a table stays
+pub without-none : (t : Table) → without [] t ≡ t
+without-none t = ap (λ (cs : List Checkpoint). record t { earlier = cs }) (none-gone t.earlier)
 
 -- ---- the latest checkpoint stays
 

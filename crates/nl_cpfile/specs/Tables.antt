@@ -6,7 +6,8 @@ use Rattle.std.specs.Ordering.{nat_cmp}
 use Rattle.nl_types.specs.declared.event.Mode.{Mode}
 use Rattle.nl_types.specs.declared.row.Row.{Row}
 use Rattle.nl_types.specs.Limits.{checkpoint_number_limit}
-use Rattle.nl_types.specs.Rows.{is_among, is_snapshot}
+use Rattle.nl_types.specs.CheckpointLaws.{removed_by}
+use Rattle.nl_types.specs.Rows.{is_among, is_snapshot, range_removal}
 use Rattle.nl_layout.specs.declared.root.Root.{Root}
 use Rattle.nl_cpfile.specs.declared.checkpoint.Checkpoint.{Checkpoint}
 use Rattle.nl_cpfile.specs.declared.table.Cpstat.{Cpstat}
@@ -86,6 +87,10 @@ is_kept_without gone c = not (is_among gone c.number)
 -- the table without earlier checkpoints of some numbers
 abbrev pub without : List ℕ → Table → Table
 without gone t = record t { earlier = filter (is_kept_without gone) t.earlier }
+
+-- the numbers that the removal of a range takes out, none where it is refused
+abbrev pub range_in : (first last : ℕ) → Table → List ℕ
+range_in first last t = removed_by (range_removal first last t.latest.number (rows t))
 
 -- the table with the latest checkpoint alone
 abbrev pub with_latest_alone : Table → Table

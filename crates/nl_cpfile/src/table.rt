@@ -59,6 +59,14 @@ impl Checkpoints {
         }
     }
 
+    /// The checkpoints of a table: those before the latest one, ascending, and the latest one. Takes no memory.
+    pub fn from_table(earlier: Vec<Checkpoint>, latest: Checkpoint) -> Self
+        requires { IsTable (record { earlier = earlier.items; latest = latest }) }
+        ensures { result.table ≡ record { earlier = earlier.items; latest = latest } }
+    {
+        Checkpoints { earlier, latest }
+    }
+
     /// The latest checkpoint.
     pub fn latest(&self) -> &Checkpoint
         ensures latest { result.now ≡ self.now.table.latest }
@@ -173,9 +181,40 @@ impl Checkpoints {
         ensures same { OnErr result (self.new ≡ self.old) }
     {
         let range = self.judge(alloc, first, last)?;
+        self.take_out_between(first, last);
+        Ok(range)
+    }
+
+    /// Takes out an earlier checkpoint, plain or a snapshot, where one has the number. Takes no memory. That it may go is for
+    /// the caller to know: `remove` judges it.
+    pub fn take_out(&mut self, number: CheckpointNumber)
+        ensures { self.new.table ≡ tables.without (number ∷ []) self.old.table }
+    {
+        if let Some(index) = place_of(self.earlier.as_slice(), number) {
+            self.earlier.remove(index);
+        }
+    }
+
+    /// Takes out what the removal of a range takes out, which is nothing where it would be refused. Takes no memory.
+    pub fn take_out_range(&mut self, first: CheckpointNumber, last: CheckpointNumber)
+        ensures { self.new.table ≡ tables.without (tables.range_in first last self.old.table) self.old.table }
+    {
+        if !is_no_range(first, last) {
+            self.take_out_between(first, last);
+        }
+    }
+
+    /// Takes out the plain earlier checkpoints between two numbers, both included.
+    fn take_out_between(&mut self, first: CheckpointNumber, last: CheckpointNumber)
+        ensures taken { self.new.table ≡ tables.without
+            (judged self.old.table.latest.number (between first last (rows self.old.table))).removed
+            self.old.table }
+        ensures told { rows self.new.table ≡ told.without
+            (judged self.old.table.latest.number (between first last (rows self.old.table))).removed
+            (rows self.old.table) }
+    {
         self.earlier.retain(|checkpoint| checkpoint.mode.is_snapshot()
             || !checkpoint.is_between(first, last));
-        Ok(range)
     }
 
     /// What becomes of the checkpoints of a range, which is refused as its removal is.

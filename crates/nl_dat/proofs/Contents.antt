@@ -2,7 +2,7 @@
 use Rattle.std.proofs.Common.{◌≡◌, ℕ, true, eqb, map, List, [], ◌∷◌, Some, None, Option, inl, inr, sym, refl, ap, ◌∙◌}
 use Rattle.std.specs.Option.{option_map, option_and_then}
 use Rattle.std.proofs.lemmas.Bool.{cases_Bool, eqb-true}
-use Rattle.nl_dat.specs.Stores.{moved_to}
+use Rattle.nl_vstore.specs.Stores.{moved_to}
 use Rattle.nl_types.specs.PartialMaps.{Partial, put, put_all, put_each, adjust, adjust_all, adjust_each, Stands}
 use Rattle.nl_types.specs.Entries.{Birth, number_of, born_at, ended_at}
 use Rattle.nl_types.proofs.PartialMaps.{same_at_all, put-other}

@@ -13,7 +13,7 @@ use Rattle.nl_types.specs.Segments.{Segments, info_of, IsUsed, used_in, used_blo
 use Rattle.nl_types.specs.Placing.{row_of}
 use Rattle.nl_types.specs.PartialMaps.{Partial}
 use Rattle.nl_types.specs.Entries.{Birth, Content, number_of}
-use Rattle.nl_dat.specs.Batches.{is_born, is_taken}
+use Rattle.nl_vstore.specs.Batches.{is_born, is_taken}
 
 -- ---- how many numbers pass a test
 

@@ -9,11 +9,11 @@ use Rattle.nl_types.specs.Placing as placing
 use Rattle.nl_types.specs.PlacingLaws.{WhatFitsHasRoom}
 use Rattle.nl_types.specs.PartialMaps.{Partial}
 use Rattle.nl_types.specs.Entries.{Content}
-use Rattle.nl_segwriter.specs.Content.{SpaceContent}
+use Rattle.nl_space.specs.Content.{SpaceContent}
 use Rattle.nl_dat.specs.declared.entries.DatEntry.{DatEntry}
-use Rattle.nl_dat.specs.Batches.{LacksSpaceFrom, Changes, Fits, IsLowestFree, is_born, is_taken, last_number}
+use Rattle.nl_vstore.specs.Batches.{LacksSpaceFrom, Changes, Fits, IsLowestFree, is_born, is_taken, last_number}
 use Rattle.nl_dat.specs.Table.{AreInUse, IsFirstFree, entry_in, addresses_of, block_of}
-use Rattle.nl_dat.specs.Stores.{content_in}
+use Rattle.nl_vstore.specs.Stores.{content_in}
 use Rattle.nl_dat.specs.Inside.{births_in, store_of, IsTable}
 use Rattle.nl_dat.proofs.SoundTable.{is_some-content_of, HaveOwnPayload-apart}
 use Rattle.nl_dat.proofs.StoreOf.{content_in-store_of}

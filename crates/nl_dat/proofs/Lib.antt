@@ -1,4 +1,3 @@
-pub mod BatchLaws
 pub mod Tables
 pub mod Counting
 pub mod SoundTable
@@ -13,11 +12,7 @@ pub mod Positions
 pub mod TakingOut
 pub mod Reclaiming
 pub mod Loading
-pub mod ClosedSegments
 pub mod Relocating
-pub mod MovedOut
-pub mod NumberAt
-pub mod MovedNumbers
-pub mod CountedRows
-pub mod StoredLogs
+pub mod CountedPayload
+pub mod ShownRows
 pub mod DescribedRows

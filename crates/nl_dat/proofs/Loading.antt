@@ -7,11 +7,11 @@ use Rattle.std.proofs.lemmas.Bool.Decides.{nat_tests}
 use Rattle.nl_types.specs.Segments.{Segments, AreTidy, info_of}
 use Rattle.nl_types.specs.Entries.{number_of}
 use Rattle.nl_layout.specs.declared.tag.Tag.{Tag}
-use Rattle.nl_segwriter.specs.Content.{Payload, SpaceContent, payload_tag, payload_page}
+use Rattle.nl_space.specs.Content.{Payload, SpaceContent, payload_tag, payload_page}
 use Rattle.nl_dat.specs.declared.entries.DatEntry.{DatEntry}
-use Rattle.nl_dat.specs.Batches.{birth_of_item}
+use Rattle.nl_vstore.specs.Batches.{birth_of_item}
 use Rattle.nl_dat.specs.Table.{entry_in, addresses_of, block_of, stored_at}
-use Rattle.nl_dat.specs.Stores.{is_inside}
+use Rattle.nl_vstore.specs.Stores.{is_inside}
 use Rattle.nl_dat.specs.Inside.{IsBacked, births_in}
 use Rattle.nl_dat.proofs.Positions.{position-used, held-row}
 

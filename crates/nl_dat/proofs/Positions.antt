@@ -9,11 +9,11 @@ use Rattle.std.proofs.lemmas.Option.{get_or_from_slice_get}
 use Rattle.nl_types.specs.Segments.{Segments, AreTidy, IsUsed, info_of}
 use Rattle.nl_types.proofs.SegmentChanges.{room_of}
 use Rattle.nl_types.specs.Entries.{number_of}
-use Rattle.nl_segwriter.specs.Content.{Payload, SpaceContent, HoldsOnlyUsed, payload_tag}
+use Rattle.nl_space.specs.Content.{Payload, SpaceContent, HoldsOnlyUsed, payload_tag}
 use Rattle.nl_dat.specs.declared.entries.DatEntry.{DatEntry}
-use Rattle.nl_dat.specs.Batches.{birth_of_item, number_of_payload}
+use Rattle.nl_vstore.specs.Batches.{birth_of_item, number_of_payload}
 use Rattle.nl_dat.specs.Table.{entry_in, addresses_of}
-use Rattle.nl_dat.specs.Stores.{tag_in}
+use Rattle.nl_vstore.specs.Stores.{tag_in}
 use Rattle.nl_dat.specs.Inside.{store_of, IsTable}
 use Rattle.nl_dat.proofs.ShownSpace.{shown}
 

@@ -9,12 +9,12 @@ use Rattle.nl_types.specs.Segments.{Segments, AreTidy, IsUsed, info_of, clean_in
 use Rattle.nl_types.proofs.SegmentChanges.{room_of}
 use Rattle.nl_types.specs.PartialMaps.{Partial}
 use Rattle.nl_types.specs.Entries.{number_of}
-use Rattle.nl_segwriter.specs.Content.{SpaceContent, IsFreed, payload_page}
+use Rattle.nl_space.specs.Content.{SpaceContent, IsFreed, payload_page}
 use Rattle.nl_dat.specs.declared.entries.DatEntry.{DatEntry}
 use Rattle.nl_dat.specs.declared.reclaim.TakenOut.{TakenOut}
-use Rattle.nl_dat.specs.Batches.{birth_of_item}
+use Rattle.nl_vstore.specs.Batches.{birth_of_item}
 use Rattle.nl_dat.specs.Table.{entry_in, addresses_of, block_of}
-use Rattle.nl_dat.specs.Stores.{IsReclaimed, numbered_in, is_inside}
+use Rattle.nl_vstore.specs.Stores.{IsReclaimed, numbered_in, is_inside}
 use Rattle.nl_dat.specs.Inside.{births_in, numbered_of, numbered_with, store_of, IsTable}
 use Rattle.nl_dat.specs.TakenOut.{HasTakenOut, IsAtMost, is_in_row}
 use Rattle.nl_dat.proofs.StoreOf.{numbered_in-store_of, address_in-store_of}

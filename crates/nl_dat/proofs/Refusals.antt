@@ -7,12 +7,12 @@ use Rattle.nl_types.specs.declared.error.VolError.{VolError}
 use Rattle.nl_types.specs.declared.error.VolError.TheVariants.{NoSpace, Fault, Memory}
 use Rattle.nl_types.specs.Segments.{AreTidy, total_blocks}
 use Rattle.nl_types.specs.Placing.{LacksSpace, with_logs}
-use Rattle.nl_segwriter.specs.Content.{Payload, SpaceContent, KeepsUsed}
-use Rattle.nl_segwriter.specs.Appended.{IsAppendError, IsBrokenOff}
-use Rattle.nl_dat.specs.Batches.{Changes, items_of}
+use Rattle.nl_space.specs.Content.{Payload, SpaceContent, KeepsUsed}
+use Rattle.nl_space.specs.Appended.{IsAppendError, IsBrokenOff}
+use Rattle.nl_vstore.specs.Batches.{Changes, items_of}
 use Rattle.nl_dat.specs.declared.entries.DatEntry.{DatEntry}
 use Rattle.nl_dat.specs.Table.{entry_in, addresses_of, block_of}
-use Rattle.nl_dat.specs.Stores.{Store, IsFaulted, IsWriteRefused}
+use Rattle.nl_vstore.specs.Stores.{Store, IsFaulted, IsWriteRefused}
 use Rattle.nl_dat.specs.Inside.{births_in, numbered_of, numbered_with, store_of, IsTable}
 use Rattle.nl_dat.proofs.Contents.{KeepsAt}
 use Rattle.nl_dat.proofs.StoreOf.{numbered_in-store_of}

@@ -1,27 +1,27 @@
 -- What a relocation does to the table and to what callers see.
 use Rattle.std.proofs.Common.{◌≡◌, ℕ, ◌+◌, ◌<◌, ◌≤◌, Bool, true, false, eqb, List, [], ◌∷◌, Some, None, Option, inl, inr, sym, refl, ap, subst, ◌∙◌, map, get_or, length, is_some, arith}
-use Rattle.std.specs.Prelude.{◌||◌}
 use Rattle.std.specs.List.{All, AllByRecursion, range_with_len}
 use Rattle.std.specs.Option.{option_map, option_and_then}
-use Rattle.std.proofs.lemmas.Bool.{cases_Bool, or_cases}
+use Rattle.std.proofs.lemmas.Bool.{cases_Bool}
 use Rattle.std.proofs.lemmas.List.{length-map}
 use Rattle.nl_types.specs.declared.error.VolError.{VolError}
 use Rattle.nl_types.specs.declared.error.VolError.TheVariants.{NoSpace, Fault, Memory}
 use Rattle.nl_types.specs.Segments.{AreTidy, IsUsed, StaysUsed, total_blocks, IsClosed}
 use Rattle.nl_types.specs.Placing.{LacksSpace}
 use Rattle.nl_types.specs.Entries.{Birth, Content}
-use Rattle.nl_types.specs.PartialMaps.{Partial, adjust, adjust_each, is_one_of, Stands}
+use Rattle.nl_types.specs.PartialMaps.{Partial, adjust, adjust_each, Stands}
 use Rattle.nl_types.proofs.PartialMaps.{is_one_of-get_or}
-use Rattle.nl_segwriter.specs.Content.{Payload, SpaceContent, KeepsUsed, payload_page}
-use Rattle.nl_segwriter.specs.Appended.{IsAppended, IsAppendError, IsLoadError, IsBrokenOff}
+use Rattle.nl_space.specs.Content.{Payload, SpaceContent, KeepsUsed, payload_page}
+use Rattle.nl_space.specs.Appended.{IsAppended, IsAppendError, IsLoadError, IsBrokenOff}
 use Rattle.nl_dat.specs.declared.entries.DatEntry.{DatEntry}
-use Rattle.nl_dat.specs.Batches.{birth_of_item, births_of, item_of_birth, items_of, tag_for}
+use Rattle.nl_vstore.specs.Batches.{birth_of_item, births_of, item_of_birth, items_of, tag_for}
 use Rattle.nl_dat.specs.Table.{entry_in, addresses_of, block_of, content_of, meaning_at, meaning_of, moved_entry, stored_at, HaveOwnPayload}
-use Rattle.nl_dat.specs.Stores.{IsMoved, IsMoveRefused, IsPayloadOf, KeepsStored, is_inside, moved_to, address_in, payload_for, payload_under}
+use Rattle.nl_vstore.specs.Stores.{IsMoved, IsMoveRefused, IsPayloadOf, KeepsStored, is_inside, moved_to, address_in, payload_for, payload_under}
 use Rattle.nl_dat.specs.Inside.{births_in, numbered_of, store_of, IsTable}
 use Rattle.nl_dat.proofs.Contents.{KeepsAt, content_of-KeepsAt, HaveOwnPayload-KeepsAt, content_of-moves, addresses_of-moves, HaveOwnPayload-moves}
 use Rattle.nl_dat.proofs.StoreOf.{content_in-store_of, address_in-store_of}
-use Rattle.nl_dat.proofs.ClosedSegments.{fits-outside}
+use Rattle.nl_vstore.proofs.ClosedSegments.{fits-outside}
+use Rattle.nl_vstore.proofs.MovedBlocks.{moved-in, is_some-inside}
 use Rattle.nl_dat.proofs.SoundTable.{stored_for}
 use Rattle.nl_dat.proofs.ShownSpace.{appended-shown}
 use Rattle.nl_dat.proofs.BlockCounts.{total-with_logs}
@@ -65,44 +65,6 @@ adjust_each-is_some f (k ∷ ks) (x ∷ xs) m v = adjust_each-is_some f ks xs (a
     same : (o : Option _) → is_some (option_map (f x) o) ≡ is_some o
     same None = refl
     same (Some y) = refl
-
--- a number that is moved has one of the new blocks
-pub moved-in : (P : ℕ → Type 0) (ks bs : List ℕ) (m : Partial ℕ) (v : ℕ) → length ks ≡ length bs → AllByRecursion P bs → is_one_of ks v ≡ true → is_some (m v) ≡ true → (b : ℕ) × (adjust_each moved_to ks bs m v ≡ Some b) × P b
-moved-in P [] bs m v len all among some = cc
-moved-in P (k ∷ ks) [] m v len all among some = absurd (omega (arith, len))
-moved-in P (k ∷ ks) (a ∷ bs) m v len all among some = elim (cases_Bool (is_one_of ks v)) [
-  | inl later ↦ moved-in P ks bs (adjust (moved_to a) m k) v (omega (arith, len)) all.1 later (elim (cases_Bool (eqb v k)) [
-    | inl e ↦ rw e (is_some-moved (m v) some)
-    | inr e ↦ rw e some
-  ])
-  | inr last ↦ elim (or_cases (eqb v k) (is_one_of ks v) among) [
-    | inl e ↦ (a, others ks bs (adjust (moved_to a) m k) last ∙ rw e (here (m v) some), all.0)
-    | inr e ↦ absurd (both e last)
-  ]
-]
-  where
-    both : {t : Bool} → t ≡ true → t ≡ false → ⊥
-    both e f = cc
-
-    is_some-moved : (o : Option ℕ) → is_some o ≡ true → is_some (option_map (moved_to a) o) ≡ true
-    is_some-moved None h = cc
-    is_some-moved (Some x) h = refl
-
-    here : (o : Option ℕ) → is_some o ≡ true → option_map (moved_to a) o ≡ Some a
-    here None h = cc
-    here (Some x) h = refl
-
-    others : (js cs : List ℕ) (n : Partial ℕ) → is_one_of js v ≡ false → adjust_each moved_to js cs n v ≡ n v
-    others [] cs n none = refl
-    others (j ∷ js) [] n none = refl
-    others (j ∷ js) (c ∷ cs) n none = elim (cases_Bool (eqb v j)) [
-      | inl e ↦ absurd (both (ap (λ t. t || is_one_of js v) e) none)
-      | inr e ↦ others js cs (adjust (moved_to c) n j) (sym (ap (λ t. t || is_one_of js v) e) ∙ none) ∙ rw e refl
-    ]
-
-pub is_some-inside : (s : Rattle.nl_types.specs.Segments.Segments) (segment : ℕ) (o : Option ℕ) → is_inside s segment o ≡ true → is_some o ≡ true
-is_some-inside s segment None h = cc
-is_some-inside s segment (Some b) h = refl
 
 none_of : {A : Type 0} (o : Option A) → is_some o ≡ false → o ≡ None
 none_of None h = refl

@@ -10,13 +10,13 @@ use Rattle.nl_types.specs.Segments.{Segments, AreTidy, total_blocks}
 use Rattle.nl_types.specs.Placing.{first_block, with_logs}
 use Rattle.nl_types.proofs.NextLogs.{placed}
 use Rattle.nl_types.proofs.UsedParts.{used_inside}
-use Rattle.nl_segwriter.specs.Content.{SpaceContent, Payload, StandAt, IsSameAt, IsFreed, KeepsUsed, HoldsOnlyUsed, payload_page}
-use Rattle.nl_segwriter.specs.Logs.{AreWholeLogs}
-use Rattle.nl_segwriter.specs.Appended.{StandInLogs, KeepsOtherBlocks, IsAppended, IsBrokenOff}
-use Rattle.nl_segwriter.proofs.AppendedLogs.{logs_inside}
-use Rattle.nl_segwriter.proofs.WholeLogs.{filled_same, stands_kept}
+use Rattle.nl_space.specs.Content.{SpaceContent, Payload, StandAt, IsSameAt, IsFreed, KeepsUsed, HoldsOnlyUsed, payload_page}
+use Rattle.nl_space.specs.Logs.{AreWholeLogs}
+use Rattle.nl_space.specs.Appended.{StandInLogs, KeepsOtherBlocks, IsAppended, IsBrokenOff}
+use Rattle.nl_space.proofs.LogNumbers.{logs_inside}
+use Rattle.nl_space.proofs.KeptLogs.{filled_same, stands_kept}
 use Rattle.nl_dat.specs.declared.entries.DatEntry.{DatEntry}
-use Rattle.nl_dat.specs.Stores.{payload_in, device_in, space_in}
+use Rattle.nl_vstore.specs.Stores.{payload_in, device_in, space_in}
 use Rattle.nl_dat.specs.Inside.{store_of}
 use Rattle.nl_dat.proofs.BlockCounts.{total-with_logs, total-with_error}
 

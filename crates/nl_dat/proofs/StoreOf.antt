@@ -10,12 +10,13 @@ use Rattle.nl_types.specs.PartialMaps.{Partial}
 use Rattle.nl_types.specs.Entries.{Birth, number_of}
 use Rattle.nl_types.proofs.PartialMaps.{same_at_all}
 use Rattle.nl_sufile.specs.Table.{IsSegTable}
-use Rattle.nl_segwriter.specs.Content.{Payload, SpaceContent, HoldsOnlyUsed, payload_page}
-use Rattle.nl_segwriter.specs.Logs.{AreWholeLogs}
+use Rattle.nl_space.specs.Content.{Payload, SpaceContent, HoldsOnlyUsed, payload_page}
+use Rattle.nl_space.specs.Logs.{AreWholeLogs}
 use Rattle.nl_dat.specs.declared.entries.DatEntry.{DatEntry}
-use Rattle.nl_dat.specs.Batches.{birth_of_item, tag_place, tag_for}
-use Rattle.nl_dat.specs.Table.{entry_in, addresses_of, block_of, content_of, meaning_of, meaning_at, period_of, period_of_entry, HaveOwnPayload}
-use Rattle.nl_dat.specs.Stores.{Numbered, new_store, numbered_in, content_in, address_in, entry_now, block_now, dat_entry_of, payload_for, IsStore, SoundStore}
+use Rattle.nl_vstore.specs.Batches.{birth_of_item, tag_place, tag_for}
+use Rattle.nl_dat.specs.Table.{entry_in, addresses_of, block_of, content_of, meaning_of, meaning_at, period_of_entry, HaveOwnPayload, dat_entry_of}
+use Rattle.nl_vstore.specs.Periods.{period_of}
+use Rattle.nl_vstore.specs.Stores.{Numbered, new_store, numbered_in, content_in, address_in, entry_now, block_now, payload_for, IsStore, SoundStore}
 use Rattle.nl_dat.specs.Inside.{births_in, numbered_with, numbered_of, store_of, IsTable}
 use Rattle.nl_types.proofs.UsedParts.{used_inside}
 use Rattle.nl_dat.proofs.SoundTable.{stored_for, HaveOwnPayload-apart}

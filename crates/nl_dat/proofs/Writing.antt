@@ -10,12 +10,12 @@ use Rattle.nl_types.specs.Segments.{AreTidy, IsUsed, StaysUsed, total_blocks}
 use Rattle.nl_types.specs.PartialMaps.{Partial, put, put_each, put_all, adjust, adjust_all, Stands}
 use Rattle.nl_types.specs.Entries.{Birth, Content, number_of, born_at, ended_at, written}
 use Rattle.nl_types.proofs.PartialMaps.{put-other, put-same}
-use Rattle.nl_segwriter.specs.Content.{Payload, SpaceContent, KeepsUsed, StandAt, payload_page}
-use Rattle.nl_segwriter.specs.Appended.{IsAppended}
+use Rattle.nl_space.specs.Content.{Payload, SpaceContent, KeepsUsed, StandAt, payload_page}
+use Rattle.nl_space.specs.Appended.{IsAppended}
 use Rattle.nl_dat.specs.declared.entries.DatEntry.{DatEntry}
-use Rattle.nl_dat.specs.Batches.{Changes, Fits, birth_of_item, births_of, items_of, is_born, is_live, last_number}
+use Rattle.nl_vstore.specs.Batches.{Changes, Fits, birth_of_item, births_of, items_of, is_born, is_live, last_number}
 use Rattle.nl_dat.specs.Table.{entry_in, addresses_of, content_of, meaning_at, new_entry, ended_entry, HaveOwnPayload}
-use Rattle.nl_dat.specs.Stores.{IsWritten, content_in, space_in}
+use Rattle.nl_vstore.specs.Stores.{IsWritten, content_in, space_in}
 use Rattle.nl_dat.specs.Inside.{births_in, store_of, IsTable}
 use Rattle.nl_dat.proofs.Contents.{KeepsAt, content_of-KeepsAt, HaveOwnPayload-KeepsAt, content_of-births, addresses_of-births, HaveOwnPayload-births, content_of-ends, addresses_of-ends}
 use Rattle.nl_dat.proofs.StoreOf.{content_in-store_of, address_in-store_of}

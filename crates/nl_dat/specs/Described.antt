@@ -3,9 +3,9 @@ use Rattle.std.specs.Prelude.{ℕ, suc, ◌*◌, List, [], ◌∷◌, ◌++◌, 
 use Rattle.std.specs.Option.{option_map}
 use Rattle.nl_types.specs.PartialMaps.{Partial}
 use Rattle.nl_layout.specs.declared.tag.Tag.{Tag}
-use Rattle.nl_segwriter.specs.Content.{Payload, payload_tag}
+use Rattle.nl_space.specs.Content.{Payload, payload_tag}
 use Rattle.nl_dat.specs.declared.bdesc.Bdesc.{Bdesc}
-use Rattle.nl_dat.specs.Stores.{Store, address_in}
+use Rattle.nl_vstore.specs.Stores.{Store, address_in}
 
 -- block b with this tag, where each number in use has its page at these addresses
 abbrev pub desc_of : Partial ℕ → ℕ → Tag → Bdesc

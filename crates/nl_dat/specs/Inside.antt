@@ -5,11 +5,11 @@ use Rattle.std.specs.Option.{option_map, option_and_then}
 use Rattle.nl_types.specs.Segments.{IsUsed, total_blocks}
 use Rattle.nl_types.specs.PartialMaps.{Partial}
 use Rattle.nl_types.specs.Entries.{Birth}
-use Rattle.nl_segwriter.specs.Content.{Payload, SpaceContent, payload_page}
+use Rattle.nl_space.specs.Content.{Payload, SpaceContent, payload_page}
 use Rattle.nl_dat.specs.declared.entries.DatEntry.{DatEntry}
-use Rattle.nl_dat.specs.Batches.{birth_of_item, births_of}
+use Rattle.nl_vstore.specs.Batches.{birth_of_item, births_of}
 use Rattle.nl_dat.specs.Table.{AreInUse, entry_in, addresses_of, meaning_of, stored_at, HaveOwnPayload}
-use Rattle.nl_dat.specs.Stores.{Numbered, Store, is_inside}
+use Rattle.nl_vstore.specs.Stores.{Numbered, Store, is_inside}
 
 -- the payload of a space as births, by block number
 abbrev pub births_in : SpaceContent → Partial Birth

@@ -1,8 +1,4 @@
-pub mod Batches
 pub mod Table
-pub mod Stores
-pub mod Located
-pub mod Summaries
 pub mod Described
 pub mod Inside
 pub mod TakenOut

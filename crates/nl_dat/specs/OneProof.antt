@@ -7,9 +7,9 @@ use Rattle.std.proofs.lemmas.Bool.{cases_lt}
 use Rattle.nl_types.specs.declared.segment.Position.{Position}
 use Rattle.nl_types.specs.Segments.{Segments, AreTidy, IsUsed, block_at, info_of}
 use Rattle.nl_types.proofs.SegmentChanges.{room_of}
-use Rattle.nl_segwriter.specs.Content.{SpaceContent}
+use Rattle.nl_space.specs.Content.{SpaceContent}
 use Rattle.nl_dat.specs.declared.entries.DatEntry.{DatEntry}
-use Rattle.nl_dat.specs.Stores.{Store, IsStore}
+use Rattle.nl_vstore.specs.Stores.{Store, IsStore}
 use Rattle.nl_dat.specs.Inside.{IsTable}
 
 -- two proofs of one fact

@@ -3,6 +3,7 @@ use Rattle.std.specs.Prelude.{◌≡◌, ◌≢◌, ℕ, ◌<◌, ◌≤◌, ◌
 use Rattle.std.specs.Option.{option_map, option_and_then}
 use Rattle.nl_types.specs.PartialMaps.{Partial}
 use Rattle.nl_types.specs.Entries.{Birth, Entry, Content, number_of}
+use Rattle.nl_vstore.specs.Stores.{Numbered}
 use Rattle.nl_dat.specs.declared.entries.DatEntry.{DatEntry}
 use Rattle.nl_types.specs.declared.period.Period.{Period}
 
@@ -10,19 +11,12 @@ use Rattle.nl_types.specs.declared.period.Period.{Period}
 abbrev pub entry_in : List (Option DatEntry) → Partial DatEntry
 entry_in table v = slice_index_or table v None
 
+-- a number in use as an entry of the table
+abbrev pub dat_entry_of : Numbered → DatEntry
+dat_entry_of n = record { block = n.block; start = n.entry.start; end = n.entry.end }
+
 abbrev pub period_of_entry : DatEntry → Period
 period_of_entry entry = record { start = entry.start; end = entry.end }
-
--- the period of what a number stands for
-abbrev pub period_of : Entry → Period
-period_of e = record { start = e.start; end = e.end }
-
--- the period of each number in use
-abbrev pub Periods : Type 0
-Periods = Partial Period
-
-abbrev pub periods_of : Content → Periods
-periods_of content v = option_map period_of (content v)
 
 -- ---- which numbers are in use
 

@@ -2,8 +2,8 @@
 use Rattle.std.specs.Prelude.{◌≡◌, ◌≢◌, ℕ, ◌+◌, ◌<◌, ◌≤◌, ◌&&◌, nat_le, nat_lt, Bool, true, false, if◌then◌else◌, List, length, slice_index_or, slice_set, Option, None, Some}
 use Rattle.nl_types.specs.PartialMaps.{Partial, is_one_of, NoneTwice}
 use Rattle.std.specs.Option.{option_map}
-use Rattle.nl_segwriter.specs.Content.{Payload}
-use Rattle.nl_dat.specs.Batches.{number_of_payload}
+use Rattle.nl_space.specs.Content.{Payload}
+use Rattle.nl_vstore.specs.Batches.{number_of_payload}
 use Rattle.nl_dat.specs.declared.entries.DatEntry.{DatEntry}
 use Rattle.nl_dat.specs.declared.reclaim.TakenOut.{TakenOut}
 use Rattle.nl_dat.specs.Table.{entry_in, addresses_of}

@@ -6,7 +6,7 @@ ghost use Rattle.nl_dat.specs.Described.{desc_at, descs_from};
 use crate::entries::{DatEntry, block_at};
 use crate::moving::row_tag;
 use nl_layout::{Level, Tag};
-use nl_segwriter::Payload;
+use nl_space::Payload;
 use nl_types::{BlockNumber, InodeNumber};
 use std::alloc::{AllocError, Global};
 

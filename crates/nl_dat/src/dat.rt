@@ -1,11 +1,10 @@
 //! The table of virtual block numbers, over a space.
 ghost use Rattle.std.specs.Prelude.{◌≡◌, ◌↔◌, ◌⊎◌, ℕ, ◌+◌, ◌<◌, ◌≤◌, length, IfErr, IfOk, OnErr, IsErr, IsErrOf, IsOkUnless, Some};
 ghost use Rattle.std.specs.Option.{option_map};
-ghost use Rattle.nl_dat.specs.Stores.{IsStore};
+ghost use Rattle.nl_vstore.specs.Stores.{IsStore};
 ghost use Rattle.nl_dat.specs.Inside.{store_of, IsTable};
 ghost use Rattle.nl_dat.specs.OneProof.{IsStore-prop, IsTable-prop};
 
-use crate::batch::Batch;
 use crate::bdesc::{Bdesc, describe_row};
 use crate::entries::{
     DatEntry, empty_places, end_entries, enter_births, entry_at, first_free, move_entries,
@@ -13,12 +12,12 @@ use crate::entries::{
 };
 use crate::moving::{count_payload, load_all, row_tag};
 use crate::reclaim::take_out;
-use crate::store::{VRead, Vstore};
 use nl_layout::Tag;
-use nl_segwriter::{Payload, Space};
+use nl_space::{Payload, Space};
 use nl_sufile::SegTable;
 use nl_types::laws::payload_goes_to_unused_blocks;
 use nl_types::{CheckpointNumber, Items, Page, Period, Segment, VirtualNumber, VolError};
+use nl_vstore::{Batch, VRead, Vstore};
 use std::alloc::{AllocError, Global};
 use std::marker::Model;
 
@@ -36,7 +35,7 @@ pub struct Dat<S: Space> {
 }
 
 impl<S: Space> Model for Dat<S> {
-    ghost use Rattle.nl_dat.specs.Stores.{SoundStore};
+    ghost use Rattle.nl_vstore.specs.Stores.{SoundStore};
     ghost use Rattle.nl_dat.specs.Inside.{store_of};
 
     ghost Value = { SoundStore };
@@ -53,9 +52,10 @@ impl<S: Space> Model for Dat<S> {
 }
 
 impl<S: Space> Dat<S> {
-    ghost use Rattle.nl_dat.specs.Summaries.{payload_row};
+    ghost use Rattle.nl_vstore.specs.Summaries.{payload_row};
     ghost use Rattle.nl_dat.specs.Described.{descs_of};
-    ghost use Rattle.nl_dat.specs.Stores.{new_store, address_in, block_in, capacity, numbered_in, dat_entry_of};
+    ghost use Rattle.nl_vstore.specs.Stores.{new_store, address_in, block_in, capacity, numbered_in};
+    ghost use Rattle.nl_dat.specs.Table.{dat_entry_of};
 
     /// The table over a space, with no number in use. Refused by `Memory` alone; the space is dropped then.
     pub fn new(alloc: Global, space: S) -> Result<Dat<S>, VolError>
@@ -125,8 +125,8 @@ impl<S: Space> Dat<S> {
 
 impl<S: Space> VRead for Dat<S> {
     ghost use Rattle.nl_types.specs.Roots.{pages_of};
-    ghost use Rattle.nl_dat.specs.Stores.{content_in};
-    ghost use Rattle.nl_dat.specs.Table.{periods_of};
+    ghost use Rattle.nl_vstore.specs.Stores.{content_in};
+    ghost use Rattle.nl_vstore.specs.Periods.{periods_of};
 
     ghost pages = { λ d. pages_of (content_in d.store) };
 

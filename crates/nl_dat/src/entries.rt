@@ -3,11 +3,11 @@ ghost use Rattle.std.specs.Prelude.{◌≡◌, ◌<◌, length, replicate, slice
 ghost use Rattle.std.specs.List.{All};
 ghost use Rattle.nl_types.specs.PartialMaps.{put, put_each, adjust, adjust_all, adjust_each};
 ghost use Rattle.nl_types.specs.Entries.{number_of};
-ghost use Rattle.nl_dat.specs.Batches.{births_of, number_of_payload};
+ghost use Rattle.nl_vstore.specs.Batches.{births_of, number_of_payload};
 ghost use Rattle.std.specs.Option.{option_map};
 ghost use Rattle.nl_dat.specs.Table.{AreInUse, IsNumberWith, addresses_of, IsFirstFree, entry_in, new_entry, ended_entry, moved_entry};
 
-use nl_segwriter::Payload;
+use nl_space::Payload;
 use nl_types::{BlockNumber, CheckpointNumber, Items, Period, VirtualNumber};
 use std::alloc::{AllocError, Global};
 

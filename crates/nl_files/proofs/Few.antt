@@ -9,7 +9,7 @@ use Rattle.nl_types.specs.Lifetimes.{blank}
 use Rattle.nl_types.specs.Roots as roots
 use Rattle.nl_types.specs.Roots.{Pages, OfChain, OfTree, kind_of, page_at, pages_of, place_at}
 use Rattle.nl_types.specs.RootChanges.{IsSound}
-use Rattle.nl_dat.specs.Batches.{Changes, Fits}
+use Rattle.nl_vstore.specs.Batches.{Changes, Fits}
 use Rattle.nl_layout.specs.Root.{root_of}
 use Rattle.nl_layout.specs.declared.root.Root.{Root}
 use Rattle.nl_layout.specs.declared.root.Root.TheVariants.{Empty, Chain}

@@ -8,7 +8,7 @@ use Rattle.nl_types.specs.Entries.{Entry, Place, covers, is_before_end}
 use Rattle.nl_types.specs.Lifetimes.{Allowed, IsLedger, Ledger, Numbers, Write, numbers_at}
 use Rattle.nl_types.specs.Roots.{Pages, Root, Empty, pages_of, place_at}
 use Rattle.nl_types.proofs.Births.{pages-written}
-use Rattle.nl_dat.specs.Batches.{Changes, Fits, TakeLowestFree, is_live}
+use Rattle.nl_vstore.specs.Batches.{Changes, Fits, TakeLowestFree, is_live}
 use Rattle.nl_layout.specs.declared.inode.Inode.{Inode}
 use Rattle.nl_layout.specs.declared.inode.InodeKind.{InodeKind}
 use Rattle.nl_layout.specs.declared.inode.InodeKind.TheVariants.{File, Directory, InodeFile}

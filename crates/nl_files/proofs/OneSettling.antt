@@ -9,7 +9,7 @@ use Rattle.nl_types.specs.Entries.{Birth, Content}
 use Rattle.nl_types.specs.PartialMaps.{NoneTwice, is_one_of}
 use Rattle.nl_types.specs.Roots.{Root, page_at, pages_of}
 use Rattle.nl_types.specs.RootChanges.{IsSound, born, with_births}
-use Rattle.nl_dat.specs.Batches.{Changes}
+use Rattle.nl_vstore.specs.Batches.{Changes}
 use Rattle.nl_blocktree.specs.Checkpoints.{ArePut, batch_after, inodes_of, no_changes, roots_after}
 use Rattle.nl_blocktree.specs.Putting.{PutsAll, pages_after}
 use Rattle.nl_blocktree.proofs.Staying.{unwritten}

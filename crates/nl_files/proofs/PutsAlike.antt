@@ -9,7 +9,7 @@ use Rattle.nl_types.proofs.Births.{uncons}
 use Rattle.nl_types.specs.Entries.{Birth, Content, number_of}
 use Rattle.nl_types.specs.Roots.{Chain, Empty, NoBlocks, OfChain, OfTree, Pages, Root, RootKind, Tree, chain_node, child, kind_of, numbered, page_at, pages_of, place_at}
 use Rattle.nl_types.specs.RootChanges.{InPayloadOrder, IsAt, IsSound, IsWrittenPlace, KeepsFile, NodeWritten, Precedes, born, new_kind, of_chain, of_tree, was_absent}
-use Rattle.nl_dat.specs.Batches.{Changes, IsLowestFree, TakeLowestFree}
+use Rattle.nl_vstore.specs.Batches.{Changes, IsLowestFree, TakeLowestFree}
 use Rattle.nl_blocktree.specs.declared.change.BlockChange.{BlockChange}
 use Rattle.nl_blocktree.specs.Putting.{IsWrittenKind, PutsAll, pages_after}
 use Rattle.nl_blocktree.proofs.Frames.{births-keep, cases-Option, chain-of, keeps-file}

@@ -7,7 +7,7 @@ use Rattle.std.proofs.lemmas.Bool.{ne_eqb}
 use Rattle.nl_types.specs.Entries.{Content}
 use Rattle.nl_types.specs.Roots.{Root, page_at, pages_of}
 use Rattle.nl_types.specs.RootChanges.{IsSound}
-use Rattle.nl_dat.specs.Batches.{Changes}
+use Rattle.nl_vstore.specs.Batches.{Changes}
 use Rattle.nl_layout.specs.declared.inode.Inode.{Inode}
 use Rattle.nl_ifile.specs.Inodes.{inode_at}
 use Rattle.nl_ifile.specs.declared.change.InodeChange.{InodeChange}

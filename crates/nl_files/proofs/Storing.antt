@@ -11,7 +11,7 @@ use Rattle.nl_types.specs.Entries.{Birth, Content}
 use Rattle.nl_types.specs.PartialMaps.{NoneTwice, is_one_of}
 use Rattle.nl_types.specs.Roots.{Pages, Root, page_at, pages_of}
 use Rattle.nl_types.specs.RootChanges.{IsSound, KeepsFile, born, with_births}
-use Rattle.nl_dat.specs.Batches.{Changes, Fits}
+use Rattle.nl_vstore.specs.Batches.{Changes, Fits}
 use Rattle.nl_layout.specs.Root.{root_of}
 use Rattle.nl_layout.specs.declared.inode.Inode.{Inode}
 use Rattle.nl_blocktree.specs.Checkpoints.{ComesBefore, FileChange, batch_after, inodes_of, no_changes, roots_after}

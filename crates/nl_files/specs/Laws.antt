@@ -5,7 +5,7 @@ use Rattle.nl_types.specs.Roots.{Pages, Root, Empty}
 use Rattle.nl_types.specs.Lifetimes.{Allowed, IsLedger, Ledger, Write, blank, ledger_after, numbers_at}
 use Rattle.nl_layout.specs.Root.{root_of}
 use Rattle.nl_layout.specs.declared.root.Root.{Root as CodeRoot}
-use Rattle.nl_dat.specs.Batches.{Changes, Fits, TakeLowestFree}
+use Rattle.nl_vstore.specs.Batches.{Changes, Fits, TakeLowestFree}
 use Rattle.nl_blocktree.specs.Checkpoints.{WritesWhatDiffers, numbers_of, pages_in}
 use Rattle.nl_files.specs.Held.{Holding, IsCheckpointRoot, IsHolding, IsTreeSound, Stores, roots_at}
 use Rattle.nl_files.specs.Became.{Became, BecameDirectory, IsCurrent, holding_over}

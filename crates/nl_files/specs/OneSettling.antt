@@ -2,7 +2,7 @@
 use Rattle.std.specs.Prelude.{◌≡◌, ℕ, List, [], length}
 use Rattle.nl_types.specs.Entries.{Content}
 use Rattle.nl_types.specs.Roots.{Root, pages_of}
-use Rattle.nl_dat.specs.Batches.{Changes}
+use Rattle.nl_vstore.specs.Batches.{Changes}
 use Rattle.nl_files.specs.Became.{Became}
 use Rattle.nl_files.specs.Held.{Holding, IsCheckpointRoot, IsHolding, Stores}
 use Rattle.nl_files.specs.Settles.{Settles}

@@ -5,7 +5,7 @@ use Rattle.nl_types.specs.Entries.{Content}
 use Rattle.nl_types.specs.PartialMaps.{NoneTwice}
 use Rattle.nl_types.specs.Roots.{Root, pages_of}
 use Rattle.nl_types.specs.RootChanges.{IsSound}
-use Rattle.nl_dat.specs.Batches.{Changes}
+use Rattle.nl_vstore.specs.Batches.{Changes}
 use Rattle.nl_layout.specs.declared.inode.Inode.{Inode}
 use Rattle.nl_blocktree.specs.declared.change.BlockChange.{BlockChange}
 use Rattle.nl_blocktree.specs.Checkpoints.{ArePut, ComesBefore, FileChange, batch_after, inodes_of, no_changes, roots_after}

@@ -3,7 +3,7 @@ use Rattle.std.specs.Prelude.{ℕ, []}
 use Rattle.nl_types.specs.Lifetimes.{IsLedger, Ledger, blank}
 use Rattle.nl_types.specs.Trees.{Tree, root_alone}
 use Rattle.nl_types.specs.Roots.{Pages, Root, Empty}
-use Rattle.nl_dat.specs.Batches.{Changes, Fits}
+use Rattle.nl_vstore.specs.Batches.{Changes, Fits}
 use Rattle.nl_blocktree.specs.Checkpoints.{pages_in}
 use Rattle.nl_files.specs.Held.{Holding, IsCheckpointRoot, IsHolding}
 use Rattle.nl_files.specs.Became.{Current, IsCurrent, holding_over}

@@ -9,9 +9,9 @@ ghost use Rattle.nl_files.specs.Reading.{AreBytesFrom};
 
 use crate::overlay::FileBlocks;
 use nl_blocktree::Cursor;
-use nl_dat::VRead;
 use nl_layout::Root;
 use nl_types::{BLOCK_SIZE, Page};
+use nl_vstore::VRead;
 
 /// Copies bytes of a block to fill the slice. A block that isn't stored is zeros.
 fn copy_block(page: Option<&Page>, start: usize, into: &mut [u8])

@@ -10,10 +10,10 @@ ghost use Rattle.nl_files.specs.Directories.{AreBlocksOf, StandsInBlock, StartsB
 
 use crate::tree_read::Link;
 use nl_blocktree::{Cursor, get};
-use nl_dat::VRead;
 use nl_dirs::{Record, find, first_name, record_count, records};
 use nl_layout::Root;
 use nl_types::{BLOCK_SIZE, Page, VolError};
+use nl_vstore::VRead;
 use std::alloc::Global;
 
 /// Whether the first name of a page is behind a name, or the page has none.

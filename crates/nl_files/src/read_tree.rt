@@ -11,11 +11,11 @@ use crate::copying::copy_bytes;
 use crate::directory::Directory;
 use crate::tree_read::{Base, Link, TreeRead};
 use nl_blocktree::get;
-use nl_dat::VRead;
 use nl_dirs::Record;
 use nl_ifile::{inode, next_ino};
 use nl_layout::{Inode, InodeKind, Root};
 use nl_types::{InodeNumber, Page, VolError};
+use nl_vstore::VRead;
 use std::alloc::Global;
 
 /// The tree of a checkpoint, by the root of its file of inodes. Its calls answer on any pages; their contracts speak of

@@ -2,8 +2,8 @@
 ghost use Rattle.std.specs.Prelude.{◌≡◌, ℕ, ◌≤◌, List, [], ◌∷◌, ◌++◌, Option, IfOk, IfErr, OnErr};
 ghost use Rattle.nl_types.specs.Roots.{page_at, pages_of};
 ghost use Rattle.nl_layout.specs.Root.{root_of};
-ghost use Rattle.nl_dat.specs.Batches.{Changes};
-ghost use Rattle.nl_dat.specs.Stores.{content_in};
+ghost use Rattle.nl_vstore.specs.Batches.{Changes};
+ghost use Rattle.nl_vstore.specs.Stores.{content_in};
 ghost use Rattle.nl_blocktree.specs.Checkpoints.{no_changes};
 ghost use Rattle.nl_blocktree.specs.Numbering.{CanTake};
 ghost use Rattle.nl_files.specs.Became.{Became, EachMayBecome, IsCurrent, MayBecome, over_became};
@@ -17,10 +17,10 @@ use crate::current::CurrentTree;
 use crate::overlay::{Changed, Overlay, Slot};
 use crate::plan::{Shape, plan_changes};
 use nl_blocktree::put_all;
-use nl_dat::{Batch, Vstore};
 use nl_ifile::{InodeChange, inode, put_inodes};
 use nl_layout::{Inode, Root};
 use nl_types::{InodeNumber, VolError};
+use nl_vstore::{Batch, Vstore};
 use std::alloc::Global;
 
 impl CurrentTree {

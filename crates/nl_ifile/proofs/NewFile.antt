@@ -7,7 +7,7 @@ use Rattle.nl_types.specs.Roots.{Pages, Root, page_at, pages_of}
 use Rattle.nl_types.specs.RootChanges.{with_births}
 use Rattle.nl_layout.specs.declared.inode.Inode.{Inode}
 use Rattle.nl_layout.specs.Inode.{EntryFits}
-use Rattle.nl_dat.specs.Batches.{Changes}
+use Rattle.nl_vstore.specs.Batches.{Changes}
 use Rattle.nl_blocktree.specs.declared.change.BlockChange.{BlockChange}
 use Rattle.nl_blocktree.specs.Putting.{PutsAll}
 use Rattle.nl_ifile.specs.declared.change.InodeChange.{InodeChange}

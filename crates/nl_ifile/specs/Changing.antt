@@ -3,7 +3,7 @@ use Rattle.std.specs.Prelude.{◌≡◌, ℕ, ◌==◌, ◌<◌, if◌then◌els
 use Rattle.std.specs.List.{All, AllPairs}
 use Rattle.nl_types.specs.Entries.{Content}
 use Rattle.nl_types.specs.Roots.{Blocks, Root, pages_of}
-use Rattle.nl_dat.specs.Batches.{Changes}
+use Rattle.nl_vstore.specs.Batches.{Changes}
 use Rattle.nl_blocktree.specs.declared.change.BlockChange.{BlockChange}
 use Rattle.nl_blocktree.specs.Changed.{IndexesAreInRange, IndexesAscend, blocks_with}
 use Rattle.nl_blocktree.specs.Putting.{PutsAll, pages_after}

@@ -11,9 +11,9 @@ ghost use Rattle.nl_ifile.specs.Changing.{NumbersAscend, AreBlockChanges, Number
 use crate::change::InodeChange;
 use crate::read::INODES_PER_BLOCK;
 use nl_blocktree::{BlockChange, Cursor};
-use nl_dat::VRead;
 use nl_layout::{INODE_SIZE, Inode, InodeEntry, Root};
 use nl_types::{BLOCK_SIZE, Block, Page, VolError};
+use nl_vstore::VRead;
 use std::alloc::Global;
 
 /// The changes of blocks that changes of inodes are, one for each block that they touch.

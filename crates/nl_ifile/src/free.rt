@@ -8,9 +8,9 @@ ghost use Rattle.nl_ifile.specs.Free.{FindsFree, FindsFreeInBlock, change_at, in
 use crate::change::InodeChange;
 use crate::read::{INODES_PER_BLOCK, inode_in_page};
 use nl_blocktree::Cursor;
-use nl_dat::VRead;
 use nl_layout::{Inode, Root};
 use nl_types::{InodeNumber, Page};
+use nl_vstore::VRead;
 
 /// The lowest number of an ordinary inode. Those below are the root's and those of files that the volume itself has.
 pub const FIRST_INODE: u64 = 11;

@@ -2,7 +2,7 @@
 ghost use Rattle.std.specs.Prelude.{◌≡◌, ◌<◌, ◌*◌, ℕ, length, All, OnErr, IfOk, IfErr};
 ghost use Rattle.nl_types.specs.Roots.{pages_of};
 ghost use Rattle.nl_layout.specs.Root.{root_of};
-ghost use Rattle.nl_dat.specs.Stores.{content_in};
+ghost use Rattle.nl_vstore.specs.Stores.{content_in};
 ghost use Rattle.nl_blocktree.specs.Numbering.{CanTake};
 ghost use Rattle.nl_blocktree.specs.Putting.{CanChange};
 ghost use Rattle.nl_ifile.specs.Inodes.{IsInodeFile};
@@ -11,9 +11,9 @@ ghost use Rattle.nl_ifile.specs.Changing.{NumbersAscend, NumbersAreInRange, Puts
 use crate::change::InodeChange;
 use crate::changed_block::changed_blocks;
 use nl_blocktree::put_all;
-use nl_dat::{Batch, Vstore};
 use nl_layout::Root;
 use nl_types::{InodeNumber, VolError};
+use nl_vstore::{Batch, Vstore};
 use std::alloc::Global;
 
 /// The inode of the file of inodes itself, as in nilfs2.rst.

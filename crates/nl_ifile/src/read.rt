@@ -4,9 +4,9 @@ ghost use Rattle.nl_layout.specs.Root.{root_of};
 ghost use Rattle.nl_ifile.specs.Inodes.{inode_at, inode_in};
 
 use nl_blocktree::get;
-use nl_dat::VRead;
 use nl_layout::{INODE_SIZE, Inode, InodeEntry, Root};
 use nl_types::{InodeNumber, Page};
+use nl_vstore::VRead;
 
 /// How many inodes a block has.
 pub(crate) const INODES_PER_BLOCK: u64 = 8;

@@ -13,7 +13,7 @@ use Rattle.nl_types.specs.declared.segment.SegmentState.TheVariants.{Active, Cle
 use Rattle.nl_types.specs.Entries.{is_needed}
 use Rattle.nl_types.specs.Segments.{IsClosed, Segments, clean_info, is_closed}
 use Rattle.nl_types.specs.Worlds.{Reply}
-use Rattle.nl_dat.specs.Located.{needed_count}
+use Rattle.nl_vstore.specs.Located.{needed_count}
 use Rattle.nl_reclaim.specs.Cleaning.{judged, judged_by, judged_info}
 use Rattle.nl_reclaim.specs.Moves.{HasMoved, needed_now}
 use Rattle.nl_reclaim.proofs.Moves.{move-takes-first}

@@ -7,17 +7,18 @@ ghost use Rattle.nl_types.specs.Worlds as worlds;
 ghost use Rattle.nl_types.specs.Worlds.{World};
 ghost use Rattle.nl_cpfile.specs.Tables as cpfile;
 ghost use Rattle.nl_dat.specs.Described.{descs_of};
-ghost use Rattle.nl_dat.specs.Stores.{capacity, dat_entry_of, numbered_in};
-ghost use Rattle.nl_dat.specs.Summaries.{IsOfLogs, payload_row};
+ghost use Rattle.nl_vstore.specs.Stores.{capacity, numbered_in};
+ghost use Rattle.nl_dat.specs.Table.{dat_entry_of};
+ghost use Rattle.nl_vstore.specs.Summaries.{IsOfLogs, payload_row};
 ghost use Rattle.nl_core.specs.Layout.{MeansWorld};
 ghost use Rattle.nl_core.specs.Views.{counted};
 
 use nl_core::{Cpstat, Pen};
-use nl_dat::laws::summaries_are_one;
 use nl_dat::{Bdesc, DatEntry};
 use nl_device::Device;
 use nl_sufile::Sustat;
 use nl_types::{CheckpointNumber, Row, Segment, SegmentInfo, VirtualNumber, VolError};
+use nl_vstore::laws::summaries_are_one;
 use std::alloc::Global;
 
 /// What is told of a kept checkpoint, after `nilfs_get_cpinfo`. Refused by `NoCheckpoint` where it isn't kept. It takes no

@@ -4,8 +4,8 @@ use Rattle.std.proofs.lemmas.List.{get_or-set_other}
 use Rattle.nl_types.specs.declared.error.VolError.TheVariants.{Fault, Memory, NoSpace}
 use Rattle.nl_types.specs.Segments.{Segments, IsClosed, clean_info, info_of}
 use Rattle.nl_types.proofs.ClosedSegments.{closed-stay, closed-stay-at-faults}
-use Rattle.nl_segwriter.specs.Content.{Payload}
-use Rattle.nl_dat.specs.Stores.{Store, IsStore, IsFaulted, KeepsStored}
+use Rattle.nl_space.specs.Content.{Payload}
+use Rattle.nl_vstore.specs.Stores.{Store, IsStore, IsFaulted, KeepsStored}
 use Rattle.nl_reclaim.specs.Moves.{MovesKeepClosed, RefusedMovesKeepClosed, RetirementsKeepOthers}
 
 pub moves-keep-closed : MovesKeepClosed

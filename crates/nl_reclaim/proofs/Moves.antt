@@ -9,9 +9,9 @@ use Rattle.nl_types.specs.declared.segment.SegmentState.{SegmentState}
 use Rattle.nl_types.specs.declared.segment.SegmentState.TheVariants.{Dirty}
 use Rattle.nl_types.specs.Segments.{Segments, clean_info, info_of, is_closed}
 use Rattle.nl_types.specs.Entries.{is_needed}
-use Rattle.nl_dat.specs.Stores.{IsStore, IsReclaimed}
-use Rattle.nl_dat.specs.Located.{numbers_in}
-use Rattle.nl_dat.proofs.MovedNumbers.{first-moved, others-kept}
+use Rattle.nl_vstore.specs.Stores.{IsStore, IsReclaimed}
+use Rattle.nl_vstore.specs.Located.{numbers_in}
+use Rattle.nl_vstore.proofs.MovedNumbers.{first-moved, others-kept}
 use Rattle.nl_reclaim.specs.Cleaning.{judged, judged_info, judged_by, freed_by}
 use Rattle.nl_reclaim.specs.Moves.{KeptStore, needed_now, info_now, IsClosedIn, MoveTakesFirst, Moves, SegmentsComeClean, FullMoves, FullMovesComeClean}
 use Rattle.nl_reclaim.proofs.ClosedSegments.{moves-keep-closed}

@@ -8,9 +8,9 @@ use Rattle.nl_types.specs.Entries.{Content, Entry, covers, is_needed}
 use Rattle.nl_types.specs.PartialMaps.{is_one_of}
 use Rattle.nl_types.proofs.PartialMaps.{or_false}
 use Rattle.nl_types.specs.Lifetimes.{Allowed, Ledger, Reclaim}
-use Rattle.nl_dat.specs.Stores.{IsStore, Numbered, address_in, block_now, content_in, entry_now, is_inside, numbered_in}
-use Rattle.nl_dat.specs.Located.{entry_needed}
-use Rattle.nl_dat.proofs.NumberAt.{needed-member}
+use Rattle.nl_vstore.specs.Stores.{IsStore, Numbered, address_in, block_now, content_in, entry_now, is_inside, numbered_in}
+use Rattle.nl_vstore.specs.Located.{entry_needed}
+use Rattle.nl_vstore.proofs.NumberAt.{needed-member}
 use Rattle.nl_reclaim.specs.Moves.{KeptStore, needed_now}
 use Rattle.nl_reclaim.specs.Reclaims.{IsLedgerOf, RetiredSegmentsAreUnreached, RetiringIsAllowed, stood_in}
 

@@ -10,10 +10,10 @@ use Rattle.nl_types.specs.Segments.{Segments, IsUsed, is_clean}
 use Rattle.nl_types.specs.Entries.{Entry, is_needed}
 use Rattle.nl_types.specs.PartialMaps.{is_one_of}
 use Rattle.nl_types.proofs.SegmentChanges.{room_of, tidy_at}
-use Rattle.nl_dat.specs.Stores.{Numbered, Store, IsStore, address_in, block_now, content_in, entry_now, is_inside, numbered_in}
-use Rattle.nl_dat.specs.Located.{entry_needed, needs}
-use Rattle.nl_dat.proofs.NumberAt.{inside-of, needed-inside, needed-needs}
-use Rattle.nl_dat.proofs.MovedNumbers.{among-front, blocks-moved, needs-moved, stays}
+use Rattle.nl_vstore.specs.Stores.{Numbered, Store, IsStore, address_in, block_now, content_in, entry_now, is_inside, numbered_in}
+use Rattle.nl_vstore.specs.Located.{entry_needed, needs}
+use Rattle.nl_vstore.proofs.NumberAt.{inside-of, needed-inside, needed-needs}
+use Rattle.nl_vstore.proofs.MovedNumbers.{among-front, blocks-moved, needs-moved, stays}
 use Rattle.nl_reclaim.specs.Moves.{KeptStore, HasMoved, info_now, needed_now}
 use Rattle.nl_reclaim.specs.Rounds.{IsRoundEvent, AreRoundEvents, IsEmptied, IsLeftOut, IsNeeded, RoundsLeaveNothingDead, is_left_out}
 

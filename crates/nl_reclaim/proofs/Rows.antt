@@ -7,10 +7,10 @@ use Rattle.std.proofs.lemmas.Bool.Decides.{nat_tests}
 use Rattle.std.proofs.lemmas.List.{take_all, take-append-le}
 use Rattle.nl_types.specs.Entries.{Entry}
 use Rattle.nl_types.specs.declared.period.Period.{Period}
-use Rattle.nl_dat.specs.Table.{period_of}
-use Rattle.nl_dat.specs.Stores.{Store, content_in}
-use Rattle.nl_dat.specs.Located.{AreCounted, onto, picked, number_at, by_period, if_needed, needs, needed_at}
-use Rattle.nl_dat.proofs.CountedRows.{counted-next, length-onto, row-grows}
+use Rattle.nl_vstore.specs.Periods.{period_of}
+use Rattle.nl_vstore.specs.Stores.{Store, content_in}
+use Rattle.nl_vstore.specs.Located.{AreCounted, onto, picked, number_at, by_period, if_needed, needs, needed_at}
+use Rattle.nl_vstore.proofs.CountedRows.{counted-next, length-onto, row-grows}
 use Rattle.nl_reclaim.specs.Loops.{told, AreSeen}
 
 pub counted-none : (f : ℕ → Option ℕ) (b : ℕ) → AreCounted f b 0 0
@@ -47,5 +47,5 @@ pub needed-told : (s : Store) (test : Period → Bool) (b v : ℕ) (period : Opt
 needed-told s test b v period at is = ap (told test v) is ∙ by_entry (content_in s v) refl ∙ ap (if_needed (needs (by_period test) (content_in s))) at
   where
     by_entry : (o : Option Entry) → content_in s v ≡ o → told test v (option_map period_of o) ≡ if_needed (needs (by_period test) (content_in s)) (Some v)
-    by_entry None e = sym (ap (λ (o : Option Entry). cond {A = Option ℕ} (Rattle.nl_dat.specs.Located.entry_needed (by_period test) o) (Some v) None) e)
-    by_entry (Some x) e = sym (ap (λ (o : Option Entry). cond {A = Option ℕ} (Rattle.nl_dat.specs.Located.entry_needed (by_period test) o) (Some v) None) e)
+    by_entry None e = sym (ap (λ (o : Option Entry). cond {A = Option ℕ} (Rattle.nl_vstore.specs.Located.entry_needed (by_period test) o) (Some v) None) e)
+    by_entry (Some x) e = sym (ap (λ (o : Option Entry). cond {A = Option ℕ} (Rattle.nl_vstore.specs.Located.entry_needed (by_period test) o) (Some v) None) e)

@@ -7,8 +7,8 @@ use Rattle.nl_types.specs.declared.segment.SegmentState.{SegmentState}
 use Rattle.nl_types.specs.declared.segment.SegmentState.TheVariants.{Clean, Dirty, Active, Error}
 use Rattle.nl_types.specs.Segments.{Segments}
 use Rattle.nl_types.specs.Entries.{Entry}
-use Rattle.nl_dat.specs.Stores.{Store, IsMoved, IsMoveRefused}
-use Rattle.nl_dat.specs.Located.{numbers_in, needed_in, needed_count}
+use Rattle.nl_vstore.specs.Stores.{Store, IsMoved, IsMoveRefused}
+use Rattle.nl_vstore.specs.Located.{numbers_in, needed_in, needed_count}
 use Rattle.nl_reclaim.specs.declared.moving.MoveCount.{MoveCount}
 
 -- ---- which segments

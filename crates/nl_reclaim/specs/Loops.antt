@@ -1,7 +1,7 @@
 -- What the loops over the blocks of a segment keep.
 use Rattle.std.specs.Prelude.{◌≡◌, ℕ, if◌then◌else◌, Bool, List, take, Option, None, Some}
 use Rattle.nl_types.specs.declared.period.Period.{Period}
-use Rattle.nl_dat.specs.Located.{AreCounted, picked}
+use Rattle.nl_vstore.specs.Located.{AreCounted, picked}
 
 -- the number, where its period is there and passes the test
 abbrev pub told : (Period → Bool) → ℕ → Option Period → Option ℕ

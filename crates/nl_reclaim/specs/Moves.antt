@@ -5,8 +5,8 @@ use Rattle.nl_types.specs.declared.segment.SegmentInfo.{SegmentInfo}
 use Rattle.nl_types.specs.declared.segment.SegmentState.TheVariants.{Dirty}
 use Rattle.nl_types.specs.Segments.{IsClosed, clean_info, info_of}
 use Rattle.nl_types.specs.Entries.{Entry, is_needed}
-use Rattle.nl_dat.specs.Stores.{Store, IsStore, IsMoved, IsMoveRefused, IsReclaimed, content_in}
-use Rattle.nl_dat.specs.Located.{numbers_in, needed_in}
+use Rattle.nl_vstore.specs.Stores.{Store, IsStore, IsMoved, IsMoveRefused, IsReclaimed, content_in}
+use Rattle.nl_vstore.specs.Located.{numbers_in, needed_in}
 use Rattle.nl_reclaim.specs.Cleaning.{retired}
 
 -- a store, and the numbers of the kept checkpoints: a volume, as its cleaner sees it

@@ -3,7 +3,7 @@ use Rattle.std.specs.Prelude.{◌≡◌, ℕ, if◌then◌else◌, Bool, true, f
 use Rattle.nl_types.specs.Entries.{Place}
 use Rattle.nl_types.specs.Lifetimes.{Allowed, HasExactLifetimes, Ledger, Numbers, Reclaim}
 use Rattle.nl_types.specs.PartialMaps.{is_one_of}
-use Rattle.nl_dat.specs.Stores.{Store, IsStore, IsReclaimed, address_in, content_in, is_inside}
+use Rattle.nl_vstore.specs.Stores.{Store, IsStore, IsReclaimed, address_in, content_in, is_inside}
 use Rattle.nl_reclaim.specs.Moves.{KeptStore, needed_now}
 
 -- a ledger over this store, in which no other checkpoints are kept

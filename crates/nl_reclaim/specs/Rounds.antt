@@ -4,8 +4,8 @@ use Rattle.nl_types.specs.declared.segment.SegmentState.{SegmentState}
 use Rattle.nl_types.specs.declared.segment.SegmentState.TheVariants.{Clean, Dirty, Active, Error}
 use Rattle.nl_types.specs.PartialMaps.{is_one_of}
 use Rattle.nl_types.specs.Entries.{is_needed}
-use Rattle.nl_dat.specs.Stores.{IsStore, IsReclaimed, address_in, content_in, is_inside}
-use Rattle.nl_dat.specs.Located.{needs}
+use Rattle.nl_vstore.specs.Stores.{IsStore, IsReclaimed, address_in, content_in, is_inside}
+use Rattle.nl_vstore.specs.Located.{needs}
 use Rattle.nl_reclaim.specs.Moves.{KeptStore, KeepsNeeds, HasMoved, info_now}
 
 abbrev pub IsNeeded : KeptStore → ℕ → Type 0

@@ -1,14 +1,14 @@
 //! Needed pages are moved out of a segment.
 ghost use Rattle.std.specs.Prelude.{◌≡◌, ◌<◌, ◌≤◌, IfOk, IfErr, MatchResult, length, take};
 ghost use Rattle.nl_types.specs.Segments.{IsClosed};
-ghost use Rattle.nl_dat.specs.Located.{by_period, needed_in, needed_count};
-ghost use Rattle.nl_dat.specs.Stores.{IsMoved, IsMoveRefused};
+ghost use Rattle.nl_vstore.specs.Located.{by_period, needed_in, needed_count};
+ghost use Rattle.nl_vstore.specs.Stores.{IsMoved, IsMoveRefused};
 ghost use Rattle.nl_reclaim.specs.Cleaning.{HasMovedFirst, HasMovedNone, split};
 
 use crate::judging::judge;
 use crate::needed::{Keeping, first_needed};
-use nl_dat::Vstore;
 use nl_types::{CheckpointNumber, Segment, VolError};
+use nl_vstore::Vstore;
 use std::alloc::Global;
 
 /// How many pages a move took out of its segment, and how many needed ones are left in it.

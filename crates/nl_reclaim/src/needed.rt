@@ -1,12 +1,12 @@
 //! The needed numbers of a segment, block by block.
 ghost use Rattle.std.specs.Prelude.{◌≡◌, ℕ, ◌+◌, ◌*◌, ◌<◌, ◌^◌, ◌++◌, Bool, if◌then◌else◌, nat_lt, length, take, [], IfOk};
-ghost use Rattle.nl_dat.specs.Located.{by_period, needed_at, needed_in, needed_count, onto};
-ghost use Rattle.nl_dat.specs.Stores.{block_in};
+ghost use Rattle.nl_vstore.specs.Located.{by_period, needed_at, needed_in, needed_count, onto};
+ghost use Rattle.nl_vstore.specs.Stores.{block_in};
 ghost use Rattle.nl_types.specs.declared.period.Period.{Period};
 ghost use Rattle.nl_reclaim.specs.Loops.{told};
 
-use nl_dat::Vstore;
 use nl_types::{Period, Segment, VirtualNumber};
+use nl_vstore::Vstore;
 use std::alloc::{AllocError, Global};
 
 /// Which numbers are needed, told by their periods.

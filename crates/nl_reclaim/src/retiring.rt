@@ -1,13 +1,13 @@
 //! Segments are emptied, once nothing in them is needed.
 ghost use Rattle.std.specs.Prelude.{◌≡◌, ◌<◌, ◌≤◌, IfOk, OnErr, length};
-ghost use Rattle.nl_dat.specs.Located.{by_period};
-ghost use Rattle.nl_dat.specs.Stores.{IsStore, IsReclaimed};
+ghost use Rattle.nl_vstore.specs.Located.{by_period};
+ghost use Rattle.nl_vstore.specs.Stores.{IsStore, IsReclaimed};
 ghost use Rattle.nl_reclaim.specs.Cleaning.{freed, retired};
 
 use crate::judging::judge;
 use crate::needed::{Keeping, count_needed};
-use nl_dat::Vstore;
 use nl_types::{Segment, VolError};
+use nl_vstore::Vstore;
 
 /// Empties a segment in which no number is needed.
 fn free_unneeded<V: Vstore, K: Keeping>(

@@ -1,18 +1,17 @@
 -- From staged logs to what an append leaves.
-use Rattle.std.proofs.Common.{◌≡◌, ℕ, ◌+◌, ◌*◌, ◌≤◌, List, [], ◌∷◌, ◌++◌, length, map, take, drop, Bool, refl, ap, sym, ◌∙◌, arith, subst}
-use Rattle.std.proofs.Math.Nat.{mul-le-mul_right}
+use Rattle.std.proofs.Common.{◌≡◌, ℕ, ◌+◌, List, [], ◌∷◌, ◌++◌, length, map, take, drop, Bool, refl, ap, sym, ◌∙◌, arith, subst}
 use Rattle.std.proofs.lemmas.List.{length-map, map-append, length-take-le, take-append-drop, length-drop}
 use Rattle.std.specs.List.{AllByRecursion}
 use Rattle.nl_types.specs.declared.segment.Log.{Log}
-use Rattle.nl_types.specs.Segments.{Segments, AreTidy, total_blocks}
-use Rattle.nl_types.specs.Placing.{IsLog, AreNextLogs, LogsFit, first_block, addresses, payload_count, row_of, with_log, with_logs}
-use Rattle.nl_types.proofs.NextLogs.{placed, length-with_log}
+use Rattle.nl_types.specs.Segments.{Segments, AreTidy}
+use Rattle.nl_types.specs.Placing.{IsLog, AreNextLogs, LogsFit, first_block, addresses, payload_count, row_of, with_logs}
+use Rattle.nl_types.proofs.NextLogs.{placed}
 use Rattle.nl_types.proofs.UsedParts.{are_unused, payload_used}
 use Rattle.nl_device.specs.Pages.{DevicePages}
 use Rattle.nl_segwriter.specs.declared.staging.Staged.{Staged}
-use Rattle.nl_segwriter.specs.Content.{SpaceContent, Held, Payload, payload_page, StandAt}
-use Rattle.nl_segwriter.specs.Logs.{WholeLog, StandsFrom}
-use Rattle.nl_segwriter.specs.Appended.{StandInLogs, KeepsOtherBlocks, IsAppended, IsBrokenOff}
+use Rattle.nl_space.specs.Content.{SpaceContent, Held, Payload, payload_page, StandAt}
+use Rattle.nl_space.specs.Logs.{WholeLog, StandsFrom}
+use Rattle.nl_space.specs.Appended.{StandInLogs, KeepsOtherBlocks, IsAppended, IsBrokenOff}
 use Rattle.nl_segwriter.specs.Staging.{IsReady, AreStaged, AreSized, logs_of, whole_of}
 use Rattle.nl_segwriter.specs.Writing.{LogsStand, BreaksOff}
 use Rattle.nl_segwriter.proofs.Rows.{stand_row, stand-append}
@@ -20,15 +19,6 @@ use Rattle.nl_segwriter.proofs.Rows.{stand_row, stand-append}
 pub sized : (blocks : ℕ) (logs : List Log) → AllByRecursion (IsLog blocks) logs → AreSized logs
 sized blocks [] h = tt
 sized blocks (log ∷ logs) h = ((h.0.some, h.0.most), sized blocks logs h.1)
-
--- the numbers of logs are numbers of the device
-pub logs_inside : (logs : List Log) (s : Segments) (stamp limit : ℕ) → AreNextLogs s stamp logs → total_blocks s ≤ limit → AllByRecursion (λ log. first_block s.blocks log + 1 + log.count ≤ limit) logs
-logs_inside [] s stamp limit next most = tt
-logs_inside (log ∷ logs) s stamp limit next most =
-    let m : (log.segment + 1) * s.blocks ≤ length s.each * s.blocks = mul-le-mul_right s.blocks (let w = next.0.segment in omega (arith, w)) in
-    let inside = next.0.is_log.inside in
-    let size : total_blocks (with_log s log stamp) ≡ total_blocks s = ap (λ (n : ℕ). n * s.blocks) (length-with_log s log stamp) in
-    (omega (arith, m, inside, most), logs_inside logs (with_log s log stamp) stamp limit next.1 (omega (arith, size, most)))
 
 -- ---- what was staged
 

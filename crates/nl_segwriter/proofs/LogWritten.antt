@@ -8,8 +8,8 @@ use Rattle.nl_types.proofs.UsedParts.{outside_row}
 use Rattle.nl_device.specs.Pages.{DevicePages}
 use Rattle.nl_layout.specs.Summary.{summary_bytes}
 use Rattle.nl_segwriter.specs.declared.staging.Staged.{Staged}
-use Rattle.nl_segwriter.specs.Content.{SpaceContent, Held, payload_page, SameOutside, StandInRow, HoldsOnlyUsed}
-use Rattle.nl_segwriter.specs.Logs.{StandsFrom, contents_of}
+use Rattle.nl_space.specs.Content.{SpaceContent, Held, payload_page, SameOutside, StandInRow, HoldsOnlyUsed}
+use Rattle.nl_space.specs.Logs.{StandsFrom, contents_of}
 use Rattle.nl_segwriter.specs.Staging.{IsReady, whole_of}
 use Rattle.nl_segwriter.specs.Writing.{HasPut, HasTried}
 

@@ -4,7 +4,7 @@ use Rattle.std.proofs.Common.{inl, inr}
 use Rattle.std.proofs.lemmas.Bool.{cases_eq}
 use Rattle.std.specs.Prelude.{slice_get}
 use Rattle.nl_types.specs.Placing.{row_of}
-use Rattle.nl_segwriter.specs.Content.{SameOutside, StandAt, StandInRow}
+use Rattle.nl_space.specs.Content.{SameOutside, StandAt, StandInRow}
 
 module _ {V : Type 0} where
   -- a put at the next number leaves what is outside one more number as it was

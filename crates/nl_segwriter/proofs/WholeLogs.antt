@@ -15,31 +15,10 @@ use Rattle.nl_types.specs.Placing.{end_of, first_block, IsNextLog, with_log}
 use Rattle.nl_types.proofs.SegmentChanges.{length-none_active, info_same, used_same, used_other, room_of}
 use Rattle.nl_types.proofs.UsedParts.{outside_row, outside_segment, used_row, stays_with_log, stays_with_error}
 use Rattle.nl_device.specs.Pages.{DevicePages, ClearsBlocks}
-use Rattle.nl_segwriter.specs.Content.{SpaceContent, Held, payload_page, SameOutside, IsSameAt, HoldsOnlyUsed, IsEmptied, IsFreed}
-use Rattle.nl_segwriter.specs.Logs.{WholeLog, StandsFrom, FillUpTo, IsFilledBy, AreWholeLogs}
+use Rattle.nl_space.specs.Content.{SpaceContent, Held, payload_page, SameOutside, IsSameAt, HoldsOnlyUsed, IsEmptied, IsFreed}
+use Rattle.nl_space.specs.Logs.{WholeLog, StandsFrom, FillUpTo, IsFilledBy, AreWholeLogs}
+use Rattle.nl_space.proofs.KeptLogs.{fill_kept, filled_same}
 use Rattle.nl_segwriter.specs.Writing.{SameOutsideLog, held_in}
-
--- a log stays where its blocks do
-pub stands_kept : (b : ℕ) (log : WholeLog) (old new : SpaceContent) → ((c : ℕ) → b ≤ c → c < b + 1 + length log.payload → IsSameAt old new c) → StandsFrom b log old.held old.stored → StandsFrom b log new.held new.stored
-stands_kept b log old new same s = record {
-  fits = s.fits;
-  summary = (same b (omega arith) (omega arith)).1 ∙ s.summary;
-  no_payload = (same b (omega arith) (omega arith)).0 ∙ s.no_payload;
-  payload = λ j h. (same (b + 1 + j) (omega arith) (omega (arith, h))).0 ∙ s.payload j h;
-  pages = λ j h. (same (b + 1 + j) (omega arith) (let l = length-map log.payload payload_page in omega (arith, h, l))).1 ∙ s.pages j h;
-}
-
-fill_up : (b end : ℕ) (logs : List WholeLog) (held : Held) (stored : DevicePages) → FillUpTo b end logs held stored → b ≤ end
-fill_up b end [] held stored h = omega (arith, h)
-fill_up b end (log ∷ logs) held stored h = let rest = fill_up (b + 1 + length log.payload) end logs held stored h.1 in omega (arith, rest)
-
-fill_kept : (b end : ℕ) (logs : List WholeLog) (old new : SpaceContent) → ((c : ℕ) → b ≤ c → c < end → IsSameAt old new c) → FillUpTo b end logs old.held old.stored → FillUpTo b end logs new.held new.stored
-fill_kept b end [] old new same h = h
-fill_kept b end (log ∷ logs) old new same h =
-    let more = fill_up (b + 1 + length log.payload) end logs old.held old.stored h.1 in (
-      stands_kept b log old new (λ c low high. same c low (omega (arith, more, high))) h.0,
-      fill_kept (b + 1 + length log.payload) end logs old new (λ c low high. same c (omega (arith, low)) high) h.1,
-    )
 
 -- one more log behind the others
 fill_push : (b end : ℕ) (logs : List WholeLog) (log : WholeLog) (held : Held) (stored : DevicePages) → FillUpTo b end logs held stored → StandsFrom end log held stored
@@ -47,17 +26,6 @@ fill_push : (b end : ℕ) (logs : List WholeLog) (log : WholeLog) (held : Held) 
 fill_push b end [] log held stored h s =
     (subst (λ (k : ℕ). StandsFrom k log held stored) (sym h) s, ap (λ (k : ℕ). k + 1 + length log.payload) h)
 fill_push b end (first ∷ logs) log held stored h s = (h.0, fill_push (b + 1 + length first.payload) end logs log held stored h.1 s)
-
--- a segment whose blocks and used part stay
-pub filled_same : (old new : SpaceContent) (i : ℕ) → new.segments.blocks ≡ old.segments.blocks → (info_of new.segments.each i).used ≡ (info_of old.segments.each i).used
-    → ((c : ℕ) → IsUsed old.segments c → IsSameAt old new c) → (logs : List WholeLog) × IsFilledBy old i logs → (logs : List WholeLog) × IsFilledBy new i logs
-filled_same old new i size used same (logs, h) =
-    let start : ℕ = i * old.segments.blocks in
-    let end : ℕ = start + (info_of old.segments.each i).used in
-    let kept : FillUpTo start end logs new.held new.stored = fill_kept start end logs old new
-    (λ c low high. same c (record { segment = i; block = c - start }, omega (arith, low), omega (arith, low, high))) h in
-    let at : start ≡ i * new.segments.blocks = ap (λ (n : ℕ). i * n) (sym size) in
-    (logs, rw (size, used) kept)
 
 -- a page of whole logs
 fill_has : (b end c : ℕ) (logs : List WholeLog) (held : Held) (stored : DevicePages) → FillUpTo b end logs held stored → b ≤ c → c < end → (page : List ℕ) × (stored c ≡ Some page)

@@ -3,8 +3,8 @@ use Rattle.std.specs.Prelude.{◌≡◌, ℕ, ◌≤◌, List, [], ◌∷◌, le
 use Rattle.nl_types.specs.declared.segment.Log.{Log}
 use Rattle.nl_layout.specs.Summary.{SummaryFits, summary_bytes}
 use Rattle.nl_segwriter.specs.declared.staging.Staged.{Staged}
-use Rattle.nl_segwriter.specs.Content.{Payload, payload_page}
-use Rattle.nl_segwriter.specs.Logs.{WholeLog, contents_of}
+use Rattle.nl_space.specs.Content.{Payload, payload_page}
+use Rattle.nl_space.specs.Logs.{WholeLog, contents_of}
 
 -- the log that is to stand
 abbrev pub whole_of : Staged → WholeLog

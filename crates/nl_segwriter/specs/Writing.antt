@@ -5,9 +5,9 @@ use Rattle.nl_types.specs.Segments.{Segments, with_active, with_error}
 use Rattle.nl_types.specs.Placing.{first_block, with_logs}
 use Rattle.nl_device.specs.Pages.{DevicePages}
 use Rattle.nl_segwriter.specs.declared.staging.Staged.{Staged}
-use Rattle.nl_segwriter.specs.Content.{Payload, Held, SpaceContent, SameOutside, StandInRow}
-use Rattle.nl_segwriter.specs.Logs.{StandsFrom}
-use Rattle.nl_segwriter.specs.Appended.{KeepsOtherBlocks}
+use Rattle.nl_space.specs.Content.{Payload, Held, SpaceContent, SameOutside, StandInRow}
+use Rattle.nl_space.specs.Logs.{StandsFrom}
+use Rattle.nl_space.specs.Appended.{KeepsOtherBlocks}
 use Rattle.nl_segwriter.specs.Staging.{logs_of, whole_of}
 
 -- what a table of blocks has at a number

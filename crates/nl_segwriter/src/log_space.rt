@@ -5,18 +5,18 @@ ghost use Rattle.nl_types.specs.Segments.{HaveLogs, StaysUsed, active_place, inf
 ghost use Rattle.nl_types.specs.Placing.{IsNextLog, AreNextLogs, first_block, with_log, with_logs};
 ghost use Rattle.std.proofs.Props.{props};
 ghost use Rattle.nl_sufile.specs.Table.{IsSegTable};
-ghost use Rattle.nl_segwriter.specs.Content.{HoldsOnlyUsed, KeepsUsed, new_content};
-ghost use Rattle.nl_segwriter.specs.Logs.{AreWholeLogs, StandsFrom};
-ghost use Rattle.nl_segwriter.specs.Appended.{KeepsOtherBlocks};
+ghost use Rattle.nl_space.specs.Content.{HoldsOnlyUsed, KeepsUsed, new_content};
+ghost use Rattle.nl_space.specs.Logs.{AreWholeLogs, StandsFrom};
+ghost use Rattle.nl_space.specs.Appended.{KeepsOtherBlocks};
 ghost use Rattle.nl_segwriter.specs.Staging.{IsReady, logs_of, whole_of};
 ghost use Rattle.nl_segwriter.specs.Writing.{held_in, space_content, SameOutsideLog, MayBeTaken, StagedStands, LogsStand, BreaksOff};
 
 use crate::numbers::numbers_of;
-use crate::payload::{Payload, drop_row, hold_row, no_payload};
+use crate::payload::{drop_row, hold_row, no_payload};
 use crate::put::put_row;
-use crate::space::Space;
 use crate::staging::{Staged, stage};
 use nl_device::{Device, DeviceError, Fault};
+use nl_space::{Payload, Space};
 use nl_sufile::SegTable;
 use nl_types::{BlockNumber, CheckpointNumber, Geometry, Items, Page, Position, Segment, VolError};
 use std::alloc::Global;

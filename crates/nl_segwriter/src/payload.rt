@@ -1,14 +1,11 @@
 //! Payload in memory, by block number.
 ghost use Rattle.std.specs.Prelude.{◌≡◌, ◌+◌, ◌≤◌, length, vec_len, replicate, IfOk, None};
-ghost use Rattle.nl_segwriter.specs.Content.{StandInRow, SameOutside, IsEmptied};
+ghost use Rattle.nl_space.specs.Content.{StandInRow, SameOutside, IsEmptied};
 ghost use Rattle.nl_segwriter.specs.Writing.{held_in};
 
-use nl_layout::Tag;
-use nl_types::{Items, Page};
+use nl_space::Payload;
+use nl_types::Items;
 use std::alloc::{AllocError, Global};
-
-/// A payload block: what its log's summary says of it, and its page.
-pub type Payload = (Tag, Page);
 
 /// A table of so many blocks without payload.
 pub fn no_payload(alloc: Global, total: u32) -> Result<Items<Option<Payload>>, AllocError>

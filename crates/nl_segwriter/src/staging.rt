@@ -2,10 +2,10 @@
 ghost use Rattle.std.specs.Prelude.{◌≡◌, ◌≤◌, ◌∷◌, length, map, IfOk};
 ghost use Rattle.nl_types.specs.Placing.{payload_count};
 ghost use Rattle.nl_layout.specs.Summary.{Spells, SummaryFits, summary_bytes};
-ghost use Rattle.nl_segwriter.specs.Content.{payload_tag, payload_page};
+ghost use Rattle.nl_space.specs.Content.{payload_tag, payload_page};
 
-use crate::payload::Payload;
 use nl_layout::{Summary, Tag};
+use nl_space::Payload;
 use nl_types::{BLOCK_SIZE, Block, CheckpointNumber, Items, Log, Page};
 use std::alloc::{AllocError, Global};
 

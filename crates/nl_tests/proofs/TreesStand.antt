@@ -9,9 +9,9 @@ use Rattle.nl_types.specs.Entries.{Content, written}
 use Rattle.nl_types.specs.Lifetimes.{Ledger, blank}
 use Rattle.nl_types.specs.Roots.{Root, pages_of}
 use Rattle.nl_types.specs.Trees.{Tree}
-use Rattle.nl_segwriter.specs.Content.{SpaceContent}
-use Rattle.nl_dat.specs.Batches.{Changes, Fits}
-use Rattle.nl_dat.specs.Stores.{IsWriteRefused, Numbered, Store, content_in, entry_now, new_store}
+use Rattle.nl_space.specs.Content.{SpaceContent}
+use Rattle.nl_vstore.specs.Batches.{Changes, Fits}
+use Rattle.nl_vstore.specs.Stores.{IsWriteRefused, Numbered, Store, content_in, entry_now, new_store}
 use Rattle.nl_files.specs.Held.{Holding, IsCheckpointRoot, IsHolding}
 use Rattle.nl_files.specs.Became.{Became, Current, IsCurrent, holding_over}
 use Rattle.nl_files.specs.CheckpointTrees.{HoldsTree}

@@ -1,7 +1,8 @@
 //! Logs in 8 segments, mostly of 4 blocks: where appends go, what they leave when they are refused, and what the device has.
 use nl_device::{Failing, FaultyDevice, MemDevice};
 use nl_layout::{Level, Summary, Tag};
-use nl_segwriter::{LogSpace, Payload, Space};
+use nl_segwriter::LogSpace;
+use nl_space::{Payload, Space};
 use nl_sufile::SegTable;
 use nl_types::{
     BLOCK_SIZE, Block, BlockNumber, CheckpointNumber, Geometry, InodeNumber, Page, Segment,

@@ -1,17 +1,18 @@
 //! Virtual block numbers over logs in 8 segments of 4 blocks: their periods and blocks after checkpoints, moves and reclaims,
 //! and what a refusal leaves.
 ghost use Rattle.std.specs.Prelude.{◌≡◌, OnOk, IfOk, IfSome, true};
-ghost use Rattle.nl_dat.specs.Batches.{Fits, is_live};
-ghost use Rattle.nl_dat.specs.Stores.{AreInside, capacity, content_in, is_inside, address_in};
+ghost use Rattle.nl_vstore.specs.Batches.{Fits, is_live};
+ghost use Rattle.nl_vstore.specs.Stores.{AreInside, capacity, content_in, is_inside, address_in};
 
 use crate::logs::{NONE_FAILS, Shape, are_segments, space};
-use nl_dat::{Batch, Dat, DatEntry, VRead, Vstore, next_number};
+use nl_dat::{Dat, DatEntry};
 use nl_layout::{Level, Tag};
-use nl_segwriter::Space;
+use nl_space::Space;
 use nl_types::{
     BLOCK_SIZE, Block, BlockNumber, CheckpointNumber, InodeNumber, Page, Segment, SegmentState,
     VirtualNumber, VolError,
 };
+use nl_vstore::{Batch, VRead, Vstore, next_number};
 use std::alloc::Global;
 use std::test::Fail;
 

@@ -4,7 +4,7 @@ use Rattle.std.proofs.lemmas.List.{get_or-map, length-map}
 use Rattle.nl_types.specs.PartialMaps.{put_each}
 use Rattle.nl_types.specs.Entries.{number_of}
 use Rattle.nl_layout.specs.declared.tag.Tag.{Tag}
-use Rattle.nl_dat.specs.Batches.{birth_of_item, births_of}
+use Rattle.nl_vstore.specs.Batches.{birth_of_item, births_of}
 use Rattle.nl_dat.specs.Table.{entry_in, new_entry}
 use Rattle.nl_dat.proofs.Tables.{put_each_step, of_read}
 use Rattle.nl_dat.proofs.entries.enter_births.Goals as goal

@@ -1,4 +1,4 @@
-use Rattle.nl_dat.specs.Located.{AreCounted, in_row}
+use Rattle.nl_vstore.specs.Located.{AreCounted, in_row}
 use Rattle.nl_dat.proofs.moving.count_payload.Given as goal
 
 abbrev pub invariant-loop-position : goal.invariant-loop-position

@@ -1,5 +1,5 @@
 use Rattle.std.proofs.Common.{◌≡◌, ◌≤◌, map, take, Some}
-use Rattle.nl_dat.specs.Batches.{births_of}
+use Rattle.nl_vstore.specs.Batches.{births_of}
 use Rattle.nl_dat.specs.Table.{entry_in, stored_at}
 use Rattle.nl_dat.specs.Inside.{births_in}
 use Rattle.nl_dat.proofs.moving.load_all.Given as goal

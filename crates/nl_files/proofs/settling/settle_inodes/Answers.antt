@@ -3,7 +3,7 @@ use Rattle.std.proofs.lemmas.Result.{IfOk-from_err}
 use Rattle.nl_types.specs.declared.error.VolError.TheVariants.{Memory}
 use Rattle.nl_types.specs.Roots.{pages_of}
 use Rattle.nl_layout.specs.Root.{root_of}
-use Rattle.nl_dat.specs.Stores.{content_in}
+use Rattle.nl_vstore.specs.Stores.{content_in}
 use Rattle.nl_files.specs.Became.{Became, EachMayBecome}
 use Rattle.nl_files.specs.Held.{roots_at}
 use Rattle.nl_files.specs.Overlays.{became_in, slot_shows}

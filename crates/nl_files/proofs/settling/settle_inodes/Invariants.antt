@@ -1,6 +1,6 @@
 use Rattle.nl_types.specs.Roots.{pages_of}
 use Rattle.nl_layout.specs.Root.{root_of}
-use Rattle.nl_dat.specs.Stores.{content_in}
+use Rattle.nl_vstore.specs.Stores.{content_in}
 use Rattle.nl_blocktree.specs.Numbering.{CanTake}
 use Rattle.nl_files.specs.Became.{EachMayBecome}
 use Rattle.nl_files.specs.Held.{Holding, IsHolding, Stores, roots_at}

@@ -5,7 +5,7 @@ use Rattle.std.proofs.lemmas.Result.{IfOk-from_err, IfOk-weaker}
 use Rattle.nl_types.specs.Roots.{Pages, pages_of}
 use Rattle.nl_layout.specs.Root.{root_of}
 use Rattle.nl_layout.specs.declared.inode.Inode.{Inode}
-use Rattle.nl_dat.specs.Stores.{content_in}
+use Rattle.nl_vstore.specs.Stores.{content_in}
 use Rattle.nl_ifile.specs.Inodes.{inode_at}
 use Rattle.nl_files.specs.Became.{Became, EachMayBecome}
 use Rattle.nl_files.specs.Held.{IsRootInUse, root_in, roots_at}

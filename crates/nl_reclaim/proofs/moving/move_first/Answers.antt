@@ -1,5 +1,5 @@
 use Rattle.std.proofs.Common.{◌∙◌}
-use Rattle.nl_dat.specs.Located.{by_period}
+use Rattle.nl_vstore.specs.Located.{by_period}
 use Rattle.nl_reclaim.proofs.Calls.{front-inside}
 use Rattle.nl_reclaim.proofs.moving.move_first.Goals as goal
 

@@ -1,5 +1,5 @@
 use Rattle.std.proofs.Common.{◌*◌}
-use Rattle.nl_dat.specs.Located.{AreCounted, by_period, needed_at}
+use Rattle.nl_vstore.specs.Located.{AreCounted, by_period, needed_at}
 use Rattle.nl_reclaim.proofs.needed.count_needed.Given as goal
 
 abbrev pub invariant-loop-position : goal.invariant-loop-position

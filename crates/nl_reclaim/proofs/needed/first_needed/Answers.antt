@@ -1,5 +1,5 @@
 use Rattle.std.proofs.Common.{◌*◌}
-use Rattle.nl_dat.specs.Located.{by_period, needed_at}
+use Rattle.nl_vstore.specs.Located.{by_period, needed_at}
 use Rattle.nl_reclaim.proofs.Rows.{seen-next}
 use Rattle.nl_reclaim.proofs.needed.first_needed.Goals as goal
 

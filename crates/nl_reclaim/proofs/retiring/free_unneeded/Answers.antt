@@ -1,4 +1,4 @@
-use Rattle.nl_dat.specs.Located.{by_period}
+use Rattle.nl_vstore.specs.Located.{by_period}
 use Rattle.nl_reclaim.proofs.Calls.{freed-is}
 use Rattle.nl_reclaim.proofs.retiring.free_unneeded.Goals as goal
 

@@ -1,5 +1,5 @@
-use Rattle.nl_dat.specs.Batches.{Fits}
-use Rattle.nl_dat.specs.Stores.{capacity, content_in}
+use Rattle.nl_vstore.specs.Batches.{Fits}
+use Rattle.nl_vstore.specs.Stores.{capacity, content_in}
 use Rattle.nl_tests.proofs.numbers.batch_of.Given as goal
 
 abbrev pub invariant-loop-byte : goal.invariant-loop-byte

@@ -1,4 +1,4 @@
-use Rattle.nl_dat.specs.Stores.{AreInside}
+use Rattle.nl_vstore.specs.Stores.{AreInside}
 use Rattle.nl_tests.proofs.numbers.numbers_at.Given as goal
 
 -- each number found so far has its page in the segment

@@ -32,15 +32,18 @@ returns-clause-removed c =
     let judged = c.in_ok-range.ensures.judged (λ same. cc)
     ∙ ap (λ (r : Roomy). range_removal c.args.first c.args.last r.lists.table.latest.number (tables.rows r.lists.table)) c.self.view_is in
     record {
-      stays = range-stays old.table.latest.number c.args.first c.args.last (tables.rows old.table) c.in_ok-range.range judged;
-      lists = ap (λ (t : tables.Table). record (lists_of c.self.inside) { table = t }) c.in_ok-range.ensures.removed
-          ∙ ap (λ (r : Roomy). without_checkpoints c.in_ok-range.range.removed r.lists) c.self.view_is;
+      judged = sym judged;
+      taken = record {
+        stays = range-stays old.table.latest.number c.args.first c.args.last (tables.rows old.table) c.in_ok-range.range judged;
+        lists = ap (λ (t : tables.Table). record (lists_of c.self.inside) { table = t }) c.in_ok-range.ensures.removed
+            ∙ ap (λ (r : Roomy). without_checkpoints c.in_ok-range.range.removed r.lists) c.self.view_is;
+      };
     }
 
 pub returns-clause-follows : goal.returns-clause-follows
 returns-clause-follows c = λ pages.
     let old = c.args.self.now.lists in
     let range = c.in_ok-range.range in
-    subst (λ (l : Lists). FollowsOver pages old (RemoveRange c.args.first c.args.last) (Ok (answer.Removed range)) l) (sym (returns-clause-removed c).lists)
+    subst (λ (l : Lists). FollowsOver pages old (RemoveRange c.args.first c.args.last) (Ok (answer.Removed range)) l) (sym (returns-clause-removed c).taken.lists)
     (range_removal-follows pages old c.args.first c.args.last range (c.in_ok-range.ensures.judged (λ same. cc)
     ∙ ap (λ (r : Roomy). range_removal c.args.first c.args.last r.lists.table.latest.number (tables.rows r.lists.table)) c.self.view_is))

@@ -1,37 +1,15 @@
-use Rattle.std.proofs.Common.{◌≡◌, ◌∙◌, ap, refl, rules, subst, sym}
-use Rattle.std.proofs.lemmas.Fn.{filter_same}
-use Rattle.std.specs.List.{filter}
+use Rattle.std.proofs.Common.{◌∙◌, ap, sym}
 use Rattle.nl_types.specs.declared.row.Range.{Range}
-use Rattle.nl_cpfile.specs.Inside.{table_of}
-use Rattle.nl_types.specs.Rows.{between, is_among, judged}
-use Rattle.nl_cpfile.specs.Tables.{IsTable, Roomy, is_kept_without, rows, without}
-use Rattle.nl_cpfile.proofs.Ranges.{latest-not_removed, stays_in, stays-removed}
-use Rattle.nl_cpfile.proofs.Rising.{filter-IsTable, same_table}
-use Rattle.nl_cpfile.proofs.ToldChanges.{rows-without}
+use Rattle.nl_types.specs.Rows as told
+use Rattle.nl_cpfile.specs.Tables.{rows, without}
 use Rattle.nl_cpfile.proofs.table.Checkpoints.remove_range.Goals as goal
-
--- what is left
-left : (c : goal.After-retain) → c.retain.new.self.items ≡ filter (stays_in c.args.first c.args.last) c.self.inside.earlier.items
-left c = filter_same _ (stays_in c.args.first c.args.last) _ (λ x b f' k. search rules) _ _ c.retain.ensures.filtered
-
-pub invariant_of-self : goal.invariant_of-self
-invariant_of-self c =
-    subst IsTable (sym (same_table (left c) refl)) (filter-IsTable (stays_in c.args.first c.args.last) (table_of c.self.inside) c.self.invariant)
 
 pub returns-clause-removed : goal.returns-clause-removed
 returns-clause-removed c =
-    let t = table_of c.self.inside in
-    let range : c.in_ok-range.range ≡ judged t.latest.number (between c.args.first c.args.last (rows t)) =
-    c.in_ok-range.ensures.found ∙ ap (λ (r : Roomy). judged r.table.latest.number (between c.args.first c.args.last (rows r.table))) (sym c.self.view_is) in
-    let same = ap (λ (gone : Range). filter (is_kept_without gone.removed) t.earlier) (sym range) in
-    same_table (left c ∙ stays-removed c.args.first c.args.last t c.self.invariant ∙ same) refl
-    ∙ ap (λ (r : Roomy). without c.in_ok-range.range.removed r.table) c.self.view_is
+    c.take_out_between.ensures.taken
+    ∙ ap (λ (range : Range). without range.removed c.args.self.now.table) (sym c.in_ok-range.ensures.found)
 
 pub returns-clause-told : goal.returns-clause-told
 returns-clause-told c =
-    let t = table_of c.self.inside in
-    let range : c.in_ok-range.range ≡ judged t.latest.number (between c.args.first c.args.last (rows t)) =
-    c.in_ok-range.ensures.found ∙ ap (λ (r : Roomy). judged r.table.latest.number (between c.args.first c.args.last (rows r.table))) (sym c.self.view_is) in
-    let stays = ap (λ (r : Roomy). is_among c.in_ok-range.range.removed r.table.latest.number) (sym c.self.view_is)
-    ∙ ap (λ (gone : Range). is_among gone.removed t.latest.number) range ∙ latest-not_removed c.args.first c.args.last t c.self.invariant in
-    ap rows (returns-clause-removed c) ∙ rows-without c.in_ok-range.range.removed c.args.self.now.table stays
+    c.take_out_between.ensures.told
+    ∙ ap (λ (range : Range). told.without range.removed (rows c.args.self.now.table)) (sym c.in_ok-range.ensures.found)

@@ -1,13 +1,13 @@
 use Rattle.std.proofs.Common.{◌≡◌, ◌*◌, ◌<◌, ℕ, IfOk, List, Option, length, sym, ap, subst, ◌∙◌}
 use Rattle.nl_types.specs.PartialMaps.{Partial}
 use Rattle.nl_types.specs.Segments.{Segments}
-use Rattle.nl_segwriter.specs.Content.{Payload}
+use Rattle.nl_space.specs.Content.{Payload}
 use Rattle.nl_dat.specs.declared.bdesc.Bdesc.{Bdesc}
 use Rattle.nl_dat.specs.Described.{descs_from, descs_of}
-use Rattle.nl_dat.specs.Summaries.{payload_row}
+use Rattle.nl_vstore.specs.Summaries.{payload_row}
 use Rattle.nl_dat.specs.Table.{entry_in, addresses_of}
-use Rattle.nl_dat.specs.Stores.{Store, address_in}
-use Rattle.nl_dat.proofs.StoredLogs.{row-store_of}
+use Rattle.nl_vstore.specs.Stores.{Store, address_in}
+use Rattle.nl_dat.proofs.ShownRows.{row-store_of}
 use Rattle.nl_dat.proofs.StoreOf.{address_in-store_of, same_store}
 use Rattle.nl_dat.proofs.dat.Dat.described.Goals as goal
 

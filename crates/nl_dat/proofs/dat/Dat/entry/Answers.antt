@@ -1,6 +1,6 @@
 use Rattle.std.proofs.Common.{ap, ◌∙◌}
-use Rattle.nl_dat.specs.Table.{entry_in}
-use Rattle.nl_dat.specs.Stores.{numbered_in, dat_entry_of}
+use Rattle.nl_dat.specs.Table.{entry_in, dat_entry_of}
+use Rattle.nl_vstore.specs.Stores.{numbered_in}
 use Rattle.std.specs.Option.{option_map}
 use Rattle.nl_dat.proofs.StoreOf.{entry-store_of, same_store}
 use Rattle.nl_dat.proofs.dat.Dat.entry.Goals as goal

@@ -3,8 +3,8 @@ use Rattle.std.specs.Prelude.{MatchOption}
 use Rattle.nl_types.specs.Segments.{Segments}
 use Rattle.nl_types.specs.PartialMaps.{Partial}
 use Rattle.nl_dat.specs.Table.{entry_in, addresses_of}
-use Rattle.nl_dat.specs.Stores.{address_in}
-use Rattle.nl_dat.proofs.NumberAt.{at-is}
+use Rattle.nl_vstore.specs.Stores.{address_in}
+use Rattle.nl_vstore.proofs.NumberAt.{at-is}
 use Rattle.nl_dat.proofs.StoreOf.{address_in-store_of, same_store}
 use Rattle.nl_dat.proofs.dat.DatVstore.at.Goals as goal
 
@@ -18,7 +18,7 @@ returns-clause-there g c =
     let table = c.self.inside.table in
     let space = g.S.Space.content c.self.inside.space in
     let block : c.get.result * c.blocks-2.result + c.args.position ≡ c.args.segment * c.args.self.now.store.segments.blocks + c.args.position =
-    ap (λ n. n * c.blocks-2.result + c.args.position) c.get.ensures ∙ ap (λ n. c.args.segment * n + c.args.position) (c.blocks-2.ensures.blocks ∙ ap (λ (s : Segments). s.blocks) (c.table-table.ensures ∙ ap (λ (s : Rattle.nl_dat.specs.Stores.Store). s.segments) (same_store c.self.view_is))) in
+    ap (λ n. n * c.blocks-2.result + c.args.position) c.get.ensures ∙ ap (λ n. c.args.segment * n + c.args.position) (c.blocks-2.ensures.blocks ∙ ap (λ (s : Segments). s.blocks) (c.table-table.ensures ∙ ap (λ (s : Rattle.nl_vstore.specs.Stores.Store). s.segments) (same_store c.self.view_is))) in
     let same : addresses_of (entry_in c.as_slice.result.now) ≡ address_in c.args.self.now.store =
     ap (λ t. addresses_of (entry_in t)) c.as_slice.ensures ∙ sym (address_in-store_of table space (g.S.Space.failure_count c.self.inside.space) c.self.inside.tabled.sound) ∙ ap address_in (same_store c.self.view_is) in
     found (address_in c.args.self.now.store) (c.args.segment * c.args.self.now.store.segments.blocks + c.args.position) c.tagged-number.result c.number_with.result c.tagged-number.ensures

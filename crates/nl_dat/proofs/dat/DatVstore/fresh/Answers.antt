@@ -3,9 +3,9 @@ use Rattle.std.specs.Prelude.{MatchOption, max}
 use Rattle.std.specs.Option.{ok_or}
 use Rattle.nl_types.specs.declared.error.VolError.{VolError}
 use Rattle.nl_types.specs.declared.error.VolError.TheVariants.{NoSpace}
-use Rattle.nl_dat.specs.Batches.{Fits, LacksSpaceFrom, IsLowestFree, is_taken, last_number}
+use Rattle.nl_vstore.specs.Batches.{Fits, LacksSpaceFrom, IsLowestFree, is_taken, last_number}
 use Rattle.nl_dat.specs.Table.{AreInUse, IsFirstFree}
-use Rattle.nl_dat.specs.Stores.{Store, content_in, capacity}
+use Rattle.nl_vstore.specs.Stores.{Store, content_in, capacity}
 use Rattle.nl_dat.proofs.FreeNumbers.{all-taken, lowest-free, no_number-no_space}
 use Rattle.nl_dat.proofs.StoreOf.{same_store}
 use Rattle.nl_dat.proofs.dat.DatVstore.fresh.Goals as goal

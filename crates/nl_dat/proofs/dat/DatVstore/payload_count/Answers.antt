@@ -1,7 +1,7 @@
 use Rattle.std.proofs.Common.{◌≡◌, ◌<◌, length, subst, sym, ◌∙◌}
-use Rattle.nl_dat.specs.Stores.{Store}
-use Rattle.nl_dat.specs.Located.{in_row, payload_count_in, picked}
-use Rattle.nl_dat.proofs.CountedRows.{payload-counted}
+use Rattle.nl_vstore.specs.Stores.{Store}
+use Rattle.nl_vstore.specs.Located.{in_row, payload_count_in, picked}
+use Rattle.nl_dat.proofs.CountedPayload.{payload-counted}
 use Rattle.nl_dat.proofs.StoreOf.{same_store}
 use Rattle.nl_dat.proofs.dat.DatVstore.payload_count.Goals as goal
 

@@ -1,11 +1,11 @@
 use Rattle.std.proofs.Common.{◌≡◌, ℕ, ◌+◌, ◌*◌, ◌≤◌, Some, List, Option, ap, subst, ◌∙◌, length, arith}
 use Rattle.nl_types.specs.Segments.{Segments, info_of}
 use Rattle.nl_types.proofs.SegmentChanges.{room_of}
-use Rattle.nl_segwriter.specs.Content.{SpaceContent}
+use Rattle.nl_space.specs.Content.{SpaceContent}
 use Rattle.nl_dat.specs.declared.entries.DatEntry.{DatEntry}
 use Rattle.nl_dat.specs.declared.reclaim.TakenOut.{TakenOut}
 use Rattle.nl_dat.specs.Table.{entry_in, addresses_of}
-use Rattle.nl_dat.specs.Stores.{IsReclaimed}
+use Rattle.nl_vstore.specs.Stores.{IsReclaimed}
 use Rattle.nl_dat.specs.Inside.{births_in, store_of}
 use Rattle.nl_dat.specs.TakenOut.{HasTakenOut}
 use Rattle.nl_dat.proofs.SoundTable.{HaveOwnPayload-apart}

@@ -5,12 +5,12 @@ use Rattle.std.proofs.lemmas.Result.{err_from_is_err_and}
 use Rattle.std.proofs.lemmas.List.{length-map}
 use Rattle.nl_types.specs.Segments.{IsClosed, StaysUsed}
 use Rattle.nl_types.specs.PartialMaps.{adjust_each}
-use Rattle.nl_segwriter.specs.Content.{Payload, SpaceContent, KeepsUsed}
-use Rattle.nl_segwriter.specs.Appended.{IsAppended}
+use Rattle.nl_space.specs.Content.{Payload, SpaceContent, KeepsUsed}
+use Rattle.nl_space.specs.Appended.{IsAppended}
 use Rattle.nl_dat.specs.declared.entries.DatEntry.{DatEntry}
-use Rattle.nl_dat.specs.Batches.{births_of}
+use Rattle.nl_vstore.specs.Batches.{births_of}
 use Rattle.nl_dat.specs.Table.{entry_in, stored_at, moved_entry}
-use Rattle.nl_dat.specs.Stores.{Store, IsMoved, IsMoveRefused, is_inside, address_in}
+use Rattle.nl_vstore.specs.Stores.{Store, IsMoved, IsMoveRefused, is_inside, address_in}
 use Rattle.nl_dat.specs.Inside.{births_in, store_of, IsTable}
 use Rattle.nl_dat.proofs.Writing.{table-kept}
 use Rattle.nl_dat.proofs.Refusals.{total-refused}
@@ -36,7 +36,7 @@ invariant_of-self-inside-in-Break-branch-2 g c =
 -- as many were read as were asked for
 read-count : (table : List (Option DatEntry)) (space : SpaceContent) (numbers : List ℕ) (payload read : List Payload) → map (stored_at (entry_in table) (births_in space)) numbers ≡ map Some (births_of payload) → read ≡ payload → length read ≡ length numbers
 read-count table space numbers payload read loaded is =
-    ap length is ∙ sym (length-map payload Rattle.nl_dat.specs.Batches.birth_of_item) ∙ sym (length-map (births_of payload) Some) ∙ sym (ap length loaded) ∙ length-map numbers (stored_at (entry_in table) (births_in space))
+    ap length is ∙ sym (length-map payload Rattle.nl_vstore.specs.Batches.birth_of_item) ∙ sym (length-map (births_of payload) Some) ∙ sym (ap length loaded) ∙ length-map numbers (stored_at (entry_in table) (births_in space))
 
 pub returns-in_err-blocks-clause-refused : goal.returns-in_err-blocks-clause-refused
 returns-in_err-blocks-clause-refused g c =

@@ -5,19 +5,19 @@ use Rattle.std.proofs.lemmas.List.{length-map}
 use Rattle.nl_types.specs.Entries.{number_of}
 use Rattle.nl_types.specs.PartialMaps.{put_each, adjust_all}
 use Rattle.nl_types.proofs.PartialMaps.{is_one_of-get_or}
-use Rattle.nl_segwriter.specs.Content.{Payload}
+use Rattle.nl_space.specs.Content.{Payload}
 use Rattle.nl_dat.specs.declared.entries.DatEntry.{DatEntry}
-use Rattle.nl_dat.specs.Batches.{Changes, Fits, birth_of_item, births_of, items_of, last_number}
+use Rattle.nl_vstore.specs.Batches.{Changes, Fits, birth_of_item, births_of, items_of, last_number}
 use Rattle.nl_dat.specs.Table.{entry_in, new_entry, ended_entry}
-use Rattle.nl_dat.specs.Stores.{Store, IsWritten, IsWriteRefused, IsFaulted, content_in, capacity}
+use Rattle.nl_vstore.specs.Stores.{Store, IsWritten, IsWriteRefused, IsFaulted, content_in, capacity}
 use Rattle.nl_dat.specs.Inside.{store_of}
 use Rattle.nl_dat.proofs.Writing.{items_back, table-kept, table-written, is_written, live_inside, is_born_read}
 use Rattle.nl_dat.proofs.Refusals.{total-refused, is_faulted, write-refused}
 use Rattle.nl_types.specs.Segments.{AreTidy, total_blocks}
 use Rattle.nl_types.specs.Placing as placing
 use Rattle.nl_types.specs.PlacingLaws.{WhatFitsHasRoom}
-use Rattle.nl_segwriter.specs.Content.{SpaceContent}
-use Rattle.nl_segwriter.specs.Appended.{IsAppended}
+use Rattle.nl_space.specs.Content.{SpaceContent}
+use Rattle.nl_space.specs.Appended.{IsAppended}
 use Rattle.nl_dat.specs.Inside.{IsTable}
 use Rattle.nl_dat.proofs.FreeNumbers.{numbers-inside}
 use Rattle.nl_dat.proofs.StoreOf.{is_store, same_store}

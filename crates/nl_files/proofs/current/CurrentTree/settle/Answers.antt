@@ -1,7 +1,7 @@
 use Rattle.std.proofs.Common.{◌≡◌, ℕ, List, [], sym, subst}
 use Rattle.nl_layout.specs.Root.{root_of}
-use Rattle.nl_dat.specs.Batches.{Changes}
-use Rattle.nl_dat.specs.Stores.{capacity, content_in}
+use Rattle.nl_vstore.specs.Batches.{Changes}
+use Rattle.nl_vstore.specs.Stores.{capacity, content_in}
 use Rattle.nl_types.specs.Entries.{Content}
 use Rattle.nl_types.specs.Roots.{Root, pages_of}
 use Rattle.nl_ifile.specs.declared.change.InodeChange.{InodeChange}

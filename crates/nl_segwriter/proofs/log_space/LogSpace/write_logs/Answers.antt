@@ -6,9 +6,9 @@ use Rattle.nl_types.specs.Segments.{Segments, StaysUsed, AreTidy}
 use Rattle.nl_types.specs.Placing.{AreNextLogs, IsNextLog, first_block, with_log, with_logs}
 use Rattle.nl_types.proofs.NextLogs.{tidy_with_log}
 use Rattle.nl_types.proofs.UsedParts.{stays_with_log, stays_with_error}
-use Rattle.nl_segwriter.specs.Content.{SpaceContent, KeepsUsed, IsSameAt}
-use Rattle.nl_segwriter.specs.Logs.{StandsFrom}
-use Rattle.nl_segwriter.specs.Appended.{IsOutside}
+use Rattle.nl_space.specs.Content.{SpaceContent, KeepsUsed, IsSameAt}
+use Rattle.nl_space.specs.Logs.{StandsFrom}
+use Rattle.nl_space.specs.Appended.{IsOutside}
 use Rattle.nl_segwriter.specs.declared.staging.Staged.{Staged}
 use Rattle.nl_segwriter.specs.Staging.{IsReady, logs_of, whole_of}
 use Rattle.nl_segwriter.specs.Writing.{space_content, LogsStand, BreaksOff}

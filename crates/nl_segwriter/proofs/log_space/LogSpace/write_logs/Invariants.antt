@@ -3,8 +3,8 @@ use Rattle.std.specs.List.{AllByRecursion}
 use Rattle.std.specs.Vec.Iter.{into_iter_items, into_iter_len}
 use Rattle.nl_types.specs.Segments.{StaysUsed, AreTidy}
 use Rattle.nl_types.specs.Placing.{AreNextLogs, with_logs}
-use Rattle.nl_segwriter.specs.Content.{SpaceContent, KeepsUsed, IsSameAt}
-use Rattle.nl_segwriter.specs.Appended.{IsOutside}
+use Rattle.nl_space.specs.Content.{SpaceContent, KeepsUsed, IsSameAt}
+use Rattle.nl_space.specs.Appended.{IsOutside}
 use Rattle.nl_segwriter.specs.Staging.{IsReady, logs_of}
 use Rattle.nl_segwriter.specs.Writing.{space_content, LogsStand, BreaksOff}
 use Rattle.nl_segwriter.proofs.log_space.LogSpace.write_logs.Given as goal

@@ -5,10 +5,11 @@ use Rattle.nl_types.specs.declared.segment.Log.{Log}
 use Rattle.nl_types.specs.Segments.{Segments, total_blocks}
 use Rattle.nl_types.specs.Placing.{AreNextLogs, first_block, addresses}
 use Rattle.nl_types.proofs.NextLogs.{placed}
-use Rattle.nl_segwriter.specs.Content.{SpaceContent}
+use Rattle.nl_space.specs.Content.{SpaceContent}
 use Rattle.nl_segwriter.specs.Staging.{AreStaged, AreSized}
 use Rattle.nl_segwriter.specs.Writing.{space_content}
-use Rattle.nl_segwriter.proofs.AppendedLogs.{sized, logs_inside, next_staged, staged_ready, staged_stamps, is_appended, is_broken_off}
+use Rattle.nl_segwriter.proofs.AppendedLogs.{sized, next_staged, staged_ready, staged_stamps, is_appended, is_broken_off}
+use Rattle.nl_space.proofs.LogNumbers.{logs_inside}
 use Rattle.nl_segwriter.proofs.log_space.LogSpaceSpace.append.Goals as goal
 
 pub numbers_of-requires : goal.numbers_of-requires

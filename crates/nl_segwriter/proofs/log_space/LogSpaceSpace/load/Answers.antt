@@ -3,7 +3,7 @@ use Rattle.nl_types.specs.declared.geometry.Geometry.{Geometry}
 use Rattle.nl_types.specs.Segments.{Segments}
 use Rattle.nl_types.proofs.UsedParts.{used_inside}
 use Rattle.nl_device.specs.Pages.{DevicePages}
-use Rattle.nl_segwriter.specs.Logs.{AreWholeLogs}
+use Rattle.nl_space.specs.Logs.{AreWholeLogs}
 use Rattle.nl_segwriter.specs.Writing.{space_content}
 use Rattle.nl_segwriter.proofs.WholeLogs.{used_stored}
 use Rattle.nl_segwriter.proofs.log_space.LogSpaceSpace.load.Goals as goal

@@ -1,0 +1,200 @@
+-- Events beside readers, with the commits that they note.
+use Rattle.std.proofs.Common.{◌≡◌, ℕ, ◌+◌, ◌≤◌, List, [], ◌∷◌, ◌++◌, refl, ap, sym, ◌∙◌, inl, inr, arith}
+use Rattle.std.specs.Prelude.{Ok, Err}
+use Rattle.std.proofs.lemmas.List.{append-nil}
+use Rattle.nl_types.specs.declared.error.VolError.{VolError}
+use Rattle.nl_types.specs.declared.error.VolError.TheVariants as error
+use Rattle.nl_types.specs.declared.event.Ask.{Ask}
+use Rattle.nl_types.specs.declared.event.Change.{Change}
+use Rattle.nl_types.specs.declared.event.Event.{Event}
+use Rattle.nl_types.specs.declared.event.Event.TheVariants as event
+use Rattle.nl_types.specs.declared.event.Mode.{Mode}
+use Rattle.nl_types.specs.declared.reply.Answer.{Answer}
+use Rattle.nl_types.specs.declared.reply.Answer.TheVariants as answer
+use Rattle.nl_types.specs.declared.row.ListOptions.{ListOptions}
+use Rattle.nl_types.specs.Runs.{Step}
+use Rattle.nl_types.specs.Worlds.{Reply, World}
+use Rattle.nl_vstore.specs.Stores.{IsStore}
+use Rattle.nl_core.specs.Layout.{Does, HasRefused, IsPen, Layout, Touches, cleaned, unshared}
+use Rattle.nl_core.specs.Notes.{AreCommitsOf, AreNumbersIn, ChangesLists, DoesNoting, HasNotedWrite, new_checkpoint, shared, where_any}
+use Rattle.nl_core.specs.declared.commit.Commit.{Commit}
+use Rattle.nl_core.specs.declared.commit.Commit.TheVariants.{Freed, Mounted, Written}
+use Rattle.nl_core.proofs.Checkpointing.{does-refused, does-written}
+use Rattle.nl_core.proofs.Ledgers.{same-numbers}
+use Rattle.nl_core.proofs.Telling.{commits_tell_all}
+
+-- ---- beside readers
+
+-- what may be refused to a pen alone may be refused beside readers
+shared-more : (old new : Layout) (event : Event) (e : VolError) → unshared old new event e → shared old new event e
+shared-more old new event error.Memory may = tt
+shared-more old new event e may = may
+
+pub does-shared : (old new : Layout) (event : Event) (reply : Reply) → Does unshared old event reply new → Does shared old event reply new
+does-shared old new event reply does = record {
+  follows = λ w m. let next = does.follows w m in record { after = next.after; means = next.means; step = more w next.after next.step };
+  touches = does.touches;
+  numbers = does.numbers;
+  pen = does.pen;
+  failures = does.failures;
+}
+  where
+    more : (w after : World) → Step (unshared old new) (cleaned old event) w event reply after
+        → Step (shared old new) (cleaned old event) w event reply after
+    more w after step = elim step [
+      | inl is ↦ inl is
+      | inr refused ↦ inr (record {
+        error = refused.error;
+        reply_is = refused.reply_is;
+        may_be = shared-more old new event refused.error refused.may_be;
+        unchanged = refused.unchanged;
+      })
+    ]
+
+-- memory is refused before anything changes
+no-memory : (l : Layout) (event : Event) → IsPen l → Touches l event (Err error.Memory) l → Does shared l event (Err error.Memory) l
+no-memory l event pen touches = record {
+  follows = λ w m. record {
+    after = w;
+    means = m;
+    step = inr (record { error = error.Memory; reply_is = refl; may_be = tt; unchanged = refl });
+  };
+  touches = touches;
+  numbers = same-numbers l l refl;
+  pen = pen;
+  failures = omega arith;
+}
+
+unlisted : (l : Layout) (event : Event) → ChangesLists event → HasRefused event error.Memory l l
+unlisted l (event.ChangeMode n mode) lists = refl
+unlisted l (event.Remove n) lists = refl
+unlisted l (event.RemoveRange first last) lists = refl
+unlisted l (event.Expire now period) lists = refl
+unlisted l (event.Mount n) lists = refl
+unlisted l (event.Unmount m) lists = refl
+unlisted l _ lists = absurd lists
+
+-- ---- with commits
+
+module _ (old : Layout) (event : Event) (new : Layout) (before after : List Commit) (pen : IsPen old) where
+  pub noting : (reply : Reply) (more : List Commit) → Does shared old event reply new → after ≡ before ++ more
+      → AreCommitsOf old event reply new more → DoesNoting old event reply new before after
+  noting reply more does behind commits = record {
+    does = does;
+    more = more;
+    behind = behind;
+    noted = commits_tell_all shared old new event reply more pen does commits;
+  }
+
+  -- a refused event has no commit
+  pub noting-refused : (e : VolError) → Does shared old event (Err e) new → after ≡ before
+      → DoesNoting old event (Err e) new before after
+  noting-refused e does same = noting (Err e) [] does (same ∙ sym (append-nil before)) refl
+
+-- memory is refused to an event that changes lists
+pub noting-unlisted : (l : Layout) (event : Event) (before after : List Commit) → IsPen l → ChangesLists event → after ≡ before
+    → DoesNoting l event (Err error.Memory) l before after
+noting-unlisted l event before after pen lists same =
+    noting-refused l event l before after pen error.Memory (no-memory l event pen (unlisted l event lists)) same
+
+-- and to a retirement
+pub noting-unretired : (l : Layout) (segment : ℕ) (before after : List Commit) → IsPen l → after ≡ before
+    → DoesNoting l (event.Retire segment) (Err error.Memory) l before after
+noting-unretired l segment before after pen same =
+    noting-refused l (event.Retire segment) l before after pen error.Memory (no-memory l (event.Retire segment) pen (refl, tt)) same
+
+-- ---- events of which nothing is seen
+
+module _ (old new : Layout) (before : List Commit) (pen : IsPen old) where
+  noting-none : (event : Event) (reply : Reply) → Does unshared old event reply new → AreCommitsOf old event reply new []
+      → DoesNoting old event reply new before before
+  noting-none event reply does none =
+      noting old event new before before pen reply [] (does-shared old new event reply does) (sym (append-nil before)) none
+
+  pub noting-Apply : (c : Change) (reply : Reply) → Does unshared old (event.Apply c) reply new
+      → DoesNoting old (event.Apply c) reply new before before
+  noting-Apply c (Ok a) does = noting-none (event.Apply c) (Ok a) does refl
+  noting-Apply c (Err e) does = noting-none (event.Apply c) (Err e) does refl
+
+  pub noting-Read : (a : Ask) (reply : Reply) → Does unshared old (event.Read a) reply new
+      → DoesNoting old (event.Read a) reply new before before
+  noting-Read a (Ok done) does = noting-none (event.Read a) (Ok done) does refl
+  noting-Read a (Err e) does = noting-none (event.Read a) (Err e) does refl
+
+  pub noting-MountRead : (m : ℕ) (a : Ask) (reply : Reply) → Does unshared old (event.MountRead m a) reply new
+      → DoesNoting old (event.MountRead m a) reply new before before
+  noting-MountRead m a (Ok done) does = noting-none (event.MountRead m a) (Ok done) does refl
+  noting-MountRead m a (Err e) does = noting-none (event.MountRead m a) (Err e) does refl
+
+  pub noting-Listing : (options : ListOptions) (reply : Reply) → Does unshared old (event.Listing options) reply new
+      → DoesNoting old (event.Listing options) reply new before before
+  noting-Listing options (Ok done) does = noting-none (event.Listing options) (Ok done) does refl
+  noting-Listing options (Err e) does = noting-none (event.Listing options) (Err e) does refl
+
+  pub noting-Move : (segment limit now : ℕ) (reply : Reply) → Does unshared old (event.Move segment limit now) reply new
+      → DoesNoting old (event.Move segment limit now) reply new before before
+  noting-Move segment limit now (Ok done) does = noting-none (event.Move segment limit now) (Ok done) does refl
+  noting-Move segment limit now (Err e) does = noting-none (event.Move segment limit now) (Err e) does refl
+
+-- any of them
+abbrev pub IsUnseen : Event → Type 0
+IsUnseen (event.Apply c) = Unit {0}
+IsUnseen (event.Read a) = Unit {0}
+IsUnseen (event.Move segment limit now) = Unit {0}
+IsUnseen (event.MountRead m a) = Unit {0}
+IsUnseen (event.Listing options) = Unit {0}
+IsUnseen _ = ⊥
+
+pub noting-unseen : (old new : Layout) (before : List Commit) → IsPen old → (event : Event) (reply : Reply) → IsUnseen event
+    → Does unshared old event reply new → DoesNoting old event reply new before before
+noting-unseen old new before pen (event.Apply c) reply unseen does = noting-Apply old new before pen c reply does
+noting-unseen old new before pen (event.Read a) reply unseen does = noting-Read old new before pen a reply does
+noting-unseen old new before pen (event.Move segment limit now) reply unseen does =
+    noting-Move old new before pen segment limit now reply does
+noting-unseen old new before pen (event.MountRead m a) reply unseen does = noting-MountRead old new before pen m a reply does
+noting-unseen old new before pen (event.Listing options) reply unseen does = noting-Listing old new before pen options reply does
+noting-unseen old new before pen _ reply unseen does = absurd unseen
+
+-- ---- a mount
+
+pub noting-Mount : (old new : Layout) (n number : ℕ) (a : Answer) (before after : List Commit) → IsPen old
+    → Does unshared old (event.Mount n) (Ok a) new → number ≡ new.lists.given
+    → after ≡ before ++ Mounted (record { number = number; checkpoint = n }) ∷ []
+    → DoesNoting old (event.Mount n) (Ok a) new before after
+noting-Mount old new n number a before after pen does given behind =
+    let next : number ≡ old.lists.given + 1 = given ∙ ap (λ (l : Layout). l.lists.given) does.touches in
+    noting old (event.Mount n) new before after pen (Ok a) (Mounted (record { number = number; checkpoint = n }) ∷ [])
+    (does-shared old new (event.Mount n) (Ok a) does) behind
+    (ap (λ k. Mounted (record { number = k; checkpoint = n }) ∷ []) next)
+
+-- ---- checkpoints and retirements
+
+pub noting-written : (old new : Layout) (mode : Mode) (moment : ℕ) (before after : List Commit) → IsPen old
+    → HasNotedWrite mode moment old new before after → IsStore new.store → old.store.failures ≤ new.store.failures
+    → DoesNoting old (event.Checkpoint mode moment) (Ok (answer.Checkpoint new.lists.table.latest.number)) new before after
+noting-written old new mode moment before after pen noted store counted =
+    let done = event.Checkpoint mode moment in
+    let reply : Reply = Ok (answer.Checkpoint new.lists.table.latest.number) in
+    noting old done new before after pen reply (Written (new_checkpoint noted.writes.settled.changes new.lists.table.latest) ∷ [])
+    (does-shared old new done reply (does-written old new mode moment pen noted.writes store counted)) noted.behind (noted.writes, refl)
+
+pub noting-unwritten : (old new : Layout) (mode : Mode) (moment : ℕ) (e : VolError) (before after : List Commit) → IsPen old
+    → HasRefused (event.Checkpoint mode moment) e old new → IsStore new.store → after ≡ before
+    → DoesNoting old (event.Checkpoint mode moment) (Err e) new before after
+noting-unwritten old new mode moment e before after pen refused store same =
+    noting-refused old (event.Checkpoint mode moment) new before after pen e
+    (does-shared old new (event.Checkpoint mode moment) (Err e) (does-refused old new mode moment e pen refused store)) same
+
+pub noting-retired : (old new : Layout) (segment : ℕ) (a : Answer) (gone : List ℕ) (before after : List Commit) → IsPen old
+    → Does unshared old (event.Retire segment) (Ok a) new → AreNumbersIn old.store segment gone
+    → after ≡ before ++ where_any gone (Freed gone)
+    → DoesNoting old (event.Retire segment) (Ok a) new before after
+noting-retired old new segment a gone before after pen does are behind =
+    noting old (event.Retire segment) new before after pen (Ok a) (where_any gone (Freed gone))
+    (does-shared old new (event.Retire segment) (Ok a) does) behind (gone, are, refl)
+
+pub noting-not_retired : (old new : Layout) (segment : ℕ) (e : VolError) (before after : List Commit) → IsPen old
+    → Does unshared old (event.Retire segment) (Err e) new → after ≡ before
+    → DoesNoting old (event.Retire segment) (Err e) new before after
+noting-not_retired old new segment e before after pen does same =
+    noting-refused old (event.Retire segment) new before after pen e (does-shared old new (event.Retire segment) (Err e) does) same

@@ -1,0 +1,322 @@
+-- What an event does to a pen is told by its commits.
+use Rattle.std.proofs.Common.{◌≡◌, ℕ, ◌+◌, ◌-◌, Bool, true, false, true≢false, List, [], ◌∷◌, Option, Some, None, refl, ap, sym, subst, take, ◌∙◌, inl, inr, arith}
+use Rattle.std.specs.Prelude.{Ok, Err, MatchResult, Result, fold, map}
+use Rattle.std.specs.List.{filter}
+use Rattle.std.specs.Option.{ok_or, option_map, option_map_or}
+use Rattle.std.specs.Ordering.{nat_cmp}
+use Rattle.std.specs.FinMap.{find}
+use Rattle.nl_types.specs.declared.error.VolError.{VolError}
+use Rattle.nl_types.specs.declared.error.VolError.TheVariants as error
+use Rattle.nl_types.specs.declared.event.Event.{Event}
+use Rattle.nl_types.specs.declared.event.Event.TheVariants as event
+use Rattle.nl_types.specs.declared.event.Mode.{Mode}
+use Rattle.nl_types.specs.declared.event.Mode.TheVariants.{Plain, Snapshot}
+use Rattle.nl_types.specs.declared.reply.Answer.{Answer}
+use Rattle.nl_types.specs.declared.reply.Answer.TheVariants as answer
+use Rattle.nl_types.specs.declared.segment.SegmentInfo.{SegmentInfo}
+use Rattle.nl_types.specs.CheckpointLaws.{removed_by}
+use Rattle.nl_types.specs.Worlds.{Outcome, Reply, World, either, mounts_without}
+use Rattle.nl_vstore.specs.Batches.{Changes}
+use Rattle.nl_vstore.specs.Located.{needed_in}
+use Rattle.nl_vstore.specs.Stores.{IsMoveRefused, IsReclaimed, Numbered, Store}
+use Rattle.nl_reclaim.specs.Cleaning.{judged_for}
+use Rattle.nl_cpfile.specs.Tables.{Table, is_kept_without, range_in, with_mode, with_next, without}
+use Rattle.nl_cpfile.specs.declared.checkpoint.Checkpoint.{Checkpoint}
+use Rattle.nl_core.specs.CleaningEvents.{needed_by}
+use Rattle.nl_core.specs.Commits.{AllNext, IsImage, IsNew, KeepsCheckpoints, applied, numbers_written, without_numbers}
+use Rattle.nl_core.specs.Layout.{AllowedBetween, Does, HasRefused, HasWritten, IsPen, KeepsNumbers, Layout, cleaned, layout_of, pages_in}
+use Rattle.nl_core.specs.Means.{LeadsOn}
+use Rattle.nl_core.specs.Notes.{AreCommitsOf, AreNumbersIn, CommitsTellAll, HasNoted, has_other_mode, is_other_mode, new_checkpoint, noted_if, shown_of, shown_page, where_any}
+use Rattle.nl_core.specs.Shown.{Shown, mounted_on}
+use Rattle.nl_core.specs.Volume.{IsTakenOut, Lists, boundary_in, mount_of}
+use Rattle.nl_core.specs.declared.commit.Commit.{Commit}
+use Rattle.nl_core.specs.declared.commit.Commit.TheVariants.{Freed, GivenBack, ModeSet, Mounted, RangeRemoved, Removed, Written}
+use Rattle.nl_core.specs.declared.commit.ShownPage.{ShownPage}
+use Rattle.nl_core.specs.declared.mounts.Mounted.{Mounted as Mount}
+use Rattle.nl_core.proofs.Checkpoints.{latest-next, number-next}
+use Rattle.nl_core.proofs.CleanedPens.{refused-numbers}
+use Rattle.nl_cpfile.proofs.Found.{with_mode-same}
+use Rattle.nl_core.proofs.Images.{pen-image, pen-table}
+use Rattle.nl_core.proofs.Keeping.{KeepsRoots, keeps-checkpoints, roots-moded, roots-next, roots-same, roots-without}
+use Rattle.nl_core.proofs.ShownNumbers.{numbers-freed, numbers-moved, numbers-written}
+
+-- ---- commits that tell what readers see
+
+-- from what readers saw, these commits lead to what they see then, and may follow
+pub record TellsAll (old new : Layout) (more : List Commit) : Type 0 where
+  pub image : shown_of new ≡ fold applied (shown_of old) more
+  pub next : AllNext (shown_of old) more
+
+-- nothing is seen of the event
+tells-nothing : (old new : Layout) → shown_of new ≡ shown_of old → TellsAll old new []
+tells-nothing old new same = record { image = same; next = tt }
+
+-- a commit tells all
+tells-one : (old new : Layout) (c : Commit) → IsPen new → KeepsCheckpoints (shown_of old) (shown_of new)
+    → shown_of new ≡ applied (shown_of old) c → IsNew (shown_of old) c → TellsAll old new (c ∷ [])
+tells-one old new c pen keeps is fresh = record {
+  image = is;
+  next = (
+    record {
+      image = subst IsImage is (pen-image new pen);
+      keeps = subst (KeepsCheckpoints (shown_of old)) is keeps;
+      new = fresh;
+    },
+    tt,
+  );
+}
+
+-- so it does where anything goes, and else there is nothing to tell
+tells-any : {A : Type 0} (old new : Layout) (gone : List A) (c : Commit) → IsPen new → KeepsCheckpoints (shown_of old) (shown_of new)
+    → shown_of new ≡ applied (shown_of old) c → IsNew (shown_of old) c → (gone ≡ [] → shown_of new ≡ shown_of old)
+    → TellsAll old new (where_any gone c)
+tells-any old new [] c pen keeps is fresh none = tells-nothing old new (none refl)
+tells-any old new (x ∷ gone) c pen keeps is fresh none = tells-one old new c pen keeps is fresh
+
+-- ---- what is shown of the parts
+
+abbrev shown_with : List (Option ShownPage) → Table → List Mount → ℕ → Shown
+shown_with numbers table mounts given = record { numbers = numbers; table = table; mounts = mounts; given = given }
+
+-- with the same lists and numbers the same is shown
+same-parts : (old new : Layout) → new.lists ≡ old.lists → (shown_of new).numbers ≡ (shown_of old).numbers
+    → shown_of new ≡ shown_of old
+same-parts old new lists numbers i = shown_with (numbers i) (lists i).table (lists i).mounts (lists i).given
+
+same-store : (old new : Layout) → new.lists ≡ old.lists → new.store.numbers ≡ old.store.numbers → shown_of new ≡ shown_of old
+same-store old new lists numbers =
+    same-parts old new lists (ap (λ (vs : List (Option Numbered)). map (option_map shown_page) vs) numbers)
+
+-- without a number, a table stays
+none-gone : (kept : List Checkpoint) → filter (is_kept_without []) kept ≡ kept
+none-gone [] = refl
+none-gone (c ∷ kept) = ap (λ cs. c ∷ cs) (none-gone kept)
+
+without-none : (t : Table) → without [] t ≡ t
+without-none t = ap (λ (cs : List Checkpoint). record t { earlier = cs }) (none-gone t.earlier)
+
+-- ---- refused events
+
+-- of a refused event nothing is seen
+refused-shown : (event : Event) (e : VolError) (old new : Layout) → HasRefused event e old new → shown_of new ≡ shown_of old
+refused-shown (event.Checkpoint mode moment) error.Fault old new refused = same-store old new refused.lists refused.store.numbers
+refused-shown (event.Checkpoint mode moment) _ old new refused = ap shown_of refused.0
+refused-shown (event.Apply change) e old new refused = ap shown_of refused
+refused-shown (event.Read ask) e old new refused = ap shown_of refused
+refused-shown (event.ChangeMode n mode) e old new refused = ap shown_of refused
+refused-shown (event.Remove n) e old new refused = ap shown_of refused
+refused-shown (event.RemoveRange first last) e old new refused = ap shown_of refused
+refused-shown (event.Expire now period) e old new refused = ap shown_of refused
+refused-shown (event.Retire segment) e old new refused = ap shown_of refused.0
+refused-shown (event.Mount n) e old new refused = ap shown_of refused
+refused-shown (event.Unmount m) e old new refused = ap shown_of refused
+refused-shown (event.Listing options) e old new refused = ap shown_of refused
+refused-shown (event.MountRead m ask) e old new refused = ap shown_of refused
+refused-shown (event.Move segment limit moment) e old new refused =
+    same-store old new refused.0 (by (judged_for old.store.segments segment limit) refused.1)
+  where
+    vs : List ℕ
+    vs = take limit (needed_in old.store (needed_by old.lists) segment)
+
+    by : (r : Result SegmentInfo VolError)
+        → MatchResult r (λ _. IsMoveRefused old.lists.table.latest.number moment vs old.store new.store e) (λ refusal. (e ≡ refusal) × (new.store ≡ old.store))
+        → new.store.numbers ≡ old.store.numbers
+    by (Ok i) none = refused-numbers old.lists.table.latest.number moment vs e old.store new.store none
+    by (Err f) none = ap (λ (s : Store). s.numbers) none.1
+
+-- ---- done ones
+
+-- these lead from one pen to another, and numbers stay
+pub record Leads (old new : Layout) : Type 0 where
+  pub before : IsPen old
+  pub now : IsPen new
+  pub numbers : KeepsNumbers old new
+
+tells-commit : (old new : Layout) (c : Commit) → Leads old new → KeepsRoots old.lists.table new.lists.table
+    → shown_of new ≡ applied (shown_of old) c → IsNew (shown_of old) c → TellsAll old new (c ∷ [])
+tells-commit old new c leads roots is fresh =
+    tells-one old new c leads.now (keeps-checkpoints old new leads.before leads.numbers roots) is fresh
+
+-- ---- a checkpoint
+
+tells-written : (old new : Layout) (mode : Mode) (moment : ℕ) (writes : HasWritten mode moment old new) → Leads old new
+    → TellsAll old new (Written (new_checkpoint writes.settled.changes new.lists.table.latest) ∷ [])
+tells-written old new mode moment writes leads =
+    tells-commit old new (Written (new_checkpoint changes new.lists.table.latest)) leads
+    (subst (KeepsRoots old.lists.table) (sym table) (roots-next new.lists.table.latest old.lists.table))
+    (λ i. shown_with (numbers i) (table i) (writes.lists i).mounts (writes.lists i).given)
+    (omega (arith, number-next old new mode moment writes))
+  where
+    changes : Changes
+    changes = writes.settled.changes
+
+    table : new.lists.table ≡ with_next new.lists.table.latest old.lists.table
+    table = ap (λ (l : Lists). l.table) writes.lists
+        ∙ ap (λ (c : Checkpoint). with_next c old.lists.table) (sym (latest-next old new mode moment writes))
+
+    numbers : (shown_of new).numbers ≡ numbers_written (new_checkpoint changes new.lists.table.latest) (shown_of old).numbers
+    numbers = numbers-written old new leads.before.sound.store leads.now.sound.store new.lists.table.latest.number
+        new.lists.table.latest.stamp changes writes.written
+
+-- ---- removals
+
+-- what is shown once some checkpoints are gone
+abbrev shown_without : List ℕ → Shown → Shown
+shown_without gone x = record x { table = without gone x.table }
+
+module _ (old new : Layout) (gone : List ℕ) (leads : Leads old new) (taken : IsTakenOut gone old.lists new.lists)
+    (store : new.store ≡ old.store) where
+  shown-taken : shown_of new ≡ shown_without gone (shown_of old)
+  shown-taken i = shown_of (layout_of (taken.lists i) (store i))
+
+  roots-taken : KeepsRoots old.lists.table new.lists.table
+  roots-taken = subst (λ (l : Lists). KeepsRoots old.lists.table l.table) (sym taken.lists) (roots-without gone old.lists.table taken.stays)
+
+  keeps-taken : KeepsCheckpoints (shown_of old) (shown_of new)
+  keeps-taken = keeps-checkpoints old new leads.before leads.numbers roots-taken
+
+  tells-range : (first last : ℕ) → range_in first last old.lists.table ≡ gone
+      → TellsAll old new (where_any gone (RangeRemoved first last))
+  tells-range first last is =
+      tells-any old new gone (RangeRemoved first last) leads.now keeps-taken
+      (shown-taken ∙ ap (λ (ns : List ℕ). shown_without ns (shown_of old)) (sym is)) tt
+      (λ none. shown-taken ∙ ap (λ (ns : List ℕ). shown_without ns (shown_of old)) none
+      ∙ ap (λ (t : Table). record (shown_of old) { table = t }) (without-none old.lists.table))
+
+-- ---- an unmount
+
+module _ (allowed : AllowedBetween) (old new : Layout) (m : ℕ) (a : Answer) (pen : IsPen old)
+    (does : Does allowed old (event.Unmount m) (Ok a) new) where
+  abbrev w : World
+  w = pen.world.0
+
+  abbrev next : LeadsOn (allowed old new) (cleaned old (event.Unmount m)) w (event.Unmount m) (Ok a) (pages_in new) new.lists
+  next = does.follows w pen.world.1
+
+  -- what the unmount does, once it is known what is mounted
+  abbrev outcome : Option ℕ → Outcome
+  outcome o = either w (ok_or o error.BadMount) (λ _. (Ok answer.Done, record w { mounts = mounts_without m w.mounts }))
+
+  found-there : (o : Option ℕ) → find nat_cmp m (map mount_of old.lists.mounts) ≡ o → outcome o ≡ (Ok a, next.after)
+      → (n : ℕ) × (find nat_cmp m (map mount_of old.lists.mounts) ≡ Some n)
+  found-there (Some n) at is = (n, at)
+  found-there None at is = let no : ◌≡◌ {A = Reply} (Err error.BadMount) (Ok a) = ap (λ (o : Outcome). o.0) is in cc
+
+  -- a mount that is given back was there
+  mounted-before : (n : ℕ) × (mounted_on (shown_of old) m ≡ Some n)
+  mounted-before = elim next.step [
+    | inl is ↦
+        found-there (find nat_cmp m (map mount_of old.lists.mounts)) refl
+        (ap outcome (ap (find nat_cmp m) (sym pen.world.1.mounts)) ∙ is)
+    | inr refused ↦ let no : ◌≡◌ {A = Reply} (Ok a) (Err refused.error) = refused.reply_is in cc
+  ]
+
+-- ---- a retirement
+
+tells-freed : (old new : Layout) (segment count : ℕ) (gone : List ℕ) → Leads old new → new.lists ≡ old.lists
+    → IsReclaimed segment count old.store new.store → AreNumbersIn old.store segment gone
+    → TellsAll old new (where_any gone (Freed gone))
+tells-freed old new segment count gone leads lists reclaimed are =
+    tells-any old new gone (Freed gone) leads.now
+    (keeps-checkpoints old new leads.before leads.numbers
+    (subst (λ (l : Lists). KeepsRoots old.lists.table l.table) (sym lists) (roots-same old.lists.table)))
+    shown tt
+    (λ none. shown ∙ ap (λ (vs : List ℕ). record (shown_of old) { numbers = without_numbers vs (shown_of old).numbers }) none)
+  where
+    numbers : (shown_of new).numbers ≡ without_numbers gone (shown_of old).numbers
+    numbers = numbers-freed old new leads.before.sound.store leads.now.sound.store segment count gone reclaimed are
+
+    shown : shown_of new ≡ record (shown_of old) { numbers = without_numbers gone (shown_of old).numbers }
+    shown i = shown_with (numbers i) (lists i).table (lists i).mounts (lists i).given
+
+-- ---- modes
+
+one-mode : (a b : Mode) → is_other_mode a b ≡ false → a ≡ b
+one-mode Plain Plain is = refl
+one-mode Plain Snapshot is = absurd (true≢false is)
+one-mode Snapshot Plain is = absurd (true≢false is)
+one-mode Snapshot Snapshot is = refl
+
+-- ---- each event
+
+module _ (allowed : AllowedBetween) (old new : Layout) (pen : IsPen old) where
+  leads-on : (event : Event) (reply : Reply) → Does allowed old event reply new → Leads old new
+  leads-on event reply does = record { before = pen; now = does.pen; numbers = does.numbers }
+
+  tells-nothing-of : (more : List Commit) → more ≡ [] → shown_of new ≡ shown_of old → TellsAll old new more
+  tells-nothing-of more none same = subst (TellsAll old new) (sym none) (tells-nothing old new same)
+
+  -- a commit that tells nothing is left out
+  tells-if : {c : Commit} (b : Bool) → (b ≡ false → shown_of new ≡ shown_of old) → TellsAll old new (c ∷ [])
+      → TellsAll old new (noted_if b c)
+  tells-if true none tells = tells
+  tells-if false none tells = tells-nothing old new (none refl)
+
+  -- the mode that a checkpoint has, set once more
+  same-mode : (n : ℕ) (mode : Mode) → has_other_mode n mode old.lists.table ≡ false
+      → shown_of new ≡ record (shown_of old) { table = with_mode n mode old.lists.table } → shown_of new ≡ shown_of old
+  same-mode n mode same shown =
+      shown ∙ ap (λ (t : Table). record (shown_of old) { table = t })
+      (with_mode-same old.lists.table (pen-table old pen) n mode (λ c at. one-mode c.mode mode
+      (ap (λ o. option_map_or (λ (c : Checkpoint). is_other_mode c.mode mode) o false) (sym at) ∙ same)))
+
+  -- the commits of a done event tell all of it
+  tells-done : (event : Event) (a : Answer) (more : List Commit) → Does allowed old event (Ok a) new
+      → HasNoted old event a new more → TellsAll old new more
+  tells-done (event.Checkpoint mode moment) a more does noted =
+      subst (TellsAll old new) (sym noted.1)
+      (tells-written old new mode moment noted.0 (leads-on (event.Checkpoint mode moment) (Ok a) does))
+  tells-done (event.ChangeMode n mode) a more does noted =
+      subst (TellsAll old new) (sym noted)
+      (tells-if (has_other_mode n mode old.lists.table) (λ is. same-mode n mode is (ap shown_of does.touches))
+      (tells-commit old new (ModeSet n mode) (leads-on (event.ChangeMode n mode) (Ok a) does)
+      (subst (λ (l : Layout). KeepsRoots old.lists.table l.lists.table) (sym does.touches) (roots-moded n mode old.lists.table))
+      (ap shown_of does.touches) tt))
+  tells-done (event.Remove n) a more does noted =
+      let leads = leads-on (event.Remove n) (Ok a) does in
+      subst (TellsAll old new) (sym noted)
+      (tells-commit old new (Removed n) leads (roots-taken old new (n ∷ []) leads does.touches.0 does.touches.1)
+      (shown-taken old new (n ∷ []) leads does.touches.0 does.touches.1) tt)
+  tells-done (event.RemoveRange first last) (answer.Removed range) more does noted =
+      subst (TellsAll old new) (sym noted)
+      (tells-range old new range.removed (leads-on (event.RemoveRange first last) (Ok (answer.Removed range)) does)
+      does.touches.0.taken does.touches.1 first last (ap removed_by does.touches.0.judged))
+  tells-done (event.RemoveRange first last) _ more does noted = absurd does.touches.0
+  tells-done (event.Expire now period) (answer.Expired gone) more does noted =
+      subst (TellsAll old new) (sym noted)
+      (tells-range old new gone (leads-on (event.Expire now period) (Ok (answer.Expired gone)) does)
+      does.touches.0.taken does.touches.1 1 (boundary_in old.lists.table now period - 1) (sym does.touches.0.expired))
+  tells-done (event.Expire now period) _ more does noted = absurd does.touches.0
+  tells-done (event.Mount n) a more does noted =
+      subst (TellsAll old new) (sym noted)
+      (tells-commit old new (Mounted (record { number = old.lists.given + 1; checkpoint = n })) (leads-on (event.Mount n) (Ok a) does)
+      (subst (λ (l : Layout). KeepsRoots old.lists.table l.lists.table) (sym does.touches) (roots-same old.lists.table))
+      (ap shown_of does.touches) (omega arith))
+  tells-done (event.Unmount m) a more does noted =
+      subst (TellsAll old new) (sym noted)
+      (tells-commit old new (GivenBack m) (leads-on (event.Unmount m) (Ok a) does)
+      (subst (λ (l : Layout). KeepsRoots old.lists.table l.lists.table) (sym does.touches) (roots-same old.lists.table))
+      (ap shown_of does.touches) (mounted-before allowed old new m a pen does))
+  tells-done (event.Retire segment) a more does noted =
+      subst (TellsAll old new) (sym noted.2)
+      (tells-freed old new segment does.touches.emptied.count noted.0 (leads-on (event.Retire segment) (Ok a) does)
+      does.touches.lists does.touches.emptied.reclaimed noted.1)
+  tells-done (event.Move segment limit moment) a more does noted =
+      tells-nothing-of more noted
+      (same-parts old new does.touches.0
+      (numbers-moved old new pen.sound.store does.pen.sound.store segment old.lists.table.latest.number moment
+      (take limit (needed_in old.store (needed_by old.lists) segment)) does.touches.1.moved.moved))
+  tells-done (event.Apply change) a more does noted = tells-nothing-of more noted (ap shown_of does.touches.0)
+  tells-done (event.Read ask) a more does noted = tells-nothing-of more noted (ap shown_of does.touches)
+  tells-done (event.MountRead m ask) a more does noted = tells-nothing-of more noted (ap shown_of does.touches)
+  tells-done (event.Listing options) a more does noted = tells-nothing-of more noted (ap shown_of does.touches)
+
+  tells : (event : Event) (reply : Reply) (more : List Commit) → Does allowed old event reply new
+      → AreCommitsOf old event reply new more → TellsAll old new more
+  tells event (Ok a) more does noted = tells-done event a more does noted
+  tells event (Err e) more does none = tells-nothing-of more none (refused-shown event e old new does.touches)
+
+pub commits_tell_all : (allowed : AllowedBetween) → CommitsTellAll allowed
+commits_tell_all allowed old new event reply more pen does commits =
+    let all = tells allowed old new pen event reply more does commits in
+    record { commits = commits; image = all.image; next = all.next }

@@ -1,0 +1,10 @@
+use Rattle.nl_core.specs.Layout.{unshared}
+use Rattle.nl_core.specs.Notes.{shared}
+use Rattle.nl_core.proofs.Telling.{commits_tell_all}
+use Rattle.nl_core.proofs.laws.commits_tell_all.Goals as goal
+
+pub returns-clause-alone : goal.returns-clause-alone
+returns-clause-alone c = commits_tell_all unshared
+
+pub returns-clause-beside_readers : goal.returns-clause-beside_readers
+returns-clause-beside_readers c = commits_tell_all shared

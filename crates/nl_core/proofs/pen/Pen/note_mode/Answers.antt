@@ -1,0 +1,39 @@
+use Rattle.std.proofs.Common.{◌++◌, List, ap, sym, subst, ◌∙◌}
+use Rattle.std.specs.Prelude.{Ok, Err}
+use Rattle.std.proofs.lemmas.Result.{err_from_is_err_and}
+use Rattle.nl_types.specs.declared.event.Event.{Event}
+use Rattle.nl_core.specs.Layout.{Layout}
+use Rattle.nl_core.specs.Notes.{ChangesLists, HasNoted, has_other_mode, noted_if}
+use Rattle.nl_core.specs.declared.commit.Commit.{Commit}
+use Rattle.nl_core.specs.declared.commit.Commit.TheVariants.{ModeSet}
+use Rattle.nl_core.proofs.NotedEvents.{does-shared, noting, noting-refused, noting-unlisted}
+use Rattle.nl_core.proofs.pen.Pen.note_mode.Goals as goal
+
+pub returns-then-is_err : goal.returns-then-is_err
+returns-then-is_err g c =
+    noting-unlisted c.args.self.now c.args.event.now c.args.notes.now.items c.reserve.new.self.items c.means_a_world.ensures
+    (subst ChangesLists (sym c.requires) tt) c.reserve.ensures.items
+
+pub returns-in_err-answer : goal.returns-in_err-answer
+returns-in_err-answer g c =
+    let p = err_from_is_err_and c.from_residual.result c.from_residual.ensures.1 in
+    let old = c.args.self.now in
+    let new = c.apply.new.self in
+    let e = c.in_err-answer.field-0.0 in
+    rw (p.1, p.2)
+    (noting-refused old c.args.event.now new c.args.notes.now.items c.reserve.new.self.items c.means_a_world.ensures e
+    (does-shared old new c.args.event.now (Err e) c.in_err-answer.ensures) c.reserve.ensures.items)
+
+pub returns : goal.returns
+returns g c =
+    let old = c.args.self.now in
+    let new = c.apply.new.self in
+    let a = c.in_ok-answer.answer in
+    let commit : Commit = ModeSet c.args.number c.args.mode in
+    let more = noted_if c.has_other_mode-is_other.result commit in
+    let is_other = c.has_other_mode-is_other.ensures
+    ∙ ap (λ (l : Layout). has_other_mode c.args.number c.args.mode l.lists.table) c.self.view_is in
+    noting old c.args.event.now new c.args.notes.now.items c.note_if.new.notes.items c.means_a_world.ensures (Ok a) more
+    (does-shared old new c.args.event.now (Ok a) c.in_ok-answer.ensures)
+    (c.note_if.ensures ∙ ap (λ (ns : List Commit). ns ++ more) c.reserve.ensures.items)
+    (subst (λ (e : Event). HasNoted old e a new more) (sym c.requires) (ap (λ b. noted_if b commit) is_other))

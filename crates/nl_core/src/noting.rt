@@ -1,0 +1,244 @@
+//! Events with the commits that tell readers of them. What a commit takes of memory is taken before anything changes.
+ghost use Rattle.std.specs.Prelude.{◌≡◌, ◌<◌, ◌≤◌, ◌∷◌, ◌++◌, [], length, map, vec_capacity, vec_len, IfOk, IfErr, OnErr, OnOk};
+ghost use Rattle.std.specs.Option.{option_map};
+ghost use Rattle.nl_types.specs.declared.event.Event.TheVariants.{Checkpoint, Retire};
+ghost use Rattle.nl_vstore.specs.Batches.{births_of};
+ghost use Rattle.nl_vstore.specs.Located.{numbers_in, onto};
+ghost use Rattle.nl_vstore.specs.Stores.{content_in, numbered_in};
+ghost use Rattle.nl_core.specs.Draft.{CanBeDrafted, HasFewNames};
+ghost use Rattle.nl_core.specs.Layout.{HasRefused, IsPen, layout_of};
+ghost use Rattle.nl_core.specs.Notes.{AreNumbersIn, DoesNoting, HasNotedWrite, new_checkpoint, new_page, shown_of, shown_page, where_any};
+ghost use Rattle.nl_core.specs.Shown.{whole_of};
+
+use crate::cleaning::empty;
+use crate::commit::{Commit, NewPage, ShownPage, Whole, Written};
+use crate::draft::Draft;
+use crate::tables::Tables;
+use nl_cpfile::Checkpoint as Kept;
+use nl_files::laws::settled_numbers_are_lowest;
+use nl_space::Payload;
+use nl_types::{Answer, CheckpointNumber, Items, Mode, Reply, Segment, VirtualNumber, VolError};
+use nl_vstore::{Batch, Vstore};
+use std::alloc::{AllocError, Global};
+
+/// Puts a commit behind the others, where there is room.
+pub fn note(notes: &mut Vec<Commit>, commit: Commit)
+    requires { vec_len notes.old < vec_capacity notes.old }
+    ensures { notes.new.items ≡ notes.old.items ++ commit ∷ [] }
+{
+    if notes.push(commit).is_err() {
+        unreachable!();
+    }
+}
+
+// ---- a checkpoint
+
+/// The pages of births, under their numbers.
+fn new_pages(alloc: Global, births: &[Payload]) -> Result<Items<NewPage>, AllocError>
+    ensures { IfOk result (λ pages. pages ≡ map new_page (births_of births.now)) }
+{
+    let mut pages = Vec::with_capacity(alloc, births.len())?;
+    for birth in births {
+        let page = birth.1.share()?;
+        let number = birth.0.number;
+        pages.push(NewPage { number, page })?;
+    }
+    Ok(Items::from_vec(pages))
+}
+
+/// A checkpoint with what its batch changes.
+fn written(alloc: Global, batch: &Batch, checkpoint: Kept) -> Result<Commit, AllocError>
+    ensures { IfOk result (λ commit. commit ≡ Commit.Written (new_checkpoint batch.now checkpoint)) }
+{
+    let births = new_pages(alloc, batch.births())?;
+    let ends = batch.ends().to_vec(alloc)?;
+    Ok(Commit::Written(Written {
+        births,
+        ends: Items::from_vec(ends),
+        checkpoint,
+    }))
+}
+
+/// The commit of a draft, with room for it.
+fn drafted_commit(alloc: Global, draft: &Draft, notes: &mut Vec<Commit>) -> Result<Commit, VolError>
+    ensures commit { IfOk result (λ commit.
+        commit ≡ Commit.Written (new_checkpoint draft.now.batch draft.now.checkpoint)) }
+    ensures room { OnOk result (vec_len notes.new < vec_capacity notes.new) }
+    ensures same { notes.new.items ≡ notes.old.items }
+    ensures refused { OnErr result (result ≡ Err VolError.Memory) }
+{
+    if notes.reserve(1).is_err() {
+        return Err(VolError::Memory);
+    }
+    match written(alloc, &draft.batch, draft.checkpoint) {
+        Ok(commit) => Ok(commit),
+        Err(_) => Err(VolError::Memory),
+    }
+}
+
+/// Writes the next checkpoint, and notes it.
+fn write_noting<V: Vstore>(
+    alloc: Global,
+    tables: &mut Tables,
+    store: &mut V,
+    mode: Mode,
+    moment: u64,
+    notes: &mut Vec<Commit>,
+) -> Result<CheckpointNumber, VolError>
+    requires base { CanBeDrafted (content_in (V.store store.old)) tables.old.lists }
+    requires few { HasFewNames tables.old.lists }
+    ensures written { IfOk result (λ _. HasNotedWrite mode moment
+        (layout_of tables.old.lists (V.store store.old)) (layout_of tables.new.lists (V.store store.new))
+        notes.old.items notes.new.items) }
+    ensures number { IfOk result (λ number. number ≡ tables.new.lists.table.latest.number) }
+    ensures refused { IfErr result (λ e. HasRefused (Checkpoint mode moment) e
+        (layout_of tables.old.lists (V.store store.old)) (layout_of tables.new.lists (V.store store.new))) }
+    ensures same { OnErr result (notes.new.items ≡ notes.old.items) }
+    ensures counted { (V.store store.old).failures ≤ (V.store store.new).failures }
+{
+    // Whatever is settled takes the lowest numbers that are free.
+    settled_numbers_are_lowest();
+    let draft = tables.draft(alloc, store, mode, moment)?;
+    let checkpoint = draft.checkpoint;
+    let commit = drafted_commit(alloc, &draft, notes)?;
+    store.write(alloc, &draft.batch, checkpoint.number, checkpoint.stamp)?;
+    let number = tables.publish(checkpoint);
+    note(notes, commit);
+    Ok(number)
+}
+
+/// A checkpoint of a pen beside readers.
+pub fn note_checkpoint<V: Vstore>(
+    alloc: Global,
+    tables: &mut Tables,
+    store: &mut V,
+    mode: Mode,
+    moment: u64,
+    notes: &mut Vec<Commit>,
+) -> Reply
+    requires { IsPen (layout_of tables.old.lists (V.store store.old)) }
+    ensures { DoesNoting (layout_of tables.old.lists (V.store store.old)) (Checkpoint mode moment) result
+        (layout_of tables.new.lists (V.store store.new)) notes.old.items notes.new.items }
+{
+    let number = write_noting(alloc, tables, store, mode, moment, notes)?;
+    Ok(Answer::Checkpoint(number))
+}
+
+// ---- a retirement
+
+/// Puts a number behind the others, where there is one.
+fn push_found(
+    numbers: &mut Vec<VirtualNumber>,
+    found: Option<VirtualNumber>,
+) -> Result<(), AllocError>
+    ensures { OnOk result (numbers.new.items ≡ numbers.old.items ++ onto found []) }
+{
+    if let Some(number) = found {
+        numbers.push(number)?;
+    }
+    Ok(())
+}
+
+/// The numbers whose pages stand in a segment that there is, by block.
+fn listed_numbers<V: Vstore>(
+    alloc: Global,
+    store: &V,
+    segment: Segment,
+) -> Result<Vec<VirtualNumber>, AllocError>
+    requires { segment < length (V.store store.now).segments.each }
+    ensures { IfOk result (λ numbers. numbers.items ≡ numbers_in (V.store store.now) segment) }
+{
+    let mut numbers = Vec::new(alloc);
+    for position in 0..store.table().blocks() {
+        let found = store.at(segment, position);
+        push_found(&mut numbers, found)?;
+    }
+    Ok(numbers)
+}
+
+/// The numbers whose pages stand in a segment, by block: none where there is no such segment.
+fn segment_numbers<V: Vstore>(
+    alloc: Global,
+    store: &V,
+    segment: Segment,
+) -> Result<Vec<VirtualNumber>, AllocError>
+    ensures { IfOk result (λ numbers. AreNumbersIn (V.store store.now) segment numbers.items) }
+{
+    match store.table().suinfo(segment) {
+        Ok(_) => listed_numbers(alloc, store, segment),
+        Err(_) => Ok(Vec::new(alloc)),
+    }
+}
+
+/// Notes that numbers are out of use, where there are any.
+fn note_freed(notes: &mut Vec<Commit>, gone: Vec<VirtualNumber>)
+    requires { vec_len notes.old < vec_capacity notes.old }
+    ensures { notes.new.items ≡ notes.old.items ++ where_any gone.items (Commit.Freed gone.items) }
+{
+    if !gone.is_empty() {
+        note(notes, Commit::Freed(Items::from_vec(gone)));
+    }
+}
+
+/// Empties a segment in which no block is needed, and notes which numbers are out of use.
+pub fn note_retirement<V: Vstore>(
+    alloc: Global,
+    tables: &Tables,
+    store: &mut V,
+    segment: Segment,
+    notes: &mut Vec<Commit>,
+) -> Reply
+    requires { IsPen (layout_of tables.now.lists (V.store store.old)) }
+    ensures { DoesNoting (layout_of tables.now.lists (V.store store.old)) (Retire segment) result
+        (layout_of tables.now.lists (V.store store.new)) notes.old.items notes.new.items }
+{
+    let Ok(gone) = segment_numbers(alloc, &*store, segment) else {
+        return Err(VolError::Memory);
+    };
+    if notes.reserve(1).is_err() {
+        return Err(VolError::Memory);
+    }
+    let answer = empty(tables, store, segment)?;
+    note_freed(notes, gone);
+    Ok(answer)
+}
+
+// ---- all of it
+
+/// What readers see of a number, where it is in use.
+fn shown<V: Vstore>(store: &V, number: VirtualNumber) -> Result<Option<ShownPage>, AllocError>
+    ensures { IfOk result (λ page. page ≡ option_map shown_page (numbered_in (V.store store.now) number)) }
+{
+    let Some(page) = store.page(number) else {
+        return Ok(None);
+    };
+    let Some(period) = store.period(number) else {
+        return Ok(None);
+    };
+    let page = page.share()?;
+    Ok(Some(ShownPage { page, period }))
+}
+
+/// What readers see of each number, from 0 on.
+fn shown_numbers<V: Vstore>(
+    alloc: Global,
+    store: &V,
+) -> Result<Items<Option<ShownPage>>, AllocError>
+    ensures { IfOk result (λ numbers. numbers ≡ map (option_map shown_page) (V.store store.now).numbers) }
+{
+    let count = store.capacity() + 1;
+    let mut numbers = Vec::with_capacity(alloc, count as usize)?;
+    for number in 0..count {
+        let page = shown(store, VirtualNumber::new(number))?;
+        numbers.push(page)?;
+    }
+    Ok(Items::from_vec(numbers))
+}
+
+/// All that readers see.
+pub fn whole<V: Vstore>(alloc: Global, tables: &Tables, store: &V) -> Result<Whole, AllocError>
+    ensures { IfOk result (λ w. whole_of w ≡ shown_of (layout_of tables.now.lists (V.store store.now))) }
+{
+    let numbers = shown_numbers(alloc, store)?;
+    tables.whole(alloc, numbers)
+}

@@ -1,5 +1,0 @@
-use Rattle.nl_dat.proofs.BatchLaws.{Fits-none}
-use Rattle.nl_dat.proofs.batch.Batch.new.Goals as goal
-
-pub returns-clause-fits : goal.returns-clause-fits
-returns-clause-fits c = rw (c.new-births.ensures.items, c.new-ends.ensures.items) (λ capacity content. Fits-none capacity content)

@@ -1,0 +1,2 @@
+pub mod KeptLogs
+pub mod LogNumbers

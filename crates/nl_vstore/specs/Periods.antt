@@ -1,0 +1,16 @@
+-- The period of each virtual number.
+use Rattle.std.specs.Option.{option_map}
+use Rattle.nl_types.specs.PartialMaps.{Partial}
+use Rattle.nl_types.specs.Entries.{Entry, Content}
+use Rattle.nl_types.specs.declared.period.Period.{Period}
+
+-- the period of what a number stands for
+abbrev pub period_of : Entry → Period
+period_of e = record { start = e.start; end = e.end }
+
+-- the period of each number in use
+abbrev pub Periods : Type 0
+Periods = Partial Period
+
+abbrev pub periods_of : Content → Periods
+periods_of content v = option_map period_of (content v)
