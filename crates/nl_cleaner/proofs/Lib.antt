@@ -4,3 +4,4 @@ mod Found
 mod CleanRuns
 mod Rounds
 mod StepsLeft
+mod Oldest

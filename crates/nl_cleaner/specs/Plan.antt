@@ -1,9 +1,13 @@
--- Which segments a round of cleaning takes.
+-- Which segments a round of cleaning takes, and which of them comes next.
 use Rattle.std.specs.Prelude.{◌≡◌, ◌⊎◌, ◌<◌, ◌≤◌, ◌-◌, ℕ, Bool, true, false, ◌&&◌, nat_le, nat_lt, Option, None, Some, if◌then◌else◌, All, AllPairs, Contains, List, [], length}
+use Rattle.std.specs.List.{fold}
+use Rattle.nl_types.specs.declared.event.Event.{Event}
+use Rattle.nl_types.specs.declared.event.Event.TheVariants.{Expire, Move, Retire}
 use Rattle.nl_types.specs.declared.segment.SegmentInfo.{SegmentInfo}
 use Rattle.nl_types.specs.declared.segment.SegmentState.{SegmentState}
 use Rattle.nl_types.specs.declared.segment.SegmentState.TheVariants.{Clean, Dirty, Active, Error}
 use Rattle.nl_types.specs.Segments.{clean_segments, info_of}
+use Rattle.nl_types.specs.Worlds.{Reply}
 use Rattle.nl_vstore.specs.Located.{payload_count_in}
 use Rattle.nl_protect.specs.declared.amount.Amount.{Amount}
 use Rattle.nl_protect.specs.declared.config.Config.{Config}
@@ -12,7 +16,7 @@ use Rattle.nl_core.specs.CleanerViews.{needed_after}
 use Rattle.nl_core.specs.Layout.{Layout}
 use Rattle.nl_core.specs.Volume.{boundary_in}
 use Rattle.nl_cleaner.specs.declared.choice.Candidate.{Candidate}
-use Rattle.nl_cleaner.specs.Job.{JobView, Expiring}
+use Rattle.nl_cleaner.specs.Job.{JobView, Expiring, noted}
 
 -- ---- what a configuration asks of a pen
 
@@ -104,3 +108,32 @@ pub record IsPlan (l : Layout) (config : Config) (now : ℕ) (job : JobView) : T
   pub moment : job.moment ≡ now
   pub period : job.period ≡ config.protection_period
   pub taken : AreTaken l config now job.left
+
+-- ---- what comes next
+
+-- the round was planned on this layout, and is what replies made of it since
+pub record IsPlanned (planned : Layout) (job : JobView) : Type 0 where
+  pub config : Config
+  pub now : ℕ
+  pub begun : JobView
+  pub replies : List Reply
+  pub plan : IsPlan planned config now begun
+  pub since : job ≡ fold noted begun replies
+
+-- it moves pages out of the segment, or retires it
+abbrev pub Cleans : ℕ → Event → Type 0
+Cleans segment (Move s limit now) = s ≡ segment
+Cleans segment (Retire s) = s ≡ segment
+Cleans segment event = ⊥
+
+-- it cleans one of these segments, and all others are younger
+pub record CleansOldest (l : Layout) (left : List ℕ) (event : Event) : Type 0 where
+  pub segment : ℕ
+  pub cleans : Cleans segment event
+  pub among : Contains left segment
+  pub others : All (λ s. (s ≡ segment) ⊎ IsOlder l segment s) left
+
+-- it is the expiry, or cleans the oldest of the segments that are left, by the logs that the plan saw
+abbrev pub TakesOldest : Layout → JobView → Event → Type 0
+TakesOldest planned job event =
+    (event ≡ Expire job.moment job.period) ⊎ CleansOldest planned job.left event

@@ -1,7 +1,9 @@
 //! A round of cleaning as a machine: one event of the pen at a time.
-ghost use Rattle.std.specs.Prelude.{◌≡◌, ◌<◌, MatchOption, OnSome};
+ghost use Rattle.std.specs.Prelude.{◌≡◌, ◌<◌, IfSome, MatchOption, OnSome};
 ghost use Rattle.nl_types.specs.declared.event.Event.{Event};
+ghost use Rattle.nl_core.specs.Layout.{Layout};
 ghost use Rattle.nl_cleaner.specs.Job.{IsOver, Stepped, ends_round, next_event, noted, steps_left};
+ghost use Rattle.nl_cleaner.specs.Plan.{IsPlanned, TakesOldest};
 
 use nl_core::Pen;
 use nl_device::Device;
@@ -64,11 +66,13 @@ impl Job {
         }
     }
 
-    /// The event that comes next in the round, if one does: the expiry, and then moves out of the first segment that is left and
-    /// its retirement, segment by segment in the order of the plan. Whoever does it hands the reply to `note`, and no other
+    /// The event that comes next on this pen: the expiry, and then moves out of the oldest of the segments that are left and its
+    /// retirement. None where the round is over. It only looks: whoever does the event hands the reply to `note`, and no other
     /// event's, before asking again; `step` does both on a pen alone.
     pub fn next<D: Device>(&self, pen: &Pen<D>) -> Option<Event>
-        ensures { result ≡ next_event self.now pen.now }
+        ensures next { result ≡ next_event self.now pen.now }
+        ensures oldest { (planned : Layout) → IsPlanned planned self.now
+            → IfSome result (TakesOldest planned self.now) }
     {
         match self.stage {
             Stage::Expiring => Some(Event::Expire {
@@ -92,8 +96,8 @@ impl Job {
         }
     }
 
-    /// Takes note of the reply to the event that came next. A refusal for want of space or of memory or for a fault ends the
-    /// round; a segment that can't be cleaned, or is clean, is done.
+    /// Takes note of the reply to the event that came next. A refused expiry ends the round, and so does want of
+    /// space or of memory or a fault; a retirement and any other refusal bring the next segment.
     pub fn note(&mut self, reply: &Reply)
         ensures { self.new ≡ noted self.old reply.now }
     {

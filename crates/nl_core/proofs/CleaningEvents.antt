@@ -23,7 +23,7 @@ use Rattle.nl_reclaim.specs.Cleaning.{HasMovedFirst, HasMovedNone, freed_by, jud
 use Rattle.nl_reclaim.specs.declared.moving.MoveCount.{MoveCount}
 use Rattle.nl_core.specs.CleanedPens.{LeavesPen, StaysPen}
 use Rattle.nl_core.specs.CleaningEvents.{cleaned_by, move_count, moved_answer, moved_by, needed_by, retired_by}
-use Rattle.nl_core.specs.Layout.{Does, IsPen, MeansWorld, layout_of, ledger_of, unshared, IsRetirementRefusal}
+use Rattle.nl_core.specs.Layout.{Does, IsPen, IsRetirementRefusal, MeansWorld, layout_of, ledger_of, unshared}
 use Rattle.nl_core.specs.Volume.{Lists}
 use Rattle.nl_core.proofs.CleanedPens.{moves_keep_pens, refused_moves_keep_pens, retirements_keep_pens}
 use Rattle.nl_core.proofs.Ledgers.{same-numbers}

@@ -1,6 +1,6 @@
 -- What comes of the draft of a checkpoint.
 use Rattle.std.proofs.Common.{◌≡◌, ℕ, ◌+◌, List, [], ◌∷◌, ◌++◌, refl, ap, sym, subst, ◌∙◌, arith}
-use Rattle.std.specs.Prelude.{max}
+use Rattle.std.specs.Prelude.{Result, Ok, Err, IfErr, IfOk, OnErr, OnOk, max}
 use Rattle.nl_types.specs.declared.error.VolError.{VolError}
 use Rattle.nl_types.specs.declared.error.VolError.TheVariants as error
 use Rattle.nl_types.specs.declared.event.Event.TheVariants as event
@@ -40,38 +40,31 @@ module _ (lists : Lists) (store : Store) (mode : Mode) (moment : ℕ) (draft : D
         limit = drafted.left;
       }))
 
-  -- the batch is written, and the checkpoint is kept
-  pub written-draft : SettledNumbersAreLowest → (now : Lists) (after : Store) → now ≡ published draft.checkpoint lists
-      → IsWritten draft.checkpoint.number draft.checkpoint.stamp draft.batch store after
-      → HasWritten mode moment (layout_of lists store) (layout_of now after)
-  written-draft lowest now after is written =
-      subst (λ (ls : Lists). HasWritten mode moment (layout_of lists store) (layout_of ls after)) (sym is) (record {
-        left = drafted.left;
-        settled = settled-draft;
-        numbers = lowest (content_in store) (root_of (latest_root lists)) (root_of (root_in draft.checkpoint)) lists.current.became can.2 draft.batch
-            (drafted.settles can.1 can.2 can.3);
-        lists = ap (λ (c : Checkpoint). published c lists) drafted.checkpoint;
-        written = written;
-      })
+  module _ (lowest : SettledNumbersAreLowest) (now : Lists) (after : Store) (is : now ≡ published draft.checkpoint lists)
+      (written : IsWritten draft.checkpoint.number draft.checkpoint.stamp draft.batch store after) where
+    -- the batch is written, and the checkpoint is kept
+    abbrev writes-draft : HasWritten mode moment (layout_of lists store) (layout_of (published draft.checkpoint lists) after)
+    writes-draft = record {
+      left = drafted.left;
+      settled = settled-draft;
+      numbers = lowest (content_in store) (root_of (latest_root lists)) (root_of (root_in draft.checkpoint))
+          lists.current.became can.2 draft.batch (drafted.settles can.1 can.2 can.3);
+      lists = ap (λ (c : Checkpoint). published c lists) drafted.checkpoint;
+      written = written;
+    }
 
-  -- and it is noted
-  pub noted-draft : SettledNumbersAreLowest → (now : Lists) (after : Store) (before notes : List Commit) (commit : Commit)
-      → now ≡ published draft.checkpoint lists
-      → IsWritten draft.checkpoint.number draft.checkpoint.stamp draft.batch store after
-      → commit ≡ Written (new_checkpoint draft.batch draft.checkpoint) → notes ≡ before ++ commit ∷ []
-      → HasNotedWrite mode moment (layout_of lists store) (layout_of now after) before notes
-  noted-draft lowest now after before notes commit is written told behind =
-      subst (λ (ls : Lists). HasNotedWrite mode moment (layout_of lists store) (layout_of ls after) before notes) (sym is) (record {
-        writes = record {
-          left = drafted.left;
-          settled = settled-draft;
-          numbers = lowest (content_in store) (root_of (latest_root lists)) (root_of (root_in draft.checkpoint)) lists.current.became can.2 draft.batch
-              (drafted.settles can.1 can.2 can.3);
-          lists = ap (λ (c : Checkpoint). published c lists) drafted.checkpoint;
-          written = written;
-        };
-        behind = behind ∙ ap (λ (c : Commit). before ++ c ∷ []) told;
-      })
+    pub written-draft : HasWritten mode moment (layout_of lists store) (layout_of now after)
+    written-draft = subst (λ (ls : Lists). HasWritten mode moment (layout_of lists store) (layout_of ls after)) (sym is) writes-draft
+
+    -- and it is noted
+    pub noted-draft : (before notes : List Commit) (commit : Commit)
+        → commit ≡ Written (new_checkpoint draft.batch draft.checkpoint) → notes ≡ before ++ commit ∷ []
+        → HasNotedWrite mode moment (layout_of lists store) (layout_of now after) before notes
+    noted-draft before notes commit told behind =
+        subst (λ (ls : Lists). HasNotedWrite mode moment (layout_of lists store) (layout_of ls after) before notes) (sym is) (record {
+          writes = writes-draft;
+          behind = behind ∙ ap (λ (c : Commit). before ++ c ∷ []) told;
+        })
 
   -- the batch is not written
   refused : (e : VolError) (after : Store)
@@ -88,3 +81,20 @@ module _ (lists : Lists) (store : Store) (mode : Mode) (moment : ℕ) (draft : D
       → HasRefused (event.Checkpoint mode moment) e (layout_of lists store) (layout_of lists after)
   refused-draft e after why =
       refused e after (subst (λ (c : Checkpoint). IsWriteRefused c.number c.stamp draft.batch store after e) drafted.checkpoint why)
+
+  -- so it is of any result, where the lists were still the same before the write
+  module _ {A : Type 0} (before now : Lists) (after : Store) (same : before ≡ lists) where
+    pub written-where_ok : (r : Result A VolError) → SettledNumbersAreLowest → OnOk r (now ≡ published draft.checkpoint before)
+        → OnOk r (IsWritten draft.checkpoint.number draft.checkpoint.stamp draft.batch store after)
+        → IfOk r (λ _. HasWritten mode moment (layout_of lists store) (layout_of now after))
+    written-where_ok (Ok a) lowest kept written =
+        written-draft lowest now after (kept ∙ ap (published draft.checkpoint) same) written
+    written-where_ok (Err e) lowest kept written = tt
+
+    pub refused-where_err : (r : Result A VolError) → OnErr r (now ≡ before)
+        → IfErr r (IsWriteRefused draft.checkpoint.number draft.checkpoint.stamp draft.batch store after)
+        → IfErr r (λ e. HasRefused (event.Checkpoint mode moment) e (layout_of lists store) (layout_of now after))
+    refused-where_err (Ok a) stays why = tt
+    refused-where_err (Err e) stays why =
+        subst (λ (ls : Lists). HasRefused (event.Checkpoint mode moment) e (layout_of lists store) (layout_of ls after))
+        (sym (stays ∙ same)) (refused-draft e after why)

@@ -27,9 +27,11 @@ pub mod NextCleaning
 pub mod LedgerEvents
 pub mod ShownNumbers
 pub mod Images
+pub mod SameModes
 pub mod Keeping
-pub mod Telling
 pub mod Histories
+pub mod MountEvents
+pub mod Telling
 pub mod NotedEvents
 pub mod GivenBack
 pub mod ShownStores

@@ -1,26 +1,26 @@
 -- Events beside readers, with the commits that they note.
-use Rattle.std.proofs.Common.{◌≡◌, ℕ, ◌+◌, ◌≤◌, List, [], ◌∷◌, ◌++◌, refl, ap, sym, ◌∙◌, inl, inr, arith}
+use Rattle.std.proofs.Common.{◌≡◌, ℕ, ◌<◌, ◌≤◌, List, [], ◌∷◌, ◌++◌, length, refl, ap, sym, ◌∙◌, inl, inr, false, arith}
 use Rattle.std.specs.Prelude.{Ok, Err}
 use Rattle.std.proofs.lemmas.List.{append-nil}
 use Rattle.nl_types.specs.declared.error.VolError.{VolError}
 use Rattle.nl_types.specs.declared.error.VolError.TheVariants as error
-use Rattle.nl_types.specs.declared.event.Ask.{Ask}
-use Rattle.nl_types.specs.declared.event.Change.{Change}
 use Rattle.nl_types.specs.declared.event.Event.{Event}
 use Rattle.nl_types.specs.declared.event.Event.TheVariants as event
 use Rattle.nl_types.specs.declared.event.Mode.{Mode}
 use Rattle.nl_types.specs.declared.reply.Answer.{Answer}
 use Rattle.nl_types.specs.declared.reply.Answer.TheVariants as answer
-use Rattle.nl_types.specs.declared.row.ListOptions.{ListOptions}
 use Rattle.nl_types.specs.Runs.{Step}
 use Rattle.nl_types.specs.Worlds.{Reply, World}
+use Rattle.nl_vstore.specs.Located.{numbers_in}
 use Rattle.nl_vstore.specs.Stores.{IsStore}
+use Rattle.nl_core.specs.CleaningEvents.{needed_by}
 use Rattle.nl_core.specs.Layout.{Does, HasRefused, IsPen, Layout, Touches, cleaned, unshared}
-use Rattle.nl_core.specs.Notes.{AreCommitsOf, AreNumbersIn, ChangesLists, DoesNoting, HasNotedWrite, new_checkpoint, shared, where_any}
+use Rattle.nl_core.specs.Notes.{AreCommitsOf, ChangesLists, DoesNoting, HasNoted, HasNotedWrite, has_other_mode, new_checkpoint, shared, where_any, where_true}
 use Rattle.nl_core.specs.declared.commit.Commit.{Commit}
-use Rattle.nl_core.specs.declared.commit.Commit.TheVariants.{Freed, Mounted, Written}
+use Rattle.nl_core.specs.declared.commit.Commit.TheVariants.{Freed, ModeSet, Written}
 use Rattle.nl_core.proofs.Checkpointing.{does-refused, does-written}
 use Rattle.nl_core.proofs.Ledgers.{same-numbers}
+use Rattle.nl_core.proofs.Outside.{retired-inside}
 use Rattle.nl_core.proofs.Telling.{commits_tell_all}
 
 -- ---- beside readers
@@ -72,7 +72,13 @@ unlisted l (event.RemoveRange first last) lists = refl
 unlisted l (event.Expire now period) lists = refl
 unlisted l (event.Mount n) lists = refl
 unlisted l (event.Unmount m) lists = refl
-unlisted l _ lists = absurd lists
+unlisted l (event.Checkpoint mode moment) lists = absurd lists
+unlisted l (event.Move segment limit moment) lists = absurd lists
+unlisted l (event.Retire segment) lists = absurd lists
+unlisted l (event.Apply change) lists = absurd lists
+unlisted l (event.Read ask) lists = absurd lists
+unlisted l (event.MountRead m ask) lists = absurd lists
+unlisted l (event.Listing options) lists = absurd lists
 
 -- ---- with commits
 
@@ -105,67 +111,57 @@ noting-unretired l segment before after pen same =
 
 -- ---- events of which nothing is seen
 
-module _ (old new : Layout) (before : List Commit) (pen : IsPen old) where
-  noting-none : (event : Event) (reply : Reply) → Does unshared old event reply new → AreCommitsOf old event reply new []
-      → DoesNoting old event reply new before before
-  noting-none event reply does none =
-      noting old event new before before pen reply [] (does-shared old new event reply does) (sym (append-nil before)) none
-
-  pub noting-Apply : (c : Change) (reply : Reply) → Does unshared old (event.Apply c) reply new
-      → DoesNoting old (event.Apply c) reply new before before
-  noting-Apply c (Ok a) does = noting-none (event.Apply c) (Ok a) does refl
-  noting-Apply c (Err e) does = noting-none (event.Apply c) (Err e) does refl
-
-  pub noting-Read : (a : Ask) (reply : Reply) → Does unshared old (event.Read a) reply new
-      → DoesNoting old (event.Read a) reply new before before
-  noting-Read a (Ok done) does = noting-none (event.Read a) (Ok done) does refl
-  noting-Read a (Err e) does = noting-none (event.Read a) (Err e) does refl
-
-  pub noting-MountRead : (m : ℕ) (a : Ask) (reply : Reply) → Does unshared old (event.MountRead m a) reply new
-      → DoesNoting old (event.MountRead m a) reply new before before
-  noting-MountRead m a (Ok done) does = noting-none (event.MountRead m a) (Ok done) does refl
-  noting-MountRead m a (Err e) does = noting-none (event.MountRead m a) (Err e) does refl
-
-  pub noting-Listing : (options : ListOptions) (reply : Reply) → Does unshared old (event.Listing options) reply new
-      → DoesNoting old (event.Listing options) reply new before before
-  noting-Listing options (Ok done) does = noting-none (event.Listing options) (Ok done) does refl
-  noting-Listing options (Err e) does = noting-none (event.Listing options) (Err e) does refl
-
-  pub noting-Move : (segment limit now : ℕ) (reply : Reply) → Does unshared old (event.Move segment limit now) reply new
-      → DoesNoting old (event.Move segment limit now) reply new before before
-  noting-Move segment limit now (Ok done) does = noting-none (event.Move segment limit now) (Ok done) does refl
-  noting-Move segment limit now (Err e) does = noting-none (event.Move segment limit now) (Err e) does refl
-
--- any of them
 abbrev pub IsUnseen : Event → Type 0
 IsUnseen (event.Apply c) = Unit {0}
 IsUnseen (event.Read a) = Unit {0}
 IsUnseen (event.Move segment limit now) = Unit {0}
 IsUnseen (event.MountRead m a) = Unit {0}
 IsUnseen (event.Listing options) = Unit {0}
-IsUnseen _ = ⊥
+IsUnseen (event.Checkpoint mode moment) = ⊥
+IsUnseen (event.ChangeMode n mode) = ⊥
+IsUnseen (event.Remove n) = ⊥
+IsUnseen (event.RemoveRange first last) = ⊥
+IsUnseen (event.Expire now period) = ⊥
+IsUnseen (event.Retire segment) = ⊥
+IsUnseen (event.Mount n) = ⊥
+IsUnseen (event.Unmount m) = ⊥
 
-pub noting-unseen : (old new : Layout) (before : List Commit) → IsPen old → (event : Event) (reply : Reply) → IsUnseen event
-    → Does unshared old event reply new → DoesNoting old event reply new before before
-noting-unseen old new before pen (event.Apply c) reply unseen does = noting-Apply old new before pen c reply does
-noting-unseen old new before pen (event.Read a) reply unseen does = noting-Read old new before pen a reply does
-noting-unseen old new before pen (event.Move segment limit now) reply unseen does =
-    noting-Move old new before pen segment limit now reply does
-noting-unseen old new before pen (event.MountRead m a) reply unseen does = noting-MountRead old new before pen m a reply does
-noting-unseen old new before pen (event.Listing options) reply unseen does = noting-Listing old new before pen options reply does
-noting-unseen old new before pen _ reply unseen does = absurd unseen
+module _ (old new : Layout) (before : List Commit) (pen : IsPen old) where
+  noting-none : (event : Event) (reply : Reply) → Does unshared old event reply new → AreCommitsOf old event reply new []
+      → DoesNoting old event reply new before before
+  noting-none event reply does none =
+      noting old event new before before pen reply [] (does-shared old new event reply does) (sym (append-nil before)) none
 
--- ---- a mount
+  none-noted : (event : Event) (a : Answer) → IsUnseen event → HasNoted old event a new []
+  none-noted (event.Apply c) a unseen = refl
+  none-noted (event.Read ask) a unseen = refl
+  none-noted (event.Move segment limit now) a unseen = refl
+  none-noted (event.MountRead m ask) a unseen = refl
+  none-noted (event.Listing options) a unseen = refl
+  none-noted (event.Checkpoint mode moment) a unseen = absurd unseen
+  none-noted (event.ChangeMode n mode) a unseen = absurd unseen
+  none-noted (event.Remove n) a unseen = absurd unseen
+  none-noted (event.RemoveRange first last) a unseen = absurd unseen
+  none-noted (event.Expire now period) a unseen = absurd unseen
+  none-noted (event.Retire segment) a unseen = absurd unseen
+  none-noted (event.Mount n) a unseen = absurd unseen
+  none-noted (event.Unmount m) a unseen = absurd unseen
 
-pub noting-Mount : (old new : Layout) (n number : ℕ) (a : Answer) (before after : List Commit) → IsPen old
-    → Does unshared old (event.Mount n) (Ok a) new → number ≡ new.lists.given
-    → after ≡ before ++ Mounted (record { number = number; checkpoint = n }) ∷ []
-    → DoesNoting old (event.Mount n) (Ok a) new before after
-noting-Mount old new n number a before after pen does given behind =
-    let next : number ≡ old.lists.given + 1 = given ∙ ap (λ (l : Layout). l.lists.given) does.touches in
-    noting old (event.Mount n) new before after pen (Ok a) (Mounted (record { number = number; checkpoint = n }) ∷ [])
-    (does-shared old new (event.Mount n) (Ok a) does) behind
-    (ap (λ k. Mounted (record { number = k; checkpoint = n }) ∷ []) next)
+  pub noting-unseen : (event : Event) (reply : Reply) → IsUnseen event → Does unshared old event reply new
+      → DoesNoting old event reply new before before
+  noting-unseen event (Ok a) unseen does = noting-none event (Ok a) does (none-noted event a unseen)
+  noting-unseen event (Err e) unseen does = noting-none event (Err e) does refl
+
+-- ---- a mode that is there
+
+pub noting-same_mode : (old new : Layout) (n : ℕ) (mode : Mode) (reply : Reply) (before : List Commit) → IsPen old
+    → has_other_mode n mode old.lists.table ≡ false → Does unshared old (event.ChangeMode n mode) reply new
+    → DoesNoting old (event.ChangeMode n mode) reply new before before
+noting-same_mode old new n mode (Ok a) before pen same does =
+    noting-none old new before pen (event.ChangeMode n mode) (Ok a) does
+    (sym (ap (λ b. where_true b (ModeSet n mode)) same))
+noting-same_mode old new n mode (Err e) before pen same does =
+    noting-none old new before pen (event.ChangeMode n mode) (Err e) does refl
 
 -- ---- checkpoints and retirements
 
@@ -186,12 +182,15 @@ noting-unwritten old new mode moment e before after pen refused store same =
     (does-shared old new (event.Checkpoint mode moment) (Err e) (does-refused old new mode moment e pen refused store)) same
 
 pub noting-retired : (old new : Layout) (segment : ℕ) (a : Answer) (gone : List ℕ) (before after : List Commit) → IsPen old
-    → Does unshared old (event.Retire segment) (Ok a) new → AreNumbersIn old.store segment gone
+    → Does unshared old (event.Retire segment) (Ok a) new
+    → (segment < length old.store.segments.each → gone ≡ numbers_in old.store segment)
     → after ≡ before ++ where_any gone (Freed gone)
     → DoesNoting old (event.Retire segment) (Ok a) new before after
 noting-retired old new segment a gone before after pen does are behind =
+    let there = retired-inside old.store (needed_by old.lists) segment does.touches.emptied.count does.touches.emptied.judged in
     noting old (event.Retire segment) new before after pen (Ok a) (where_any gone (Freed gone))
-    (does-shared old new (event.Retire segment) (Ok a) does) behind (gone, are, refl)
+    (does-shared old new (event.Retire segment) (Ok a) does) behind
+    (ap (λ (vs : List ℕ). where_any vs (Freed vs)) (are there))
 
 pub noting-not_retired : (old new : Layout) (segment : ℕ) (e : VolError) (before after : List Commit) → IsPen old
     → Does unshared old (event.Retire segment) (Err e) new → after ≡ before

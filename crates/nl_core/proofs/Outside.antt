@@ -1,6 +1,6 @@
--- Where there is no segment, nothing is needed and nothing has payload.
-use Rattle.std.proofs.Common.{◌≡◌, ℕ, ◌+◌, ◌-◌, ◌*◌, ◌<◌, ◌≤◌, Bool, true, ◌||◌, List, [], ◌∷◌, Option, Some, None, Result, Ok, Err, slice_get, inl, inr, length, refl, sym, ap, subst, ◌∙◌, arith, false}
-use Rattle.std.proofs.lemmas.Bool.{eq-eqb, cases_Bool}
+-- Where there is no segment, nothing is needed, nothing has payload and nothing is emptied.
+use Rattle.std.proofs.Common.{◌≡◌, ℕ, ◌+◌, ◌-◌, ◌*◌, ◌<◌, ◌≤◌, Bool, true, ◌||◌, List, [], ◌∷◌, Option, Some, None, Result, Ok, Err, slice_get, inl, inr, length, refl, sym, ap, subst, ◌∙◌, arith}
+use Rattle.std.proofs.lemmas.Bool.{eq-eqb}
 use Rattle.std.proofs.lemmas.List.{get_or_past}
 use Rattle.std.proofs.lemmas.Option.{slice_get_cases}
 use Rattle.std.specs.Option.{ok_or}
@@ -12,6 +12,7 @@ use Rattle.nl_types.specs.Entries.{Entry}
 use Rattle.nl_types.specs.PartialMaps.{is_one_of}
 use Rattle.nl_vstore.specs.Located.{needed_count, needed_in, payload_block, payload_count_in, picked}
 use Rattle.nl_vstore.specs.Stores.{IsStore, Store, address_in, is_inside}
+use Rattle.nl_reclaim.specs.Cleaning.{freed_by, judged_info, retired}
 use Rattle.nl_vstore.proofs.NumberAt.{inside-high, inside-low, needed-inside}
 use Rattle.nl_dat.proofs.Positions.{position-used}
 
@@ -55,22 +56,12 @@ no-segment s t segment r e is refused shown = elim (slice_get_cases s.each segme
     not-found : (info : SegmentInfo) → ◌≡◌ {A = Result SegmentInfo VolError} (Err e) (Ok info) → ⊥
     not-found info h = cc
 
--- and no number has its page there
-pub numbers-outside : (s : Store) (segment v : ℕ) → IsStore s → length s.segments.each ≤ segment
-    → false ≡ is_inside s.segments segment (address_in s v)
-numbers-outside s segment v store past = by (address_in s v) refl
-  where
-    nowhere : (o : Option ℕ) → address_in s v ≡ o → is_inside s.segments segment o ≡ true → ⊥
-    nowhere None at inside = cc
-    nowhere (Some b) at inside =
-        let low : segment * s.segments.blocks ≤ b = inside-low s.segments segment b inside in
-        let high : b < segment * s.segments.blocks + s.segments.blocks = inside-high s.segments segment b inside in
-        let used : b - segment * s.segments.blocks < (info_of s.segments.each segment).used =
-        position-used s.segments segment (b - segment * s.segments.blocks) b store.limits.tidy (store.used v b at) (omega (arith, low)) (omega (arith, low, high)) in
-        absurd (omega (arith, used, unused-outside s segment past))
-
-    by : (o : Option ℕ) → address_in s v ≡ o → false ≡ is_inside s.segments segment o
-    by o at = elim (cases_Bool (is_inside s.segments segment o)) [
-      | inl t ↦ absurd (nowhere o at t)
-      | inr t ↦ sym t
-    ]
+-- a segment that is emptied is there
+pub retired-inside : (s : Store) (needed : Entry → Bool) (segment count : ℕ) → retired s needed segment ≡ Ok count
+    → segment < length s.segments.each
+retired-inside s needed segment count is = elim (slice_get_cases s.segments.each segment).1 [
+  | inl there ↦ there.1
+  | inr past ↦
+      let refused : ◌≡◌ {A = Result ℕ VolError} (Err BadRange) (Ok count) =
+      sym (ap (λ (o : Option SegmentInfo). freed_by (judged_info o) s needed segment) past.1) ∙ is in cc
+]

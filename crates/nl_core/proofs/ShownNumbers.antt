@@ -15,7 +15,7 @@ use Rattle.nl_vstore.specs.Periods.{period_of}
 use Rattle.nl_dat.proofs.BlockCounts.{total-with_logs}
 use Rattle.nl_core.specs.Commits.{begun_at, ended_at, with_births, with_ends, without_numbers}
 use Rattle.nl_core.specs.Layout.{Layout, pages_in}
-use Rattle.nl_core.specs.Notes.{AreNumbersIn, new_page, shown_of, shown_page}
+use Rattle.nl_core.specs.Notes.{new_page, shown_of, shown_page}
 use Rattle.nl_core.specs.Shown.{page_of, pages_shown, shown_at}
 use Rattle.nl_core.specs.declared.commit.ShownPage.{ShownPage}
 
@@ -203,7 +203,8 @@ module _ (old new : Layout) (before : IsStore old.store) (now : IsStore new.stor
 
   -- a retirement shows that its numbers are out of use
   pub numbers-freed : (segment count : ℕ) (gone : List ℕ) → IsReclaimed segment count old.store new.store
-      → AreNumbersIn old.store segment gone → (shown_of new).numbers ≡ without_numbers gone (shown_of old).numbers
+      → ((v : ℕ) → is_one_of gone v ≡ is_inside old.store.segments segment (address_in old.store v))
+      → (shown_of new).numbers ≡ without_numbers gone (shown_of old).numbers
   numbers-freed segment count gone reclaimed are =
       shown-is old new (without_numbers gone (shown_of old).numbers) (left_of gone (content_in old.store))
       (size-total old.store new.store before now

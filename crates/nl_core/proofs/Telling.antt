@@ -1,43 +1,41 @@
 -- What an event does to a pen is told by its commits.
-use Rattle.std.proofs.Common.{◌≡◌, ℕ, ◌+◌, ◌-◌, Bool, true, false, true≢false, List, [], ◌∷◌, Option, Some, None, refl, ap, sym, subst, take, ◌∙◌, inl, inr, arith}
+use Rattle.std.proofs.Common.{◌≡◌, ℕ, ◌+◌, ◌-◌, Bool, true, false, List, [], ◌∷◌, Option, refl, ap, sym, subst, take, ◌∙◌, arith}
 use Rattle.std.specs.Prelude.{Ok, Err, MatchResult, Result, fold, map}
-use Rattle.std.specs.List.{filter}
-use Rattle.std.specs.Option.{ok_or, option_map, option_map_or}
-use Rattle.std.specs.Ordering.{nat_cmp}
-use Rattle.std.specs.FinMap.{find}
+use Rattle.std.specs.Option.{option_map}
 use Rattle.nl_types.specs.declared.error.VolError.{VolError}
 use Rattle.nl_types.specs.declared.error.VolError.TheVariants as error
 use Rattle.nl_types.specs.declared.event.Event.{Event}
 use Rattle.nl_types.specs.declared.event.Event.TheVariants as event
 use Rattle.nl_types.specs.declared.event.Mode.{Mode}
-use Rattle.nl_types.specs.declared.event.Mode.TheVariants.{Plain, Snapshot}
 use Rattle.nl_types.specs.declared.reply.Answer.{Answer}
 use Rattle.nl_types.specs.declared.reply.Answer.TheVariants as answer
 use Rattle.nl_types.specs.declared.segment.SegmentInfo.{SegmentInfo}
 use Rattle.nl_types.specs.CheckpointLaws.{removed_by}
-use Rattle.nl_types.specs.Worlds.{Outcome, Reply, World, either, mounts_without}
+use Rattle.nl_types.specs.Worlds.{Reply}
 use Rattle.nl_vstore.specs.Batches.{Changes}
-use Rattle.nl_vstore.specs.Located.{needed_in}
+use Rattle.nl_vstore.specs.Located.{needed_in, numbers_in}
 use Rattle.nl_vstore.specs.Stores.{IsMoveRefused, IsReclaimed, Numbered, Store}
+use Rattle.nl_vstore.proofs.NumberAt.{in-numbers}
 use Rattle.nl_reclaim.specs.Cleaning.{judged_for}
-use Rattle.nl_cpfile.specs.Tables.{Table, is_kept_without, range_in, with_mode, with_next, without}
+use Rattle.nl_cpfile.specs.Tables.{Table, range_in, with_mode, with_next, without}
 use Rattle.nl_cpfile.specs.declared.checkpoint.Checkpoint.{Checkpoint}
 use Rattle.nl_core.specs.CleaningEvents.{needed_by}
 use Rattle.nl_core.specs.Commits.{AllNext, IsImage, IsNew, KeepsCheckpoints, applied, numbers_written, without_numbers}
-use Rattle.nl_core.specs.Layout.{AllowedBetween, Does, HasRefused, HasWritten, IsPen, KeepsNumbers, Layout, cleaned, layout_of, pages_in}
-use Rattle.nl_core.specs.Means.{LeadsOn}
-use Rattle.nl_core.specs.Notes.{AreCommitsOf, AreNumbersIn, CommitsTellAll, HasNoted, has_other_mode, is_other_mode, new_checkpoint, noted_if, shown_of, shown_page, where_any}
-use Rattle.nl_core.specs.Shown.{Shown, mounted_on}
-use Rattle.nl_core.specs.Volume.{IsTakenOut, Lists, boundary_in, mount_of}
+use Rattle.nl_core.specs.Layout.{AllowedBetween, Does, HasRefused, HasWritten, IsPen, KeepsNumbers, Layout, layout_of}
+use Rattle.nl_core.specs.Notes.{AreCommitsOf, CommitsTellAll, HasNoted, freed_in, has_other_mode, mounted_as, new_checkpoint, shown_of, shown_page, where_any, where_true}
+use Rattle.nl_core.specs.Shown.{Shown}
+use Rattle.nl_core.specs.Volume.{IsTakenOut, Lists, boundary_in, with_checkpoint_mode}
 use Rattle.nl_core.specs.declared.commit.Commit.{Commit}
 use Rattle.nl_core.specs.declared.commit.Commit.TheVariants.{Freed, GivenBack, ModeSet, Mounted, RangeRemoved, Removed, Written}
 use Rattle.nl_core.specs.declared.commit.ShownPage.{ShownPage}
 use Rattle.nl_core.specs.declared.mounts.Mounted.{Mounted as Mount}
 use Rattle.nl_core.proofs.Checkpoints.{latest-next, number-next}
 use Rattle.nl_core.proofs.CleanedPens.{refused-numbers}
-use Rattle.nl_cpfile.proofs.Found.{with_mode-same}
+use Rattle.nl_core.proofs.ExpiredNumbers.{without-none}
 use Rattle.nl_core.proofs.Images.{pen-image, pen-table}
 use Rattle.nl_core.proofs.Keeping.{KeepsRoots, keeps-checkpoints, roots-moded, roots-next, roots-same, roots-without}
+use Rattle.nl_core.proofs.MountEvents.{answers-mount, mounted-before}
+use Rattle.nl_core.proofs.SameModes.{no-other_mode}
 use Rattle.nl_core.proofs.ShownNumbers.{numbers-freed, numbers-moved, numbers-written}
 
 -- ---- commits that tell what readers see
@@ -86,14 +84,6 @@ same-parts old new lists numbers i = shown_with (numbers i) (lists i).table (lis
 same-store : (old new : Layout) → new.lists ≡ old.lists → new.store.numbers ≡ old.store.numbers → shown_of new ≡ shown_of old
 same-store old new lists numbers =
     same-parts old new lists (ap (λ (vs : List (Option Numbered)). map (option_map shown_page) vs) numbers)
-
--- without a number, a table stays
-none-gone : (kept : List Checkpoint) → filter (is_kept_without []) kept ≡ kept
-none-gone [] = refl
-none-gone (c ∷ kept) = ap (λ cs. c ∷ cs) (none-gone kept)
-
-without-none : (t : Table) → without [] t ≡ t
-without-none t = ap (λ (cs : List Checkpoint). record t { earlier = cs }) (none-gone t.earlier)
 
 -- ---- refused events
 
@@ -183,59 +173,46 @@ module _ (old new : Layout) (gone : List ℕ) (leads : Leads old new) (taken : I
       (λ none. shown-taken ∙ ap (λ (ns : List ℕ). shown_without ns (shown_of old)) none
       ∙ ap (λ (t : Table). record (shown_of old) { table = t }) (without-none old.lists.table))
 
--- ---- an unmount
+-- ---- a change of a mode
 
-module _ (allowed : AllowedBetween) (old new : Layout) (m : ℕ) (a : Answer) (pen : IsPen old)
-    (does : Does allowed old (event.Unmount m) (Ok a) new) where
-  abbrev w : World
-  w = pen.world.0
+tells-moded : (old new : Layout) (n : ℕ) (mode : Mode) → Leads old new
+    → new ≡ layout_of (with_checkpoint_mode n mode old.lists) old.store
+    → TellsAll old new (where_true (has_other_mode n mode old.lists.table) (ModeSet n mode))
+tells-moded old new n mode leads is = by (has_other_mode n mode old.lists.table) refl
+  where
+    shown : shown_of new ≡ record (shown_of old) { table = with_mode n mode old.lists.table }
+    shown = ap shown_of is
 
-  abbrev next : LeadsOn (allowed old new) (cleaned old (event.Unmount m)) w (event.Unmount m) (Ok a) (pages_in new) new.lists
-  next = does.follows w pen.world.1
-
-  -- what the unmount does, once it is known what is mounted
-  abbrev outcome : Option ℕ → Outcome
-  outcome o = either w (ok_or o error.BadMount) (λ _. (Ok answer.Done, record w { mounts = mounts_without m w.mounts }))
-
-  found-there : (o : Option ℕ) → find nat_cmp m (map mount_of old.lists.mounts) ≡ o → outcome o ≡ (Ok a, next.after)
-      → (n : ℕ) × (find nat_cmp m (map mount_of old.lists.mounts) ≡ Some n)
-  found-there (Some n) at is = (n, at)
-  found-there None at is = let no : ◌≡◌ {A = Reply} (Err error.BadMount) (Ok a) = ap (λ (o : Outcome). o.0) is in cc
-
-  -- a mount that is given back was there
-  mounted-before : (n : ℕ) × (mounted_on (shown_of old) m ≡ Some n)
-  mounted-before = elim next.step [
-    | inl is ↦
-        found-there (find nat_cmp m (map mount_of old.lists.mounts)) refl
-        (ap outcome (ap (find nat_cmp m) (sym pen.world.1.mounts)) ∙ is)
-    | inr refused ↦ let no : ◌≡◌ {A = Reply} (Ok a) (Err refused.error) = refused.reply_is in cc
-  ]
+    by : (b : Bool) → has_other_mode n mode old.lists.table ≡ b → TellsAll old new (where_true b (ModeSet n mode))
+    by true other =
+        tells-commit old new (ModeSet n mode) leads
+        (subst (λ (l : Layout). KeepsRoots old.lists.table l.lists.table) (sym is) (roots-moded n mode old.lists.table))
+        shown tt
+    by false same =
+        tells-nothing old new
+        (shown ∙ ap (λ (t : Table). record (shown_of old) { table = t })
+        (no-other_mode n mode old.lists.table (pen-table old leads.before) same))
 
 -- ---- a retirement
 
-tells-freed : (old new : Layout) (segment count : ℕ) (gone : List ℕ) → Leads old new → new.lists ≡ old.lists
-    → IsReclaimed segment count old.store new.store → AreNumbersIn old.store segment gone
-    → TellsAll old new (where_any gone (Freed gone))
-tells-freed old new segment count gone leads lists reclaimed are =
+tells-freed : (old new : Layout) (segment count : ℕ) → Leads old new → new.lists ≡ old.lists
+    → IsReclaimed segment count old.store new.store → TellsAll old new (freed_in old.store segment)
+tells-freed old new segment count leads lists reclaimed =
     tells-any old new gone (Freed gone) leads.now
     (keeps-checkpoints old new leads.before leads.numbers
     (subst (λ (l : Lists). KeepsRoots old.lists.table l.table) (sym lists) (roots-same old.lists.table)))
     shown tt
     (λ none. shown ∙ ap (λ (vs : List ℕ). record (shown_of old) { numbers = without_numbers vs (shown_of old).numbers }) none)
   where
+    gone : List ℕ
+    gone = numbers_in old.store segment
+
     numbers : (shown_of new).numbers ≡ without_numbers gone (shown_of old).numbers
-    numbers = numbers-freed old new leads.before.sound.store leads.now.sound.store segment count gone reclaimed are
+    numbers = numbers-freed old new leads.before.sound.store leads.now.sound.store segment count gone reclaimed
+        (λ v. in-numbers old.store segment v leads.before.sound.store)
 
     shown : shown_of new ≡ record (shown_of old) { numbers = without_numbers gone (shown_of old).numbers }
     shown i = shown_with (numbers i) (lists i).table (lists i).mounts (lists i).given
-
--- ---- modes
-
-one-mode : (a b : Mode) → is_other_mode a b ≡ false → a ≡ b
-one-mode Plain Plain is = refl
-one-mode Plain Snapshot is = absurd (true≢false is)
-one-mode Snapshot Plain is = absurd (true≢false is)
-one-mode Snapshot Snapshot is = refl
 
 -- ---- each event
 
@@ -246,20 +223,6 @@ module _ (allowed : AllowedBetween) (old new : Layout) (pen : IsPen old) where
   tells-nothing-of : (more : List Commit) → more ≡ [] → shown_of new ≡ shown_of old → TellsAll old new more
   tells-nothing-of more none same = subst (TellsAll old new) (sym none) (tells-nothing old new same)
 
-  -- a commit that tells nothing is left out
-  tells-if : {c : Commit} (b : Bool) → (b ≡ false → shown_of new ≡ shown_of old) → TellsAll old new (c ∷ [])
-      → TellsAll old new (noted_if b c)
-  tells-if true none tells = tells
-  tells-if false none tells = tells-nothing old new (none refl)
-
-  -- the mode that a checkpoint has, set once more
-  same-mode : (n : ℕ) (mode : Mode) → has_other_mode n mode old.lists.table ≡ false
-      → shown_of new ≡ record (shown_of old) { table = with_mode n mode old.lists.table } → shown_of new ≡ shown_of old
-  same-mode n mode same shown =
-      shown ∙ ap (λ (t : Table). record (shown_of old) { table = t })
-      (with_mode-same old.lists.table (pen-table old pen) n mode (λ c at. one-mode c.mode mode
-      (ap (λ o. option_map_or (λ (c : Checkpoint). is_other_mode c.mode mode) o false) (sym at) ∙ same)))
-
   -- the commits of a done event tell all of it
   tells-done : (event : Event) (a : Answer) (more : List Commit) → Does allowed old event (Ok a) new
       → HasNoted old event a new more → TellsAll old new more
@@ -268,10 +231,7 @@ module _ (allowed : AllowedBetween) (old new : Layout) (pen : IsPen old) where
       (tells-written old new mode moment noted.0 (leads-on (event.Checkpoint mode moment) (Ok a) does))
   tells-done (event.ChangeMode n mode) a more does noted =
       subst (TellsAll old new) (sym noted)
-      (tells-if (has_other_mode n mode old.lists.table) (λ is. same-mode n mode is (ap shown_of does.touches))
-      (tells-commit old new (ModeSet n mode) (leads-on (event.ChangeMode n mode) (Ok a) does)
-      (subst (λ (l : Layout). KeepsRoots old.lists.table l.lists.table) (sym does.touches) (roots-moded n mode old.lists.table))
-      (ap shown_of does.touches) tt))
+      (tells-moded old new n mode (leads-on (event.ChangeMode n mode) (Ok a) does) does.touches)
   tells-done (event.Remove n) a more does noted =
       let leads = leads-on (event.Remove n) (Ok a) does in
       subst (TellsAll old new) (sym noted)
@@ -288,7 +248,7 @@ module _ (allowed : AllowedBetween) (old new : Layout) (pen : IsPen old) where
       does.touches.0.taken does.touches.1 1 (boundary_in old.lists.table now period - 1) (sym does.touches.0.expired))
   tells-done (event.Expire now period) _ more does noted = absurd does.touches.0
   tells-done (event.Mount n) a more does noted =
-      subst (TellsAll old new) (sym noted)
+      subst (TellsAll old new) (sym (noted ∙ ap (λ (b : Answer). mounted_as b n) (answers-mount allowed old new n a pen does)))
       (tells-commit old new (Mounted (record { number = old.lists.given + 1; checkpoint = n })) (leads-on (event.Mount n) (Ok a) does)
       (subst (λ (l : Layout). KeepsRoots old.lists.table l.lists.table) (sym does.touches) (roots-same old.lists.table))
       (ap shown_of does.touches) (omega arith))
@@ -298,9 +258,9 @@ module _ (allowed : AllowedBetween) (old new : Layout) (pen : IsPen old) where
       (subst (λ (l : Layout). KeepsRoots old.lists.table l.lists.table) (sym does.touches) (roots-same old.lists.table))
       (ap shown_of does.touches) (mounted-before allowed old new m a pen does))
   tells-done (event.Retire segment) a more does noted =
-      subst (TellsAll old new) (sym noted.2)
-      (tells-freed old new segment does.touches.emptied.count noted.0 (leads-on (event.Retire segment) (Ok a) does)
-      does.touches.lists does.touches.emptied.reclaimed noted.1)
+      subst (TellsAll old new) (sym noted)
+      (tells-freed old new segment does.touches.emptied.count (leads-on (event.Retire segment) (Ok a) does)
+      does.touches.lists does.touches.emptied.reclaimed)
   tells-done (event.Move segment limit moment) a more does noted =
       tells-nothing-of more noted
       (same-parts old new does.touches.0

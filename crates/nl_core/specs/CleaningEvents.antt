@@ -1,7 +1,7 @@
 -- What moves out of segments and retirements of segments answer, and what they do to the blocks.
 use Rattle.std.specs.Prelude.{◌≡◌, ℕ, Bool, false, List, Ok, map, min}
 use Rattle.nl_types.specs.declared.event.Event.{Event}
-use Rattle.nl_types.specs.declared.event.Event.TheVariants.{Move, Retire}
+use Rattle.nl_types.specs.declared.event.Event.TheVariants as event
 use Rattle.nl_types.specs.declared.reply.Answer.{Answer}
 use Rattle.nl_types.specs.declared.reply.Answer.TheVariants.{Done, Freed, Moved}
 use Rattle.nl_types.specs.Calls.{and_then}
@@ -41,9 +41,19 @@ retired_by l s segment = and_then (retired s (needed_by l) segment) (λ count. O
 
 -- what these two answer; that of other events is not looked at
 abbrev pub cleaned_by : Lists → Store → Event → Reply
-cleaned_by l s (Move segment limit now) = moved_by l s segment limit
-cleaned_by l s (Retire segment) = retired_by l s segment
-cleaned_by l s event = Ok Done
+cleaned_by l s (event.Move segment limit now) = moved_by l s segment limit
+cleaned_by l s (event.Retire segment) = retired_by l s segment
+cleaned_by l s (event.Apply change) = Ok Done
+cleaned_by l s (event.Read ask) = Ok Done
+cleaned_by l s (event.Checkpoint mode moment) = Ok Done
+cleaned_by l s (event.ChangeMode n mode) = Ok Done
+cleaned_by l s (event.Remove n) = Ok Done
+cleaned_by l s (event.RemoveRange first last) = Ok Done
+cleaned_by l s (event.Expire now period) = Ok Done
+cleaned_by l s (event.Mount n) = Ok Done
+cleaned_by l s (event.Unmount m) = Ok Done
+cleaned_by l s (event.MountRead m ask) = Ok Done
+cleaned_by l s (event.Listing options) = Ok Done
 
 -- ---- what they do
 

@@ -9,7 +9,7 @@ use Rattle.nl_types.specs.Trees.{Tree}
 use Rattle.nl_layout.specs.Root.{root_of}
 use Rattle.nl_layout.specs.declared.root.Root.{Root}
 use Rattle.nl_files.specs.Held.{IsTreeSound}
-use Rattle.nl_cpfile.specs.Tables.{IsTable, kept_at, range_in, root_in, with_mode, with_next, without}
+use Rattle.nl_cpfile.specs.Tables.{IsTable, Table, kept_at, range_in, root_in, with_mode, with_next, without}
 use Rattle.nl_cpfile.specs.declared.checkpoint.Checkpoint.{Checkpoint}
 use Rattle.nl_core.specs.Means.{RootMeans}
 use Rattle.nl_core.specs.Layout.{reached_by}
@@ -39,7 +39,8 @@ with_births c (b ∷ births) numbers = with_births c births (slice_set numbers b
 -- each of these numbers ends at checkpoint c
 abbrev pub with_ends : ℕ → List ℕ → List (Option ShownPage) → List (Option ShownPage)
 with_ends c [] numbers = numbers
-with_ends c (v ∷ ends) numbers = with_ends c ends (slice_set numbers v (option_map (ended_at c) (shown_at numbers v)))
+with_ends c (v ∷ ends) numbers =
+    with_ends c ends (slice_set numbers v (option_map (ended_at c) (shown_at numbers v)))
 
 -- each of these numbers is out of use
 abbrev pub without_numbers : List ℕ → List (Option ShownPage) → List (Option ShownPage)
@@ -75,7 +76,8 @@ pub record HasTree (pages : Pages) (root : Root) : Type 0 where
   pub tree : Tree
   pub means : RootMeans pages root tree
 
--- Each kept checkpoint stands for a tree. A mount was given its number, and its checkpoint is kept and a snapshot.
+-- Each kept checkpoint stands for a tree. A mount was given its number, and its checkpoint is a kept
+-- snapshot.
 pub record IsImage (x : Shown) : Type 0 where
   pub table : IsTable x.table
   pub trees : (n : ℕ) (c : Checkpoint) → kept_at n x.table ≡ Some c → HasTree (pages_shown x) (root_in c)
@@ -123,19 +125,20 @@ abbrev pub IsHistory : List Commit → Type 0
 IsHistory (Whole w ∷ commits) = IsImage (whole_of w) × AllNext (whole_of w) commits
 IsHistory log = ⊥
 
--- ---- what a mount shows
+-- ---- laws of histories
 
--- A mount is still there, and so is its checkpoint, with its places, their pages and its tree.
-pub record ShowsOn (x y : Shown) (m n : ℕ) (c : Checkpoint) : Type 0 where
+-- The mount is still there, of the same checkpoint, which is still a snapshot, and has the places, the
+-- pages and the tree that it had.
+pub record StillShows (x y : Shown) (m n : ℕ) (c : Checkpoint) : Type 0 where
   pub mounted : mounted_on y m ≡ Some n
   pub now : Checkpoint
   pub kept : kept_at n y.table ≡ Some now
+  pub snapshot : now.mode ≡ Snapshot
   pub keeps : KeepsCheckpoint (pages_shown x) (pages_shown y) c now
 
 -- what a mount shows in an image it shows in each later one, until it is given back
-abbrev pub MountsShowOn : Type 0
-MountsShowOn =
-    (x : Shown) (commits : List Commit) (m n : ℕ) (c : Checkpoint)
-    → mounted_on x m ≡ Some n → kept_at n x.table ≡ Some c → AllNext x commits
-    → AllByRecursion (λ (d : Commit). d ≢ GivenBack m) commits
-    → ShowsOn x (fold applied x commits) m n c
+abbrev pub MountsStillShow : Type 0
+MountsStillShow =
+    (x : Shown) (commits : List Commit) (m n : ℕ) (c : Checkpoint) → IsImage x → AllNext x commits
+    → mounted_on x m ≡ Some n → kept_at n x.table ≡ Some c
+    → AllByRecursion (λ (d : Commit). d ≢ GivenBack m) commits → StillShows x (fold applied x commits) m n c

@@ -3,6 +3,7 @@ use Rattle.std.specs.Prelude.{◌≡◌, ◌≢◌, ◌⊎◌, ℕ, List, Ok, Er
 use Rattle.nl_types.specs.declared.error.VolError.{VolError}
 use Rattle.nl_types.specs.declared.error.VolError.TheVariants.{NoSpace, Fault, Memory}
 use Rattle.nl_types.specs.declared.event.Event.{Event}
+use Rattle.nl_types.specs.declared.event.Event.TheVariants as event
 use Rattle.nl_types.specs.declared.event.Event.TheVariants.{Checkpoint, Expire, Move, RemoveRange}
 use Rattle.nl_types.specs.declared.event.Mode.{Mode}
 use Rattle.nl_types.specs.declared.reply.Answer.TheVariants.{Expired, Removed}
@@ -38,7 +39,18 @@ RunsLeadOn allowed =
 -- all is as it was; of a move's reads some may have failed and been tried again, which is counted
 abbrev pub IsAsBefore : Event → Layout → Layout → Type 0
 IsAsBefore (Move segment limit moment) old new = (new.lists ≡ old.lists) × KeepsStored old.store new.store
-IsAsBefore event old new = new ≡ old
+IsAsBefore (event.Apply change) old new = new ≡ old
+IsAsBefore (event.Read ask) old new = new ≡ old
+IsAsBefore (Checkpoint mode moment) old new = new ≡ old
+IsAsBefore (event.ChangeMode n mode) old new = new ≡ old
+IsAsBefore (event.Remove n) old new = new ≡ old
+IsAsBefore (RemoveRange first last) old new = new ≡ old
+IsAsBefore (Expire now period) old new = new ≡ old
+IsAsBefore (event.Retire segment) old new = new ≡ old
+IsAsBefore (event.Mount n) old new = new ≡ old
+IsAsBefore (event.Unmount m) old new = new ≡ old
+IsAsBefore (event.MountRead m ask) old new = new ≡ old
+IsAsBefore (event.Listing options) old new = new ≡ old
 
 -- a refusal but for a fault leaves the pen and its device as they were
 abbrev pub RefusalsKeepPens : AllowedBetween → Type 0

@@ -6,7 +6,7 @@ use Rattle.nl_types.specs.declared.error.VolError.TheVariants.{NoSpace, Fault, M
 use Rattle.nl_types.specs.declared.event.Event.{Event}
 use Rattle.nl_types.specs.declared.event.Mode.{Mode}
 use Rattle.nl_types.specs.declared.event.Event.TheVariants as variant
-use Rattle.nl_types.specs.declared.event.Event.TheVariants.{Apply, ChangeMode, Checkpoint, Expire, Mount, Move, RemoveRange, Retire, Unmount}
+use Rattle.nl_types.specs.declared.event.Event.TheVariants.{Apply, ChangeMode, Checkpoint, Expire, Listing, Mount, MountRead, Move, Read, RemoveRange, Retire, Unmount}
 use Rattle.nl_types.specs.declared.geometry.Geometry.{Geometry}
 use Rattle.nl_types.specs.declared.reply.Answer.{Answer}
 use Rattle.nl_types.specs.Lifetimes.{Numbers, Ledger, IsLedger, KeepsCovered, EndsOnce, Write, Remove, ledger_after_all, blank}
@@ -144,7 +144,9 @@ HasDone old (Move segment limit moment) answer new =
 HasDone old (Retire segment) answer new = HasRetired segment answer old new
 HasDone old (Mount n) answer new = new ≡ layout_of (with_mount n old.lists) old.store
 HasDone old (Unmount m) answer new = new ≡ layout_of (without_mount m old.lists) old.store
-HasDone old event answer new = new ≡ old
+HasDone old (Read ask) answer new = new ≡ old
+HasDone old (MountRead m ask) answer new = new ≡ old
+HasDone old (Listing options) answer new = new ≡ old
 
 -- ---- and a refused one
 
@@ -184,7 +186,16 @@ HasRefused (Move segment limit moment) e old new =
     (new.lists ≡ old.lists)
     × HasMovedNone (needed_by old.lists) segment limit old.lists.table.latest.number moment old.store new.store e
 HasRefused (Retire segment) e old new = (new ≡ old) × IsRetirementRefusal old segment e
-HasRefused event e old new = new ≡ old
+HasRefused (Apply change) e old new = new ≡ old
+HasRefused (Read ask) e old new = new ≡ old
+HasRefused (ChangeMode n mode) e old new = new ≡ old
+HasRefused (variant.Remove n) e old new = new ≡ old
+HasRefused (RemoveRange first last) e old new = new ≡ old
+HasRefused (Expire now period) e old new = new ≡ old
+HasRefused (Mount n) e old new = new ≡ old
+HasRefused (Unmount m) e old new = new ≡ old
+HasRefused (MountRead m ask) e old new = new ≡ old
+HasRefused (Listing options) e old new = new ≡ old
 
 abbrev pub Touches : Layout → Event → Reply → Layout → Type 0
 Touches old event reply new =
@@ -212,7 +223,17 @@ pub record IsFormatted (geometry : Geometry) (pages : DevicePages) (failures now
 abbrev pub LacksSpaceFor : Layout → Event → Type 0
 LacksSpaceFor l (Checkpoint mode moment) = LacksSpaceToSettle l
 LacksSpaceFor l (Move segment limit moment) = LacksSpaceToMove l.lists l.store segment limit
-LacksSpaceFor l event = ⊥
+LacksSpaceFor l (Apply change) = ⊥
+LacksSpaceFor l (Read ask) = ⊥
+LacksSpaceFor l (ChangeMode n mode) = ⊥
+LacksSpaceFor l (variant.Remove n) = ⊥
+LacksSpaceFor l (RemoveRange first last) = ⊥
+LacksSpaceFor l (Expire now period) = ⊥
+LacksSpaceFor l (Retire segment) = ⊥
+LacksSpaceFor l (Mount n) = ⊥
+LacksSpaceFor l (Unmount m) = ⊥
+LacksSpaceFor l (MountRead m ask) = ⊥
+LacksSpaceFor l (Listing options) = ⊥
 
 -- The device failed during the event, and at a checkpoint though there was space. Of a move it is not told whether one of its
 -- reads failed or one of its writes, so nor whether there was space.

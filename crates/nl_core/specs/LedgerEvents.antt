@@ -28,7 +28,14 @@ done_events old new (event.Remove n) answer done = Remove n ∷ []
 done_events old new (event.RemoveRange first last) answer done = map Remove (taken_out answer)
 done_events old new (event.Expire now period) answer done = map Remove (taken_out answer)
 done_events old new (event.Retire segment) answer done = Reclaim (stood_in old.store segment) ∷ []
-done_events old new event answer done = []
+done_events old new (event.Apply change) answer done = []
+done_events old new (event.Read ask) answer done = []
+done_events old new (event.ChangeMode n mode) answer done = []
+done_events old new (event.Move segment limit moment) answer done = []
+done_events old new (event.Mount n) answer done = []
+done_events old new (event.Unmount m) answer done = []
+done_events old new (event.MountRead m ask) answer done = []
+done_events old new (event.Listing options) answer done = []
 
 -- a refused event is none
 abbrev pub ledger_events : (old new : Layout) (event : Event) (reply : Reply) → Touches old event reply new → List LedgerEvent

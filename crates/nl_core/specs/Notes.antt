@@ -1,20 +1,19 @@
 -- What readers see of a pen, and the commits of its events.
-use Rattle.std.specs.Prelude.{◌≡◌, ℕ, ◌+◌, ◌-◌, Bool, true, false, List, [], ◌∷◌, ◌++◌, fold, map, MatchResult}
+use Rattle.std.specs.Prelude.{◌≡◌, ℕ, ◌-◌, ◌||◌, Bool, false, true, List, [], ◌∷◌, ◌++◌, fold, map, MatchResult}
 use Rattle.std.specs.Option.{option_map, option_map_or}
 use Rattle.nl_types.specs.declared.error.VolError.TheVariants as error
 use Rattle.nl_types.specs.declared.event.Event.{Event}
 use Rattle.nl_types.specs.declared.event.Event.TheVariants as event
 use Rattle.nl_types.specs.declared.event.Mode.{Mode}
-use Rattle.nl_types.specs.declared.event.Mode.TheVariants.{Plain, Snapshot}
 use Rattle.nl_types.specs.declared.reply.Answer.{Answer}
 use Rattle.nl_types.specs.declared.reply.Answer.TheVariants as answer
 use Rattle.nl_types.specs.Entries.{Birth}
-use Rattle.nl_types.specs.PartialMaps.{is_one_of}
-use Rattle.nl_types.specs.Worlds.{Reply}
+use Rattle.nl_types.specs.Worlds.{Reply, is_given_up}
 use Rattle.nl_cpfile.specs.Tables.{Table, kept_at}
 use Rattle.nl_cpfile.specs.declared.checkpoint.Checkpoint.{Checkpoint}
 use Rattle.nl_vstore.specs.Batches.{Changes}
-use Rattle.nl_vstore.specs.Stores.{Numbered, Store, address_in, is_inside}
+use Rattle.nl_vstore.specs.Located.{numbers_in}
+use Rattle.nl_vstore.specs.Stores.{Numbered, Store}
 use Rattle.nl_vstore.specs.Periods.{period_of}
 use Rattle.nl_core.specs.Commits.{AllNext, IsImage, applied}
 use Rattle.nl_core.specs.Layout.{AllowedBetween, Does, HasWritten, IsPen, Layout, unshared}
@@ -57,22 +56,20 @@ abbrev pub new_checkpoint : Changes → Checkpoint → NewCheckpoint
 new_checkpoint changes checkpoint =
     record { births = map new_page changes.births; ends = changes.ends; checkpoint = checkpoint }
 
+-- whether one of the modes is given up for the other
 abbrev pub is_other_mode : Mode → Mode → Bool
-is_other_mode Plain Plain = false
-is_other_mode Plain Snapshot = true
-is_other_mode Snapshot Plain = true
-is_other_mode Snapshot Snapshot = false
+is_other_mode old new = is_given_up old new || is_given_up new old
 
 -- whether the checkpoint of a number is kept in another mode
 abbrev pub has_other_mode : ℕ → Mode → Table → Bool
 has_other_mode n mode t = option_map_or (λ (c : Checkpoint). is_other_mode c.mode mode) (kept_at n t) false
 
--- a commit that is one only where it tells anything
-abbrev pub noted_if : Bool → Commit → List Commit
-noted_if true c = c ∷ []
-noted_if false c = []
+-- a commit that is one only where it changes something
+abbrev pub where_true : Bool → Commit → List Commit
+where_true true c = c ∷ []
+where_true false c = []
 
--- a commit that is one only where something goes
+-- or where something goes
 abbrev pub where_any : {A : Type 0} → List A → Commit → List Commit
 where_any [] c = []
 where_any (x ∷ gone) c = c ∷ []
@@ -83,27 +80,34 @@ where_gone (answer.Removed range) c = where_any range.removed c
 where_gone (answer.Expired gone) c = where_any gone c
 where_gone a c = []
 
--- these are the numbers whose pages stand in the segment
-abbrev pub AreNumbersIn : Store → (segment : ℕ) → List ℕ → Type 0
-AreNumbersIn s segment gone = (v : ℕ) → is_one_of gone v ≡ is_inside s.segments segment (address_in s v)
+-- that of a mount of a checkpoint, with the number that is answered
+abbrev pub mounted_as : Answer → ℕ → List Commit
+mounted_as (answer.Mount m) n = Mounted (record { number = m; checkpoint = n }) ∷ []
+mounted_as a n = []
 
--- What readers see changes by one commit at most. File calls, reads, listings and moves change nothing of it.
+-- that of a move, by its answer: nothing is seen of where a page stands
+abbrev pub moved_as : Answer → List Commit
+moved_as a = []
+
+-- that of a retirement: the numbers whose pages stand in the segment, by block
+abbrev pub freed_in : Store → (segment : ℕ) → List Commit
+freed_in s segment = where_any (numbers_in s segment) (Freed (numbers_in s segment))
+
+-- what readers see changes by one commit at most
 abbrev pub HasNoted : Layout → Event → Answer → Layout → List Commit → Type 0
 HasNoted old (event.Checkpoint mode moment) a new more =
     (writes : HasWritten mode moment old new)
     × (more ≡ Written (new_checkpoint writes.settled.changes new.lists.table.latest) ∷ [])
 HasNoted old (event.ChangeMode n mode) a new more =
-    more ≡ noted_if (has_other_mode n mode old.lists.table) (ModeSet n mode)
+    more ≡ where_true (has_other_mode n mode old.lists.table) (ModeSet n mode)
 HasNoted old (event.Remove n) a new more = more ≡ Removed n ∷ []
 HasNoted old (event.RemoveRange first last) a new more = more ≡ where_gone a (RangeRemoved first last)
 HasNoted old (event.Expire now period) a new more =
     more ≡ where_gone a (RangeRemoved 1 (boundary_in old.lists.table now period - 1))
-HasNoted old (event.Mount n) a new more =
-    more ≡ Mounted (record { number = old.lists.given + 1; checkpoint = n }) ∷ []
+HasNoted old (event.Move segment limit moment) a new more = more ≡ moved_as a
+HasNoted old (event.Retire segment) a new more = more ≡ freed_in old.store segment
+HasNoted old (event.Mount n) a new more = more ≡ mounted_as a n
 HasNoted old (event.Unmount m) a new more = more ≡ GivenBack m ∷ []
-HasNoted old (event.Retire segment) a new more =
-    (gone : List ℕ) × AreNumbersIn old.store segment gone × (more ≡ where_any gone (Freed gone))
-HasNoted old (event.Move segment limit moment) a new more = more ≡ []
 HasNoted old (event.Apply change) a new more = more ≡ []
 HasNoted old (event.Read ask) a new more = more ≡ []
 HasNoted old (event.MountRead m ask) a new more = more ≡ []
@@ -115,7 +119,8 @@ AreCommitsOf old event reply new more =
     MatchResult reply (λ a. HasNoted old event a new more) (λ _. more ≡ [])
 
 -- they lead from what readers saw to what they see then, and may follow
-pub record IsNoted (old : Layout) (event : Event) (reply : Reply) (new : Layout) (more : List Commit) : Type 0 where
+pub record IsNoted (old : Layout) (event : Event) (reply : Reply) (new : Layout)
+    (more : List Commit) : Type 0 where
   pub commits : AreCommitsOf old event reply new more
   pub image : shown_of new ≡ fold applied (shown_of old) more
   pub next : AllNext (shown_of old) more
@@ -124,24 +129,28 @@ pub record IsNoted (old : Layout) (event : Event) (reply : Reply) (new : Layout)
 abbrev pub CommitsTellAll : AllowedBetween → Type 0
 CommitsTellAll allowed =
     (old new : Layout) (event : Event) (reply : Reply) (more : List Commit) → IsPen old
-    → Does allowed old event reply new → AreCommitsOf old event reply new more → IsNoted old event reply new more
+    → Does allowed old event reply new → AreCommitsOf old event reply new more
+    → IsNoted old event reply new more
 
 -- ---- events beside readers
 
--- An event is done beside readers, and its commits are noted behind those before. Of memory it may be refused in any event.
-pub record DoesNoting (old : Layout) (event : Event) (reply : Reply) (new : Layout) (before after : List Commit) : Type 0 where
+-- An event is done beside readers, and its commits are noted behind those before. Memory may be refused to
+-- any event.
+pub record DoesNoting (old : Layout) (event : Event) (reply : Reply) (new : Layout)
+    (before after : List Commit) : Type 0 where
   pub does : Does shared old event reply new
   pub more : List Commit
   pub behind : after ≡ before ++ more
   pub noted : IsNoted old event reply new more
 
--- a checkpoint was written, and is noted
-pub record HasNotedWrite (mode : Mode) (moment : ℕ) (old new : Layout) (before after : List Commit) : Type 0 where
+-- a checkpoint was written, and is noted behind the commits before
+pub record HasNotedWrite (mode : Mode) (moment : ℕ) (old new : Layout)
+    (before after : List Commit) : Type 0 where
   pub writes : HasWritten mode moment old new
   pub behind : after
       ≡ before ++ Written (new_checkpoint writes.settled.changes new.lists.table.latest) ∷ []
 
--- of these events the commit is known before they are done; they change lists alone
+-- these events change lists alone, and are refused as the lists are
 abbrev pub ChangesLists : Event → Type 0
 ChangesLists (event.ChangeMode n mode) = Unit {0}
 ChangesLists (event.Remove n) = Unit {0}

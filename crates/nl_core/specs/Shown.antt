@@ -1,4 +1,4 @@
--- What readers see of a volume. A page goes by its virtual block number, so that nothing is seen of where it stands.
+-- What readers see of a volume. A page goes by its virtual block number; nothing is seen of where it stands.
 use Rattle.std.specs.Prelude.{ℕ, List, [], map, slice_index_or, Option, None}
 use Rattle.std.specs.Option.{option_map}
 use Rattle.std.specs.Ordering.{nat_cmp}

@@ -1,6 +1,15 @@
 //! A checkpoint that is not published yet.
+ghost use Rattle.std.specs.Prelude.{◌≡◌, ◌<◌, ◌≤◌, IfErr, IfOk, OnErr, OnOk};
+ghost use Rattle.nl_cpfile.specs.Tables.{ComesNext};
+ghost use Rattle.nl_vstore.specs.Batches.{Fits};
+ghost use Rattle.nl_vstore.specs.Stores.{IsWriteRefused, IsWritten, capacity, content_in};
+ghost use Rattle.nl_core.specs.Volume.{published};
+
+use crate::tables::Tables;
 use nl_cpfile::Checkpoint;
-use nl_vstore::Batch;
+use nl_types::{CheckpointNumber, VolError};
+use nl_vstore::{Batch, Vstore};
+use std::alloc::Global;
 
 /// The next checkpoint, and what a store has to write for it.
 #[derive(Drop)]
@@ -8,4 +17,29 @@ pub struct Draft {
     pub checkpoint: Checkpoint,
     /// The blocks that differ from those of the latest checkpoint, each under a number of its own, and the numbers that end.
     pub batch: Batch,
+}
+
+/// Writes the blocks of a draft, and then keeps its checkpoint. The write takes its memory before its first put,
+/// so it is refused for memory before anything is written.
+pub fn write_draft<V: Vstore>(
+    alloc: Global,
+    tables: &mut Tables,
+    store: &mut V,
+    draft: &Draft,
+) -> Result<CheckpointNumber, VolError>
+    requires room { 0 < tables.old.room }
+    requires next { ComesNext draft.now.checkpoint tables.old.lists.table }
+    requires fits { Fits (capacity (V.store store.old)) (content_in (V.store store.old)) draft.now.batch }
+    ensures written { OnOk result (IsWritten draft.now.checkpoint.number draft.now.checkpoint.stamp
+        draft.now.batch (V.store store.old) (V.store store.new)) }
+    ensures kept { OnOk result (tables.new.lists ≡ published draft.now.checkpoint tables.old.lists) }
+    ensures number { IfOk result (λ number. number ≡ draft.now.checkpoint.number) }
+    ensures refused { IfErr result (IsWriteRefused draft.now.checkpoint.number draft.now.checkpoint.stamp
+        draft.now.batch (V.store store.old) (V.store store.new)) }
+    ensures same { OnErr result (tables.new.lists ≡ tables.old.lists) }
+    ensures counted { (V.store store.old).failures ≤ (V.store store.new).failures }
+{
+    let checkpoint = draft.checkpoint;
+    store.write(alloc, &draft.batch, checkpoint.number, checkpoint.stamp)?;
+    Ok(tables.publish(checkpoint))
 }

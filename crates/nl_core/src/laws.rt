@@ -1,6 +1,6 @@
 //! What the pen's definitions mean, as contracts of functions that do nothing.
 ghost use Rattle.nl_core.specs.CleanedPens.{MovesKeepPens, RefusedMovesKeepPens, RetirementsKeepPens};
-ghost use Rattle.nl_core.specs.Commits.{MountsShowOn};
+ghost use Rattle.nl_core.specs.Commits.{MountsStillShow};
 ghost use Rattle.nl_core.specs.Layout.{unshared};
 ghost use Rattle.nl_core.specs.LedgerEvents.{EventsAreLedgerEvents, RunsAreLedgerEvents, RunsKeepNumbers};
 ghost use Rattle.nl_core.specs.Notes.{CommitsTellAll, PensAreImages, shared};
@@ -88,18 +88,15 @@ pub fn runs_keep_numbers()
     numbers_end_once();
 }
 
-/// Beside readers a pen leads on as alone, but that memory may be refused to any event.
+/// What events do beside readers, one or many, they do beside each world that the pen means, as of a pen alone;
+/// but memory may be refused to any event.
 pub fn worlds_follow_shared_pens()
     ensures event { EventsLeadOn shared }
     ensures events { RunsLeadOn shared }
 {}
 
-/// What a mount shows in an image it shows in each later one, until it is given back.
-pub fn mounts_show_on()
-    ensures { MountsShowOn }
-{}
-
-/// What readers see of a pen is an image: every kept checkpoint stands for a tree, and every mount is one of a kept snapshot.
+/// What readers see of a pen is an image: every kept checkpoint stands for a tree, and every mount is one of a
+/// kept snapshot.
 pub fn pens_are_images()
     ensures { PensAreImages }
 {}
@@ -108,4 +105,9 @@ pub fn pens_are_images()
 pub fn commits_tell_all()
     ensures alone { CommitsTellAll unshared }
     ensures beside_readers { CommitsTellAll shared }
+{}
+
+/// What a mount shows in an image it shows in each later one, until it is given back.
+pub fn mounts_still_show()
+    ensures { MountsStillShow }
 {}

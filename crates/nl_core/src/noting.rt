@@ -1,5 +1,5 @@
 //! Events with the commits that tell readers of them. What a commit takes of memory is taken before anything changes.
-ghost use Rattle.std.specs.Prelude.{◌≡◌, ◌<◌, ◌≤◌, ◌∷◌, ◌++◌, [], length, map, vec_capacity, vec_len, IfOk, IfErr, OnErr, OnOk};
+ghost use Rattle.std.specs.Prelude.{◌≡◌, ◌<◌, ◌≤◌, ◌∷◌, ◌++◌, [], if◌then◌else◌, length, map, vec_capacity, vec_len, IfOk, IfErr, OnErr, OnOk};
 ghost use Rattle.std.specs.Option.{option_map};
 ghost use Rattle.nl_types.specs.declared.event.Event.TheVariants.{Checkpoint, Retire};
 ghost use Rattle.nl_vstore.specs.Batches.{births_of};
@@ -7,12 +7,13 @@ ghost use Rattle.nl_vstore.specs.Located.{numbers_in, onto};
 ghost use Rattle.nl_vstore.specs.Stores.{content_in, numbered_in};
 ghost use Rattle.nl_core.specs.Draft.{CanBeDrafted, HasFewNames};
 ghost use Rattle.nl_core.specs.Layout.{HasRefused, IsPen, layout_of};
-ghost use Rattle.nl_core.specs.Notes.{AreNumbersIn, DoesNoting, HasNotedWrite, new_checkpoint, new_page, shown_of, shown_page, where_any};
+ghost use Rattle.nl_core.specs.Notes.{DoesNoting, HasNotedWrite, mounted_as, new_checkpoint, new_page, shown_of, shown_page, where_any, where_gone};
 ghost use Rattle.nl_core.specs.Shown.{whole_of};
 
 use crate::cleaning::empty;
 use crate::commit::{Commit, NewPage, ShownPage, Whole, Written};
-use crate::draft::Draft;
+use crate::draft::{Draft, write_draft};
+use crate::mounts::Mounted;
 use crate::tables::Tables;
 use nl_cpfile::Checkpoint as Kept;
 use nl_files::laws::settled_numbers_are_lowest;
@@ -28,6 +29,45 @@ pub fn note(notes: &mut Vec<Commit>, commit: Commit)
 {
     if notes.push(commit).is_err() {
         unreachable!();
+    }
+}
+
+// ---- mounts and removals
+
+/// Notes a mount, with the number that is answered.
+pub fn note_mounted(notes: &mut Vec<Commit>, answer: &Answer, checkpoint: CheckpointNumber)
+    requires { vec_len notes.old < vec_capacity notes.old }
+    ensures { notes.new.items ≡ notes.old.items ++ mounted_as answer.now checkpoint }
+{
+    if let Answer::Mount(number) = answer {
+        note(
+            notes,
+            Commit::Mounted(Mounted {
+                number: *number,
+                checkpoint,
+            }),
+        );
+    }
+}
+
+/// Whether a removal answers that anything is gone.
+fn is_any_gone(answer: &Answer) -> bool
+    ensures { (commit : Commit) → where_gone answer.now commit ≡ (if result then commit ∷ [] else []) }
+{
+    match answer {
+        Answer::Removed(range) => !range.removed.is_empty(),
+        Answer::Expired(gone) => !gone.is_empty(),
+        _ => false,
+    }
+}
+
+/// Notes a removal, where anything is gone.
+pub fn note_where_gone(notes: &mut Vec<Commit>, answer: &Answer, commit: Commit)
+    requires { vec_len notes.old < vec_capacity notes.old }
+    ensures { notes.new.items ≡ notes.old.items ++ where_gone answer.now commit }
+{
+    if is_any_gone(answer) {
+        note(notes, commit);
     }
 }
 
@@ -67,13 +107,9 @@ fn drafted_commit(alloc: Global, draft: &Draft, notes: &mut Vec<Commit>) -> Resu
     ensures same { notes.new.items ≡ notes.old.items }
     ensures refused { OnErr result (result ≡ Err VolError.Memory) }
 {
-    if notes.reserve(1).is_err() {
-        return Err(VolError::Memory);
-    }
-    match written(alloc, &draft.batch, draft.checkpoint) {
-        Ok(commit) => Ok(commit),
-        Err(_) => Err(VolError::Memory),
-    }
+    notes.reserve(1)?;
+    let commit = written(alloc, &draft.batch, draft.checkpoint)?;
+    Ok(commit)
 }
 
 /// Writes the next checkpoint, and notes it.
@@ -99,10 +135,8 @@ fn write_noting<V: Vstore>(
     // Whatever is settled takes the lowest numbers that are free.
     settled_numbers_are_lowest();
     let draft = tables.draft(alloc, store, mode, moment)?;
-    let checkpoint = draft.checkpoint;
     let commit = drafted_commit(alloc, &draft, notes)?;
-    store.write(alloc, &draft.batch, checkpoint.number, checkpoint.stamp)?;
-    let number = tables.publish(checkpoint);
+    let number = write_draft(alloc, tables, store, &draft)?;
     note(notes, commit);
     Ok(number)
 }
@@ -156,13 +190,14 @@ fn listed_numbers<V: Vstore>(
     Ok(numbers)
 }
 
-/// The numbers whose pages stand in a segment, by block: none where there is no such segment.
+/// The numbers whose pages stand in a segment, by block. None where there is no such segment.
 fn segment_numbers<V: Vstore>(
     alloc: Global,
     store: &V,
     segment: Segment,
 ) -> Result<Vec<VirtualNumber>, AllocError>
-    ensures { IfOk result (λ numbers. AreNumbersIn (V.store store.now) segment numbers.items) }
+    ensures { IfOk result (λ numbers. segment < length (V.store store.now).segments.each
+        → numbers.items ≡ numbers_in (V.store store.now) segment) }
 {
     match store.table().suinfo(segment) {
         Ok(_) => listed_numbers(alloc, store, segment),
@@ -192,12 +227,8 @@ pub fn note_retirement<V: Vstore>(
     ensures { DoesNoting (layout_of tables.now.lists (V.store store.old)) (Retire segment) result
         (layout_of tables.now.lists (V.store store.new)) notes.old.items notes.new.items }
 {
-    let Ok(gone) = segment_numbers(alloc, &*store, segment) else {
-        return Err(VolError::Memory);
-    };
-    if notes.reserve(1).is_err() {
-        return Err(VolError::Memory);
-    }
+    let gone = segment_numbers(alloc, &*store, segment)?;
+    notes.reserve(1)?;
     let answer = empty(tables, store, segment)?;
     note_freed(notes, gone);
     Ok(answer)

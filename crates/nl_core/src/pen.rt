@@ -1,5 +1,5 @@
 //! The pen: what the writer of a volume holds, the device included.
-ghost use Rattle.std.specs.Prelude.{◌≡◌, ◌↔◌, ◌⊎◌, ◌<◌, ◌≤◌, ◌+◌, ◌-◌, ◌∷◌, ◌++◌, [], if◌then◌else◌, vec_capacity, vec_len, IfErr, IfOk, IsErr, IsErrOf, OnErr, IsOkUnless, length};
+ghost use Rattle.std.specs.Prelude.{◌≡◌, ◌↔◌, ◌⊎◌, ◌<◌, ◌≤◌, ◌+◌, ◌-◌, ◌∷◌, [], IfErr, IfOk, IsErr, IsErrOf, OnErr, IsOkUnless, length};
 ghost use Rattle.std.specs.Option.{option_map};
 ghost use Rattle.nl_types.specs.Runs.{Run};
 ghost use Rattle.nl_types.specs.Rows.{kept_row};
@@ -13,17 +13,15 @@ ghost use Rattle.nl_dat.specs.Table.{dat_entry_of};
 ghost use Rattle.nl_vstore.specs.Summaries.{payload_row};
 ghost use Rattle.nl_vstore.specs.Located.{payload_count_in};
 ghost use Rattle.nl_core.specs.CleanerViews.{cleaning_event, needed_after};
-ghost use Rattle.nl_core.specs.Commits.{IsImage};
-ghost use Rattle.nl_core.specs.Notes.{ChangesLists, DoesNoting, HasNoted, noted_if, shown_of, where_gone};
-ghost use Rattle.nl_core.specs.Shown.{whole_of};
+ghost use Rattle.nl_core.specs.Commits.{IsHistory, image_of};
+ghost use Rattle.nl_core.specs.Notes.{ChangesLists, DoesNoting, HasNoted, has_other_mode, shown_of, where_gone};
 ghost use Rattle.nl_core.specs.Volume.{boundary_in, without_mounts};
 
 use crate::cleaner_views::{needed_in, payload_count};
 use crate::cleaning::{empty, move_out};
-use crate::commit::{Commit, Whole};
-use crate::draft::Draft;
-use crate::mounts::Mounted;
-use crate::noting::{note, note_checkpoint, note_retirement, whole};
+use crate::commit::Commit;
+use crate::draft::write_draft;
+use crate::noting::{note, note_checkpoint, note_mounted, note_retirement, note_where_gone, whole};
 use crate::tables::Tables;
 use nl_cpfile::Cpstat;
 use nl_dat::{Bdesc, Dat, DatEntry};
@@ -33,7 +31,7 @@ use nl_protect::boundary;
 use nl_segwriter::LogSpace;
 use nl_sufile::SegTable;
 use nl_types::{
-    Answer, CheckpointNumber, Event, Geometry, MAX_PAYLOAD, Mode, MountNumber, Reply, Row, Segment,
+    Answer, CheckpointNumber, Event, Geometry, MAX_PAYLOAD, Mode, Reply, Row, Segment,
     VirtualNumber, VolError,
 };
 use nl_vstore::Vstore;
@@ -62,8 +60,7 @@ ghost use Rattle.nl_core.specs.Draft.{CanBeDrafted, HasFewNames};
 ghost use Rattle.nl_core.specs.Layout.{IsPen, Does, HasRefused, HasWritten, MeansWorld, layout_of, unshared};
 ghost use Rattle.nl_types.specs.declared.event.Event.TheVariants.{ChangeMode, Checkpoint, Mount};
 
-/// Writes the next checkpoint: its draft, then the blocks that it writes, and then its tables. The draft takes the memory
-/// for the tables, and the write takes its own before its first put, so a refusal comes before anything is written.
+/// Writes the next checkpoint: its draft, which takes the memory for the tables, and then what the draft has.
 fn write_checkpoint<V: Vstore>(
     alloc: Global,
     tables: &mut Tables,
@@ -82,9 +79,8 @@ fn write_checkpoint<V: Vstore>(
 {
     // Whatever is settled takes the lowest numbers that are free.
     settled_numbers_are_lowest();
-    let Draft { checkpoint, batch } = tables.draft(alloc, store, mode, moment)?;
-    store.write(alloc, &batch, checkpoint.number, checkpoint.stamp)?;
-    Ok(tables.publish(checkpoint))
+    let draft = tables.draft(alloc, store, mode, moment)?;
+    write_draft(alloc, tables, store, &draft)
 }
 
 /// A checkpoint of a pen.
@@ -289,8 +285,8 @@ impl<D: Device> Pen<D> {
         }
     }
 
-    /// One event beside readers, who are told of it by the commits that are noted behind `notes`: none or one. Their memory
-    /// is taken before anything changes, and may be refused to any event. Else it is as `apply`.
+    /// One event beside readers, who are told of it by a commit behind the others in `notes`, where it changes
+    /// what they see. The commit's memory is taken before anything changes. Else it is as `apply`.
     pub fn apply_noting(&mut self, event: &Event, notes: &mut Vec<Commit>) -> Reply
         ensures { DoesNoting self.old event.now result self.new notes.old.items notes.new.items }
     {
@@ -339,22 +335,7 @@ impl<D: Device> Pen<D> {
         }
     }
 
-    /// An event whose commit is known before it.
-    fn note_done(&mut self, event: &Event, commit: Commit, notes: &mut Vec<Commit>) -> Reply
-        requires lists { ChangesLists event.now }
-        requires commit { (answer : Answer) (new : Layout) → HasNoted self.old event.now answer new (commit ∷ []) }
-        ensures { DoesNoting self.old event.now result self.new notes.old.items notes.new.items }
-    {
-        self.means_a_world();
-        if notes.reserve(1).is_err() {
-            return Err(VolError::Memory);
-        }
-        let answer = self.apply(event)?;
-        note(notes, commit);
-        Ok(answer)
-    }
-
-    /// A change of mode, which is noted where the checkpoint has another mode.
+    /// A change of a mode, which is noted where the checkpoint has another one.
     fn note_mode(
         &mut self,
         event: &Event,
@@ -366,12 +347,24 @@ impl<D: Device> Pen<D> {
         ensures { DoesNoting self.old event.now result self.new notes.old.items notes.new.items }
     {
         self.means_a_world();
-        if notes.reserve(1).is_err() {
-            return Err(VolError::Memory);
+        if self.has_other_mode(number, mode) {
+            self.note_done(event, Commit::ModeSet(number, mode), notes)
+        } else {
+            self.apply(event)
         }
-        let is_other = self.tables.has_other_mode(number, mode);
+    }
+
+    /// An event whose commit is known before it.
+    fn note_done(&mut self, event: &Event, commit: Commit, notes: &mut Vec<Commit>) -> Reply
+        requires lists { ChangesLists event.now }
+        requires commit { (answer : Answer) (new : Layout)
+            → HasNoted self.old event.now answer new (commit ∷ []) }
+        ensures { DoesNoting self.old event.now result self.new notes.old.items notes.new.items }
+    {
+        self.means_a_world();
+        notes.reserve(1)?;
         let answer = self.apply(event)?;
-        note_if(notes, is_other, Commit::ModeSet(number, mode));
+        note(notes, commit);
         Ok(answer)
     }
 
@@ -383,15 +376,13 @@ impl<D: Device> Pen<D> {
         ensures { DoesNoting self.old event.now result self.new notes.old.items notes.new.items }
     {
         self.means_a_world();
-        if notes.reserve(1).is_err() {
-            return Err(VolError::Memory);
-        }
+        notes.reserve(1)?;
         let answer = self.apply(event)?;
         note_where_gone(notes, &answer, commit);
         Ok(answer)
     }
 
-    /// A mount, whose number is known behind it.
+    /// A mount, which is noted with the number that it answers.
     fn note_mount(
         &mut self,
         event: &Event,
@@ -402,20 +393,17 @@ impl<D: Device> Pen<D> {
         ensures { DoesNoting self.old event.now result self.new notes.old.items notes.new.items }
     {
         self.means_a_world();
-        if notes.reserve(1).is_err() {
-            return Err(VolError::Memory);
-        }
+        notes.reserve(1)?;
         let answer = self.apply(event)?;
-        let number = self.last_mount();
-        note(notes, Commit::Mounted(Mounted { number, checkpoint }));
+        note_mounted(notes, &answer, checkpoint);
         Ok(answer)
     }
 
-    /// The number that was given to a mount last.
-    fn last_mount(&self) -> MountNumber
-        ensures { result ≡ self.now.lists.given }
+    /// Whether a checkpoint is kept in another mode.
+    fn has_other_mode(&self, number: CheckpointNumber, mode: Mode) -> bool
+        ensures { result ≡ has_other_mode number mode self.now.lists.table }
     {
-        MountNumber::new(self.tables.given())
+        self.tables.has_other_mode(number, mode)
     }
 
     /// The number just below the boundary of protection.
@@ -425,11 +413,11 @@ impl<D: Device> Pen<D> {
         CheckpointNumber::new(self.boundary(now, period).get().saturating_sub(1))
     }
 
-    /// The commit that shows all of the pen. Refused by `Memory` alone.
+    /// The commit with which a history begins: it shows all that readers see of the pen. Refused by `Memory`
+    /// alone.
     pub fn whole(&self) -> Result<Commit, VolError>
-        ensures whole { IfOk result (λ commit.
-            (w : Whole) × (commit ≡ Commit.Whole w) × (whole_of w ≡ shown_of self.now)) }
-        ensures image { IsImage (shown_of self.now) }
+        ensures begins { IfOk result (λ commit. IsHistory (commit ∷ [])) }
+        ensures image { IfOk result (λ commit. image_of (commit ∷ []) ≡ shown_of self.now) }
         ensures refused { IsOkUnless result VolError.Memory }
     {
         let all = whole(self.alloc, &self.tables, &self.store)?;
@@ -442,37 +430,6 @@ impl<D: Device> Pen<D> {
         ensures world { (w : World) → MeansWorld self.old w → MeansWorld self.new (record w { mounts = [] }) }
     {
         self.tables.give_all_back();
-    }
-}
-
-/// Notes a commit, where it tells anything.
-fn note_if(notes: &mut Vec<Commit>, tells: bool, commit: Commit)
-    requires { vec_len notes.old < vec_capacity notes.old }
-    ensures { notes.new.items ≡ notes.old.items ++ noted_if tells commit }
-{
-    if tells {
-        note(notes, commit);
-    }
-}
-
-/// Whether a removal answers that anything is gone.
-fn is_any_gone(answer: &Answer) -> bool
-    ensures { (commit : Commit) → where_gone answer.now commit ≡ (if result then commit ∷ [] else []) }
-{
-    match answer {
-        Answer::Removed(range) => !range.removed.is_empty(),
-        Answer::Expired(gone) => !gone.is_empty(),
-        _ => false,
-    }
-}
-
-/// Notes a removal, where anything is gone.
-fn note_where_gone(notes: &mut Vec<Commit>, answer: &Answer, commit: Commit)
-    requires { vec_len notes.old < vec_capacity notes.old }
-    ensures { notes.new.items ≡ notes.old.items ++ where_gone answer.now commit }
-{
-    if is_any_gone(answer) {
-        note(notes, commit);
     }
 }
 

@@ -7,8 +7,8 @@ ghost use Rattle.nl_types.specs.Rows.{kept_row};
 ghost use Rattle.nl_types.specs.Worlds as worlds;
 ghost use Rattle.nl_cpfile.specs.Tables as cpfile;
 ghost use Rattle.nl_types.specs.Worlds.{World};
-ghost use Rattle.nl_core.specs.Notes as notes;
 ghost use Rattle.nl_vstore.specs.Stores.{content_in};
+ghost use Rattle.nl_core.specs.Notes as notes;
 
 use crate::commit::{ShownPage, Whole};
 use crate::draft::Draft;
@@ -118,13 +118,6 @@ impl Tables {
         ensures { result ≡ length self.now.lists.mounts }
     {
         self.mounts.len()
-    }
-
-    /// How many mount numbers were given.
-    pub fn given(&self) -> u64
-        ensures { result ≡ self.now.lists.given }
-    {
-        self.given
     }
 
     /// All that readers see, with these numbers.
@@ -253,16 +246,6 @@ impl Tables {
         Ok(Answer::Done)
     }
 
-    /// Whether a checkpoint is kept in another mode than this.
-    pub fn has_other_mode(&self, number: CheckpointNumber, mode: Mode) -> bool
-        ensures { result ≡ has_other_mode number mode self.now.lists.table }
-    {
-        match self.checkpoints.kept(number) {
-            Some(checkpoint) => is_other_mode(checkpoint.mode, mode),
-            None => false,
-        }
-    }
-
     /// Whether a mount keeps a checkpoint from this mode: a mounted snapshot stays one.
     fn is_held(&self, number: CheckpointNumber, mode: Mode) -> bool
         ensures { result ≡ is_held_at number mode self.now.lists }
@@ -271,6 +254,16 @@ impl Tables {
         match self.checkpoints.cpinfo(number) {
             Ok(row) => is_given_up(row.mode, mode) && mounted,
             Err(_) => false,
+        }
+    }
+
+    /// Whether a checkpoint is kept in another mode.
+    pub fn has_other_mode(&self, number: CheckpointNumber, mode: Mode) -> bool
+        ensures { result ≡ has_other_mode number mode self.now.lists.table }
+    {
+        match self.checkpoints.kept(number) {
+            Some(checkpoint) => is_other_mode(checkpoint.mode, mode),
+            None => false,
         }
     }
 
@@ -405,21 +398,18 @@ impl Keeping for Tables {
     }
 }
 
-/// Whether one mode is another.
-fn is_other_mode(old: Mode, new: Mode) -> bool
-    ensures { result ≡ notes.is_other_mode old new }
-{
-    match (old, new) {
-        (Mode::Plain, Mode::Plain) | (Mode::Snapshot, Mode::Snapshot) => false,
-        (Mode::Plain, Mode::Snapshot) | (Mode::Snapshot, Mode::Plain) => true,
-    }
-}
-
 /// Whether a snapshot becomes plain.
 fn is_given_up(old: Mode, new: Mode) -> bool
     ensures { result ≡ worlds.is_given_up old new }
 {
     old.is_snapshot() && !new.is_snapshot()
+}
+
+/// Whether one of the modes is given up for the other.
+fn is_other_mode(old: Mode, new: Mode) -> bool
+    ensures { result ≡ notes.is_other_mode old new }
+{
+    is_given_up(old, new) || is_given_up(new, old)
 }
 
 /// Whether a change that is done may make the current tree differ from the latest checkpoint's.

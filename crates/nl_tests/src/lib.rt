@@ -5,7 +5,7 @@
 //! A test asks a function for its constants, and a function has few of them: a check goes over a constant's value at each step
 //! of the function that names it, and its time grows faster than the value.
 //!
-//! But for `streams`, `beside` and `library`, a step of a row that is refused for memory has to leave what is seen as it was,
+//! But for `streams`, `beside`, `library` and `commits`, a step of a row that is refused for memory has to leave what is seen as it was,
 //! and is done again: so with one allocation failing, each row still passes (`rt try --test --fail-alloc N`).
 #![tactic(auto)]
 
@@ -13,6 +13,8 @@
 mod beside;
 #[cfg(test)]
 mod checkpoints;
+#[cfg(test)]
+mod commits;
 #[cfg(test)]
 mod directories;
 #[cfg(test)]

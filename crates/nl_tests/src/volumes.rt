@@ -20,7 +20,7 @@ pub(crate) fn volume(alloc: Global, shape: Shape) -> Result<Pen<FaultyDevice>, V
 }
 
 /// Rows on a new volume of a shape.
-type Table = (Shape, &'static [Row<'static>]);
+pub(crate) type Table = (Shape, &'static [Row<'static>]);
 
 /// The first row that comes out otherwise.
 fn unwanted(alloc: Global, shape: Shape, rows: &[Row<'_>]) -> Result<Option<usize>, VolError> {
@@ -210,7 +210,7 @@ const TABLES: &[Table] = &[
     (SMALL, REFUSED),
 ];
 
-fn tables() -> &'static [Table] {
+pub(crate) fn tables() -> &'static [Table] {
     TABLES
 }
 

@@ -9,7 +9,7 @@ use Rattle.nl_core.proofs.noting.note_retirement.Goals as goal
 
 pub returns-in_err-answer : goal.returns-in_err-answer
 returns-in_err-answer g c =
-    let p = err_from_is_err_and c.from_residual.result c.from_residual.ensures.1 in
+    let p = err_from_is_err_and c.from_residual-in_err-answer.result c.from_residual-in_err-answer.ensures.1 in
     let old = layout_of c.args.tables.now.lists (g.V.Vstore.store c.args.store.now) in
     let new = layout_of c.args.tables.now.lists (g.V.Vstore.store c.empty.new.store) in
     rw (p.1, p.2)
@@ -20,7 +20,7 @@ pub returns : goal.returns
 returns g c =
     let old = layout_of c.args.tables.now.lists (g.V.Vstore.store c.args.store.now) in
     let new = layout_of c.args.tables.now.lists (g.V.Vstore.store c.empty.new.store) in
-    let gone = c.in-Ok.gone.items in
+    let gone = c.in_ok-gone.gone.items in
     noting-retired old new c.args.segment c.in_ok-answer.answer gone c.args.notes.now.items c.note_freed.new.notes.items c.requires
-    c.in_ok-answer.ensures c.in-Ok.ensures
+    c.in_ok-answer.ensures c.in_ok-gone.ensures
     (c.note_freed.ensures ∙ ap (λ (ns : List Commit). ns ++ where_any gone (Freed gone)) c.reserve.ensures.items)

@@ -6,14 +6,16 @@ use Rattle.nl_core.specs.declared.commit.Commit.{Commit}
 use Rattle.nl_core.proofs.NotedEvents.{does-shared, noting, noting-refused, noting-unlisted}
 use Rattle.nl_core.proofs.pen.Pen.note_gone.Goals as goal
 
-pub returns-then-is_err : goal.returns-then-is_err
-returns-then-is_err g c =
-    noting-unlisted c.args.self.now c.args.event.now c.args.notes.now.items c.reserve.new.self.items c.means_a_world.ensures
-    c.requires.lists c.reserve.ensures.items
+pub returns-in_err-reserve : goal.returns-in_err-reserve
+returns-in_err-reserve g c =
+    let p = err_from_is_err_and c.from_residual-in_err-reserve.result c.from_residual-in_err-reserve.ensures.1 in
+    rw (p.1, p.2)
+    (noting-unlisted c.args.self.now c.args.event.now c.args.notes.now.items c.reserve.new.self.items c.means_a_world.ensures
+    c.requires.lists c.reserve.ensures.items)
 
 pub returns-in_err-answer : goal.returns-in_err-answer
 returns-in_err-answer g c =
-    let p = err_from_is_err_and c.from_residual.result c.from_residual.ensures.1 in
+    let p = err_from_is_err_and c.from_residual-in_err-answer.result c.from_residual-in_err-answer.ensures.1 in
     let old = c.args.self.now in
     let new = c.apply.new.self in
     let e = c.in_err-answer.field-0.0 in

@@ -1,39 +1,25 @@
-use Rattle.std.proofs.Common.{◌++◌, List, ap, sym, subst, ◌∙◌}
-use Rattle.std.specs.Prelude.{Ok, Err}
-use Rattle.std.proofs.lemmas.Result.{err_from_is_err_and}
+use Rattle.std.proofs.Common.{[], ◌∷◌, refl, ap, sym, subst, ◌∙◌}
 use Rattle.nl_types.specs.declared.event.Event.{Event}
-use Rattle.nl_core.specs.Layout.{Layout}
-use Rattle.nl_core.specs.Notes.{ChangesLists, HasNoted, has_other_mode, noted_if}
-use Rattle.nl_core.specs.declared.commit.Commit.{Commit}
+use Rattle.nl_types.specs.declared.event.Event.TheVariants.{ChangeMode}
+use Rattle.nl_core.specs.Layout.{Does, unshared}
+use Rattle.nl_core.specs.Notes.{ChangesLists, DoesNoting, HasNoted, where_true}
 use Rattle.nl_core.specs.declared.commit.Commit.TheVariants.{ModeSet}
-use Rattle.nl_core.proofs.NotedEvents.{does-shared, noting, noting-refused, noting-unlisted}
+use Rattle.nl_core.proofs.NotedEvents.{noting-same_mode}
 use Rattle.nl_core.proofs.pen.Pen.note_mode.Goals as goal
 
-pub returns-then-is_err : goal.returns-then-is_err
-returns-then-is_err g c =
-    noting-unlisted c.args.self.now c.args.event.now c.args.notes.now.items c.reserve.new.self.items c.means_a_world.ensures
-    (subst ChangesLists (sym c.requires) tt) c.reserve.ensures.items
+pub note_done-requires-clause-lists : goal.note_done-requires-clause-lists
+note_done-requires-clause-lists g c = subst ChangesLists (sym c.requires) tt
 
-pub returns-in_err-answer : goal.returns-in_err-answer
-returns-in_err-answer g c =
-    let p = err_from_is_err_and c.from_residual.result c.from_residual.ensures.1 in
+pub note_done-requires-clause-commit : goal.note_done-requires-clause-commit
+note_done-requires-clause-commit g c = λ a new.
+    subst (λ (e : Event). HasNoted c.args.self.now e a new (ModeSet c.args.number c.args.mode ∷ [])) (sym c.requires)
+    (ap (λ b. where_true b (ModeSet c.args.number c.args.mode)) (sym c.has_other_mode-test.true ∙ c.has_other_mode.ensures))
+
+pub returns-else : goal.returns-else
+returns-else g c =
     let old = c.args.self.now in
     let new = c.apply.new.self in
-    let e = c.in_err-answer.field-0.0 in
-    rw (p.1, p.2)
-    (noting-refused old c.args.event.now new c.args.notes.now.items c.reserve.new.self.items c.means_a_world.ensures e
-    (does-shared old new c.args.event.now (Err e) c.in_err-answer.ensures) c.reserve.ensures.items)
-
-pub returns : goal.returns
-returns g c =
-    let old = c.args.self.now in
-    let new = c.apply.new.self in
-    let a = c.in_ok-answer.answer in
-    let commit : Commit = ModeSet c.args.number c.args.mode in
-    let more = noted_if c.has_other_mode-is_other.result commit in
-    let is_other = c.has_other_mode-is_other.ensures
-    ∙ ap (λ (l : Layout). has_other_mode c.args.number c.args.mode l.lists.table) c.self.view_is in
-    noting old c.args.event.now new c.args.notes.now.items c.note_if.new.notes.items c.means_a_world.ensures (Ok a) more
-    (does-shared old new c.args.event.now (Ok a) c.in_ok-answer.ensures)
-    (c.note_if.ensures ∙ ap (λ (ns : List Commit). ns ++ more) c.reserve.ensures.items)
-    (subst (λ (e : Event). HasNoted old e a new more) (sym c.requires) (ap (λ b. noted_if b commit) is_other))
+    subst (λ (e : Event). DoesNoting old e c.apply.result new c.args.notes.now.items c.args.notes.now.items) (sym c.requires)
+    (noting-same_mode old new c.args.number c.args.mode c.apply.result c.args.notes.now.items c.means_a_world.ensures
+    (sym c.has_other_mode.ensures ∙ c.has_other_mode-test.false)
+    (subst (λ (e : Event). Does unshared old e c.apply.result new) c.requires c.apply.ensures))

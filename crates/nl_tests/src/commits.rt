@@ -131,7 +131,7 @@ struct Noted<D: Device> {
     pen: Pen<D>,
     notes: Vec<Commit>,
     image: Image,
-    /// How many events have left readers with something else than the pen shows, or had two commits.
+    /// How many events have left readers with something else than the pen shows, or have had two commits.
     wrong: u64,
 }
 
@@ -155,13 +155,12 @@ fn begun_on(alloc: Global, shape: Shape) -> Result<Noted<FaultyDevice>, VolError
 }
 
 impl<D: Device> Noted<D> {
-    /// Follows the commits of the last event, and looks whether it is all that there is to see.
+    /// Follows the commit of the last event, if it has one, and looks whether this is all that there is to see.
     fn catch_up(&mut self) -> Result<bool, VolError> {
-        let is_one = self.notes.len() <= 1;
-        while let Some(commit) = self.notes.pop() {
+        if let Some(commit) = self.notes.pop() {
             self.image.follow(commit)?;
         }
-        Ok(is_one && self.image.shows(&whole_of(&self.pen)?))
+        Ok(self.notes.is_empty() && self.image.shows(&whole_of(&self.pen)?))
     }
 }
 
