@@ -20,7 +20,7 @@ use Rattle.nl_types.proofs.WorldLaws.{steps_keep_worlds}
 use Rattle.nl_layout.specs.Root.{root_of}
 use Rattle.nl_vstore.specs.Batches.{items_of}
 use Rattle.nl_vstore.specs.Stores.{Store, IsStore, content_in, entry_now}
-use Rattle.nl_files.specs.Held.{IsTreeSound}
+use Rattle.nl_files.specs.CheckpointRoots.{IsTreeSound}
 use Rattle.nl_cpfile.specs.declared.checkpoint.Checkpoint.{Checkpoint}
 use Rattle.nl_core.specs.Layout.{Layout, IsPen, IsSoundPen, IsCheckpointRefusal, Does, Follows, HasFaulted, HasRefused, HasWritten, LacksSpaceToSettle, MeansWorld, Touches, cleaned, layout_of, ledger_of, unshared}
 use Rattle.nl_core.specs.Means.{Means}

@@ -22,8 +22,9 @@ use Rattle.nl_vstore.specs.Stores.{IsStore, capacity, content_in}
 use Rattle.nl_blocktree.specs.Checkpoints.{WritesWhatDiffers, numbers_of}
 use Rattle.nl_blocktree.proofs.Frames.{births-keep}
 use Rattle.nl_blocktree.proofs.Numbers.{unused_of_fits}
-use Rattle.nl_files.specs.Became.{Current, holding_over}
-use Rattle.nl_files.specs.Held.{Holding, IsTreeSound, roots_at}
+use Rattle.nl_tree.specs.Became.{Current, holding_over}
+use Rattle.nl_tree.specs.Held.{Holding}
+use Rattle.nl_files.specs.CheckpointRoots.{IsTreeSound, roots_at}
 use Rattle.nl_files.specs.Laws.{FollowsSettled, ledger_with}
 use Rattle.nl_files.specs.Settles.{Settles}
 use Rattle.nl_files.specs.Staying.{CheckpointStays}

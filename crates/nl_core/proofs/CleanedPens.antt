@@ -14,8 +14,9 @@ use Rattle.nl_types.specs.Worlds.{World, Copy}
 use Rattle.nl_types.proofs.ExactLifetimes.{covered_kept_all, ends_once, ledger_after-IsLedger}
 use Rattle.nl_layout.specs.Root.{root_of}
 use Rattle.nl_vstore.specs.Stores.{IsMoveRefused, IsReclaimed, IsStore, Numbered, Store, content_in, entry_now}
+use Rattle.nl_tree.specs.Held.{Holding}
 use Rattle.nl_files.specs.CheckpointTrees.{HoldsTree}
-use Rattle.nl_files.specs.Held.{Holding, IsTreeSound}
+use Rattle.nl_files.specs.CheckpointRoots.{IsTreeSound}
 use Rattle.nl_files.specs.Staying.{AgreeAtCheckpoint, CheckpointStays}
 use Rattle.nl_files.proofs.Staying.{checkpoints-stay}
 use Rattle.nl_cpfile.specs.Tables.{kept_at, root_in}

@@ -27,11 +27,11 @@ use Rattle.nl_types.specs.Runs.{TakesMemory, memory_alone}
 use Rattle.nl_types.specs.Roots.{Pages}
 use Rattle.nl_types.proofs.WorldLaws.{steps_keep_worlds}
 use Rattle.nl_layout.specs.Root.{root_of}
-use Rattle.nl_files.specs.Became.{Current}
+use Rattle.nl_tree.specs.Became.{Current}
+use Rattle.nl_tree.specs.CurrentTrees.{LeadsOver, StandsOver}
+use Rattle.nl_tree.specs.Held.{Holding}
+use Rattle.nl_tree.specs.Reading.{HoldingMeans}
 use Rattle.nl_files.specs.CheckpointTrees.{HoldsTree}
-use Rattle.nl_files.specs.CurrentTrees.{LeadsOver, StandsOver}
-use Rattle.nl_files.specs.Held.{Holding}
-use Rattle.nl_files.specs.Reading.{HoldingMeans}
 use Rattle.nl_cpfile.specs.Tables.{by_number, root_in}
 use Rattle.nl_core.specs.Volume.{Lists, kept_by, latest_root, mount_of, with_change, with_mount}
 use Rattle.nl_core.specs.Means.{CopyMeans, FollowsOver, LeadsOn, Means}

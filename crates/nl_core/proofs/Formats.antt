@@ -26,11 +26,13 @@ use Rattle.nl_vstore.specs.Batches.{Fits}
 use Rattle.nl_space.specs.Content.{SpaceContent, new_content}
 use Rattle.nl_vstore.specs.Stores.{IsStore, IsWritten, Numbered, Store, capacity, content_in, entry_now, new_store}
 use Rattle.nl_blocktree.specs.Checkpoints.{numbers_of}
-use Rattle.nl_files.specs.Became.{Current, holding_over}
-use Rattle.nl_files.specs.Held.{Holding, IsTreeSound, roots_at}
-use Rattle.nl_files.specs.Laws.{first_holding, ledger_with, nothing_held, root_directory_alone}
+use Rattle.nl_tree.specs.Became.{Current, holding_over}
+use Rattle.nl_tree.specs.Held.{Holding}
+use Rattle.nl_tree.specs.FirstTree.{first_holding, nothing_held, root_directory_alone, first_tree}
+use Rattle.nl_files.specs.CheckpointRoots.{IsTreeSound, roots_at}
+use Rattle.nl_files.specs.Laws.{ledger_with}
 use Rattle.nl_files.specs.Settles.{Settles}
-use Rattle.nl_files.specs.TreeLaws.{StandsOverLatest, first_tree}
+use Rattle.nl_files.specs.TreeLaws.{StandsOverLatest}
 use Rattle.nl_files.proofs.Few.{few-births}
 use Rattle.nl_files.proofs.First.{latest-first, stores-nothing}
 use Rattle.nl_files.proofs.TreeLaws.{first_trees-stand, trees-can_be_settled}

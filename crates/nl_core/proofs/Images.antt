@@ -14,7 +14,7 @@ use Rattle.nl_types.specs.Roots.{Pages}
 use Rattle.nl_types.specs.Worlds.{Copy, World, are_stamps_rising, copy_at}
 use Rattle.nl_types.proofs.NumberedLists.{before-lt}
 use Rattle.nl_layout.specs.Root.{root_of}
-use Rattle.nl_files.specs.Held.{IsTreeSound}
+use Rattle.nl_files.specs.CheckpointRoots.{IsTreeSound}
 use Rattle.nl_cpfile.specs.Tables.{IsRising, IsTable, Precedes, kept_at, root_in}
 use Rattle.nl_cpfile.specs.declared.checkpoint.Checkpoint.{Checkpoint}
 use Rattle.nl_core.specs.Commits.{HasTree, IsImage}

@@ -10,7 +10,7 @@ use Rattle.nl_layout.specs.Root.{root_of}
 use Rattle.nl_layout.specs.declared.root.Root.{Root}
 use Rattle.nl_vstore.specs.Stores.{content_in}
 use Rattle.nl_blocktree.specs.Checkpoints.{numbers_of}
-use Rattle.nl_files.specs.Held.{IsTreeSound, roots_at}
+use Rattle.nl_files.specs.CheckpointRoots.{IsTreeSound, roots_at}
 use Rattle.nl_files.specs.Staying.{CheckpointStays}
 use Rattle.nl_files.proofs.Staying.{checkpoints-stay}
 use Rattle.nl_cpfile.specs.Tables.{Table, all, kept_at, moded, root_in, with_mode, with_next, without}

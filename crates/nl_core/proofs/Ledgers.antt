@@ -9,8 +9,9 @@ use Rattle.nl_types.specs.Lifetimes.{EndsOnce, KeepsCovered, Ledger, numbers_at}
 use Rattle.nl_types.specs.Trees.{Tree}
 use Rattle.nl_layout.specs.Root.{root_of}
 use Rattle.nl_vstore.specs.Stores.{content_in}
-use Rattle.nl_files.specs.Became.{holding_over}
-use Rattle.nl_files.specs.Held.{Holding, IsTreeSound, Stores}
+use Rattle.nl_tree.specs.Became.{holding_over}
+use Rattle.nl_tree.specs.Held.{Holding}
+use Rattle.nl_files.specs.CheckpointRoots.{IsTreeSound, Stores}
 use Rattle.nl_files.specs.Laws.{IsLatest}
 use Rattle.nl_files.specs.TreeLaws.{StandsOverLatest}
 use Rattle.nl_files.proofs.TreeLaws.{trees-can_be_settled}

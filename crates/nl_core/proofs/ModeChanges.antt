@@ -8,7 +8,7 @@ use Rattle.nl_types.specs.Lifetimes.{IsLedger}
 use Rattle.nl_types.specs.Limits.{checkpoint_number_limit}
 use Rattle.nl_layout.specs.Root.{root_of}
 use Rattle.nl_layout.specs.declared.root.Root.{Root}
-use Rattle.nl_files.specs.Held.{IsTreeSound}
+use Rattle.nl_files.specs.CheckpointRoots.{IsTreeSound}
 use Rattle.nl_cpfile.specs.declared.checkpoint.Checkpoint.{Checkpoint}
 use Rattle.nl_cpfile.specs.Tables.{all, kept_at, moded, root_in, with_mode}
 use Rattle.nl_core.specs.Layout.{IsSoundPen, KeepsNumbers, Layout, layout_of, ledger_of, pages_in, reached_by}

@@ -10,7 +10,8 @@ use Rattle.nl_layout.specs.Root.{root_of}
 use Rattle.nl_layout.specs.declared.inode.Inode.{Inode}
 use Rattle.nl_ifile.specs.Inodes.{InodeMap, block_for, in_block, inode_at, inode_in}
 use Rattle.nl_blocktree.proofs.Frames.{keeps-file, places-kept}
-use Rattle.nl_files.specs.Held.{Held, Holding, IsTreeSound, StandsAs, StandsFor, Stores, root_in, roots_at}
+use Rattle.nl_tree.specs.Held.{Held, Holding}
+use Rattle.nl_files.specs.CheckpointRoots.{IsTreeSound, StandsAs, StandsFor, Stores, root_in, roots_at}
 use Rattle.nl_files.specs.Staying.{CheckpointStays}
 use Rattle.nl_files.proofs.Staying.{root-sound}
 

@@ -16,7 +16,7 @@ use Rattle.nl_types.specs.Roots.{Pages, pages_of}
 use Rattle.nl_types.specs.Worlds.{World, Reply}
 use Rattle.nl_types.specs.Runs.{Step, memory_alone}
 use Rattle.nl_vstore.specs.Stores.{Store, content_in}
-use Rattle.nl_files.specs.Became.{Current}
+use Rattle.nl_tree.specs.Became.{Current}
 use Rattle.nl_core.specs.Changes.{HasChanged}
 use Rattle.nl_core.specs.Means.{FollowsOver}
 use Rattle.nl_core.specs.Volume.{IsExpired, IsTakenOut, IsTakenOutRange, Lists, with_change, with_checkpoint_mode, with_mount, without_mount}

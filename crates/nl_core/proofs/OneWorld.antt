@@ -8,8 +8,8 @@ use Rattle.nl_types.specs.Worlds.{Copy}
 use Rattle.nl_types.proofs.Inodes.Means.{inodes_mean_one_tree}
 use Rattle.nl_layout.specs.Root.{root_of}
 use Rattle.nl_layout.specs.declared.root.Root.{Root}
-use Rattle.nl_files.specs.Became.{Current, holding_over}
-use Rattle.nl_files.specs.Held.{Holding, inodes_of_holding}
+use Rattle.nl_tree.specs.Became.{Current, holding_over}
+use Rattle.nl_tree.specs.Held.{Holding, inodes_of_holding}
 use Rattle.nl_files.proofs.Holdings.{roots-hold_one}
 use Rattle.nl_core.specs.Laws.{MeansOneWorld}
 use Rattle.nl_core.specs.Means.{CopyMeans, CurrentMeans, RootMeans}

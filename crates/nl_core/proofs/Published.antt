@@ -18,8 +18,8 @@ use Rattle.nl_types.specs.Roots.{Pages}
 use Rattle.nl_types.specs.Trees.{Tree}
 use Rattle.nl_types.specs.Worlds.{IsWorld, World, Reply, Copy, greatest, numbers, latest, latest_stamp, step}
 use Rattle.nl_layout.specs.Root.{root_of}
-use Rattle.nl_files.specs.Became.{Current, holding_over}
-use Rattle.nl_files.specs.Held.{Holding}
+use Rattle.nl_tree.specs.Became.{Current, holding_over}
+use Rattle.nl_tree.specs.Held.{Holding}
 use Rattle.nl_files.specs.Staying.{CheckpointStays}
 use Rattle.nl_files.specs.TreeLaws.{StandsOverLatest}
 use Rattle.nl_cpfile.specs.declared.checkpoint.Checkpoint.{Checkpoint}

@@ -8,7 +8,7 @@ use Rattle.nl_types.specs.Lifetimes.{EachAllowed, IsLedger, KeepsCovered, Ledger
 use Rattle.nl_types.specs.Rows.{is_among}
 use Rattle.nl_types.proofs.ExactLifetimes.{covered_kept_all, ledger_after_all-IsLedger}
 use Rattle.nl_layout.specs.Root.{root_of}
-use Rattle.nl_files.specs.Held.{IsTreeSound}
+use Rattle.nl_files.specs.CheckpointRoots.{IsTreeSound}
 use Rattle.nl_cpfile.specs.declared.checkpoint.Checkpoint.{Checkpoint}
 use Rattle.nl_cpfile.specs.Tables.{all, is_kept_without, kept_at, root_in}
 use Rattle.nl_core.specs.Laws.{ExpiriesGoOneByOne, RangesGoOneByOne}

@@ -7,8 +7,9 @@ use Rattle.nl_vstore.specs.Stores.{content_in}
 use Rattle.nl_layout.specs.Root.{root_of}
 use Rattle.nl_layout.specs.declared.root.Root.{Root}
 use Rattle.nl_layout.specs.declared.root.Root.TheVariants.{Empty, Chain}
-use Rattle.nl_files.specs.Became.{holding_over}
-use Rattle.nl_files.specs.Held.{Holding, IsCheckpointRoot}
+use Rattle.nl_tree.specs.Became.{holding_over}
+use Rattle.nl_tree.specs.Held.{Holding}
+use Rattle.nl_files.specs.CheckpointRoots.{IsCheckpointRoot}
 use Rattle.nl_files.proofs.Following.{latest-hold}
 use Rattle.nl_files.proofs.OneSettling.{settlings-alike}
 use Rattle.nl_files.proofs.Holdings.{roots-hold_one}

@@ -2,10 +2,10 @@
 use Rattle.nl_types.specs.Roots.{Pages}
 use Rattle.nl_types.specs.declared.event.Change.{Change}
 use Rattle.nl_layout.specs.Root.{root_of}
-use Rattle.nl_files.specs.Became.{holding_over}
-use Rattle.nl_files.specs.Changing.{HasChangedHolding}
+use Rattle.nl_tree.specs.Became.{holding_over}
+use Rattle.nl_tree.specs.Changing.{HasChangedHolding}
+use Rattle.nl_tree.specs.Held.{Holding}
 use Rattle.nl_files.specs.CheckpointTrees.{HoldsTree}
-use Rattle.nl_files.specs.Held.{Holding}
 use Rattle.nl_core.specs.Volume.{Lists, latest_root}
 
 -- what the inodes of the current tree hold changes as the call says

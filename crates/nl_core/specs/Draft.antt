@@ -10,9 +10,9 @@ use Rattle.nl_layout.specs.declared.root.Root.{Root}
 use Rattle.nl_vstore.specs.Batches.{Changes}
 use Rattle.nl_vstore.specs.Stores.{Store, content_in}
 use Rattle.nl_blocktree.specs.Numbering.{CanTake}
-use Rattle.nl_files.specs.Became.{IsCurrent}
-use Rattle.nl_files.specs.Held.{Holding, IsCheckpointRoot}
-use Rattle.nl_files.specs.Settles.{Settles}
+use Rattle.nl_tree.specs.Held.{Holding}
+use Rattle.nl_files.specs.Settles.{IsCurrent, Settles}
+use Rattle.nl_files.specs.CheckpointRoots.{IsCheckpointRoot}
 use Rattle.nl_cpfile.specs.Tables.{root_in}
 use Rattle.nl_core.specs.Volume.{Lists, latest_root, next_checkpoint}
 use Rattle.nl_core.specs.declared.draft.Draft.{Draft}

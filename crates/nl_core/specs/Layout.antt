@@ -24,7 +24,8 @@ use Rattle.nl_vstore.specs.Batches.{Changes, TakeLowestFree, items_of}
 use Rattle.nl_vstore.specs.Stores.{Store, IsStore, IsWritten, IsFaulted, address_in, content_in, is_inside, new_store}
 use Rattle.nl_blocktree.specs.Checkpoints.{WritesWhatDiffers, numbers_of}
 use Rattle.nl_blocktree.specs.Numbering.{CanTake}
-use Rattle.nl_files.specs.Held.{Holding, IsTreeSound, roots_at}
+use Rattle.nl_tree.specs.Held.{Holding}
+use Rattle.nl_files.specs.CheckpointRoots.{IsTreeSound, roots_at}
 use Rattle.nl_reclaim.specs.Cleaning.{HasMovedNone, retired}
 use Rattle.nl_core.specs.Changes.{HasChanged}
 use Rattle.nl_core.specs.CleaningEvents.{HasEmptied, HasMovedOut, LacksSpaceToMove, cleaned_by, needed_by}

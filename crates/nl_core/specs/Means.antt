@@ -8,11 +8,11 @@ use Rattle.nl_types.specs.Runs.{AllowedRefusals, Step, memory_alone}
 use Rattle.nl_types.specs.Roots.{Pages}
 use Rattle.nl_layout.specs.Root.{root_of}
 use Rattle.nl_layout.specs.declared.root.Root.{Root}
-use Rattle.nl_files.specs.Became.{Current}
+use Rattle.nl_tree.specs.Became.{Current}
+use Rattle.nl_tree.specs.CurrentTrees.{StandsOver}
+use Rattle.nl_tree.specs.Held.{Holding}
+use Rattle.nl_tree.specs.Reading.{HoldingMeans}
 use Rattle.nl_files.specs.CheckpointTrees.{HoldsTree}
-use Rattle.nl_files.specs.CurrentTrees.{StandsOver}
-use Rattle.nl_files.specs.Held.{Holding}
-use Rattle.nl_files.specs.Reading.{HoldingMeans}
 use Rattle.nl_cpfile.specs.Tables.{root_in}
 use Rattle.nl_cpfile.specs.declared.checkpoint.Checkpoint.{Checkpoint}
 use Rattle.nl_core.specs.Volume.{Lists, kept_by, latest_root, mount_of}

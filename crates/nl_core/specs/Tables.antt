@@ -2,7 +2,7 @@
 use Rattle.std.specs.Prelude.{ℕ, false, []}
 use Rattle.nl_types.specs.declared.event.Mode.TheVariants.{Plain}
 use Rattle.nl_layout.specs.declared.root.Root.TheVariants.{Empty}
-use Rattle.nl_files.specs.TreeLaws.{first_tree}
+use Rattle.nl_tree.specs.FirstTree.{first_tree}
 use Rattle.nl_cpfile.specs.declared.checkpoint.Checkpoint.{Checkpoint}
 use Rattle.nl_core.specs.Volume.{Lists}
 

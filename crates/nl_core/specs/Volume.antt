@@ -20,7 +20,7 @@ use Rattle.nl_types.specs.Worlds.{is_given_up, is_mounted}
 use Rattle.nl_layout.specs.declared.root.Root.{Root}
 use Rattle.nl_cpfile.specs.Tables.{Table, all, root_in, rows, with_latest_alone, with_mode, with_next, without}
 use Rattle.nl_cpfile.specs.declared.checkpoint.Checkpoint.{Checkpoint}
-use Rattle.nl_files.specs.Became.{Current}
+use Rattle.nl_tree.specs.Became.{Current}
 use Rattle.nl_core.specs.declared.mounts.Mounted.{Mounted}
 
 -- what the tables hold

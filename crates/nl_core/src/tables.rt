@@ -15,10 +15,11 @@ use crate::draft::Draft;
 use crate::expiry::expire;
 use crate::mounts::{Mounted, find_mounted, is_mounted, unmount};
 use nl_cpfile::{Checkpoint, Checkpoints, Cpstat};
-use nl_files::{CurrentTree, ReadTree, answer};
+use nl_files::{ReadTree, settle};
 use nl_layout::Root;
 use nl_protect::needed;
 use nl_reclaim::Keeping;
+use nl_tree::{CurrentTree, answer};
 use nl_types::{
     Answer, Ask, Change, CheckpointNumber, Items, ListOptions, Mode, MountNumber, Period, Reply,
     Row, VolError,
@@ -351,7 +352,7 @@ impl Tables {
         }
         self.checkpoints.reserve()?;
         let mut batch = Batch::new(alloc);
-        let root = self.current.settle(alloc, store, latest.root, &mut batch)?;
+        let root = settle(alloc, store, &mut batch, latest.root, &self.current)?;
         Ok(Draft {
             checkpoint: Checkpoint {
                 number: CheckpointNumber::new(latest.number.get() + 1),

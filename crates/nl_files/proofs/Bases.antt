@@ -14,7 +14,8 @@ use Rattle.nl_ifile.specs.Inodes.{inode_at}
 use Rattle.nl_dirs.specs.Records.{packed_block}
 use Rattle.nl_dirs.specs.Listings.{HoldsRecords}
 use Rattle.nl_dirs.specs.declared.record.Record.{Record}
-use Rattle.nl_files.specs.Held.{Holding, IsCheckpointRoot, IsHolding, StandsAs, StandsFor, root_in}
+use Rattle.nl_tree.specs.Held.{Holding, IsHolding}
+use Rattle.nl_files.specs.CheckpointRoots.{IsCheckpointRoot, StandsAs, StandsFor, root_in}
 use Rattle.nl_files.specs.Planned.{IsBase, inode_size}
 
 past : {X : Type 0} (xs : List X) (b : ℕ) → length xs ≤ b → slice_get xs b ≡ None

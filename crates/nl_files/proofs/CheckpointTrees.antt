@@ -7,7 +7,8 @@ use Rattle.nl_layout.specs.declared.inode.InodeKind.{InodeKind}
 use Rattle.nl_layout.specs.declared.inode.InodeKind.TheVariants.{File, Directory, InodeFile}
 use Rattle.nl_ifile.specs.Inodes.{inode_at}
 use Rattle.nl_ifile.specs.Free.{AreInUseFrom, IsLowestFreeFrom}
-use Rattle.nl_files.specs.Held.{AreHeldFrom, Held, Holding, IsLowestUnheld, StandsAs, StandsFor}
+use Rattle.nl_tree.specs.Held.{AreHeldFrom, Held, Holding, IsLowestUnheld}
+use Rattle.nl_files.specs.CheckpointRoots.{StandsAs, StandsFor}
 use Rattle.nl_files.specs.CheckpointTrees.{HoldsTree}
 
 -- an inode in use holds something

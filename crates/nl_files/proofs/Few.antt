@@ -26,10 +26,13 @@ use Rattle.nl_dirs.specs.declared.record.Record.{Record}
 use Rattle.nl_dirs.specs.Records.{packed_block}
 use Rattle.nl_dirs.specs.Packing.{IsPacked, no_blocks}
 use Rattle.nl_dirs.specs.Listings.{HoldsRecords}
-use Rattle.nl_files.specs.Held.{Held, Listed, StandsAs, StandsFor, Stored, root_in, roots_at}
-use Rattle.nl_files.specs.Laws.{first_holding, ledger_with, nothing_held, root_directory_alone}
+use Rattle.nl_tree.specs.Held.{Held, Listed, Stored}
+use Rattle.nl_tree.specs.FirstTree.{first_holding, nothing_held, root_directory_alone}
+use Rattle.nl_tree.proofs.FirstTree.{absent-first, root-first}
+use Rattle.nl_files.specs.CheckpointRoots.{StandsAs, StandsFor, root_in, roots_at}
+use Rattle.nl_files.specs.Laws.{ledger_with}
 use Rattle.nl_files.specs.Settles.{Settles}
-use Rattle.nl_files.proofs.First.{absent-first, latest-first, root-first}
+use Rattle.nl_files.proofs.First.{latest-first}
 use Rattle.nl_files.proofs.Following.{settled-differ, settled-pages, some-held}
 use Rattle.nl_files.proofs.Ones.{empty-none, high-none, no_place}
 

@@ -18,8 +18,9 @@ use Rattle.nl_blocktree.specs.Putting.{pages_after}
 use Rattle.nl_blocktree.proofs.Numbers.{numbers-lowest}
 use Rattle.nl_blocktree.proofs.RootByRoot.{checkpoints-follow, writes-what-differs}
 use Rattle.nl_ifile.specs.Inodes.{inode_at}
-use Rattle.nl_files.specs.Became.{Became}
-use Rattle.nl_files.specs.Held.{Held, Holding, IsCheckpointRoot, IsHolding, IsTreeSound, StandsAs, StandsFor, Stores, root_in, roots_at}
+use Rattle.nl_tree.specs.Became.{Became}
+use Rattle.nl_tree.specs.Held.{Held, Holding, IsHolding}
+use Rattle.nl_files.specs.CheckpointRoots.{IsCheckpointRoot, IsTreeSound, StandsAs, StandsFor, Stores, root_in, roots_at}
 use Rattle.nl_files.specs.Laws.{FollowsSettled, IsLatest, SettledNumbersAreLowest, ledger_with}
 use Rattle.nl_files.specs.Settles.{Settles}
 use Rattle.nl_files.proofs.Ones.{empty-none}

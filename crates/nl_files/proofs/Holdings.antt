@@ -9,7 +9,8 @@ use Rattle.nl_ifile.specs.Inodes.{inode_at}
 use Rattle.nl_dirs.specs.declared.record.Record.{Record}
 use Rattle.nl_dirs.proofs.Blocks.{directories-one}
 use Rattle.nl_dirs.proofs.Spelling.{blocks_hold_their_records, bytes_hold_one_list}
-use Rattle.nl_files.specs.Held.{Held, Listed, StandsAs, StandsFor}
+use Rattle.nl_tree.specs.Held.{Held, Listed}
+use Rattle.nl_files.specs.CheckpointRoots.{StandsAs, StandsFor}
 use Rattle.nl_files.specs.Laws.{RootsHoldOne}
 
 -- blocks of a kind and a size hold one thing

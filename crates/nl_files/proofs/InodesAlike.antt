@@ -15,7 +15,8 @@ use Rattle.nl_dirs.specs.declared.record.Record.{Record}
 use Rattle.nl_dirs.specs.Records.{packed_block}
 use Rattle.nl_dirs.specs.Listings.{HoldsRecords}
 use Rattle.nl_dirs.proofs.Blocks.{packings-one}
-use Rattle.nl_files.specs.Held.{Held, Listed, StandsAs, StandsFor, Stored, held_block, held_size, root_in}
+use Rattle.nl_tree.specs.Held.{Held, Listed, Stored, held_block, held_size}
+use Rattle.nl_files.specs.CheckpointRoots.{StandsAs, StandsFor, root_in}
 use Rattle.nl_files.proofs.Following.{some-held}
 
 root_of-one : (a b : CodeRoot) → root_of a ≡ root_of b → a ≡ b

@@ -14,8 +14,9 @@ use Rattle.nl_blocktree.specs.Checkpoints.{ArePut, batch_after, inodes_of, no_ch
 use Rattle.nl_blocktree.specs.Putting.{PutsAll, pages_after}
 use Rattle.nl_blocktree.proofs.Staying.{unwritten}
 use Rattle.nl_ifile.specs.Inodes.{InodeMap, block_for, in_block, inode_at}
-use Rattle.nl_files.specs.Became.{Became}
-use Rattle.nl_files.specs.Held.{Holding, IsCheckpointRoot, IsHolding, Stores, root_in, roots_at}
+use Rattle.nl_tree.specs.Became.{Became}
+use Rattle.nl_tree.specs.Held.{Holding, IsHolding}
+use Rattle.nl_files.specs.CheckpointRoots.{IsCheckpointRoot, Stores, root_in, roots_at}
 use Rattle.nl_files.specs.OneSettling.{CleanTreesWriteNothing}
 use Rattle.nl_files.specs.Settles.{Settles}
 use Rattle.nl_files.proofs.PutsAlike.{SameBatchAndRoot, put-alike}

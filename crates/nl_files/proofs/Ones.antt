@@ -15,8 +15,9 @@ use Rattle.nl_blocktree.specs.Changed.{blocks_with}
 use Rattle.nl_blocktree.specs.Putting.{PutsAll, pages_after}
 use Rattle.nl_blocktree.proofs.Frames.{cases-Option, nothing-sound}
 use Rattle.nl_blocktree.proofs.Staying.{some-of}
-use Rattle.nl_files.specs.Became.{Became, over_became}
-use Rattle.nl_files.specs.Held.{Held, StandsFor, root_in}
+use Rattle.nl_tree.specs.Became.{Became, over_became}
+use Rattle.nl_tree.specs.Held.{Held}
+use Rattle.nl_files.specs.CheckpointRoots.{StandsFor, root_in}
 use Rattle.nl_files.specs.Planned.{IsBase, IsPlanned, StandsShaped, shaped}
 use Rattle.nl_files.specs.Settles.{IsInodeSettled}
 use Rattle.nl_files.specs.declared.plan.Shape.{Shape}

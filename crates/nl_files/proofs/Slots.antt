@@ -11,13 +11,14 @@ use Rattle.nl_vstore.specs.Batches.{Changes}
 use Rattle.nl_layout.specs.declared.inode.Inode.{Inode}
 use Rattle.nl_ifile.specs.Inodes.{inode_at}
 use Rattle.nl_ifile.specs.declared.change.InodeChange.{InodeChange}
-use Rattle.nl_files.specs.Became.{Became, EachMayBecome, over_became}
-use Rattle.nl_files.specs.Held.{Held, Holding, IsCheckpointRoot, IsHolding, IsInodeNumber, StandsFor, Stores, root_in, roots_at}
-use Rattle.nl_files.specs.Overlays.{became_of, slot_shows}
+use Rattle.nl_tree.specs.Became.{Became, EachMayBecome, over_became}
+use Rattle.nl_tree.specs.Held.{Held, Holding, IsHolding, IsInodeNumber}
+use Rattle.nl_tree.specs.Overlays.{became_of, slot_shows}
+use Rattle.nl_tree.specs.Shown.{pair, shown_entries}
+use Rattle.nl_tree.specs.declared.overlay.Slot.{Slot}
+use Rattle.nl_files.specs.CheckpointRoots.{IsCheckpointRoot, StandsFor, Stores, root_in, roots_at}
 use Rattle.nl_files.specs.Planned.{IsBase}
 use Rattle.nl_files.specs.Settles.{IsInodeSettled, Settling}
-use Rattle.nl_files.specs.Shown.{pair, shown_entries}
-use Rattle.nl_files.specs.declared.overlay.Slot.{Slot}
 use Rattle.nl_files.proofs.Bases.{base-at}
 use Rattle.nl_files.proofs.Steps.{settling-push}
 

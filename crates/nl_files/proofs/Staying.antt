@@ -12,8 +12,9 @@ use Rattle.nl_ifile.specs.Inodes.{InodeMap, block_for, in_block, inode_at, inode
 use Rattle.nl_blocktree.specs.Checkpoints.{AgreeWhere}
 use Rattle.nl_blocktree.proofs.Frames.{nothing-sound}
 use Rattle.nl_blocktree.proofs.Staying.{file-stays, places-agree, some-of}
+use Rattle.nl_tree.specs.Held.{Held, Holding, IsHolding}
 use Rattle.nl_files.specs.CheckpointTrees.{HoldsTree}
-use Rattle.nl_files.specs.Held.{Held, Holding, IsHolding, IsTreeSound, StandsAs, StandsFor, Stores, root_in, roots_at}
+use Rattle.nl_files.specs.CheckpointRoots.{IsTreeSound, StandsAs, StandsFor, Stores, root_in, roots_at}
 use Rattle.nl_files.specs.Staying.{AgreeAtCheckpoint, CheckpointStays, KeptPagesAgree}
 use Rattle.nl_files.proofs.Following.{some-held}
 use Rattle.nl_files.proofs.Ones.{empty-none}

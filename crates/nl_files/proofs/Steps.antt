@@ -9,10 +9,10 @@ use Rattle.nl_layout.specs.declared.inode.Inode.{Inode}
 use Rattle.nl_blocktree.specs.Checkpoints.{ArePut, FileChange, batch_after}
 use Rattle.nl_blocktree.specs.Putting.{PutsAll}
 use Rattle.nl_ifile.specs.declared.change.InodeChange.{InodeChange}
-use Rattle.nl_files.specs.Became.{Became, over_became}
-use Rattle.nl_files.specs.Held.{Holding}
+use Rattle.nl_tree.specs.Became.{Became, over_became}
+use Rattle.nl_tree.specs.Held.{Holding}
+use Rattle.nl_tree.proofs.Rising.{push-moves}
 use Rattle.nl_files.specs.Settles.{AreSettlements, IsInodeSettled, IsSettlement, Settlement, Settling, settled_became, settled_files, settled_inode}
-use Rattle.nl_files.proofs.Rising.{push-moves}
 
 -- ---- one more file
 

@@ -22,10 +22,11 @@ use Rattle.nl_blocktree.proofs.Numbers.{born-append, unused_of_fits}
 use Rattle.nl_ifile.specs.declared.change.InodeChange.{InodeChange}
 use Rattle.nl_ifile.specs.Inodes.{inode_at}
 use Rattle.nl_ifile.specs.Changing.{NumbersAscend, NumbersAreInRange, PutsInodes, inodes_with}
-use Rattle.nl_files.specs.Became.{Became, EachMayBecome, IsCurrent, Rises, over_any, over_became}
-use Rattle.nl_files.specs.Held.{Held, Holding, IsCheckpointRoot, StandsAs, StandsFor, Stores, root_in, roots_at}
-use Rattle.nl_files.specs.Settles.{AreSettlements, IsSettlement, Settlement, Settles, Settling, settled_became, settled_files, settled_inode}
-use Rattle.nl_files.proofs.Rising.{find-here, find-there, rises-below, rises-map, rises-pairs}
+use Rattle.nl_tree.specs.Became.{Became, EachMayBecome, Rises, over_any, over_became}
+use Rattle.nl_tree.specs.Held.{Held, Holding}
+use Rattle.nl_tree.proofs.Rising.{find-here, find-there, rises-below, rises-map, rises-pairs}
+use Rattle.nl_files.specs.Settles.{IsCurrent, AreSettlements, IsSettlement, Settlement, Settles, Settling, settled_became, settled_files, settled_inode}
+use Rattle.nl_files.specs.CheckpointRoots.{IsCheckpointRoot, StandsAs, StandsFor, Stores, root_in, roots_at}
 use Rattle.nl_files.proofs.Slots.{not_six, root-there}
 use Rattle.nl_files.proofs.Steps.{ArePut-push, births-added, steps-put}
 

@@ -5,13 +5,14 @@ use Rattle.nl_types.specs.Trees.{Tree, root_alone}
 use Rattle.nl_types.proofs.ExactLifetimes.{ledger-blank}
 use Rattle.nl_types.proofs.Inodes.RootAlone.{new_inodes_mean_the_root}
 use Rattle.nl_dirs.specs.Records.{entry_of}
-use Rattle.nl_files.specs.Held.{Holding, inode_content, inodes_of_holding}
-use Rattle.nl_files.specs.Became.{Current, holding_over}
-use Rattle.nl_files.specs.CurrentTrees.{StandsOver}
-use Rattle.nl_files.specs.Laws.{first_holding, nothing_held}
-use Rattle.nl_files.specs.TreeLaws.{EmptyRootsHoldNothing, FirstTreesStand, SettledTreesGoOn, TreesCanBeSettled, first_tree}
-use Rattle.nl_files.proofs.First.{absent-first, first-hold, holds_nothing, latest-first, root-first, stores-nothing}
-use Rattle.nl_files.proofs.FirstCounts.{counts_first, counts_settled}
+use Rattle.nl_tree.specs.Held.{Holding, inode_content, inodes_of_holding}
+use Rattle.nl_tree.specs.Became.{Current, holding_over}
+use Rattle.nl_tree.specs.CurrentTrees.{StandsOver}
+use Rattle.nl_tree.specs.FirstTree.{first_holding, nothing_held, first_tree}
+use Rattle.nl_tree.proofs.FirstTree.{absent-first, holds_nothing, root-first}
+use Rattle.nl_tree.proofs.FirstCounts.{counts_first, counts_settled}
+use Rattle.nl_files.specs.TreeLaws.{EmptyRootsHoldNothing, FirstTreesStand, SettledTreesGoOn, TreesCanBeSettled}
+use Rattle.nl_files.proofs.First.{first-hold, latest-first, stores-nothing}
 use Rattle.nl_files.proofs.Following.{latest-hold, settled-follow}
 
 first_stands : StandsOver first_tree nothing_held root_alone

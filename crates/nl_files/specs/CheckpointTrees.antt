@@ -1,7 +1,8 @@
 -- The tree of a checkpoint, as the reading of its inodes finds it.
 use Rattle.std.specs.Prelude.{Option, None, Some}
 use Rattle.nl_types.specs.Roots.{Pages, Root}
-use Rattle.nl_files.specs.Held.{Held, Holding, IsHolding, Listed, Stored, Stores}
+use Rattle.nl_tree.specs.Held.{Held, Holding, IsHolding, Listed, Stored}
+use Rattle.nl_files.specs.CheckpointRoots.{Stores}
 
 -- a root stands for what inodes may hold
 pub record HoldsTree (pages : Pages) (root : Root) (holding : Holding) : Type 0 where

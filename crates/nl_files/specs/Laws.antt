@@ -1,5 +1,5 @@
 -- From one checkpoint to the next.
-use Rattle.std.specs.Prelude.{◌≡◌, ◌≤◌, ℕ, List, [], ◌∷◌, length, None}
+use Rattle.std.specs.Prelude.{◌≡◌, ◌≤◌, ℕ, List, [], length}
 use Rattle.nl_types.specs.Entries.{Content}
 use Rattle.nl_types.specs.Roots.{Pages, Root, Empty}
 use Rattle.nl_types.specs.Lifetimes.{Allowed, IsLedger, Ledger, Write, blank, ledger_after, numbers_at}
@@ -7,9 +7,11 @@ use Rattle.nl_layout.specs.Root.{root_of}
 use Rattle.nl_layout.specs.declared.root.Root.{Root as CodeRoot}
 use Rattle.nl_vstore.specs.Batches.{Changes, Fits, TakeLowestFree}
 use Rattle.nl_blocktree.specs.Checkpoints.{WritesWhatDiffers, numbers_of, pages_in}
-use Rattle.nl_files.specs.Held.{Holding, IsCheckpointRoot, IsHolding, IsTreeSound, Stores, roots_at}
-use Rattle.nl_files.specs.Became.{Became, BecameDirectory, IsCurrent, holding_over}
-use Rattle.nl_files.specs.Settles.{Settles}
+use Rattle.nl_tree.specs.Held.{Holding, IsHolding}
+use Rattle.nl_tree.specs.Became.{Became}
+use Rattle.nl_tree.specs.FirstTree.{first_holding, nothing_held, root_directory_alone}
+use Rattle.nl_files.specs.CheckpointRoots.{IsCheckpointRoot, IsTreeSound, Stores, roots_at}
+use Rattle.nl_files.specs.Settles.{IsCurrent, Settles}
 
 -- a root stands for one holding at most
 abbrev pub RootsHoldOne : Type 0
@@ -62,18 +64,6 @@ SettledNumbersAreLowest =
     Settles content root new became held batch → TakeLowestFree content [] batch.births
 
 -- ---- the first checkpoint
-
--- no inode is in use
-abbrev pub nothing_held : Holding
-nothing_held i = None
-
--- the tree of a new volume: the root directory, without names
-abbrev pub root_directory_alone : List (ℕ × Became)
-root_directory_alone = (2, BecameDirectory []) ∷ []
-
--- what its inodes hold
-abbrev pub first_holding : Holding
-first_holding = holding_over root_directory_alone nothing_held
 
 -- before it there is a checkpoint without files, over which the tree of a new volume can be settled
 pub record FirstCheckpointsHold : Type 0 where

@@ -3,8 +3,9 @@ use Rattle.std.specs.Prelude.{◌≡◌, ℕ, List, [], length}
 use Rattle.nl_types.specs.Entries.{Content}
 use Rattle.nl_types.specs.Roots.{Root, pages_of}
 use Rattle.nl_vstore.specs.Batches.{Changes}
-use Rattle.nl_files.specs.Became.{Became}
-use Rattle.nl_files.specs.Held.{Holding, IsCheckpointRoot, IsHolding, Stores}
+use Rattle.nl_tree.specs.Became.{Became}
+use Rattle.nl_tree.specs.Held.{Holding, IsHolding}
+use Rattle.nl_files.specs.CheckpointRoots.{IsCheckpointRoot, Stores}
 use Rattle.nl_files.specs.Settles.{Settles}
 
 -- it writes as many blocks whichever way it is settled, and gives one root

@@ -7,8 +7,9 @@ use Rattle.nl_layout.specs.declared.inode.InodeKind.{InodeKind}
 use Rattle.nl_layout.specs.declared.inode.InodeKind.TheVariants.{File, Directory, InodeFile}
 use Rattle.nl_blocktree.specs.declared.change.BlockChange.{BlockChange}
 use Rattle.nl_blocktree.specs.Changed.{blocks_with}
-use Rattle.nl_files.specs.Held.{Held, StandsAs}
-use Rattle.nl_files.specs.Became.{Became, over_became}
+use Rattle.nl_tree.specs.Held.{Held}
+use Rattle.nl_tree.specs.Became.{Became, over_became}
+use Rattle.nl_files.specs.CheckpointRoots.{StandsAs}
 use Rattle.nl_files.specs.declared.plan.Shape.{Shape}
 use Rattle.nl_files.specs.declared.plan.Plan.{Plan}
 

@@ -11,8 +11,18 @@ use Rattle.nl_blocktree.specs.declared.change.BlockChange.{BlockChange}
 use Rattle.nl_blocktree.specs.Checkpoints.{ArePut, ComesBefore, FileChange, batch_after, inodes_of, no_changes, roots_after}
 use Rattle.nl_blocktree.specs.Putting.{PutsAll, pages_after}
 use Rattle.nl_ifile.specs.declared.change.InodeChange.{InodeChange}
-use Rattle.nl_files.specs.Held.{Held, Holding, IsTreeSound, StandsFor, Stores, root_in, roots_at}
-use Rattle.nl_files.specs.Became.{Became, over_became}
+use Rattle.nl_tree.specs.Held.{Held, Holding, IsHolding}
+use Rattle.nl_tree.specs.Became.{Became, holding_over, over_became}
+use Rattle.nl_files.specs.CheckpointRoots.{IsTreeSound, StandsFor, Stores, root_in, roots_at}
+
+-- The changes are of the latest checkpoint's tree, and make of it what inodes may hold.
+pub record IsCurrent (content : Content) (root : Root) (became : List (ℕ × Became)) (base held : Holding) : Type 0 where
+  pub base_is : Stores (pages_of content) root base
+  pub base_sound : IsHolding base
+  pub sound : IsHolding held
+  pub holds : held ≡ holding_over became base
+
+-- ---- one inode
 
 -- one inode is settled: its blocks are in the batch, and the new inode stands for what the inode became
 pub record IsInodeSettled (content : Content) (i : ℕ) (old : Root) (new : Option Inode) (held : Option Held)

@@ -3,8 +3,9 @@ use Rattle.std.specs.Prelude.{◌≡◌, ℕ}
 use Rattle.nl_types.specs.PartialMaps.{Keeps}
 use Rattle.nl_types.specs.Roots.{Pages, Root}
 use Rattle.nl_blocktree.specs.Checkpoints.{AgreeWhere, numbers_of}
+use Rattle.nl_tree.specs.Held.{Holding}
 use Rattle.nl_files.specs.CheckpointTrees.{HoldsTree}
-use Rattle.nl_files.specs.Held.{Holding, IsTreeSound, Stores, roots_at}
+use Rattle.nl_files.specs.CheckpointRoots.{IsTreeSound, Stores, roots_at}
 
 -- the pages agree at each number that the checkpoint's files reach
 abbrev pub AgreeAtCheckpoint : Pages → Pages → Root → Type 0

@@ -5,12 +5,14 @@ use Rattle.nl_types.specs.Trees.{Tree, root_alone}
 use Rattle.nl_types.specs.Roots.{Pages, Root, Empty}
 use Rattle.nl_vstore.specs.Batches.{Changes, Fits}
 use Rattle.nl_blocktree.specs.Checkpoints.{pages_in}
-use Rattle.nl_files.specs.Held.{Holding, IsCheckpointRoot, IsHolding}
-use Rattle.nl_files.specs.Became.{Current, IsCurrent, holding_over}
+use Rattle.nl_tree.specs.Held.{Holding, IsHolding}
+use Rattle.nl_tree.specs.Became.{Current, holding_over}
+use Rattle.nl_tree.specs.CurrentTrees.{StandsOver}
+use Rattle.nl_tree.specs.FirstTree.{first_tree, nothing_held}
+use Rattle.nl_files.specs.CheckpointRoots.{IsCheckpointRoot}
+use Rattle.nl_files.specs.Settles.{IsCurrent, Settles}
 use Rattle.nl_files.specs.CheckpointTrees.{HoldsTree}
-use Rattle.nl_files.specs.CurrentTrees.{StandsOver}
-use Rattle.nl_files.specs.Settles.{Settles}
-use Rattle.nl_files.specs.Laws.{IsLatest, ledger_with, nothing_held, root_directory_alone}
+use Rattle.nl_files.specs.Laws.{IsLatest, ledger_with}
 
 -- The current tree stands for the tree over the latest checkpoint of a ledger, which has this root and holds this.
 pub record StandsOverLatest (ledger : Ledger) (root : Root) (now : Current) (base : Holding) (tree : Tree) : Type 0 where
@@ -21,11 +23,7 @@ pub record StandsOverLatest (ledger : Ledger) (root : Root) (now : Current) (bas
 
 -- ---- the first one
 
--- the current tree of a new volume
-abbrev pub first_tree : Current
-first_tree = record { became = root_directory_alone; freed = []; mark = 11; names = 0 }
-
--- it stands for the root alone, over a checkpoint without files
+-- the current tree of a new volume stands for the root alone, over a checkpoint without files
 abbrev pub FirstTreesStand : Type 0
 FirstTreesStand = StandsOverLatest blank Empty first_tree nothing_held root_alone
 

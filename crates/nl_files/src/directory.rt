@@ -8,10 +8,10 @@ ghost use Rattle.nl_dirs.specs.Records.{IsPageOf, entry_of};
 ghost use Rattle.nl_dirs.specs.Listings.{HoldsRecords};
 ghost use Rattle.nl_files.specs.Directories.{AreBlocksOf, StandsInBlock, StartsBehind};
 
-use crate::tree_read::Link;
 use nl_blocktree::{Cursor, get};
 use nl_dirs::{Record, find, first_name, record_count, records};
 use nl_layout::Root;
+use nl_tree::Link;
 use nl_types::{BLOCK_SIZE, Page, VolError};
 use nl_vstore::VRead;
 use std::alloc::Global;

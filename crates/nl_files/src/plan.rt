@@ -1,17 +1,16 @@
 //! The changes of blocks that make what an inode became of the checkpoint's one.
 ghost use Rattle.std.specs.Prelude.{◌≡◌, ℕ, Some, None, ◌≤◌, ◌-◌, ◌*◌, ◌++◌, ◌∷◌, [], List, length, IfOk, IfErr};
 ghost use Rattle.nl_dirs.specs.Packing.{Packs};
-ghost use Rattle.nl_files.specs.Became.{MayBecome, Rises};
-ghost use Rattle.nl_files.specs.Overlays.{became_of, new_pages};
+ghost use Rattle.nl_tree.specs.Became.{MayBecome, Rises};
+ghost use Rattle.nl_tree.specs.Overlays.{became_of, new_pages};
+ghost use Rattle.nl_tree.specs.Records.{records_of};
+ghost use Rattle.nl_tree.specs.Shown.{itself, pair, shown_entries};
 ghost use Rattle.nl_files.specs.Planned.{IsPlanned, cursor_after, file_cut, index_of, inode_block_count, inode_size, lesser_of, merged, packed_over, placed, removals};
-ghost use Rattle.nl_files.specs.Records.{records_of};
-ghost use Rattle.nl_files.specs.Shown.{itself, pair, shown_entries};
 
-use crate::listing::Listing;
-use crate::overlay::{Changed, FileBlocks};
 use nl_blocktree::BlockChange;
 use nl_dirs::pack;
 use nl_layout::{Inode, InodeKind};
+use nl_tree::{Changed, FileBlocks, Listing};
 use nl_types::{Block, Page, VolError};
 use std::alloc::Global;
 

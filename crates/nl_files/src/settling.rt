@@ -6,55 +6,53 @@ ghost use Rattle.nl_vstore.specs.Batches.{Changes};
 ghost use Rattle.nl_vstore.specs.Stores.{content_in};
 ghost use Rattle.nl_blocktree.specs.Checkpoints.{no_changes};
 ghost use Rattle.nl_blocktree.specs.Numbering.{CanTake};
-ghost use Rattle.nl_files.specs.Became.{Became, EachMayBecome, IsCurrent, MayBecome, over_became};
-ghost use Rattle.nl_files.specs.Held.{Held, Holding, IsCheckpointRoot, IsHolding, IsRootInUse, Stores, root_in, roots_at};
-ghost use Rattle.nl_files.specs.Overlays.{became_in, became_of, slot_shows};
+ghost use Rattle.nl_tree.specs.Became.{Became, EachMayBecome, MayBecome, over_became};
+ghost use Rattle.nl_tree.specs.Held.{Held, Holding, IsHolding};
+ghost use Rattle.nl_tree.specs.Overlays.{became_in, became_of, slot_shows};
+ghost use Rattle.nl_tree.specs.Shown.{pair, shown_entries};
+ghost use Rattle.nl_files.specs.Settles.{IsCurrent, IsInodeSettled, Settles, Settling};
+ghost use Rattle.nl_files.specs.CheckpointRoots.{IsCheckpointRoot, IsRootInUse, Stores, root_in, roots_at};
 ghost use Rattle.nl_files.specs.Planned.{IsBase, inode_size, shaped};
-ghost use Rattle.nl_files.specs.Settles.{IsInodeSettled, Settles, Settling};
-ghost use Rattle.nl_files.specs.Shown.{pair, shown_entries};
 
-use crate::current::CurrentTree;
-use crate::overlay::{Changed, Overlay, Slot};
 use crate::plan::{Shape, plan_changes};
 use nl_blocktree::put_all;
 use nl_ifile::{InodeChange, inode, put_inodes};
 use nl_layout::{Inode, Root};
+use nl_tree::{Changed, CurrentTree, Overlay, Slot};
 use nl_types::{InodeNumber, VolError};
 use nl_vstore::{Batch, Vstore};
 use std::alloc::Global;
 
-impl CurrentTree {
-    /// Puts what differs from the checkpoint into an empty batch, and answers the root of the new one. Refused by `Memory`
-    /// alone; then the batch is empty again.
-    pub fn settle<V: Vstore>(
-        &self,
-        alloc: Global,
-        store: &V,
-        root: Root,
-        batch: &mut Batch,
-    ) -> Result<Root, VolError>
-        requires empty { batch.old ≡ no_changes }
-        requires fits { CanTake (V.store store.now) batch.old }
-        requires checkpoint { IsCheckpointRoot (content_in (V.store store.now)) (root_of root) }
-        requires current { (base held : Holding) ×
-            IsCurrent (content_in (V.store store.now)) (root_of root) self.now.became base held }
-        ensures settles { IfOk result (λ new. (base held : Holding)
-            → IsCurrent (content_in (V.store store.now)) (root_of root) self.now.became base held
-            → Settles (content_in (V.store store.now)) (root_of root) (root_of new)
-            self.now.became held batch.new) }
-        ensures fits { IfOk result (λ _. CanTake (V.store store.now) batch.new) }
-        ensures same { OnErr result (batch.new ≡ batch.old) }
-        ensures err { IfErr result (λ e. e ≡ VolError.Memory) }
-    {
-        let settled = match settle_inodes(alloc, store, batch, &root, &self.overlay) {
-            Ok(inodes) => put_inodes(alloc, store, batch, root, &inodes),
-            Err(refusal) => Err(refusal),
-        };
-        if settled.is_err() {
-            batch.truncate(0, 0);
-        }
-        settled
+/// Puts what differs from the checkpoint into an empty batch, and answers the root of the new one. Refused by `Memory`
+/// alone; then the batch is empty again.
+pub fn settle<V: Vstore>(
+    alloc: Global,
+    store: &V,
+    batch: &mut Batch,
+    root: Root,
+    tree: &CurrentTree,
+) -> Result<Root, VolError>
+    requires empty { batch.old ≡ no_changes }
+    requires fits { CanTake (V.store store.now) batch.old }
+    requires checkpoint { IsCheckpointRoot (content_in (V.store store.now)) (root_of root) }
+    requires current { (base held : Holding) ×
+        IsCurrent (content_in (V.store store.now)) (root_of root) tree.now.became base held }
+    ensures settles { IfOk result (λ new. (base held : Holding)
+        → IsCurrent (content_in (V.store store.now)) (root_of root) tree.now.became base held
+        → Settles (content_in (V.store store.now)) (root_of root) (root_of new)
+        tree.now.became held batch.new) }
+    ensures fits { IfOk result (λ _. CanTake (V.store store.now) batch.new) }
+    ensures same { OnErr result (batch.new ≡ batch.old) }
+    ensures err { IfErr result (λ e. e ≡ VolError.Memory) }
+{
+    let settled = match settle_inodes(alloc, store, batch, &root, tree.overlay()) {
+        Ok(inodes) => put_inodes(alloc, store, batch, root, &inodes),
+        Err(refusal) => Err(refusal),
+    };
+    if settled.is_err() {
+        batch.truncate(0, 0);
     }
+    settled
 }
 
 /// Puts the blocks of each inode that changed into the batch, and answers the changes of inodes.

@@ -1,4 +1,3 @@
 pub mod Inodes
 pub mod Changing
 pub mod Free
-pub mod Contents

@@ -4,7 +4,6 @@
 mod change;
 mod changed_block;
 mod free;
-pub mod laws;
 mod put;
 mod read;
 

@@ -17,9 +17,9 @@ use Rattle.nl_types.specs.Trees.{Tree, insert, lookup, remove}
 use Rattle.nl_types.specs.Calls.{Changed, and_then, change, create, file_at, file_in, node_at, refuse_if, tree_after, unlink, walk}
 use Rattle.nl_types.proofs.Booleans.{holds}
 use Rattle.nl_types.proofs.Inodes.TreeCounts.{length-insert_new, length-remove}
-use Rattle.nl_files.specs.Became.{Current}
-use Rattle.nl_files.specs.CurrentTrees.{CallsAs, LeadsOver, StandsOver}
-use Rattle.nl_files.specs.Held.{Holding}
+use Rattle.nl_tree.specs.Became.{Current}
+use Rattle.nl_tree.specs.CurrentTrees.{CallsAs, LeadsOver, StandsOver}
+use Rattle.nl_tree.specs.Held.{Holding}
 
 -- a judgement that is not refused went on from what an earlier one found
 went_on : {A B : Type 0} (found : Result A VolError) (next : A → Result B VolError) (b : B) → and_then found next ≡ Ok b → (a : A) × (found ≡ Ok a) × (next a ≡ Ok b)

@@ -12,15 +12,16 @@ use Rattle.nl_types.specs.Trees.{Tree}
 use Rattle.nl_space.specs.Content.{SpaceContent}
 use Rattle.nl_vstore.specs.Batches.{Changes, Fits}
 use Rattle.nl_vstore.specs.Stores.{IsWriteRefused, Numbered, Store, content_in, entry_now, new_store}
-use Rattle.nl_files.specs.Held.{Holding, IsCheckpointRoot, IsHolding}
-use Rattle.nl_files.specs.Became.{Became, Current, IsCurrent, holding_over}
+use Rattle.nl_tree.specs.Held.{Holding, IsHolding}
+use Rattle.nl_tree.specs.Became.{Became, Current, holding_over}
+use Rattle.nl_tree.specs.CurrentTrees.{CallsAs, StandsOver}
+use Rattle.nl_tree.specs.Numbers.{CountsFree}
+use Rattle.nl_tree.specs.TreeMeaning.{StandsForTree}
+use Rattle.nl_files.specs.CheckpointRoots.{IsCheckpointRoot}
+use Rattle.nl_files.specs.Settles.{IsCurrent, Settles}
 use Rattle.nl_files.specs.CheckpointTrees.{HoldsTree}
-use Rattle.nl_files.specs.CurrentTrees.{CallsAs, StandsOver}
 use Rattle.nl_files.specs.Laws.{ledger_with}
-use Rattle.nl_files.specs.Numbers.{CountsFree}
-use Rattle.nl_files.specs.Settles.{Settles}
 use Rattle.nl_files.specs.TreeLaws.{StandsOverLatest}
-use Rattle.nl_files.specs.TreeMeaning.{StandsForTree}
 use Rattle.nl_files.proofs.TreeLaws.{settled_trees-go_on, trees-can_be_settled}
 
 -- a call leaves a tree, be it refused or not

@@ -9,9 +9,10 @@ use crate::rows::{Volume, first_unwanted};
 use nl_blocktree::{WalkError, walk};
 use nl_dat::Dat;
 use nl_device::FaultyDevice;
-use nl_files::{CurrentTree, ReadTree, TreeRead, answer, read_into};
+use nl_files::{ReadTree, settle};
 use nl_layout::Root;
 use nl_segwriter::LogSpace;
+use nl_tree::{CurrentTree, TreeRead, answer, read_into};
 use nl_types::{Change, CheckpointNumber, Event, Items, Reply, Stat, VolError};
 use nl_vstore::{Batch, Vstore};
 use std::alloc::Global;
@@ -57,8 +58,8 @@ impl Model for Trees {
     ghost use Rattle.nl_types.specs.Trees.{Tree};
     ghost use Rattle.nl_layout.specs.Root.{root_of};
     ghost use Rattle.nl_vstore.specs.Stores.{content_in};
-    ghost use Rattle.nl_files.specs.Became.{Current};
-    ghost use Rattle.nl_files.specs.Held.{Holding};
+    ghost use Rattle.nl_tree.specs.Became.{Current};
+    ghost use Rattle.nl_tree.specs.Held.{Holding};
     ghost use Rattle.nl_files.specs.TreeLaws.{StandsOverLatest};
 
     ghost Value = { Current };
@@ -101,7 +102,7 @@ impl Trees {
         }
         let number = self.checkpoint + 1;
         let mut batch = Batch::new(alloc);
-        let root = self.tree.settle(alloc, &self.store, self.root, &mut batch)?;
+        let root = settle(alloc, &self.store, &mut batch, self.root, &self.tree)?;
         self.store
             .write(alloc, &batch, CheckpointNumber::new(number), 0)?;
         self.checkpoint = number;

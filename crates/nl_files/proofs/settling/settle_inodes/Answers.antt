@@ -4,12 +4,12 @@ use Rattle.nl_types.specs.declared.error.VolError.TheVariants.{Memory}
 use Rattle.nl_types.specs.Roots.{pages_of}
 use Rattle.nl_layout.specs.Root.{root_of}
 use Rattle.nl_vstore.specs.Stores.{content_in}
-use Rattle.nl_files.specs.Became.{Became, EachMayBecome}
-use Rattle.nl_files.specs.Held.{roots_at}
-use Rattle.nl_files.specs.Overlays.{became_in, slot_shows}
+use Rattle.nl_tree.specs.Became.{Became, EachMayBecome}
+use Rattle.nl_tree.specs.Overlays.{became_in, slot_shows}
+use Rattle.nl_tree.specs.Shown.{pair, shown_entries}
+use Rattle.nl_tree.proofs.Refusals.{passed_on}
+use Rattle.nl_files.specs.CheckpointRoots.{roots_at}
 use Rattle.nl_files.specs.Settles.{Settling}
-use Rattle.nl_files.specs.Shown.{pair, shown_entries}
-use Rattle.nl_files.proofs.Refusals.{passed_on}
 use Rattle.nl_files.proofs.Slots.{changes-rest, shown-split}
 use Rattle.nl_files.proofs.settling.settle_inodes.Goals as goal
 

@@ -2,11 +2,12 @@ use Rattle.nl_types.specs.Roots.{pages_of}
 use Rattle.nl_layout.specs.Root.{root_of}
 use Rattle.nl_vstore.specs.Stores.{content_in}
 use Rattle.nl_blocktree.specs.Numbering.{CanTake}
-use Rattle.nl_files.specs.Became.{EachMayBecome}
-use Rattle.nl_files.specs.Held.{Holding, IsHolding, Stores, roots_at}
-use Rattle.nl_files.specs.Overlays.{became_in, slot_shows}
+use Rattle.nl_tree.specs.Became.{EachMayBecome}
+use Rattle.nl_tree.specs.Held.{Holding, IsHolding}
+use Rattle.nl_tree.specs.Overlays.{became_in, slot_shows}
+use Rattle.nl_tree.specs.Shown.{pair, shown_entries}
+use Rattle.nl_files.specs.CheckpointRoots.{Stores, roots_at}
 use Rattle.nl_files.specs.Settles.{Settling}
-use Rattle.nl_files.specs.Shown.{pair, shown_entries}
 use Rattle.nl_files.proofs.settling.settle_inodes.Given as goal
 
 abbrev pub invariant-loop-number : goal.invariant-loop-number

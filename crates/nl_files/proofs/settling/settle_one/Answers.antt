@@ -3,9 +3,9 @@ use Rattle.nl_layout.specs.Root.{root_of}
 use Rattle.nl_vstore.specs.Stores.{content_in}
 use Rattle.nl_blocktree.specs.declared.change.BlockChange.{BlockChange}
 use Rattle.nl_blocktree.specs.Changed.{IndexesAreInRange, IndexesAscend}
-use Rattle.nl_files.specs.Overlays.{became_of}
+use Rattle.nl_tree.specs.Overlays.{became_of}
+use Rattle.nl_tree.proofs.Rising.{rises-below, rises-pairs}
 use Rattle.nl_files.specs.Planned.{index_of}
-use Rattle.nl_files.proofs.Rising.{rises-below, rises-pairs}
 use Rattle.nl_files.proofs.Ones.{settled-one}
 use Rattle.nl_files.proofs.settling.settle_one.Goals as goal
 

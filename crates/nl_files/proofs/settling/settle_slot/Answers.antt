@@ -7,15 +7,15 @@ use Rattle.nl_layout.specs.Root.{root_of}
 use Rattle.nl_layout.specs.declared.inode.Inode.{Inode}
 use Rattle.nl_vstore.specs.Stores.{content_in}
 use Rattle.nl_ifile.specs.Inodes.{inode_at}
-use Rattle.nl_files.specs.Became.{Became, EachMayBecome}
-use Rattle.nl_files.specs.Held.{IsRootInUse, root_in, roots_at}
-use Rattle.nl_files.specs.Overlays.{became_of}
+use Rattle.nl_tree.specs.Became.{Became, EachMayBecome}
+use Rattle.nl_tree.specs.Overlays.{became_of}
+use Rattle.nl_tree.specs.Shown.{pair}
+use Rattle.nl_files.specs.CheckpointRoots.{IsRootInUse, root_in, roots_at}
 use Rattle.nl_files.specs.Planned.{inode_size}
 use Rattle.nl_files.specs.Settles.{Settling}
-use Rattle.nl_files.specs.Shown.{pair}
 use Rattle.nl_files.proofs.Bases.{small-in}
 use Rattle.nl_types.specs.declared.error.VolError.TheVariants.{Memory}
-use Rattle.nl_files.proofs.Refusals.{passed_on}
+use Rattle.nl_tree.proofs.Refusals.{passed_on}
 use Rattle.nl_files.proofs.Slots.{live-shown, slot-settled}
 use Rattle.nl_files.proofs.settling.settle_slot.Goals as goal
 

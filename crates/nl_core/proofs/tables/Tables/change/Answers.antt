@@ -3,11 +3,11 @@ use Rattle.std.specs.Prelude.{Bool, Err, Ok, ◌||◌}
 use Rattle.std.proofs.lemmas.Result.{err_from_is_err_and}
 use Rattle.nl_types.specs.Calls as calls
 use Rattle.nl_types.specs.declared.event.Event.TheVariants.{Apply}
-use Rattle.nl_files.specs.Became.{Current}
+use Rattle.nl_tree.specs.Became.{Current}
 use Rattle.nl_layout.specs.Root.{root_of}
 use Rattle.nl_layout.specs.declared.root.Root.{Root}
+use Rattle.nl_tree.specs.Held.{Holding}
 use Rattle.nl_files.specs.CheckpointTrees.{HoldsTree}
-use Rattle.nl_files.specs.Held.{Holding}
 use Rattle.nl_core.specs.Changes.{HasChanged}
 use Rattle.nl_core.specs.Inside.{lists_of}
 use Rattle.nl_core.specs.Means.{FollowsOver, Means}

@@ -1,6 +1,6 @@
 use Rattle.std.proofs.Common.{◌≡◌, ap, subst, sym, ◌∙◌}
 use Rattle.nl_types.specs.declared.event.Event.TheVariants.{Read}
-use Rattle.nl_files.specs.Became.{holding_over}
+use Rattle.nl_tree.specs.Became.{holding_over}
 use Rattle.nl_layout.specs.Root.{root_of}
 use Rattle.nl_layout.specs.declared.root.Root.{Root}
 use Rattle.nl_files.specs.CheckpointTrees.{HoldsTree}

@@ -3,7 +3,7 @@ use Rattle.std.specs.Prelude.{OnOk}
 use Rattle.nl_types.specs.declared.event.Change.TheVariants.{Create, Unlink}
 use Rattle.nl_layout.specs.Root.{root_of}
 use Rattle.nl_vstore.specs.Stores.{content_in}
-use Rattle.nl_files.specs.Became.{Current}
+use Rattle.nl_tree.specs.Became.{Current}
 use Rattle.nl_tests.proofs.NamesCounted.{create-names, unlink-names}
 use Rattle.nl_tests.proofs.TreesStand.{call_leaves, latest_holds}
 use Rattle.nl_tests.proofs.trees.Trees.change.Goals as goal

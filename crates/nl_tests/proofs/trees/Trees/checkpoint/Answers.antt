@@ -1,7 +1,7 @@
 use Rattle.std.proofs.Common.{ℕ, ◌+◌, ◌∙◌, sym, ap}
 use Rattle.nl_layout.specs.Root.{root_of}
 use Rattle.nl_vstore.specs.Stores.{capacity, content_in}
-use Rattle.nl_files.specs.Became.{holding_over}
+use Rattle.nl_tree.specs.Became.{holding_over}
 use Rattle.nl_files.specs.Laws.{ledger_with}
 use Rattle.nl_tests.proofs.TreesStand.{latest_checkpoint, latest_current, refused-keeps, written_content, written_goes_on}
 use Rattle.nl_tests.proofs.trees.Trees.checkpoint.Goals as goal

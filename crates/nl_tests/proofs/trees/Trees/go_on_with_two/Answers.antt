@@ -1,5 +1,5 @@
 use Rattle.std.proofs.Common.{ap, arith}
-use Rattle.nl_files.specs.Became.{Current}
+use Rattle.nl_tree.specs.Became.{Current}
 use Rattle.nl_tests.proofs.trees.Trees.go_on_with_two.Goals as goal
 
 pub reopen-requires-clause-names : goal.reopen-requires-clause-names

@@ -2,8 +2,8 @@ use Rattle.std.proofs.Common.{refl, sym, ap, subst}
 use Rattle.nl_types.specs.Lifetimes.{blank}
 use Rattle.nl_types.specs.Roots.{Empty}
 use Rattle.nl_types.specs.Trees.{root_alone}
-use Rattle.nl_files.specs.Became.{Current}
-use Rattle.nl_files.specs.Laws.{nothing_held}
+use Rattle.nl_tree.specs.Became.{Current}
+use Rattle.nl_tree.specs.FirstTree.{nothing_held}
 use Rattle.nl_files.specs.TreeLaws.{StandsOverLatest}
 use Rattle.nl_files.proofs.TreeLaws.{first_trees-stand}
 use Rattle.nl_tests.proofs.TreesStand.{new_content-blank}

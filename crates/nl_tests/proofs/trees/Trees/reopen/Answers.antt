@@ -1,5 +1,5 @@
 use Rattle.std.proofs.Common.{sym, ap, ◌∙◌}
-use Rattle.nl_files.specs.Became.{Current}
+use Rattle.nl_tree.specs.Became.{Current}
 use Rattle.nl_tests.proofs.TreesStand.{reopened_stands}
 use Rattle.nl_tests.proofs.trees.Trees.reopen.Goals as goal
 

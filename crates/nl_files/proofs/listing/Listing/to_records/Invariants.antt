@@ -1,7 +1,0 @@
-use Rattle.std.proofs.Common.{◌≡◌, ◌++◌}
-use Rattle.nl_files.specs.Records.{record_named, records_of}
-use Rattle.nl_files.specs.Shown.{itself, shown_entries}
-use Rattle.nl_files.proofs.listing.Listing.to_records.Given as goal
-
-abbrev pub invariant-loop-name : goal.invariant-loop-name
-invariant-loop-name l = l.records.items ++ shown_entries (record_named (λ k. k.items)) itself l.name-iterator ≡ records_of l.self

@@ -1,6 +1,0 @@
-use Rattle.std.proofs.Common.{take}
-use Rattle.nl_files.specs.PathParts.{IsOnePart}
-use Rattle.nl_files.proofs.paths.part_end.Given as goal
-
-abbrev pub invariant-loop-i : goal.invariant-loop-i
-invariant-loop-i l = IsOnePart (take l.i l.parts)

@@ -1,0 +1,71 @@
+-- What a write to one slot of an overlay keeps.
+use Rattle.std.proofs.Common.{◌≡◌, ◌⊎◌, inl, inr, ℕ, Bool, true, false, Option, Some, refl, sym, ap, subst, ◌∙◌, IsSome}
+use Rattle.std.specs.Prelude.{cond, is_some}
+use Rattle.std.specs.Ordering.{nat_cmp}
+use Rattle.std.specs.BTreeMap as map
+use Rattle.std.specs.BTreeMap.{BTreeMap, WritesThrough, is_at}
+use Rattle.std.proofs.lemmas.Bool.{cases_eq}
+use Rattle.nl_tree.specs.declared.overlay.Changed.{Changed}
+use Rattle.nl_tree.specs.declared.overlay.Changed.TheVariants.{File}
+use Rattle.nl_tree.specs.declared.overlay.FileBlocks.{FileBlocks}
+use Rattle.nl_tree.specs.declared.overlay.Overlay.{Overlay}
+use Rattle.nl_tree.specs.declared.overlay.Slot.{Slot}
+use Rattle.nl_tree.specs.Held.{Held, Holding}
+use Rattle.nl_tree.specs.Overlays.{HasOrderedPages, IsOrderly, over_changed, over_place}
+use Rattle.nl_tree.proofs.Places.{one_slot, slot_kept, slot_written}
+
+module _ (m n : BTreeMap ℕ Slot) (j : ℕ) (slot w : Slot) (writes : WritesThrough nat_cmp (nat_cmp j) m w n) (there : Some slot ≡ map.get nat_cmp m j) where
+  some : IsSome (map.get nat_cmp m j)
+  some = subst (λ (o : Option Slot). IsSome o) there refl
+
+  -- each place stays
+  pub places_stay : (i : ℕ) → IsSome (map.get nat_cmp m i) → IsSome (map.get nat_cmp n i)
+  places_stay i has = ap is_some ((writes.3 some).0 i) ∙ pick (is_at (nat_cmp j) i) (map.get nat_cmp m i) has
+    where
+      pick : (t : Bool) (o : Option Slot) → IsSome o → is_some (cond t (Some w) o) ≡ true
+      pick true o has' = refl
+      pick false o has' = has'
+
+  -- and there is no other
+  pub places_from : (i : ℕ) → IsSome (map.get nat_cmp n i) → IsSome (map.get nat_cmp m i)
+  places_from i has = by_test (cases_eq i j)
+    where
+      by_test : (i ≡ j) ⊎ (i ≡ j → ⊥) → IsSome (map.get nat_cmp m i)
+      by_test (inl e) = subst (λ (k : ℕ). IsSome (map.get nat_cmp m k)) (sym e) some
+      by_test (inr ne) = subst (λ (o : Option Slot). IsSome o) (slot_kept m n j i w writes some ne) has
+
+  -- an overlay stays orderly
+  pub written_orderly : (o : Overlay) → o.changed ≡ m → (HasOrderedPages slot.what → HasOrderedPages w.what) → IsOrderly o → IsOrderly (record o { changed = n })
+  written_orderly o is keeps orderly = record {
+    keys = writes.4;
+    numbers = orderly.numbers;
+    files = λ i s file at file_is. by_test i s file at file_is (cases_eq i j);
+    inodes = λ i has. orderly.inodes i (ap (λ changed. is_some (map.get nat_cmp changed i)) is ∙ places_from i has);
+  }
+    where
+      by_test : (i : ℕ) (s : Slot) (file : FileBlocks) → map.get nat_cmp n i ≡ Some s → s.what ≡ File file → (i ≡ j) ⊎ (i ≡ j → ⊥) →
+          map.IsOrdered nat_cmp file.pages
+      by_test i s file at file_is (inl e) =
+          let same : w ≡ s = one_slot (map.get nat_cmp n j) w s (sym (slot_written m n j w writes some)) (ap (map.get nat_cmp n) (sym e) ∙ at) in
+          keeps (λ f f_is. orderly.files j slot f (ap (λ changed. map.get nat_cmp changed j) is ∙ sym there) f_is) file (ap (λ (x : Slot). x.what) same ∙ file_is)
+      by_test i s file at file_is (inr ne) =
+          orderly.files i s file (ap (λ changed. map.get nat_cmp changed i) is ∙ sym (slot_kept m n j i w writes some ne) ∙ at) file_is
+
+-- what shows over any checkpoint stays where the written slot shows the same
+pub written_still : (m n : BTreeMap ℕ Slot) (j : ℕ) (slot : Slot) (what : Changed) → WritesThrough nat_cmp (nat_cmp j) m (record { live = slot.live; what = what }) n →
+    Some slot ≡ map.get nat_cmp m j → ((base : Option Held) → over_changed what base ≡ over_changed slot.what base) →
+    (b : Holding) (i : ℕ) → over_place (map.get nat_cmp n i) (b i) ≡ over_place (map.get nat_cmp m i) (b i)
+written_still m n j slot what writes there over b i = by_test (cases_eq i j)
+  where
+    written : Slot
+    written = record { live = slot.live; what = what }
+
+    some : IsSome (map.get nat_cmp m j)
+    some = subst (λ (o : Option Slot). IsSome o) there refl
+
+    by_test : (i ≡ j) ⊎ (i ≡ j → ⊥) → over_place (map.get nat_cmp n i) (b i) ≡ over_place (map.get nat_cmp m i) (b i)
+    by_test (inl e) =
+        ap (λ (p : Option Slot). over_place p (b i)) (ap (map.get nat_cmp n) e ∙ slot_written m n j written writes some)
+        ∙ ap (λ (h : Option Held). cond slot.live h (b i)) (over (b i))
+        ∙ ap (λ (p : Option Slot). over_place p (b i)) (there ∙ ap (map.get nat_cmp m) (sym e))
+    by_test (inr ne) = ap (λ (p : Option Slot). over_place p (b i)) (slot_kept m n j i written writes some ne)

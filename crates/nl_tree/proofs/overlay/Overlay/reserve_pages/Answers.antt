@@ -1,0 +1,80 @@
+use Rattle.std.proofs.Common.{◌≡◌, ℕ, List, Option, Some, None, refl, sym, ap, subst, ◌∙◌}
+use Rattle.std.specs.Option.{is_some}
+use Rattle.std.specs.Ordering.{nat_cmp}
+use Rattle.std.specs.BTreeMap as map
+use Rattle.std.proofs.lemmas.Result.{on_ok_weaker}
+use Rattle.nl_tree.specs.declared.overlay.Slot.{Slot}
+use Rattle.nl_tree.specs.Became.{Became, Current}
+use Rattle.nl_tree.specs.Files.{ShowsFile}
+use Rattle.nl_tree.specs.Overlays.{IsOrderly, current_of, over_place, slot_shows}
+use Rattle.nl_tree.specs.Shown.{pair, shown_entries}
+use Rattle.nl_tree.proofs.Places.{kept_change, one_slot, slot_written}
+use Rattle.nl_tree.proofs.WrittenSlots.{written_orderly, written_still}
+use Rattle.nl_tree.proofs.overlay.Overlay.reserve_pages.Goals as goal
+
+pub returns-in-Some-clause-same : goal.returns-in-Some-clause-same
+returns-in-Some-clause-same c =
+    let slot = c.in-Some.slot.now in
+    let written : Slot = record { live = slot.live; what = c.reserve_pages.new.self } in
+    ap {B = Current} (λ (es : List (ℕ × Became)). record (current_of c.args.self.now) { became = es })
+    (ap (λ es. shown_entries pair slot_shows es) (c.get_mut.follows.holds written).0
+    ∙ kept_change c.args.self.now.changed.entries _ slot c.reserve_pages.new.self
+    c.in-Some.ensures.value c.reserve_pages.ensures.same)
+
+pub returns-in-Some-clause-place : goal.returns-in-Some-clause-place
+returns-in-Some-clause-place c = λ b size blocks has.
+    let slot = c.in-Some.slot.now in
+    let written : Slot = record { live = slot.live; what = c.reserve_pages.new.self } in
+    let shows : ShowsFile slot.what (b c.args.inode) size blocks =
+    subst (λ (s : Slot). ShowsFile s.what (b c.args.inode) size blocks)
+    (sym (one_slot _ slot has.0 c.in-Some.ensures.value has.1)) has.2 in
+    on_ok_weaker c.reserve_pages.result
+    (λ places. (
+      written,
+      slot_written c.args.self.now.changed (c.get_mut.follows.lender written) c.args.inode written
+          (c.get_mut.follows.holds written) (ap is_some has.1),
+      places,
+    ))
+    (c.reserve_pages.ensures.place (b c.args.inode) size blocks shows)
+
+pub returns-in-Some-clause-orderly : goal.returns-in-Some-clause-orderly
+returns-in-Some-clause-orderly c =
+    let slot = c.in-Some.slot.now in
+    let written : Slot = record { live = slot.live; what = c.reserve_pages.new.self } in
+    written_orderly c.args.self.now.changed (c.get_mut.follows.lender written) c.args.inode slot written
+    (c.get_mut.follows.holds written) c.in-Some.ensures.value c.args.self.now refl c.reserve_pages.ensures.ordered
+
+pub returns-in-Some-clause-rest : goal.returns-in-Some-clause-rest
+returns-in-Some-clause-rest c = record { freed = refl; mark = refl; names = refl }
+
+pub returns-in-Some-clause-still : goal.returns-in-Some-clause-still
+returns-in-Some-clause-still c =
+    let slot = c.in-Some.slot.now in
+    let written : Slot = record { live = slot.live; what = c.reserve_pages.new.self } in
+    written_still c.args.self.now.changed (c.get_mut.follows.lender written) c.args.inode slot c.reserve_pages.new.self
+    (c.get_mut.follows.holds written) c.in-Some.ensures.value c.reserve_pages.ensures.over
+
+pub returns-in-Some-clause-refused : goal.returns-in-Some-clause-refused
+returns-in-Some-clause-refused c = c.reserve_pages.ensures.refused
+
+pub returns-in-None-clause-orderly : goal.returns-in-None-clause-orderly
+returns-in-None-clause-orderly c = λ is.
+    subst (λ changed. IsOrderly (record c.args.self.now { changed = changed })) (sym c.get_mut.follows.holds-at-none) is
+
+pub returns-in-None-clause-same : goal.returns-in-None-clause-same
+returns-in-None-clause-same c =
+    ap {B = Current} (λ changed. current_of (record c.args.self.now { changed = changed })) c.get_mut.follows.holds-at-none
+
+pub returns-in-None-clause-place : goal.returns-in-None-clause-place
+returns-in-None-clause-place c = λ b size blocks has.
+    let clash : ◌≡◌ {A = Option Slot} None (Some has.0) = c.in-None.ensures.value ∙ has.1 in cc
+
+pub returns-in-None-clause-rest : goal.returns-in-None-clause-rest
+returns-in-None-clause-rest c = record { freed = refl; mark = refl; names = refl }
+
+pub returns-in-None-clause-still : goal.returns-in-None-clause-still
+returns-in-None-clause-still c = λ b i.
+    ap (λ changed. over_place (map.get nat_cmp changed i) (b i)) c.get_mut.follows.holds-at-none
+
+pub returns-in-None-clause-refused : goal.returns-in-None-clause-refused
+returns-in-None-clause-refused c = tt

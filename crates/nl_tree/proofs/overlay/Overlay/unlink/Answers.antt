@@ -1,0 +1,65 @@
+use Rattle.std.proofs.Common.{List, true, Some, refl, sym, ap, subst, ◌∙◌}
+use Rattle.std.specs.Option.{is_some}
+use Rattle.nl_dirs.specs.declared.record.Record.{Record}
+use Rattle.nl_tree.specs.declared.overlay.Slot.{Slot}
+use Rattle.nl_tree.specs.Held.{Listed}
+use Rattle.nl_tree.specs.Overlays.{IsListedWith}
+use Rattle.nl_tree.specs.Records.{without_record}
+use Rattle.nl_tree.proofs.Places.{listed_over, one_slot, slot_kept, slot_written, written_over}
+use Rattle.nl_tree.proofs.WrittenSlots.{places_stay, written_orderly}
+use Rattle.nl_tree.proofs.overlay.Overlay.unlink.Goals as goal
+
+pub returns-in-Some-clause-shown : goal.returns-in-Some-clause-shown
+returns-in-Some-clause-shown c = λ all has b i.
+    let slot = c.in-Some.slot.now in
+    let written : Slot = record { live = true; what = c.take.new.self } in
+    let records : List Record = without_record c.args.name.now all in
+    let named : IsListedWith slot.what all c.args.name.now =
+    subst (λ (s : Slot). IsListedWith s.what all c.args.name.now)
+    (sym (one_slot _ slot has.0 c.in-Some.ensures.value has.1)) has.2 in
+    written_over c.args.self.now.changed (c.get_mut.follows.lender written) c.args.dir written (Some (Listed records))
+    (c.get_mut.follows.holds written) (ap is_some has.1)
+    (λ base. listed_over c.take.new.self records base (c.take.ensures.listed all named)) b i
+
+pub returns-in-Some-clause-others : goal.returns-in-Some-clause-others
+returns-in-Some-clause-others c = λ i all other ne has.
+    let written : Slot = record { live = true; what = c.take.new.self } in
+    let there = c.requires in (
+      has.0,
+      slot_kept c.args.self.now.changed (c.get_mut.follows.lender written) c.args.dir i written
+          (c.get_mut.follows.holds written) (ap is_some there.1.1) ne ∙ has.1,
+      has.2,
+    )
+
+pub returns-in-Some-clause-names : goal.returns-in-Some-clause-names
+returns-in-Some-clause-names c = λ all other has also.
+    let slot = c.in-Some.slot.now in
+    let written : Slot = record { live = true; what = c.take.new.self } in
+    let named : IsListedWith slot.what all c.args.name.now =
+    subst (λ (s : Slot). IsListedWith s.what all c.args.name.now)
+    (sym (one_slot _ slot has.0 c.in-Some.ensures.value has.1)) has.2 in
+    let too : IsListedWith slot.what all other =
+    subst (λ (s : Slot). IsListedWith s.what all other)
+    (sym (one_slot _ slot also.0 c.in-Some.ensures.value also.1)) also.2 in (
+      written,
+      slot_written c.args.self.now.changed (c.get_mut.follows.lender written) c.args.dir written
+          (c.get_mut.follows.holds written) (ap is_some has.1),
+      c.take.ensures.names all other named too,
+    )
+
+pub returns-in-Some-clause-orderly : goal.returns-in-Some-clause-orderly
+returns-in-Some-clause-orderly c =
+    let slot = c.in-Some.slot.now in
+    let written : Slot = record { live = true; what = c.take.new.self } in
+    written_orderly c.args.self.now.changed (c.get_mut.follows.lender written) c.args.dir slot written
+    (c.get_mut.follows.holds written) c.in-Some.ensures.value c.args.self.now refl c.take.ensures.ordered
+
+pub returns-in-Some-clause-rest : goal.returns-in-Some-clause-rest
+returns-in-Some-clause-rest c = record { freed = refl; mark = refl; names = refl }
+
+pub returns-in-Some-clause-places : goal.returns-in-Some-clause-places
+returns-in-Some-clause-places c =
+    let slot = c.in-Some.slot.now in
+    let written : Slot = record { live = true; what = c.take.new.self } in
+    places_stay c.args.self.now.changed (c.get_mut.follows.lender written) c.args.dir slot written
+    (c.get_mut.follows.holds written) c.in-Some.ensures.value

@@ -1,0 +1,65 @@
+//! All calls that change the tree, as one.
+ghost use Rattle.std.specs.Prelude.{◌≡◌, Err, MatchResult, Ok, OnErr, OnOk};
+ghost use Rattle.nl_types.specs.declared.reply.Answer;
+ghost use Rattle.nl_types.specs.Calls.{change};
+ghost use Rattle.nl_types.specs.Trees.{Tree};
+ghost use Rattle.nl_tree.specs.Became.{holding_over};
+ghost use Rattle.nl_tree.specs.Changing.{HasChangedHolding};
+ghost use Rattle.nl_tree.specs.CurrentTrees.{CallsAs, StandsOver};
+ghost use Rattle.nl_tree.specs.Held.{Holding};
+
+use crate::current::CurrentTree;
+use crate::tree_read::Base;
+use nl_types::{Answer, Change, Kind, Reply, VolError};
+use std::alloc::Global;
+
+impl CurrentTree {
+    /// A file call that changes the tree. Refused as the call is; then the tree is as before.
+    pub fn change<B: Base>(&mut self, alloc: Global, base: &B, call: &Change) -> Reply
+        requires { (b : Holding) × (tree : Tree) × B.TreeRead.holds base.now b × StandsOver self.old b tree }
+        ensures done { (b : Holding) (tree : Tree) → B.TreeRead.holds base.now b → StandsOver self.old b tree
+            → CallsAs (λ answer. answer) result self.new b (change tree call.now) }
+        ensures changes { (b : Holding) (tree : Tree) → B.TreeRead.holds base.now b
+            → StandsOver self.old b tree → OnOk result (HasChangedHolding call.now
+            (holding_over self.old.became b) (holding_over self.new.became b)) }
+        ensures same { OnErr result (self.new ≡ self.old) }
+    {
+        match call {
+            Change::Create { path } => {
+                done(self.create(alloc, base, path.as_slice(), Kind::File))
+            }
+            Change::Mkdir { path } => {
+                done(self.create(alloc, base, path.as_slice(), Kind::Directory))
+            }
+            Change::Write {
+                path,
+                offset,
+                bytes,
+            } => written(self.write(alloc, base, path.as_slice(), *offset, bytes.as_slice())),
+            Change::Truncate { path, size } => {
+                done(self.truncate(alloc, base, path.as_slice(), *size))
+            }
+            Change::Unlink { path } => done(self.unlink(alloc, base, path.as_slice())),
+            Change::Rmdir { path } => done(self.rmdir(alloc, base, path.as_slice())),
+            Change::Rename { from, to } => {
+                done(self.rename(alloc, base, from.as_slice(), to.as_slice()))
+            }
+        }
+    }
+}
+
+/// What a call that tells nothing answers.
+fn done(outcome: Result<(), VolError>) -> Reply
+    ensures { MatchResult outcome (λ _. result ≡ Ok Answer.Done) (λ e. result ≡ Err e) }
+{
+    outcome?;
+    Ok(Answer::Done)
+}
+
+/// What a write answers.
+fn written(outcome: Result<u64, VolError>) -> Reply
+    ensures { MatchResult outcome (λ count. result ≡ Ok (Answer.Written count)) (λ e. result ≡ Err e) }
+{
+    let count = outcome?;
+    Ok(Answer::Written(count))
+}

@@ -1,0 +1,165 @@
+//! Renames by paths.
+ghost use Rattle.std.specs.Prelude.{◌≡◌, ℕ, IsTrue, List, MatchOption, MatchResult, Ok, Err, OnErr, OnOk, Some};
+ghost use Rattle.nl_types.specs.Calls.{and_then, rename};
+ghost use Rattle.nl_types.specs.Judging.{may_take};
+ghost use Rattle.nl_types.specs.Paths.{Path, is_name, path_of};
+ghost use Rattle.nl_types.specs.Trees.{Tree};
+ghost use Rattle.nl_dirs.specs.declared.record.Record.{Record};
+ghost use Rattle.nl_tree.specs.Became.{holding_over};
+ghost use Rattle.nl_tree.specs.CurrentTrees.{CallsAs, HasRenamed, StandsOver, without_replaced};
+ghost use Rattle.nl_tree.specs.Held.{Holding};
+ghost use Rattle.nl_tree.specs.Moving.{AreDirectoriesOf, FindsMove, IsRenameRefused, IsSource, MovesNothing, with_moved};
+ghost use Rattle.nl_tree.specs.Naming.{listing_of};
+ghost use Rattle.nl_tree.specs.PathParts.{parts_of};
+
+use crate::current::CurrentTree;
+use crate::paths::{Place, find_place, is_above, names_behind};
+use crate::renames::Move;
+use crate::tree_read::{Base, Link, TreeRead};
+use nl_types::{Answer, Kind, VolError};
+use std::alloc::Global;
+
+/// The names of two paths, of which neither is the root.
+fn both_names<'p>(from: &'p [u8], to: &'p [u8]) -> Result<(&'p [u8], &'p [u8]), VolError>
+    ensures { MatchResult result
+        (λ both. (path_of from.now ≡ Ok (parts_of both.0.now)) × (path_of to.now ≡ Ok (parts_of both.1.now)))
+        (λ e. (tree : Tree)
+        → and_then (path_of from.now) (λ names. and_then (path_of to.now) (rename tree names)) ≡ Err e) }
+{
+    let names = names_behind(from)?;
+    let target_names = names_behind(to)?;
+    if names.is_empty() || target_names.is_empty() {
+        return Err(VolError::BadPath);
+    }
+    Ok((names, target_names))
+}
+
+/// Whether what has one kind may take the place of what a record names: a file that of a file, a directory that of an
+/// empty directory.
+fn may_replace<T: TreeRead>(tree: &T, kind: Kind, target: Option<Link>) -> Result<(), VolError>
+    ensures { (held : Holding) → T.holds tree.now held → result ≡ may_take (listing_of held) kind target }
+{
+    match (kind, target) {
+        (_, None) | (Kind::File, Some((_, Kind::File))) => Ok(()),
+        (Kind::File, Some((_, Kind::Directory))) => Err(VolError::IsDir),
+        (Kind::Directory, Some((_, Kind::File))) => Err(VolError::NotDir),
+        (Kind::Directory, Some((inode, Kind::Directory))) => {
+            if tree.name_count(inode.get()) > 0 {
+                Err(VolError::NotEmpty)
+            } else {
+                Ok(())
+            }
+        }
+    }
+}
+
+/// The record that a path has, which may not go below itself.
+fn find_source<'p, T: TreeRead>(
+    tree: &T,
+    names: &'p [u8],
+    target_names: &[u8],
+) -> Result<(Place<'p>, Link), VolError>
+    ensures { (held : Holding) → T.holds tree.now held → MatchResult result
+        (λ source. IsSource held (parts_of names.now) (parts_of target_names.now)
+        source.0.directory source.0.name.now source.1)
+        (IsRenameRefused held (parts_of names.now) (parts_of target_names.now)) }
+{
+    match find_place(tree, names) {
+        Err(e) => Err(e),
+        Ok(place) => match (place.link, is_above(names, target_names)) {
+            (None, _) => Err(VolError::NotFound),
+            (Some((_, Kind::Directory)), true) => Err(VolError::IntoItself),
+            (Some(link), _) => Ok((place, link)),
+        },
+    }
+}
+
+/// What a rename moves, if its paths differ.
+fn find_move<'p, T: TreeRead>(
+    tree: &T,
+    names: &'p [u8],
+    target_names: &'p [u8],
+) -> Result<Option<Move<'p>>, VolError>
+    ensures { (held : Holding) → T.holds tree.now held → MatchResult result
+        (λ found. MatchOption found (MovesNothing held (parts_of names.now) (parts_of target_names.now))
+        (FindsMove held (parts_of names.now) (parts_of target_names.now)))
+        (IsRenameRefused held (parts_of names.now) (parts_of target_names.now)) }
+{
+    // `match`: the borrow checker doesn't cover `?` where the result holds a reference beside a modelled number.
+    let (place, link) = match find_source(tree, names, target_names) {
+        Ok(source) => source,
+        Err(e) => return Err(e),
+    };
+    let target = match find_place(tree, target_names) {
+        Ok(target) => target,
+        Err(e) => return Err(e),
+    };
+    if names == target_names {
+        return Ok(None);
+    }
+    may_replace(tree, link.1, target.link)?;
+    Ok(Some(Move {
+        directory: place.directory,
+        name: place.name,
+        link,
+        target,
+    }))
+}
+
+impl CurrentTree {
+    /// Moves a record to its new place, in the place of what stands there.
+    fn move_to_place<B: Base>(
+        &mut self,
+        alloc: Global,
+        base: &B,
+        found: &Move,
+    ) -> Result<(), VolError>
+        requires found { (b : Holding) × (tree : Tree) × (from to : Path) × B.TreeRead.holds base.now b
+            × StandsOver self.old b tree × FindsMove (holding_over self.old.became b) from to found.now }
+        requires name { IsTrue (is_name found.now.target.name.now) }
+        ensures done { (b : Holding) (tree : Tree) (from to : Path) → B.TreeRead.holds base.now b
+            → StandsOver self.old b tree → FindsMove (holding_over self.old.became b) from to found.now
+            → CallsAs (λ _. Answer.Done) result self.new b (rename tree from to) }
+        ensures moved { (b : Holding) (all others : List Record) → B.TreeRead.holds base.now b
+            → AreDirectoriesOf found.now (holding_over self.old.became b) all others
+            → OnOk result ((i : ℕ) → holding_over self.new.became b i ≡ without_replaced found.now.target.link
+            (with_moved found.now all others (holding_over self.old.became b)) i) }
+        ensures same { OnErr result (self.new ≡ self.old) }
+    {
+        match found.target.link {
+            None => self.overlay.rename(alloc, base, found),
+            Some((replaced, _)) => { self.overlay.rename_onto(alloc, base, found, replaced.get()) }
+        }
+    }
+
+    /// Gives what stands at a path another path, with all that lies below it (rename(2)). A file takes the place of a file
+    /// that stands there, and a directory that of an empty directory. Nothing changes where both paths are the same.
+    ///
+    /// Refused by `BadPath` and `BadName` as the syntax of the paths is, `from` first; by `BadPath` where one is the root;
+    /// by `NotDir` and `NotFound` as the walk by `from` is; by `IntoItself` where a directory would come to lie below
+    /// itself; by `NotDir` and `NotFound` as the walk to the directory of `to` is; by `IsDir`, `NotDir` and `NotEmpty`
+    /// where it can't take the place of what stands there; and by `Memory`. Then the tree is as before.
+    pub fn rename<B: Base>(
+        &mut self,
+        alloc: Global,
+        base: &B,
+        from: &[u8],
+        to: &[u8],
+    ) -> Result<(), VolError>
+        requires { (b : Holding) × (tree : Tree) × B.TreeRead.holds base.now b × StandsOver self.old b tree }
+        ensures done { (b : Holding) (tree : Tree) → B.TreeRead.holds base.now b → StandsOver self.old b tree
+            → CallsAs (λ _. Answer.Done) result self.new b
+            (and_then (path_of from.now) (λ names. and_then (path_of to.now) (rename tree names))) }
+        ensures changes { (b : Holding) (tree : Tree) → B.TreeRead.holds base.now b
+            → StandsOver self.old b tree → OnOk result (HasRenamed from.now to.now
+            (holding_over self.old.became b) (holding_over self.new.became b)) }
+        ensures same { OnErr result (self.new ≡ self.old) }
+    {
+        let (names, target_names) = both_names(from, to)?;
+        match find_move(&self.view(base), names, target_names) {
+            Err(e) => Err(e),
+            Ok(None) => Ok(()),
+            Ok(Some(found)) => self.move_to_place(alloc, base, &found),
+        }
+    }
+}
