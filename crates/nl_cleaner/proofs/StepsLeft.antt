@@ -20,7 +20,8 @@ use Rattle.nl_core.specs.CleanedPens.{kept_store}
 use Rattle.nl_core.specs.CleanerViews.{cleaning_event}
 use Rattle.nl_core.specs.CleaningEvents.{needed_by}
 use Rattle.nl_core.specs.Layout.{Does, IsPen, Layout, unshared}
-use Rattle.nl_cleaner.specs.Job.{Cleaning, Ended, Expiring, JobView, Stepped, answered, at_stage, cleaning_left, ends_round, first_done, left_by, next_by, next_cleaning, noted_by, steps_left}
+use Rattle.nl_protect.specs.Rounds.{ends_round}
+use Rattle.nl_cleaner.specs.Job.{Cleaning, Ended, Expiring, JobView, Stepped, answered, at_stage, cleaning_left, first_done, left_by, next_by, next_cleaning, noted_by, steps_left}
 use Rattle.nl_cleaner.specs.declared.job.Stage.{Stage}
 use Rattle.nl_cleaner.proofs.CleanRuns.{move-is}
 use Rattle.nl_cleaner.proofs.Rounds.{cleaning, none-some, some-is}

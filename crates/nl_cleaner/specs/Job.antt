@@ -1,12 +1,11 @@
 -- A round of cleaning, event by event.
-use Rattle.std.specs.Prelude.{◌≡◌, ◌+◌, ◌*◌, ℕ, Bool, true, false, ◌||◌, if◌then◌else◌, List, [], ◌∷◌, length, drop, Option, None, Some, Ok, Err}
-use Rattle.nl_types.specs.declared.error.VolError.{VolError}
-use Rattle.nl_types.specs.declared.error.VolError.TheVariants.{Fault, Memory, NoSpace}
+use Rattle.std.specs.Prelude.{◌≡◌, ◌+◌, ◌*◌, ℕ, if◌then◌else◌, List, [], ◌∷◌, length, drop, Option, None, Some, Ok, Err}
 use Rattle.nl_types.specs.declared.event.Event.{Event}
 use Rattle.nl_types.specs.declared.event.Event.TheVariants.{Expire}
 use Rattle.nl_types.specs.declared.reply.Answer.{Answer}
 use Rattle.nl_types.specs.declared.reply.Answer.TheVariants.{Freed}
 use Rattle.nl_types.specs.Worlds.{Reply}
+use Rattle.nl_protect.specs.Rounds.{ends_round}
 use Rattle.nl_vstore.specs.Located.{needed_count}
 use Rattle.nl_core.specs.CleanerViews.{cleaning_event}
 use Rattle.nl_core.specs.CleaningEvents.{needed_by}
@@ -39,13 +38,6 @@ abbrev pub next_event : JobView → Layout → Option Event
 next_event job l = next_by job.stage job l
 
 -- ---- what a reply makes of a round
-
--- these refusals end it, since what comes next would meet them too
-abbrev pub ends_round : VolError → Bool
-ends_round NoSpace = true
-ends_round Fault = true
-ends_round Memory = true
-ends_round _ = false
 
 abbrev pub at_stage : Stage → JobView → JobView
 at_stage stage job = record job { stage = stage }

@@ -2,11 +2,12 @@
 ghost use Rattle.std.specs.Prelude.{◌≡◌, ◌<◌, IfSome, MatchOption, OnSome};
 ghost use Rattle.nl_types.specs.declared.event.Event.{Event};
 ghost use Rattle.nl_core.specs.Layout.{Layout};
-ghost use Rattle.nl_cleaner.specs.Job.{IsOver, Stepped, ends_round, next_event, noted, steps_left};
+ghost use Rattle.nl_cleaner.specs.Job.{IsOver, Stepped, next_event, noted, steps_left};
 ghost use Rattle.nl_cleaner.specs.Plan.{IsPlanned, TakesOldest};
 
 use nl_core::Pen;
 use nl_device::Device;
+use nl_protect::ends_round;
 use nl_types::{Answer, Event, Reply, Segment, VolError};
 use std::marker::Model;
 
@@ -38,16 +39,6 @@ impl Model for Job {
     ghost Value = { JobView };
 
     ghost view = { λ j. record { stage = j.stage; moment = j.moment; period = j.period; left = drop j.done j.victims.items } };
-}
-
-/// Whether a round goes no further behind such a refusal of a move or a retirement: the next segment would meet it too.
-pub fn ends_round(refusal: VolError) -> bool
-    ensures { result ≡ ends_round refusal }
-{
-    match refusal {
-        VolError::NoSpace | VolError::Fault | VolError::Memory => true,
-        _ => false,
-    }
 }
 
 impl Job {

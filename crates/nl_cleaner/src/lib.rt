@@ -6,5 +6,5 @@ mod job;
 pub mod laws;
 mod planning;
 
-pub use job::{Job, ends_round};
+pub use job::Job;
 pub use planning::plan;

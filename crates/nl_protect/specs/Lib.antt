@@ -1,3 +1,4 @@
 pub mod Configuration
 pub mod Laws
 pub mod Keeping
+pub mod Rounds

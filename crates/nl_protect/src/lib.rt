@@ -1,4 +1,5 @@
-//! The protection of checkpoints: where they expire, which numbers the others need, and the cleaner's configuration.
+//! The protection of checkpoints: where they expire, which numbers the others need, the cleaner's configuration, and what
+//! ends its rounds.
 #![tactic(auto)]
 
 mod amount;
@@ -7,9 +8,11 @@ mod keyword;
 pub mod laws;
 mod parsing;
 mod protection;
+mod rounds;
 mod setting;
 mod words;
 
 pub use amount::Amount;
 pub use config::Config;
 pub use protection::{boundary, expired, needed};
+pub use rounds::ends_round;

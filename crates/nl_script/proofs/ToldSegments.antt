@@ -1,9 +1,6 @@
 -- Segments that are told of, one after another.
-use Rattle.std.proofs.Common.{◌≡◌, ◌+◌, ◌<◌, ◌++◌, subst, List, ◌∷◌, [], ℕ, zero, suc, Result, Ok, Err, length, arith}
-use Rattle.std.specs.Prelude.{slice_get}
-use Rattle.std.specs.Option.{ok_or}
+use Rattle.std.proofs.Common.{◌≡◌, ◌+◌, ◌++◌, subst, List, ◌∷◌, [], ℕ, Result, Ok, length, arith}
 use Rattle.nl_types.specs.declared.error.VolError.{VolError}
-use Rattle.nl_types.specs.declared.error.VolError.TheVariants.{BadRange}
 use Rattle.nl_types.specs.declared.segment.SegmentInfo.{SegmentInfo}
 use Rattle.nl_script.specs.Lines.{AreTold}
 
@@ -15,10 +12,3 @@ told-more tells old n m [] info next told one =
 told-more tells old n m (x ∷ infos) info next told one =
     let behind : (n + 1) + length infos ≡ m = grind (arith, next) in
     (told.0, told-more tells old (n + 1) m infos info behind told.1 one)
-
--- a segment that there is isn't refused
-pub told-each : (infos : List SegmentInfo) (segment : ℕ) (error : VolError) → segment < length infos
-    → Err error ≡ ok_or (slice_get infos segment) BadRange → ⊥
-told-each [] segment error within told = absurd (omega (arith, within))
-told-each (x ∷ infos) zero error within told = cc
-told-each (x ∷ infos) (suc segment) error within told = told-each infos segment error (omega (arith, within)) told

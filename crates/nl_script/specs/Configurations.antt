@@ -4,8 +4,8 @@ use Rattle.nl_types.specs.declared.error.VolError.{VolError}
 use Rattle.nl_types.specs.declared.error.VolError.TheVariants.{Memory}
 use Rattle.nl_protect.specs.Configuration.{configuration_in, standard}
 use Rattle.nl_protect.specs.declared.config.Config.{Config}
-use Rattle.nl_script.specs.declared.configuration.ConfigurationFault.{ConfigurationFault}
-use Rattle.nl_script.specs.declared.configuration.ConfigurationFault.TheVariants.{Unread, Refused}
+use Rattle.nl_script.specs.declared.configurations.ConfigurationFault.{ConfigurationFault}
+use Rattle.nl_script.specs.declared.configurations.ConfigurationFault.TheVariants.{Unread, Refused}
 
 abbrev pub ConfigurationRead : Type 0
 ConfigurationRead = Result Config ConfigurationFault

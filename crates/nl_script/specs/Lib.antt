@@ -7,7 +7,4 @@ pub mod Habits
 pub mod Lines
 pub mod Scripts
 pub mod Turns
-pub mod Pens
 pub mod Configurations
-pub mod Sessions
-pub mod Laws

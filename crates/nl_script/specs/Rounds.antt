@@ -4,7 +4,7 @@ use Rattle.nl_types.specs.Worlds.{Reply}
 use Rattle.nl_types.specs.declared.error.VolError.{VolError}
 use Rattle.nl_types.specs.declared.reply.Answer.{Answer}
 use Rattle.nl_types.specs.declared.reply.Answer.TheVariants.{Expired, Moved, Freed}
-use Rattle.nl_cleaner.specs.Job.{ends_round}
+use Rattle.nl_protect.specs.Rounds.{ends_round}
 use Rattle.nl_texts.specs.AnswerTexts.{clean_text}
 use Rattle.nl_texts.specs.RefusalTexts.{refusal_text}
 use Rattle.nl_texts.specs.Texts.{Text}

@@ -1,26 +1,23 @@
 //! Scripts over a volume: each line's command becomes events, and what these came to becomes text and a status.
 #![tactic(auto)]
 
-mod configuration;
+mod configurations;
 mod events;
-pub mod laws;
 mod lines;
-mod pen;
 mod reading;
 mod rounds;
 mod running;
 mod scripts;
-mod sessions;
 mod status;
 mod telling;
 mod volume;
 
+pub use configurations::{ConfigurationFault, configuration};
 pub use events::{events_of, is_quiet};
 pub use lines::{LineResult, run_line};
 pub use rounds::RoundSum;
 pub use running::run_events;
 pub use scripts::{Done, script};
-pub use sessions::session;
 pub use status::Status;
 pub use telling::{line_status, tell_all};
 pub use volume::Volume;

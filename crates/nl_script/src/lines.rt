@@ -16,7 +16,6 @@ use crate::running::run_events;
 use crate::status::Status;
 use crate::telling::{line_status, tell_all};
 use crate::volume::Volume;
-use nl_cleaner::Job;
 use nl_commands::{CheckpointRange, Command, LineError, read_line};
 use nl_protect::Config;
 use nl_texts as texts;
@@ -209,7 +208,12 @@ fn round_status(sum: RoundSum) -> Status
 }
 
 /// Does a round, and tells what it came to.
-fn run_round<V: Volume, W: Write>(volume: &mut V, job: Job, number: u64, out: &mut W) -> LineResult
+fn run_round<V: Volume, W: Write>(
+    volume: &mut V,
+    job: V::Job,
+    number: u64,
+    out: &mut W,
+) -> LineResult
     ensures { (moment : ℕ) → ComesTo (λ end. (sum : RoundSum)
         × IsRoundOver V.habits.steps job volume.old volume.new sum
         × (end ≡ ended moment (refused_if (is_some sum.refusal)) (round_text number sum)))

@@ -4,7 +4,7 @@ ghost use Rattle.std.specs.Io.KnownBytes.{Appends};
 ghost use Rattle.nl_script.specs.Rounds.{IsRoundOver, nothing_done, plus, round_text, with_answer, with_refusal, with_reply};
 
 use crate::volume::Volume;
-use nl_cleaner::{Job, ends_round};
+use nl_protect::ends_round;
 use nl_texts as texts;
 use nl_types::{Answer, Reply, VolError};
 use std::io;
@@ -85,7 +85,7 @@ impl RoundSum {
 }
 
 /// Does the steps of a round to its end.
-pub fn run_steps<V: Volume>(volume: &mut V, mut job: Job) -> RoundSum
+pub fn run_steps<V: Volume>(volume: &mut V, mut job: V::Job) -> RoundSum
     ensures { IsRoundOver V.habits.steps job volume.old volume.new result }
 {
     let mut sum = RoundSum::nothing();

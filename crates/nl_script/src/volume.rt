@@ -1,10 +1,8 @@
 //! What scripts know of a volume.
 ghost use Rattle.std.specs.Prelude.{◌<◌, ◌^◌, IfOk, IsOkUnless, OnSome};
 ghost use Rattle.nl_types.specs.declared.error.VolError.{VolError};
-ghost use Rattle.nl_cleaner.specs.Job.{JobView};
 ghost use Rattle.nl_script.specs.Habits.{Habits};
 
-use nl_cleaner::Job;
 use nl_cpfile::Cpstat;
 use nl_protect::Config;
 use nl_sufile::Sustat;
@@ -13,8 +11,11 @@ use std::alloc::Global;
 
 /// What a script runs on.
 pub trait Volume {
+    /// A round of cleaning that was planned, and how far it is.
+    type Job: Drop;
+
     /// What it does, and what it tells of itself.
-    ghost habits: { Habits Self JobView };
+    ghost habits: { Habits Self Self.Job };
 
     /// Does one event.
     fn apply(&mut self, event: &Event) -> Reply
@@ -34,12 +35,12 @@ pub trait Volume {
         ensures { habits.counts self.now result };
 
     /// Plans a round of cleaning at a moment, in whole seconds. Refused by want of memory alone.
-    fn plan(&self, alloc: Global, config: &Config, now: u64) -> Result<Job, VolError>
+    fn plan(&self, alloc: Global, config: &Config, now: u64) -> Result<Self::Job, VolError>
         ensures planned { IfOk result (habits.plans self.now config.now now) }
         ensures refused { IsOkUnless result VolError.Memory };
 
     /// Does the next step of a round, if there is one.
-    fn clean_step(&mut self, job: &mut Job) -> Option<Reply>
+    fn clean_step(&mut self, job: &mut Self::Job) -> Option<Reply>
         ensures steps { habits.steps self.old job.old result self.new job.new }
         ensures fewer { OnSome result (habits.left self.new job.new < habits.left self.old job.old) };
 }

@@ -1,5 +1,4 @@
 //! A script over a volume that answers from a list.
-use nl_cleaner::Job;
 use nl_cpfile::Cpstat;
 use nl_protect::Config;
 use nl_script::{Volume, script};
@@ -15,6 +14,8 @@ struct Counting {
 }
 
 impl Volume for Counting {
+    type Job = ();
+
     ghost habits = { record {
       does = λ old event reply new. Unit {0};
       tells = λ old segment result. Unit {0};
@@ -57,11 +58,11 @@ impl Volume for Counting {
         }
     }
 
-    fn plan(&self, _: Global, _: &Config, _: u64) -> Result<Job, VolError> {
+    fn plan(&self, _: Global, _: &Config, _: u64) -> Result<(), VolError> {
         Err(VolError::Memory)
     }
 
-    fn clean_step(&mut self, _: &mut Job) -> Option<Reply> {
+    fn clean_step(&mut self, _: &mut ()) -> Option<Reply> {
         None
     }
 }

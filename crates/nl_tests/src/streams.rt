@@ -1,5 +1,5 @@
 //! How a session ends where a stream fails, and that it begins at all. What it prints is shown by the scripts of tests/rows.
-use nl_script::session;
+use nl_session::session;
 use std::io::{self, BufWriter, ErrorKind, Read, Write};
 use std::rt::Files;
 

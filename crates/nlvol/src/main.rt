@@ -1,7 +1,7 @@
 //! Runs a script of file calls, checkpoints, mounts and rounds of cleaning on a volume in memory.
 #![tactic(auto)]
 
-use nl_script::session;
+use nl_session::session;
 use std::io::{BufWriter, ErrorKind};
 use std::process::ExitCode;
 use std::{env, io};

@@ -19,9 +19,9 @@ use Rattle.nl_texts.specs.declared.refusals.StartStep.{StartStep}
 use Rattle.nl_texts.specs.declared.refusals.StartStep.TheVariants as step
 use Rattle.nl_protect.specs.declared.config.Config.{Config}
 use Rattle.nl_script.specs.Configurations.{ConfigurationRead, IsConfigured}
-use Rattle.nl_script.specs.Pens.{pen_habits}
 use Rattle.nl_script.specs.Scripts.{IsScriptDone, exit_status}
 use Rattle.nl_script.specs.declared.scripts.Done.{Done}
+use Rattle.nl_session.specs.Pens.{pen_habits}
 
 -- the volume has this geometry and checkpoint 1 of the root alone, of moment 0
 pub record IsNewVolume (geometry : Geometry) (l : Layout) : Type 0 where

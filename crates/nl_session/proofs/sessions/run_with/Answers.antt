@@ -1,5 +1,5 @@
 use Rattle.std.proofs.Common.{inl, refl}
-use Rattle.nl_script.proofs.sessions.run_with.Goals as goal
+use Rattle.nl_session.proofs.sessions.run_with.Goals as goal
 
 pub returns-in-Ok-run_script : goal.returns-in-Ok-run_script
 returns-in-Ok-run_script g c = inl (record {

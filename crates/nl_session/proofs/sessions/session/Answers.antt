@@ -2,8 +2,8 @@ use Rattle.std.proofs.Common.{List, ℕ, Ok, map, subst}
 use Rattle.nl_arguments.specs.Meanings.{Asks}
 use Rattle.nl_arguments.specs.declared.asked.Asked.{Asked}
 use Rattle.nl_arguments.specs.declared.asked.Asked.TheVariants.{Help, Run, Version}
-use Rattle.nl_script.specs.Sessions.{Prints, streams}
-use Rattle.nl_script.proofs.sessions.session.Goals as goal
+use Rattle.nl_session.specs.Sessions.{Prints, streams}
+use Rattle.nl_session.proofs.sessions.session.Goals as goal
 
 pub returns-in-Ok-Run : goal.returns-in-Ok-Run
 returns-in-Ok-Run g c =

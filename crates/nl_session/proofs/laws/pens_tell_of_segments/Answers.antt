@@ -1,6 +1,6 @@
 use Rattle.std.proofs.Common.{◌<◌, ℕ, subst}
-use Rattle.nl_script.proofs.ToldSegments.{told-each}
-use Rattle.nl_script.proofs.laws.pens_tell_of_segments.Goals as goal
+use Rattle.nl_session.proofs.ToldSegments.{told-each}
+use Rattle.nl_session.proofs.laws.pens_tell_of_segments.Goals as goal
 
 pub returns : goal.returns
 returns c l error (stat, measured, below) =

@@ -1,43 +1,60 @@
 //! A pen as the volume of a script.
 ghost use Rattle.std.specs.Prelude.{◌≡◌};
-ghost use Rattle.nl_script.specs.Pens.{pen_habits};
+ghost use Rattle.nl_session.specs.Pens.{pen_habits};
 
-use crate::volume::Volume;
 use nl_cleaner::Job;
 use nl_core::Pen;
 use nl_cpfile::Cpstat;
 use nl_device::Device;
 use nl_lib::{get_cpstat, get_suinfo, get_sustat};
 use nl_protect::Config;
+use nl_script::Volume;
 use nl_sufile::Sustat;
 use nl_types::{Event, Reply, Segment, SegmentInfo, VolError};
 use std::alloc::Global;
+use std::marker::Model;
 
-impl<D: Device> Volume for Pen<D> {
+/// The volume that a pen writes. A contract sees it as the pen.
+#[derive(Drop)]
+pub struct PenVolume<D: Device> {
+    pub pen: Pen<D>,
+}
+
+impl<D: Device> Model for PenVolume<D> {
+    ghost use Rattle.nl_core.specs.Layout.{Layout};
+
+    ghost Value = { Layout };
+
+    ghost view = { λ v. v.pen };
+}
+
+impl<D: Device> Volume for PenVolume<D> {
+    type Job = Job;
+
     ghost habits = { pen_habits };
 
     fn apply(&mut self, event: &Event) -> Reply {
-        Pen::apply(self, event)
+        self.pen.apply(event)
     }
 
     fn suinfo(&self, segment: Segment) -> Result<SegmentInfo, VolError> {
-        get_suinfo(self, segment)
+        get_suinfo(&self.pen, segment)
     }
 
     fn sustat(&self) -> Sustat {
-        self.means_a_world();
-        get_sustat(self)
+        self.pen.means_a_world();
+        get_sustat(&self.pen)
     }
 
     fn cpstat(&self) -> Cpstat {
-        get_cpstat(self)
+        get_cpstat(&self.pen)
     }
 
     fn plan(&self, alloc: Global, config: &Config, now: u64) -> Result<Job, VolError> {
-        nl_cleaner::plan(alloc, self, config, now)
+        nl_cleaner::plan(alloc, &self.pen, config, now)
     }
 
     fn clean_step(&mut self, job: &mut Job) -> Option<Reply> {
-        job.step(self)
+        job.step(&mut self.pen)
     }
 }

@@ -3,14 +3,14 @@ ghost use Rattle.std.specs.Prelude.{◌≡◌, map, option_map, IfErr, IfOk, IsO
 ghost use Rattle.std.specs.Io.KnownBytes.{Appends};
 ghost use Rattle.nl_arguments.specs.Statuses.{fault_status};
 ghost use Rattle.nl_script.specs.Scripts.{exit_status};
-ghost use Rattle.nl_script.specs.Sessions.{IsMemoryOrFault, IsNewVolume, IsScriptRun, IsSession, Prints, RunsOnNew, RunsOrRefuses, RunsWith, streams};
+ghost use Rattle.nl_session.specs.Sessions.{IsMemoryOrFault, IsNewVolume, IsScriptRun, IsSession, Prints, RunsOnNew, RunsOrRefuses, RunsWith, streams};
 
-use crate::configuration::{ConfigurationFault, configuration};
-use crate::scripts::{Done, script};
+use crate::pen::PenVolume;
 use nl_arguments::{Arguments, ArgumentsFault, Asked, read};
 use nl_core::Pen;
 use nl_device::MemDevice;
 use nl_protect::Config;
+use nl_script::{ConfigurationFault, Done, configuration, script};
 use nl_texts::{StandardStream, StartStep, start_text, stream_text, unread_text};
 use nl_types::{Geometry, Items, VolError};
 use std::alloc::Global;
@@ -22,29 +22,31 @@ use std::rt::Files;
 const MOMENT: u64 = 0;
 
 /// A new volume in memory.
-fn new_volume(alloc: Global, geometry: Geometry) -> Result<Pen<MemDevice>, VolError>
+fn new_volume(alloc: Global, geometry: Geometry) -> Result<PenVolume<MemDevice>, VolError>
     ensures made { IfOk result (IsNewVolume geometry) }
     ensures refused { IfErr result IsMemoryOrFault }
 {
     let device = MemDevice::new(alloc, geometry)?;
-    Pen::format(alloc, device, geometry, MOMENT)
+    let pen = Pen::format(alloc, device, geometry, MOMENT)?;
+    Ok(PenVolume { pen })
 }
 
 /// Makes the input's buffer, and runs the script. Refused by `Memory`, no line was run.
 fn run_on<I: Read + Drop, O: Write>(
     alloc: Global,
-    pen: &mut Pen<MemDevice>,
+    volume: &mut PenVolume<MemDevice>,
     config: &Config,
     input: I,
     output: &mut O,
 ) -> Result<Done, VolError>
     ensures run { IfOk result (λ done.
-        IsScriptRun config.now (I.remaining input) O.contents output.old output.new pen.old done) }
+        IsScriptRun config.now (I.remaining input) O.contents
+        output.old output.new volume.old done) }
     ensures refused { IsOkUnless result VolError.Memory }
     ensures unprinted { OnErr result (output.new ≡ output.old) }
 {
     let input = BufReader::new(alloc, input).map_err(|_| VolError::Memory)?;
-    Ok(script(alloc, pen, config, MOMENT, input, output))
+    Ok(script(alloc, volume, config, MOMENT, input, output))
 }
 
 /// Runs the script on a new volume. Refused, no line was run.
@@ -60,8 +62,8 @@ fn run_script<I: Read + Drop, O: Write>(
     ensures refused { IfErr result IsMemoryOrFault }
     ensures unprinted { OnErr result (output.new ≡ output.old) }
 {
-    let mut pen = new_volume(alloc, geometry)?;
-    run_on(alloc, &mut pen, config, input, output)
+    let mut volume = new_volume(alloc, geometry)?;
+    run_on(alloc, &mut volume, config, input, output)
 }
 
 /// Tells of a refusal before the first line, and answers the status for it.

@@ -1,0 +1,9 @@
+//! Sessions of the program: its words, and then a script on a new pen.
+#![tactic(auto)]
+
+pub mod laws;
+mod pen;
+mod sessions;
+
+pub use pen::PenVolume;
+pub use sessions::session;
