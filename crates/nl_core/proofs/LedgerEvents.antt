@@ -71,7 +71,7 @@ module _ (old new : Layout) (pen : IsPen old) where
   done-goes_on : (e : Event) (a : Answer) (done : HasDone old e a new) → IsStore new.store → GoesOn (done_events old new e a done)
   done-goes_on (Checkpoint mode moment) a done store = checkpointed mode moment done
   done-goes_on (event.Remove n) a done store = removed (n ∷ []) done.0 done.1
-  done-goes_on (RemoveRange first last) (answer.Removed range) done store = removed range.removed done.0 done.1
+  done-goes_on (RemoveRange first last) (answer.Removed range) done store = removed range.removed done.0.taken done.1
   done-goes_on (RemoveRange first last) a done store = absurd done.0
   done-goes_on (Expire now period) (answer.Expired gone) done store = removed gone done.0.taken done.1
   done-goes_on (Expire now period) a done store = absurd done.0

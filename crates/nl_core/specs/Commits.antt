@@ -9,7 +9,7 @@ use Rattle.nl_types.specs.Trees.{Tree}
 use Rattle.nl_layout.specs.Root.{root_of}
 use Rattle.nl_layout.specs.declared.root.Root.{Root}
 use Rattle.nl_files.specs.CheckpointRoots.{IsTreeSound}
-use Rattle.nl_cpfile.specs.Tables.{IsTable, Table, kept_at, range_in, root_in, with_mode, with_next, without}
+use Rattle.nl_cpfile.specs.Tables.{IsTable, kept_at, range_in, root_in, with_mode, with_next, without}
 use Rattle.nl_cpfile.specs.declared.checkpoint.Checkpoint.{Checkpoint}
 use Rattle.nl_core.specs.Means.{RootMeans}
 use Rattle.nl_core.specs.Layout.{reached_by}

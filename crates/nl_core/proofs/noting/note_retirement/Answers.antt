@@ -1,11 +1,25 @@
-use Rattle.std.proofs.Common.{◌++◌, List, ap, ◌∙◌}
+use Rattle.std.proofs.Common.{◌++◌, List, refl, ap, ◌∙◌}
 use Rattle.std.proofs.lemmas.Result.{err_from_is_err_and}
 use Rattle.nl_core.specs.Layout.{layout_of}
 use Rattle.nl_core.specs.Notes.{where_any}
 use Rattle.nl_core.specs.declared.commit.Commit.{Commit}
 use Rattle.nl_core.specs.declared.commit.Commit.TheVariants.{Freed}
-use Rattle.nl_core.proofs.NotedEvents.{noting-not_retired, noting-retired}
+use Rattle.nl_core.proofs.NotedEvents.{noting-not_retired, noting-retired, noting-unretired}
 use Rattle.nl_core.proofs.noting.note_retirement.Goals as goal
+
+pub returns-in_err-gone : goal.returns-in_err-gone
+returns-in_err-gone g c =
+    let p = err_from_is_err_and c.from_residual.result c.from_residual.ensures.1 in
+    rw (p.1, p.2)
+    (noting-unretired (layout_of c.args.tables.now.lists (g.V.Vstore.store c.args.store.now)) c.args.segment
+    c.args.notes.now.items c.args.notes.now.items c.requires refl)
+
+pub returns-in_err-reserve : goal.returns-in_err-reserve
+returns-in_err-reserve g c =
+    let p = err_from_is_err_and c.from_residual-in_err-reserve.result c.from_residual-in_err-reserve.ensures.1 in
+    rw (p.1, p.2)
+    (noting-unretired (layout_of c.args.tables.now.lists (g.V.Vstore.store c.args.store.now)) c.args.segment
+    c.args.notes.now.items c.reserve.new.self.items c.requires c.reserve.ensures.items)
 
 pub returns-in_err-answer : goal.returns-in_err-answer
 returns-in_err-answer g c =

@@ -1,4 +1,4 @@
-use Rattle.std.proofs.Common.{Err, refl, arith}
+use Rattle.std.proofs.Common.{◌≡◌, Err, refl, arith}
 use Rattle.std.proofs.lemmas.Result.{IfOk-weaker}
 use Rattle.nl_vstore.specs.Located.{numbers_in}
 use Rattle.nl_core.proofs.Outside.{no-segment}

@@ -9,7 +9,7 @@ use Rattle.nl_core.proofs.pen.Pen.note_mount.Goals as goal
 
 pub returns-in_err-reserve : goal.returns-in_err-reserve
 returns-in_err-reserve g c =
-    let p = err_from_is_err_and c.from_residual-in_err-reserve.result c.from_residual-in_err-reserve.ensures.1 in
+    let p = err_from_is_err_and c.from_residual.result c.from_residual.ensures.1 in
     rw (p.1, p.2)
     (noting-unlisted c.args.self.now c.args.event.now c.args.notes.now.items c.reserve.new.self.items c.means_a_world.ensures
     (subst (λ (e : Event). ChangesLists e) (sym c.requires) tt) c.reserve.ensures.items)

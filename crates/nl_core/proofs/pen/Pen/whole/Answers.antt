@@ -1,5 +1,12 @@
-use Rattle.std.proofs.Common.{subst, sym, ap, ◌∙◌}
+use Rattle.std.proofs.Common.{subst, sym}
 use Rattle.nl_core.specs.Commits.{IsImage}
-use Rattle.nl_core.specs.Layout.{IsPen}
+use Rattle.nl_core.specs.Layout.{layout_of}
 use Rattle.nl_core.proofs.Images.{pen-image}
 use Rattle.nl_core.proofs.pen.Pen.whole.Goals as goal
+
+pub returns-clause-begins : goal.returns-clause-begins
+returns-clause-begins g c = (
+  subst IsImage (sym c.in_ok-all.ensures)
+      (pen-image (layout_of c.self.inside.tables.lists c.self.inside.store.store) c.self.invariant),
+  tt,
+)
