@@ -1,8 +1,8 @@
-mod Building
 mod DotParts
 mod ExampleLines
 mod Flags
 mod OneSplitting
 mod Parsing
+mod Readings
 mod WordLists
 mod WordParts

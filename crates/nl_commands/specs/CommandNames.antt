@@ -1,16 +1,21 @@
--- The names of the commands, and what each means with the words behind it.
-use Rattle.std.specs.Prelude.{if◌then◌else◌, List, [], ◌∷◌, codes, Option, None, Some, Result, Err}
+-- The names of the commands, and what each asks for with the words behind it.
+use Rattle.std.specs.Prelude.{if◌then◌else◌, List, [], ◌∷◌, codes, Option, None, Some, Result, Ok, Err}
 use Rattle.std.specs.Str.{bytes_eq}
-use Rattle.clap.specs.Words.{Text}
+use Rattle.clap.specs.Words.{Row, Rule, Text}
 use Rattle.nl_commands.specs.declared.command.Command.{Command}
+use Rattle.nl_commands.specs.declared.command.Command.TheVariants.{Clean}
+use Rattle.nl_commands.specs.declared.command.Shown.TheVariants.{Content, Names, Kind}
 use Rattle.nl_commands.specs.declared.error.LineError.{LineError}
 use Rattle.nl_commands.specs.declared.error.LineError.TheVariants.{Usage}
 use Rattle.nl_commands.specs.declared.names.CommandName.{CommandName}
 use Rattle.nl_commands.specs.declared.names.CommandName.TheVariants as name
-use Rattle.nl_commands.specs.AskingCommands.{cat_meant, ls_meant, stat_meant}
-use Rattle.nl_commands.specs.CheckpointCommands.{at_meant, chcp_meant, lscp_meant, mkcp_meant, rmcp_meant}
-use Rattle.nl_commands.specs.FileCommands.{create_meant, fill_meant, mkdir_meant, mv_meant, rm_meant, rmdir_meant, truncate_meant, write_meant}
-use Rattle.nl_commands.specs.SegmentCommands.{clean_meant, lssu_meant, mount_meant, umount_meant}
+use Rattle.nl_commands.specs.AskingCommands.{show_given, show_rules}
+use Rattle.nl_commands.specs.CheckpointCommands.{at_given, at_rules, chcp_given, chcp_rules, lscp_given, lscp_rules, mkcp_given, mkcp_rules, rmcp_given, rmcp_rules}
+use Rattle.nl_commands.specs.FileCommands.{create_given, fill_given, fill_rules, mkdir_given, mv_given, mv_rules, path_rules}
+use Rattle.nl_commands.specs.FileCommands.{rm_given, rmdir_given, truncate_given, truncate_rules, write_given, write_rules}
+use Rattle.nl_commands.specs.Grammars.{grammar, parsed}
+use Rattle.nl_commands.specs.Outcomes.{after}
+use Rattle.nl_commands.specs.SegmentCommands.{lssu_given, lssu_rules, mount_given, mount_rules, umount_given, umount_rules}
 
 abbrev pub asking_name : Text → Option CommandName
 asking_name word =
@@ -45,34 +50,61 @@ command_name word =
     if bytes_eq word (codes "lscp") then Some name.Lscp else (
     if bytes_eq word (codes "rmcp") then Some name.Rmcp else segment_name word))))
 
--- what a command means with the words behind its name
-abbrev pub named_meant : CommandName → List Text → Result Command LineError
-named_meant name.At words = at_meant words
-named_meant name.Mkcp words = mkcp_meant words
-named_meant name.Chcp words = chcp_meant words
-named_meant name.Lscp words = lscp_meant words
-named_meant name.Rmcp words = rmcp_meant words
-named_meant name.Lssu words = lssu_meant words
-named_meant name.Clean words = clean_meant words
-named_meant name.Mount words = mount_meant words
-named_meant name.Umount words = umount_meant words
-named_meant name.Create words = create_meant words
-named_meant name.Mkdir words = mkdir_meant words
-named_meant name.Rm words = rm_meant words
-named_meant name.Rmdir words = rmdir_meant words
-named_meant name.Mv words = mv_meant words
-named_meant name.Write words = write_meant words
-named_meant name.Fill words = fill_meant words
-named_meant name.Truncate words = truncate_meant words
-named_meant name.Cat words = cat_meant words
-named_meant name.Ls words = ls_meant words
-named_meant name.Stat words = stat_meant words
+-- what a command may be given
+abbrev pub rules_of : CommandName → List Rule
+rules_of name.At = at_rules
+rules_of name.Mkcp = mkcp_rules
+rules_of name.Chcp = chcp_rules
+rules_of name.Lscp = lscp_rules
+rules_of name.Rmcp = rmcp_rules
+rules_of name.Lssu = lssu_rules
+rules_of name.Clean = []
+rules_of name.Mount = mount_rules
+rules_of name.Umount = umount_rules
+rules_of name.Create = path_rules
+rules_of name.Mkdir = path_rules
+rules_of name.Rm = path_rules
+rules_of name.Rmdir = path_rules
+rules_of name.Mv = mv_rules
+rules_of name.Write = write_rules
+rules_of name.Fill = fill_rules
+rules_of name.Truncate = truncate_rules
+rules_of name.Cat = show_rules
+rules_of name.Ls = show_rules
+rules_of name.Stat = show_rules
 
-abbrev pub meant_if_named : Option CommandName → List Text → Result Command LineError
-meant_if_named None words = Err Usage
-meant_if_named (Some name) words = named_meant name words
+-- what it asks for by what it is given
+abbrev pub command_given : CommandName → List Row → Result Command LineError
+command_given name.At rows = at_given rows
+command_given name.Mkcp rows = Ok (mkcp_given rows)
+command_given name.Chcp rows = chcp_given rows
+command_given name.Lscp rows = lscp_given rows
+command_given name.Rmcp rows = rmcp_given rows
+command_given name.Lssu rows = Ok (lssu_given rows)
+command_given name.Clean rows = Ok Clean
+command_given name.Mount rows = mount_given rows
+command_given name.Umount rows = umount_given rows
+command_given name.Create rows = create_given rows
+command_given name.Mkdir rows = mkdir_given rows
+command_given name.Rm rows = rm_given rows
+command_given name.Rmdir rows = rmdir_given rows
+command_given name.Mv rows = mv_given rows
+command_given name.Write rows = write_given rows
+command_given name.Fill rows = fill_given rows
+command_given name.Truncate rows = truncate_given rows
+command_given name.Cat rows = show_given Content rows
+command_given name.Ls rows = show_given Names rows
+command_given name.Stat rows = show_given Kind rows
+
+-- what it asks for with the words behind the one that names it
+abbrev pub named_meant : CommandName → Text → List Text → Result Command LineError
+named_meant name word words = after (parsed (grammar word (rules_of name)) words) (command_given name)
+
+abbrev pub meant_if_named : Option CommandName → Text → List Text → Result Command LineError
+meant_if_named None word words = Err Usage
+meant_if_named (Some name) word words = named_meant name word words
 
 -- what the words of a line ask for
 abbrev pub command_meant : List Text → Result Command LineError
 command_meant [] = Err Usage
-command_meant (word ∷ words) = meant_if_named (command_name word) words
+command_meant (word ∷ words) = meant_if_named (command_name word) word words

@@ -1,34 +1,33 @@
--- Commands that change the tree of files.
-use Rattle.std.specs.Prelude.{ℕ, List, codes, min, Result, Ok}
-use Rattle.clap.specs.Words.{App, Row, Text}
+-- Commands that change the tree of files: what they may be given, and what they ask for then.
+use Rattle.std.specs.Prelude.{ℕ, List, [], ◌∷◌, codes, min, Result, Ok}
+use Rattle.clap.specs.Words.{Row, Rule}
 use Rattle.nl_types.specs.declared.event.Change.TheVariants.{Create, Mkdir, Write, Truncate, Unlink, Rmdir, Rename}
 use Rattle.nl_commands.specs.declared.command.Command.{Command}
 use Rattle.nl_commands.specs.declared.command.Command.TheVariants.{Change, Fill}
 use Rattle.nl_commands.specs.declared.error.LineError.{LineError}
-use Rattle.nl_commands.specs.Grammars.{grammar, with_operand, parsed}
+use Rattle.nl_commands.specs.Grammars.{operand_rule}
 use Rattle.nl_commands.specs.GivenOperands.{byte_at, number_at, word_at}
 use Rattle.nl_commands.specs.Outcomes.{after}
-use Rattle.nl_commands.specs.SharedForms.{path_meant}
 
--- create P
-abbrev pub create_meant : List Text → Result Command LineError
-create_meant words = after (path_meant (codes "create") words) (λ path. Ok (Change (Create path)))
+-- create P, mkdir P, rm P, rmdir P
+abbrev pub path_rules : List Rule
+path_rules = operand_rule (codes "path") ∷ []
 
--- mkdir P
-abbrev pub mkdir_meant : List Text → Result Command LineError
-mkdir_meant words = after (path_meant (codes "mkdir") words) (λ path. Ok (Change (Mkdir path)))
+abbrev pub create_given : List Row → Result Command LineError
+create_given rows = after (word_at (codes "path") rows) (λ path. Ok (Change (Create path)))
 
--- rm P
-abbrev pub rm_meant : List Text → Result Command LineError
-rm_meant words = after (path_meant (codes "rm") words) (λ path. Ok (Change (Unlink path)))
+abbrev pub mkdir_given : List Row → Result Command LineError
+mkdir_given rows = after (word_at (codes "path") rows) (λ path. Ok (Change (Mkdir path)))
 
--- rmdir P
-abbrev pub rmdir_meant : List Text → Result Command LineError
-rmdir_meant words = after (path_meant (codes "rmdir") words) (λ path. Ok (Change (Rmdir path)))
+abbrev pub rm_given : List Row → Result Command LineError
+rm_given rows = after (word_at (codes "path") rows) (λ path. Ok (Change (Unlink path)))
+
+abbrev pub rmdir_given : List Row → Result Command LineError
+rmdir_given rows = after (word_at (codes "path") rows) (λ path. Ok (Change (Rmdir path)))
 
 -- mv A B
-abbrev pub mv_grammar : App
-mv_grammar = with_operand (with_operand (grammar (codes "mv")) (codes "from")) (codes "to")
+abbrev pub mv_rules : List Rule
+mv_rules = operand_rule (codes "from") ∷ operand_rule (codes "to") ∷ []
 
 abbrev pub mv_given : List Row → Result Command LineError
 mv_given rows =
@@ -36,13 +35,9 @@ mv_given rows =
     after (word_at (codes "to") rows) (λ to.
     Ok (Change (Rename from to))))
 
-abbrev pub mv_meant : List Text → Result Command LineError
-mv_meant words = after (parsed mv_grammar words) mv_given
-
 -- write P OFF TEXT
-abbrev pub write_grammar : App
-write_grammar =
-    with_operand (with_operand (with_operand (grammar (codes "write")) (codes "path")) (codes "offset")) (codes "text")
+abbrev pub write_rules : List Rule
+write_rules = operand_rule (codes "path") ∷ operand_rule (codes "offset") ∷ operand_rule (codes "text") ∷ []
 
 abbrev pub write_given : List Row → Result Command LineError
 write_given rows =
@@ -51,17 +46,14 @@ write_given rows =
     after (word_at (codes "text") rows) (λ text.
     Ok (Change (Write path offset text)))))
 
-abbrev pub write_meant : List Text → Result Command LineError
-write_meant words = after (parsed write_grammar words) write_given
-
 -- fill P OFF BYTE COUNT, where a greater count than this counts as this: one more byte than a file has
 abbrev pub most_filled : ℕ
 most_filled = 67108865
 
-abbrev pub fill_grammar : App
-fill_grammar =
-    with_operand (with_operand (with_operand (with_operand (grammar (codes "fill"))
-    (codes "path")) (codes "offset")) (codes "byte")) (codes "count")
+abbrev pub fill_rules : List Rule
+fill_rules =
+    operand_rule (codes "path") ∷ operand_rule (codes "offset") ∷ operand_rule (codes "byte")
+    ∷ operand_rule (codes "count") ∷ []
 
 abbrev pub fill_given : List Row → Result Command LineError
 fill_given rows =
@@ -71,18 +63,12 @@ fill_given rows =
     after (word_at (codes "path") rows) (λ path.
     Ok (Fill path offset byte (min count most_filled))))))
 
-abbrev pub fill_meant : List Text → Result Command LineError
-fill_meant words = after (parsed fill_grammar words) fill_given
-
 -- truncate P SIZE
-abbrev pub truncate_grammar : App
-truncate_grammar = with_operand (with_operand (grammar (codes "truncate")) (codes "path")) (codes "size")
+abbrev pub truncate_rules : List Rule
+truncate_rules = operand_rule (codes "path") ∷ operand_rule (codes "size") ∷ []
 
 abbrev pub truncate_given : List Row → Result Command LineError
 truncate_given rows =
     after (number_at (codes "size") rows) (λ size.
     after (word_at (codes "path") rows) (λ path.
     Ok (Change (Truncate path size))))
-
-abbrev pub truncate_meant : List Text → Result Command LineError
-truncate_meant words = after (parsed truncate_grammar words) truncate_given

@@ -1,5 +1,5 @@
 -- What words give by a grammar: the matches of the library's own definitions, where these find no fault.
-use Rattle.std.specs.Prelude.{◌≡◌, ◌≢◌, ◌&&◌, ◌||◌, not, cond, ℕ, Bool, true, false, List, [], ◌∷◌, codes, Option, None, Some, Result, Ok, Err, find, option_and_then}
+use Rattle.std.specs.Prelude.{◌&&◌, ◌||◌, not, cond, ℕ, Bool, true, false, List, [], ◌∷◌, codes, Option, None, Some, Result, Ok, Err, find, option_and_then}
 use Rattle.std.specs.Str.{bytes_eq}
 use Rattle.clap.specs.Words.{App, Kinds, Row, Rule, Text, fault_of, is_simple_and_free, matches_of, new_rule, with_rule}
 use Rattle.clap.specs.Simple.{new_shape}
@@ -9,10 +9,8 @@ use Rattle.clap.specs.declared.parser.matches.ValueSource.{ValueSource}
 use Rattle.clap.specs.declared.parser.matches.ValueSource.TheVariants.{DefaultValue, CommandLine}
 use Rattle.nl_commands.specs.declared.error.LineError.{LineError}
 use Rattle.nl_commands.specs.declared.error.LineError.TheVariants.{Usage}
-use Rattle.nl_commands.specs.Outcomes.{IsUnlessMemory}
-
-abbrev pub grammar : Text → App
-grammar name = record { top = record (new_shape name) { no_binary_name = true; disable_help_flag = true }; subs = [] }
+use Rattle.nl_commands.specs.declared.grammar.Argument.{Argument}
+use Rattle.nl_commands.specs.declared.grammar.Argument.TheVariants.{Flag, Value, Operand, Operands}
 
 abbrev pub rule : (id : Text) → (short : Option ℕ) → (is_required : Bool) → ArgAction → Rule
 rule id short is_required action =
@@ -34,17 +32,24 @@ operand_rule id = rule id None true Set
 abbrev pub operands_rule : Text → Rule
 operands_rule id = rule id None true Append
 
-abbrev pub with_flag : App → Text → ℕ → App
-with_flag app id short = with_rule app (flag_rule id short)
+-- the rule of what code takes for an argument
+abbrev pub argument_rule : Argument → Rule
+argument_rule (Flag id short) = flag_rule id.now short
+argument_rule (Value id short) = option_rule id.now short
+argument_rule (Operand id) = operand_rule id.now
+argument_rule (Operands id) = operands_rule id.now
 
-abbrev pub with_value : App → Text → ℕ → App
-with_value app id short = with_rule app (option_rule id short)
+-- ---- a command, with its rules one after another
 
-abbrev pub with_operand : App → Text → App
-with_operand app id = with_rule app (operand_rule id)
+abbrev pub with_rules : App → List Rule → App
+with_rules app [] = app
+with_rules app (r ∷ rest) = with_rules (with_rule app r) rest
 
-abbrev pub with_operands : App → Text → App
-with_operands app id = with_rule app (operands_rule id)
+abbrev pub bare_grammar : Text → App
+bare_grammar name = record { top = record (new_shape name) { no_binary_name = true; disable_help_flag = true }; subs = [] }
+
+abbrev pub grammar : Text → List Rule → App
+grammar name rules = with_rules (bare_grammar name) rules
 
 abbrev pub is_readable : App → Bool
 is_readable app = is_simple_and_free app
@@ -60,21 +65,6 @@ unless_fault (k ∷ kinds) r = Err Usage
 
 abbrev pub parsed : App → List Text → Result (List Row) LineError
 parsed app words = cond (has_hyphen words) (Err Usage) (unless_fault (fault_of app words) (Ok (matches_of app words)))
-
--- ---- a grammar that is built step by step, of which nothing is left where memory was refused
-
--- it is this one, where memory was not refused
-abbrev pub IsGrammar : Option App → App → Type 0
-IsGrammar built app = (built ≢ None) → built ≡ Some app
-
--- one more rule was added
-abbrev pub Gains : Option App → Rule → Option App → Type 0
-Gains before rule built = (app : App) → IsGrammar before app → IsGrammar built (with_rule app rule)
-
--- the result is what the words give by the grammar, where memory was not refused
-abbrev pub Reads : Option App → List Text → Result (List Row) LineError → Type 0
-Reads built words result =
-    (app : App) → IsGrammar built app → is_readable app ≡ true → IsUnlessMemory result (parsed app words)
 
 -- ---- what was given
 

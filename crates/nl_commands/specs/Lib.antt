@@ -10,6 +10,5 @@ pub mod NumberWords
 pub mod Outcomes
 pub mod RangeWords
 pub mod SegmentCommands
-pub mod SharedForms
 pub mod Splitting
 pub mod SplittingLaws

@@ -1,25 +1,30 @@
--- Commands on segments and mounts.
-use Rattle.std.specs.Prelude.{List, codes, Result, Ok}
-use Rattle.clap.specs.Words.{Text}
+-- Commands on segments and mounts: what they may be given, and what they ask for then.
+use Rattle.std.specs.Prelude.{List, [], ◌∷◌, codes, Result, Ok}
+use Rattle.clap.specs.Words.{Row, Rule}
 use Rattle.nl_commands.specs.declared.command.Command.{Command}
-use Rattle.nl_commands.specs.declared.command.Command.TheVariants.{Lssu, Clean, Mount, Umount}
+use Rattle.nl_commands.specs.declared.command.Command.TheVariants.{Lssu, Mount, Umount}
 use Rattle.nl_commands.specs.declared.error.LineError.{LineError}
-use Rattle.nl_commands.specs.Grammars.{grammar, parsed}
+use Rattle.nl_commands.specs.Grammars.{flag_rule, is_used, operand_rule}
+use Rattle.nl_commands.specs.GivenOperands.{number_at}
 use Rattle.nl_commands.specs.Outcomes.{after}
-use Rattle.nl_commands.specs.SharedForms.{flag_meant, number_meant}
 
 -- lssu [-a]
-abbrev pub lssu_meant : List Text → Result Command LineError
-lssu_meant words = after (flag_meant (codes "lssu") 97 words) (λ all. Ok (Lssu all))
+abbrev pub lssu_rules : List Rule
+lssu_rules = flag_rule (codes "all") 97 ∷ []
 
--- clean
-abbrev pub clean_meant : List Text → Result Command LineError
-clean_meant words = after (parsed (grammar (codes "clean")) words) (λ rows. Ok Clean)
+abbrev pub lssu_given : List Row → Command
+lssu_given rows = Lssu (is_used (codes "all") rows)
 
 -- mount N
-abbrev pub mount_meant : List Text → Result Command LineError
-mount_meant words = after (number_meant (codes "mount") words) (λ checkpoint. Ok (Mount checkpoint))
+abbrev pub mount_rules : List Rule
+mount_rules = operand_rule (codes "checkpoint") ∷ []
+
+abbrev pub mount_given : List Row → Result Command LineError
+mount_given rows = after (number_at (codes "checkpoint") rows) (λ checkpoint. Ok (Mount checkpoint))
 
 -- umount M
-abbrev pub umount_meant : List Text → Result Command LineError
-umount_meant words = after (number_meant (codes "umount") words) (λ mount. Ok (Umount mount))
+abbrev pub umount_rules : List Rule
+umount_rules = operand_rule (codes "mount") ∷ []
+
+abbrev pub umount_given : List Row → Result Command LineError
+umount_given rows = after (number_at (codes "mount") rows) (λ mount. Ok (Umount mount))

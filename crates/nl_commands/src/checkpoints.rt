@@ -1,26 +1,27 @@
-//! Commands on checkpoints, and the moment that these are made at. Each function is given the words
-//! behind the command's name. Their errors: `Usage` where the words are not of the command's form,
-//! and `Memory`.
-ghost use Rattle.std.specs.Prelude.{◌≡◌, map};
-ghost use Rattle.nl_commands.specs.CheckpointCommands.{at_meant, chcp_given, chcp_meant, lscp_given, lscp_grammar, lscp_meant, mkcp_meant, mode_at, mode_if, mode_in, rmcp_given, rmcp_meant};
-ghost use Rattle.nl_commands.specs.Grammars.{parsed};
-ghost use Rattle.nl_commands.specs.Outcomes.{after, IsUnlessMemory};
+//! Commands on checkpoints, and the moment that these are made at: what they may be given, and what
+//! they ask for then. Their errors: `Usage` where a word is not of its kind, and `Memory`.
+ghost use Rattle.std.specs.Prelude.{◌≡◌};
+ghost use Rattle.nl_commands.specs.CheckpointCommands.{at_given, chcp_given, lscp_given, mkcp_given, mode_at, mode_if, mode_in, rmcp_given};
+ghost use Rattle.nl_commands.specs.Outcomes.{IsUnlessMemory};
 
 use crate::command::Command;
 use crate::error::LineError;
-use crate::forms::{flag_form, number_form};
-use crate::grammar::{Given, Grammar};
-use crate::operands::{checkpoint_at, count_at, numbers_at, ranges_at};
+use crate::grammar::{Argument, Given};
+use crate::operands::{checkpoint_at, number_at, numbers_at, optional_number_at, ranges_at};
 use nl_types::{ListOptions, Mode};
 use std::alloc::Global;
 
+pub const AT_ARGUMENTS: &[Argument<'static>] = &[Argument::Operand("moment")];
+
 /// `at MOMENT`
-pub fn at(alloc: Global, words: &[&str]) -> Result<Command, LineError>
-    ensures { IsUnlessMemory result (at_meant (map (λ w. w.now) words.now)) }
+pub fn at(given: &Given<'_>) -> Result<Command, LineError>
+    ensures { result ≡ at_given given.now }
 {
-    let moment = number_form(alloc, "at", words)?;
+    let moment = number_at(given, "moment")?;
     Ok(Command::At(moment))
 }
+
+pub const MKCP_ARGUMENTS: &[Argument<'static>] = &[Argument::Flag("snapshot", 's')];
 
 fn mode_if(is_snapshot: bool) -> Mode
     ensures { result ≡ mode_if is_snapshot }
@@ -33,12 +34,17 @@ fn mode_if(is_snapshot: bool) -> Mode
 }
 
 /// `mkcp [-s]`
-pub fn mkcp(alloc: Global, words: &[&str]) -> Result<Command, LineError>
-    ensures { IsUnlessMemory result (mkcp_meant (map (λ w. w.now) words.now)) }
+pub fn mkcp(given: &Given<'_>) -> Command
+    ensures { result ≡ mkcp_given given.now }
 {
-    let is_snapshot = flag_form(alloc, "mkcp", 's', words)?;
-    Ok(Command::Mkcp(mode_if(is_snapshot)))
+    let is_snapshot = given.has("snapshot");
+    Command::Mkcp(mode_if(is_snapshot))
 }
+
+pub const CHCP_ARGUMENTS: &[Argument<'static>] = &[
+    Argument::Operand("mode"),
+    Argument::Operands("numbers"),
+];
 
 fn mode_in(word: &str) -> Result<Mode, LineError>
     ensures { result ≡ mode_in word.now }
@@ -59,7 +65,8 @@ fn mode_at(given: &Given<'_>, id: &str) -> Result<Mode, LineError>
     }
 }
 
-fn chcp_given(alloc: Global, given: &Given<'_>) -> Result<Command, LineError>
+/// `chcp cp|ss NUMBER..`
+pub fn chcp(alloc: Global, given: &Given<'_>) -> Result<Command, LineError>
     ensures { IsUnlessMemory result (chcp_given given.now) }
 {
     let mode = mode_at(given, "mode")?;
@@ -67,68 +74,40 @@ fn chcp_given(alloc: Global, given: &Given<'_>) -> Result<Command, LineError>
     Ok(Command::Chcp(mode, numbers))
 }
 
-/// `chcp cp|ss NUMBER..`
-pub fn chcp(alloc: Global, words: &[&str]) -> Result<Command, LineError>
-    ensures { IsUnlessMemory result (chcp_meant (map (λ w. w.now) words.now)) }
-{
-    let given = Grammar::new(alloc, "chcp")
-        .operand("mode")
-        .operands("numbers")
-        .read(words)?;
-    chcp_given(alloc, &given)
-}
+pub const LSCP_ARGUMENTS: &[Argument<'static>] = &[
+    Argument::Flag("reverse", 'r'),
+    Argument::Flag("snapshots", 's'),
+    Argument::Flag("minor", 'a'),
+    Argument::Value("from", 'i'),
+    Argument::Value("count", 'n'),
+];
 
-fn lscp_given(given: &Given<'_>) -> Result<ListOptions, LineError>
+/// `lscp [-r] [-s] [-a] [-i NUMBER] [-n COUNT]`
+pub fn lscp(given: &Given<'_>) -> Result<Command, LineError>
     ensures { result ≡ lscp_given given.now }
 {
     let from = checkpoint_at(given, "from")?;
-    let count = count_at(given, "count")?;
-    Ok(ListOptions {
+    let count = optional_number_at(given, "count")?;
+    let options = ListOptions {
         reverse: given.has("reverse"),
         snapshots_only: given.has("snapshots"),
         with_minor: given.has("minor"),
         from,
         count,
-    })
-}
-
-fn lscp_options(alloc: Global, words: &[&str]) -> Result<ListOptions, LineError>
-    ensures { IsUnlessMemory result
-        (after (parsed lscp_grammar (map (λ w. w.now) words.now)) lscp_given) }
-{
-    let given = Grammar::new(alloc, "lscp")
-        .flag("reverse", 'r')
-        .flag("snapshots", 's')
-        .flag("minor", 'a')
-        .value("from", 'i')
-        .value("count", 'n')
-        .read(words)?;
-    lscp_given(&given)
-}
-
-/// `lscp [-r] [-s] [-a] [-i NUMBER] [-n COUNT]`
-pub fn lscp(alloc: Global, words: &[&str]) -> Result<Command, LineError>
-    ensures { IsUnlessMemory result (lscp_meant (map (λ w. w.now) words.now)) }
-{
-    let options = lscp_options(alloc, words)?;
+    };
     Ok(Command::Lscp(options))
 }
 
-fn rmcp_given(alloc: Global, given: &Given<'_>) -> Result<Command, LineError>
+pub const RMCP_ARGUMENTS: &[Argument<'static>] = &[
+    Argument::Flag("quiet", 'f'),
+    Argument::Operands("ranges"),
+];
+
+/// `rmcp [-f] RANGE..`
+pub fn rmcp(alloc: Global, given: &Given<'_>) -> Result<Command, LineError>
     ensures { IsUnlessMemory result (rmcp_given given.now) }
 {
     let quiet = given.has("quiet");
     let ranges = ranges_at(alloc, given, "ranges")?;
     Ok(Command::Rmcp { quiet, ranges })
-}
-
-/// `rmcp [-f] RANGE..`
-pub fn rmcp(alloc: Global, words: &[&str]) -> Result<Command, LineError>
-    ensures { IsUnlessMemory result (rmcp_meant (map (λ w. w.now) words.now)) }
-{
-    let given = Grammar::new(alloc, "rmcp")
-        .flag("quiet", 'f')
-        .operands("ranges")
-        .read(words)?;
-    rmcp_given(alloc, &given)
 }

@@ -1,13 +1,12 @@
-//! Commands that change the tree of files. Each function is given the words behind the command's
-//! name. Their errors: `Usage` where the words are not of the command's form, and `Memory`.
-ghost use Rattle.std.specs.Prelude.{◌≡◌, map, min};
-ghost use Rattle.nl_commands.specs.FileCommands.{create_meant, fill_given, fill_meant, mkdir_meant, most_filled, mv_given, mv_meant, rm_meant, rmdir_meant, truncate_given, truncate_meant, write_given, write_meant};
+//! Commands that change the tree of files: what they may be given, and what they ask for then. Their
+//! errors: `Usage` where a word is not of its kind, and `Memory`.
+ghost use Rattle.std.specs.Prelude.{◌≡◌, min};
+ghost use Rattle.nl_commands.specs.FileCommands.{create_given, fill_given, mkdir_given, most_filled, mv_given, rm_given, rmdir_given, truncate_given, write_given};
 ghost use Rattle.nl_commands.specs.Outcomes.{IsUnlessMemory};
 
 use crate::command::Command;
 use crate::error::LineError;
-use crate::forms::path_form;
-use crate::grammar::{Given, Grammar};
+use crate::grammar::{Argument, Given};
 use crate::operands::{byte_at, bytes_at, number_at};
 use nl_types::Change;
 use std::alloc::Global;
@@ -15,39 +14,48 @@ use std::alloc::Global;
 /// One byte more than a file may have: what `fill` is refused for all greater counts too.
 const MOST_FILLED: u64 = 67_108_865;
 
+/// What `create`, `mkdir`, `rm` and `rmdir` are given.
+pub const PATH_ARGUMENTS: &[Argument<'static>] = &[Argument::Operand("path")];
+
 /// `create PATH`
-pub fn create(alloc: Global, words: &[&str]) -> Result<Command, LineError>
-    ensures { IsUnlessMemory result (create_meant (map (λ w. w.now) words.now)) }
+pub fn create(alloc: Global, given: &Given<'_>) -> Result<Command, LineError>
+    ensures { IsUnlessMemory result (create_given given.now) }
 {
-    let path = path_form(alloc, "create", words)?;
+    let path = bytes_at(alloc, given, "path")?;
     Ok(Command::Change(Change::Create { path }))
 }
 
 /// `mkdir PATH`
-pub fn mkdir(alloc: Global, words: &[&str]) -> Result<Command, LineError>
-    ensures { IsUnlessMemory result (mkdir_meant (map (λ w. w.now) words.now)) }
+pub fn mkdir(alloc: Global, given: &Given<'_>) -> Result<Command, LineError>
+    ensures { IsUnlessMemory result (mkdir_given given.now) }
 {
-    let path = path_form(alloc, "mkdir", words)?;
+    let path = bytes_at(alloc, given, "path")?;
     Ok(Command::Change(Change::Mkdir { path }))
 }
 
 /// `rm PATH`
-pub fn rm(alloc: Global, words: &[&str]) -> Result<Command, LineError>
-    ensures { IsUnlessMemory result (rm_meant (map (λ w. w.now) words.now)) }
+pub fn rm(alloc: Global, given: &Given<'_>) -> Result<Command, LineError>
+    ensures { IsUnlessMemory result (rm_given given.now) }
 {
-    let path = path_form(alloc, "rm", words)?;
+    let path = bytes_at(alloc, given, "path")?;
     Ok(Command::Change(Change::Unlink { path }))
 }
 
 /// `rmdir PATH`
-pub fn rmdir(alloc: Global, words: &[&str]) -> Result<Command, LineError>
-    ensures { IsUnlessMemory result (rmdir_meant (map (λ w. w.now) words.now)) }
+pub fn rmdir(alloc: Global, given: &Given<'_>) -> Result<Command, LineError>
+    ensures { IsUnlessMemory result (rmdir_given given.now) }
 {
-    let path = path_form(alloc, "rmdir", words)?;
+    let path = bytes_at(alloc, given, "path")?;
     Ok(Command::Change(Change::Rmdir { path }))
 }
 
-fn mv_given(alloc: Global, given: &Given<'_>) -> Result<Command, LineError>
+pub const MV_ARGUMENTS: &[Argument<'static>] = &[
+    Argument::Operand("from"),
+    Argument::Operand("to"),
+];
+
+/// `mv FROM TO`
+pub fn mv(alloc: Global, given: &Given<'_>) -> Result<Command, LineError>
     ensures { IsUnlessMemory result (mv_given given.now) }
 {
     let from = bytes_at(alloc, given, "from")?;
@@ -55,18 +63,14 @@ fn mv_given(alloc: Global, given: &Given<'_>) -> Result<Command, LineError>
     Ok(Command::Change(Change::Rename { from, to }))
 }
 
-/// `mv FROM TO`
-pub fn mv(alloc: Global, words: &[&str]) -> Result<Command, LineError>
-    ensures { IsUnlessMemory result (mv_meant (map (λ w. w.now) words.now)) }
-{
-    let given = Grammar::new(alloc, "mv")
-        .operand("from")
-        .operand("to")
-        .read(words)?;
-    mv_given(alloc, &given)
-}
+pub const WRITE_ARGUMENTS: &[Argument<'static>] = &[
+    Argument::Operand("path"),
+    Argument::Operand("offset"),
+    Argument::Operand("text"),
+];
 
-fn write_given(alloc: Global, given: &Given<'_>) -> Result<Command, LineError>
+/// `write PATH OFFSET TEXT`
+pub fn write(alloc: Global, given: &Given<'_>) -> Result<Command, LineError>
     ensures { IsUnlessMemory result (write_given given.now) }
 {
     let offset = number_at(given, "offset")?;
@@ -79,17 +83,12 @@ fn write_given(alloc: Global, given: &Given<'_>) -> Result<Command, LineError>
     }))
 }
 
-/// `write PATH OFFSET TEXT`
-pub fn write(alloc: Global, words: &[&str]) -> Result<Command, LineError>
-    ensures { IsUnlessMemory result (write_meant (map (λ w. w.now) words.now)) }
-{
-    let given = Grammar::new(alloc, "write")
-        .operand("path")
-        .operand("offset")
-        .operand("text")
-        .read(words)?;
-    write_given(alloc, &given)
-}
+pub const FILL_ARGUMENTS: &[Argument<'static>] = &[
+    Argument::Operand("path"),
+    Argument::Operand("offset"),
+    Argument::Operand("byte"),
+    Argument::Operand("count"),
+];
 
 fn counted(count: u64) -> u64
     ensures { result ≡ min count most_filled }
@@ -101,7 +100,8 @@ fn counted(count: u64) -> u64
     }
 }
 
-fn fill_given(alloc: Global, given: &Given<'_>) -> Result<Command, LineError>
+/// `fill PATH OFFSET BYTE COUNT`
+pub fn fill(alloc: Global, given: &Given<'_>) -> Result<Command, LineError>
     ensures { IsUnlessMemory result (fill_given given.now) }
 {
     let offset = number_at(given, "offset")?;
@@ -116,34 +116,16 @@ fn fill_given(alloc: Global, given: &Given<'_>) -> Result<Command, LineError>
     })
 }
 
-/// `fill PATH OFFSET BYTE COUNT`
-pub fn fill(alloc: Global, words: &[&str]) -> Result<Command, LineError>
-    ensures { IsUnlessMemory result (fill_meant (map (λ w. w.now) words.now)) }
-{
-    let given = Grammar::new(alloc, "fill")
-        .operand("path")
-        .operand("offset")
-        .operand("byte")
-        .operand("count")
-        .read(words)?;
-    fill_given(alloc, &given)
-}
+pub const TRUNCATE_ARGUMENTS: &[Argument<'static>] = &[
+    Argument::Operand("path"),
+    Argument::Operand("size"),
+];
 
-fn truncate_given(alloc: Global, given: &Given<'_>) -> Result<Command, LineError>
+/// `truncate PATH SIZE`
+pub fn truncate(alloc: Global, given: &Given<'_>) -> Result<Command, LineError>
     ensures { IsUnlessMemory result (truncate_given given.now) }
 {
     let size = number_at(given, "size")?;
     let path = bytes_at(alloc, given, "path")?;
     Ok(Command::Change(Change::Truncate { path, size }))
-}
-
-/// `truncate PATH SIZE`
-pub fn truncate(alloc: Global, words: &[&str]) -> Result<Command, LineError>
-    ensures { IsUnlessMemory result (truncate_meant (map (λ w. w.now) words.now)) }
-{
-    let given = Grammar::new(alloc, "truncate")
-        .operand("path")
-        .operand("size")
-        .read(words)?;
-    truncate_given(alloc, &given)
 }

@@ -1,30 +1,28 @@
-//! The words behind a command's name, by the command's grammar. This module alone knows the library
-//! that reads them.
-ghost use Rattle.std.specs.Prelude.{◌≡◌, false, map, option_map, true};
-ghost use Rattle.clap.specs.Words.{all_of, app_of, first_of, rule_of};
-ghost use Rattle.nl_commands.specs.Grammars.{Gains, Reads, flag_rule, grammar, has_hyphen, is_from_words, is_readable, is_used, operand_rule, operands_rule, option_rule, parsed, rule};
+//! The words behind a command's name, by the arguments that it may be given. This module alone knows
+//! the library that reads them.
+ghost use Rattle.std.specs.Prelude.{◌≡◌, IfOk, false, map, option_map, true};
+ghost use Rattle.clap.specs.Words.{all_of, app_of, first_of, rule_of, with_rule};
+ghost use Rattle.nl_commands.specs.Grammars.{argument_rule, bare_grammar, grammar, has_hyphen, is_from_words, is_readable, is_used, parsed, with_rules};
 ghost use Rattle.nl_commands.specs.Outcomes.{IsUnlessMemory};
 
 use crate::error::LineError;
 use clap::parser::ValueSource;
 use clap::{Arg, ArgAction, ArgMatches, Command};
-use std::alloc::Global;
+use std::alloc::{AllocError, Global};
 use std::marker::Model;
 
-/// What a command may be given, named part by part. Where memory for a part is refused nothing is left
-/// of it, and `read` answers `Memory`: so there is one place for the error.
-pub struct Grammar<'a> {
-    alloc: Global,
-    command: Option<Command<'a>>,
-}
-
-impl<'a> Model for Grammar<'a> {
-    ghost use Rattle.std.specs.Prelude.{Option, option_map};
-    ghost use Rattle.clap.specs.Words.{App, app_of};
-
-    ghost Value = { Option App };
-
-    ghost view = { λ g. option_map app_of g.command };
+/// One or more of the words behind a command's name, by the name that they are asked for by. An option
+/// has a letter, too.
+#[derive(Clone, Copy)]
+pub enum Argument<'a> {
+    /// An option that is there or not.
+    Flag(&'a str, char),
+    /// An option that has a value.
+    Value(&'a str, char),
+    /// One word.
+    Operand(&'a str),
+    /// One word or more at the end.
+    Operands(&'a str),
 }
 
 /// What a command is given.
@@ -74,95 +72,76 @@ fn read_by<'a>(command: Command<'a>, words: &'a [&'a str]) -> Result<Given<'a>, 
     Ok(Given { matches })
 }
 
-/// An option, or without a letter a word.
-fn argument<'a>(
-    alloc: Global,
-    id: &'a str,
-    short: Option<char>,
-    is_required: bool,
-    action: ArgAction,
-) -> Arg<'a>
+fn library_argument(alloc: Global, argument: Argument<'_>) -> Arg<'_>
     ensures local { result.global ≡ false }
-    ensures rule { rule_of result ≡ rule id.entry.now short is_required action }
+    ensures rule { rule_of result ≡ argument_rule argument.entry }
 {
-    let arg = Arg::new(alloc, id).required(is_required).action(action);
-    match short {
-        Some(short) => arg.short(short),
-        None => arg,
+    match argument {
+        Argument::Flag(id, letter) => {
+            Arg::new(alloc, id).short(letter).action(ArgAction::SetTrue)
+        }
+        Argument::Value(id, letter) => Arg::new(alloc, id).short(letter).action(ArgAction::Set),
+        Argument::Operand(id) => Arg::new(alloc, id).required(true).action(ArgAction::Set),
+        Argument::Operands(id) => Arg::new(alloc, id).required(true).action(ArgAction::Append),
     }
 }
 
-impl<'a> Grammar<'a> {
-    /// A command that is given nothing. It has no help of its own.
-    pub fn new(alloc: Global, name: &'a str) -> Self
-        ensures { result ≡ Some (grammar name.entry.now) }
-    {
-        let command = Command::new(alloc, name)
-            .no_binary_name(true)
-            .disable_help_flag(true);
-        Grammar {
-            alloc,
-            command: Some(command),
+fn with_argument<'a>(
+    alloc: Global,
+    command: Command<'a>,
+    argument: Argument<'a>,
+) -> Result<Command<'a>, AllocError>
+    ensures { IfOk result (λ more.
+        app_of more ≡ with_rule (app_of command.entry) (argument_rule argument.entry)) }
+{
+    let argument = library_argument(alloc, argument);
+    command.arg(argument)
+}
+
+fn with_arguments<'a>(
+    alloc: Global,
+    command: Command<'a>,
+    arguments: &[Argument<'a>],
+) -> Result<Command<'a>, AllocError>
+    ensures { IfOk result (λ all.
+        app_of all ≡ with_rules (app_of command.entry) (map argument_rule arguments.now)) }
+{
+    match arguments {
+        [] => Ok(command),
+        [argument, rest @ ..] => {
+            let command = with_argument(alloc, command, *argument)?;
+            with_arguments(alloc, command, rest)
         }
     }
+}
 
-    fn with(self, id: &'a str, short: Option<char>, is_required: bool, action: ArgAction) -> Self
-        ensures { Gains self.entry (rule id.entry.now short is_required action) result }
-    {
-        let Grammar { alloc, command } = self;
-        let command = match command {
-            Some(command) => command
-                .arg(argument(alloc, id, short, is_required, action))
-                .ok(),
-            None => None,
-        };
-        Grammar { alloc, command }
-    }
+/// A command that is given nothing. It has no help of its own.
+fn bare<'a>(alloc: Global, name: &'a str) -> Command<'a>
+    ensures { app_of result ≡ bare_grammar name.entry.now }
+{
+    Command::new(alloc, name)
+        .no_binary_name(true)
+        .disable_help_flag(true)
+}
 
-    /// With an option that is there or not.
-    pub fn flag(self, id: &'a str, short: char) -> Self
-        ensures { Gains self.entry (flag_rule id.entry.now short) result }
-    {
-        self.with(id, Some(short), false, ArgAction::SetTrue)
-    }
-
-    /// With an option that has a value.
-    pub fn value(self, id: &'a str, short: char) -> Self
-        ensures { Gains self.entry (option_rule id.entry.now short) result }
-    {
-        self.with(id, Some(short), false, ArgAction::Set)
-    }
-
-    /// With one word more.
-    pub fn operand(self, id: &'a str) -> Self
-        ensures { Gains self.entry (operand_rule id.entry.now) result }
-    {
-        self.with(id, None, true, ArgAction::Set)
-    }
-
-    /// With one word or more at the end.
-    pub fn operands(self, id: &'a str) -> Self
-        ensures { Gains self.entry (operands_rule id.entry.now) result }
-    {
-        self.with(id, None, true, ArgAction::Append)
-    }
-
-    /// What the words give.
-    ///
-    /// # Errors
-    /// `Usage` where they are not of this grammar; `Memory`.
-    pub fn read(self, words: &'a [&'a str]) -> Result<Given<'a>, LineError>
-        ensures { Reads self.entry (map (λ w. w.now) words.entry.now) result }
-    {
-        let Grammar {
-            command,
-            alloc: _alloc,
-        } = self;
-        match command {
-            Some(command) => read_by(command, words),
-            None => Err(LineError::Memory),
-        }
-    }
+/// What the words give by the arguments of a command.
+///
+/// # Errors
+/// `Usage` where they are not of this form; `Memory`.
+pub fn read<'a>(
+    alloc: Global,
+    name: &'a str,
+    arguments: &[Argument<'a>],
+    words: &'a [&'a str],
+) -> Result<Given<'a>, LineError>
+    ensures { is_readable (grammar name.entry.now (map argument_rule arguments.now)) ≡ true
+        → IsUnlessMemory result
+        (parsed (grammar name.entry.now (map argument_rule arguments.now))
+        (map (λ w. w.now) words.entry.now)) }
+{
+    let bare = bare(alloc, name);
+    let command = with_arguments(alloc, bare, arguments)?;
+    read_by(command, words)
 }
 
 impl<'a> Given<'a> {

@@ -1,5 +1,5 @@
-//! Lines of a script to commands: a line's bytes to its words, and these, by the grammar of the
-//! command that the first one names, to what it asks for.
+//! Lines of a script to commands: a line's bytes to its words, and these, by what the command that the
+//! first one names may be given, to what it asks for.
 #![tactic(auto)]
 
 mod asking;
@@ -7,7 +7,6 @@ mod checkpoints;
 mod command;
 mod error;
 mod files;
-mod forms;
 mod grammar;
 pub mod laws;
 mod lines;

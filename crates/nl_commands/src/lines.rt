@@ -22,7 +22,7 @@ pub fn read_words(alloc: Global, words: &[&str]) -> Result<Command, LineError>
         return Err(LineError::Usage);
     };
     match command_name(word) {
-        Some(name) => read_named(alloc, name, rest),
+        Some(name) => read_named(alloc, name, word, rest),
         None => Err(LineError::Usage),
     }
 }

@@ -1,43 +1,40 @@
-//! Commands on segments and mounts. Each function is given the words behind the command's name.
-//! Their errors: `Usage` where the words are not of the command's form, and `Memory`.
-ghost use Rattle.std.specs.Prelude.{map};
-ghost use Rattle.nl_commands.specs.Outcomes.{IsUnlessMemory};
-ghost use Rattle.nl_commands.specs.SegmentCommands.{clean_meant, lssu_meant, mount_meant, umount_meant};
+//! Commands on segments and mounts: what they may be given, and what they ask for then. Their error:
+//! `Usage` where a word is not of its kind.
+ghost use Rattle.std.specs.Prelude.{◌≡◌};
+ghost use Rattle.nl_commands.specs.SegmentCommands.{lssu_given, mount_given, umount_given};
 
 use crate::command::Command;
 use crate::error::LineError;
-use crate::forms::{bare_form, flag_form, number_form};
+use crate::grammar::{Argument, Given};
+use crate::operands::number_at;
 use nl_types::{CheckpointNumber, MountNumber};
-use std::alloc::Global;
+
+pub const LSSU_ARGUMENTS: &[Argument<'static>] = &[Argument::Flag("all", 'a')];
 
 /// `lssu [-a]`
-pub fn lssu(alloc: Global, words: &[&str]) -> Result<Command, LineError>
-    ensures { IsUnlessMemory result (lssu_meant (map (λ w. w.now) words.now)) }
+pub fn lssu(given: &Given<'_>) -> Command
+    ensures { result ≡ lssu_given given.now }
 {
-    let all = flag_form(alloc, "lssu", 'a', words)?;
-    Ok(Command::Lssu { all })
+    let all = given.has("all");
+    Command::Lssu { all }
 }
 
-/// `clean`
-pub fn clean(alloc: Global, words: &[&str]) -> Result<Command, LineError>
-    ensures { IsUnlessMemory result (clean_meant (map (λ w. w.now) words.now)) }
-{
-    let _ = bare_form(alloc, "clean", words)?;
-    Ok(Command::Clean)
-}
+pub const MOUNT_ARGUMENTS: &[Argument<'static>] = &[Argument::Operand("checkpoint")];
 
 /// `mount CHECKPOINT`
-pub fn mount(alloc: Global, words: &[&str]) -> Result<Command, LineError>
-    ensures { IsUnlessMemory result (mount_meant (map (λ w. w.now) words.now)) }
+pub fn mount(given: &Given<'_>) -> Result<Command, LineError>
+    ensures { result ≡ mount_given given.now }
 {
-    let checkpoint = number_form(alloc, "mount", words)?;
+    let checkpoint = number_at(given, "checkpoint")?;
     Ok(Command::Mount(CheckpointNumber::new(checkpoint)))
 }
 
+pub const UMOUNT_ARGUMENTS: &[Argument<'static>] = &[Argument::Operand("mount")];
+
 /// `umount MOUNT`
-pub fn umount(alloc: Global, words: &[&str]) -> Result<Command, LineError>
-    ensures { IsUnlessMemory result (umount_meant (map (λ w. w.now) words.now)) }
+pub fn umount(given: &Given<'_>) -> Result<Command, LineError>
+    ensures { result ≡ umount_given given.now }
 {
-    let mount = number_form(alloc, "umount", words)?;
+    let mount = number_at(given, "mount")?;
     Ok(Command::Umount(MountNumber::new(mount)))
 }

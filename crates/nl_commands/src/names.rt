@@ -1,14 +1,13 @@
 //! The names of the commands.
 ghost use Rattle.std.specs.Prelude.{◌≡◌, map};
-ghost use Rattle.nl_commands.specs.CommandNames.{asking_name, command_name, file_name, named_meant, segment_name};
+ghost use Rattle.nl_commands.specs.CommandNames.{asking_name, command_given, command_name, file_name, named_meant, rules_of, segment_name};
+ghost use Rattle.nl_commands.specs.Grammars.{argument_rule};
 ghost use Rattle.nl_commands.specs.Outcomes.{IsUnlessMemory};
 
-use crate::asking::{cat, ls, stat};
-use crate::checkpoints::{at, chcp, lscp, mkcp, rmcp};
-use crate::command::Command;
+use crate::command::{Command, Shown};
 use crate::error::LineError;
-use crate::files::{create, fill, mkdir, mv, rm, rmdir, truncate, write};
-use crate::mounts::{clean, lssu, mount, umount};
+use crate::grammar::{Argument, Given, read};
+use crate::{asking, checkpoints, files, mounts};
 use std::alloc::Global;
 
 /// A command, without what it is given.
@@ -89,33 +88,69 @@ pub fn command_name(word: &str) -> Option<CommandName>
     }
 }
 
-/// What a command asks for with the words behind its name.
+fn arguments_of(name: CommandName) -> &'static [Argument<'static>]
+    ensures { map argument_rule result.now ≡ rules_of name }
+{
+    match name {
+        CommandName::At => checkpoints::AT_ARGUMENTS,
+        CommandName::Mkcp => checkpoints::MKCP_ARGUMENTS,
+        CommandName::Chcp => checkpoints::CHCP_ARGUMENTS,
+        CommandName::Lscp => checkpoints::LSCP_ARGUMENTS,
+        CommandName::Rmcp => checkpoints::RMCP_ARGUMENTS,
+        CommandName::Lssu => mounts::LSSU_ARGUMENTS,
+        CommandName::Clean => &[],
+        CommandName::Mount => mounts::MOUNT_ARGUMENTS,
+        CommandName::Umount => mounts::UMOUNT_ARGUMENTS,
+        CommandName::Create | CommandName::Mkdir | CommandName::Rm | CommandName::Rmdir =>
+            files::PATH_ARGUMENTS,
+        CommandName::Mv => files::MV_ARGUMENTS,
+        CommandName::Write => files::WRITE_ARGUMENTS,
+        CommandName::Fill => files::FILL_ARGUMENTS,
+        CommandName::Truncate => files::TRUNCATE_ARGUMENTS,
+        CommandName::Cat | CommandName::Ls | CommandName::Stat => asking::SHOW_ARGUMENTS,
+    }
+}
+
+fn command_given(alloc: Global, name: CommandName, given: &Given<'_>) -> Result<Command, LineError>
+    ensures { IsUnlessMemory result (command_given name given.now) }
+{
+    match name {
+        CommandName::At => checkpoints::at(given),
+        CommandName::Mkcp => Ok(checkpoints::mkcp(given)),
+        CommandName::Chcp => checkpoints::chcp(alloc, given),
+        CommandName::Lscp => checkpoints::lscp(given),
+        CommandName::Rmcp => checkpoints::rmcp(alloc, given),
+        CommandName::Lssu => Ok(mounts::lssu(given)),
+        CommandName::Clean => Ok(Command::Clean),
+        CommandName::Mount => mounts::mount(given),
+        CommandName::Umount => mounts::umount(given),
+        CommandName::Create => files::create(alloc, given),
+        CommandName::Mkdir => files::mkdir(alloc, given),
+        CommandName::Rm => files::rm(alloc, given),
+        CommandName::Rmdir => files::rmdir(alloc, given),
+        CommandName::Mv => files::mv(alloc, given),
+        CommandName::Write => files::write(alloc, given),
+        CommandName::Fill => files::fill(alloc, given),
+        CommandName::Truncate => files::truncate(alloc, given),
+        CommandName::Cat => asking::show(alloc, Shown::Content, given),
+        CommandName::Ls => asking::show(alloc, Shown::Names, given),
+        CommandName::Stat => asking::show(alloc, Shown::Kind, given),
+    }
+}
+
+/// What a command asks for with the words behind its name, which is the word given here.
 ///
 /// # Errors
 /// `Usage` where the words are not of the command's form; `Memory`.
-pub fn read_named(alloc: Global, name: CommandName, words: &[&str]) -> Result<Command, LineError>
-    ensures { IsUnlessMemory result (named_meant name (map (λ w. w.now) words.now)) }
+pub fn read_named(
+    alloc: Global,
+    name: CommandName,
+    word: &str,
+    words: &[&str],
+) -> Result<Command, LineError>
+    ensures { IsUnlessMemory result (named_meant name word.now (map (λ w. w.now) words.now)) }
 {
-    match name {
-        CommandName::At => at(alloc, words),
-        CommandName::Mkcp => mkcp(alloc, words),
-        CommandName::Chcp => chcp(alloc, words),
-        CommandName::Lscp => lscp(alloc, words),
-        CommandName::Rmcp => rmcp(alloc, words),
-        CommandName::Lssu => lssu(alloc, words),
-        CommandName::Clean => clean(alloc, words),
-        CommandName::Mount => mount(alloc, words),
-        CommandName::Umount => umount(alloc, words),
-        CommandName::Create => create(alloc, words),
-        CommandName::Mkdir => mkdir(alloc, words),
-        CommandName::Rm => rm(alloc, words),
-        CommandName::Rmdir => rmdir(alloc, words),
-        CommandName::Mv => mv(alloc, words),
-        CommandName::Write => write(alloc, words),
-        CommandName::Fill => fill(alloc, words),
-        CommandName::Truncate => truncate(alloc, words),
-        CommandName::Cat => cat(alloc, words),
-        CommandName::Ls => ls(alloc, words),
-        CommandName::Stat => stat(alloc, words),
-    }
+    let arguments = arguments_of(name);
+    let given = read(alloc, word, arguments, words)?;
+    command_given(alloc, name, &given)
 }

@@ -20,20 +20,14 @@ pub fn number_at(given: &Given<'_>, id: &str) -> Result<u64, LineError>
     }
 }
 
-fn optional_number_at(given: &Given<'_>, id: &str) -> Result<Option<u64>, LineError>
+/// The number, where one is given.
+pub fn optional_number_at(given: &Given<'_>, id: &str) -> Result<Option<u64>, LineError>
     ensures { result ≡ optional_number_at id.now given.now }
 {
     match given.text(id) {
         Some(word) => Ok(Some(number(word)?)),
         None => Ok(None),
     }
-}
-
-/// How many, where that is given.
-pub fn count_at(given: &Given<'_>, id: &str) -> Result<Option<u64>, LineError>
-    ensures { result ≡ optional_number_at id.now given.now }
-{
-    optional_number_at(given, id)
 }
 
 /// The checkpoint, where one is given.
