@@ -31,7 +31,8 @@ fn call_of(word: &str) -> Option<Call> {
     }
 }
 
-fn asked(words: &[String]) -> Option<Asked> {
+/// What the words behind the program's name ask for.
+fn read_words(words: &[String]) -> Option<Asked> {
     let call = call_of(words.get(1)?.as_str())?;
     let count = words.get(2)?.as_str().parse().ok()?;
     Some(Asked { call, count })
@@ -101,7 +102,7 @@ fn work(alloc: Global, asked: &Asked) -> Result<(), VolError> {
 /// Answers the exit status.
 fn run(rt: &HostRuntime) -> io::Result<u8> {
     let words: Vec<String> = env::args(rt)?.collect(rt.alloc())?;
-    let Some(asked) = asked(words.as_slice()) else {
+    let Some(asked) = read_words(words.as_slice()) else {
         let _ = eprintln!(rt; "usage: nl_bench apply|apply_noting COUNT");
         return Ok(2);
     };
