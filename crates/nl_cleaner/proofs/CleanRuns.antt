@@ -1,19 +1,18 @@
 -- Moves and retirements of a pen, as its store sees them.
-use Rattle.std.proofs.Common.{◌≡◌, ℕ, zero, suc, ◌+◌, ◌*◌, ◌≤◌, Bool, true, false, List, [], ◌∷◌, length, Result, Ok, Err, refl, sym, ap, subst, ◌∙◌, arith}
-use Rattle.std.specs.Prelude.{All, IsOk, is_ok, map}
+use Rattle.std.proofs.Common.{◌≡◌, ℕ, List, [], ◌∷◌, length, Result, Ok, Err, sym, ap, subst, ◌∙◌, arith}
+use Rattle.std.specs.Prelude.{All, IsOk, map}
 use Rattle.std.proofs.lemmas.Bool.{true≢false}
 use Rattle.std.proofs.lemmas.List.Elements.{All-tail}
 use Rattle.nl_types.specs.declared.error.VolError.{VolError}
 use Rattle.nl_types.specs.declared.event.Event.{Event}
-use Rattle.nl_types.specs.declared.event.Event.TheVariants.{Move, Retire}
+use Rattle.nl_types.specs.declared.event.Event.TheVariants.{Move}
 use Rattle.nl_types.specs.declared.reply.Answer.{Answer}
 use Rattle.nl_types.specs.declared.reply.Answer.TheVariants.{Freed}
-use Rattle.nl_types.specs.Entries.{Entry, is_needed}
+use Rattle.nl_types.specs.Entries.{is_needed}
 use Rattle.nl_types.specs.Runs.{Run}
-use Rattle.nl_types.specs.Segments.{clean_info, info_of}
 use Rattle.nl_types.specs.Worlds.{Reply}
 use Rattle.nl_vstore.specs.Located.{numbers_in}
-use Rattle.nl_reclaim.specs.Moves.{FullMoves, HasMoved, KeptStore, KeepsNeeds, Retires}
+use Rattle.nl_reclaim.specs.Moves.{FullMoves, HasMoved, KeepsNeeds, Retires}
 use Rattle.nl_reclaim.proofs.Moves.{full-moves-come-clean}
 use Rattle.nl_core.specs.CleanedPens.{kept_store, number_in}
 use Rattle.nl_core.specs.Layout.{Does, IsPen, Layout, unshared}

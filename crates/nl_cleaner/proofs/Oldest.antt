@@ -1,5 +1,5 @@
 -- Which segment a round cleans next.
-use Rattle.std.proofs.Common.{◌≡◌, ◌⊎◌, ℕ, zero, suc, ◌<◌, ◌==◌, Bool, true, false, cond, List, [], ◌∷◌, length, drop, get_or, Option, Some, None, Ok, Err, inl, inr, refl, sym, ap, subst, ◌∙◌, arith}
+use Rattle.std.proofs.Common.{◌≡◌, ◌⊎◌, ℕ, zero, suc, ◌==◌, Bool, true, false, cond, List, [], ◌∷◌, drop, Option, Some, None, Ok, Err, inl, inr, refl, sym, subst, arith}
 use Rattle.std.specs.Prelude.{All, AllPairs, IfSome}
 use Rattle.std.specs.List.{fold}
 use Rattle.std.proofs.lemmas.Bool.{cases_lt}
@@ -8,13 +8,15 @@ use Rattle.nl_types.specs.declared.event.Event.TheVariants.{Expire, Move, Retire
 use Rattle.nl_types.specs.declared.reply.Answer.{Answer}
 use Rattle.nl_types.specs.declared.reply.Answer.TheVariants.{Freed}
 use Rattle.nl_types.specs.Worlds.{Reply}
-use Rattle.nl_dat.specs.Located.{needed_count}
+use Rattle.nl_vstore.specs.Located.{needed_count}
 use Rattle.nl_protect.specs.declared.config.Config.{Config}
+use Rattle.nl_protect.specs.Rounds.{ends_round}
 use Rattle.nl_core.specs.CleanerViews.{cleaning_event}
 use Rattle.nl_core.specs.CleaningEvents.{needed_by}
 use Rattle.nl_core.specs.Layout.{Layout}
 use Rattle.nl_cleaner.specs.declared.job.Stage.{Stage}
-use Rattle.nl_cleaner.specs.Job.{Cleaning, Ended, Expiring, JobView, answered, at_stage, ends_round, first_done, next_by, next_cleaning, next_event, noted, noted_by}
+use Rattle.nl_cleaner.specs.Job.{Cleaning, Ended, Expiring, JobView, answered, at_stage, first_done, next_by, next_cleaning, next_event, noted, noted_by}
+use Rattle.nl_cleaner.specs.Laws.{TheOldestComesNext}
 use Rattle.nl_cleaner.specs.Plan.{AreTaken, Cleans, CleansOldest, IsOlder, IsPlanned, TakesOldest, clean_count, segments_by}
 use Rattle.nl_cleaner.proofs.Rounds.{none-some, some-is}
 
@@ -28,7 +30,7 @@ module _ (planned : Layout) where
 
   rest-in-order : (left : List ℕ) → InOrder left → InOrder (drop 1 left)
   rest-in-order [] before = before
-  rest-in-order (segment ∷ rest) before i j d lower within = before (suc i) (suc j) d (omega arith) (omega arith)
+  rest-in-order (segment ∷ rest) before = λ i j d lower within. before (suc i) (suc j) d (omega arith) (omega arith)
 
   taken-in-order : (config : Config) (now : ℕ) (left : List ℕ) → AreTaken planned config now left → InOrder left
   taken-in-order config now left taken = elim (cases_lt (clean_count planned) (segments_by config.max_clean_segments planned)) [
@@ -93,7 +95,10 @@ module _ (planned : Layout) where
   by-stage Cleaning job l event order next = inr (first-oldest job.left l job.moment event order next)
   by-stage Ended job l event order next = absurd (none-some event next)
 
-  pub takes-oldest : (job : JobView) (l : Layout) (next : Option Event) → next ≡ next_event job l → IsPlanned planned job
+  takes-oldest : (job : JobView) (l : Layout) (next : Option Event) → next ≡ next_event job l → IsPlanned planned job
       → IfSome next (TakesOldest planned job)
   takes-oldest job l None is plan = tt
   takes-oldest job l (Some event) is plan = by-stage job.stage job l event (in-order job plan) (sym is)
+
+pub the-oldest-comes-next : TheOldestComesNext
+the-oldest-comes-next planned now job plan = takes-oldest planned job now (next_event job now) refl plan

@@ -1,9 +1,8 @@
 -- A round of cleaning, as the pen's store sees it.
-use Rattle.std.proofs.Common.{◌≡◌, ◌⊎◌, ℕ, zero, suc, ◌==◌, Bool, true, false, cond, List, [], ◌∷◌, length, Option, Some, None, Result, Ok, Err, refl, sym, ap, subst, ◌∙◌, inl, inr, arith}
+use Rattle.std.proofs.Common.{◌≡◌, ℕ, suc, ◌==◌, Bool, true, false, cond, List, [], ◌∷◌, Some, None, Ok, Err, refl, sym, ap, subst, ◌∙◌, inl, inr, arith}
 use Rattle.std.specs.Prelude.{All, Contains, IsOk}
 use Rattle.std.proofs.lemmas.Bool.{true≢false}
 use Rattle.std.proofs.lemmas.List.Elements.{All-tail}
-use Rattle.nl_types.specs.declared.error.VolError.{VolError}
 use Rattle.nl_types.specs.declared.event.Event.{Event}
 use Rattle.nl_types.specs.declared.event.Event.TheVariants.{Expire, Move, Retire}
 use Rattle.nl_types.specs.declared.reply.Answer.{Answer}
@@ -17,8 +16,8 @@ use Rattle.nl_reclaim.proofs.Rounds.{rounds-leave-nothing-dead}
 use Rattle.nl_core.specs.CleanedPens.{kept_store}
 use Rattle.nl_core.specs.CleanerViews.{cleaning_event}
 use Rattle.nl_core.specs.CleaningEvents.{needed_by}
-use Rattle.nl_core.specs.Layout.{Does, IsPen, Layout, unshared}
-use Rattle.nl_cleaner.specs.Job.{Cleaning, Expiring, JobView, Stepped, answered, at_stage, next_by, next_event, noted, noted_by}
+use Rattle.nl_core.specs.Layout.{Does, Layout, unshared}
+use Rattle.nl_cleaner.specs.Job.{Cleaning, Expiring, JobView, Stepped, answered, next_by, next_event, noted, noted_by}
 use Rattle.nl_cleaner.specs.declared.job.Stage.{Stage}
 use Rattle.nl_cleaner.specs.Laws.{RoundsLeaveNothingDead}
 use Rattle.nl_cleaner.proofs.CleanRuns.{IsDone, move-is, same-needs}

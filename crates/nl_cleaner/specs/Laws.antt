@@ -1,5 +1,5 @@
 -- What moves, retirements and rounds come to.
-use Rattle.std.specs.Prelude.{◌≡◌, ◌⊎◌, ◌≤◌, ◌*◌, ℕ, All, Contains, IsOk, List, [], ◌∷◌, length, None, Some, Ok}
+use Rattle.std.specs.Prelude.{◌≡◌, ◌⊎◌, ◌≤◌, ◌*◌, ℕ, All, Contains, IfSome, IsOk, List, length, None, Some, Ok}
 use Rattle.nl_types.specs.declared.event.Event.{Event}
 use Rattle.nl_types.specs.declared.event.Event.TheVariants.{Move, Retire}
 use Rattle.nl_types.specs.declared.reply.Answer.TheVariants.{Freed}
@@ -14,6 +14,16 @@ use Rattle.nl_core.specs.CleanedPens.{kept_store}
 use Rattle.nl_core.specs.CleaningEvents.{needed_by}
 use Rattle.nl_core.specs.Layout.{Does, IsPen, Layout, unshared}
 use Rattle.nl_cleaner.specs.Job.{Expiring, JobView, Stepped, next_event}
+use Rattle.nl_cleaner.specs.Plan.{IsPlanned, TakesOldest}
+
+-- ---- the oldest comes next
+
+-- Whatever was replied since a round was planned, and whatever was done on the pen beside it, what comes next is its expiry, or
+-- cleans the oldest of the segments that are left.
+abbrev pub TheOldestComesNext : Type 0
+TheOldestComesNext =
+    (planned now : Layout) (job : JobView) → IsPlanned planned job
+    → IfSome (next_event job now) (TakesOldest planned job)
 
 -- ---- a segment comes clean
 

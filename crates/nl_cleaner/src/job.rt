@@ -1,9 +1,7 @@
 //! A round of cleaning as a machine: one event of the pen at a time.
-ghost use Rattle.std.specs.Prelude.{◌≡◌, ◌<◌, IfSome, MatchOption, OnSome};
+ghost use Rattle.std.specs.Prelude.{◌≡◌, ◌<◌, MatchOption, OnSome};
 ghost use Rattle.nl_types.specs.declared.event.Event.{Event};
-ghost use Rattle.nl_core.specs.Layout.{Layout};
 ghost use Rattle.nl_cleaner.specs.Job.{IsOver, Stepped, next_event, noted, steps_left};
-ghost use Rattle.nl_cleaner.specs.Plan.{IsPlanned, TakesOldest};
 
 use nl_core::Pen;
 use nl_device::Device;
@@ -61,9 +59,7 @@ impl Job {
     /// retirement. None where the round is over. It only looks: whoever does the event hands the reply to `note`, and no other
     /// event's, before asking again; `step` does both on a pen alone.
     pub fn next<D: Device>(&self, pen: &Pen<D>) -> Option<Event>
-        ensures next { result ≡ next_event self.now pen.now }
-        ensures oldest { (planned : Layout) → IsPlanned planned self.now
-            → IfSome result (TakesOldest planned self.now) }
+        ensures { result ≡ next_event self.now pen.now }
     {
         match self.stage {
             Stage::Expiring => Some(Event::Expire {

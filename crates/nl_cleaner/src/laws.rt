@@ -1,5 +1,11 @@
 //! What moves, retirements and rounds come to, as contracts of functions that do nothing.
-ghost use Rattle.nl_cleaner.specs.Laws.{RoundsLeaveNothingDead, SegmentsComeClean};
+ghost use Rattle.nl_cleaner.specs.Laws.{RoundsLeaveNothingDead, SegmentsComeClean, TheOldestComesNext};
+
+/// What a round asks for next is its expiry, or cleans the oldest of the segments that are left, by the logs that its plan
+/// saw, whatever was replied and whatever else was done since.
+pub fn the_oldest_comes_next()
+    ensures { TheOldestComesNext }
+{}
 
 /// A dirty segment can be retired after as many moves as its needed numbers ask for, and is clean then.
 pub fn segments_come_clean()

@@ -1,5 +1,5 @@
 -- What scripts know of a volume.
-use Rattle.std.specs.Prelude.{ℕ, Option, Result}
+use Rattle.std.specs.Prelude.{ℕ, Result}
 use Rattle.nl_types.specs.Worlds.{Reply}
 use Rattle.nl_types.specs.declared.error.VolError.{VolError}
 use Rattle.nl_types.specs.declared.event.Event.{Event}

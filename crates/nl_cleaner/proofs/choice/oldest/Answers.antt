@@ -1,6 +1,5 @@
-use Rattle.std.proofs.Common.{◌≡◌, ℕ, List, sym, subst, take}
+use Rattle.std.proofs.Common.{sym, subst}
 use Rattle.nl_cleaner.specs.Choice.{AreFirst}
-use Rattle.nl_cleaner.specs.declared.choice.Candidate.{Candidate}
 use Rattle.nl_cleaner.proofs.Ages.{are-first}
 use Rattle.nl_cleaner.proofs.choice.oldest.Goals as goal
 

@@ -10,5 +10,5 @@ returns g c =
     let new : JobView × Layout = (c.note.new.self, c.apply-reply.new.self) in
     let event = c.in_ok-event.event in
     let step : Stepped old event c.apply-reply.result new =
-    record { next = sym c.in_ok-event.ensures.next; does = c.apply-reply.ensures; job = c.note.ensures } in
+    record { next = sym c.in_ok-event.ensures; does = c.apply-reply.ensures; job = c.note.ensures } in
     record { stepped = (event, step); fewer = fewer-left old new event c.apply-reply.result c.means_a_world.ensures step }
