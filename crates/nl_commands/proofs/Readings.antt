@@ -5,7 +5,7 @@ use Rattle.nl_commands.specs.declared.error.LineError.{LineError}
 use Rattle.nl_commands.specs.declared.names.CommandName.{CommandName}
 use Rattle.nl_commands.specs.declared.names.CommandName.TheVariants as name
 use Rattle.nl_commands.specs.CommandNames.{rules_of}
-use Rattle.nl_commands.specs.Grammars.{grammar, is_readable, parsed}
+use Rattle.nl_commands.specs.Grammars.{Reads, grammar, is_readable, parsed}
 use Rattle.nl_commands.specs.Outcomes.{IsUnlessMemory, after}
 
 readable : (n : CommandName) (word : Text) → is_readable (grammar word (rules_of n)) ≡ true
@@ -32,10 +32,9 @@ readable name.Stat word = refl
 
 -- what is read by a command's rules
 pub read-by-rules : (n : CommandName) (word : Text) (words : List Text) (rules : List Rule) (result : Result (List Row) LineError) → rules ≡ rules_of n
-    → (is_readable (grammar word rules) ≡ true → IsUnlessMemory result (parsed (grammar word rules) words))
-    → IsUnlessMemory result (parsed (grammar word (rules_of n)) words)
+    → Reads word rules words result → IsUnlessMemory result (parsed (grammar word (rules_of n)) words)
 read-by-rules n word words rules result is reads =
-    let own = subst (λ (rs : List Rule). is_readable (grammar word rs) ≡ true → IsUnlessMemory result (parsed (grammar word rs) words)) is reads in
+    let own = subst (λ (rs : List Rule). Reads word rs words result) is reads in
     own (readable n word)
 
 -- what the rows mean is refused where reading them is, with the same error

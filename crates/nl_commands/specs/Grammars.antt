@@ -1,5 +1,5 @@
 -- What words give by a grammar: the matches of the library's own definitions, where these find no fault.
-use Rattle.std.specs.Prelude.{◌&&◌, ◌||◌, not, cond, ℕ, Bool, true, false, List, [], ◌∷◌, codes, Option, None, Some, Result, Ok, Err, find, option_and_then}
+use Rattle.std.specs.Prelude.{◌≡◌, ◌&&◌, ◌||◌, not, cond, ℕ, Bool, true, false, List, [], ◌∷◌, codes, Option, None, Some, Result, Ok, Err, find, option_and_then}
 use Rattle.std.specs.Str.{bytes_eq}
 use Rattle.clap.specs.Words.{App, Kinds, Row, Rule, Text, fault_of, is_simple_and_free, matches_of, new_rule, with_rule}
 use Rattle.clap.specs.Simple.{new_shape}
@@ -11,6 +11,7 @@ use Rattle.nl_commands.specs.declared.error.LineError.{LineError}
 use Rattle.nl_commands.specs.declared.error.LineError.TheVariants.{Usage}
 use Rattle.nl_commands.specs.declared.grammar.Argument.{Argument}
 use Rattle.nl_commands.specs.declared.grammar.Argument.TheVariants.{Flag, Value, Operand, Operands}
+use Rattle.nl_commands.specs.Outcomes.{IsUnlessMemory}
 
 abbrev pub rule : (id : Text) → (short : Option ℕ) → (is_required : Bool) → ArgAction → Rule
 rule id short is_required action =
@@ -65,6 +66,11 @@ unless_fault (k ∷ kinds) r = Err Usage
 
 abbrev pub parsed : App → List Text → Result (List Row) LineError
 parsed app words = cond (has_hyphen words) (Err Usage) (unless_fault (fault_of app words) (Ok (matches_of app words)))
+
+-- the result is what the words give by a readable grammar, where memory was not refused
+abbrev pub Reads : Text → List Rule → List Text → Result (List Row) LineError → Type 0
+Reads name rules words result =
+    is_readable (grammar name rules) ≡ true → IsUnlessMemory result (parsed (grammar name rules) words)
 
 -- ---- what was given
 

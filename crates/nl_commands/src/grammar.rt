@@ -2,7 +2,7 @@
 //! the library that reads them.
 ghost use Rattle.std.specs.Prelude.{◌≡◌, IfOk, false, map, option_map, true};
 ghost use Rattle.clap.specs.Words.{all_of, app_of, first_of, rule_of, with_rule};
-ghost use Rattle.nl_commands.specs.Grammars.{argument_rule, bare_grammar, grammar, has_hyphen, is_from_words, is_readable, is_used, parsed, with_rules};
+ghost use Rattle.nl_commands.specs.Grammars.{Reads, argument_rule, bare_grammar, has_hyphen, is_from_words, is_readable, is_used, parsed, with_rules};
 ghost use Rattle.nl_commands.specs.Outcomes.{IsUnlessMemory};
 
 use crate::error::LineError;
@@ -72,6 +72,7 @@ fn read_by<'a>(command: Command<'a>, words: &'a [&'a str]) -> Result<Given<'a>, 
     Ok(Given { matches })
 }
 
+/// An argument, as one of the library's.
 fn library_argument(alloc: Global, argument: Argument<'_>) -> Arg<'_>
     ensures local { result.global ≡ false }
     ensures rule { rule_of result ≡ argument_rule argument.entry }
@@ -106,9 +107,9 @@ fn with_arguments<'a>(
     ensures { IfOk result (λ all.
         app_of all ≡ with_rules (app_of command.entry) (map argument_rule arguments.now)) }
 {
-    match arguments {
-        [] => Ok(command),
-        [argument, rest @ ..] => {
+    match arguments.split_first() {
+        None => Ok(command),
+        Some((argument, rest)) => {
             let command = with_argument(alloc, command, *argument)?;
             with_arguments(alloc, command, rest)
         }
@@ -124,20 +125,18 @@ fn bare<'a>(alloc: Global, name: &'a str) -> Command<'a>
         .disable_help_flag(true)
 }
 
-/// What the words give by the arguments of a command.
+/// What the words give by the arguments that the command of this name may be given.
 ///
 /// # Errors
-/// `Usage` where they are not of this form; `Memory`.
+/// `Usage` where they are not of that form; `Memory`.
 pub fn read<'a>(
     alloc: Global,
     name: &'a str,
     arguments: &[Argument<'a>],
     words: &'a [&'a str],
 ) -> Result<Given<'a>, LineError>
-    ensures { is_readable (grammar name.entry.now (map argument_rule arguments.now)) ≡ true
-        → IsUnlessMemory result
-        (parsed (grammar name.entry.now (map argument_rule arguments.now))
-        (map (λ w. w.now) words.entry.now)) }
+    ensures { Reads name.entry.now (map argument_rule arguments.now)
+        (map (λ w. w.now) words.entry.now) result }
 {
     let bare = bare(alloc, name);
     let command = with_arguments(alloc, bare, arguments)?;
