@@ -69,7 +69,8 @@ fn matches<'a>(alloc: Global, words: &'a [&'a str]) -> Result<ArgMatches<'a>, cl
         (λ m. rows_of (found_of m) ≡ matches_of program (map (λ w. w.now) words.entry.now)) }
     ensures kinds { FailsBy (fault_of program (map (λ w. w.now) words.entry.now)) result }
 {
-    program(alloc)?.try_get_matches_from(words)
+    let program = program(alloc)?;
+    program.try_get_matches_from(words)
 }
 
 /// The fault of a value that is no number, worded as the library words its own.
