@@ -6,7 +6,7 @@ use crate::file_calls::{on_directories, on_files};
 use crate::logs::{NONE_FAILS, Shape};
 use crate::rows::{Volume, first_unwanted};
 use crate::volumes::{tables, volume};
-use nl_core::{Commit, Mounted, Pen, ShownPage, Whole, Written};
+use nl_core::{Commit, Mounted, NewPage, Pen, ShownPage, Whole, Written};
 use nl_cpfile::Checkpoint;
 use nl_device::{Device, FaultyDevice};
 use nl_types::{CheckpointNumber, Event, Mode, Period, Reply, VirtualNumber, VolError};
@@ -46,24 +46,37 @@ fn set_number(numbers: &mut [Option<ShownPage>], number: VirtualNumber, shown: O
     }
 }
 
+fn begin_number(numbers: &mut [Option<ShownPage>], birth: NewPage, at: CheckpointNumber) {
+    let NewPage { number, page } = birth;
+    let period = Period {
+        start: at,
+        end: None,
+    };
+    set_number(numbers, number, Some(ShownPage { page, period }));
+}
+
 impl Image {
+    fn end_all(&mut self, ends: &[VirtualNumber], at: CheckpointNumber) {
+        for number in ends {
+            end_number(&mut self.numbers, *number, at);
+        }
+    }
+
+    fn begin_all(&mut self, births: Vec<NewPage>, at: CheckpointNumber) {
+        for birth in births {
+            begin_number(&mut self.numbers, birth, at);
+        }
+    }
+
     fn write(&mut self, written: Written) -> Result<(), AllocError> {
-        let number = written.checkpoint.number;
-        for ended in written.ends.as_slice() {
-            end_number(&mut self.numbers, *ended, number);
-        }
-        for birth in written.births.into_vec() {
-            let period = Period {
-                start: number,
-                end: None,
-            };
-            let shown = ShownPage {
-                page: birth.page,
-                period,
-            };
-            set_number(&mut self.numbers, birth.number, Some(shown));
-        }
-        let before = replace(&mut self.latest, written.checkpoint);
+        let Written {
+            births,
+            ends,
+            checkpoint,
+        } = written;
+        self.end_all(ends.as_slice(), checkpoint.number);
+        self.begin_all(births.into_vec(), checkpoint.number);
+        let before = replace(&mut self.latest, checkpoint);
         self.earlier.push(before)?;
         Ok(())
     }
@@ -85,6 +98,13 @@ impl Image {
         }
     }
 
+    fn mount(&mut self, mount: Mounted) -> Result<(), AllocError> {
+        let given = mount.number.get();
+        self.mounts.push(mount)?;
+        self.given = given;
+        Ok(())
+    }
+
     fn follow(&mut self, commit: Commit) -> Result<(), AllocError> {
         match commit {
             Commit::Whole(whole) => *self = begun(whole),
@@ -94,10 +114,7 @@ impl Image {
             Commit::RangeRemoved { first, last } => self.earlier.retain(|kept| {
                 kept.mode == Mode::Snapshot || kept.number < first || last < kept.number
             }),
-            Commit::Mounted(mount) => {
-                self.mounts.push(mount)?;
-                self.given = mount.number.get();
-            }
+            Commit::Mounted(mount) => self.mount(mount)?,
             Commit::GivenBack(number) => self.mounts.retain(|mount| mount.number != number),
             Commit::Freed(gone) => self.free(gone.as_slice()),
         }
