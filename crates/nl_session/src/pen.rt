@@ -6,7 +6,6 @@ use nl_cleaner::Job;
 use nl_core::Pen;
 use nl_cpfile::Cpstat;
 use nl_device::Device;
-use nl_lib::{get_cpstat, get_suinfo, get_sustat};
 use nl_protect::Config;
 use nl_script::Volume;
 use nl_sufile::Sustat;
@@ -38,16 +37,16 @@ impl<D: Device> Volume for PenVolume<D> {
     }
 
     fn suinfo(&self, segment: Segment) -> Result<SegmentInfo, VolError> {
-        get_suinfo(&self.pen, segment)
+        self.pen.segments().suinfo(segment)
     }
 
     fn sustat(&self) -> Sustat {
         self.pen.means_a_world();
-        get_sustat(&self.pen)
+        self.pen.segments().sustat()
     }
 
     fn cpstat(&self) -> Cpstat {
-        get_cpstat(&self.pen)
+        self.pen.cpstat()
     }
 
     fn plan(&self, alloc: Global, config: &Config, now: u64) -> Result<Job, VolError> {
