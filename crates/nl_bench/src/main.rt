@@ -73,30 +73,46 @@ fn write_of(alloc: Global, byte: u8) -> Result<Event, AllocError> {
     }))
 }
 
-/// A pen with a file.
-fn prepared(alloc: Global) -> Result<Pen<MemDevice>, VolError> {
+/// A pen on a new volume.
+fn new_pen(alloc: Global) -> Result<Pen<MemDevice>, VolError> {
     let geometry = Geometry::new(256, 64)?;
     let device = MemDevice::new(alloc, geometry)?;
-    let mut pen = Pen::format(alloc, device, geometry, 0)?;
-    let creation = creation(alloc)?;
-    pen.apply(&creation)?;
-    Ok(pen)
+    Pen::format(alloc, device, geometry, 0)
 }
 
-/// Overwrites the file's byte, with a checkpoint behind each time.
-fn work(alloc: Global, asked: &Asked) -> Result<(), VolError> {
-    let mut pen = prepared(alloc)?;
-    let mut notes = Vec::new(alloc);
+/// Overwrites the file's byte, and makes a checkpoint.
+fn change(
+    alloc: Global,
+    pen: &mut Pen<MemDevice>,
+    call: Call,
+    byte: u8,
+    notes: &mut Vec<Commit>,
+) -> Result<(), VolError> {
+    let write = write_of(alloc, byte)?;
     let checkpoint = Event::Checkpoint {
         mode: Mode::Plain,
         moment: 0,
     };
+    done(pen, call, &write, notes)?;
+    done(pen, call, &checkpoint, notes)?;
+    Ok(())
+}
+
+/// Makes a file, and so many changes of it.
+fn work_on(alloc: Global, pen: &mut Pen<MemDevice>, asked: &Asked) -> Result<(), VolError> {
+    let creation = creation(alloc)?;
+    pen.apply(&creation)?;
+    let mut notes = Vec::new(alloc);
     for number in 0..asked.count {
-        let write = write_of(alloc, (number % 256) as u8)?;
-        done(&mut pen, asked.call, &write, &mut notes)?;
-        done(&mut pen, asked.call, &checkpoint, &mut notes)?;
+        change(alloc, pen, asked.call, (number % 256) as u8, &mut notes)?;
     }
     Ok(())
+}
+
+// The pen is lent for the work, so that one exit alone drops it.
+fn work(alloc: Global, asked: &Asked) -> Result<(), VolError> {
+    let mut pen = new_pen(alloc)?;
+    work_on(alloc, &mut pen, asked)
 }
 
 /// Answers the exit status.
