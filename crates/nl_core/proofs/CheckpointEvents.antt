@@ -1,7 +1,7 @@
 -- What changes of modes, removals, expiries, unmounts and listings do to the world that a pen means.
 use Rattle.std.proofs.Common.{◌≡◌, ◌≢◌, ℕ, ◌-◌, Bool, true, false, cond, not, eqb, List, [], ◌∷◌, refl, sym, ap, ◌∙◌, subst, inl, inr}
 use Rattle.std.specs.Prelude.{map, Option, Some, None, Result, Ok, Err, ◌||◌, ◌&&◌}
-use Rattle.std.specs.Option.{is_none, ok_or}
+use Rattle.std.specs.Option.{is_none, is_some, ok_or}
 use Rattle.std.specs.List.{AllZip, filter}
 use Rattle.std.specs.Ordering.{nat_cmp}
 use Rattle.std.specs.FinMap.{find}
@@ -28,9 +28,9 @@ use Rattle.nl_cpfile.specs.Tables.{moded, root_in, rows_of}
 use Rattle.nl_cpfile.specs.declared.checkpoint.Checkpoint.{Checkpoint}
 use Rattle.nl_types.proofs.Expiries.{expiries_are_removals}
 use Rattle.nl_core.specs.Means.{CopyMeans, CurrentMeans, FollowsOver, Means}
-use Rattle.nl_core.specs.Volume.{Lists, gone_from, is_held, is_held_at, is_other_mount, kept_by, mount_of, unmounting, with_checkpoint_mode, without_checkpoints, without_mount}
+use Rattle.nl_core.specs.Volume.{Lists, gone_from, is_held, is_held_at, is_other_mount, kept_by, mount_of, with_checkpoint_mode, without_checkpoints, without_mount}
 use Rattle.nl_core.specs.declared.mounts.Mounted.{Mounted}
-use Rattle.nl_core.proofs.Events.{answers, keeps, leads, refuses_unless_memory}
+use Rattle.nl_core.proofs.Events.{answers, keeps, leads, mount_at, refuses_unless_memory}
 use Rattle.nl_core.proofs.Published.{latest-means}
 use Rattle.nl_core.proofs.TableChanges.{all-with_mode, all-without, left, moded-same}
 
@@ -338,33 +338,31 @@ abbrev unmount_outcome : World → ℕ → Option ℕ → Outcome
 unmount_outcome w m found =
     either w (ok_or found error.BadMount) (λ _. (Ok answer.Done, record w { mounts = mounts_without m w.mounts }))
 
-unmount-refused : (w : World) (m : ℕ) (found : Option ℕ) (e : VolError)
-    → Err e ≡ done_after (ok_or found error.BadMount) → unmount_outcome w m found ≡ (Err e, w)
-unmount-refused w m None e refused =
-    let same : error.BadMount ≡ e = cc in ap (λ (f : VolError). let o : Outcome = (Err f, w) in o) same
-unmount-refused w m (Some n) e refused = cc
+unmount-refused : (w : World) (m : ℕ) (found : Option ℕ) → is_some found ≡ false → unmount_outcome w m found ≡ (Err error.BadMount, w)
+unmount-refused w m None none = refl
+unmount-refused w m (Some n) none = cc
 
-unmount-done : (w : World) (m : ℕ) (found : Option ℕ) → Ok tt ≡ done_after (ok_or found error.BadMount)
+unmount-done : (w : World) (m : ℕ) (found : Option ℕ) → is_some found ≡ true
     → unmount_outcome w m found ≡ (Ok answer.Done, record w { mounts = mounts_without m w.mounts })
-unmount-done w m None done = cc
-unmount-done w m (Some n) done = refl
+unmount-done w m None some = cc
+unmount-done w m (Some n) some = refl
 
--- the world's mounts are the pen's
-unmounting-same : (pages : Pages) (l : Lists) (w : World) (m : ℕ) → Means pages l w
-    → unmounting m l.mounts ≡ and_then (ok_or (find nat_cmp m w.mounts) error.BadMount) (λ _. Ok tt)
-unmounting-same pages l w m means =
-    ap (λ ms. and_then (ok_or (find nat_cmp m ms) error.BadMount) (λ _. Ok tt)) (sym means.mounts)
+-- whether the pen has such a mount
+abbrev pub has_mount : Lists → ℕ → Bool
+has_mount l m = is_some (find nat_cmp m (map mount_of l.mounts))
+
+has_mount-means : (pages : Pages) (l : Lists) (w : World) (m : ℕ) → Means pages l w → is_some (find nat_cmp m w.mounts) ≡ has_mount l m
+has_mount-means pages l w m means = ap (λ (o : Option ℕ). is_some o) (mount_at pages l w m (find nat_cmp m (map mount_of l.mounts)) means refl)
 
 -- there is no such mount
-pub no_unmount-follows : (pages : Pages) (l : Lists) (m : ℕ) (e : VolError) → Err e ≡ unmounting m l.mounts
-    → FollowsOver pages l (Unmount m) (Err e) l
-no_unmount-follows pages l m e refused = λ cleaned w means.
-    keeps cleaned w (Unmount m) (Err e) pages l means
-    (unmount-refused w m (find nat_cmp m w.mounts) e (refused ∙ unmounting-same pages l w m means))
+pub no_unmount-follows : (pages : Pages) (l : Lists) (m : ℕ) → has_mount l m ≡ false → FollowsOver pages l (Unmount m) (Err error.BadMount) l
+no_unmount-follows pages l m none = λ cleaned w means.
+    keeps cleaned w (Unmount m) (Err error.BadMount) pages l means
+    (unmount-refused w m (find nat_cmp m w.mounts) (has_mount-means pages l w m means ∙ none))
 
-pub unmount-follows : (pages : Pages) (l : Lists) (m : ℕ) → Ok tt ≡ unmounting m l.mounts
+pub unmount-follows : (pages : Pages) (l : Lists) (m : ℕ) → has_mount l m ≡ true
     → FollowsOver pages l (Unmount m) (Ok answer.Done) (without_mount m l)
-unmount-follows pages l m done = λ cleaned w means.
+unmount-follows pages l m has = λ cleaned w means.
     leads cleaned w (record w { mounts = mounts_without m w.mounts }) (Unmount m) (Ok answer.Done) pages (without_mount m l) means.world
     (λ world. record {
       world = world;
@@ -374,7 +372,7 @@ unmount-follows pages l m done = λ cleaned w means.
       mounts = ap (mounts_without m) means.mounts ∙ sym (mounts-left m l.mounts);
       given = means.given;
     })
-    (unmount-done w m (find nat_cmp m w.mounts) (done ∙ unmounting-same pages l w m means))
+    (unmount-done w m (find nat_cmp m w.mounts) (has_mount-means pages l w m means ∙ has))
 
 -- ---- listings
 

@@ -228,7 +228,7 @@ mount-follows pages l n c found snapshot left = λ cleaned w m.
 -- ---- reads of mounts
 
 -- the world's mounts are the pen's
-mount_at : (pages : Pages) (l : Lists) (w : World) (mount : ℕ) (o : Option ℕ) → Means pages l w
+pub mount_at : (pages : Pages) (l : Lists) (w : World) (mount : ℕ) (o : Option ℕ) → Means pages l w
     → find nat_cmp mount (map mount_of l.mounts) ≡ o → find nat_cmp mount w.mounts ≡ o
 mount_at pages l w mount o m is = ap (find nat_cmp mount) m.mounts ∙ is
 

@@ -5,11 +5,8 @@ use Rattle.std.specs.List.{filter}
 use Rattle.std.specs.Ordering.{eq_by_cmp, nat_cmp}
 use Rattle.std.specs.FinMap.{find}
 use Rattle.std.proofs.lemmas.Bool.{eqb-true, ne_eqb}
-use Rattle.nl_types.specs.declared.event.Mode.{Mode}
-use Rattle.nl_types.specs.declared.event.Mode.TheVariants.{Snapshot}
 use Rattle.nl_types.specs.Entries.{Place}
 use Rattle.nl_types.specs.Roots.{Pages}
-use Rattle.nl_cpfile.specs.Tables.{kept_at}
 use Rattle.nl_cpfile.specs.declared.checkpoint.Checkpoint.{Checkpoint}
 use Rattle.nl_cpfile.proofs.Found.{eq_by_cmp-nat_cmp}
 use Rattle.nl_core.specs.Commits.{IsNew, KeepsCheckpoint, MountsStillShow, applied}

@@ -1,3 +1,4 @@
+pub mod MountTables
 pub mod OneWorld
 pub mod Leading
 pub mod Events

@@ -8,8 +8,8 @@ lists_of t = record {
   current = t.current;
   dirty = t.dirty;
   table = t.checkpoints.table;
-  mounts = t.mounts.items;
-  given = t.given;
+  mounts = t.mounts.mounts;
+  given = t.mounts.given;
 }
 
 abbrev pub roomy_of : Inside → Roomy

@@ -1,3 +1,4 @@
+pub mod MountTables
 pub mod Volume
 pub mod Means
 pub mod Views

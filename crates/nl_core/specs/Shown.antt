@@ -8,6 +8,7 @@ use Rattle.nl_types.specs.PartialMaps.{Partial}
 use Rattle.nl_types.specs.Roots.{Pages}
 use Rattle.nl_vstore.specs.Periods.{Periods}
 use Rattle.nl_cpfile.specs.Tables.{Table}
+use Rattle.nl_core.specs.MountTables.{AreGiven}
 use Rattle.nl_core.specs.Tables.{blank_checkpoint}
 use Rattle.nl_core.specs.Volume.{mount_of}
 use Rattle.nl_core.specs.declared.commit.ShownPage.{ShownPage}
@@ -39,6 +40,10 @@ whole_of w = record {
   mounts = w.mounts;
   given = w.given;
 }
+
+-- mounts ascend by their numbers, none of which is above the last one that was given
+abbrev pub MountsRise : Shown → Type 0
+MountsRise x = AreGiven x.given x.mounts
 
 -- ---- as it is read
 

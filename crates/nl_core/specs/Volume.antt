@@ -1,12 +1,9 @@
 -- What a pen holds in memory.
 use Rattle.std.specs.Prelude.{◌≡◌, ℕ, ◌+◌, ◌-◌, ◌||◌, ◌&&◌, ◌==◌, max, not, Bool, false, true, List, [], ◌∷◌, ◌++◌, map, Result, Ok, Err}
 use Rattle.std.specs.List.{filter}
-use Rattle.nl_types.specs.Calls.{and_then, is_dirtying}
-use Rattle.std.specs.Option.{ok_or}
-use Rattle.std.specs.Ordering.{nat_cmp}
-use Rattle.std.specs.FinMap.{find}
+use Rattle.nl_types.specs.Calls.{is_dirtying}
 use Rattle.nl_types.specs.declared.error.VolError.{VolError}
-use Rattle.nl_types.specs.declared.error.VolError.TheVariants.{BadMount, Memory}
+use Rattle.nl_types.specs.declared.error.VolError.TheVariants.{Memory}
 use Rattle.nl_types.specs.declared.event.Change.{Change}
 use Rattle.nl_types.specs.declared.event.Mode.{Mode}
 use Rattle.nl_types.specs.declared.reply.Answer.{Answer}
@@ -69,10 +66,6 @@ without_mount m l = record l { mounts = filter (is_other_mount m) l.mounts }
 -- the lists without mounts
 abbrev pub without_mounts : Lists → Lists
 without_mounts l = record l { mounts = [] }
-
--- whether there is a mount to take out
-abbrev pub unmounting : ℕ → List Mounted → Result (Unit {0}) VolError
-unmounting m mounts = and_then (ok_or (find nat_cmp m (map mount_of mounts)) BadMount) (λ _. Ok tt)
 
 -- ---- kept checkpoints
 

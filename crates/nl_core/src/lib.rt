@@ -13,6 +13,6 @@ mod pen;
 mod tables;
 
 pub use commit::{Commit, NewPage, ShownPage, Whole, Written};
-pub use mounts::Mounted;
+pub use mounts::{Mounted, Mounts};
 pub use nl_cpfile::Cpstat;
 pub use pen::{Pen, run};

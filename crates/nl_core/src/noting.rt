@@ -8,7 +8,7 @@ ghost use Rattle.nl_vstore.specs.Stores.{content_in, numbered_in};
 ghost use Rattle.nl_core.specs.Draft.{CanBeDrafted, HasFewNames};
 ghost use Rattle.nl_core.specs.Layout.{HasRefused, IsPen, layout_of};
 ghost use Rattle.nl_core.specs.Notes.{DoesNoting, HasNotedWrite, mounted_as, new_checkpoint, new_page, shown_of, shown_page, where_any, where_gone};
-ghost use Rattle.nl_core.specs.Shown.{whole_of};
+ghost use Rattle.nl_core.specs.Shown.{MountsRise, whole_of};
 
 use crate::cleaning::empty;
 use crate::commit::{Commit, NewPage, ShownPage, Whole, Written};
@@ -268,7 +268,8 @@ fn shown_numbers<V: Vstore>(
 
 /// All that readers see.
 pub fn whole<V: Vstore>(alloc: Global, tables: &Tables, store: &V) -> Result<Whole, AllocError>
-    ensures { IfOk result (λ w. whole_of w ≡ shown_of (layout_of tables.now.lists (V.store store.now))) }
+    ensures image { IfOk result (λ w. whole_of w ≡ shown_of (layout_of tables.now.lists (V.store store.now))) }
+    ensures mounts { IfOk result (λ w. MountsRise (whole_of w)) }
 {
     let numbers = shown_numbers(alloc, store)?;
     tables.whole(alloc, numbers)

@@ -14,6 +14,7 @@ ghost use Rattle.nl_vstore.specs.Summaries.{payload_row};
 ghost use Rattle.nl_vstore.specs.Located.{payload_count_in};
 ghost use Rattle.nl_core.specs.CleanerViews.{cleaning_event, needed_after};
 ghost use Rattle.nl_core.specs.Commits.{IsHistory, image_of};
+ghost use Rattle.nl_core.specs.Shown.{MountsRise};
 ghost use Rattle.nl_core.specs.Notes.{ChangesLists, DoesNoting, HasNoted, has_other_mode, shown_of, where_gone};
 ghost use Rattle.nl_core.specs.Volume.{boundary_in, without_mounts};
 
@@ -418,6 +419,7 @@ impl<D: Device> Pen<D> {
     pub fn whole(&self) -> Result<Commit, VolError>
         ensures begins { IfOk result (λ commit. IsHistory (commit ∷ [])) }
         ensures image { IfOk result (λ commit. image_of (commit ∷ []) ≡ shown_of self.now) }
+        ensures mounts { IfOk result (λ commit. MountsRise (image_of (commit ∷ []))) }
         ensures refused { IsOkUnless result VolError.Memory }
     {
         let all = whole(self.alloc, &self.tables, &self.store)?;

@@ -13,7 +13,7 @@ ghost use Rattle.nl_core.specs.Notes as notes;
 use crate::commit::{ShownPage, Whole};
 use crate::draft::Draft;
 use crate::expiry::expire;
-use crate::mounts::{Mounted, find_mounted, is_mounted, unmount};
+use crate::mounts::{Mounted, Mounts};
 use nl_cpfile::{Checkpoint, Checkpoints, Cpstat};
 use nl_files::{ReadTree, settle};
 use nl_layout::Root;
@@ -37,8 +37,7 @@ pub struct Tables {
     current: CurrentTree,
     dirty: bool,
     checkpoints: Checkpoints,
-    mounts: Vec<Mounted>,
-    given: u64,
+    mounts: Mounts,
 }
 
 impl Model for Tables {
@@ -60,7 +59,7 @@ impl Tables {
     ghost use Rattle.nl_core.specs.Tables.{blank_lists};
     ghost use Rattle.nl_core.specs.Volume.{IsTakenOut, IsExpired, IsTakenOutRange, is_held_at, latest_alone, latest_root, published, with_change, with_checkpoint_mode, with_mount, without_mount, without_mounts};
     ghost use Rattle.nl_core.specs.Notes.{has_other_mode};
-    ghost use Rattle.nl_core.specs.Shown.{whole_of};
+    ghost use Rattle.nl_core.specs.Shown.{MountsRise, whole_of};
 
     /// The tables before a volume is formatted: the root alone, over a checkpoint 0 without files. Refused by `Memory` alone.
     pub fn blank(alloc: Global) -> Result<Tables, VolError>
@@ -78,8 +77,7 @@ impl Tables {
             current: CurrentTree::first(alloc)?,
             dirty: false,
             checkpoints: Checkpoints::new(alloc, blank),
-            mounts: Vec::new(alloc),
-            given: 0,
+            mounts: Mounts::new(alloc),
         })
     }
 
@@ -118,7 +116,7 @@ impl Tables {
     pub fn mount_count(&self) -> usize
         ensures { result ≡ length self.now.lists.mounts }
     {
-        self.mounts.len()
+        self.mounts.as_slice().len()
     }
 
     /// All that readers see, with these numbers.
@@ -127,12 +125,13 @@ impl Tables {
         alloc: Global,
         numbers: Items<Option<ShownPage>>,
     ) -> Result<Whole, AllocError>
-        ensures { IfOk result (λ w. whole_of w ≡ record {
+        ensures lists { IfOk result (λ w. whole_of w ≡ record {
           numbers = numbers;
           table = self.now.lists.table;
           mounts = self.now.lists.mounts;
           given = self.now.lists.given;
         }) }
+        ensures mounts { IfOk result (λ w. MountsRise (whole_of w)) }
     {
         let earlier = self.checkpoints.earlier().to_vec(alloc)?;
         let mounts = self.mounts.as_slice().to_vec(alloc)?;
@@ -141,7 +140,7 @@ impl Tables {
             earlier: Items::from_vec(earlier),
             latest: *self.checkpoints.latest(),
             mounts: Items::from_vec(mounts),
-            given: self.given,
+            given: self.mounts.given(),
         })
     }
 
@@ -198,15 +197,15 @@ impl Tables {
                 Mode::Snapshot => {}
             },
         }
-        if self.given == u64::MAX {
+        let given = self.mounts.given();
+        if given == u64::MAX {
             return Err(VolError::NumbersSpent);
         }
-        let mount = MountNumber::new(self.given + 1);
-        self.mounts.push(Mounted {
+        let mount = MountNumber::new(given + 1);
+        self.mounts.add(Mounted {
             number: mount,
             checkpoint: number,
         })?;
-        self.given += 1;
         Ok(Answer::Mount(mount))
     }
 
@@ -222,7 +221,7 @@ impl Tables {
         ensures { FollowsOver (V.pages store.now) self.now.lists
             (MountRead mount ask.now) result self.now.lists }
     {
-        let Some(number) = find_mounted(&self.mounts, mount) else {
+        let Some(number) = self.mounts.find(mount) else {
             return Err(VolError::BadMount);
         };
         let Some(checkpoint) = self.checkpoints.kept(number) else {
@@ -251,7 +250,7 @@ impl Tables {
     fn is_held(&self, number: CheckpointNumber, mode: Mode) -> bool
         ensures { result ≡ is_held_at number mode self.now.lists }
     {
-        let mounted = is_mounted(&self.mounts, number);
+        let mounted = self.mounts.shows(number);
         match self.checkpoints.cpinfo(number) {
             Ok(row) => is_given_up(row.mode, mode) && mounted,
             Err(_) => false,
@@ -318,7 +317,10 @@ impl Tables {
         ensures gone { IfOk result (λ _. self.new.lists ≡ without_mount mount self.old.lists) }
         ensures same { OnErr result (self.new.lists ≡ self.old.lists) }
     {
-        unmount(&mut self.mounts, mount)?;
+        if self.mounts.find(mount).is_none() {
+            return Err(VolError::BadMount);
+        }
+        self.mounts.take_out(mount);
         Ok(Answer::Done)
     }
 

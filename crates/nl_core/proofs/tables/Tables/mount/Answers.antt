@@ -1,4 +1,4 @@
-use Rattle.std.proofs.Common.{◌≡◌, ℕ, ◌+◌, List, [], ◌∷◌, ◌++◌, sym, ap, ◌∙◌, subst, arith}
+use Rattle.std.proofs.Common.{◌≡◌, ℕ, ◌+◌, [], ◌∷◌, ◌++◌, sym, ap, ◌∙◌, subst, arith}
 use Rattle.std.specs.Prelude.{Ok, Option, None, Some}
 use Rattle.nl_types.specs.declared.event.Event.TheVariants.{Mount}
 use Rattle.nl_types.specs.declared.reply.Answer.TheVariants as answer
@@ -6,9 +6,9 @@ use Rattle.nl_cpfile.specs.Tables.{kept_at}
 use Rattle.nl_cpfile.specs.declared.checkpoint.Checkpoint.{Checkpoint}
 use Rattle.nl_core.specs.Inside.{lists_of}
 use Rattle.nl_core.specs.Means.{FollowsOver}
+use Rattle.nl_core.specs.MountTables.{MountTable}
 use Rattle.nl_core.specs.Tables.{Roomy}
 use Rattle.nl_core.specs.Volume.{Lists, with_mount}
-use Rattle.nl_core.specs.declared.mounts.Mounted.{Mounted}
 use Rattle.nl_core.proofs.Events.{mount-follows, no_mount-follows, plain_mount-follows, spent_mount-follows}
 use Rattle.nl_core.proofs.tables.Tables.mount.Goals as goal
 
@@ -25,27 +25,29 @@ pub returns-in-Plain-clause-follows : goal.returns-in-Plain-clause-follows
 returns-in-Plain-clause-follows c = λ pages.
     plain_mount-follows pages c.args.self.now.lists c.args.number c.in-Some.checkpoint.now (found_inside c.args.number _ _ (Some c.in-Some.checkpoint.now) c.self.view_is c.in-Some.ensures) c.in-Plain.is
 
-pub returns-then-self-clause-follows : goal.returns-then-self-clause-follows
-returns-then-self-clause-follows c = λ pages.
-    let given : c.self.inside.given ≡ c.args.self.now.lists.given = ap (λ (r : Roomy). r.lists.given) c.self.view_is in
+pub returns-then-given-clause-follows : goal.returns-then-given-clause-follows
+returns-then-given-clause-follows c = λ pages.
+    let given = c.given-given.ensures ∙ ap (λ (r : Roomy). r.lists.given) c.self.view_is in
     spent_mount-follows pages c.args.self.now.lists c.args.number c.in-Some.checkpoint.now (found_inside c.args.number _ _ (Some c.in-Some.checkpoint.now) c.self.view_is c.in-Some.ensures) c.in-Snapshot.is
-    (omega (arith, given, c.if-self.true))
+    (omega (arith, given, c.if-given.true))
 
 pub returns-clause-mounted : goal.returns-clause-mounted
 returns-clause-mounted c =
     let inside = lists_of c.self.inside in
-    let mounted : ℕ → Mounted = λ k. record { number = k; checkpoint = c.args.number } in
-    let pushed : c.push.new.self.items ≡ inside.mounts ++ mounted (inside.given + 1) ∷ [] =
-    c.in_ok-push.ensures.items ∙ ap (λ k. inside.mounts ++ mounted k ∷ []) c.new-mount.ensures in
-    ap (λ (ms : List Mounted). record inside { mounts = ms; given = inside.given + 1 }) pushed
+    let added : ℕ → MountTable = λ k. record {
+      mounts = inside.mounts ++ record { number = k; checkpoint = c.args.number } ∷ [];
+      given = k;
+    } in
+    let number = c.new-mount.ensures ∙ ap (λ k. k + 1) c.given-given.ensures in
+    ap (λ (t : MountTable). (let l : Lists = record inside { mounts = t.mounts; given = t.given } in l)) (c.in_ok-add.ensures ∙ ap added number)
     ∙ ap (λ (r : Roomy). with_mount c.args.number r.lists) c.self.view_is
 
 pub returns-clause-follows : goal.returns-clause-follows
 returns-clause-follows c = λ pages.
     let old = c.args.self.now.lists in
     let n = c.args.number in
-    let given : c.self.inside.given + 1 ≡ old.given + 1 = ap (λ (r : Roomy). r.lists.given + 1) c.self.view_is in
-    let number : c.new-mount.result ≡ old.given + 1 = c.new-mount.ensures ∙ given in
+    let given = c.given-given.ensures ∙ ap (λ (r : Roomy). r.lists.given) c.self.view_is in
+    let number = c.new-mount.ensures ∙ ap (λ k. k + 1) given in
     subst (λ (l : Lists). FollowsOver pages old (Mount n) (Ok (answer.Mount c.new-mount.result)) l) (sym (returns-clause-mounted c))
     (subst (λ k. FollowsOver pages old (Mount n) (Ok (answer.Mount k)) (with_mount n old)) (sym number)
-    (mount-follows pages old n c.in-Some.checkpoint.now (found_inside c.args.number _ _ (Some c.in-Some.checkpoint.now) c.self.view_is c.in-Some.ensures) c.in-Snapshot.is (omega (arith, given, c.if-self.false))))
+    (mount-follows pages old n c.in-Some.checkpoint.now (found_inside c.args.number _ _ (Some c.in-Some.checkpoint.now) c.self.view_is c.in-Some.ensures) c.in-Snapshot.is (omega (arith, given, c.if-given.false))))
