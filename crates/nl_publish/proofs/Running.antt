@@ -1,0 +1,177 @@
+-- Runs of the locked state, one after another.
+use Rattle.std.proofs.Common.{ℕ, ◌≡◌, ◌+◌, List, [], ◌∷◌, ◌++◌, refl, subst, ap, sym, ◌∙◌, MatchResult, None, Some, Result, Ok, Err}
+use Rattle.nl_types.specs.declared.event.Event.{Event}
+use Rattle.nl_types.specs.declared.event.Event.TheVariants.{Mount, Unmount}
+use Rattle.nl_types.specs.declared.error.VolError.{VolError}
+use Rattle.nl_types.specs.declared.reply.Answer.{Answer}
+use Rattle.nl_types.specs.Runs.{Run}
+use Rattle.nl_types.specs.Worlds.{Reply}
+use Rattle.nl_core.specs.Layout.{Does, IsPen}
+use Rattle.nl_core.specs.Notes.{shared}
+use Rattle.nl_core.specs.declared.commit.Commit.TheVariants as commit
+use Rattle.nl_core.proofs.Leading.{runs_lead_on}
+use Rattle.nl_core.proofs.MountEvents.{answers-mount}
+use Rattle.nl_publish.specs.Histories.{EndsWith}
+use Rattle.nl_publish.specs.Locks.{Begins, Done, Finished, Goes, GoesBy, Held, IsClear, IsMountReply, IsReady, IsStuck, Keeps, Lost, MountGoes, MountRan, MountReply, Mounted, NotedStep, Pending, Ran, Refused, State, Stuck, all_answered, given_back, mount_reply, state_of}
+use Rattle.nl_publish.specs.Told.{LockedRunsLeadOn}
+use Rattle.nl_publish.proofs.Fronts.{prefix_self, prefix_trans}
+
+run_on : (a b c : State) (es fs : List Event) (rs qs : List Reply) → Run NotedStep a es rs b → Run NotedStep b fs qs c
+    → Run NotedStep a (es ++ fs) (rs ++ qs) c
+run_on a b c [] fs [] qs p q = subst (λ s. Run NotedStep s fs qs c) p q
+run_on a b c (e ∷ es) fs (r ∷ rs) qs p q = (p.0, p.1, run_on p.0 b c es fs rs qs p.2 q)
+run_on a b c [] fs (r ∷ rs) qs p q = absurd p
+run_on a b c (e ∷ es) fs [] qs p q = absurd p
+
+goes_on : (a b c : Held) (es fs : List Event) (rs qs : List Reply) → Goes a es rs b → Goes b fs qs c → Goes a (es ++ fs) (rs ++ qs) c
+goes_on a b c es fs rs qs p q = record {
+  volume = q.volume ∙ p.volume;
+  runs = run_on (state_of a) (state_of b) (state_of c) es fs rs qs p.runs q.runs;
+  later = prefix_trans a.published b.published c.published p.later q.later;
+}
+
+stays : (a : Held) → Goes a [] [] a
+stays a = record { volume = refl; runs = refl; later = prefix_self a.published }
+
+-- nothing more ran
+goes_still : (a b c : Held) (es : List Event) (rs : List Reply) → Goes a es rs b → Goes b [] [] c → Goes a es rs c
+goes_still a b c es rs p q = record {
+  volume = q.volume ∙ p.volume;
+  runs = subst (λ s. Run NotedStep (state_of a) es rs s) (sym q.runs) p.runs;
+  later = prefix_trans a.published b.published c.published p.later q.later;
+}
+
+pub goes_by_still : (a b c : Held) (event : Event) (r : Reply) → GoesBy a event r b → Keeps b c → GoesBy a event r c
+goes_by_still a b c event r p q = (goes_still a b c (event ∷ []) (r ∷ []) p.0 q.0, q.1 ∙ p.1)
+
+-- ---- a give-back
+
+-- nothing is lost
+pub ready_none : (a : Held) → a.lost ≡ None → IsReady a a
+ready_none a none = record {
+  backs = [];
+  goes = subst (λ o. Goes a (given_back o) [] a) (sym none) (stays a);
+  lost = none;
+}
+
+-- what was lost is back
+pub gave : (a b : Held) (m : ℕ) (x : Answer) (r : Reply) → a.lost ≡ Some m → r ≡ Ok x → GoesBy a (Unmount m) r b
+    → IsReady a (record { volume = b.volume; published = b.published; history = b.history; lost = None; layout = b.layout })
+gave a b m x r was is g =
+    let after : Held = record { volume = b.volume; published = b.published; history = b.history; lost = None; layout = b.layout } in
+    let here : Goes a (Unmount m ∷ []) (Ok x ∷ []) after =
+    subst (λ (q : Reply). Goes a (Unmount m ∷ []) (q ∷ []) after) is (record { volume = g.0.volume; runs = g.0.runs; later = g.0.later }) in
+    record {
+      backs = x ∷ [];
+      goes = subst (λ o. Goes a (given_back o) (Ok x ∷ []) after) (sym was) here;
+      lost = refl;
+    }
+
+-- it is still lost
+pub stuck : (a b : Held) (m : ℕ) (e : VolError) (r : Reply) → a.lost ≡ Some m → r ≡ Err e → GoesBy a (Unmount m) r b → IsStuck a b
+stuck a b m e r was is g = record {
+  number = m;
+  error = e;
+  was = was;
+  goes = subst (λ (q : Reply). GoesBy a (Unmount m) q b) is g;
+}
+
+-- behind what kept all
+pub begins_behind : (a b c : Held) (r : Result (Unit {0}) VolError) → Keeps a b → Begins b r c → Begins a r c
+begins_behind a b c (Ok u) keeps ready = record {
+  backs = ready.backs;
+  goes = goes_on a b c [] (given_back a.lost) [] (all_answered ready.backs) keeps.0
+      (subst (λ o. Goes b (given_back o) (all_answered ready.backs) c) keeps.1 ready.goes);
+  lost = ready.lost;
+}
+begins_behind a b c (Err e) keeps stuck = (
+  stuck.0,
+  record {
+    number = stuck.1.number;
+    error = stuck.1.error;
+    was = sym keeps.1 ∙ stuck.1.was;
+    goes = (goes_on a b c [] (Unmount stuck.1.number ∷ []) [] (Err stuck.1.error ∷ []) keeps.0 stuck.1.goes.0, stuck.1.goes.1 ∙ keeps.1);
+  },
+)
+
+-- ---- calls of the locked state
+
+pub ran : (a b c d : Held) (event : Event) (r : Reply) → IsReady a b → GoesBy b event r c → Keeps c d → Ran a event r d
+ran a b c d event r begun here more =
+    let back = given_back a.lost in
+    let backs = all_answered begun.backs in
+    Done begun.backs
+    (goes_still a c d (back ++ event ∷ []) (backs ++ r ∷ []) (goes_on a b c back (event ∷ []) backs (r ∷ []) begun.goes here.0) more.0)
+    (more.1 ∙ (here.1 ∙ begun.lost))
+
+-- ---- mounts
+
+-- a lost mount is back, and then all is published, or not
+pub ready_still : (a b c : Held) → IsReady a b → Keeps b c → IsReady a c
+ready_still a b c begun more = record {
+  backs = begun.backs;
+  goes = goes_still a b c (given_back a.lost) (all_answered begun.backs) begun.goes more.0;
+  lost = more.1 ∙ begun.lost;
+}
+
+pub clear : (a b c : Held) → IsReady a b → Keeps b c → c.published ≡ c.history → IsClear a c
+clear a b c begun more all = record { ready = ready_still a b c begun more; settled = all }
+
+-- nothing is lost before the mount's own commit is published
+pub none_lost : (a c d : Held) (k : ℕ) → IsClear a c → (r : MountReply) → MountGoes c k r d → d.lost ≡ None
+none_lost a c d k all (Ok m) here = here.1 ∙ all.ready.lost
+none_lost a c d k all (Err e) here = here.1 ∙ all.ready.lost
+
+pub mount_done : (a c d : Held) (k : ℕ) → IsClear a c → (n : ℕ) (r : MountReply) (f : Held) → GoesBy c (Mount k) (mount_reply n) d
+    → Finished d n r f → MountRan a k r f
+mount_done a c d k all n (Ok m) f here end =
+    Mounted c n all (goes_still c d f (Mount k ∷ []) (mount_reply n ∷ []) here.0 end.1) (ap (λ (x : ℕ). Ok x) end.0) end.2 end.3
+mount_done a c d k all n (Err e) f here end =
+    Lost c n all (goes_still c d f (Mount k ∷ []) (mount_reply n ∷ []) here.0 end.1) (ap (λ (x : VolError). Err x) end.0) end.2
+
+-- a mount's step adds the commit of the mount that it answers
+mount_noted : (a b : State) (k m : ℕ) → NotedStep a (Mount k) (mount_reply m) b
+    → b.1 ≡ a.1 ++ commit.Mounted (record { number = m; checkpoint = k }) ∷ []
+mount_noted a b k m step = step.behind ∙ ap (λ l. a.1 ++ l) step.noted.commits
+
+-- what a mount that isn't refused leaves
+pub record HasMounted (b : Held) (k n : ℕ) : Type 0 where
+  pub all : b.published ≡ b.history
+  pub ends : EndsWith b.published (commit.Mounted (record { number = n; checkpoint = k }))
+
+pub has_mounted : (a b : Held) (k n : ℕ) (r : MountReply) → r ≡ Ok n → MountRan a k r b → HasMounted b k n
+has_mounted a b k n r is (Mounted clear m begun goes reply all none) =
+    let same : m ≡ n = cc (is, reply) in
+    let behind : b.history ≡ clear.history ++ commit.Mounted (record { number = m; checkpoint = k }) ∷ [] =
+    ap (λ (s : State). s.1) goes.runs.2 ∙ mount_noted (state_of clear) goes.runs.0 k m goes.runs.1 in
+    record {
+      all = all;
+      ends = (clear.history, all ∙ (behind ∙ ap (λ (j : ℕ). clear.history ++ commit.Mounted (record { number = j; checkpoint = k }) ∷ []) same));
+    }
+has_mounted a b k n r is (Lost clear m begun goes reply lost) = absurd (cc (is, reply))
+has_mounted a b k n r is (Refused clear e begun goes reply) = absurd (cc (is, reply))
+has_mounted a b k n r is (Pending ready apart reply) = absurd (cc (is, reply))
+has_mounted a b k n r is (Stuck stuck reply) = absurd (cc (is, reply))
+
+-- a mount that is not refused answers a mount
+pub is_mount_reply : (a b : Held) (k : ℕ) (r : Reply) → IsPen a.layout → GoesBy a (Mount k) r b → IsMountReply r
+is_mount_reply a b k (Ok x) pen goes =
+    (a.layout.lists.given + 1, answers-mount shared a.layout goes.0.runs.0.0 k x pen goes.0.runs.1.does)
+is_mount_reply a b k (Err e) pen goes = tt
+
+pub mount_goes : (a b : Held) (k : ℕ) (reply : Reply) (r : MountReply) → GoesBy a (Mount k) reply b
+    → MatchResult r (λ m. reply ≡ mount_reply m) (λ e. reply ≡ Err e) → MountGoes a k r b
+mount_goes a b k reply (Ok m) goes is = subst (λ (q : Reply). GoesBy a (Mount k) q b) is goes
+mount_goes a b k reply (Err e) goes is = subst (λ (q : Reply). GoesBy a (Mount k) q b) is goes
+
+-- ---- worlds
+
+layouts_run : (a b : State) (es : List Event) (rs : List Reply) → Run NotedStep a es rs b → Run (Does shared) a.0 es rs b.0
+layouts_run a b [] [] run = ap (λ (s : State). s.0) run
+layouts_run a b (e ∷ es) (r ∷ rs) run = (run.0.0, run.1.does, layouts_run run.0 b es rs run.2)
+layouts_run a b [] (r ∷ rs) run = absurd run
+layouts_run a b (e ∷ es) [] run = absurd run
+
+pub locked_runs_lead_on : LockedRunsLeadOn
+locked_runs_lead_on old new events replies goes =
+    runs_lead_on shared old.layout new.layout events replies (layouts_run (state_of old) (state_of new) events replies goes.runs)

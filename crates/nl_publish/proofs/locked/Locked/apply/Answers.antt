@@ -1,0 +1,11 @@
+use Rattle.std.proofs.Common.{ap, Err}
+use Rattle.nl_types.specs.declared.error.VolError.{VolError}
+use Rattle.nl_publish.specs.Locks.{NotBegun}
+use Rattle.nl_publish.proofs.Running.{ran}
+use Rattle.nl_publish.proofs.locked.Locked.apply.Goals as goal
+
+pub returns-in-Err : goal.returns-in-Err
+returns-in-Err g c = NotBegun c.in-Err.ensures.1 (ap (λ (e : VolError). Err e) c.in-Err.ensures.0)
+
+pub returns : goal.returns
+returns g c = ran c.args.self.now c.begin.new.self c.run-reply.new.self c.settle.new.self c.args.event.now c.run-reply.result c.in_default.ensures c.run-reply.ensures c.settle.ensures.sent

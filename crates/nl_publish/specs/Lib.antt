@@ -1,0 +1,9 @@
+pub mod Histories
+pub mod Rules
+pub mod Images
+pub mod Seats
+pub mod Locks
+pub mod Begun
+pub mod Cleaning
+pub mod Mounts
+pub mod Told

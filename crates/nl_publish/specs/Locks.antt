@@ -1,0 +1,159 @@
+-- What lies under the lock: a pen, the history of its commits, and how much of that is published.
+use Rattle.std.specs.Prelude.{ℕ, ◌≡◌, ◌≢◌, ◌++◌, List, [], ◌∷◌, fold, map, Option, Some, None, Result, Ok, Err}
+use mathlib.Core.List.{IsPrefix}
+use Rattle.logbook.specs.Pages.{Book}
+use Rattle.nl_types.specs.declared.error.VolError.{VolError}
+use Rattle.nl_types.specs.declared.error.VolError.TheVariants.{Memory}
+use Rattle.nl_types.specs.declared.event.Event.{Event}
+use Rattle.nl_types.specs.declared.event.Event.TheVariants.{Mount, Unmount}
+use Rattle.nl_types.specs.declared.reply.Answer.{Answer}
+use Rattle.nl_types.specs.declared.reply.Answer.TheVariants as answer
+use Rattle.nl_types.specs.Runs.{Run}
+use Rattle.nl_types.specs.Worlds.{Reply}
+use Rattle.nl_core.specs.Commits.{IsHistory, image_of}
+use Rattle.nl_core.specs.Layout.{Layout}
+use Rattle.nl_core.specs.Notes.{DoesNoting, shown_of}
+use Rattle.nl_core.specs.Shown.{Shown}
+use Rattle.nl_core.specs.declared.commit.Commit.{Commit}
+use Rattle.nl_publish.specs.declared.image.Image.{Image}
+use Rattle.nl_publish.specs.declared.image.Entry.{Entry}
+use Rattle.nl_publish.specs.Histories.{Known}
+use Rattle.nl_publish.specs.Images.{IsWhole, AreNext, absorbed}
+
+-- the history that is published, the whole history with what is pending, the mount whose commit could not
+-- be published, and the pen
+pub record Held : Type 0 where
+  pub volume : ℕ
+  pub published : List Commit
+  pub history : List Commit
+  pub lost : Option ℕ
+  pub layout : Layout
+
+abbrev pub listed : {A : Type 0} → Option A → List A
+listed None = []
+listed (Some x) = x ∷ []
+
+-- What readers see of the pen is what the published and then the pending commits make. `noted` ends the
+-- entries that readers don't see yet.
+pub record IsHeld (book : ℕ → Book) (log : ℕ) (image : Image) (entries : List Entry) (noted : Known)
+    (waiting : List Commit) (shown : Shown) : Type 0 where
+  pub volume : log ≡ noted.volume
+  pub book_is : image.seen.book ≡ book log
+  pub whole : IsWhole image
+  pub next : AreNext image entries
+  pub last : noted.commits ≡ (fold absorbed image entries).seen.log
+  pub history : IsHistory (noted.commits ++ waiting)
+  pub shown_is : shown ≡ image_of (noted.commits ++ waiting)
+
+-- what is true of whatever lies under a lock: the equation, and how much of the history is published
+pub record IsTold (h : Held) : Type 0 where
+  pub history : IsHistory h.history
+  pub shown : shown_of h.layout ≡ image_of h.history
+  pub published : IsPrefix h.published h.history
+
+-- ---- events, with the history that they make
+
+abbrev pub State : Type 0
+State = Layout × List Commit
+
+-- the event is done to a pen that readers share, and the history grows by just its commits
+abbrev pub NotedStep : State → Event → Reply → State → Type 0
+NotedStep old event reply new = DoesNoting old.0 event reply new.0 old.1 new.1
+
+abbrev pub state_of : Held → State
+state_of h = (h.layout, h.history)
+
+-- these events ran, the history grew by their commits, and no less of it is published
+pub record Goes (old : Held) (events : List Event) (replies : List Reply) (new : Held) : Type 0 where
+  pub volume : new.volume ≡ old.volume
+  pub runs : Run NotedStep (state_of old) events replies (state_of new)
+  pub later : IsPrefix old.published new.published
+
+-- nothing ran, and the same mount is lost
+abbrev pub Keeps : Held → Held → Type 0
+Keeps old new = Goes old [] [] new × (new.lost ≡ old.lost)
+
+-- one event ran
+abbrev pub GoesBy : Held → Event → Reply → Held → Type 0
+GoesBy old event reply new = Goes old (event ∷ []) (reply ∷ []) new × (new.lost ≡ old.lost)
+
+-- ---- a mount that was lost
+
+abbrev pub given_back : Option ℕ → List Event
+given_back None = []
+given_back (Some m) = Unmount m ∷ []
+
+-- the replies to events that are all done
+abbrev pub answered : Answer → Reply
+answered a = Ok a
+
+abbrev pub all_answered : List Answer → List Reply
+all_answered answers = map answered answers
+
+-- the lost mount is back
+pub record IsReady (old new : Held) : Type 0 where
+  pub backs : List Answer
+  pub goes : Goes old (given_back old.lost) (all_answered backs) new
+  pub lost : new.lost ≡ None
+
+-- the give-back was refused, and nothing else ran
+pub record IsStuck (old new : Held) : Type 0 where
+  pub number : ℕ
+  pub error : VolError
+  pub was : old.lost ≡ Some number
+  pub goes : GoesBy old (Unmount number) (Err error) new
+
+-- what comes before a call's own event
+abbrev pub Begins : Held → Result (Unit {0}) VolError → Held → Type 0
+Begins old (Ok u) new = IsReady old new
+Begins old (Err e) new = (e ≡ Memory) × IsStuck old new
+
+-- ---- calls
+
+-- a lost mount is given back, and then the event runs; or the give-back is refused, and nothing else runs
+pub data Ran (old : Held) (event : Event) (reply : Reply) (new : Held) : Type 0 where
+  Done : (backs : List Answer) → Goes old (given_back old.lost ++ event ∷ []) (all_answered backs ++ reply ∷ []) new
+      → new.lost ≡ None → Ran old event reply new
+  NotBegun : IsStuck old new → reply ≡ Err Memory → Ran old event reply new
+
+-- a mount's number, or why there is none
+abbrev pub MountReply : Type 0
+MountReply = Result ℕ VolError
+
+abbrev pub mount_reply : ℕ → Reply
+mount_reply m = Ok (answer.Mount m)
+
+-- an event that mounts is answered by a mount, where it isn't refused
+abbrev pub IsMountReply : Reply → Type 0
+IsMountReply (Ok a) = (m : ℕ) × (a ≡ answer.Mount m)
+IsMountReply (Err e) = Unit {0}
+
+-- a checkpoint was mounted in the pen alone, or that was refused
+abbrev pub MountGoes : Held → ℕ → MountReply → Held → Type 0
+MountGoes old n (Ok m) new = GoesBy old (Mount n) (mount_reply m) new
+MountGoes old n (Err e) new = GoesBy old (Mount n) (Err e) new
+
+-- a mount's commit is published, or its number is kept to be given back
+abbrev pub Finished : Held → ℕ → MountReply → Held → Type 0
+Finished old n (Ok m) new = (m ≡ n) × Goes old [] [] new × (new.published ≡ new.history) × (new.lost ≡ None)
+Finished old n (Err e) new = (e ≡ Memory) × Goes old [] [] new × (new.lost ≡ Some n)
+
+-- before a mount: a lost mount is back, and nothing is pending
+pub record IsClear (old new : Held) : Type 0 where
+  pub ready : IsReady old new
+  pub settled : new.published ≡ new.history
+
+-- What `mount` does: all is published, with the mount's own commit; or the mount was made, and its commit
+-- was not published; or the mount was refused; or something is pending still; or the give-back was refused
+pub data MountRan (old : Held) (checkpoint : ℕ) (reply : MountReply) (new : Held) : Type 0 where
+  Mounted : (clear : Held) (n : ℕ) → IsClear old clear
+      → Goes clear (Mount checkpoint ∷ []) (mount_reply n ∷ []) new → reply ≡ Ok n
+      → new.published ≡ new.history → new.lost ≡ None → MountRan old checkpoint reply new
+  Lost : (clear : Held) (n : ℕ) → IsClear old clear
+      → Goes clear (Mount checkpoint ∷ []) (mount_reply n ∷ []) new → reply ≡ Err Memory
+      → new.lost ≡ Some n → MountRan old checkpoint reply new
+  Refused : (clear : Held) (e : VolError) → IsClear old clear → GoesBy clear (Mount checkpoint) (Err e) new
+      → reply ≡ Err e → MountRan old checkpoint reply new
+  Pending : IsReady old new → new.published ≢ new.history → reply ≡ Err Memory
+      → MountRan old checkpoint reply new
+  Stuck : IsStuck old new → reply ≡ Err Memory → MountRan old checkpoint reply new

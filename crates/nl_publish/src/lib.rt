@@ -1,0 +1,23 @@
+//! The published states of a shared volume: one legal history of commits, and what lies under the lock, the writer's pen with
+//! the commits that wait. Readers enter an image of what is published.
+#![tactic(auto)]
+
+mod cleaning;
+mod history;
+mod image;
+pub mod laws;
+mod locked;
+mod mount;
+mod opening;
+mod pen;
+mod press;
+mod tables;
+
+pub use history::{Front, Opened, Record, Volumes};
+pub use image::{Entry, Image, Keeps, Name, Sees};
+pub use locked::Locked;
+pub use mount::Mount;
+pub use opening::{Seat, publish};
+pub use pen::NotingPen;
+pub use press::{ImageReader, Press, Publisher};
+pub use tables::{ApplyError, Tables};

@@ -1,0 +1,397 @@
+//! What lies under the lock: the pen, and what is published of it.
+ghost use Rattle.std.specs.Prelude.{◌≡◌, ◌≢◌, ◌++◌, ◌∷◌, [], None, Ok, Err, IfOk, MatchBool, MatchResult};
+ghost use Rattle.nl_types.specs.declared.event.Event.TheVariants as event;
+ghost use Rattle.nl_types.specs.declared.reply.Answer.{Answer};
+ghost use Rattle.nl_types.specs.Worlds.{World};
+ghost use Rattle.nl_core.specs.Commits.{image_of};
+ghost use Rattle.nl_core.specs.Layout.{IsPen, MeansWorld, layout_of};
+ghost use Rattle.nl_core.specs.Notes.{shown_of};
+ghost use Rattle.nl_core.specs.Volume.{without_mounts};
+ghost use Rattle.nl_publish.specs.Images.{IsPublished};
+ghost use Rattle.nl_publish.specs.Locks.{Begins, Finished, GoesBy, IsMountReply, IsTold, Keeps, MountGoes, MountRan, Ran};
+ghost use Rattle.nl_publish.specs.Locks.{mount_reply};
+ghost use Rattle.nl_publish.specs.Told.{ShowsCopy};
+
+use crate::history::{Front, Record, Volumes};
+use crate::image::Entry;
+use crate::mount::Mount;
+use crate::pen::NotingPen;
+use crate::press::{Press, Publisher};
+use nl_core::Commit;
+use nl_types::{Answer, CheckpointNumber, Event, MountNumber, Reply, VolError};
+use std::alloc::Global;
+use std::marker::Model;
+use std::sync::Wait;
+
+/// The pen of a shared volume, and what of its commits is published. Contracts see the pen, the history of its commits, and
+/// how much of that is published; the type keeps that what readers see of the pen is what all of the history makes.
+pub struct Locked<P: NotingPen, J: Volumes, W: Press> {
+    pen: P,
+    log: Record<J>,
+    /// The history that ends with what was handed to the writer, and with `unsent`.
+    noted: Front<J>,
+    /// An entry that the writer had no memory for.
+    unsent: Option<Entry>,
+    /// The commits behind `noted`.
+    waiting: Vec<Commit>,
+    /// A mount whose commit could not be published.
+    lost: Option<MountNumber>,
+    writer: W,
+}
+
+impl<P: NotingPen, J: Volumes, W: Press> Model for Locked<P, J, W> {
+    ghost use Rattle.std.specs.Prelude.{◌++◌};
+    ghost use Rattle.nl_core.specs.Notes.{shown_of};
+    ghost use Rattle.nl_publish.specs.Locks.{Held, IsHeld, listed};
+
+    ghost Value = { Held };
+
+    ghost view = { λ l. record {
+      volume = l.noted.volume;
+      published = (W.shown l.writer).seen.log;
+      history = l.noted.commits ++ l.waiting.items;
+      lost = l.lost;
+      layout = P.layout l.pen;
+    } };
+
+    ghost invariant = { λ l. IsHeld J.book l.log.volume (W.shown l.writer) (W.unseen l.writer ++ listed l.unsent)
+        l.noted l.waiting.items (shown_of (P.layout l.pen)) };
+}
+
+/// The mount that is answered to an event that mounts.
+fn mount_number(reply: &Reply) -> Result<MountNumber, VolError>
+    requires { IsMountReply reply.now }
+    ensures { MatchResult result (λ m. reply.now ≡ mount_reply m) (λ e. reply.now ≡ Err e) }
+{
+    match reply {
+        Ok(Answer::Mount(number)) => Ok(*number),
+        Ok(_) => unreachable!(),
+        Err(refusal) => Err(*refusal),
+    }
+}
+
+// ---- publication
+
+impl<P: NotingPen, J: Volumes, W: Press> Locked<P, J, W> {
+    /// Hands the entry that is left to the writer, and says whether none is left.
+    fn send(&mut self) -> bool
+        ensures { Keeps self.old self.new }
+    {
+        let Some(entry) = self.unsent.take() else {
+            return true;
+        };
+        match self.writer.push(entry) {
+            Ok(()) => true,
+            Err(entry) => {
+                self.unsent = Some(entry);
+                false
+            }
+        }
+    }
+
+    /// Notes the first commit that waits, where no entry is left, and says whether it did.
+    fn note(&mut self) -> bool
+        ensures { Keeps self.old self.new }
+    {
+        if self.unsent.is_some() || self.waiting.as_slice().is_empty() {
+            return false;
+        }
+        let mut noted = self.noted.again();
+        if !noted.add(&self.log, &self.waiting[0]) {
+            return false;
+        }
+        let commit = self.waiting.remove(0);
+        self.unsent = Some(Entry {
+            commit,
+            count: noted.len(),
+            seen: noted.token(),
+        });
+        self.noted = noted;
+        true
+    }
+
+    /// Shows readers all that was handed to the writer, where there is memory.
+    fn show<R: Wait>(&mut self, rt: &R)
+        ensures { Keeps self.old self.new }
+    {
+        self.writer.show(rt);
+    }
+
+    /// Whether nothing is pending.
+    fn is_settled(&self) -> bool
+        ensures { MatchBool result (self.now.published ≡ self.now.history)
+            (self.now.published ≢ self.now.history) }
+    {
+        if !self.waiting.as_slice().is_empty() {
+            return false;
+        }
+        self.writer.image().count == self.noted.len()
+    }
+
+    /// Hands all that waits to the writer, and says whether it did.
+    fn hand_over(&mut self) -> bool
+        ensures { Keeps self.old self.new }
+    {
+        if !self.send() {
+            return false;
+        }
+        for _ in 0..self.waiting.len() {
+            if !self.note() || !self.send() {
+                return false;
+            }
+        }
+        true
+    }
+
+    /// Publishes what is pending, as far as there is memory. It waits for readers only where something is pending.
+    fn publish<R: Wait>(&mut self, rt: &R)
+        ensures { Keeps self.old self.new }
+    {
+        if self.is_settled() {
+            return;
+        }
+        if self.hand_over() {
+            self.show(rt);
+        }
+    }
+
+    /// Publishes what is pending, and says whether nothing is pending any more.
+    pub(crate) fn settle<R: Wait>(&mut self, rt: &R) -> bool
+        ensures sent { Keeps self.old self.new }
+        ensures settled { MatchBool result (self.new.published ≡ self.new.history)
+            (self.new.published ≢ self.new.history) }
+    {
+        self.publish(rt);
+        self.is_settled()
+    }
+}
+
+// ---- events
+
+impl<P: NotingPen, J: Volumes, W: Press> Locked<P, J, W> {
+    /// Every pen means a world, and is sound. This says so to its callers, and does nothing.
+    pub fn means_a_world(&self)
+        ensures { IsPen self.now.layout }
+    {
+        self.pen.means_a_world();
+    }
+
+    /// What readers see of the pen is what its history makes, of which a beginning is published. This says so to its callers,
+    /// and does nothing.
+    pub fn is_told(&self)
+        ensures { IsTold self.now }
+    {
+        let _ = &self.noted;
+    }
+
+    /// Applies an event to the pen alone.
+    pub(crate) fn run(&mut self, event: &Event) -> Reply
+        ensures { GoesBy self.old event.now result self.new }
+    {
+        self.pen.apply_noting(event, &mut self.waiting)
+    }
+
+    /// Mounts a checkpoint in the pen alone.
+    fn run_mount(&mut self, checkpoint: CheckpointNumber) -> Result<MountNumber, VolError>
+        ensures { MountGoes self.old checkpoint result self.new }
+    {
+        self.means_a_world();
+        let reply = self.run(&Event::Mount(checkpoint));
+        mount_number(&reply)
+    }
+
+    /// Gives back the mount whose commit could not be published. Refused by `Memory` alone.
+    fn give_back(&mut self) -> Result<(), VolError>
+        ensures { Begins self.old result self.new }
+    {
+        match self.lost {
+            None => Ok(()),
+            Some(number) => match self.run(&Event::Unmount(number)) {
+                Ok(_) => {
+                    self.lost = None;
+                    Ok(())
+                }
+                Err(_) => Err(VolError::Memory),
+            },
+        }
+    }
+
+    /// Publishes what is pending, and gives back a mount that was lost. Refused by `Memory` alone, where the give-back is.
+    pub(crate) fn begin<R: Wait>(&mut self, rt: &R) -> Result<(), VolError>
+        ensures { Begins self.old result self.new }
+    {
+        self.settle(rt);
+        self.give_back()
+    }
+
+    /// Applies an event. It stands where its commit can't be published for want of memory, and the commit stays pending: each
+    /// later call publishes first. Mounts have calls of their own.
+    pub fn apply<R: Wait>(&mut self, rt: &R, event: &Event) -> Reply
+        ensures { Ran self.old event.now result self.new }
+    {
+        if let Err(refusal) = self.begin(rt) {
+            return Err(refusal);
+        }
+        let reply = self.run(event);
+        self.settle(rt);
+        reply
+    }
+
+    /// The pen, to be asked.
+    pub fn pen(&self) -> &P
+        ensures { P.layout result.now ≡ self.now.layout }
+    {
+        &self.pen
+    }
+
+    /// The volume's id.
+    pub fn volume(&self) -> u64
+        ensures { result ≡ self.now.volume }
+    {
+        self.noted.volume()
+    }
+}
+
+// ---- mounts
+
+impl<P: NotingPen, J: Volumes, W: Press> Locked<P, J, W> {
+    /// Mounts a checkpoint, and answers the mount's number once its commit is published.
+    fn publish_mount<R: Wait>(
+        &mut self,
+        rt: &R,
+        checkpoint: CheckpointNumber,
+    ) -> Result<MountNumber, VolError>
+        ensures { MountRan self.old checkpoint result self.new }
+    {
+        if let Err(refusal) = self.begin(rt) {
+            return Err(refusal);
+        }
+        if !self.settle(rt) {
+            return Err(VolError::Memory);
+        }
+        match self.run_mount(checkpoint) {
+            Err(refusal) => Err(refusal),
+            Ok(number) => self.finish_mount(rt, number),
+        }
+    }
+
+    /// Publishes a mount's commit, or keeps its number to be given back.
+    fn finish_mount<R: Wait>(
+        &mut self,
+        rt: &R,
+        number: MountNumber,
+    ) -> Result<MountNumber, VolError>
+        requires { self.old.lost ≡ None }
+        ensures { Finished self.old number result self.new }
+    {
+        if self.settle(rt) {
+            return Ok(number);
+        }
+        self.lost = Some(number);
+        Err(VolError::Memory)
+    }
+
+    /// What is published.
+    pub fn told(&self) -> Front<J>
+        ensures { result ≡ record { volume = self.now.volume; commits = self.now.published } }
+    {
+        Front::of(self.writer.image(), self.noted.volume())
+    }
+
+    /// Mounts a checkpoint. The mount is told of the history that ends with its own commit, all of which is published. Refused
+    /// by `Memory` while something is pending, and where its own commit can't be published: the next call gives that mount back.
+    pub fn mount<R: Wait>(
+        &mut self,
+        rt: &R,
+        checkpoint: CheckpointNumber,
+    ) -> Result<Mount<J>, VolError>
+        ensures ran { MatchResult result (λ m. MountRan self.old checkpoint (Ok m.number) self.new)
+            (λ e. MountRan self.old checkpoint (Err e) self.new) }
+        ensures checkpoint { IfOk result (λ m. m.checkpoint ≡ checkpoint) }
+        ensures told { IfOk result (λ m.
+            m.told ≡ record { volume = self.new.volume; commits = self.new.published }) }
+        ensures copy { IfOk result (λ m. (w : World) → MeansWorld self.new.layout w
+            → ShowsCopy (image_of m.told.commits) m.checkpoint w) }
+    {
+        match self.publish_mount(rt, checkpoint) {
+            Err(refusal) => Err(refusal),
+            Ok(number) => {
+                self.is_told();
+                Ok(Mount::new(number, checkpoint, self.told()))
+            }
+        }
+    }
+
+    /// Gives a mount back. Refused, it comes back.
+    pub fn unmount<R: Wait>(&mut self, rt: &R, mount: Mount<J>) -> Result<(), (VolError, Mount<J>)>
+        ensures ran { MatchResult result
+            (λ _. (answer : Answer) × Ran self.old (event.Unmount mount.number) (Ok answer) self.new)
+            (λ r. Ran self.old (event.Unmount mount.number) (Err r.0) self.new) }
+        ensures same { MatchResult result (λ _. Unit {0}) (λ r. r.1 ≡ mount) }
+    {
+        match self.apply(rt, &Event::Unmount(mount.number())) {
+            Ok(_) => {
+                mount.spend();
+                Ok(())
+            }
+            Err(refusal) => Err((refusal, mount)),
+        }
+    }
+}
+
+// ---- beginning and end
+
+impl<P: NotingPen, J: Volumes, W: Press> Locked<P, J, W> {
+    /// A pen all of which the writer shows readers by the first commit. `new` makes a writer, and a seat for each reader.
+    pub fn begun(alloc: Global, pen: P, log: Record<J>, front: Front<J>, writer: W) -> Self
+        requires volume { log.volume ≡ front.volume }
+        requires pen { shown_of (P.layout pen) ≡ image_of front.commits }
+        requires published { IsPublished front (W.shown writer) (W.unseen writer) }
+        requires book { (W.shown writer).seen.book ≡ J.book front.volume }
+        ensures { result ≡ record {
+          volume = front.volume;
+          published = front.commits;
+          history = front.commits;
+          lost = None;
+          layout = P.layout pen;
+        } }
+    {
+        Locked {
+            pen,
+            log,
+            noted: front,
+            unsent: None,
+            waiting: Vec::new(alloc),
+            lost: None,
+            writer,
+        }
+    }
+
+    /// The pen, from which all mounts are taken out, and the writer. It takes no memory.
+    pub fn take_apart(self) -> (P, W)
+        ensures { P.layout result.0 ≡ layout_of (without_mounts self.layout.lists) self.layout.store }
+    {
+        let Locked {
+            mut pen,
+            log: _log,
+            noted: _noted,
+            unsent: _unsent,
+            waiting: _waiting,
+            lost: _,
+            writer,
+        } = self;
+        pen.give_all_back();
+        (pen, writer)
+    }
+}
+
+impl<P: NotingPen, J: Volumes> Locked<P, J, Publisher> {
+    /// Takes all mounts out, and gives the pen back. Readers find nothing from now on. It takes no memory.
+    pub fn end<R: Wait>(self, rt: &R) -> P
+        ensures { P.layout result ≡ layout_of (without_mounts self.layout.lists) self.layout.store }
+    {
+        let (pen, writer) = self.take_apart();
+        writer.end(rt);
+        pen
+    }
+}

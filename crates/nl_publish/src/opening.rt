@@ -1,0 +1,107 @@
+//! How a shared volume begins: all that readers see of its pen is published, and each reader has a seat.
+ghost use Rattle.std.specs.Prelude.{◌≡◌, ◌<◌, ◌^◌, ◌∷◌, [], drop, length, IfErr, IfOk};
+ghost use Rattle.nl_core.specs.Commits.{image_of};
+ghost use Rattle.nl_publish.specs.Begun.{HasBegun};
+ghost use Rattle.nl_publish.specs.Images.{IsPublished, name_of};
+ghost use Rattle.nl_core.specs.Shown.{MountsRise};
+ghost use Rattle.nl_publish.specs.Seats.{known_to};
+
+use crate::history::{Front, Opened, Volumes};
+use crate::image::Image;
+use crate::locked::Locked;
+use crate::pen::NotingPen;
+use crate::press::{ImageReader, Named, Press, Publisher, open};
+use nl_core::Commit;
+use nl_types::VolError;
+use std::alloc::{AllocError, Global};
+use std::sync::Wait;
+
+/// A reader's seat, and what it has seen of the volume's history, whose book the reader knows.
+#[derive(Drop)]
+pub struct Seat<J: Volumes> {
+    pub reader: ImageReader,
+    pub front: Front<J>,
+    pub ghost known: { known_to reader.place ≡ name_of (J.book front.volume) },
+}
+
+/// A seat for each reader.
+fn take_seats<J: Volumes>(
+    alloc: Global,
+    named: &mut Named,
+    front: &Front<J>,
+    readers: usize,
+) -> Result<Vec<Seat<J>>, AllocError>
+    requires { named.old.writer.desk.shown.value.seen.book ≡ J.book front.now.volume }
+    ensures count { IfOk result (λ seats. length seats.items ≡ readers) }
+    ensures shown { named.new.writer.desk.shown ≡ named.old.writer.desk.shown }
+    ensures unseen { drop named.new.writer.behind named.new.writer.log.items
+        ≡ drop named.old.writer.behind named.old.writer.log.items }
+{
+    let mut seats = Vec::with_capacity(alloc, readers)?;
+    for _ in 0..readers {
+        let reader = named.seat()?;
+        seats.push(Seat {
+            reader,
+            front: front.again(),
+        })?;
+    }
+    Ok(seats)
+}
+
+/// A writer that shows the first image, and a seat for each reader.
+pub fn publish<J: Volumes, R: Wait>(
+    alloc: Global,
+    rt: &R,
+    commit: &Commit,
+    front: &Front<J>,
+    readers: usize,
+) -> Result<(Publisher, Vec<Seat<J>>), AllocError>
+    requires first { front.now.commits ≡ commit.now ∷ [] }
+    requires mounts { MountsRise (image_of front.now.commits) }
+    requires readers { (0 < readers) × (readers < 2 ^ 32) }
+    ensures published { IfOk result (λ made. IsPublished front.now
+        (⟦<Publisher as Press>⟧.shown made.0) (⟦<Publisher as Press>⟧.unseen made.0)) }
+    ensures book { IfOk result (λ made.
+        (⟦<Publisher as Press>⟧.shown made.0).seen.book ≡ J.book front.now.volume) }
+    ensures seats { IfOk result (λ made. length made.1.items ≡ readers) }
+{
+    let first = Image::first(alloc, commit, front)?;
+    let second = first.again(alloc, commit)?;
+    let mut named = open(alloc, rt, first, second, readers)?;
+    let Ok(seats) = take_seats(alloc, &mut named, front, readers) else {
+        named.publisher().end(rt);
+        return Err(AllocError);
+    };
+    Ok((named.publisher(), seats))
+}
+
+impl<P: NotingPen, J: Volumes> Locked<P, J, Publisher> {
+    /// Publishes all that readers see of a pen as the first commit of the history that was opened, with a seat for each of so
+    /// many readers. Refused by `Memory` alone, which gives the pen back.
+    pub fn new<R: Wait>(
+        alloc: Global,
+        rt: &R,
+        pen: P,
+        opened: Opened,
+        readers: usize,
+    ) -> Result<(Self, Vec<Seat<J>>), (VolError, P)>
+        requires id { opened.seen.book ≡ J.book opened.id }
+        requires readers { (0 < readers) × (readers < 2 ^ 32) }
+        ensures begun { IfOk result (λ made. HasBegun opened.id (P.layout pen) made.0) }
+        ensures seats { IfOk result (λ made. length made.1.items ≡ readers) }
+        ensures refused { IfErr result (λ e. e.0 ≡ VolError.Memory) }
+        ensures pen { IfErr result (λ e. P.layout e.1 ≡ P.layout pen) }
+    {
+        let Ok(commit) = pen.whole() else {
+            return Err((VolError::Memory, pen));
+        };
+        let (record, mut front) = opened.named::<J>();
+        if !front.add(&record, &commit) {
+            return Err((VolError::Memory, pen));
+        }
+        let Ok((writer, seats)) = publish(alloc, rt, &commit, &front, readers) else {
+            return Err((VolError::Memory, pen));
+        };
+        Ok((Locked::begun(alloc, pen, record, front, writer), seats))
+    }
+}

@@ -1,0 +1,137 @@
+//! What publishes: entries wait until all of them are shown at once.
+ghost use Rattle.std.specs.Prelude.{◌≡◌, ◌<◌, ◌^◌, ◌++◌, ◌∷◌, [], List, fold, drop, IfOk, MatchBool, MatchResult};
+ghost use Rattle.left_right.specs.Sides.{view};
+ghost use Rattle.nl_publish.specs.Images.{AreNext, HasShown, IsWhole, name_of};
+
+use crate::image::{Entry, Image, Keeps, Name, Names, Notes, Sees};
+use core::mem::replace_with;
+use left_right::reader::Reader;
+use left_right::writer::Writer;
+use std::alloc::{AllocError, Global};
+use std::sync::Wait;
+
+/// What shows images to readers, one entry behind the other.
+pub trait Press {
+    ghost use Rattle.std.specs.Prelude.{List};
+    ghost use Rattle.nl_publish.specs.declared.image.Image.{Image};
+    ghost use Rattle.nl_publish.specs.declared.image.Entry.{Entry};
+
+    /// The image that readers see.
+    ghost shown: { Self → Image };
+
+    /// What they do not see yet.
+    ghost unseen: { Self → List Entry };
+
+    /// Puts an entry behind the others. It comes back where there is no memory.
+    fn push(&mut self, entry: Entry) -> Result<(), Entry>
+        ensures shown { shown self.new ≡ shown self.old }
+        ensures unseen { MatchResult result (λ _. unseen self.new ≡ unseen self.old ++ entry ∷ [])
+            (λ e. (e ≡ entry) × (unseen self.new ≡ unseen self.old)) };
+
+    /// Shows all of it and answers true, or nothing more for want of memory. It waits for readers.
+    fn show<R: Wait>(&mut self, rt: &R) -> bool
+        requires { AreNext (shown self.old) (unseen self.old) }
+        ensures { HasShown result (shown self.old) (unseen self.old) (shown self.new) (unseen self.new) };
+
+    /// The image that readers see.
+    fn image(&self) -> &Image
+        ensures { result.now ≡ shown self.now };
+}
+
+pub type ImageReader = Reader<Image, Name, Keeps>;
+
+type ImageWriter = Writer<Image, Entry, Name, Keeps>;
+
+fn show_all<R: Wait>(writer: ImageWriter, rt: &R) -> (ImageWriter, bool)
+    requires { AreNext writer.desk.shown.value (drop writer.behind writer.log.items) }
+    ensures { HasShown result.1 writer.desk.shown.value (drop writer.behind writer.log.items)
+        result.0.desk.shown.value (drop result.0.behind result.0.log.items) }
+{
+    let (writer, shown) = writer.publish_as::<Sees, R>(rt);
+    (writer, shown.is_ok())
+}
+
+/// The writer of two copies of the image, of which readers see one.
+pub struct Publisher {
+    writer: ImageWriter,
+}
+
+impl Press for Publisher {
+    ghost use Rattle.std.specs.Prelude.{drop};
+
+    ghost shown = { λ p. p.writer.desk.shown.value };
+
+    ghost unseen = { λ p. drop p.writer.behind p.writer.log.items };
+
+    fn push(&mut self, entry: Entry) -> Result<(), Entry> {
+        self.writer.append(entry)
+    }
+
+    fn show<R: Wait>(&mut self, rt: &R) -> bool {
+        replace_with(&mut self.writer, rt, |writer, rt| show_all(writer, rt))
+    }
+
+    fn image(&self) -> &Image {
+        self.writer.published()
+    }
+}
+
+impl Publisher {
+    /// Readers find nothing from now on.
+    pub fn end<R: Wait>(self, rt: &R) {
+        let Publisher { writer } = self;
+        writer.take(rt);
+    }
+}
+
+/// A writer that shows an image, and that knows its book.
+pub struct Named {
+    writer: ImageWriter,
+    pub ghost known: { view writer.desk.place ≡ name_of writer.desk.shown.value.seen.book },
+}
+
+/// A writer with places for so many readers, which learns by a first publication which book its image is of.
+pub fn open<R: Wait>(
+    alloc: Global,
+    rt: &R,
+    first: Image,
+    second: Image,
+    readers: usize,
+) -> Result<Named, AllocError>
+    requires readers { (0 < readers) × (readers < 2 ^ 32) }
+    requires alike { first ≡ second }
+    requires whole { IsWhole first }
+    ensures shown { IfOk result (λ n. n.writer.desk.shown.value ≡ first) }
+    ensures unseen { IfOk result (λ n. drop n.writer.behind n.writer.log.items ≡ []) }
+{
+    let writer: ImageWriter = Writer::new(alloc, first, second, readers)?;
+    let (writer, shown) = writer.publish_as::<Names, R>(rt);
+    if shown.is_err() {
+        writer.take(rt);
+        return Err(AllocError);
+    }
+    Ok(Named { writer })
+}
+
+impl Named {
+    /// A reader that knows the image's book.
+    pub fn seat(&mut self) -> Result<ImageReader, AllocError>
+        ensures told { IfOk result (λ r.
+            view r.place ≡ name_of self.old.writer.desk.shown.value.seen.book) }
+        ensures shown { self.new.writer.desk.shown ≡ self.old.writer.desk.shown }
+        ensures unseen { drop self.new.writer.behind self.new.writer.log.items
+            ≡ drop self.old.writer.behind self.old.writer.log.items }
+    {
+        let mut reader = self.writer.factory().reader()?;
+        reader.learn::<Notes>(self.writer.tell::<Notes>());
+        Ok(reader)
+    }
+
+    /// The writer alone, once the readers have their seats.
+    pub fn publisher(self) -> Publisher
+        ensures { result.writer ≡ self.writer }
+    {
+        let Named { writer } = self;
+        Publisher { writer }
+    }
+}
