@@ -12,6 +12,8 @@
 #[cfg(test)]
 mod beside;
 #[cfg(test)]
+mod calls;
+#[cfg(test)]
 mod checkpoints;
 #[cfg(test)]
 mod commits;
@@ -33,6 +35,8 @@ mod logs;
 mod numbers;
 #[cfg(test)]
 mod protection;
+#[cfg(test)]
+mod publications;
 #[cfg(test)]
 mod rounds;
 #[cfg(test)]

@@ -7,12 +7,12 @@ use nl_types::{Answer, Change, Event, Geometry, Items, Mode, Reply, VolError};
 use std::alloc::Global;
 use std::test::Fail;
 
-fn create(alloc: Global) -> Result<Event, VolError> {
+pub(crate) fn create(alloc: Global) -> Result<Event, VolError> {
     let path = Items::from_slice(alloc, b"/f")?;
     Ok(Event::Apply(Change::Create { path }))
 }
 
-fn write(alloc: Global, bytes: &[u8]) -> Result<Event, VolError> {
+pub(crate) fn write(alloc: Global, bytes: &[u8]) -> Result<Event, VolError> {
     let path = Items::from_slice(alloc, b"/f")?;
     let bytes = Items::from_slice(alloc, bytes)?;
     Ok(Event::Apply(Change::Write {
@@ -59,7 +59,7 @@ fn written_on_faulty(alloc: Global) -> Result<Pen<FaultyDevice>, VolError> {
 }
 
 /// No checkpoint is protected, and segments of which so many blocks are not needed are cleaned.
-fn config(least: u64) -> Config {
+pub(crate) fn config(least: u64) -> Config {
     Config {
         protection_period: 0,
         max_clean_segments: Amount::Count(16),
@@ -70,14 +70,14 @@ fn config(least: u64) -> Config {
 
 /// What a round came to.
 #[derive(Clone, Copy, Debug, PartialEq, Eq)]
-struct Sum {
+pub(crate) struct Sum {
     expired: usize,
     moved: u32,
     freed: u32,
     refusal: Option<VolError>,
 }
 
-fn unrefused(expired: usize, moved: u32, freed: u32) -> Sum {
+pub(crate) fn unrefused(expired: usize, moved: u32, freed: u32) -> Sum {
     Sum {
         expired,
         moved,
@@ -86,7 +86,7 @@ fn unrefused(expired: usize, moved: u32, freed: u32) -> Sum {
     }
 }
 
-fn with_reply(sum: Sum, reply: &Reply) -> Sum {
+pub(crate) fn with_reply(sum: Sum, reply: &Reply) -> Sum {
     match reply {
         Ok(Answer::Expired(numbers)) => Sum {
             expired: numbers.len(),
