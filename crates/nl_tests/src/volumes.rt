@@ -228,6 +228,12 @@ fn events_come_out_as_is_due(rt: HostRuntime) -> Result<(), Fail> {
     Ok(())
 }
 
+const ON_LIMITS: Tables = &[READS];
+
+pub(crate) fn on_limits() -> Tables {
+    ON_LIMITS
+}
+
 const LARGE_TABLES: Tables = &[READS, LARGE];
 
 fn large_tables() -> Tables {
@@ -245,7 +251,7 @@ fn large_files_and_volumes_have_limits(rt: HostRuntime) -> Result<(), Fail> {
 // ---- numbers
 
 /// Rows on a new volume of 16 segments of 8 blocks, what becomes of the numbers from 1 on, and how many segments stay clean.
-type Numbered = (&'static [Row<'static>], &'static [Entry], usize);
+pub(crate) type Numbered = (&'static [Row<'static>], &'static [Entry], usize);
 
 /// Block, start and end of a number, 0 where it has not ended.
 pub(crate) type Entry = (u32, u64, u64);
@@ -381,7 +387,7 @@ fn are_left_on_new(alloc: Global, numbered: &Numbered) -> Result<bool, VolError>
 
 const NUMBERED: &[Numbered] = &[UNCHANGED, FIRST_FILE, BYTES];
 
-fn numbered() -> &'static [Numbered] {
+pub(crate) fn numbered() -> &'static [Numbered] {
     NUMBERED
 }
 

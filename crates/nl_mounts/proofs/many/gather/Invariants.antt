@@ -1,0 +1,12 @@
+use Rattle.std.proofs.Common.{◌≡◌, length}
+use Rattle.nl_mounts.specs.Jobs.{AreAnswers, AreLanes, AreLater}
+use Rattle.nl_mounts.proofs.many.gather.Given as goal
+
+abbrev pub invariant-loop-index : goal.invariant-loop-index
+invariant-loop-index g l = record {
+  count : length l.lanes ≡ length l.fn.ports;
+  same : length l.ports ≡ length l.fn.ports;
+  later : AreLater l.fn.ports l.ports;
+  lanes : AreLanes l.mount l.jobs l.fn.ports l.lanes;
+  answers : AreAnswers l.mount l.jobs l.answers;
+}

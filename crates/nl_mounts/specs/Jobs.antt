@@ -1,0 +1,64 @@
+-- What many reads answer.
+use Rattle.std.specs.Prelude.{ℕ, ◌≡◌, ◌⊎◌, List, [], ◌∷◌, slice_get, Some, Result, Err}
+use Rattle.std.specs.List.{AllZip}
+use Rattle.nl_types.specs.declared.error.VolError.{VolError}
+use Rattle.nl_types.specs.declared.error.VolError.TheVariants.{BadMount, Memory}
+use Rattle.nl_types.specs.Trees.{Tree}
+use Rattle.nl_core.specs.Commits.{image_of}
+use Rattle.nl_publish.specs.Histories.{Known}
+use Rattle.nl_publish.specs.Mounts.{Claim}
+use Rattle.nl_publish.specs.Told.{TreeOn}
+use Rattle.nl_mounts.specs.declared.many.ReadJob.{ReadJob}
+use Rattle.nl_mounts.specs.Ports.{IsBytesOf, IsLater}
+
+abbrev pub JobAnswer : Type 0
+JobAnswer = Result (List ℕ) VolError
+
+-- the job is refused for its mount; or it gets what the tree says that the mount's checkpoint had when the mount was told,
+-- the bytes or a refusal; or it is refused for memory
+abbrev pub IsAnswerTo : Claim → ReadJob → JobAnswer → Type 0
+IsAnswerTo m job answer = (t : Tree) → TreeOn (image_of m.told.commits) m.checkpoint t
+    → (answer ≡ Err BadMount) ⊎ IsBytesOf t job.path job.offset job.len answer
+
+-- the answer to a job that no answer came to
+abbrev pub no_memory : ReadJob → JobAnswer
+no_memory job = Err Memory
+
+-- each job has its answer
+abbrev pub AreAnswers : Claim → List ReadJob → List JobAnswer → Type 0
+AreAnswers m jobs answers = AllZip (IsAnswerTo m) jobs answers
+
+-- each port is later
+abbrev pub AreLater : (old new : List Known) → Type 0
+AreLater old new = AllZip IsLater old new
+
+-- ---- lanes
+
+-- an answer, with the place of its job
+abbrev pub IsPlaced : Claim → List ReadJob → ℕ × JobAnswer → Type 0
+IsPlaced m jobs a = (job : ReadJob) → slice_get jobs a.0 ≡ Some job → IsAnswerTo m job a.1
+
+abbrev pub ArePlaced : Claim → List ReadJob → List (ℕ × JobAnswer) → Type 0
+ArePlaced m jobs [] = Unit {0}
+ArePlaced m jobs (a ∷ answers) = IsPlaced m jobs a × ArePlaced m jobs answers
+
+-- a port out of its place, and what it has answered
+pub record LaneView : Type 0 where
+  pub port : Known
+  pub answers : List (ℕ × JobAnswer)
+
+-- a lane that has not run
+abbrev pub idle : Known → LaneView
+idle port = record { port = port; answers = [] }
+
+-- a lane that began with a port, and has run
+pub record IsLaneOf (m : Claim) (jobs : List ReadJob) (port : Known) (lane : LaneView) : Type 0 where
+  pub later : IsLater port lane.port
+  pub answers : ArePlaced m jobs lane.answers
+
+abbrev pub HasRunBy : Claim → List ReadJob → (old new : LaneView) → Type 0
+HasRunBy m jobs old new = IsLaneOf m jobs old.port new
+
+-- lanes that began with ports, and have run
+abbrev pub AreLanes : Claim → List ReadJob → List Known → List LaneView → Type 0
+AreLanes m jobs ports lanes = AllZip (IsLaneOf m jobs) ports lanes

@@ -1,0 +1,10 @@
+//! Readers of a shared volume on other threads: ports, which read mounts without waiting, and the volume that they share.
+#![tactic(auto)]
+
+mod many;
+mod port;
+mod shared;
+
+pub use many::{Gate, JobAnswer, ReadJob, read_many};
+pub use port::Port;
+pub use shared::{Shared, share};

@@ -1,0 +1,161 @@
+//! A backup of a snapshot, taken by a port on a thread of its own while the writer goes on.
+ghost use Rattle.std.specs.Prelude.{◌≡◌};
+
+use nl_core::Pen;
+use nl_device::MemDevice;
+use nl_mounts::{Port, Shared, share};
+use nl_publish::{Mount, Opened, Volumes};
+use nl_types::{Change, CheckpointNumber, Event, Geometry, Items, Mode, VolError};
+use std::alloc::Global;
+use std::marker::Brand;
+use std::sync::Wait;
+use std::test::Fail;
+use std::thread::{Threads, join};
+
+type Volume<J> = Shared<Pen<MemDevice>, J>;
+
+/// A volume with the file `/notes`.
+fn pen_with_notes(alloc: Global) -> Result<Pen<MemDevice>, VolError> {
+    let geometry = Geometry::new(64, 64)?;
+    let mut pen = Pen::format(alloc, MemDevice::new(alloc, geometry)?, geometry, 0)?;
+    let path = Items::from_slice(alloc, b"/notes")?;
+    pen.apply(&Event::Apply(Change::Create { path }))?;
+    Ok(pen)
+}
+
+/// Writes a text into the file, with a checkpoint behind it.
+fn write<J: Volumes, R: Wait>(
+    rt: &R,
+    alloc: Global,
+    volume: &Volume<J>,
+    text: &[u8],
+    mode: Mode,
+) -> Result<(), VolError> {
+    let path = Items::from_slice(alloc, b"/notes")?;
+    let bytes = Items::from_slice(alloc, text)?;
+    // The reply is that of the event in one state of the volume. A refusal changes nothing.
+    volume.apply(
+        rt,
+        &Event::Apply(Change::Write {
+            path,
+            offset: 0,
+            bytes,
+        }),
+    )?;
+    volume.apply(rt, &Event::Checkpoint { mode, moment: 0 })?;
+    Ok(())
+}
+
+fn write_on<J: Volumes, R: Wait>(
+    rt: &R,
+    alloc: Global,
+    volume: &Volume<J>,
+) -> Result<(), VolError> {
+    for _ in 0..100 {
+        write(rt, alloc, volume, b"final", Mode::Plain)?;
+    }
+    Ok(())
+}
+
+/// The files of a mount's root, each with its bytes.
+fn back_up<J: Volumes>(
+    alloc: Global,
+    port: &mut Port<J>,
+    mount: &Mount<J>,
+) -> Result<Vec<Items<u8>>, VolError> {
+    let mut files = Vec::new(alloc);
+    // The names are those of the tree that the mount's checkpoint had when it was mounted.
+    let names = port.list(alloc, mount, b"/")?;
+    for named in names.as_slice() {
+        let mut path = b"/".to_vec(alloc)?;
+        path.extend_from_slice(named.name.as_slice())?;
+        // So are the bytes, whatever is written, removed and cleaned meanwhile. No call of a port waits for anyone.
+        files.push(port.read(alloc, mount, path.as_slice(), 0, u64::MAX)?)?;
+    }
+    Ok(files)
+}
+
+/// Backs a mount up while the file is written on.
+fn back_up_beside<J: Volumes + Send + Sync, R: Threads + Wait + Sync>(
+    rt: &R,
+    alloc: Global,
+    volume: &Volume<J>,
+    port: &mut Port<J>,
+    mount: &Mount<J>,
+) -> Result<Vec<Items<u8>>, VolError> {
+    let (files, written) = join(
+        rt,
+        || back_up(alloc, port, mount),
+        || write_on(rt, alloc, volume),
+    );
+    written.and(files)
+}
+
+/// Gives a mount back. Refused, it comes back: then the end of the volume takes it out.
+fn give_back<J: Volumes, R: Wait>(rt: &R, volume: &Volume<J>, mount: Mount<J>) {
+    match volume.unmount(rt, mount) {
+        Ok(()) => {}
+        Err((_refusal, mount)) => mount.spend(),
+    }
+}
+
+/// Makes a snapshot, and backs it up.
+fn back_up_snapshot<J: Volumes + Send + Sync, R: Threads + Wait + Sync>(
+    rt: &R,
+    alloc: Global,
+    volume: &Volume<J>,
+    port: &mut Port<J>,
+) -> Result<Vec<Items<u8>>, VolError> {
+    write(rt, alloc, volume, b"draft", Mode::Snapshot)?;
+    // The mount is of the checkpoint that is asked for, and the port has been told of it.
+    match volume.mount(rt, port, CheckpointNumber::new(2)) {
+        Err(refusal) => Err(refusal),
+        Ok(mount) => {
+            let files = back_up_beside(rt, alloc, volume, port, &mount);
+            give_back(rt, volume, mount);
+            files
+        }
+    }
+}
+
+/// A volume for one port. Refused, its pen would come back.
+fn shared<J: Volumes, R: Wait>(
+    rt: &R,
+    alloc: Global,
+    opened: Opened,
+) -> Result<(Volume<J>, Vec<Port<J>>), VolError>
+    requires { opened.seen.book ≡ J.book opened.id }
+{
+    match share::<_, J, _>(alloc, rt, pen_with_notes(alloc)?, 1, opened) {
+        Ok(made) => Ok(made),
+        Err((refusal, _pen)) => Err(refusal),
+    }
+}
+
+fn backed_up<J: Volumes + Send + Sync, R: Threads + Wait + Sync>(
+    rt: &R,
+    alloc: Global,
+    opened: Opened,
+) -> Result<Vec<Items<u8>>, VolError>
+    requires { opened.seen.book ≡ J.book opened.id }
+{
+    let (volume, mut ports) = shared::<J, _>(rt, alloc, opened)?;
+    let files = match ports.first_mut() {
+        Some(port) => back_up_snapshot(rt, alloc, &volume, port),
+        None => Err(VolError::BadRange),
+    };
+    // The pen is as it was under the lock, without mounts. Ports find nothing from now on.
+    let _pen = volume.end(rt, Vec::new(alloc));
+    files
+}
+
+#[test]
+fn backups_are_of_one_moment(rt: HostRuntime) -> Result<(), Fail> {
+    // Each shared volume of a program has an id of its own.
+    let files = backed_up::<Brand, _>(&rt, rt.alloc(), Opened::new(1))?;
+    assert_eq!(rt; files.len(), 1);
+    for file in &files {
+        assert!(rt; file.as_slice() == b"draft".as_slice());
+    }
+    Ok(())
+}
