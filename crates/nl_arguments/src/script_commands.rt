@@ -24,6 +24,7 @@ Commands of a script:
   fill PATH OFFSET BYTE COUNT  write COUNT bytes of one value, 0 to 255
   truncate PATH SIZE           give a file another size
   cat [-m M] PATH              print a file
+  catm M PATH..                print files of a mount's snapshot
   ls [-m M] PATH               print the names in a directory
   stat [-m M] PATH             print \"file SIZE\" or \"dir COUNT\"
 Words are parted by blanks, or stand between quotation marks. With -m M a command reads the

@@ -1,139 +1,136 @@
-//! Makes checkpoints of one changed block, by the pen's call for events alone or by the one for events beside readers: takes
-//! `apply` or `apply_noting`, and how many. For `bin/bench`.
+//! Does what `bin/bench` measures and no script can ask for: checkpoints by the pen's call for events alone or by the one for
+//! events beside readers, which print nothing, and reads of a mount, on a pen or by ports, which print their nanoseconds.
 #![tactic(auto)]
 
-use nl_core::{Commit, Pen};
-use nl_device::MemDevice;
-use nl_types::{Change, Event, Geometry, Items, Mode, Reply, VolError};
-use std::alloc::{AllocError, Global};
+ghost use Rattle.std.specs.Prelude.{◌≡◌};
+
+use crate::checkpoints::{Call, make_checkpoints};
+use crate::mounts::read_pen;
+use crate::ports::{Case, Task, measure};
+use nl_publish::{Opened, Volumes};
+use nl_types::VolError;
+use std::alloc::Global;
+use std::marker::Brand;
 use std::process::ExitCode;
+use std::sync::Wait;
+use std::thread::Threads;
+use std::time::{Clock, Duration};
 use std::{env, io};
 
-/// The pen's call that an event is done by.
+mod checkpoints;
+mod clock;
+mod mounts;
+mod ports;
+mod volume;
+
+/// What is asked for.
 #[derive(Clone, Copy)]
-enum Call {
-    Apply,
-    ApplyNoting,
+enum Asked {
+    Checkpoints(Call, u64),
+    ReadPen(u64),
+    Ports(Task),
 }
 
-/// What is asked for: the call, and how many checkpoints.
-#[derive(Drop)]
-struct Asked {
-    call: Call,
-    count: u64,
-}
-
-fn call_of(word: &str) -> Option<Call> {
+fn asked_of_pen(word: &str, count: &str) -> Option<Asked> {
+    let count = count.parse().ok()?;
     match word {
-        "apply" => Some(Call::Apply),
-        "apply_noting" => Some(Call::ApplyNoting),
+        "apply" => Some(Asked::Checkpoints(Call::Apply, count)),
+        "apply_noting" => Some(Asked::Checkpoints(Call::ApplyNoting, count)),
+        "read_pen" => Some(Asked::ReadPen(count)),
         _ => None,
     }
 }
 
-/// What the words behind the program's name ask for.
-fn read_words(words: &[String]) -> Option<Asked> {
-    let call = call_of(words.get(1)?.as_str())?;
-    let count = words.get(2)?.as_str().parse().ok()?;
-    Some(Asked { call, count })
-}
-
-/// An event on the pen. The commits of one beside readers are dropped.
-fn done(pen: &mut Pen<MemDevice>, call: Call, event: &Event, notes: &mut Vec<Commit>) -> Reply {
-    match call {
-        Call::Apply => pen.apply(event),
-        Call::ApplyNoting => {
-            let reply = pen.apply_noting(event, notes);
-            notes.clear();
-            reply
-        }
+fn case_of(word: &str) -> Option<Case> {
+    match word {
+        "read_ports" => Some(Case::Reads),
+        "read_ports_into_new" => Some(Case::ReadsIntoNew),
+        "read_ports_beside_writer" => Some(Case::ReadsBesideWriter),
+        "write_beside_ports" => Some(Case::CallsBesidePorts),
+        "checkpoint_beside_ports" => Some(Case::CheckpointsBesidePorts),
+        _ => None,
     }
 }
 
-fn path(alloc: Global) -> Result<Items<u8>, AllocError> {
-    let path = b"/file".as_slice().to_vec(alloc)?;
-    Ok(Items::from_vec(path))
-}
-
-fn creation(alloc: Global) -> Result<Event, AllocError> {
-    let path = path(alloc)?;
-    Ok(Event::Apply(Change::Create { path }))
-}
-
-/// A write of one byte.
-fn write_of(alloc: Global, byte: u8) -> Result<Event, AllocError> {
-    let path = path(alloc)?;
-    let mut bytes = Vec::new(alloc);
-    bytes.push(byte)?;
-    let bytes = Items::from_vec(bytes);
-    Ok(Event::Apply(Change::Write {
-        path,
-        offset: 0,
-        bytes,
+fn asked_of_ports(word: &str, ports: &str, bytes: &str, count: &str) -> Option<Asked> {
+    Some(Asked::Ports(Task {
+        case: case_of(word)?,
+        ports: ports.parse().ok()?,
+        bytes: bytes.parse().ok()?,
+        count: count.parse().ok()?,
     }))
 }
 
-/// A pen on a new volume.
-fn new_pen(alloc: Global) -> Result<Pen<MemDevice>, VolError> {
-    let geometry = Geometry::new(256, 64)?;
-    let device = MemDevice::new(alloc, geometry)?;
-    Pen::format(alloc, device, geometry, 0)
-}
-
-/// Overwrites the file's byte, and makes a checkpoint.
-fn change(
-    alloc: Global,
-    pen: &mut Pen<MemDevice>,
-    call: Call,
-    byte: u8,
-    notes: &mut Vec<Commit>,
-) -> Result<(), VolError> {
-    let write = write_of(alloc, byte)?;
-    let checkpoint = Event::Checkpoint {
-        mode: Mode::Plain,
-        moment: 0,
-    };
-    done(pen, call, &write, notes)?;
-    done(pen, call, &checkpoint, notes)?;
-    Ok(())
-}
-
-/// Makes a file, and so many changes of it.
-fn work_on(alloc: Global, pen: &mut Pen<MemDevice>, asked: &Asked) -> Result<(), VolError> {
-    let creation = creation(alloc)?;
-    pen.apply(&creation)?;
-    let mut notes = Vec::new(alloc);
-    for number in 0..asked.count {
-        change(alloc, pen, asked.call, (number % 256) as u8, &mut notes)?;
+/// What the words behind the program's name ask for.
+fn read_words(words: &[String]) -> Option<Asked> {
+    match words {
+        [_, word, count] => asked_of_pen(word.as_str(), count.as_str()),
+        [_, word, ports, bytes, count] => {
+            asked_of_ports(
+                word.as_str(),
+                ports.as_str(),
+                bytes.as_str(),
+                count.as_str(),
+            )
+        }
+        _ => None,
     }
-    Ok(())
 }
 
-// The pen is lent for the work, so that one exit alone drops it.
-fn work(alloc: Global, asked: &Asked) -> Result<(), VolError> {
-    let mut pen = new_pen(alloc)?;
-    work_on(alloc, &mut pen, asked)
-}
-
-/// Answers the exit status.
-fn run(rt: &HostRuntime) -> io::Result<u8> {
+fn read_arguments(rt: &HostRuntime) -> io::Result<Option<Asked>> {
     let words: Vec<String> = env::args(rt)?.collect(rt.alloc())?;
-    let Some(asked) = read_words(words.as_slice()) else {
-        let _ = eprintln!(rt; "usage: nl_bench apply|apply_noting COUNT");
-        return Ok(2);
-    };
-    match work(rt.alloc(), &asked) {
-        Ok(()) => Ok(0),
+    Ok(read_words(words.as_slice()))
+}
+
+/// Does what is asked for, and answers how long it took, where that is told.
+fn work<J: Volumes + Send + Sync, R: Threads + Wait + Clock + Sync>(
+    rt: &R,
+    alloc: Global,
+    opened: Opened,
+    asked: Asked,
+) -> Result<Option<Duration>, VolError>
+    requires { opened.seen.book ≡ J.book opened.id }
+{
+    match asked {
+        Asked::Checkpoints(call, count) => make_checkpoints(alloc, call, count).map(|()| None),
+        Asked::ReadPen(count) => read_pen(rt, alloc, count).map(Some),
+        Asked::Ports(task) => measure::<J, _>(rt, alloc, opened, task).map(Some),
+    }
+}
+
+fn tell_usage(rt: &HostRuntime) -> u8 {
+    let _ = eprintln!(rt; "usage: nl_bench apply|apply_noting|read_pen COUNT");
+    let _ = eprintln!(rt;
+        "       nl_bench read_ports|read_ports_into_new|read_ports_beside_writer PORTS BYTES COUNT"
+    );
+    let _ = eprintln!(rt;
+        "       nl_bench write_beside_ports|checkpoint_beside_ports PORTS BYTES COUNT"
+    );
+    2
+}
+
+/// Prints how long it took, and answers the exit status.
+fn tell(rt: &HostRuntime, done: Result<Option<Duration>, VolError>) -> u8 {
+    match done {
+        Ok(None) => 0,
+        Ok(Some(took)) => match println!(rt; "{}", took.as_nanos()) {
+            Ok(()) => 0,
+            Err(_) => 1,
+        },
         Err(refusal) => {
             let _ = eprintln!(rt; "{}", refusal);
-            Ok(1)
+            1
         }
     }
 }
 
 fn main(rt: HostRuntime) -> ExitCode {
-    let status = match run(&rt) {
-        Ok(status) => status,
+    let status = match read_arguments(&rt) {
+        Ok(Some(asked)) => tell(
+            &rt,
+            work::<Brand, _>(&rt, rt.alloc(), Opened::new(1), asked),
+        ),
+        Ok(None) => tell_usage(&rt),
         Err(_) => 1,
     };
     ExitCode::from(status)

@@ -15,7 +15,7 @@ use Rattle.nl_vstore.specs.Located.{numbers_in}
 use Rattle.nl_reclaim.specs.Moves.{FullMoves, HasMoved, KeepsNeeds, Retires}
 use Rattle.nl_reclaim.proofs.Moves.{full-moves-come-clean}
 use Rattle.nl_core.specs.CleanedPens.{kept_store, number_in}
-use Rattle.nl_core.specs.Layout.{Does, IsPen, Layout, unshared}
+use Rattle.nl_core.specs.Layout.{AllowedBetween, Does, IsPen, Layout, unshared}
 use Rattle.nl_core.specs.Volume.{Lists, kept_by}
 use Rattle.nl_core.proofs.Refusals.{retirements_are_judged}
 use Rattle.nl_cleaner.specs.Laws.{AreMoves, SegmentsComeClean}
@@ -27,7 +27,8 @@ IsDone r = IsOk r
 pub same-needs : (old new : Layout) → new.lists ≡ old.lists → KeepsNeeds (kept_store old) (kept_store new)
 same-needs old new same v e is = ap (λ (l : Lists). is_needed (map number_in (kept_by l)) e) same
 
-pub move-is : (old new : Layout) (segment limit now : ℕ) (answer : Answer) → Does unshared old (Move segment limit now) (Ok answer) new
+pub move-is : {allowed : AllowedBetween} (old new : Layout) (segment limit now : ℕ) (answer : Answer)
+    → Does allowed old (Move segment limit now) (Ok answer) new
     → HasMoved segment old.lists.table.latest.number now limit (kept_store old) (kept_store new)
 move-is old new segment limit now answer does = record {
   needs = same-needs old new does.touches.0;

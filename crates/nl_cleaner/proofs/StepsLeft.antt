@@ -19,10 +19,12 @@ use Rattle.nl_reclaim.proofs.Moves.{move-takes-first}
 use Rattle.nl_core.specs.CleanedPens.{kept_store}
 use Rattle.nl_core.specs.CleanerViews.{cleaning_event}
 use Rattle.nl_core.specs.CleaningEvents.{needed_by}
-use Rattle.nl_core.specs.Layout.{Does, IsPen, Layout, unshared}
+use Rattle.nl_core.specs.Layout.{AllowedBetween, Does, IsPen, Layout, layout_of}
+use Rattle.nl_core.specs.Volume.{without_mount}
 use Rattle.nl_protect.specs.Rounds.{ends_round}
-use Rattle.nl_cleaner.specs.Job.{Cleaning, Ended, Expiring, JobView, Stepped, answered, at_stage, cleaning_left, first_done, left_by, next_by, next_cleaning, noted_by, steps_left}
+use Rattle.nl_cleaner.specs.Job.{Cleaning, Ended, Expiring, JobView, Stepped, answered, at_stage, cleaning_left, first_done, left_by, next_by, next_cleaning, next_event, noted, noted_by, steps_left}
 use Rattle.nl_cleaner.specs.declared.job.Stage.{Stage}
+use Rattle.nl_cleaner.specs.Laws.{StepsEndRounds, UnmountsLeaveRounds}
 use Rattle.nl_cleaner.proofs.CleanRuns.{move-is}
 use Rattle.nl_cleaner.proofs.Rounds.{cleaning, none-some, some-is}
 
@@ -68,8 +70,8 @@ closed s segment ok = by (slice_get s.each segment) refl ok
     by (Some i) is h =
         ap (λ (x : SegmentInfo). is_closed x.state) (get_or_from_slice_get s.each segment i clean_info is) ∙ closed-by-state i h
 
-after-move : (old new : Layout) (segment now : ℕ) (answer : Answer) → IsPen old
-    → Does unshared old (Move segment 30 now) (Ok answer) new → needed_of new segment ≡ needed_of old segment - 30
+after-move : {allowed : AllowedBetween} (old new : Layout) (segment now : ℕ) (answer : Answer) → IsPen old
+    → Does allowed old (Move segment 30 now) (Ok answer) new → needed_of new segment ≡ needed_of old segment - 30
 after-move old new segment now answer held does =
     let first = move-takes-first segment old.lists.table.latest.number now 30 (kept_store old) (kept_store new)
     held.sound.store (closed old.store.segments segment does.touches.1.moved.judged) (move-is old new segment 30 now answer does) in
@@ -80,14 +82,14 @@ after-move old new segment now answer held does =
 abbrev Fewer : JobView → Layout → ℕ → Type 0
 Fewer job l n = steps_left job l < n
 
-module _ (now period segment : ℕ) (rest : List ℕ) (old new : Layout) (held : IsPen old) where
+module _ (allowed : AllowedBetween) (now period segment : ℕ) (rest : List ℕ) (old new : Layout) (held : IsPen old) where
   abbrev here : JobView
   here = cleaning now period (segment ∷ rest)
 
   next-segment : IsPen new → Fewer (cleaning now period rest) new (cleaning_left (segment ∷ rest) old)
   next-segment still = omega (arith, cleaning-few rest new still)
 
-  refused : (event : Event) (e : VolError) (job : JobView) → Does unshared old event (Err e) new → job ≡ noted_by Cleaning here (Err e)
+  refused : (event : Event) (e : VolError) (job : JobView) → Does allowed old event (Err e) new → job ≡ noted_by Cleaning here (Err e)
       → Fewer job new (cleaning_left (segment ∷ rest) old)
   refused event e job does is = by (ends_round e) refl
     where
@@ -100,7 +102,7 @@ module _ (now period segment : ℕ) (rest : List ℕ) (old new : Layout) (held :
       by false h = subst (λ (j : JobView). Fewer j new (cleaning_left (segment ∷ rest) old))
           (sym (is ∙ ap (λ (b : Bool). cond {A = JobView} b (at_stage Ended here) (first_done here)) h)) (next-segment does.pen)
 
-  moved : (answer : Answer) (job : JobView) → needed_of old segment ≢ 0 → Does unshared old (Move segment 30 now) (Ok answer) new
+  moved : (answer : Answer) (job : JobView) → needed_of old segment ≢ 0 → Does allowed old (Move segment 30 now) (Ok answer) new
       → job ≡ answered answer here → Fewer job new (cleaning_left (segment ∷ rest) old)
   moved answer job some does is =
       let same : job ≡ here = is ∙ ap (λ (a : Answer). answered a here) does.touches.1.answer_is in
@@ -108,33 +110,33 @@ module _ (now period segment : ℕ) (rest : List ℕ) (old new : Layout) (held :
       let there : Fewer here new (cleaning_left (segment ∷ rest) old) = omega (arith, fewer, some) in
       subst (λ (j : JobView). Fewer j new (cleaning_left (segment ∷ rest) old)) (sym same) there
 
-  retired : (answer : Answer) (job : JobView) → Does unshared old (Retire segment) (Ok answer) new
+  retired : (answer : Answer) (job : JobView) → Does allowed old (Retire segment) (Ok answer) new
       → job ≡ answered answer here → Fewer job new (cleaning_left (segment ∷ rest) old)
   retired answer job does is =
       let same : job ≡ cleaning now period rest = is ∙ ap (λ (a : Answer). answered a here) does.touches.emptied.answer_is in
       subst (λ (j : JobView). Fewer j new (cleaning_left (segment ∷ rest) old)) (sym same) (next-segment does.pen)
 
-  done : (event : Event) (answer : Answer) (job : JobView) → cleaning_event old segment now ≡ event → Does unshared old event (Ok answer) new
+  done : (event : Event) (answer : Answer) (job : JobView) → cleaning_event old segment now ≡ event → Does allowed old event (Ok answer) new
       → job ≡ answered answer here → Fewer job new (cleaning_left (segment ∷ rest) old)
   done event answer job next does is = by (needed_of old segment == 0) refl
     where
       by : (t : Bool) → (needed_of old segment == 0) ≡ t → Fewer job new (cleaning_left (segment ∷ rest) old)
       by true none =
           let retires : event ≡ Retire segment = sym next ∙ ap (λ (b : Bool). cond {A = Event} b (Retire segment) (Move segment 30 now)) none in
-          retired answer job (subst (λ (x : Event). Does unshared old x (Ok answer) new) retires does) is
+          retired answer job (subst (λ (x : Event). Does allowed old x (Ok answer) new) retires does) is
       by false some =
           let moves : event ≡ Move segment 30 now = sym next ∙ ap (λ (b : Bool). cond {A = Event} b (Retire segment) (Move segment 30 now)) some in
           moved answer job (λ zero-is. true≢false (sym (eq-eqb (needed_of old segment) 0 zero-is) ∙ some))
-          (subst (λ (x : Event). Does unshared old x (Ok answer) new) moves does) is
+          (subst (λ (x : Event). Does allowed old x (Ok answer) new) moves does) is
 
-at-segments : (now period : ℕ) (left : List ℕ) (old new : Layout) (event : Event) (reply : Reply) (job : JobView) → IsPen old
-    → next_cleaning left now old ≡ Some event → Does unshared old event reply new
+at-segments : {allowed : AllowedBetween} (now period : ℕ) (left : List ℕ) (old new : Layout) (event : Event) (reply : Reply)
+    (job : JobView) → IsPen old → next_cleaning left now old ≡ Some event → Does allowed old event reply new
     → job ≡ noted_by Cleaning (cleaning now period left) reply → Fewer job new (cleaning_left left old)
 at-segments now period [] old new event reply job held next does is = absurd (none-some event next)
 at-segments now period (segment ∷ rest) old new event (Ok answer) job held next does is =
-    done now period segment rest old new held event answer job (sym (some-is (cleaning_event old segment now) event next)) does is
+    done _ now period segment rest old new held event answer job (sym (some-is (cleaning_event old segment now) event next)) does is
 at-segments now period (segment ∷ rest) old new event (Err e) job held next does is =
-    refused now period segment rest old new held event e job does is
+    refused _ now period segment rest old new held event e job does is
 
 -- ---- a step of any stage
 
@@ -147,8 +149,8 @@ expiring before job new (Err e) still is =
     let there : Fewer (at_stage Ended before) new (left_by Expiring before new) = omega arith in
     subst (λ (j : JobView). Fewer j new (left_by Expiring before new)) (sym is) there
 
-by-stage : (stage : Stage) (before job : JobView) (old new : Layout) (event : Event) (reply : Reply) → before.stage ≡ stage
-    → IsPen old → next_by stage before old ≡ Some event → Does unshared old event reply new → job ≡ noted_by stage before reply
+by-stage : {allowed : AllowedBetween} (stage : Stage) (before job : JobView) (old new : Layout) (event : Event) (reply : Reply)
+    → before.stage ≡ stage → IsPen old → next_by stage before old ≡ Some event → Does allowed old event reply new → job ≡ noted_by stage before reply
     → Fewer job new (left_by stage before old)
 by-stage Expiring before job old new event reply at held next does is = expiring before job new reply does.pen is
 by-stage Cleaning before job old new event reply at held next does is =
@@ -157,7 +159,33 @@ by-stage Cleaning before job old new event reply at held next does is =
     (is ∙ ap (λ (j : JobView). noted_by Cleaning j reply) same)
 by-stage Ended before job old new event reply at held next does is = absurd (none-some event next)
 
+pub each-fewer : {allowed : AllowedBetween} (old new : JobView × Layout) (event : Event) (reply : Reply) → IsPen old.1
+    → next_event old.0 old.1 ≡ Some event → Does allowed old.1 event reply new.1 → new.0 ≡ noted old.0 reply
+    → steps_left new.0 new.1 < steps_left old.0 old.1
+each-fewer old new event reply held next does is =
+    by-stage old.0.stage old.0 new.0 old.1 new.1 event reply refl held next does is
+
 pub fewer-left : (old new : JobView × Layout) (event : Event) (reply : Reply) → IsPen old.1 → Stepped old event reply new
     → steps_left new.0 new.1 < steps_left old.0 old.1
-fewer-left old new event reply held step =
-    by-stage old.0.stage old.0 new.0 old.1 new.1 event reply refl held step.next step.does step.job
+fewer-left old new event reply held step = each-fewer old new event reply held step.next step.does step.job
+
+-- ---- beside readers
+
+pub steps-end-rounds : StepsEndRounds
+steps-end-rounds old new event reply held next does is = each-fewer old new event reply held next does is
+
+-- mounts need no number
+given-back : (stage : Stage) (job : JobView) (m : ℕ) (l : Layout)
+    → left_by stage job (layout_of (without_mount m l.lists) l.store) ≡ left_by stage job l
+given-back Expiring job m l = refl
+given-back Cleaning job m l = by job.left
+  where
+    by : (left : List ℕ) → cleaning_left left (layout_of (without_mount m l.lists) l.store) ≡ cleaning_left left l
+    by [] = refl
+    by (segment ∷ rest) = refl
+given-back Ended job m l = refl
+
+pub unmounts-leave-rounds : UnmountsLeaveRounds
+unmounts-leave-rounds old new job m (Ok answer) held does =
+    ap (λ (l : Layout). steps_left job l) does.touches ∙ given-back job.stage job m old
+unmounts-leave-rounds old new job m (Err e) held does = ap (λ (l : Layout). steps_left job l) does.touches

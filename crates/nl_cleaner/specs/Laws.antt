@@ -1,7 +1,7 @@
 -- What moves, retirements and rounds come to.
-use Rattle.std.specs.Prelude.{◌≡◌, ◌⊎◌, ◌≤◌, ◌*◌, ℕ, All, Contains, IfSome, IsOk, List, length, None, Some, Ok}
+use Rattle.std.specs.Prelude.{◌≡◌, ◌⊎◌, ◌<◌, ◌≤◌, ◌*◌, ℕ, All, Contains, IfSome, IsOk, List, length, None, Some, Ok}
 use Rattle.nl_types.specs.declared.event.Event.{Event}
-use Rattle.nl_types.specs.declared.event.Event.TheVariants.{Move, Retire}
+use Rattle.nl_types.specs.declared.event.Event.TheVariants.{Move, Retire, Unmount}
 use Rattle.nl_types.specs.declared.reply.Answer.TheVariants.{Freed}
 use Rattle.nl_types.specs.declared.segment.SegmentState.TheVariants.{Dirty}
 use Rattle.nl_types.specs.Runs.{Run}
@@ -13,7 +13,8 @@ use Rattle.nl_reclaim.specs.Rounds.{IsLeftOut, IsNeeded}
 use Rattle.nl_core.specs.CleanedPens.{kept_store}
 use Rattle.nl_core.specs.CleaningEvents.{needed_by}
 use Rattle.nl_core.specs.Layout.{Does, IsPen, Layout, unshared}
-use Rattle.nl_cleaner.specs.Job.{Expiring, JobView, Stepped, next_event}
+use Rattle.nl_core.specs.Notes.{shared}
+use Rattle.nl_cleaner.specs.Job.{Expiring, JobView, Stepped, next_event, noted, steps_left}
 use Rattle.nl_cleaner.specs.Plan.{IsPlanned, TakesOldest}
 
 -- ---- the oldest comes next
@@ -55,3 +56,20 @@ RoundsLeaveNothingDead =
     → Run Stepped (job, old) events replies (end, new) → All IsOk replies → next_event end new ≡ None
     → (v b : ℕ) → address_in new.store v ≡ Some b
     → IsNeeded (kept_store new) v ⊎ IsLeftOut (kept_store old) b
+
+-- ---- rounds end beside readers
+
+-- Beside readers too, where memory may be refused to any event, each step of a round lowers the number of those that are left.
+abbrev pub StepsEndRounds : Type 0
+StepsEndRounds =
+    (old new : JobView × Layout) (event : Event) (reply : Reply)
+    → IsPen old.1 → next_event old.0 old.1 ≡ Some event
+    → Does shared old.1 event reply new.1 → new.0 ≡ noted old.0 reply
+    → steps_left new.0 new.1 < steps_left old.0 old.1
+
+-- A mount that is given back between two steps, or whose give-back is refused, leaves as many.
+abbrev pub UnmountsLeaveRounds : Type 0
+UnmountsLeaveRounds =
+    (old new : Layout) (job : JobView) (m : ℕ) (reply : Reply)
+    → IsPen old → Does shared old (Unmount m) reply new
+    → steps_left job new ≡ steps_left job old

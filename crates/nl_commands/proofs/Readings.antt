@@ -27,6 +27,7 @@ readable name.Write word = refl
 readable name.Fill word = refl
 readable name.Truncate word = refl
 readable name.Cat word = refl
+readable name.Catm word = refl
 readable name.Ls word = refl
 readable name.Stat word = refl
 

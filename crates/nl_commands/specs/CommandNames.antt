@@ -9,7 +9,7 @@ use Rattle.nl_commands.specs.declared.error.LineError.{LineError}
 use Rattle.nl_commands.specs.declared.error.LineError.TheVariants.{Usage}
 use Rattle.nl_commands.specs.declared.names.CommandName.{CommandName}
 use Rattle.nl_commands.specs.declared.names.CommandName.TheVariants as name
-use Rattle.nl_commands.specs.AskingCommands.{show_given, show_rules}
+use Rattle.nl_commands.specs.AskingCommands.{catm_given, catm_rules, show_given, show_rules}
 use Rattle.nl_commands.specs.CheckpointCommands.{at_given, at_rules, chcp_given, chcp_rules, lscp_given, lscp_rules, mkcp_given, mkcp_rules, rmcp_given, rmcp_rules}
 use Rattle.nl_commands.specs.FileCommands.{create_given, fill_given, fill_rules, mkdir_given, mv_given, mv_rules, path_rules}
 use Rattle.nl_commands.specs.FileCommands.{rm_given, rmdir_given, truncate_given, truncate_rules, write_given, write_rules}
@@ -20,8 +20,9 @@ use Rattle.nl_commands.specs.SegmentCommands.{lssu_given, lssu_rules, mount_give
 abbrev pub asking_name : Text → Option CommandName
 asking_name word =
     if bytes_eq word (codes "cat") then Some name.Cat else (
+    if bytes_eq word (codes "catm") then Some name.Catm else (
     if bytes_eq word (codes "ls") then Some name.Ls else (
-    if bytes_eq word (codes "stat") then Some name.Stat else None))
+    if bytes_eq word (codes "stat") then Some name.Stat else None)))
 
 abbrev pub file_name : Text → Option CommandName
 file_name word =
@@ -70,6 +71,7 @@ rules_of name.Write = write_rules
 rules_of name.Fill = fill_rules
 rules_of name.Truncate = truncate_rules
 rules_of name.Cat = show_rules
+rules_of name.Catm = catm_rules
 rules_of name.Ls = show_rules
 rules_of name.Stat = show_rules
 
@@ -93,6 +95,7 @@ command_given name.Write rows = write_given rows
 command_given name.Fill rows = fill_given rows
 command_given name.Truncate rows = truncate_given rows
 command_given name.Cat rows = show_given Content rows
+command_given name.Catm rows = catm_given rows
 command_given name.Ls rows = show_given Names rows
 command_given name.Stat rows = show_given Kind rows
 

@@ -61,6 +61,11 @@ pub enum Command {
         byte: u8,
         count: u64,
     },
+    /// Shows the files at paths of the tree that a mount gives.
+    Catm {
+        mount: MountNumber,
+        paths: Items<Items<u8>>,
+    },
     /// Shows what is at a path of the tree that a mount gives, or of the current one.
     Show {
         what: Shown,

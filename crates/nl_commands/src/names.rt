@@ -31,6 +31,7 @@ pub enum CommandName {
     Fill,
     Truncate,
     Cat,
+    Catm,
     Ls,
     Stat,
 }
@@ -40,6 +41,7 @@ fn asking_name(word: &str) -> Option<CommandName>
 {
     match word {
         "cat" => Some(CommandName::Cat),
+        "catm" => Some(CommandName::Catm),
         "ls" => Some(CommandName::Ls),
         "stat" => Some(CommandName::Stat),
         _ => None,
@@ -107,6 +109,7 @@ fn arguments_of(name: CommandName) -> &'static [Argument<'static>]
         CommandName::Write => files::WRITE_ARGUMENTS,
         CommandName::Fill => files::FILL_ARGUMENTS,
         CommandName::Truncate => files::TRUNCATE_ARGUMENTS,
+        CommandName::Catm => asking::CATM_ARGUMENTS,
         CommandName::Cat | CommandName::Ls | CommandName::Stat => asking::SHOW_ARGUMENTS,
     }
 }
@@ -133,6 +136,7 @@ fn command_given(alloc: Global, name: CommandName, given: &Given<'_>) -> Result<
         CommandName::Fill => files::fill(alloc, given),
         CommandName::Truncate => files::truncate(alloc, given),
         CommandName::Cat => asking::show(alloc, Shown::Content, given),
+        CommandName::Catm => asking::catm(alloc, given),
         CommandName::Ls => asking::show(alloc, Shown::Names, given),
         CommandName::Stat => asking::show(alloc, Shown::Kind, given),
     }

@@ -1,6 +1,6 @@
 //! What a command is given, by the names of its grammar.
-ghost use Rattle.std.specs.Prelude.{◌≡◌, map, nat_lt};
-ghost use Rattle.nl_commands.specs.GivenOperands.{byte_at, byte_of, number_at, numbers_at, numbers_in, optional_number_at, ranges_at, ranges_in, word_at};
+ghost use Rattle.std.specs.Prelude.{◌≡◌, Ok, map, nat_lt};
+ghost use Rattle.nl_commands.specs.GivenOperands.{byte_at, byte_of, number_at, numbers_at, numbers_in, optional_number_at, ranges_at, ranges_in, word_at, words_at};
 ghost use Rattle.nl_commands.specs.Outcomes.{IsUnlessMemory};
 
 use crate::command::CheckpointRange;
@@ -74,6 +74,26 @@ pub fn bytes_at(alloc: Global, given: &Given<'_>, id: &str) -> Result<Items<u8>,
 {
     match given.text(id) {
         Some(word) => Ok(Items::from_slice(alloc, word.as_bytes())?),
+        None => Err(LineError::Usage),
+    }
+}
+
+fn paths_in(alloc: Global, words: &[&str]) -> Result<Items<Items<u8>>, LineError>
+    ensures { IsUnlessMemory result (Ok (map (λ w. w.now) words.now)) }
+{
+    let mut paths = Items::new(alloc);
+    for word in words {
+        paths.push(Items::from_slice(alloc, word.as_bytes())?)?;
+    }
+    Ok(paths)
+}
+
+/// Paths, in the order of their words.
+pub fn paths_at(alloc: Global, given: &Given<'_>, id: &str) -> Result<Items<Items<u8>>, LineError>
+    ensures { IsUnlessMemory result (words_at id.now given.now) }
+{
+    match given.texts(id) {
+        Some(words) => paths_in(alloc, words),
         None => Err(LineError::Usage),
     }
 }

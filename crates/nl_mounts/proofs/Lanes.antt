@@ -3,16 +3,12 @@ use Rattle.std.proofs.Common.{◌≡◌, ℕ, zero, suc, ◌⊎◌, ◌<◌, ari
 use Rattle.std.specs.Prelude.{map, slice_get, slice_set}
 use Rattle.std.specs.List.{AllZip}
 use Rattle.nl_types.specs.declared.error.VolError.TheVariants.{BadMount, Memory}
-use Rattle.nl_types.specs.Trees.{Tree}
-use Rattle.nl_core.specs.Commits.{image_of}
 use Rattle.nl_publish.specs.Histories.{Known}
 use Rattle.nl_publish.specs.Mounts.{Claim}
-use Rattle.nl_publish.specs.Told.{TreeOn}
-use Rattle.nl_publish.proofs.Fronts.{prefix_trans}
 use Rattle.nl_mounts.specs.declared.many.ReadJob.{ReadJob}
 use Rattle.nl_mounts.specs.Jobs.{AreAnswers, AreLanes, AreLater, ArePlaced, HasRunBy, IsAnswerTo, IsLaneOf, IsPlaced, JobAnswer, LaneView, idle, no_memory}
 use Rattle.nl_mounts.specs.Ports.{HasLearned, IsBytesOf, IsLater, Told}
-use Rattle.nl_mounts.proofs.Looking.{later_self}
+use Rattle.nl_mounts.proofs.Looking.{later_self, prefix_trans}
 
 pub later_on : (a b c : Known) → IsLater a b → IsLater b c → IsLater a c
 later_on a b c p q = record { volume = q.volume ∙ p.volume; commits = prefix_trans a.commits b.commits c.commits p.commits q.commits }

@@ -1,7 +1,11 @@
 -- What a look at an image comes to.
-use Rattle.std.proofs.Common.{◌≡◌, ℕ, inl, inr, refl, ap, sym, ◌∙◌, subst, Option, None, Some}
-use Rattle.std.specs.Prelude.{MatchOption}
+use Rattle.std.proofs.Common.{◌≡◌, ℕ, zero, suc, inl, inr, List, [], ◌∷◌, ◌++◌, refl, ap, sym, ◌∙◌, subst, append_assoc, Option, None, Some}
+use Rattle.std.specs.Prelude.{slice_set}
 use Rattle.std.specs.Option.{option_and_then, option_map}
+use mathlib.Core.Option.{some, some-injective}
+use mathlib.Core.List.{IsPrefix}
+use lib.ListN.{get_elem?}
+use Rattle.crossbeam_utils.specs.Register.{Turns}
 use Rattle.nl_types.specs.Roots.{Pages}
 use Rattle.nl_types.specs.Trees.{Tree}
 use Rattle.nl_layout.specs.declared.root.Root.{Root}
@@ -12,15 +16,33 @@ use Rattle.nl_core.specs.Means.{RootMeans}
 use Rattle.nl_core.specs.Shown.{Shown, mounted_on, pages_shown}
 use Rattle.nl_publish.specs.declared.image.Image.{Image}
 use Rattle.nl_publish.specs.Histories.{Known}
-use Rattle.nl_publish.specs.Images.{IsWhole}
+use Rattle.nl_publish.specs.Images.{IsWhole, Kept, Looks}
 use Rattle.nl_publish.specs.Mounts.{Claim, IsClaim}
-use Rattle.nl_publish.specs.Told.{TreeOn}
-use Rattle.nl_publish.proofs.Fronts.{prefix_self, prefix_trans}
-use Rattle.nl_publish.proofs.Staying.{history_image, mount_stays}
-use Rattle.nl_mounts.specs.Ports.{Entered, Foreign, FoundView, HasFound, IsLater, IsOfRoot, Looked, NoImage, NoMount, Told, found_root}
+use Rattle.nl_publish.specs.Told.{HistoriesShowImages, MountsStay, TreeOn}
+use Rattle.nl_mounts.specs.Ports.{Entered, Finds, IsLater, IsOfRoot, Lacks, LookView, Looked, NoImage, NoMount, Older, Shows, Told, mounted_root}
+
+-- ---- what has been seen
+
+prefix_self : {A : Type 0} (xs : List A) → IsPrefix xs xs
+prefix_self [] = ([], refl)
+prefix_self (x ∷ xs) = (let rest = prefix_self xs in rest.0, ap (λ ys. x ∷ ys) (prefix_self xs).1)
+
+pub prefix_trans : {A : Type 0} (xs ys zs : List A) → IsPrefix xs ys → IsPrefix ys zs → IsPrefix xs zs
+prefix_trans xs ys zs p q = (p.0 ++ q.0, sym (append_assoc xs p.0 q.0) ∙ (ap (λ w. w ++ q.0) p.1 ∙ q.1))
 
 pub later_self : (k : Known) → IsLater k k
 later_self k = record { volume = refl; commits = prefix_self k.commits }
+
+-- ---- the rule of images
+
+set_again : {A : Type 0} (xs : List A) (i : ℕ) (x : A) → get_elem? xs i ≡ some x → slice_set xs i x ≡ xs
+set_again [] i x at = refl
+set_again (y ∷ xs) zero x at = ap (λ z. z ∷ xs) (sym (some-injective y x at))
+set_again (y ∷ xs) (suc i) x at = ap (λ ys. y ∷ ys) (set_again xs i x at)
+
+-- a seat that looks leaves the image and what seats know as they were
+pub looks_keep : (seat : ℕ) (v : List ℕ) → Turns Kept seat v (λ x. x) Looks
+looks_keep seat v x views kept at = (v, subst (Kept x) (sym (set_again views seat v at)) kept, (kept.whole, kept.known seat v at, refl))
 
 -- ---- roots of mounts
 
@@ -53,53 +75,70 @@ means_root x n c root t kept is tree =
 
 -- ---- looks
 
-module _ (m : Claim) (old new : Known) (i : Image) (Refused : Type 0) (Answers : Tree → Type 0) (whole : IsWhole i) (volume : m.told.volume ≡ old.volume) where
-  seen_by : (f : FoundView) (o : Option Root) → f.root ≡ o → HasFound old i m.number (Some f) → IsOfRoot (pages_shown i.tables) o Refused Answers → new ≡ f.front → Looked m old new Refused Answers
-  seen_by f None none found answers is =
-      let log : new.commits ≡ i.seen.log = ap (λ (k : Known). k.commits) is ∙ found.1 in
-      let history : IsHistory new.commits = subst IsHistory (sym log) whole.history in
-      let shown : i.tables ≡ image_of new.commits = whole.shown ∙ ap image_of (sym log) in
-      let image : IsImage i.tables = subst IsImage (sym shown) (history_image new.commits history) in
-      let lacks : mounted_on i.tables m.number ≡ None = lacks_root (mounted_on i.tables m.number) (λ n. kept_at n i.tables.table) (λ n at. let c = image.mounted m.number n at in (c.0, c.1)) (sym found.2 ∙ none) in
-      NoMount history (subst (λ (x : Shown). mounted_on x m.number ≡ None) shown lacks) answers
-  seen_by f (Some root) some found answers is =
-      let log : new.commits ≡ i.seen.log = ap (λ (k : Known). k.commits) is ∙ found.1 in
-      let history : IsHistory new.commits = subst IsHistory (sym log) whole.history in
-      let shown : i.tables ≡ image_of new.commits = whole.shown ∙ ap image_of (sym log) in
-      let at = has_root (mounted_on i.tables m.number) (λ n. kept_at n i.tables.table) root (sym found.2 ∙ some) in
-      Entered at.n volume history (subst (λ (x : Shown). mounted_on x m.number ≡ Some at.n) shown at.mounted)
-      (λ t tree. answers t (means_root i.tables at.n at.checkpoint root t at.at at.root_is (subst (λ (x : Shown). TreeOn x at.n t) (sym shown) tree)))
+-- an image that is as new as what was seen lacks the mount, or shows its checkpoint
+module _ (m : Claim) (old new : Known) (i : Image) (images : HistoriesShowImages) (stay : MountsStay) (claim : IsClaim m) (volume : m.told.volume ≡ old.volume)
+    (whole : IsWhole i) (later : IsLater old new) (log : new.commits ≡ i.seen.log) where
+  history : IsHistory new.commits
+  history = subst IsHistory (sym log) whole.history
 
-  pub looked : (found : Option FoundView) → HasFound old i m.number found → IsOfRoot (pages_shown i.tables) (found_root found) Refused Answers → MatchOption found (new ≡ old) (λ f. new ≡ f.front) → Looked m old new Refused Answers
-  looked None found answers is = NoImage is answers
-  looked (Some f) found answers is = seen_by f f.root refl found answers is
+  shown : i.tables ≡ image_of new.commits
+  shown = whole.shown ∙ ap image_of (sym log)
 
-pub later_of : (old new : Known) (i : Image) (m : ℕ) (found : Option FoundView) → HasFound old i m found → MatchOption found (new ≡ old) (λ f. new ≡ f.front) → IsLater old new
-later_of old new i m None found is = subst (λ (k : Known). IsLater old k) (sym is) (later_self old)
-later_of old new i m (Some f) found is = subst (λ (k : Known). IsLater old k) (sym is) found.0
+  image : IsImage i.tables
+  image = subst IsImage (sym shown) (images new.commits history)
 
--- ---- what the mount was told
+  lacks : None ≡ mounted_root i.tables m.number → mounted_on (image_of new.commits) m.number ≡ None
+  lacks is = subst (λ (x : Shown). mounted_on x m.number ≡ None) shown
+      (lacks_root (mounted_on i.tables m.number) (λ n. kept_at n i.tables.table) (λ n at. let c = image.mounted m.number n at in (c.0, c.1)) (sym is))
 
-pub told_of : (m : Claim) (old new : Known) (Refused : Type 0) (Answers : Tree → Type 0) → IsClaim m → IsLater old new → Looked m old new Refused Answers → Told m old Refused Answers
-told_of m old new Refused Answers claim later (Foreign other same refused) learned t tree = inl refused
-told_of m old new Refused Answers claim later (NoImage same refused) learned t tree = inl refused
-told_of m old new Refused Answers claim later (NoMount history lacks refused) learned t tree = inl refused
-told_of m old new Refused Answers claim later (Entered n volume history at answers) learned t tree =
-    let all = prefix_trans m.told.commits old.commits new.commits (learned volume) later.commits in
-    inr (answers t ((mount_stays m new.commits n claim history all at).trees t tree))
+  pub looked_at : (root : Option Root) → root ≡ mounted_root i.tables m.number → Finds m old new i.tables root
+  looked_at None is = Lacks later history (lacks is) refl
+  looked_at (Some root) is =
+      let at = has_root (mounted_on i.tables m.number) (λ n. kept_at n i.tables.table) root (sym is) in
+      let mounted : mounted_on (image_of new.commits) m.number ≡ Some at.n = subst (λ (x : Shown). mounted_on x m.number ≡ Some at.n) shown at.mounted in
+      let means : (t : Tree) → TreeOn (image_of new.commits) at.n t → RootMeans (pages_shown i.tables) root t =
+      λ t tree. means_root i.tables at.n at.checkpoint root t at.at at.root_is (subst (λ (x : Shown). TreeOn x at.n t) (sym shown) tree) in
+      Shows root later history (record {
+        volume = volume;
+        checkpoint = at.n;
+        mounted = mounted;
+        means = means;
+        told = λ learned t tree. means t ((stay m new.commits at.n claim history (prefix_trans m.told.commits old.commits new.commits (learned volume) later.commits) mounted).trees t tree);
+      }) refl
 
--- ---- what a call of a port comes to, by the steps of its body
+-- ---- what a call of a port comes to
 
-module _ (m : Claim) (old front new : Known) (i : Image) (n : ℕ) (found : Option FoundView) (same : front ≡ old) (has : HasFound front i n found) (is : MatchOption found (new ≡ front) (λ f. new ≡ f.front)) where
-  pub port_later : IsLater old new
-  port_later = subst (λ (k : Known). IsLater k new) same (later_of front new i n found has is)
+pub record Comes (m : Claim) (old new : Known) (Refused : Type 0) (Answers : Tree → Type 0) : Type 0 where
+  pub later : IsLater old new
+  pub looked : Looked m old new Refused Answers
+  pub told : Told m old Refused Answers
 
-  pub port_looked : (root : Option Root) (Refused : Type 0) (Answers : Tree → Type 0) → n ≡ m.number → IsWhole i → m.told.volume ≡ front.volume → root ≡ found_root found
-      → IsOfRoot (pages_shown i.tables) root Refused Answers → Looked m old new Refused Answers
-  port_looked root Refused Answers number whole volume root_is answers =
-      subst (λ (k : Known). Looked m k new Refused Answers) same
-      (looked m front new i Refused Answers whole volume found (subst (λ (j : ℕ). HasFound front i j found) number has)
-      (subst (λ (r : Option Root). IsOfRoot (pages_shown i.tables) r Refused Answers) root_is answers) is)
+module _ (m : Claim) (old new : Known) (x : Shown) (Refused : Type 0) (Answers : Tree → Type 0) where
+  under : (o p : Option Root) → o ≡ p → IsOfRoot (pages_shown x) o Refused Answers → IsOfRoot (pages_shown x) p Refused Answers
+  under o p is answers = subst (λ (r : Option Root). IsOfRoot (pages_shown x) r Refused Answers) is answers
+
+  comes_of : (o : Option Root) → Finds m old new x o → IsOfRoot (pages_shown x) o Refused Answers → Comes m old new Refused Answers
+  comes_of o (Older same none) answers =
+      let refused : Refused = under o None none answers in
+      record { later = subst (λ (k : Known). IsLater old k) (sym same) (later_self old); looked = NoImage same refused; told = λ learned t tree. inl refused }
+  comes_of o (Lacks later history lacks none) answers =
+      let refused : Refused = under o None none answers in
+      record { later = later; looked = NoMount history lacks refused; told = λ learned t tree. inl refused }
+  comes_of o (Shows root later history at is) answers =
+      let answered : (t : Tree) → RootMeans (pages_shown x) root t → Answers t = under o (Some root) is answers in
+      record {
+        later = later;
+        looked = Entered at.checkpoint at.volume history at.mounted (λ t tree. answered t (at.means t tree));
+        told = λ learned t tree. inr (answered t (at.told learned t tree));
+      }
+
+-- by the steps of its body
+pub comes : (m : Claim) (old new : Known) (look : LookView) (x : Shown) (o : Option Root) (Refused : Type 0) (Answers : Tree → Type 0)
+    → Finds m old look.front look.shown look.root → new ≡ look.front → x ≡ look.shown → o ≡ look.root → IsOfRoot (pages_shown x) o Refused Answers
+    → Comes m old new Refused Answers
+comes m old new look x o Refused Answers finds seen shown root answers =
+    subst (λ (k : Known). Comes m old k Refused Answers) (sym seen) (comes_of m old look.front look.shown Refused Answers look.root finds
+    (under m old new look.shown Refused Answers o look.root root (subst (λ (y : Shown). IsOfRoot (pages_shown y) o Refused Answers) shown answers)))
 
 -- ---- answers under a root
 

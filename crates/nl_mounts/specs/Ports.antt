@@ -16,8 +16,7 @@ use Rattle.nl_cpfile.specs.Tables.{kept_at, root_in}
 use Rattle.nl_tree.specs.Reading.{ShowsAs}
 use Rattle.nl_core.specs.Commits.{IsHistory, image_of}
 use Rattle.nl_core.specs.Means.{RootMeans}
-use Rattle.nl_core.specs.Shown.{Shown, mounted_on}
-use Rattle.nl_publish.specs.declared.image.Image.{Image}
+use Rattle.nl_core.specs.Shown.{Shown, mounted_on, pages_shown}
 use Rattle.nl_publish.specs.Histories.{Known}
 use Rattle.nl_publish.specs.Mounts.{Claim}
 use Rattle.nl_publish.specs.Told.{TreeOn}
@@ -57,18 +56,33 @@ IsListOf t path result = ShowsUnlessMemory (λ names. names) result (and_then (p
 abbrev pub mounted_root : Shown → ℕ → Option Root
 mounted_root x m = option_and_then (λ n. option_map root_in (kept_at n x.table)) (mounted_on x m)
 
--- what is seen of an image, and the root that a mount has there
-pub record FoundView : Type 0 where
+-- what was seen begins with what the mount was told, where it is of the same volume
+abbrev pub HasLearned : Claim → Known → Type 0
+HasLearned m k = m.told.volume ≡ k.volume → IsPrefix m.told.commits k.commits
+
+-- The root of the checkpoint that a mount shows in the image x of what has been seen. Where the mount was learned of, the root
+-- means the tree that its checkpoint had when the mount was told.
+pub record IsMountRoot (m : Claim) (old new : Known) (x : Shown) (root : Root) : Type 0 where
+  pub volume : m.told.volume ≡ old.volume
+  pub checkpoint : ℕ
+  pub mounted : mounted_on (image_of new.commits) m.number ≡ Some checkpoint
+  pub means : (t : Tree) → TreeOn (image_of new.commits) checkpoint t → RootMeans (pages_shown x) root t
+  pub told : HasLearned m old → (t : Tree) → TreeOn (image_of m.told.commits) m.checkpoint t → RootMeans (pages_shown x) root t
+
+-- What a look for a mount at the image x finds. The image is older than what was seen, and nothing more is seen; or its history
+-- is seen then, and the image lacks the mount, or shows its checkpoint.
+pub data Finds (m : Claim) (old new : Known) (x : Shown) (root : Option Root) : Type 0 where
+  Older : new ≡ old → root ≡ None → Finds m old new x root
+  Lacks : IsLater old new → IsHistory new.commits → mounted_on (image_of new.commits) m.number ≡ None → root ≡ None
+      → Finds m old new x root
+  Shows : (r : Root) → IsLater old new → IsHistory new.commits → IsMountRoot m old new x r → root ≡ Some r
+      → Finds m old new x root
+
+-- what is shown where a port has entered, what it has seen then, and the root that a mount has there
+pub record LookView : Type 0 where
+  pub shown : Shown
   pub front : Known
   pub root : Option Root
-
-abbrev pub HasFound : Known → Image → ℕ → Option FoundView → Type 0
-HasFound seen i m None = Unit {0}
-HasFound seen i m (Some f) = IsLater seen f.front × (f.front.commits ≡ i.seen.log) × (f.root ≡ mounted_root i.tables m)
-
-abbrev pub found_root : Option FoundView → Option Root
-found_root None = None
-found_root (Some f) = f.root
 
 -- what is answered under a root is true of every tree that the root means; where there is none, the call is refused
 abbrev pub IsOfRoot : Pages → Option Root → (Refused : Type 0) → (Answers : Tree → Type 0) → Type 0
@@ -86,11 +100,7 @@ pub data Looked (m : Claim) (old new : Known) (Refused : Type 0) (Answers : Tree
   Entered : (n : ℕ) → m.told.volume ≡ old.volume → IsHistory new.commits → mounted_on (image_of new.commits) m.number ≡ Some n
       → ((t : Tree) → TreeOn (image_of new.commits) n t → Answers t) → Looked m old new Refused Answers
 
--- what was seen begins with what the mount was told, where it is of the same volume
-abbrev pub HasLearned : Claim → Known → Type 0
-HasLearned m k = m.told.volume ≡ k.volume → IsPrefix m.told.commits k.commits
-
--- then what is answered is true of the tree that the mount's checkpoint had when the mount was told
+-- where the mount was learned of, what is answered is true of the tree that its checkpoint had when the mount was told
 abbrev pub Told : Claim → Known → (Refused : Type 0) → (Answers : Tree → Type 0) → Type 0
 Told m old Refused Answers = HasLearned m old
     → (t : Tree) → TreeOn (image_of m.told.commits) m.checkpoint t → Refused ⊎ Answers t

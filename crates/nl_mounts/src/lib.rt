@@ -7,4 +7,4 @@ mod shared;
 
 pub use many::{Gate, JobAnswer, ReadJob, read_many};
 pub use port::Port;
-pub use shared::{Shared, share};
+pub use shared::{Shared, seat_all, share, spend_all};

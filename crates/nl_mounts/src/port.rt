@@ -1,15 +1,15 @@
 //! Ports, which read without waiting.
-ghost use Rattle.std.specs.Prelude.{◌≡◌, ◌≢◌, MatchOption};
-ghost use Rattle.std.specs.Option.{ForSome};
-ghost use mathlib.Core.List.{IsPrefix};
+ghost use Rattle.std.specs.Prelude.{◌≡◌, ◌≢◌, IfErr, IfOk, IfSome};
 ghost use Rattle.nl_core.specs.Shown.{pages_shown};
-ghost use Rattle.nl_publish.specs.Images.{IsWhole, name_of};
-ghost use Rattle.nl_publish.specs.Seats.{known_to};
-ghost use Rattle.nl_mounts.specs.Ports.{HasFound, HasLearned, IsBytesOf, IsLater, IsListOf, IsNotRead, IsOfRoot, IsReadOf, IsStatOf, Looked, Told, found_root, mounted_root};
+ghost use Rattle.nl_publish.specs.Images.{IsWhole};
+ghost use Rattle.nl_publish.specs.Mounts.{IsClaim};
+ghost use Rattle.nl_mounts.specs.Ports.{Finds, HasLearned, IsBytesOf, IsLater, IsListOf, IsNotRead, IsOfRoot, IsReadOf, IsStatOf, Looked, Told, mounted_root};
 
+use left_right::reader::Reading;
 use nl_files::ReadTree;
 use nl_layout::Root;
-use nl_publish::{Front, Image, ImageReader, Mount, Seat, Sees, Volumes};
+use nl_publish::laws::{histories_show_images, mounts_stay};
+use nl_publish::{Front, Image, ImageReader, Keeps, Mount, Name, Seat, Sees, Volumes};
 use nl_tree::{list, read, read_into, stat};
 use nl_types::{Items, MountNumber, Named, Stat, VolError};
 use std::alloc::Global;
@@ -46,41 +46,69 @@ fn root_of_mount(image: &Image, mount: MountNumber) -> Option<Root>
     Some(kept.root)
 }
 
-/// What is seen of an image, and the root that a mount has there.
-#[derive(Drop)]
-struct Found<J: Volumes> {
-    front: Front<J>,
-    root: Option<Root>,
-}
-
-impl<J: Volumes> Model for Found<J> {
-    ghost use Rattle.nl_mounts.specs.Ports.{FoundView};
-
-    ghost Value = { FoundView };
-
-    ghost view = { λ f. record { front = f.front; root = f.root } };
-}
-
-/// What a look at an image finds: nothing where the image is older than what was seen.
-fn find<J: Volumes>(image: &Image, seen: &Front<J>, mount: MountNumber) -> Option<Found<J>>
+/// The history that made an image, where the image is as new as what was seen.
+fn front_at<J: Volumes>(image: &Image, seen: &Front<J>) -> Option<Front<J>>
     requires whole { IsWhole image.now }
     requires book { image.now.seen.book ≡ J.book seen.now.volume }
-    ensures { HasFound seen.now image.now mount result }
+    ensures later { IfSome result (λ front. IsLater seen.now front) }
+    ensures log { IfSome result (λ front. front.commits ≡ image.now.seen.log) }
 {
     let front = Front::of(image, seen.volume());
     if !front.covers(seen) {
         return None;
     }
-    let root = root_of_mount(image, mount);
-    Some(Found { front, root })
+    Some(front)
 }
 
-fn found_root<J: Volumes>(found: &Option<Found<J>>) -> Option<Root>
-    ensures { result ≡ found_root found.now }
+/// What has been seen once a port has looked at an image, and the root that a mount of its volume has there. No more is seen
+/// of an image that is older than what was seen, and it has no root.
+fn find<J: Volumes>(image: &Image, seen: &Front<J>, mount: &Mount<J>) -> (Front<J>, Option<Root>)
+    requires whole { IsWhole image.now }
+    requires book { image.now.seen.book ≡ J.book seen.now.volume }
+    requires claim { IsClaim mount.now }
+    requires volume { mount.now.told.volume ≡ seen.now.volume }
+    ensures volume { result.0.volume ≡ seen.now.volume }
+    ensures finds { Finds mount.now seen.now result.0 image.now.tables result.1 }
 {
-    match found {
-        Some(found) => found.root,
-        None => None,
+    histories_show_images();
+    mounts_stay();
+    let Some(front) = front_at(image, seen) else {
+        return (seen.again(), None);
+    };
+    (front, root_of_mount(image, mount.number()))
+}
+
+/// A port's look at the image that is published, and what it found. It is not `Drop`: `Port::come_back` takes it.
+struct Look<J: Volumes> {
+    reading: Reading<Image, Name, Keeps>,
+    front: Front<J>,
+    root: Option<Root>,
+}
+
+impl<J: Volumes> Model for Look<J> {
+    ghost use Rattle.std.specs.Prelude.{◌≡◌};
+    ghost use Rattle.nl_publish.specs.Images.{name_of};
+    ghost use Rattle.nl_publish.specs.Seats.{known_to};
+    ghost use Rattle.nl_mounts.specs.Ports.{LookView};
+
+    ghost Value = { LookView };
+
+    ghost view = { λ l. record { shown = l.reading.part.value.tables; front = l.front; root = l.root } };
+
+    ghost invariant = { λ l. known_to l.reading.place ≡ name_of (J.book l.front.volume) };
+}
+
+impl<J: Volumes> Look<J> {
+    fn image(&self) -> &Image
+        ensures { result.now.tables ≡ self.now.shown }
+    {
+        self.reading.get()
+    }
+
+    fn root(&self) -> Option<Root>
+        ensures { result ≡ self.now.root }
+    {
+        self.root
     }
 }
 
@@ -192,16 +220,46 @@ impl<J: Volumes> Port<J> {
         }
     }
 
-    /// The reader is back, and what was found is seen.
-    fn come_back(&mut self, reader: ImageReader, found: Option<Found<J>>)
-        requires known { known_to reader.place ≡ name_of (J.book self.old.volume) }
-        requires volume { ForSome found (λ f. f.front.volume ≡ self.old.volume) }
-        ensures { MatchOption found (self.new ≡ self.old) (λ f. self.new ≡ f.front) }
+    /// Enters the image that is published, and looks for a mount there. Until the look comes back, the port has no reader.
+    /// Refused by `BadMount` where the mount is another volume's, and where no image is found.
+    fn look(&mut self, mount: &Mount<J>) -> Result<Look<J>, VolError>
+        ensures same { self.new ≡ self.old }
+        ensures refused { IfErr result (λ e. e ≡ VolError.BadMount) }
+        ensures finds { IfOk result (λ look. Finds mount.now self.old look.front look.shown look.root) }
     {
-        self.reader = Some(reader);
-        if let Some(found) = found {
-            self.front = found.front;
+        if mount.told().volume() != self.front.volume() {
+            return Err(VolError::BadMount);
         }
+        let Some(reader) = self.reader.take() else {
+            return Err(VolError::BadMount);
+        };
+        match reader.enter_as::<Sees>() {
+            Err(reader) => {
+                self.reader = Some(reader);
+                Err(VolError::BadMount)
+            }
+            Ok(reading) => {
+                let (front, root) = find(reading.get(), &self.front, mount);
+                Ok(Look {
+                    reading,
+                    front,
+                    root,
+                })
+            }
+        }
+    }
+
+    /// The reader is back, and what it found is seen.
+    fn come_back(&mut self, look: Look<J>)
+        ensures { self.new ≡ look.front }
+    {
+        let Look {
+            reading,
+            front,
+            root: _,
+        } = look;
+        self.reader = Some(reading.leave());
+        self.front = front;
     }
 
     /// Reads the bytes of the file at a path of the mount's tree, as `nl_files::read_into` does. It takes no memory, and
@@ -220,25 +278,10 @@ impl<J: Volumes> Port<J> {
         ensures told { Told mount.now self.old (IsNotRead result into.old into.new)
             (λ t. IsReadOf t path.now offset into.old result into.new) }
     {
-        if mount.told().volume() != self.front.volume() {
-            return Err(VolError::BadMount);
-        }
-        let Some(reader) = self.reader.take() else {
-            return Err(VolError::BadMount);
-        };
-        match reader.enter_as::<Sees>() {
-            Err(reader) => {
-                self.reader = Some(reader);
-                Err(VolError::BadMount)
-            }
-            Ok(reading) => {
-                let image = reading.get();
-                let found = find(image, &self.front, mount.number());
-                let result = read_root(image, found_root(&found), path, offset, into);
-                self.come_back(reading.leave(), found);
-                result
-            }
-        }
+        let look = self.look(mount)?;
+        let result = read_root(look.image(), look.root(), path, offset, into);
+        self.come_back(look);
+        result
     }
 
     /// The bytes of the file at a path of the mount's tree, as many as there are and at most `len`, as `nl_files::read`
@@ -257,25 +300,10 @@ impl<J: Volumes> Port<J> {
         ensures told { Told mount.now self.old (result ≡ Err VolError.BadMount)
             (λ t. IsBytesOf t path.now offset len result) }
     {
-        if mount.told().volume() != self.front.volume() {
-            return Err(VolError::BadMount);
-        }
-        let Some(reader) = self.reader.take() else {
-            return Err(VolError::BadMount);
-        };
-        match reader.enter_as::<Sees>() {
-            Err(reader) => {
-                self.reader = Some(reader);
-                Err(VolError::BadMount)
-            }
-            Ok(reading) => {
-                let image = reading.get();
-                let found = find(image, &self.front, mount.number());
-                let result = bytes_under(alloc, image, found_root(&found), path, offset, len);
-                self.come_back(reading.leave(), found);
-                result
-            }
-        }
+        let look = self.look(mount)?;
+        let result = bytes_under(alloc, look.image(), look.root(), path, offset, len);
+        self.come_back(look);
+        result
     }
 
     /// What stands at a path of the mount's tree. It takes no memory, and never waits. Refused as `read_into` is, and as
@@ -287,25 +315,10 @@ impl<J: Volumes> Port<J> {
         ensures told { Told mount.now self.old (result ≡ Err VolError.BadMount)
             (λ t. IsStatOf t path.now result) }
     {
-        if mount.told().volume() != self.front.volume() {
-            return Err(VolError::BadMount);
-        }
-        let Some(reader) = self.reader.take() else {
-            return Err(VolError::BadMount);
-        };
-        match reader.enter_as::<Sees>() {
-            Err(reader) => {
-                self.reader = Some(reader);
-                Err(VolError::BadMount)
-            }
-            Ok(reading) => {
-                let image = reading.get();
-                let found = find(image, &self.front, mount.number());
-                let result = stat_root(image, found_root(&found), path);
-                self.come_back(reading.leave(), found);
-                result
-            }
-        }
+        let look = self.look(mount)?;
+        let result = stat_root(look.image(), look.root(), path);
+        self.come_back(look);
+        result
     }
 
     /// The names in the directory at a path of the mount's tree. It never waits. Refused as `read_into` is, and as
@@ -322,24 +335,9 @@ impl<J: Volumes> Port<J> {
         ensures told { Told mount.now self.old (result ≡ Err VolError.BadMount)
             (λ t. IsListOf t path.now result) }
     {
-        if mount.told().volume() != self.front.volume() {
-            return Err(VolError::BadMount);
-        }
-        let Some(reader) = self.reader.take() else {
-            return Err(VolError::BadMount);
-        };
-        match reader.enter_as::<Sees>() {
-            Err(reader) => {
-                self.reader = Some(reader);
-                Err(VolError::BadMount)
-            }
-            Ok(reading) => {
-                let image = reading.get();
-                let found = find(image, &self.front, mount.number());
-                let result = list_root(alloc, image, found_root(&found), path);
-                self.come_back(reading.leave(), found);
-                result
-            }
-        }
+        let look = self.look(mount)?;
+        let result = list_root(alloc, look.image(), look.root(), path);
+        self.come_back(look);
+        result
     }
 }

@@ -234,7 +234,7 @@ impl<D: Device, J: Volumes, W: Press> Shared<Pen<D>, J, W> {
 // ---- beginning and end
 
 /// A port for each seat, in a list that has room for all.
-fn seat_all<J: Volumes>(ports: &mut Vec<Port<J>>, seats: Vec<Seat<J>>)
+pub fn seat_all<J: Volumes>(ports: &mut Vec<Port<J>>, seats: Vec<Seat<J>>)
     requires { length ports.old.items + length seats.items ≤ ports.old.cap }
     ensures { length ports.new.items ≡ length ports.old.items + length seats.items }
 {
@@ -281,7 +281,7 @@ pub fn share<P: NotingPen, J: Volumes, R: Wait>(
 }
 
 /// Takes mounts whose volume ends.
-fn spend_all<J: Volumes>(mut mounts: Vec<Mount<J>>) {
+pub fn spend_all<J: Volumes>(mut mounts: Vec<Mount<J>>) {
     while let Some(mount) = mounts.pop() {
         mount.spend();
     }

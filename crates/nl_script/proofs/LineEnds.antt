@@ -5,14 +5,14 @@ use Rattle.nl_types.specs.Worlds.{Reply}
 use Rattle.nl_types.specs.declared.error.VolError.TheVariants as error
 use Rattle.nl_types.specs.declared.event.Event.{Event}
 use Rattle.nl_commands.specs.declared.command.Command.{Command}
-use Rattle.nl_commands.specs.declared.command.Command.TheVariants.{Lssu}
+use Rattle.nl_commands.specs.declared.command.Command.TheVariants.{Catm, Lssu}
 use Rattle.nl_cpfile.specs.declared.table.Cpstat.{Cpstat}
 use Rattle.nl_texts.proofs.Appending.{OnOk-same}
 use Rattle.nl_texts.specs.Texts.{Text}
 use Rattle.nl_script.specs.ExitStatus.{status_of}
 use Rattle.nl_protect.specs.declared.config.Config.{Config}
 use Rattle.nl_script.specs.Habits.{Habits}
-use Rattle.nl_script.specs.Lines.{AreEventsDone, AreListed, AreOutcomesTold, ComesTo, IsCommandDone, IsListingRefused, LacksMemory, LineEnd, ended, refused}
+use Rattle.nl_script.specs.Lines.{AreEventsDone, AreListed, AreOutcomesTold, AreFilesTold, ComesTo, IsCommandDone, IsListingRefused, LacksMemory, LineEnd, ended, refused}
 use Rattle.nl_script.specs.OutcomeTexts.{text_of}
 use Rattle.nl_script.specs.Outcomes.{is_quiet}
 use Rattle.nl_script.specs.declared.status.Status.{Status}
@@ -64,3 +64,17 @@ listing_end habits config number moment all command old result before after is t
       (listing_cases habits config number moment all old (ended moment result.0 told.text) told.does);
   written = told.written;
 }
+
+-- files are shown
+pub files_told_end : {S J X E : Type 0} (habits : Habits S J) (config : Config) (number moment mount : ℕ) (given paths : List (List ℕ)) (command : Command) (old new : S)
+    (result : Status × Result X E) (before after : Option Text) → command ≡ Catm mount paths → given ≡ paths
+    → ComesTo (λ end. AreFilesTold habits.reads number moment mount given old new end ⊎ LacksMemory number moment old new end) moment result before after
+    → ComesTo (λ end. IsCommandDone habits config number moment command old new end ⊎ LacksMemory number moment old new end) moment result before after
+files_told_end habits config number moment mount given paths command old new result before after is same told =
+    let end = ended moment result.0 told.text in
+    let does = subst (λ (ps : List (List ℕ)). AreFilesTold habits.reads number moment mount ps old new end ⊎ LacksMemory number moment old new end) same told.does in
+    record {
+      text = told.text;
+      does = subst (λ (c : Command). IsCommandDone habits config number moment c old new end ⊎ LacksMemory number moment old new end) (sym is) does;
+      written = told.written;
+    }

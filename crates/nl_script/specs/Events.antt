@@ -34,6 +34,10 @@ abbrev pub asking : Option ℕ → Ask → Event
 asking None ask = event.Read ask
 asking (Some mount) ask = event.MountRead mount ask
 
+-- a whole file of the tree that a mount gives
+abbrev pub reading : ℕ → List ℕ → Event
+reading mount path = event.MountRead mount (asked Content path)
+
 abbrev pub events_of : (moment latest : ℕ) → Command → List Event
 events_of moment latest (command.At later) = []
 events_of moment latest (command.Mkcp mode) = event.Checkpoint mode moment ∷ []
@@ -42,6 +46,7 @@ events_of moment latest (command.Lscp options) = event.Listing options ∷ []
 events_of moment latest (command.Rmcp quiet ranges) = map (removal_event latest) ranges
 events_of moment latest (command.Lssu all) = []
 events_of moment latest command.Clean = []
+events_of moment latest (command.Catm mount paths) = []
 events_of moment latest (command.Mount number) = event.Mount number ∷ []
 events_of moment latest (command.Umount mount) = event.Unmount mount ∷ []
 events_of moment latest (command.Change change) = event.Apply change ∷ []

@@ -1,5 +1,5 @@
 -- What the lines of a script do, one after another.
-use Rattle.std.specs.Prelude.{◌≡◌, ◌⊎◌, ◌+◌, ◌<◌, ℕ, Bool, true, false, List, [], ◌∷◌, ◌++◌, length, Option, None, Some, is_some, Result, Ok, Err, OnOk}
+use Rattle.std.specs.Prelude.{◌≡◌, ◌⊎◌, ◌+◌, ◌<◌, ℕ, Bool, true, false, List, [], ◌∷◌, ◌++◌, length, map, Option, None, Some, is_some, Result, Ok, Err, OnOk}
 use Rattle.std.specs.Io.KnownBytes.{Appends}
 use Rattle.std.specs.List.{list_any}
 use Rattle.nl_types.specs.Runs.{Run}
@@ -12,14 +12,14 @@ use Rattle.nl_commands.specs.LineMeanings.{LineRead, MeansLine}
 use Rattle.nl_commands.specs.declared.command.CheckpointRange.{CheckpointRange}
 use Rattle.nl_commands.specs.declared.command.CheckpointRange.TheVariants.{Since}
 use Rattle.nl_commands.specs.declared.command.Command.{Command}
-use Rattle.nl_commands.specs.declared.command.Command.TheVariants.{At, Clean, Lssu, Rmcp}
+use Rattle.nl_commands.specs.declared.command.Command.TheVariants.{At, Catm, Clean, Lssu, Rmcp}
 use Rattle.nl_commands.specs.declared.error.LineError.TheVariants.{Usage, Memory}
 use Rattle.nl_cpfile.specs.declared.table.Cpstat.{Cpstat}
 use Rattle.nl_sufile.specs.declared.table.Sustat.{Sustat}
 use Rattle.nl_texts.specs.RefusalTexts.{refusal_text, usage_text}
 use Rattle.nl_texts.specs.SegmentLines.{seg_header, seg_texts}
 use Rattle.nl_texts.specs.Texts.{Text}
-use Rattle.nl_script.specs.Events.{events_of}
+use Rattle.nl_script.specs.Events.{events_of, reading}
 use Rattle.nl_protect.specs.declared.config.Config.{Config}
 use Rattle.nl_script.specs.Habits.{Habits}
 use Rattle.nl_script.specs.ExitStatus.{refused_if, status_of}
@@ -118,6 +118,18 @@ pub record IsRoundDone {S J : Type 0} (habits : Habits S J) (config : Config) (n
   pub over : IsRoundOver habits.steps job old new sum
   pub end_is : end ≡ ended moment (refused_if (is_some sum.refusal)) (round_text number sum)
 
+-- what comes of files that are read: each is told of in its place, or the command is refused as a whole
+abbrev pub files_end : (number moment : ℕ) → List Event → Result (List Reply) VolError → LineEnd
+files_end number moment events (Ok replies) = ended moment (status_of false events replies) (text_of number false events replies)
+files_end number moment events (Err error) = refused number moment error
+
+-- files of a mount are read, and told of
+abbrev pub AreFilesTold : {S : Type 0} → (S → ℕ → List (List ℕ) → Result (List Reply) VolError → S → Type 0)
+    → (number moment mount : ℕ) → (paths : List (List ℕ)) → S → S → LineEnd → Type 0
+AreFilesTold reads number moment mount paths old new end =
+    (answer : Result (List Reply) VolError) × reads old mount paths answer new
+    × (end ≡ files_end number moment (map (reading mount) paths) answer)
+
 -- a command is done
 abbrev pub IsCommandDone : {S J : Type 0} → Habits S J → Config → (number moment : ℕ) → Command → S → S → LineEnd
     → Type 0
@@ -126,6 +138,8 @@ IsCommandDone habits config number moment (Lssu all) old new end =
     (new ≡ old)
     × (AreListed habits.tells habits.measures moment all old end
     ⊎ IsListingRefused habits.tells habits.measures number moment old end)
+IsCommandDone habits config number moment (Catm mount paths) old new end =
+    AreFilesTold habits.reads number moment mount paths old new end
 IsCommandDone habits config number moment Clean old new end = IsRoundDone habits config number moment old new end
 IsCommandDone habits config number moment command old new end =
     AreOutcomesTold habits.does habits.counts number moment command old new end

@@ -2,7 +2,7 @@
 ghost use Rattle.std.specs.Prelude.{◌≡◌, [], ◌∷◌, map, replicate, IfOk};
 ghost use Rattle.nl_types.specs.declared.event.Event.TheVariants.{Apply};
 ghost use Rattle.nl_types.specs.declared.event.Change.TheVariants.{Write};
-ghost use Rattle.nl_script.specs.Events.{asked, asking, events_of, mode_change, removal_event};
+ghost use Rattle.nl_script.specs.Events.{asked, asking, events_of, mode_change, reading, removal_event};
 ghost use Rattle.nl_script.specs.Outcomes.{is_quiet};
 
 use nl_commands::{CheckpointRange, Command, Shown};
@@ -102,6 +102,29 @@ fn asked(what: Shown, path: Items<u8>) -> Ask
     }
 }
 
+/// A read of a whole file through a mount.
+fn reading(mount: MountNumber, path: Items<u8>) -> Event
+    ensures { result ≡ reading mount path }
+{
+    Event::MountRead(mount, asked(Shown::Content, path))
+}
+
+/// Reads of whole files through a mount. Refused by want of memory alone.
+pub fn readings(
+    alloc: Global,
+    mount: MountNumber,
+    paths: &[Items<u8>],
+) -> Result<Vec<Event>, AllocError>
+    ensures { IfOk result (λ events. events.items ≡ map (reading mount) paths.now) }
+{
+    let mut events = Vec::with_capacity(alloc, paths.len())?;
+    for path in paths {
+        let path = Items::from_slice(alloc, path.as_slice())?;
+        events.push(reading(mount, path))?;
+    }
+    Ok(events)
+}
+
 fn asking(mount: Option<MountNumber>, ask: Ask) -> Event
     ensures { result ≡ asking mount ask }
 {
@@ -122,7 +145,9 @@ pub fn events_of(
     ensures { IfOk result (λ events. events.items ≡ events_of moment latest command) }
 {
     match command {
-        Command::At(_) | Command::Lssu { .. } | Command::Clean => Ok(Vec::new(alloc)),
+        Command::At(_) | Command::Lssu { .. } | Command::Clean | Command::Catm { .. } => {
+            Ok(Vec::new(alloc))
+        }
         Command::Mkcp(mode) => one_event(alloc, Event::Checkpoint { mode, moment }),
         Command::Chcp(mode, numbers) => mode_changes(alloc, mode, numbers.as_slice()),
         Command::Lscp(options) => one_event(alloc, Event::Listing(options)),

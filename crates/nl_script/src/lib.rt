@@ -13,7 +13,7 @@ mod telling;
 mod volume;
 
 pub use configurations::{ConfigurationFault, configuration};
-pub use events::{events_of, is_quiet};
+pub use events::{events_of, is_quiet, readings};
 pub use lines::{LineResult, run_line};
 pub use rounds::RoundSum;
 pub use running::run_events;

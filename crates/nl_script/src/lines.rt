@@ -1,16 +1,16 @@
 //! A line of a script on a volume.
-ghost use Rattle.std.specs.Prelude.{◌≡◌, ◌⊎◌, ◌≤◌, ◌<◌, ◌^◌, ◌++◌, [], ℕ, None, is_some, length, vec_capacity, IfErr, IfOk, OnErr, OnOk};
+ghost use Rattle.std.specs.Prelude.{◌≡◌, ◌⊎◌, ◌≤◌, ◌<◌, ◌^◌, ◌++◌, [], ℕ, None, is_some, length, map, vec_capacity, IfErr, IfOk, OnErr, OnOk};
 ghost use Rattle.std.specs.Io.KnownBytes.{Appends};
 ghost use Rattle.std.specs.List.{list_any};
 ghost use Rattle.nl_texts.specs.RefusalTexts.{refusal_text};
 ghost use Rattle.nl_texts.specs.SegmentLines.{seg_header, seg_texts};
 ghost use Rattle.nl_script.specs.ExitStatus.{refused_if, status_of};
-ghost use Rattle.nl_script.specs.Lines.{AreAllTold, AreEventsDone, AreListed, AreOutcomesTold, AreTold, ComesTo, IsCommandDone, IsLatestFor, IsLineDone, IsListingRefused, IsRoundDone, IsUntold, IsUntoldBelow, LacksMemory, ended, is_open, is_since, refused};
+ghost use Rattle.nl_script.specs.Lines.{AreAllTold, AreEventsDone, AreListed, AreOutcomesTold, AreFilesTold, AreTold, ComesTo, IsCommandDone, IsLatestFor, IsLineDone, IsListingRefused, IsRoundDone, IsUntold, IsUntoldBelow, LacksMemory, ended, is_open, is_since, refused};
 ghost use Rattle.nl_script.specs.Rounds.{IsRoundOver, round_text};
 ghost use Rattle.nl_script.specs.declared.rounds.RoundSum.{RoundSum};
 ghost use Rattle.nl_script.specs.OutcomeTexts.{text_of};
 
-use crate::events::{events_of, is_quiet};
+use crate::events::{events_of, is_quiet, readings};
 use crate::rounds::{RoundSum, run_steps, tell_round};
 use crate::running::run_events;
 use crate::status::Status;
@@ -19,7 +19,9 @@ use crate::volume::Volume;
 use nl_commands::{CheckpointRange, Command, LineError, read_line};
 use nl_protect::Config;
 use nl_texts as texts;
-use nl_types::{CheckpointNumber, Event, Reply, Segment, SegmentInfo, VolError};
+use nl_types::{
+    CheckpointNumber, Event, Items, MountNumber, Reply, Segment, SegmentInfo, VolError,
+};
 use std::alloc::{AllocError, Global};
 use std::io;
 use std::io::Write;
@@ -244,6 +246,29 @@ fn clean<V: Volume, W: Write>(
     }
 }
 
+/// Reads files of a mount, and tells of each in its place.
+fn show_files<V: Volume, W: Write>(
+    alloc: Global,
+    volume: &mut V,
+    number: u64,
+    mount: MountNumber,
+    paths: &[Items<u8>],
+    out: &mut W,
+) -> LineResult
+    ensures { (moment : ℕ) → ComesTo (λ end.
+        AreFilesTold V.habits.reads number moment mount paths.now volume.old volume.new end
+        ⊎ LacksMemory number moment volume.old volume.new end)
+        moment result (W.contents out.old) (W.contents out.new) }
+{
+    let Ok(events) = readings(alloc, mount, paths) else {
+        return refused(number, VolError::Memory, out);
+    };
+    match volume.read_files(alloc, mount, paths) {
+        Ok(replies) => tell_done(number, false, events.as_slice(), replies.as_slice(), out),
+        Err(error) => refused(number, error, out),
+    }
+}
+
 fn run_command<V: Volume, W: Write>(
     alloc: Global,
     volume: &mut V,
@@ -265,6 +290,14 @@ fn run_command<V: Volume, W: Write>(
             (Status::Fine, Ok(()))
         }
         Command::Lssu { all } => list_segments(alloc, volume, number, all, out),
+        Command::Catm { mount, paths } => show_files(
+            alloc,
+            volume,
+            number,
+            mount,
+            paths.as_slice(),
+            out,
+        ),
         Command::Clean => clean(alloc, volume, config, *moment, number, out),
         command => run_all(alloc, volume, *moment, number, command, out),
     }

@@ -1,12 +1,12 @@
 //! What scripts know of a volume.
-ghost use Rattle.std.specs.Prelude.{◌<◌, ◌^◌, IfOk, IsOkUnless, OnSome};
+ghost use Rattle.std.specs.Prelude.{◌≡◌, ◌<◌, ◌^◌, Err, IfErr, IfOk, IsOkUnless, Ok, OnSome, length};
 ghost use Rattle.nl_types.specs.declared.error.VolError.{VolError};
 ghost use Rattle.nl_script.specs.Habits.{Habits};
 
 use nl_cpfile::Cpstat;
 use nl_protect::Config;
 use nl_sufile::Sustat;
-use nl_types::{Event, Reply, Segment, SegmentInfo, VolError};
+use nl_types::{Event, Items, MountNumber, Reply, Segment, SegmentInfo, VolError};
 use std::alloc::Global;
 
 /// What a script runs on.
@@ -20,6 +20,19 @@ pub trait Volume {
     /// Does one event.
     fn apply(&mut self, event: &Event) -> Reply
         ensures { habits.does self.old event.now result self.new };
+
+    /// Reads whole files of a mount, side by side where it can. Refused as a whole by `BadMount` or `Memory`; each file has
+    /// refusals of its own.
+    fn read_files(
+        &mut self,
+        alloc: Global,
+        mount: MountNumber,
+        paths: &[Items<u8>],
+    ) -> Result<Vec<Reply>, VolError>
+        ensures read { IfOk result (λ replies.
+            habits.reads self.old mount paths.now (Ok replies.items) self.new) }
+        ensures count { IfOk result (λ replies. length replies.items ≡ length paths.now) }
+        ensures refused { IfErr result (λ e. habits.reads self.old mount paths.now (Err e) self.new) };
 
     /// What is known of a segment.
     fn suinfo(&self, segment: Segment) -> Result<SegmentInfo, VolError>

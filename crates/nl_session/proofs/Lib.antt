@@ -1,1 +1,9 @@
 pub mod ToldSegments
+pub mod Replies
+pub mod SharedReads
+pub mod SharedRounds
+pub mod SharedEvents
+pub mod SharedWorlds
+pub mod SharedWorldsMounts
+pub mod SharedWorldsRuns
+pub mod SharedWorldsEvents

@@ -1,3 +1,5 @@
 pub mod Pens
 pub mod Sessions
+pub mod SharedVolumes
 pub mod Laws
+pub mod SharedLaws

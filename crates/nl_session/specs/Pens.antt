@@ -1,10 +1,11 @@
 -- A pen as the volume of a script.
-use Rattle.std.specs.Prelude.{◌≡◌, ◌+◌, ℕ, length, MatchOption, Option, Result, slice_get}
+use Rattle.std.specs.Prelude.{◌≡◌, ◌⊎◌, ◌+◌, ◌∷◌, ℕ, List, length, map, MatchOption, Option, Result, Ok, Err, slice_get}
 use Rattle.std.specs.Option.{ok_or}
 use Rattle.nl_types.specs.Segments.{clean_segments}
 use Rattle.nl_types.specs.Worlds.{Reply}
 use Rattle.nl_types.specs.declared.error.VolError.{VolError}
-use Rattle.nl_types.specs.declared.error.VolError.TheVariants.{BadRange}
+use Rattle.nl_types.specs.Runs.{Run}
+use Rattle.nl_types.specs.declared.error.VolError.TheVariants.{BadMount, BadRange, Memory}
 use Rattle.nl_types.specs.declared.event.Event.{Event}
 use Rattle.nl_types.specs.declared.segment.SegmentInfo.{SegmentInfo}
 use Rattle.nl_cpfile.specs.Tables.{cpstat_of}
@@ -14,11 +15,19 @@ use Rattle.nl_protect.specs.declared.config.Config.{Config}
 use Rattle.nl_core.specs.Layout.{Does, Layout, unshared}
 use Rattle.nl_cleaner.specs.Job.{IsOver, JobView, Stepped, steps_left}
 use Rattle.nl_cleaner.specs.Plan.{IsPlan}
+use Rattle.nl_script.specs.Events.{reading}
 use Rattle.nl_script.specs.Habits.{Habits}
 
 -- it leads on as a pen does that no one shares
 abbrev pub pen_does : Layout → Event → Reply → Layout → Type 0
 pen_does old event reply new = Does unshared old event reply new
+
+-- files are read one after another; where the mount is unknown to the first, that is told of all
+abbrev pub pen_reads : Layout → (mount : ℕ) → (paths : List (List ℕ)) → Result (List Reply) VolError → Layout → Type 0
+pen_reads old mount paths (Ok replies) new = Run pen_does old (map (reading mount) paths) replies new
+pen_reads old mount paths (Err error) new =
+    ((error ≡ Memory) × (new ≡ old))
+    ⊎ ((error ≡ BadMount) × ((replies : List Reply) × Run pen_does old (map (reading mount) paths) (Err BadMount ∷ replies) new))
 
 abbrev pub pen_tells : Layout → ℕ → Result SegmentInfo VolError → Type 0
 pen_tells l segment result = result ≡ ok_or (slice_get l.store.segments.each segment) BadRange
@@ -46,6 +55,7 @@ pen_left l job = steps_left job l
 abbrev pub pen_habits : Habits Layout JobView
 pen_habits = record {
   does = pen_does;
+  reads = pen_reads;
   tells = pen_tells;
   counts = pen_counts;
   measures = pen_measures;

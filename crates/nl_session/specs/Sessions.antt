@@ -1,5 +1,5 @@
 -- What a session of the program does.
-use Rattle.std.specs.Prelude.{◌≡◌, ◌⊎◌, ◌<◌, ◌≤◌, ℕ, List, length, string_bytes, Option, None, Result, Ok, Err}
+use Rattle.std.specs.Prelude.{◌≡◌, ◌⊎◌, ◌<◌, ◌≤◌, ℕ, List, [], length, string_bytes, Option, None, Result, Ok, Err}
 use Rattle.std.specs.Io.KnownBytes.{Appends}
 use Rattle.nl_types.specs.Limits.{IsGeometry}
 use Rattle.nl_types.specs.Worlds.{formatted}
@@ -21,14 +21,21 @@ use Rattle.nl_protect.specs.declared.config.Config.{Config}
 use Rattle.nl_script.specs.Configurations.{ConfigurationRead, IsConfigured}
 use Rattle.nl_script.specs.Scripts.{IsScriptDone, exit_status}
 use Rattle.nl_script.specs.declared.scripts.Done.{Done}
-use Rattle.nl_session.specs.Pens.{pen_habits}
+use Rattle.nl_session.specs.SharedVolumes.{Sharing, shared_habits}
 
--- the volume has this geometry and checkpoint 1 of the root alone, of moment 0
-pub record IsNewVolume (geometry : Geometry) (l : Layout) : Type 0 where
+-- the pen has this geometry and checkpoint 1 of the root alone, of moment 0
+pub record IsNewPen (geometry : Geometry) (l : Layout) : Type 0 where
   pub pages : DevicePages
   pub failures : ℕ
   pub is_formatted : IsFormatted geometry pages failures 0 l
   pub means : MeansWorld l (formatted 0)
+
+-- so the volume is, all of which is published, and nothing is mounted
+pub record IsNewVolume (geometry : Geometry) (s : Sharing) : Type 0 where
+  pub pen : IsNewPen geometry s.held.layout
+  pub published : s.held.published ≡ s.held.history
+  pub lost : s.held.lost ≡ None
+  pub mounts : s.mounts ≡ []
 
 -- the streams of a session
 pub record Streams (O E : Type 0) : Type 0 where
@@ -55,13 +62,13 @@ streams input contents output printed errors told = record {
 
 -- a script is done on a volume, from moment 0 on, with rounds by this configuration, and nothing but its texts is printed
 pub record IsScriptRun {O : Type 0} (config : Config) (input : Option Text) (contents : O → Option Text)
-    (output printed : O) (old : Layout) (done : Done) : Type 0 where
-  pub new : Layout
-  pub does : IsScriptDone pen_habits config 0 old new done input contents output printed
+    (output printed : O) (old : Sharing) (done : Done) : Type 0 where
+  pub new : Sharing
+  pub does : IsScriptDone shared_habits config 0 old new done input contents output printed
 
 pub record RunsOnNew {O : Type 0} (geometry : Geometry) (config : Config) (input : Option Text)
     (contents : O → Option Text) (output printed : O) (done : Done) : Type 0 where
-  pub volume : Layout
+  pub volume : Sharing
   pub is_new : IsNewVolume geometry volume
   pub runs : IsScriptRun config input contents output printed volume done
 

@@ -1,7 +1,18 @@
-//! What scripts know of a pen, as contracts of functions that do nothing.
+//! What scripts know of a pen and of a shared volume, as contracts of functions that do nothing.
 ghost use Rattle.nl_session.specs.Laws.{PensTellOfSegments};
+ghost use Rattle.nl_session.specs.SharedLaws.{NewVolumesAreBeside, SharedEventsFollowWorlds, SharedReadsFollowWorlds, SharedStepsFollowWorlds};
 
 /// A pen tells of each segment that there is. So on a pen `lssu` is refused for memory alone.
 pub fn pens_tell_of_segments()
     ensures { PensTellOfSegments }
+{}
+
+/// Where a shared volume is beside a world, each event on it is answered as that of plain files with whole copies, and it is
+/// beside a world then too. So are reads of files, and steps of rounds. A new volume is beside a new world, so
+/// all of this holds throughout a session.
+pub fn shared_volumes_follow_worlds()
+    ensures new { NewVolumesAreBeside }
+    ensures events { SharedEventsFollowWorlds }
+    ensures reads { SharedReadsFollowWorlds }
+    ensures steps { SharedStepsFollowWorlds }
 {}

@@ -4,6 +4,8 @@
 pub mod laws;
 mod pen;
 mod sessions;
+mod shared;
 
 pub use pen::PenVolume;
 pub use sessions::session;
+pub use shared::SharedVolume;

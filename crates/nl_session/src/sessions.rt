@@ -3,38 +3,55 @@ ghost use Rattle.std.specs.Prelude.{◌≡◌, map, option_map, IfErr, IfOk, IsO
 ghost use Rattle.std.specs.Io.KnownBytes.{Appends};
 ghost use Rattle.nl_arguments.specs.Statuses.{fault_status};
 ghost use Rattle.nl_script.specs.Scripts.{exit_status};
-ghost use Rattle.nl_session.specs.Sessions.{IsMemoryOrFault, IsNewVolume, IsScriptRun, IsSession, Prints, RunsOnNew, RunsOrRefuses, RunsWith, streams};
+ghost use Rattle.nl_session.specs.Sessions.{IsMemoryOrFault, IsNewPen, IsNewVolume, IsScriptRun, IsSession, Prints, RunsOnNew, RunsOrRefuses, RunsWith, streams};
 
-use crate::pen::PenVolume;
+use crate::shared::SharedVolume;
 use nl_arguments::{Arguments, ArgumentsFault, Asked, read};
 use nl_core::Pen;
 use nl_device::MemDevice;
 use nl_protect::Config;
+use nl_publish::{Opened, Volumes};
 use nl_script::{ConfigurationFault, Done, configuration, script};
 use nl_texts::{StandardStream, StartStep, start_text, stream_text, unread_text};
 use nl_types::{Geometry, Items, VolError};
 use std::alloc::Global;
 use std::io;
 use std::io::{BufReader, Read, Write};
+use std::marker::Brand;
 use std::rt::Files;
+use std::sync::Wait;
 
 /// When the volume is formatted, and the moment of the first lines, in whole seconds.
 const MOMENT: u64 = 0;
 
 /// A new volume in memory.
-fn new_volume(alloc: Global, geometry: Geometry) -> Result<PenVolume<MemDevice>, VolError>
-    ensures made { IfOk result (IsNewVolume geometry) }
+fn new_pen(alloc: Global, geometry: Geometry) -> Result<Pen<MemDevice>, VolError>
+    ensures made { IfOk result (IsNewPen geometry) }
     ensures refused { IfErr result IsMemoryOrFault }
 {
     let device = MemDevice::new(alloc, geometry)?;
-    let pen = Pen::format(alloc, device, geometry, MOMENT)?;
-    Ok(PenVolume { pen })
+    Pen::format(alloc, device, geometry, MOMENT)
+}
+
+/// A new volume in memory that its ports share.
+fn new_volume<'a, J: Volumes, R: Wait>(
+    rt: &'a R,
+    alloc: Global,
+    geometry: Geometry,
+    opened: Opened,
+) -> Result<SharedVolume<'a, MemDevice, J, R>, VolError>
+    requires id { opened.seen.book ≡ J.book opened.id }
+    ensures made { IfOk result (IsNewVolume geometry) }
+    ensures refused { IfErr result IsMemoryOrFault }
+{
+    let pen = new_pen(alloc, geometry)?;
+    SharedVolume::new(rt, alloc, pen, opened)
 }
 
 /// Makes the input's buffer, and runs the script. Refused by `Memory`, no line was run.
-fn run_on<I: Read + Drop, O: Write>(
+fn run_on<J: Volumes, R: Wait, I: Read + Drop, O: Write>(
     alloc: Global,
-    volume: &mut PenVolume<MemDevice>,
+    volume: &mut SharedVolume<'_, MemDevice, J, R>,
     config: &Config,
     input: I,
     output: &mut O,
@@ -49,21 +66,27 @@ fn run_on<I: Read + Drop, O: Write>(
     Ok(script(alloc, volume, config, MOMENT, input, output))
 }
 
-/// Runs the script on a new volume. Refused, no line was run.
-fn run_script<I: Read + Drop, O: Write>(
+/// Runs the script on a new volume, and ends that. Refused, no line was run.
+fn run_script<J: Volumes, R: Wait, I: Read + Drop, O: Write>(
+    rt: &R,
     alloc: Global,
     geometry: Geometry,
+    opened: Opened,
     config: &Config,
     input: I,
     output: &mut O,
 ) -> Result<Done, VolError>
+    requires id { opened.seen.book ≡ J.book opened.id }
     ensures run { IfOk result (λ done.
         RunsOnNew geometry config.now (I.remaining input) O.contents output.old output.new done) }
     ensures refused { IfErr result IsMemoryOrFault }
     ensures unprinted { OnErr result (output.new ≡ output.old) }
 {
-    let mut volume = new_volume(alloc, geometry)?;
-    run_on(alloc, &mut volume, config, input, output)
+    let mut volume = new_volume::<J, _>(rt, alloc, geometry, opened)?;
+    let done = run_on(alloc, &mut volume, config, input, output);
+    // The mounts that the script left are taken out.
+    let _pen = volume.end();
+    done
 }
 
 /// Tells of a refusal before the first line, and answers the status for it.
@@ -141,8 +164,8 @@ fn ended<E: Write>(done: Done, errors: &mut E) -> u8
     done.exit_status()
 }
 
-fn run_with<I: Read + Drop, O: Write, E: Write>(
-    alloc: Global,
+fn run_with<R: AllocGlobal + Wait, I: Read + Drop, O: Write, E: Write>(
+    rt: &R,
     arguments: &Arguments,
     config: &Config,
     input: I,
@@ -156,7 +179,9 @@ fn run_with<I: Read + Drop, O: Write, E: Write>(
         Ok(geometry) => geometry,
         Err(error) => return refused(StartStep::Geometry, error, errors),
     };
-    match run_script(alloc, geometry, config, input, output) {
+    // The session has one shared volume.
+    let opened = Opened::new(1);
+    match run_script::<Brand, _, _, _>(rt, rt.alloc(), geometry, opened, config, input, output) {
         Ok(done) => ended(done, errors),
         Err(error) => refused(StartStep::Start, error, errors),
     }
@@ -169,7 +194,7 @@ fn path_of(arguments: &Arguments) -> Option<&[u8]>
 }
 
 /// The configuration is read before anything else is judged.
-fn run<R: AllocGlobal + Files, I: Read + Drop, O: Write, E: Write>(
+fn run<R: AllocGlobal + Files + Wait, I: Read + Drop, O: Write, E: Write>(
     rt: &R,
     arguments: &Arguments,
     input: I,
@@ -181,7 +206,7 @@ fn run<R: AllocGlobal + Files, I: Read + Drop, O: Write, E: Write>(
 {
     let path = path_of(arguments);
     match configuration(rt, path) {
-        Ok(config) => run_with(rt.alloc(), arguments, &config, input, output, errors),
+        Ok(config) => run_with(rt, arguments, &config, input, output, errors),
         Err(fault) => unconfigured(path.unwrap_or_default(), fault, errors),
     }
 }
@@ -190,7 +215,7 @@ fn run<R: AllocGlobal + Files, I: Read + Drop, O: Write, E: Write>(
 /// Answers the exit status: 2 where the words or a line were no command, else 1 where anything was refused, or a stream or
 /// the configuration's file failed, else 0. What the lines answer goes to the output, which is best buffered: it is flushed
 /// behind each line. Only why no line was run, and that a stream failed, goes to `errors`.
-pub fn session<R: AllocGlobal + Files, I: Read + Drop, O: Write, E: Write>(
+pub fn session<R: AllocGlobal + Files + Wait, I: Read + Drop, O: Write, E: Write>(
     rt: &R,
     words: &[&str],
     input: I,

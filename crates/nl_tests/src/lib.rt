@@ -5,13 +5,11 @@
 //! A test asks a function for its constants, and a function has few of them: a check goes over a constant's value at each step
 //! of the function that names it, and its time grows faster than the value.
 //!
-//! But for `streams`, `beside`, `library`, `commits`, `ports`, `readers` and `backup`, a step of a row that is refused for
+//! But for `streams`, `beside`, `library`, `commits` and `ports`, a step of a row that is refused for
 //! memory has to leave what is seen as it was, and is done again: so with one allocation failing, each row still passes
 //! (`rt try --test --fail-alloc N`).
 #![tactic(auto)]
 
-#[cfg(test)]
-mod backup;
 #[cfg(test)]
 mod beside;
 #[cfg(test)]
@@ -42,8 +40,6 @@ mod ports;
 mod protection;
 #[cfg(test)]
 mod publications;
-#[cfg(test)]
-mod readers;
 #[cfg(test)]
 mod rounds;
 #[cfg(test)]

@@ -3,7 +3,9 @@ use nl_cpfile::Cpstat;
 use nl_protect::Config;
 use nl_script::{Volume, script};
 use nl_sufile::Sustat;
-use nl_types::{Answer, CheckpointNumber, Event, Reply, Segment, SegmentInfo, VolError};
+use nl_types::{
+    Answer, CheckpointNumber, Event, Items, MountNumber, Reply, Segment, SegmentInfo, VolError,
+};
 use std::alloc::Global;
 use std::process::Abort;
 
@@ -18,6 +20,7 @@ impl Volume for Counting {
 
     ghost habits = { record {
       does = λ old event reply new. Unit {0};
+      reads = λ old mount paths answer new. Unit {0};
       tells = λ old segment result. Unit {0};
       counts = λ old stat. Unit {0};
       measures = λ old stat. Unit {0};
@@ -36,6 +39,15 @@ impl Volume for Counting {
             Event::RemoveRange { last, .. } if last.get() == self.latest => Err(VolError::Latest),
             _ => Ok(Answer::Done),
         }
+    }
+
+    fn read_files(
+        &mut self,
+        _: Global,
+        _: MountNumber,
+        _: &[Items<u8>],
+    ) -> Result<Vec<Reply>, VolError> {
+        Err(VolError::BadMount)
     }
 
     fn suinfo(&self, _: Segment) -> Result<SegmentInfo, VolError> {
@@ -73,11 +85,11 @@ fn a_script_is_told_of_line_by_line(rt: HostRuntime) {
     let mut volume = Counting { latest: 1 };
     let mut output = Vec::new(alloc);
     let input =
-        b"at 5\nmkcp\nrmcp 7\nrmcp -f 7\nrmcp 1..\nmkdir\n# no command\nlssu -a\nclean".as_slice();
+        b"at 5\nmkcp\nrmcp 7\nrmcp -f 7\nrmcp 1..\nmkdir\n# no command\nlssu -a\nclean\ncatm 1 /f /g".as_slice();
     let config = Config::standard();
     let done = script(alloc, &mut volume, &config, 0, input, &mut output);
     let expected =
-        b"2\n3: 7: error 10 NoCheckpoint\n5: error 14 Latest\n6: usage\n  SEGNUM       MOMENT STAT  NBLOCKS\n       0            0 ---         0\n9: error 18 Memory\n";
+        b"2\n3: 7: error 10 NoCheckpoint\n5: error 14 Latest\n6: usage\n  SEGNUM       MOMENT STAT  NBLOCKS\n       0            0 ---         0\n9: error 18 Memory\n10: error 19 BadMount\n";
     assert!(rt; output.as_slice() == expected.as_slice());
     assert!(rt; done.moment == 5 && done.misread && done.refused && done.failed.is_none());
 }

@@ -4,6 +4,8 @@
 use nl_session::session;
 use std::io::{BufWriter, ErrorKind};
 use std::process::ExitCode;
+use std::rt::Files;
+use std::sync::Wait;
 use std::{env, io};
 
 /// The program's name and the words behind it.
@@ -22,13 +24,13 @@ fn arguments<'a>(rt: &HostRuntime, words: &'a [String]) -> io::Result<Vec<&'a st
     Ok(arguments)
 }
 
-/// Answers the exit status.
-fn run(rt: &HostRuntime) -> io::Result<u8> {
+/// Answers the exit status. `handles` is the system too, with what `main` alone may hand on: that a call may wait.
+fn run<R: AllocGlobal + Files + Wait>(rt: &HostRuntime, handles: &R) -> io::Result<u8> {
     let words = words(rt)?;
     let arguments = arguments(rt, words.as_slice())?;
     let mut output = BufWriter::new(rt.alloc(), rt.stdout())?;
     let status = session(
-        rt,
+        handles,
         arguments.as_slice(),
         rt.stdin(),
         &mut output,
@@ -48,7 +50,7 @@ fn refused(rt: &HostRuntime, error: &io::Error) -> u8 {
 }
 
 fn main(rt: HostRuntime) -> ExitCode {
-    let status = match run(&rt) {
+    let status = match run(&rt, &rt) {
         Ok(status) => status,
         Err(error) => refused(&rt, &error),
     };

@@ -1,0 +1,62 @@
+-- What is answered through a mount, as replies.
+use Rattle.std.proofs.Common.{◌≡◌, ◌⊎◌, inl, inr, ap, refl, sym, ◌∙◌, ℕ, suc, List, [], ◌∷◌, ◌++◌, length, Ok, Err, Result}
+use Rattle.std.specs.List.{AllZip}
+use Rattle.nl_types.specs.declared.error.VolError.{VolError}
+use Rattle.nl_types.specs.declared.error.VolError.TheVariants.{BadMount, Memory}
+use Rattle.nl_types.specs.declared.event.Ask.TheVariants as ask
+use Rattle.nl_types.specs.declared.reply.Answer.{Answer}
+use Rattle.nl_types.specs.declared.reply.Answer.TheVariants as answer
+use Rattle.nl_types.specs.declared.reply.Named.{Named}
+use Rattle.nl_types.specs.declared.reply.Stat.{Stat}
+use Rattle.nl_types.specs.Calls.{IsUnlessMemory, ShowsUnlessMemory, and_then}
+use Rattle.nl_types.specs.Trees.{Tree}
+use Rattle.nl_types.specs.Worlds.{Reply}
+use Rattle.nl_mounts.specs.Ports.{IsBytesOf, IsListOf, IsStatOf}
+use Rattle.nl_session.specs.SharedVolumes.{IsToldBy, names_reply, reply_of, stat_reply}
+
+bytes_unless : (result : Result (List ℕ) VolError) (expected : Reply) → ShowsUnlessMemory answer.Bytes result expected → IsUnlessMemory (reply_of result) expected
+bytes_unless (Ok bytes) expected shows other = sym shows
+bytes_unless (Err e) expected shows other = sym (shows (λ is. other (ap Err is)))
+
+pub bytes_told : (t : Tree) (path : List ℕ) (offset len : ℕ) (result : Result (List ℕ) VolError)
+    → (result ≡ Err BadMount) ⊎ IsBytesOf t path offset len result → IsToldBy t (ask.Bytes path offset len) (reply_of result)
+bytes_told t path offset len result (inl refused) = inl (ap reply_of refused)
+bytes_told t path offset len result (inr shows) = inr (bytes_unless result _ shows)
+
+abbrev as_names : Result (List Named) VolError → Reply
+as_names found = and_then found (λ names. Ok (answer.Names names))
+
+names_unless : (result found : Result (List Named) VolError) → ShowsUnlessMemory (λ names. names) result found → IsUnlessMemory (names_reply result) (as_names found)
+names_unless (Ok names) found shows other = sym (ap as_names shows)
+names_unless (Err e) found shows other = sym (ap as_names (shows (λ is. other (ap Err is))))
+
+pub names_told : (t : Tree) (path : List ℕ) (result : Result (List Named) VolError)
+    → (result ≡ Err BadMount) ⊎ IsListOf t path result → IsToldBy t (ask.List path) (names_reply result)
+names_told t path result (inl refused) = inl (ap names_reply refused)
+names_told t path result (inr shows) = inr (names_unless result _ shows)
+
+abbrev as_stat : Result Stat VolError → Reply
+as_stat found = and_then found (λ stat. Ok (answer.Stat stat))
+
+stat_as : (result : Result Stat VolError) → stat_reply result ≡ as_stat result
+stat_as (Ok stat) = refl
+stat_as (Err e) = refl
+
+pub stat_told : (t : Tree) (path : List ℕ) (result : Result Stat VolError)
+    → (result ≡ Err BadMount) ⊎ IsStatOf t path result → IsToldBy t (ask.Stat path) (stat_reply result)
+stat_told t path result (inl refused) = inl (ap stat_reply refused)
+stat_told t path result (inr is) = inr (λ other. stat_as result ∙ ap as_stat is)
+
+-- ---- lists that go together
+
+pub zip_push : {A B : Type 0} (R : A → B → Type 0) (xs : List A) (ys : List B) (x : A) (y : B) → AllZip R xs ys → R x y → AllZip R (xs ++ x ∷ []) (ys ++ y ∷ [])
+zip_push R [] [] x y zip one = (one, tt)
+zip_push R (v ∷ xs) (w ∷ ys) x y zip one = (zip.0, zip_push R xs ys x y zip.1 one)
+zip_push R [] (w ∷ ys) x y zip one = absurd zip
+zip_push R (v ∷ xs) [] x y zip one = absurd zip
+
+pub zip_long : {A B : Type 0} (R : A → B → Type 0) (xs : List A) (ys : List B) → AllZip R xs ys → length ys ≡ length xs
+zip_long R [] [] zip = refl
+zip_long R (x ∷ xs) (y ∷ ys) zip = ap suc (zip_long R xs ys zip.1)
+zip_long R [] (y ∷ ys) zip = absurd zip
+zip_long R (x ∷ xs) [] zip = absurd zip

@@ -1,0 +1,279 @@
+-- What each event on a shared volume comes to, beside a world.
+use Rattle.std.proofs.Common.{◌≡◌, ◌≢◌, ℕ, List, [], ◌∷◌, ◌++◌, map, true, false, Option, Some, None, Ok, Err, refl, sym, ap, ◌∙◌, subst, inl, inr}
+use Rattle.std.proofs.lemmas.Option.{same_Some}
+use Rattle.std.specs.List.{AllByRecursion, AllZip}
+use Rattle.std.specs.Prelude.{◌==◌, if◌then◌else◌}
+use Rattle.std.specs.Option.{ok_or}
+use Rattle.std.specs.Ordering.{nat_cmp}
+use Rattle.std.specs.FinMap.{find}
+use Rattle.nl_types.specs.declared.error.VolError.{VolError}
+use Rattle.nl_types.specs.declared.error.VolError.TheVariants.{BadMount, Memory}
+use Rattle.nl_types.specs.declared.event.Ask.{Ask}
+use Rattle.nl_types.specs.declared.event.Event.{Event}
+use Rattle.nl_types.specs.declared.event.Event.TheVariants as event
+use Rattle.nl_types.specs.declared.event.Event.TheVariants.{Mount, Unmount}
+use Rattle.nl_types.specs.Calls.{and_then, reply_to}
+use Rattle.nl_types.specs.Laws.{GivesBack}
+use Rattle.nl_types.specs.Worlds.{Copy, Reply, World, copy_at, formatted, mount_read}
+use Rattle.nl_core.specs.Layout.{DoesIn, Layout}
+use Rattle.nl_core.specs.Notes.{shared}
+use Rattle.nl_cleaner.specs.Job.{JobView, next_by, next_cleaning}
+use Rattle.nl_cleaner.specs.declared.job.Stage.{Stage}
+use Rattle.nl_cleaner.specs.declared.job.Stage.TheVariants.{Cleaning, Ended, Expiring}
+use Rattle.nl_core.specs.CleanerViews.{cleaning_event}
+use Rattle.nl_core.specs.CleaningEvents.{needed_by}
+use Rattle.nl_vstore.specs.Located.{needed_count}
+use Rattle.nl_publish.specs.Cleaning.{CleanRan}
+use Rattle.nl_publish.specs.Cleaning as cleaning
+use Rattle.nl_publish.specs.Locks.{MountRan, Ran, listed, mount_reply}
+use Rattle.nl_publish.specs.Locks as locks
+use Rattle.nl_publish.specs.Mounts.{Claim}
+use Rattle.nl_mounts.specs.Sharing.{MountsCopy}
+use Rattle.nl_commands.specs.declared.command.Shown.TheVariants.{Content}
+use Rattle.nl_script.specs.Events.{asked}
+use Rattle.nl_session.specs.SharedLaws.{Came, ComesBeside, DifferAll, IsBeside, IsDoneBeside, IsFileIn, IsMountIn, IsReadIn, IsSteppedBeside, MountLost, NewVolumesAreBeside, Next, NoNext, SharedEventsFollowWorlds, SharedReadsFollowWorlds, SharedStepsFollowWorlds, Stayed, number_of}
+use Rattle.nl_session.specs.SharedVolumes.{IsFileOf, IsReadThrough, IsRoundOver, IsToldThrough, MountComes, Sharing, left_by, mount_of, without_mount}
+use Rattle.nl_session.specs.SharedVolumes as volume
+use Rattle.nl_session.proofs.SharedWorlds.{Beside, all_hold, back_refused, mount_found, mount_is_new}
+use Rattle.nl_session.proofs.SharedWorldsMounts.{all_and_one, differ_more, differ_none, differ_rest, differ_some, each_so, found_so, left_differ, left_others, left_so}
+use Rattle.nl_session.proofs.SharedWorldsRuns.{IsBehind, behind_ready, behind_whole, comes_behind, comes_clear, comes_same, held_before, stays_ready, stays_so, stays_stuck}
+
+-- ---- reads through mounts
+
+read_is : (w : World) (n : ℕ) (m : Claim) (ask : Ask) (held : IsMountIn w m) → m.number ≡ n → mount_read w n ask ≡ reply_to held.told.copy.tree ask
+read_is w n m ask held same =
+    ap (λ (k : ℕ). mount_read w k ask) (sym same)
+    ∙ ap (λ (o : Option ℕ). and_then (and_then (ok_or o BadMount) (λ (k : ℕ). ok_or (copy_at w k) BadMount)) (λ (copy : Copy). reply_to copy.tree ask)) held.mounted
+    ∙ ap (λ (o : Option Copy). and_then (ok_or o BadMount) (λ (copy : Copy). reply_to copy.tree ask)) held.told.kept
+
+told_in : (w : World) (n : ℕ) (m : Claim) (ask : Ask) (reply : Reply) → IsMountIn w m → m.number ≡ n → IsToldThrough m ask reply → IsReadIn w n ask reply
+told_in w n m ask reply held same told = elim (told held.told.copy.tree held.told.shown) [
+  | inl bad ↦ inl bad
+  | inr is ↦ inr (λ other. is other ∙ sym (read_is w n m ask held same))
+]
+
+read_through : (w : World) (s : Sharing) (n : ℕ) (ask : Ask) (reply : Reply) → IsBeside w s → (o : Option Claim) → mount_of n s.mounts ≡ o
+    → IsReadThrough o ask reply → IsReadIn w n ask reply
+read_through w s n ask reply before None at is = inl is
+read_through w s n ask reply before (Some m) at is =
+    let found = found_so (IsMountIn w) n s.mounts m before.mounts at in
+    told_in w n m ask reply found.0 found.1 is
+
+files_in : (w : World) (n : ℕ) (m : Claim) (paths : List (List ℕ)) (replies : List Reply) → IsMountIn w m → m.number ≡ n
+    → AllZip (IsFileOf m) paths replies → AllZip (IsFileIn w n) paths replies
+files_in w n m [] [] held same told = tt
+files_in w n m (path ∷ paths) (reply ∷ replies) held same told =
+    (told_in w n m (asked Content path) reply held same told.0, files_in w n m paths replies held same told.1)
+files_in w n m [] (reply ∷ replies) held same told = absurd told
+files_in w n m (path ∷ paths) [] held same told = absurd told
+
+pub reads_follow : SharedReadsFollowWorlds
+reads_follow w old new mount paths (Ok replies) before reads =
+    let found = found_so (IsMountIn w) mount old.mounts reads.1.0 before.mounts reads.1.1 in
+    (files_in w mount reads.1.0 paths replies found.0 found.1 reads.1.2, subst (IsBeside w) (sym reads.0) before)
+reads_follow w old new mount paths (Err e) before reads = (tt, subst (IsBeside w) (sym reads.0) before)
+
+-- ---- events
+
+none_given : (claims : List Claim) → AllByRecursion (λ (m : Claim). ⊥ → ⊥) claims
+none_given [] = tt
+none_given (m ∷ claims) = ((λ no. no), none_given claims)
+
+module _ (w : World) (old new : Sharing) (reply : Reply) (before : IsBeside w old) where
+  differ : DifferAll (map number_of old.mounts)
+  differ = differ_rest old.held.lost (map number_of old.mounts) before.numbers
+
+  -- an event that gives no mount back that is held
+  ran_same : (asked : Event) → Ran old.held asked reply new.held → new.mounts ≡ old.mounts
+      → AllByRecursion (λ (m : Claim). GivesBack asked m.number → ⊥) old.mounts → IsDoneBeside w old asked reply new
+  ran_same asked (locks.Done backs goes none) same others =
+      Came (comes_same w old new asked reply before (behind_whole w old.held new.held asked reply backs before.means goes) none same others)
+  ran_same asked (locks.NotBegun stuck is) same others = Stayed is (stays_stuck w old new before same stuck)
+
+  -- ---- unmounts
+
+  module _ (n : ℕ) (behind : IsBehind w old.held (Unmount n) reply new.held) where
+    held : AllByRecursion (IsMountIn behind.middle.1) old.mounts
+    held = held_before w old new (Unmount n) reply before behind
+
+    mounts_left : (r : Reply) → reply ≡ r → AllByRecursion (IsMountIn behind.after) (left_by n r old.mounts)
+    mounts_left (Ok answer) is =
+        all_hold behind.middle (new.held.layout, behind.after) (Unmount n) reply (without_mount n old.mounts) behind.does
+        (each_so (λ (m : Claim). m.number ≢ n) (λ (m : Claim). GivesBack (Unmount n) m.number → ⊥) (λ m other same. other (sym same))
+        (without_mount n old.mounts) (left_others n old.mounts differ))
+        (left_so (IsMountIn behind.middle.1) n old.mounts held)
+    mounts_left (Err e) is =
+        let still = back_refused behind.middle (new.held.layout, behind.after) n e
+        (subst (λ (r : Reply). DoesIn shared behind.middle (Unmount n) r (new.held.layout, behind.after)) is behind.does) in
+        subst (λ (v : World). AllByRecursion (IsMountIn v) old.mounts) (sym still) held
+
+    numbers_left : (r : Reply) → DifferAll (map number_of (left_by n r old.mounts))
+    numbers_left (Ok answer) = left_differ n old.mounts differ
+    numbers_left (Err e) = differ
+
+    back_comes : new.held.lost ≡ None → new.mounts ≡ left_by n reply old.mounts → ComesBeside w old (Unmount n) reply new
+    back_comes none same =
+        comes_clear w old new (Unmount n) reply before behind none
+        (subst (AllByRecursion (IsMountIn behind.after)) (sym same) (mounts_left reply refl))
+        (subst (λ (claims : List Claim). DifferAll (map number_of claims)) (sym same) (numbers_left reply))
+
+  ran_back : (n : ℕ) → Ran old.held (Unmount n) reply new.held → new.mounts ≡ left_by n reply old.mounts → IsDoneBeside w old (Unmount n) reply new
+  ran_back n (locks.Done backs goes none) same =
+      Came (back_comes n (behind_whole w old.held new.held (Unmount n) reply backs before.means goes) none same)
+  ran_back n (locks.NotBegun stuck is) same =
+      Stayed is (stays_stuck w old new before (same ∙ ap (λ (r : Reply). left_by n r old.mounts) is) stuck)
+
+  -- ---- mounts
+
+  module _ (k n : ℕ) (behind : IsBehind w old.held (Mount k) (mount_reply n) new.held) where
+    abbrev b : Beside
+    b = (new.held.layout, behind.after)
+
+    were : AllByRecursion (IsMountIn behind.middle.1) old.mounts
+    were = held_before w old new (Mount k) (mount_reply n) before behind
+
+    are : AllByRecursion (IsMountIn behind.after) old.mounts
+    are = all_hold behind.middle b (Mount k) (mount_reply n) old.mounts behind.does (none_given old.mounts) were
+
+    -- the number is none of theirs
+    new_number : AllByRecursion (λ (m : Claim). m.number ≢ n) old.mounts
+    new_number =
+        each_so (IsMountIn behind.middle.1) (λ (m : Claim). m.number ≢ n)
+        (λ m held. mount_is_new behind.middle b k n behind.does behind.means.world m held) old.mounts were
+
+    -- the mount is held
+    mount_held : (m : Claim) → m.number ≡ n → m.checkpoint ≡ k → MountsCopy new.held m → new.held.lost ≡ None
+        → new.mounts ≡ old.mounts ++ m ∷ [] → ComesBeside w old (Mount k) (mount_reply n) new
+    mount_held m number checkpoint copy none same =
+        let found = mount_found behind.middle b k n behind.does behind.means.world in
+        let one : IsMountIn behind.after m = record {
+          mounted = ap (λ (j : ℕ). find nat_cmp j behind.after.mounts) number ∙ (found ∙ ap (λ (j : ℕ). Some j) (sym checkpoint));
+          told = copy behind.after behind.does.means;
+        } in
+        let others : AllByRecursion (λ (c : Claim). c.number ≢ m.number) old.mounts =
+        subst (λ (j : ℕ). AllByRecursion (λ (c : Claim). c.number ≢ j) old.mounts) (sym number) new_number in
+        comes_clear w old new (Mount k) (mount_reply n) before behind none
+        (subst (AllByRecursion (IsMountIn behind.after)) (sym same) (all_and_one (IsMountIn behind.after) old.mounts m are one))
+        (subst (λ (claims : List Claim). DifferAll (map number_of claims)) (sym same) (differ_more old.mounts m differ others))
+
+    -- or it is lost
+    mount_lost : new.held.lost ≡ Some n → new.mounts ≡ old.mounts → ComesBeside w old (Mount k) (mount_reply n) new
+    mount_lost lost same =
+        comes_behind w old new (Mount k) (mount_reply n) before behind
+        (subst (AllByRecursion (IsMountIn behind.after)) (sym same) are)
+        (subst (λ (claims : List Claim). DifferAll (listed new.held.lost ++ map number_of claims)) (sym same)
+        (differ_some new.held.lost n old.mounts lost differ new_number))
+
+  mount_made : (k : ℕ) (m : Claim) → reply ≡ mount_reply m.number → m.checkpoint ≡ k → MountsCopy new.held m
+      → new.mounts ≡ old.mounts ++ m ∷ [] → MountRan old.held k (Ok m.number) new.held → IsDoneBeside w old (Mount k) reply new
+  mount_made k m is of copy same (locks.Mounted clear n begun goes result all none) =
+      let number : m.number ≡ n = cc result in
+      let behind = behind_ready w old.held clear new.held (Mount k) (mount_reply n) before.means begun.ready goes in
+      Came (subst (λ (r : Reply). ComesBeside w old (Mount k) r new) (sym (is ∙ ap mount_reply number))
+      (mount_held k n behind m number of copy none same))
+  mount_made k m is of copy same (locks.Lost clear n begun goes result lost) = absurd (cc result)
+  mount_made k m is of copy same (locks.Refused clear e begun goes result) = absurd (cc result)
+  mount_made k m is of copy same (locks.Pending ready apart result) = absurd (cc result)
+  mount_made k m is of copy same (locks.Stuck stuck result) = absurd (cc result)
+
+  mount_refused : (k : ℕ) (e : VolError) → reply ≡ Err e → new.mounts ≡ old.mounts → MountRan old.held k (Err e) new.held
+      → IsDoneBeside w old (Mount k) reply new
+  mount_refused k e is same (locks.Mounted clear n begun goes result all none) = absurd (cc result)
+  mount_refused k e is same (locks.Lost clear n begun goes result lost) =
+      let memory : e ≡ Memory = cc result in
+      let behind = behind_ready w old.held clear new.held (Mount k) (mount_reply n) before.means begun.ready goes in
+      MountLost k n refl (is ∙ ap (λ (x : VolError). Err x) memory) lost (mount_lost k n behind lost same)
+  mount_refused k e is same (locks.Refused clear x begun goes result) =
+      let error : e ≡ x = cc result in
+      let behind = behind_ready w old.held clear new.held (Mount k) (Err x) before.means begun.ready goes.0 in
+      Came (subst (λ (r : Reply). ComesBeside w old (Mount k) r new) (sym (is ∙ ap (λ (y : VolError). Err y) error))
+      (comes_same w old new (Mount k) (Err x) before behind (goes.1 ∙ begun.ready.lost) same (none_given old.mounts)))
+  mount_refused k e is same (locks.Pending ready apart result) =
+      let memory : e ≡ Memory = cc result in
+      Stayed (is ∙ ap (λ (x : VolError). Err x) memory) (stays_ready w old new before same ready)
+  mount_refused k e is same (locks.Stuck stuck result) =
+      let memory : e ≡ Memory = cc result in
+      Stayed (is ∙ ap (λ (x : VolError). Err x) memory) (stays_stuck w old new before same stuck)
+
+  mount_comes : (k : ℕ) → MountComes old k reply new → IsDoneBeside w old (Mount k) reply new
+  mount_comes k (volume.NoPlace is same) = Stayed is (stays_so w old new before same)
+  mount_comes k (volume.Mounted m is of told ran copy same) = mount_made k m is of copy same ran
+  mount_comes k (volume.Refused e is ran same) = mount_refused k e is same ran
+
+pub events_follow : SharedEventsFollowWorlds
+events_follow w old new (Mount k) reply before does = mount_comes w old new reply before k does
+events_follow w old new (Unmount n) reply before does = ran_back w old new reply before n does.0 does.1
+events_follow w old new (event.MountRead n ask) reply before does =
+    (read_through w old n ask reply before (mount_of n old.mounts) refl does.1, subst (IsBeside w) (sym does.0) before)
+events_follow w old new (event.Apply change) reply before does = ran_same w old new reply before (event.Apply change) does.0 does.1 (none_given old.mounts)
+events_follow w old new (event.Read ask) reply before does = ran_same w old new reply before (event.Read ask) does.0 does.1 (none_given old.mounts)
+events_follow w old new (event.Checkpoint mode now) reply before does =
+    ran_same w old new reply before (event.Checkpoint mode now) does.0 does.1 (none_given old.mounts)
+events_follow w old new (event.ChangeMode n mode) reply before does =
+    ran_same w old new reply before (event.ChangeMode n mode) does.0 does.1 (none_given old.mounts)
+events_follow w old new (event.Remove n) reply before does = ran_same w old new reply before (event.Remove n) does.0 does.1 (none_given old.mounts)
+events_follow w old new (event.RemoveRange first last) reply before does =
+    ran_same w old new reply before (event.RemoveRange first last) does.0 does.1 (none_given old.mounts)
+events_follow w old new (event.Expire now period) reply before does =
+    ran_same w old new reply before (event.Expire now period) does.0 does.1 (none_given old.mounts)
+events_follow w old new (event.Move segment limit now) reply before does =
+    ran_same w old new reply before (event.Move segment limit now) does.0 does.1 (none_given old.mounts)
+events_follow w old new (event.Retire segment) reply before does =
+    ran_same w old new reply before (event.Retire segment) does.0 does.1 (none_given old.mounts)
+events_follow w old new (event.Listing options) reply before does =
+    ran_same w old new reply before (event.Listing options) does.0 does.1 (none_given old.mounts)
+
+-- ---- steps of rounds
+
+-- a round gives no mount back
+abbrev GivesNone : Event → Type 0
+GivesNone asked = (n : ℕ) → GivesBack asked n → ⊥
+
+cleaning_gives_none : (l : Layout) (segment now : ℕ) → GivesNone (cleaning_event l segment now)
+cleaning_gives_none l segment now = elim (needed_count l.store (needed_by l.lists) segment == 0)
+    as (λ b. GivesNone (if b then event.Retire segment else event.Move segment 30 now)) [ true ↦ λ n no. no | false ↦ λ n no. no ]
+
+left_gives_none : (left : List ℕ) (now : ℕ) (l : Layout) (asked : Event) → next_cleaning left now l ≡ Some asked → GivesNone asked
+left_gives_none [] now l asked is = absurd (cc is)
+left_gives_none (segment ∷ rest) now l asked is =
+    subst GivesNone (same_Some (cleaning_event l segment now) asked is) (cleaning_gives_none l segment now)
+
+next_gives_none : (stage : Stage) (job : JobView) (l : Layout) (asked : Event) → next_by stage job l ≡ Some asked → GivesNone asked
+next_gives_none Expiring job l asked is = subst GivesNone (same_Some (event.Expire job.moment job.period) asked is) (λ n no. no)
+next_gives_none Cleaning job l asked is = left_gives_none job.left job.moment l asked is
+next_gives_none Ended job l asked is = absurd (cc is)
+
+each_given_none : (asked : Event) → GivesNone asked → (claims : List Claim) → AllByRecursion (λ (m : Claim). GivesBack asked m.number → ⊥) claims
+each_given_none asked none [] = tt
+each_given_none asked none (m ∷ claims) = (none m.number, each_given_none asked none claims)
+
+stepped : (w : World) (old new : Sharing) (job next : JobView) (reply : Option Reply) → IsBeside w old → CleanRan old.held job reply new.held next
+    → new.mounts ≡ old.mounts → IsSteppedBeside w old job reply new
+stepped w old new job next reply before (cleaning.Stepped begun asked answer ready is goes replied now) same =
+    let behind = behind_ready w old.held begun new.held asked answer before.means ready goes.0 in
+    Next begun.layout asked answer is replied (comes_same w old new asked answer before behind (goes.1 ∙ ready.lost) same
+    (each_given_none asked (next_gives_none job.stage job begun.layout asked is) old.mounts))
+stepped w old new job next reply before (cleaning.Over ready is replied now) same =
+    NoNext (inl replied) (stays_ready w old new before same ready)
+stepped w old new job next reply before (cleaning.NotBegun stuck replied now) same =
+    NoNext (inr replied) (stays_stuck w old new before same stuck)
+
+over : (w : World) (old new : Sharing) (job next : JobView) (reply : Option Reply) → IsBeside w old → IsRoundOver old.held job reply new.held next
+    → new.mounts ≡ old.mounts → IsSteppedBeside w old job reply new
+over w old new job next reply before round same =
+    let still : new ≡ old = λ i. record { held = round.2 i; mounts = same i } in
+    NoNext (inl round.1) (stays_so w old new before still)
+
+pub steps_follow : SharedStepsFollowWorlds
+steps_follow w old new job next reply before (inl round, same) = over w old new job next reply before round same
+steps_follow w old new job next reply before (inr ran, same) = stepped w old new job next reply before ran same
+
+-- ---- new volumes
+
+pub new_beside : NewVolumesAreBeside
+new_beside geometry s new = record {
+  means = new.pen.means;
+  mounts = subst (AllByRecursion (IsMountIn (formatted 0))) (sym new.mounts) tt;
+  numbers = differ_none s.held.lost (map number_of s.mounts) new.lost
+      (subst (λ (claims : List Claim). DifferAll (map number_of claims)) (sym new.mounts) tt);
+}

@@ -1,0 +1,344 @@
+//! A shared volume as the volume of a script. One thread has its writer and its ports.
+ghost use Rattle.std.specs.Prelude.{◌≡◌, ◌<◌, IfOk, IsOkUnless, OnSome, length, option_map};
+ghost use Rattle.std.specs.List.{AllZip};
+ghost use Rattle.nl_cleaner.specs.Job.{steps_left};
+ghost use Rattle.nl_core.specs.Layout.{layout_of};
+ghost use Rattle.nl_core.specs.Volume.{without_mounts};
+ghost use Rattle.nl_publish.specs.Locks.{Ran};
+ghost use Rattle.nl_session.specs.SharedVolumes.{HasBegunShared, IsFileOf, IsReadThrough, IsRoundStep, IsToldThrough, MountComes, left_by, mount_of, place_of, names_reply, reply_of, shared_habits, stat_reply, without_mount};
+ghost use Rattle.nl_types.specs.declared.event.Ask.TheVariants as question;
+ghost use Rattle.nl_types.specs.declared.event.Event.TheVariants as event;
+
+use nl_cleaner::Job;
+use nl_cleaner::laws::{steps_end_rounds, unmounts_leave_rounds};
+use nl_core::Pen;
+use nl_cpfile::Cpstat;
+use nl_device::Device;
+use nl_mounts::{JobAnswer, Port, seat_all, spend_all};
+use nl_protect::Config;
+use nl_publish::{Locked, Mount, Opened, Publisher, Volumes};
+use nl_script::Volume;
+use nl_sufile::Sustat;
+use nl_types::{
+    Answer, Ask, CheckpointNumber, Event, Items, MountNumber, Named, Reply, Segment, SegmentInfo,
+    Stat, VolError,
+};
+use std::alloc::{AllocError, Global};
+use std::marker::Model;
+use std::sync::Wait;
+
+/// How many ports a volume has.
+const PORTS: usize = 4;
+
+/// The most bytes of a file.
+const MOST_BYTES: u64 = 67_108_864;
+
+/// A volume whose commits are published, its ports, and the mounts that are held. A contract sees what lies under the lock,
+/// and the mounts.
+pub struct SharedVolume<'a, D: Device, J: Volumes, R: Wait> {
+    rt: &'a R,
+    alloc: Global,
+    locked: Locked<Pen<D>, J, Publisher>,
+    ports: Vec<Port<J>>,
+    mounts: Vec<Mount<J>>,
+}
+
+impl<'a, D: Device, J: Volumes, R: Wait> Model for SharedVolume<'a, D, J, R> {
+    ghost use Rattle.std.specs.Prelude.{◌<◌, length};
+    ghost use Rattle.nl_session.specs.SharedVolumes.{Sharing};
+
+    ghost Value = { Sharing };
+
+    ghost view = { λ v. record { held = v.locked; mounts = v.mounts.items } };
+
+    ghost invariant = { λ v. 0 < length v.ports.items };
+}
+
+// ---- mounts
+
+fn place_of<J: Volumes>(mounts: &[Mount<J>], number: MountNumber) -> Option<usize>
+    ensures { result ≡ place_of number mounts.now }
+{
+    mounts.iter().position(|mount| mount.number() == number)
+}
+
+fn mount_of<J: Volumes>(mounts: &[Mount<J>], number: MountNumber) -> Option<&Mount<J>>
+    ensures { option_map (λ m. m.now) result ≡ mount_of number mounts.now }
+{
+    mounts.get(place_of(mounts, number)?)
+}
+
+/// Takes the mount of a number out, which was given back.
+fn forget<J: Volumes>(mounts: &mut Vec<Mount<J>>, number: MountNumber)
+    ensures { mounts.new.items ≡ without_mount number mounts.old.items }
+{
+    if let Some(place) = place_of(mounts.as_slice(), number) {
+        mounts.remove(place).spend();
+    }
+}
+
+// ---- reads
+
+fn reply_of(answer: JobAnswer) -> Reply
+    ensures { result ≡ reply_of answer }
+{
+    match answer {
+        Ok(bytes) => Ok(Answer::Bytes(bytes)),
+        Err(refusal) => Err(refusal),
+    }
+}
+
+fn names_reply(names: Result<Items<Named>, VolError>) -> Reply
+    ensures { result ≡ names_reply names }
+{
+    match names {
+        Ok(names) => Ok(Answer::Names(names)),
+        Err(refusal) => Err(refusal),
+    }
+}
+
+fn stat_reply(stat: Result<Stat, VolError>) -> Reply
+    ensures { result ≡ stat_reply stat }
+{
+    match stat {
+        Ok(stat) => Ok(Answer::Stat(stat)),
+        Err(refusal) => Err(refusal),
+    }
+}
+
+fn bytes_through<J: Volumes>(
+    alloc: Global,
+    port: &mut Port<J>,
+    mount: &Mount<J>,
+    path: &[u8],
+    offset: u64,
+    len: u64,
+) -> Reply
+    ensures { IsToldThrough mount.now (question.Bytes path.now offset len) result }
+{
+    port.learn(mount);
+    reply_of(port.read(alloc, mount, path, offset, len))
+}
+
+fn names_through<J: Volumes>(
+    alloc: Global,
+    port: &mut Port<J>,
+    mount: &Mount<J>,
+    path: &[u8],
+) -> Reply
+    ensures { IsToldThrough mount.now (question.List path.now) result }
+{
+    port.learn(mount);
+    names_reply(port.list(alloc, mount, path))
+}
+
+fn stat_through<J: Volumes>(port: &mut Port<J>, mount: &Mount<J>, path: &[u8]) -> Reply
+    ensures { IsToldThrough mount.now (question.Stat path.now) result }
+{
+    port.learn(mount);
+    stat_reply(port.stat(mount, path))
+}
+
+/// What a mount says to a question.
+fn told<J: Volumes>(alloc: Global, port: &mut Port<J>, mount: &Mount<J>, ask: &Ask) -> Reply
+    ensures { IsToldThrough mount.now ask.now result }
+{
+    match ask {
+        Ask::Bytes { path, offset, len } => {
+            bytes_through(alloc, port, mount, path.as_slice(), *offset, *len)
+        }
+        Ask::List { path } => names_through(alloc, port, mount, path.as_slice()),
+        Ask::Stat { path } => stat_through(port, mount, path.as_slice()),
+    }
+}
+
+/// What the mount of a number says to a question, through the first port.
+fn told_through<J: Volumes>(
+    alloc: Global,
+    ports: &mut [Port<J>],
+    mounts: &[Mount<J>],
+    number: MountNumber,
+    ask: &Ask,
+) -> Reply
+    requires { 0 < length ports.old }
+    ensures told { IsReadThrough (mount_of number mounts.now) ask.now result }
+    ensures ports { length ports.new ≡ length ports.old }
+{
+    match mount_of(mounts, number) {
+        Some(mount) => told(alloc, &mut ports[0], mount, ask),
+        None => Err(VolError::BadMount),
+    }
+}
+
+/// Reads whole files, one after another.
+fn read_through<J: Volumes>(
+    alloc: Global,
+    ports: &mut [Port<J>],
+    mount: &Mount<J>,
+    paths: &[Items<u8>],
+) -> Result<Vec<Reply>, AllocError>
+    requires { 0 < length ports.old }
+    ensures files { IfOk result (λ replies. AllZip (IsFileOf mount.now) paths.now replies.items) }
+    ensures ports { length ports.new ≡ length ports.old }
+{
+    let mut replies = Vec::with_capacity(alloc, paths.len())?;
+    for path in paths {
+        let path = path.as_slice();
+        let reply = bytes_through(alloc, &mut ports[0], mount, path, 0, MOST_BYTES);
+        replies.push(reply)?;
+    }
+    Ok(replies)
+}
+
+// ---- beginning and end
+
+impl<'a, D: Device, J: Volumes, R: Wait> SharedVolume<'a, D, J, R> {
+    /// Shares a volume among four ports. `opened` has its id, and an empty history.
+    ///
+    /// # Errors
+    /// `Memory`.
+    pub fn new(rt: &'a R, alloc: Global, pen: Pen<D>, opened: Opened) -> Result<Self, VolError>
+        requires id { opened.seen.book ≡ J.book opened.id }
+        ensures begun { IfOk result (HasBegunShared opened.id pen) }
+        ensures refused { IsOkUnless result VolError.Memory }
+    {
+        let mut ports = Vec::with_capacity(alloc, PORTS)?;
+        match Locked::new(alloc, rt, pen, opened, PORTS) {
+            Err((refusal, _pen)) => Err(refusal),
+            Ok((locked, seats)) => {
+                seat_all(&mut ports, seats);
+                Ok(SharedVolume {
+                    rt,
+                    alloc,
+                    locked,
+                    ports,
+                    mounts: Vec::new(alloc),
+                })
+            }
+        }
+    }
+
+    /// Takes all mounts out, and gives the pen back. It takes no memory.
+    pub fn end(self) -> Pen<D>
+        ensures { result ≡ layout_of (without_mounts self.entry.held.layout.lists) self.entry.held.layout.store }
+    {
+        let SharedVolume {
+            rt,
+            alloc: _,
+            locked,
+            ports: _ports,
+            mounts,
+        } = self;
+        spend_all(mounts);
+        locked.end(rt)
+    }
+}
+
+// ---- rounds of cleaning
+
+/// Does the next step of a round, where one is left.
+fn step_round<D: Device, J: Volumes, R: Wait>(
+    rt: &R,
+    locked: &mut Locked<Pen<D>, J, Publisher>,
+    job: &mut Job,
+) -> Option<Reply>
+    ensures stepped { IsRoundStep locked.old job.old result locked.new job.new }
+    ensures fewer { OnSome result (steps_left job.new locked.new.layout < steps_left job.old locked.old.layout) }
+{
+    steps_end_rounds();
+    unmounts_leave_rounds();
+    locked.means_a_world();
+    job.next(locked.pen())?;
+    locked.clean_step(rt, job)
+}
+
+// ---- events
+
+impl<D: Device, J: Volumes, R: Wait> SharedVolume<'_, D, J, R> {
+    /// Mounts a checkpoint, and holds the mount. Its place is there before it is made.
+    fn mount(&mut self, checkpoint: CheckpointNumber) -> Reply
+        ensures { MountComes self.old checkpoint result self.new }
+    {
+        if self.mounts.reserve(1).is_err() {
+            return Err(VolError::Memory);
+        }
+        match self.locked.mount(self.rt, checkpoint) {
+            Err(refusal) => Err(refusal),
+            Ok(mount) => {
+                let number = mount.number();
+                self.mounts.push_reserved(mount);
+                Ok(Answer::Mount(number))
+            }
+        }
+    }
+
+    /// Gives a mount back. Refused, it is held on.
+    fn unmount(&mut self, number: MountNumber) -> Reply
+        ensures ran { Ran self.old.held (event.Unmount number) result self.new.held }
+        ensures mounts { self.new.mounts ≡ left_by number result self.old.mounts }
+    {
+        let reply = self.locked.apply(self.rt, &Event::Unmount(number));
+        if reply.is_ok() {
+            forget(&mut self.mounts, number);
+        }
+        reply
+    }
+
+    /// Asks the tree of a mount that is held.
+    fn read(&mut self, number: MountNumber, ask: &Ask) -> Reply
+        ensures told { IsReadThrough (mount_of number self.old.mounts) ask.now result }
+        ensures same { self.new ≡ self.old }
+    {
+        let mounts = self.mounts.as_slice();
+        told_through(self.alloc, self.ports.as_mut_slice(), mounts, number, ask)
+    }
+}
+
+impl<D: Device, J: Volumes, R: Wait> Volume for SharedVolume<'_, D, J, R> {
+    type Job = Job;
+
+    ghost habits = { shared_habits };
+
+    fn apply(&mut self, event: &Event) -> Reply {
+        match event {
+            Event::Mount(checkpoint) => self.mount(*checkpoint),
+            Event::Unmount(number) => self.unmount(*number),
+            Event::MountRead(number, ask) => self.read(*number, ask),
+            _ => self.locked.apply(self.rt, event),
+        }
+    }
+
+    fn read_files(
+        &mut self,
+        alloc: Global,
+        mount: MountNumber,
+        paths: &[Items<u8>],
+    ) -> Result<Vec<Reply>, VolError> {
+        let Some(mount) = mount_of(self.mounts.as_slice(), mount) else {
+            return Err(VolError::BadMount);
+        };
+        let replies = read_through(alloc, self.ports.as_mut_slice(), mount, paths)?;
+        Ok(replies)
+    }
+
+    fn suinfo(&self, segment: Segment) -> Result<SegmentInfo, VolError> {
+        self.locked.suinfo(segment)
+    }
+
+    fn sustat(&self) -> Sustat {
+        self.locked.means_a_world();
+        self.locked.sustat()
+    }
+
+    fn cpstat(&self) -> Cpstat {
+        self.locked.cpstat()
+    }
+
+    fn plan(&self, alloc: Global, config: &Config, now: u64) -> Result<Job, VolError> {
+        self.locked.plan(alloc, config, now)
+    }
+
+    fn clean_step(&mut self, job: &mut Job) -> Option<Reply> {
+        step_round(self.rt, &mut self.locked, job)
+    }
+}
