@@ -3,6 +3,7 @@ pub mod Outcomes
 pub mod OutcomeTexts
 pub mod ExitStatus
 pub mod Rounds
+pub mod FileReads
 pub mod Habits
 pub mod Lines
 pub mod Scripts

@@ -19,7 +19,9 @@ use Rattle.nl_sufile.specs.declared.table.Sustat.{Sustat}
 use Rattle.nl_texts.specs.RefusalTexts.{refusal_text, usage_text}
 use Rattle.nl_texts.specs.SegmentLines.{seg_header, seg_texts}
 use Rattle.nl_texts.specs.Texts.{Text}
+use Rattle.nl_publish.specs.Mounts.{Claim}
 use Rattle.nl_script.specs.Events.{events_of, reading}
+use Rattle.nl_script.specs.FileReads.{AreFilesOf}
 use Rattle.nl_protect.specs.declared.config.Config.{Config}
 use Rattle.nl_script.specs.Habits.{Habits}
 use Rattle.nl_script.specs.ExitStatus.{refused_if, status_of}
@@ -123,12 +125,18 @@ abbrev pub files_end : (number moment : ℕ) → List Event → Result (List Rep
 files_end number moment events (Ok replies) = ended moment (status_of false events replies) (text_of number false events replies)
 files_end number moment events (Err error) = refused number moment error
 
--- files of a mount are read, and told of
-abbrev pub AreFilesTold : {S : Type 0} → (S → ℕ → List (List ℕ) → Result (List Reply) VolError → S → Type 0)
-    → (number moment mount : ℕ) → (paths : List (List ℕ)) → S → S → LineEnd → Type 0
-AreFilesTold reads number moment mount paths old new end =
-    (answer : Result (List Reply) VolError) × reads old mount paths answer new
+-- no such mount is held, and that is told; or its files are read, and told of
+abbrev pub AreFilesTold : (number moment mount : ℕ) → (paths : List (List ℕ)) → Option Claim → LineEnd → Type 0
+AreFilesTold number moment mount paths None end = end ≡ refused number moment error.BadMount
+AreFilesTold number moment mount paths (Some m) end =
+    (answer : Result (List Reply) VolError) × AreFilesOf m paths answer
     × (end ≡ files_end number moment (map (reading mount) paths) answer)
+
+-- files of the mount that is held are told of
+abbrev pub AreFilesShown : {S : Type 0} → (S → ℕ → Option Claim → Type 0) → (number moment mount : ℕ)
+    → (paths : List (List ℕ)) → S → LineEnd → Type 0
+AreFilesShown holds number moment mount paths old end =
+    (held : Option Claim) × holds old mount held × AreFilesTold number moment mount paths held end
 
 -- a command is done
 abbrev pub IsCommandDone : {S J : Type 0} → Habits S J → Config → (number moment : ℕ) → Command → S → S → LineEnd
@@ -139,7 +147,7 @@ IsCommandDone habits config number moment (Lssu all) old new end =
     × (AreListed habits.tells habits.measures moment all old end
     ⊎ IsListingRefused habits.tells habits.measures number moment old end)
 IsCommandDone habits config number moment (Catm mount paths) old new end =
-    AreFilesTold habits.reads number moment mount paths old new end
+    (new ≡ old) × AreFilesShown habits.holds number moment mount paths old end
 IsCommandDone habits config number moment Clean old new end = IsRoundDone habits config number moment old new end
 IsCommandDone habits config number moment command old new end =
     AreOutcomesTold habits.does habits.counts number moment command old new end

@@ -4,6 +4,7 @@
 mod configurations;
 mod events;
 mod lines;
+mod readers;
 mod reading;
 mod rounds;
 mod running;
@@ -13,8 +14,9 @@ mod telling;
 mod volume;
 
 pub use configurations::{ConfigurationFault, configuration};
-pub use events::{events_of, is_quiet, readings};
+pub use events::{events_of, is_quiet};
 pub use lines::{LineResult, run_line};
+pub use readers::Readers;
 pub use rounds::RoundSum;
 pub use running::run_events;
 pub use scripts::{Done, script};

@@ -1,16 +1,19 @@
 //! A line of a script on a volume.
-ghost use Rattle.std.specs.Prelude.{◌≡◌, ◌⊎◌, ◌≤◌, ◌<◌, ◌^◌, ◌++◌, [], ℕ, None, is_some, length, map, vec_capacity, IfErr, IfOk, OnErr, OnOk};
+ghost use Rattle.std.specs.Prelude.{◌≡◌, ◌⊎◌, ◌≤◌, ◌<◌, ◌^◌, ◌++◌, [], ℕ, List, None, Result, is_some, length, vec_capacity, IfErr, IfOk, OnErr, OnOk};
 ghost use Rattle.std.specs.Io.KnownBytes.{Appends};
 ghost use Rattle.std.specs.List.{list_any};
 ghost use Rattle.nl_texts.specs.RefusalTexts.{refusal_text};
 ghost use Rattle.nl_texts.specs.SegmentLines.{seg_header, seg_texts};
+ghost use Rattle.nl_types.specs.Worlds.{Reply};
 ghost use Rattle.nl_script.specs.ExitStatus.{refused_if, status_of};
-ghost use Rattle.nl_script.specs.Lines.{AreAllTold, AreEventsDone, AreListed, AreOutcomesTold, AreFilesTold, AreTold, ComesTo, IsCommandDone, IsLatestFor, IsLineDone, IsListingRefused, IsRoundDone, IsUntold, IsUntoldBelow, LacksMemory, ended, is_open, is_since, refused};
+ghost use Rattle.nl_script.specs.FileReads.{AreFilesOf};
+ghost use Rattle.nl_script.specs.Lines.{AreAllTold, AreEventsDone, AreFilesShown, AreListed, AreOutcomesTold, AreTold, ComesTo, IsCommandDone, IsLatestFor, IsLineDone, IsListingRefused, IsRoundDone, IsUntold, IsUntoldBelow, LacksMemory, ended, files_end, is_open, is_since, refused};
 ghost use Rattle.nl_script.specs.Rounds.{IsRoundOver, round_text};
 ghost use Rattle.nl_script.specs.declared.rounds.RoundSum.{RoundSum};
 ghost use Rattle.nl_script.specs.OutcomeTexts.{text_of};
 
 use crate::events::{events_of, is_quiet, readings};
+use crate::readers::Readers;
 use crate::rounds::{RoundSum, run_steps, tell_round};
 use crate::running::run_events;
 use crate::status::Status;
@@ -18,6 +21,7 @@ use crate::telling::{line_status, tell_all};
 use crate::volume::Volume;
 use nl_commands::{CheckpointRange, Command, LineError, read_line};
 use nl_protect::Config;
+use nl_publish::{Mount, Volumes};
 use nl_texts as texts;
 use nl_types::{
     CheckpointNumber, Event, Items, MountNumber, Reply, Segment, SegmentInfo, VolError,
@@ -25,6 +29,7 @@ use nl_types::{
 use std::alloc::{AllocError, Global};
 use std::io;
 use std::io::Write;
+use std::thread::Threads;
 
 /// What a line makes of the status, and whether what is told of it was written.
 pub type LineResult = (Status, io::Result<()>);
@@ -247,31 +252,54 @@ fn clean<V: Volume, W: Write>(
 }
 
 /// Reads files of a mount, and tells of each in its place.
-fn show_files<V: Volume, W: Write>(
+fn show_read<J: Volumes + Send + Sync, R: Threads + Sync, W: Write>(
     alloc: Global,
-    volume: &mut V,
+    readers: &mut Readers<'_, J, R>,
+    number: u64,
+    mount: &Mount<J>,
+    paths: &[Items<u8>],
+    events: &[Event],
+    out: &mut W,
+) -> LineResult
+    requires { length events.now ≡ length paths.now }
+    ensures { (moment : ℕ) → ComesTo (λ end. (answer : Result (List Reply) VolError)
+        × AreFilesOf mount.now paths.now answer × (end ≡ files_end number moment events.now answer))
+        moment result (W.contents out.old) (W.contents out.new) }
+{
+    match readers.read_files(alloc, mount, paths) {
+        Ok(replies) => tell_done(number, false, events, replies.as_slice(), out),
+        Err(error) => refused(number, error, out),
+    }
+}
+
+/// Reads files of the mount of a number, where it is held, and tells of them.
+fn show_files<V: Volume, R: Threads + Sync, W: Write>(
+    alloc: Global,
+    volume: &V,
+    readers: &mut Readers<'_, V::Book, R>,
     number: u64,
     mount: MountNumber,
     paths: &[Items<u8>],
     out: &mut W,
 ) -> LineResult
     ensures { (moment : ℕ) → ComesTo (λ end.
-        AreFilesTold V.habits.reads number moment mount paths.now volume.old volume.new end
-        ⊎ LacksMemory number moment volume.old volume.new end)
+        AreFilesShown V.habits.holds number moment mount paths.now volume.now end
+        ⊎ LacksMemory number moment volume.now volume.now end)
         moment result (W.contents out.old) (W.contents out.new) }
 {
+    let Some(held) = volume.mount_of(mount) else {
+        return refused(number, VolError::BadMount, out);
+    };
     let Ok(events) = readings(alloc, mount, paths) else {
         return refused(number, VolError::Memory, out);
     };
-    match volume.read_files(alloc, mount, paths) {
-        Ok(replies) => tell_done(number, false, events.as_slice(), replies.as_slice(), out),
-        Err(error) => refused(number, error, out),
-    }
+    show_read(alloc, readers, number, held, paths, events.as_slice(), out)
 }
 
-fn run_command<V: Volume, W: Write>(
+fn run_command<V: Volume, R: Threads + Sync, W: Write>(
     alloc: Global,
     volume: &mut V,
+    readers: &mut Readers<'_, V::Book, R>,
     config: &Config,
     moment: &mut u64,
     number: u64,
@@ -290,23 +318,21 @@ fn run_command<V: Volume, W: Write>(
             (Status::Fine, Ok(()))
         }
         Command::Lssu { all } => list_segments(alloc, volume, number, all, out),
-        Command::Catm { mount, paths } => show_files(
-            alloc,
-            volume,
-            number,
-            mount,
-            paths.as_slice(),
-            out,
-        ),
+        Command::Catm { mount, paths } => {
+            let paths = paths.as_slice();
+            show_files(alloc, volume, readers, number, mount, paths, out)
+        }
         Command::Clean => clean(alloc, volume, config, *moment, number, out),
         command => run_all(alloc, volume, *moment, number, command, out),
     }
 }
 
-/// Runs a line, without its line break, and writes what is told of it. Rounds of cleaning go by the configuration.
-pub fn run_line<V: Volume, W: Write>(
+/// Runs a line, without its line break, and writes what is told of it. Rounds of cleaning go by the configuration, and files of
+/// a mount are read by the readers.
+pub fn run_line<V: Volume, R: Threads + Sync, W: Write>(
     alloc: Global,
     volume: &mut V,
+    readers: &mut Readers<'_, V::Book, R>,
     config: &Config,
     moment: &mut u64,
     number: u64,
@@ -320,7 +346,9 @@ pub fn run_line<V: Volume, W: Write>(
 {
     match read_line(alloc, line) {
         Ok(None) => (Status::Fine, Ok(())),
-        Ok(Some(command)) => run_command(alloc, volume, config, moment, number, command, out),
+        Ok(Some(command)) => {
+            run_command(alloc, volume, readers, config, moment, number, command, out)
+        }
         Err(LineError::Usage) => (Status::Misread, texts::usage_text(number, out)),
         Err(LineError::Memory) => refused(number, VolError::Memory, out),
     }

@@ -7,6 +7,7 @@ ghost use Rattle.nl_script.specs.Scripts.{IsScriptDone, exit_status, is_misread_
 ghost use Rattle.nl_script.specs.Turns.{HasDoneLine, HasStopped, IsCounted};
 
 use crate::lines::{LineResult, run_line};
+use crate::readers::Readers;
 use crate::reading::{Next, next_line};
 use crate::status::Status;
 use crate::volume::Volume;
@@ -16,6 +17,7 @@ use nl_types::VolError;
 use std::alloc::Global;
 use std::io;
 use std::io::{BufRead, Write};
+use std::thread::Threads;
 
 /// How a script went.
 #[derive(Clone, Copy, Debug, PartialEq, Eq)]
@@ -72,9 +74,10 @@ impl Done {
 }
 
 /// Runs a line, and hands on at once what is told of it.
-fn run_flushed<V: Volume, W: Write>(
+fn run_flushed<V: Volume, R: Threads + Sync, W: Write>(
     alloc: Global,
     volume: &mut V,
+    readers: &mut Readers<'_, V::Book, R>,
     config: &Config,
     moment: &mut u64,
     number: u64,
@@ -86,16 +89,17 @@ fn run_flushed<V: Volume, W: Write>(
         number moment.old line.now volume.old volume.new end)
         moment.new result (W.contents out.old) (W.contents out.new) }
 {
-    match run_line(alloc, volume, config, moment, number, line, out) {
+    match run_line(alloc, volume, readers, config, moment, number, line, out) {
         (status, Ok(())) => (status, out.flush()),
         failed => failed,
     }
 }
 
 /// Runs a line, and counts what it came to. Returns whether the script goes on: what is told of the line was written.
-fn run_counted<V: Volume, W: Write>(
+fn run_counted<V: Volume, R: Threads + Sync, W: Write>(
     alloc: Global,
     volume: &mut V,
+    readers: &mut Readers<'_, V::Book, R>,
     config: &Config,
     done: &mut Done,
     number: u64,
@@ -107,7 +111,16 @@ fn run_counted<V: Volume, W: Write>(
         × IsCounted end done.old done.new result (W.contents out.old) (W.contents out.new) }
 {
     let mut moment = done.moment;
-    let (status, told) = run_flushed(alloc, volume, config, &mut moment, number, line, out);
+    let (status, told) = run_flushed(
+        alloc,
+        volume,
+        readers,
+        config,
+        &mut moment,
+        number,
+        line,
+        out,
+    );
     done.moment = moment;
     done.count(status);
     done.goes_on(told.is_ok())
@@ -133,9 +146,10 @@ fn refuse_counted<W: Write>(done: &mut Done, number: u64, out: &mut W) -> bool
 }
 
 /// Does the next line, and counts it. Returns whether the script goes on.
-fn run_next<V: Volume, I: BufRead, O: Write>(
+fn run_next<V: Volume, R: Threads + Sync, I: BufRead, O: Write>(
     alloc: Global,
     volume: &mut V,
+    readers: &mut Readers<'_, V::Book, R>,
     config: &Config,
     done: &mut Done,
     number: u64,
@@ -149,7 +163,16 @@ fn run_next<V: Volume, I: BufRead, O: Write>(
 {
     match next_line(alloc, input) {
         Next::Line(line) => {
-            run_counted(alloc, volume, config, done, number, line.as_slice(), output)
+            run_counted(
+                alloc,
+                volume,
+                readers,
+                config,
+                done,
+                number,
+                line.as_slice(),
+                output,
+            )
         }
         Next::Unheld => refuse_counted(done, number, output),
         Next::End => false,
@@ -162,10 +185,11 @@ fn run_next<V: Volume, I: BufRead, O: Write>(
 
 /// Runs the lines up to the end of the input, or until a stream fails: a line that is read in part isn't done, and what
 /// follows one that can't be told of isn't done either. A line that there is no memory for is refused by `Memory`, and the
-/// script goes on behind it. Rounds of cleaning go by the configuration.
-pub fn script<V: Volume, I: BufRead + Drop, O: Write>(
+/// script goes on behind it. Rounds of cleaning go by the configuration, and files of a mount are read by the readers.
+pub fn script<V: Volume, R: Threads + Sync, I: BufRead + Drop, O: Write>(
     alloc: Global,
     volume: &mut V,
+    readers: &mut Readers<'_, V::Book, R>,
     config: &Config,
     moment: u64,
     mut input: I,
@@ -181,7 +205,9 @@ pub fn script<V: Volume, I: BufRead + Drop, O: Write>(
         failed: None,
     };
     for number in 1..u64::MAX {
-        if !run_next(alloc, volume, config, &mut done, number, &mut input, output) {
+        if !run_next(
+            alloc, volume, readers, config, &mut done, number, &mut input, output,
+        ) {
             return done;
         }
     }

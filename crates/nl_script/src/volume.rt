@@ -1,18 +1,22 @@
 //! What scripts know of a volume.
-ghost use Rattle.std.specs.Prelude.{◌≡◌, ◌<◌, ◌^◌, Err, IfErr, IfOk, IsOkUnless, Ok, OnSome, length};
+ghost use Rattle.std.specs.Prelude.{◌<◌, ◌^◌, IfOk, IsOkUnless, OnSome, option_map};
 ghost use Rattle.nl_types.specs.declared.error.VolError.{VolError};
 ghost use Rattle.nl_script.specs.Habits.{Habits};
 
 use nl_cpfile::Cpstat;
 use nl_protect::Config;
+use nl_publish::{Mount, Volumes};
 use nl_sufile::Sustat;
-use nl_types::{Event, Items, MountNumber, Reply, Segment, SegmentInfo, VolError};
+use nl_types::{Event, MountNumber, Reply, Segment, SegmentInfo, VolError};
 use std::alloc::Global;
 
 /// What a script runs on.
 pub trait Volume {
     /// A round of cleaning that was planned, and how far it is.
     type Job: Drop;
+
+    /// What keeps the histories of volumes apart, by which its mounts are known.
+    type Book: Volumes + Send + Sync;
 
     /// What it does, and what it tells of itself.
     ghost habits: { Habits Self Self.Job };
@@ -21,18 +25,9 @@ pub trait Volume {
     fn apply(&mut self, event: &Event) -> Reply
         ensures { habits.does self.old event.now result self.new };
 
-    /// Reads whole files of a mount, side by side where it can. Refused as a whole by `BadMount` or `Memory`; each file has
-    /// refusals of its own.
-    fn read_files(
-        &mut self,
-        alloc: Global,
-        mount: MountNumber,
-        paths: &[Items<u8>],
-    ) -> Result<Vec<Reply>, VolError>
-        ensures read { IfOk result (λ replies.
-            habits.reads self.old mount paths.now (Ok replies.items) self.new) }
-        ensures count { IfOk result (λ replies. length replies.items ≡ length paths.now) }
-        ensures refused { IfErr result (λ e. habits.reads self.old mount paths.now (Err e) self.new) };
+    /// The mount of a number, if it is held.
+    fn mount_of(&self, mount: MountNumber) -> Option<&Mount<Self::Book>>
+        ensures { habits.holds self.now mount (option_map (λ m. m.now) result) };
 
     /// What is known of a segment.
     fn suinfo(&self, segment: Segment) -> Result<SegmentInfo, VolError>

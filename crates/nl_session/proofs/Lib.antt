@@ -1,5 +1,4 @@
 pub mod ToldSegments
-pub mod Replies
 pub mod SharedReads
 pub mod SharedRounds
 pub mod SharedEvents

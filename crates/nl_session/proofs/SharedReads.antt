@@ -1,6 +1,5 @@
 -- What is answered through a mount, as replies.
-use Rattle.std.proofs.Common.{◌≡◌, ◌⊎◌, inl, inr, ap, refl, sym, ◌∙◌, ℕ, suc, List, [], ◌∷◌, ◌++◌, length, Ok, Err, Result}
-use Rattle.std.specs.List.{AllZip}
+use Rattle.std.proofs.Common.{◌≡◌, ◌⊎◌, inl, inr, ap, refl, sym, ◌∙◌, ℕ, List, Ok, Err, Result}
 use Rattle.nl_types.specs.declared.error.VolError.{VolError}
 use Rattle.nl_types.specs.declared.error.VolError.TheVariants.{BadMount, Memory}
 use Rattle.nl_types.specs.declared.event.Ask.TheVariants as ask
@@ -12,7 +11,8 @@ use Rattle.nl_types.specs.Calls.{IsUnlessMemory, ShowsUnlessMemory, and_then}
 use Rattle.nl_types.specs.Trees.{Tree}
 use Rattle.nl_types.specs.Worlds.{Reply}
 use Rattle.nl_mounts.specs.Ports.{IsBytesOf, IsListOf, IsStatOf}
-use Rattle.nl_session.specs.SharedVolumes.{IsToldBy, names_reply, reply_of, stat_reply}
+use Rattle.nl_script.specs.FileReads.{IsToldBy, reply_of}
+use Rattle.nl_session.specs.SharedVolumes.{names_reply, stat_reply}
 
 bytes_unless : (result : Result (List ℕ) VolError) (expected : Reply) → ShowsUnlessMemory answer.Bytes result expected → IsUnlessMemory (reply_of result) expected
 bytes_unless (Ok bytes) expected shows other = sym shows
@@ -46,17 +46,3 @@ pub stat_told : (t : Tree) (path : List ℕ) (result : Result Stat VolError)
     → (result ≡ Err BadMount) ⊎ IsStatOf t path result → IsToldBy t (ask.Stat path) (stat_reply result)
 stat_told t path result (inl refused) = inl (ap stat_reply refused)
 stat_told t path result (inr is) = inr (λ other. stat_as result ∙ ap as_stat is)
-
--- ---- lists that go together
-
-pub zip_push : {A B : Type 0} (R : A → B → Type 0) (xs : List A) (ys : List B) (x : A) (y : B) → AllZip R xs ys → R x y → AllZip R (xs ++ x ∷ []) (ys ++ y ∷ [])
-zip_push R [] [] x y zip one = (one, tt)
-zip_push R (v ∷ xs) (w ∷ ys) x y zip one = (zip.0, zip_push R xs ys x y zip.1 one)
-zip_push R [] (w ∷ ys) x y zip one = absurd zip
-zip_push R (v ∷ xs) [] x y zip one = absurd zip
-
-pub zip_long : {A B : Type 0} (R : A → B → Type 0) (xs : List A) (ys : List B) → AllZip R xs ys → length ys ≡ length xs
-zip_long R [] [] zip = refl
-zip_long R (x ∷ xs) (y ∷ ys) zip = ap suc (zip_long R xs ys zip.1)
-zip_long R [] (y ∷ ys) zip = absurd zip
-zip_long R (x ∷ xs) [] zip = absurd zip

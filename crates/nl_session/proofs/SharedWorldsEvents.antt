@@ -32,8 +32,9 @@ use Rattle.nl_mounts.specs.Sharing.{MountsCopy}
 use Rattle.nl_commands.specs.declared.command.Shown.TheVariants.{Content}
 use Rattle.nl_script.specs.Events.{asked}
 use Rattle.nl_session.specs.SharedLaws.{Came, ComesBeside, DifferAll, IsBeside, IsDoneBeside, IsFileIn, IsMountIn, IsReadIn, IsSteppedBeside, MountLost, NewVolumesAreBeside, Next, NoNext, SharedEventsFollowWorlds, SharedReadsFollowWorlds, SharedStepsFollowWorlds, Stayed, number_of}
-use Rattle.nl_session.specs.SharedVolumes.{IsFileOf, IsReadThrough, IsRoundOver, IsToldThrough, MountComes, Sharing, left_by, mount_of, without_mount}
+use Rattle.nl_session.specs.SharedVolumes.{IsReadThrough, IsRoundOver, MountComes, Sharing, left_by, mount_of, without_mount}
 use Rattle.nl_session.specs.SharedVolumes as volume
+use Rattle.nl_script.specs.FileReads.{IsFileOf, IsToldThrough}
 use Rattle.nl_session.proofs.SharedWorlds.{Beside, all_hold, back_refused, mount_found, mount_is_new}
 use Rattle.nl_session.proofs.SharedWorldsMounts.{all_and_one, differ_more, differ_none, differ_rest, differ_some, each_so, found_so, left_differ, left_others, left_so}
 use Rattle.nl_session.proofs.SharedWorldsRuns.{IsBehind, behind_ready, behind_whole, comes_behind, comes_clear, comes_same, held_before, stays_ready, stays_so, stays_stuck}
@@ -68,10 +69,10 @@ files_in w n m [] (reply ∷ replies) held same told = absurd told
 files_in w n m (path ∷ paths) [] held same told = absurd told
 
 pub reads_follow : SharedReadsFollowWorlds
-reads_follow w old new mount paths (Ok replies) before reads =
-    let found = found_so (IsMountIn w) mount old.mounts reads.1.0 before.mounts reads.1.1 in
-    (files_in w mount reads.1.0 paths replies found.0 found.1 reads.1.2, subst (IsBeside w) (sym reads.0) before)
-reads_follow w old new mount paths (Err e) before reads = (tt, subst (IsBeside w) (sym reads.0) before)
+reads_follow w s mount m paths (Ok replies) before held reads =
+    let found = found_so (IsMountIn w) mount s.mounts m before.mounts (sym held) in
+    files_in w mount m paths replies found.0 found.1 reads
+reads_follow w s mount m paths (Err e) before held reads = tt
 
 -- ---- events
 

@@ -1,4 +1,4 @@
--- What a pen tells of its segments.
+-- What a volume tells of its segments.
 use Rattle.std.proofs.Common.{◌≡◌, ◌<◌, List, ◌∷◌, [], ℕ, zero, suc, Err, length, arith}
 use Rattle.std.specs.Prelude.{slice_get}
 use Rattle.std.specs.Option.{ok_or}

@@ -1,4 +1,3 @@
-pub mod Pens
 pub mod Sessions
 pub mod SharedVolumes
 pub mod Laws

@@ -22,8 +22,9 @@ use Rattle.nl_publish.specs.Locks.{all_answered, given_back, listed, mount_reply
 use Rattle.nl_publish.specs.Mounts.{Claim}
 use Rattle.nl_publish.specs.Told.{ShowsCopy}
 use Rattle.nl_script.specs.Events.{asked}
+use Rattle.nl_script.specs.FileReads.{AreFilesOf}
 use Rattle.nl_session.specs.Sessions.{IsNewVolume}
-use Rattle.nl_session.specs.SharedVolumes.{Sharing, shared_does, shared_reads, shared_steps}
+use Rattle.nl_session.specs.SharedVolumes.{Sharing, shared_does, shared_holds, shared_steps}
 
 -- ---- a volume beside a world
 
@@ -91,12 +92,11 @@ SharedEventsFollowWorlds = (w : World) (old new : Sharing) (event : Event) (repl
 abbrev pub IsFileIn : World → (mount : ℕ) → List ℕ → Reply → Type 0
 IsFileIn w mount path reply = IsReadIn w mount (asked Content path) reply
 
--- files that are read through a mount are those of its copy
+-- files that are read of a mount that is held are those of its copy
 abbrev pub SharedReadsFollowWorlds : Type 0
 SharedReadsFollowWorlds =
-    (w : World) (old new : Sharing) (mount : ℕ) (paths : List (List ℕ)) (result : Result (List Reply) VolError)
-    → IsBeside w old → shared_reads old mount paths result new
-    → IfOk result (AllZip (IsFileIn w mount) paths) × IsBeside w new
+    (w : World) (s : Sharing) (mount : ℕ) (m : Claim) (paths : List (List ℕ)) (result : Result (List Reply) VolError)
+    → IsBeside w s → shared_holds s mount (Some m) → AreFilesOf m paths result → IfOk result (AllZip (IsFileIn w mount) paths)
 
 -- the next event of a round comes; or there is none, or memory is refused to it
 pub data IsSteppedBeside (w : World) (old : Sharing) (job : JobView) (reply : Option Reply) (new : Sharing) : Type 0 where

@@ -1,10 +1,9 @@
 -- A shared volume as the volume of a script.
-use Rattle.std.specs.Prelude.{◌≡◌, ◌⊎◌, ◌==◌, ◌∷◌, ◌++◌, ℕ, Bool, List, [], position, remove, slice_get, Option, None, Some, Result, Ok, Err}
-use Rattle.std.specs.List.{AllZip}
-use Rattle.std.specs.Option.{option_and_then}
+use Rattle.std.specs.Prelude.{◌≡◌, ◌⊎◌, ◌==◌, ◌+◌, ◌∷◌, ◌++◌, ℕ, Bool, List, [], length, position, remove, slice_get, Option, None, Some, Result, Ok, Err}
+use Rattle.std.specs.Option.{ok_or, option_and_then}
 use Rattle.nl_types.specs.declared.error.VolError.{VolError}
-use Rattle.nl_types.specs.declared.error.VolError.TheVariants.{BadMount, Memory}
-use Rattle.nl_types.specs.declared.reply.Answer.TheVariants.{Bytes, Names}
+use Rattle.nl_types.specs.declared.error.VolError.TheVariants.{BadMount, BadRange, Memory}
+use Rattle.nl_types.specs.declared.reply.Answer.TheVariants.{Names}
 use Rattle.nl_types.specs.declared.reply.Answer.TheVariants as answer
 use Rattle.nl_types.specs.declared.reply.Named.{Named}
 use Rattle.nl_types.specs.declared.reply.Stat.{Stat}
@@ -12,25 +11,22 @@ use Rattle.nl_types.specs.declared.event.Ask.{Ask}
 use Rattle.nl_types.specs.declared.event.Event.{Event}
 use Rattle.nl_types.specs.declared.event.Event.TheVariants.{Mount, MountRead, Unmount}
 use Rattle.nl_types.specs.declared.segment.SegmentInfo.{SegmentInfo}
-use Rattle.nl_types.specs.Calls.{IsUnlessMemory, reply_to}
-use Rattle.nl_types.specs.Trees.{Tree}
+use Rattle.nl_types.specs.Segments.{clean_segments}
 use Rattle.nl_types.specs.Worlds.{Reply}
-use Rattle.nl_commands.specs.declared.command.Shown.TheVariants.{Content}
+use Rattle.nl_cpfile.specs.Tables.{cpstat_of}
 use Rattle.nl_cpfile.specs.declared.table.Cpstat.{Cpstat}
 use Rattle.nl_sufile.specs.declared.table.Sustat.{Sustat}
 use Rattle.nl_protect.specs.declared.config.Config.{Config}
-use Rattle.nl_core.specs.Commits.{image_of}
-use Rattle.nl_cleaner.specs.Job.{JobView, next_event}
+use Rattle.nl_cleaner.specs.Job.{JobView, next_event, steps_left}
+use Rattle.nl_cleaner.specs.Plan.{IsPlan}
 use Rattle.nl_core.specs.Layout.{Layout}
 use Rattle.nl_publish.specs.Begun.{HasBegun}
 use Rattle.nl_publish.specs.Cleaning.{CleanRan}
 use Rattle.nl_publish.specs.Locks.{Held, MountRan, Ran, mount_reply}
 use Rattle.nl_publish.specs.Mounts.{Claim}
-use Rattle.nl_publish.specs.Told.{TreeOn}
 use Rattle.nl_mounts.specs.Sharing.{MountsCopy}
-use Rattle.nl_script.specs.Events.{asked}
+use Rattle.nl_script.specs.FileReads.{IsToldThrough}
 use Rattle.nl_script.specs.Habits.{Habits}
-use Rattle.nl_session.specs.Pens.{pen_counts, pen_left, pen_measures, pen_plans, pen_tells}
 
 -- what lies under the lock, and the mounts that are held
 pub record Sharing : Type 0 where
@@ -80,22 +76,10 @@ left_by m (Err e) claims = claims
 
 -- ---- reads through mounts
 
--- it is told that the mount isn't found; or what a tree says, unless memory is refused
-abbrev pub IsToldBy : Tree → Ask → Reply → Type 0
-IsToldBy t ask reply = (reply ≡ Err BadMount) ⊎ IsUnlessMemory reply (reply_to t ask)
-
--- it is so by each tree that the mount's checkpoint had when it was mounted
-abbrev pub IsToldThrough : Claim → Ask → Reply → Type 0
-IsToldThrough m ask reply = (t : Tree) → TreeOn (image_of m.told.commits) m.checkpoint t → IsToldBy t ask reply
-
 -- no such mount is held, or it tells
 abbrev pub IsReadThrough : Option Claim → Ask → Reply → Type 0
 IsReadThrough None ask reply = reply ≡ Err BadMount
 IsReadThrough (Some m) ask reply = IsToldThrough m ask reply
-
--- a whole file
-abbrev pub IsFileOf : Claim → List ℕ → Reply → Type 0
-IsFileOf m path reply = IsToldThrough m (asked Content path) reply
 
 -- ---- what it does
 
@@ -106,11 +90,7 @@ shared_does old (Unmount m) reply new =
 shared_does old (MountRead m ask) reply new = (new ≡ old) × IsReadThrough (mount_of m old.mounts) ask reply
 shared_does old event reply new = Ran old.held event reply new.held × (new.mounts ≡ old.mounts)
 
--- what is answered to a read of a file
-abbrev pub reply_of : Result (List ℕ) VolError → Reply
-reply_of (Ok bytes) = Ok (Bytes bytes)
-reply_of (Err e) = Err e
-
+-- what is answered to a listing, and to a question what there is
 abbrev pub names_reply : Result (List Named) VolError → Reply
 names_reply (Ok names) = Ok (Names names)
 names_reply (Err e) = Err e
@@ -119,12 +99,8 @@ abbrev pub stat_reply : Result Stat VolError → Reply
 stat_reply (Ok stat) = Ok (answer.Stat stat)
 stat_reply (Err e) = Err e
 
--- files are read; the mount has to be held
-abbrev pub shared_reads : Sharing → (mount : ℕ) → (paths : List (List ℕ)) → Result (List Reply) VolError → Sharing → Type 0
-shared_reads old mount paths (Ok replies) new =
-    (new ≡ old) × ((m : Claim) × (mount_of mount old.mounts ≡ Some m) × AllZip (IsFileOf m) paths replies)
-shared_reads old mount paths (Err error) new =
-    (new ≡ old) × ((error ≡ Memory) ⊎ ((error ≡ BadMount) × (mount_of mount old.mounts ≡ None)))
+abbrev pub shared_holds : Sharing → ℕ → Option Claim → Type 0
+shared_holds s mount held = held ≡ mount_of mount s.mounts
 
 -- nothing is left of the round, and nothing is done
 abbrev pub IsRoundOver : Held → JobView → Option Reply → Held → JobView → Type 0
@@ -138,25 +114,30 @@ IsRoundStep old job reply new next = IsRoundOver old job reply new next ⊎ Clea
 abbrev pub shared_steps : Sharing → JobView → Option Reply → Sharing → JobView → Type 0
 shared_steps old job reply new next = IsRoundStep old.held job reply new.held next × (new.mounts ≡ old.mounts)
 
+-- ---- what it tells
+
 abbrev pub shared_tells : Sharing → ℕ → Result SegmentInfo VolError → Type 0
-shared_tells s segment result = pen_tells s.held.layout segment result
+shared_tells s segment result = result ≡ ok_or (slice_get s.held.layout.store.segments.each segment) BadRange
 
 abbrev pub shared_counts : Sharing → Cpstat → Type 0
-shared_counts s stat = pen_counts s.held.layout stat
+shared_counts s stat = stat ≡ cpstat_of s.held.layout.lists.table
 
+-- all segments, the clean ones, and the rest
 abbrev pub shared_measures : Sharing → Sustat → Type 0
-shared_measures s stat = pen_measures s.held.layout stat
+shared_measures s stat = (stat.segments ≡ length s.held.layout.store.segments.each)
+    × (stat.clean ≡ length (clean_segments s.held.layout.store.segments)) × (stat.dirty + stat.clean ≡ stat.segments)
 
+-- a round is planned as the cleaner's own contract says
 abbrev pub shared_plans : Sharing → Config → (moment : ℕ) → JobView → Type 0
-shared_plans s config moment job = pen_plans s.held.layout config moment job
+shared_plans s config moment job = IsPlan s.held.layout config moment job
 
 abbrev pub shared_left : Sharing → JobView → ℕ
-shared_left s job = pen_left s.held.layout job
+shared_left s job = steps_left job s.held.layout
 
 abbrev pub shared_habits : Habits Sharing JobView
 shared_habits = record {
   does = shared_does;
-  reads = shared_reads;
+  holds = shared_holds;
   tells = shared_tells;
   counts = shared_counts;
   measures = shared_measures;

@@ -1,10 +1,10 @@
-//! What scripts know of a pen and of a shared volume, as contracts of functions that do nothing.
-ghost use Rattle.nl_session.specs.Laws.{PensTellOfSegments};
+//! What scripts know of a shared volume, as contracts of functions that do nothing.
+ghost use Rattle.nl_session.specs.Laws.{VolumesTellOfSegments};
 ghost use Rattle.nl_session.specs.SharedLaws.{NewVolumesAreBeside, SharedEventsFollowWorlds, SharedReadsFollowWorlds, SharedStepsFollowWorlds};
 
-/// A pen tells of each segment that there is. So on a pen `lssu` is refused for memory alone.
-pub fn pens_tell_of_segments()
-    ensures { PensTellOfSegments }
+/// A volume tells of each segment that there is. So `lssu` is refused for memory alone.
+pub fn volumes_tell_of_segments()
+    ensures { VolumesTellOfSegments }
 {}
 
 /// Where a shared volume is beside a world, each event on it is answered as that of plain files with whole copies, and it is

@@ -2,10 +2,8 @@
 #![tactic(auto)]
 
 pub mod laws;
-mod pen;
 mod sessions;
 mod shared;
 
-pub use pen::PenVolume;
 pub use sessions::session;
 pub use shared::SharedVolume;

@@ -9,9 +9,10 @@ use crate::shared::SharedVolume;
 use nl_arguments::{Arguments, ArgumentsFault, Asked, read};
 use nl_core::Pen;
 use nl_device::MemDevice;
+use nl_mounts::Port;
 use nl_protect::Config;
 use nl_publish::{Opened, Volumes};
-use nl_script::{ConfigurationFault, Done, configuration, script};
+use nl_script::{ConfigurationFault, Done, Readers, configuration, script};
 use nl_texts::{StandardStream, StartStep, start_text, stream_text, unread_text};
 use nl_types::{Geometry, Items, VolError};
 use std::alloc::Global;
@@ -20,6 +21,7 @@ use std::io::{BufReader, Read, Write};
 use std::marker::Brand;
 use std::rt::Files;
 use std::sync::Wait;
+use std::thread::Threads;
 
 /// When the volume is formatted, and the moment of the first lines, in whole seconds.
 const MOMENT: u64 = 0;
@@ -33,15 +35,15 @@ fn new_pen(alloc: Global, geometry: Geometry) -> Result<Pen<MemDevice>, VolError
     Pen::format(alloc, device, geometry, MOMENT)
 }
 
-/// A new volume in memory that its ports share.
+/// A new volume in memory, and the ports that share it.
 fn new_volume<'a, J: Volumes, R: Wait>(
     rt: &'a R,
     alloc: Global,
     geometry: Geometry,
     opened: Opened,
-) -> Result<SharedVolume<'a, MemDevice, J, R>, VolError>
+) -> Result<(SharedVolume<'a, MemDevice, J, R>, Vec<Port<J>>), VolError>
     requires id { opened.seen.book ≡ J.book opened.id }
-    ensures made { IfOk result (IsNewVolume geometry) }
+    ensures made { IfOk result (λ made. IsNewVolume geometry made.0) }
     ensures refused { IfErr result IsMemoryOrFault }
 {
     let pen = new_pen(alloc, geometry)?;
@@ -49,9 +51,10 @@ fn new_volume<'a, J: Volumes, R: Wait>(
 }
 
 /// Makes the input's buffer, and runs the script. Refused by `Memory`, no line was run.
-fn run_on<J: Volumes, R: Wait, I: Read + Drop, O: Write>(
+fn run_on<J: Volumes + Send + Sync, R: Threads + Wait + Sync, I: Read + Drop, O: Write>(
     alloc: Global,
     volume: &mut SharedVolume<'_, MemDevice, J, R>,
+    readers: &mut Readers<'_, J, R>,
     config: &Config,
     input: I,
     output: &mut O,
@@ -63,11 +66,11 @@ fn run_on<J: Volumes, R: Wait, I: Read + Drop, O: Write>(
     ensures unprinted { OnErr result (output.new ≡ output.old) }
 {
     let input = BufReader::new(alloc, input).map_err(|_| VolError::Memory)?;
-    Ok(script(alloc, volume, config, MOMENT, input, output))
+    Ok(script(alloc, volume, readers, config, MOMENT, input, output))
 }
 
 /// Runs the script on a new volume, and ends that. Refused, no line was run.
-fn run_script<J: Volumes, R: Wait, I: Read + Drop, O: Write>(
+fn run_script<J: Volumes + Send + Sync, R: Threads + Wait + Sync, I: Read + Drop, O: Write>(
     rt: &R,
     alloc: Global,
     geometry: Geometry,
@@ -82,8 +85,9 @@ fn run_script<J: Volumes, R: Wait, I: Read + Drop, O: Write>(
     ensures refused { IfErr result IsMemoryOrFault }
     ensures unprinted { OnErr result (output.new ≡ output.old) }
 {
-    let mut volume = new_volume::<J, _>(rt, alloc, geometry, opened)?;
-    let done = run_on(alloc, &mut volume, config, input, output);
+    let (mut volume, ports) = new_volume::<J, _>(rt, alloc, geometry, opened)?;
+    let mut readers = Readers::new(rt, ports);
+    let done = run_on(alloc, &mut volume, &mut readers, config, input, output);
     // The mounts that the script left are taken out.
     let _pen = volume.end();
     done
@@ -164,7 +168,7 @@ fn ended<E: Write>(done: Done, errors: &mut E) -> u8
     done.exit_status()
 }
 
-fn run_with<R: AllocGlobal + Wait, I: Read + Drop, O: Write, E: Write>(
+fn run_with<R: AllocGlobal + Threads + Wait + Sync, I: Read + Drop, O: Write, E: Write>(
     rt: &R,
     arguments: &Arguments,
     config: &Config,
@@ -194,7 +198,7 @@ fn path_of(arguments: &Arguments) -> Option<&[u8]>
 }
 
 /// The configuration is read before anything else is judged.
-fn run<R: AllocGlobal + Files + Wait, I: Read + Drop, O: Write, E: Write>(
+fn run<R: AllocGlobal + Files + Threads + Wait + Sync, I: Read + Drop, O: Write, E: Write>(
     rt: &R,
     arguments: &Arguments,
     input: I,
@@ -215,7 +219,7 @@ fn run<R: AllocGlobal + Files + Wait, I: Read + Drop, O: Write, E: Write>(
 /// Answers the exit status: 2 where the words or a line were no command, else 1 where anything was refused, or a stream or
 /// the configuration's file failed, else 0. What the lines answer goes to the output, which is best buffered: it is flushed
 /// behind each line. Only why no line was run, and that a stream failed, goes to `errors`.
-pub fn session<R: AllocGlobal + Files + Wait, I: Read + Drop, O: Write, E: Write>(
+pub fn session<R: AllocGlobal + Files + Threads + Wait + Sync, I: Read + Drop, O: Write, E: Write>(
     rt: &R,
     words: &[&str],
     input: I,

@@ -1,11 +1,11 @@
 //! A shared volume as the volume of a script. One thread has its writer and its ports.
-ghost use Rattle.std.specs.Prelude.{◌≡◌, ◌<◌, IfOk, IsOkUnless, OnSome, length, option_map};
-ghost use Rattle.std.specs.List.{AllZip};
+ghost use Rattle.std.specs.Prelude.{◌≡◌, ◌<◌, IfOk, IsOkUnless, OnSome, option_map};
 ghost use Rattle.nl_cleaner.specs.Job.{steps_left};
 ghost use Rattle.nl_core.specs.Layout.{layout_of};
 ghost use Rattle.nl_core.specs.Volume.{without_mounts};
 ghost use Rattle.nl_publish.specs.Locks.{Ran};
-ghost use Rattle.nl_session.specs.SharedVolumes.{HasBegunShared, IsFileOf, IsReadThrough, IsRoundStep, IsToldThrough, MountComes, left_by, mount_of, place_of, names_reply, reply_of, shared_habits, stat_reply, without_mount};
+ghost use Rattle.nl_session.specs.SharedVolumes.{HasBegunShared, IsReadThrough, IsRoundStep, MountComes, left_by, mount_of, names_reply, place_of, shared_habits, stat_reply, without_mount};
+ghost use Rattle.nl_script.specs.FileReads.{IsToldThrough, reply_of};
 ghost use Rattle.nl_types.specs.declared.event.Ask.TheVariants as question;
 ghost use Rattle.nl_types.specs.declared.event.Event.TheVariants as event;
 
@@ -23,35 +23,29 @@ use nl_types::{
     Answer, Ask, CheckpointNumber, Event, Items, MountNumber, Named, Reply, Segment, SegmentInfo,
     Stat, VolError,
 };
-use std::alloc::{AllocError, Global};
+use std::alloc::Global;
 use std::marker::Model;
 use std::sync::Wait;
 
-/// How many ports a volume has.
-const PORTS: usize = 4;
+/// How many ports read files side by side.
+const READERS: usize = 4;
 
-/// The most bytes of a file.
-const MOST_BYTES: u64 = 67_108_864;
-
-/// A volume whose commits are published, its ports, and the mounts that are held. A contract sees what lies under the lock,
-/// and the mounts.
+/// A volume whose commits are published, a port of its own, and the mounts that are held. A contract sees what lies under
+/// the lock, and the mounts.
 pub struct SharedVolume<'a, D: Device, J: Volumes, R: Wait> {
     rt: &'a R,
     alloc: Global,
     locked: Locked<Pen<D>, J, Publisher>,
-    ports: Vec<Port<J>>,
+    port: Port<J>,
     mounts: Vec<Mount<J>>,
 }
 
 impl<'a, D: Device, J: Volumes, R: Wait> Model for SharedVolume<'a, D, J, R> {
-    ghost use Rattle.std.specs.Prelude.{◌<◌, length};
     ghost use Rattle.nl_session.specs.SharedVolumes.{Sharing};
 
     ghost Value = { Sharing };
 
     ghost view = { λ v. record { held = v.locked; mounts = v.mounts.items } };
-
-    ghost invariant = { λ v. 0 < length v.ports.items };
 }
 
 // ---- mounts
@@ -152,68 +146,37 @@ fn told<J: Volumes>(alloc: Global, port: &mut Port<J>, mount: &Mount<J>, ask: &A
     }
 }
 
-/// What the mount of a number says to a question, through the first port.
-fn told_through<J: Volumes>(
-    alloc: Global,
-    ports: &mut [Port<J>],
-    mounts: &[Mount<J>],
-    number: MountNumber,
-    ask: &Ask,
-) -> Reply
-    requires { 0 < length ports.old }
-    ensures told { IsReadThrough (mount_of number mounts.now) ask.now result }
-    ensures ports { length ports.new ≡ length ports.old }
-{
-    match mount_of(mounts, number) {
-        Some(mount) => told(alloc, &mut ports[0], mount, ask),
-        None => Err(VolError::BadMount),
-    }
-}
-
-/// Reads whole files, one after another.
-fn read_through<J: Volumes>(
-    alloc: Global,
-    ports: &mut [Port<J>],
-    mount: &Mount<J>,
-    paths: &[Items<u8>],
-) -> Result<Vec<Reply>, AllocError>
-    requires { 0 < length ports.old }
-    ensures files { IfOk result (λ replies. AllZip (IsFileOf mount.now) paths.now replies.items) }
-    ensures ports { length ports.new ≡ length ports.old }
-{
-    let mut replies = Vec::with_capacity(alloc, paths.len())?;
-    for path in paths {
-        let path = path.as_slice();
-        let reply = bytes_through(alloc, &mut ports[0], mount, path, 0, MOST_BYTES);
-        replies.push(reply)?;
-    }
-    Ok(replies)
-}
-
 // ---- beginning and end
 
 impl<'a, D: Device, J: Volumes, R: Wait> SharedVolume<'a, D, J, R> {
-    /// Shares a volume among four ports. `opened` has its id, and an empty history.
+    /// Shares a volume with four ports beside its own, which are handed out. `opened` has its id, and an empty history.
     ///
     /// # Errors
     /// `Memory`.
-    pub fn new(rt: &'a R, alloc: Global, pen: Pen<D>, opened: Opened) -> Result<Self, VolError>
+    pub fn new(
+        rt: &'a R,
+        alloc: Global,
+        pen: Pen<D>,
+        opened: Opened,
+    ) -> Result<(Self, Vec<Port<J>>), VolError>
         requires id { opened.seen.book ≡ J.book opened.id }
-        ensures begun { IfOk result (HasBegunShared opened.id pen) }
+        ensures begun { IfOk result (λ made. HasBegunShared opened.id pen made.0) }
         ensures refused { IsOkUnless result VolError.Memory }
     {
-        let mut ports = Vec::with_capacity(alloc, PORTS)?;
-        match Locked::new(alloc, rt, pen, opened, PORTS) {
+        let mut ports = Vec::with_capacity(alloc, READERS)?;
+        match Locked::new(alloc, rt, pen, opened, READERS + 1) {
             Err((refusal, _pen)) => Err(refusal),
-            Ok((locked, seats)) => {
+            Ok((locked, mut seats)) => {
+                let seat = seats.remove(0);
                 seat_all(&mut ports, seats);
-                Ok(SharedVolume {
+                let volume = SharedVolume {
                     rt,
                     alloc,
                     locked,
-                    ports,
+                    port: Port::new(seat),
                     mounts: Vec::new(alloc),
-                })
+                };
+                Ok((volume, ports))
             }
         }
     }
@@ -226,7 +189,7 @@ impl<'a, D: Device, J: Volumes, R: Wait> SharedVolume<'a, D, J, R> {
             rt,
             alloc: _,
             locked,
-            ports: _ports,
+            port: _port,
             mounts,
         } = self;
         spend_all(mounts);
@@ -289,13 +252,17 @@ impl<D: Device, J: Volumes, R: Wait> SharedVolume<'_, D, J, R> {
         ensures told { IsReadThrough (mount_of number self.old.mounts) ask.now result }
         ensures same { self.new ≡ self.old }
     {
-        let mounts = self.mounts.as_slice();
-        told_through(self.alloc, self.ports.as_mut_slice(), mounts, number, ask)
+        match mount_of(self.mounts.as_slice(), number) {
+            Some(mount) => told(self.alloc, &mut self.port, mount, ask),
+            None => Err(VolError::BadMount),
+        }
     }
 }
 
-impl<D: Device, J: Volumes, R: Wait> Volume for SharedVolume<'_, D, J, R> {
+impl<D: Device, J: Volumes + Send + Sync, R: Wait> Volume for SharedVolume<'_, D, J, R> {
     type Job = Job;
+
+    type Book = J;
 
     ghost habits = { shared_habits };
 
@@ -308,17 +275,8 @@ impl<D: Device, J: Volumes, R: Wait> Volume for SharedVolume<'_, D, J, R> {
         }
     }
 
-    fn read_files(
-        &mut self,
-        alloc: Global,
-        mount: MountNumber,
-        paths: &[Items<u8>],
-    ) -> Result<Vec<Reply>, VolError> {
-        let Some(mount) = mount_of(self.mounts.as_slice(), mount) else {
-            return Err(VolError::BadMount);
-        };
-        let replies = read_through(alloc, self.ports.as_mut_slice(), mount, paths)?;
-        Ok(replies)
+    fn mount_of(&self, mount: MountNumber) -> Option<&Mount<J>> {
+        mount_of(self.mounts.as_slice(), mount)
     }
 
     fn suinfo(&self, segment: Segment) -> Result<SegmentInfo, VolError> {

@@ -1,12 +1,14 @@
 //! A script over a volume that answers from a list.
 use nl_cpfile::Cpstat;
 use nl_protect::Config;
-use nl_script::{Volume, script};
+use nl_publish::Mount;
+use nl_script::{Readers, Volume, script};
 use nl_sufile::Sustat;
 use nl_types::{
-    Answer, CheckpointNumber, Event, Items, MountNumber, Reply, Segment, SegmentInfo, VolError,
+    Answer, CheckpointNumber, Event, MountNumber, Reply, Segment, SegmentInfo, VolError,
 };
 use std::alloc::Global;
+use std::marker::Brand;
 use std::process::Abort;
 
 /// Does nothing, but counts the checkpoints that it is asked for. It keeps none to remove.
@@ -18,9 +20,11 @@ struct Counting {
 impl Volume for Counting {
     type Job = ();
 
+    type Book = Brand;
+
     ghost habits = { record {
       does = λ old event reply new. Unit {0};
-      reads = λ old mount paths answer new. Unit {0};
+      holds = λ old mount held. Unit {0};
       tells = λ old segment result. Unit {0};
       counts = λ old stat. Unit {0};
       measures = λ old stat. Unit {0};
@@ -41,13 +45,8 @@ impl Volume for Counting {
         }
     }
 
-    fn read_files(
-        &mut self,
-        _: Global,
-        _: MountNumber,
-        _: &[Items<u8>],
-    ) -> Result<Vec<Reply>, VolError> {
-        Err(VolError::BadMount)
+    fn mount_of(&self, _: MountNumber) -> Option<&Mount<Brand>> {
+        None
     }
 
     fn suinfo(&self, _: Segment) -> Result<SegmentInfo, VolError> {
@@ -87,7 +86,16 @@ fn a_script_is_told_of_line_by_line(rt: HostRuntime) {
     let input =
         b"at 5\nmkcp\nrmcp 7\nrmcp -f 7\nrmcp 1..\nmkdir\n# no command\nlssu -a\nclean\ncatm 1 /f /g".as_slice();
     let config = Config::standard();
-    let done = script(alloc, &mut volume, &config, 0, input, &mut output);
+    let mut readers = Readers::new(&rt, Vec::new(alloc));
+    let done = script(
+        alloc,
+        &mut volume,
+        &mut readers,
+        &config,
+        0,
+        input,
+        &mut output,
+    );
     let expected =
         b"2\n3: 7: error 10 NoCheckpoint\n5: error 14 Latest\n6: usage\n  SEGNUM       MOMENT STAT  NBLOCKS\n       0            0 ---         0\n9: error 18 Memory\n10: error 19 BadMount\n";
     assert!(rt; output.as_slice() == expected.as_slice());

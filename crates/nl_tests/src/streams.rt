@@ -3,6 +3,7 @@ use nl_session::session;
 use std::io::{self, BufWriter, ErrorKind, Read, Write};
 use std::rt::Files;
 use std::sync::Wait;
+use std::thread::Threads;
 
 /// Gives its bytes, at most so many at a call, and may fail behind so many, once or for good.
 #[derive(Drop)]
@@ -176,7 +177,7 @@ const ROWS: [Row; 29] = [
 ];
 
 /// The status of a row, where its reader gives at most so many bytes at a call. There is memory for the output's buffer.
-fn status_of<R: AllocGlobal + Files + Wait>(
+fn status_of<R: AllocGlobal + Files + Threads + Wait + Sync>(
     rt: &R,
     row: &Row,
     most: usize,
@@ -189,7 +190,7 @@ fn status_of<R: AllocGlobal + Files + Wait>(
 }
 
 /// Whether a row comes to what is due, where its reader gives at most so many bytes at a call.
-fn ends<R: AllocGlobal + Files + Wait>(rt: &R, row: &Row, most: usize) -> bool {
+fn ends<R: AllocGlobal + Files + Threads + Wait + Sync>(rt: &R, row: &Row, most: usize) -> bool {
     let (_, _, printed, told, status) = *row;
     let (mut output, mut errors) = (Vec::new(rt.alloc()), Vec::new(rt.alloc()));
     let code = status_of(rt, row, most, &mut output, &mut errors);
@@ -199,7 +200,10 @@ fn ends<R: AllocGlobal + Files + Wait>(rt: &R, row: &Row, most: usize) -> bool {
 }
 
 /// The first row that comes to something else.
-fn first_other<R: AllocGlobal + Files + Wait>(rt: &R, most: usize) -> Option<usize> {
+fn first_other<R: AllocGlobal + Files + Threads + Wait + Sync>(
+    rt: &R,
+    most: usize,
+) -> Option<usize> {
     for (k, row) in ROWS.iter().enumerate() {
         if !ends(rt, row, most) {
             return Some(k);

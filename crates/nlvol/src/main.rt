@@ -6,6 +6,7 @@ use std::io::{BufWriter, ErrorKind};
 use std::process::ExitCode;
 use std::rt::Files;
 use std::sync::Wait;
+use std::thread::Threads;
 use std::{env, io};
 
 /// The program's name and the words behind it.
@@ -24,8 +25,11 @@ fn arguments<'a>(rt: &HostRuntime, words: &'a [String]) -> io::Result<Vec<&'a st
     Ok(arguments)
 }
 
-/// Answers the exit status. `handles` is the system too, with what `main` alone may hand on: that a call may wait.
-fn run<R: AllocGlobal + Files + Wait>(rt: &HostRuntime, handles: &R) -> io::Result<u8> {
+/// Answers the exit status. `handles` is the system too, with what `main` alone may hand on: threads, and that a call may wait.
+fn run<R: AllocGlobal + Files + Threads + Wait + Sync>(
+    rt: &HostRuntime,
+    handles: &R,
+) -> io::Result<u8> {
     let words = words(rt)?;
     let arguments = arguments(rt, words.as_slice())?;
     let mut output = BufWriter::new(rt.alloc(), rt.stdout())?;

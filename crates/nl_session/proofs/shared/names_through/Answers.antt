@@ -1,7 +1,7 @@
 use Rattle.std.proofs.Common.{subst, sym}
 use Rattle.nl_types.specs.declared.event.Ask.TheVariants as ask
 use Rattle.nl_types.specs.Worlds.{Reply}
-use Rattle.nl_session.specs.SharedVolumes.{IsToldBy}
+use Rattle.nl_script.specs.FileReads.{IsToldBy}
 use Rattle.nl_session.proofs.SharedReads.{names_told}
 use Rattle.nl_session.proofs.shared.names_through.Goals as goal
 
