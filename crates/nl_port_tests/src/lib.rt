@@ -5,4 +5,10 @@
 #[cfg(test)]
 mod backup;
 #[cfg(test)]
-mod readers;
+mod beside_a_writer;
+#[cfg(test)]
+mod foreign;
+#[cfg(test)]
+mod many_reads;
+#[cfg(test)]
+mod volume;

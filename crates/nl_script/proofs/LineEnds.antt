@@ -12,7 +12,7 @@ use Rattle.nl_texts.specs.Texts.{Text}
 use Rattle.nl_script.specs.ExitStatus.{status_of}
 use Rattle.nl_protect.specs.declared.config.Config.{Config}
 use Rattle.nl_script.specs.Habits.{Habits}
-use Rattle.nl_script.specs.Lines.{AreEventsDone, AreListed, AreOutcomesTold, AreFilesShown, ComesTo, IsCommandDone, IsListingRefused, LacksMemory, LineEnd, ended, refused}
+use Rattle.nl_script.specs.Lines.{AreEventsDone, AreListed, AreOutcomesTold, AreFilesTold, ComesTo, IsCommandDone, IsListingRefused, LacksMemory, LineEnd, ended, refused}
 use Rattle.nl_script.specs.OutcomeTexts.{text_of}
 use Rattle.nl_script.specs.Outcomes.{is_quiet}
 use Rattle.nl_script.specs.declared.status.Status.{Status}
@@ -65,23 +65,16 @@ listing_end habits config number moment all command old result before after is t
   written = told.written;
 }
 
-files_cases : {S J : Type 0} (habits : Habits S J) (config : Config) (number moment mount : ℕ) (paths : List (List ℕ)) (now : S) (end : LineEnd)
-    → AreFilesShown habits.holds number moment mount paths now end ⊎ LacksMemory number moment now now end
-    → IsCommandDone habits config number moment (Catm mount paths) now now end ⊎ LacksMemory number moment now now end
-files_cases habits config number moment mount paths now end (inl shown) = inl (refl, shown)
-files_cases habits config number moment mount paths now end (inr lacks) = inr lacks
-
--- files are shown
-pub files_shown_end : {S J X E : Type 0} (habits : Habits S J) (config : Config) (number moment mount : ℕ) (given paths : List (List ℕ)) (command : Command) (now : S)
+-- files are told of
+pub files_told_end : {S J X E : Type 0} (habits : Habits S J) (config : Config) (number moment mount : ℕ) (given paths : List (List ℕ)) (command : Command) (old new : S)
     (result : Status × Result X E) (before after : Option Text) → command ≡ Catm mount paths → given ≡ paths
-    → ComesTo (λ end. AreFilesShown habits.holds number moment mount given now end ⊎ LacksMemory number moment now now end) moment result before after
-    → ComesTo (λ end. IsCommandDone habits config number moment command now now end ⊎ LacksMemory number moment now now end) moment result before after
-files_shown_end habits config number moment mount given paths command now result before after is same told =
+    → ComesTo (λ end. AreFilesTold habits.does number moment mount given old new end ⊎ LacksMemory number moment old new end) moment result before after
+    → ComesTo (λ end. IsCommandDone habits config number moment command old new end ⊎ LacksMemory number moment old new end) moment result before after
+files_told_end habits config number moment mount given paths command old new result before after is same told =
     let end = ended moment result.0 told.text in
-    let shown = subst (λ (ps : List (List ℕ)). AreFilesShown habits.holds number moment mount ps now end ⊎ LacksMemory number moment now now end) same told.does in
+    let done = subst (λ (ps : List (List ℕ)). AreFilesTold habits.does number moment mount ps old new end ⊎ LacksMemory number moment old new end) same told.does in
     record {
       text = told.text;
-      does = subst (λ (c : Command). IsCommandDone habits config number moment c now now end ⊎ LacksMemory number moment now now end) (sym is)
-          (files_cases habits config number moment mount paths now end shown);
+      does = subst (λ (c : Command). IsCommandDone habits config number moment c old new end ⊎ LacksMemory number moment old new end) (sym is) done;
       written = told.written;
     }

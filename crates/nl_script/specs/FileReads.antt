@@ -1,9 +1,9 @@
 -- What is read of files through a mount.
-use Rattle.std.specs.Prelude.{◌≡◌, ◌⊎◌, ℕ, List, Result, Ok, Err}
-use Rattle.std.specs.List.{AllZip}
-use Rattle.nl_types.specs.declared.error.VolError.{VolError}
-use Rattle.nl_types.specs.declared.error.VolError.TheVariants.{BadMount, Memory}
+use Rattle.std.specs.Prelude.{◌≡◌, ◌⊎◌, ℕ, Bool, true, false, List, [], ◌∷◌, Ok, Err}
+use Rattle.nl_types.specs.declared.error.VolError.TheVariants.{BadMount}
 use Rattle.nl_types.specs.declared.event.Ask.{Ask}
+use Rattle.nl_types.specs.declared.event.Event.{Event}
+use Rattle.nl_types.specs.declared.event.Event.TheVariants.{MountRead}
 use Rattle.nl_types.specs.declared.reply.Answer.TheVariants.{Bytes}
 use Rattle.nl_types.specs.Calls.{IsUnlessMemory, reply_to}
 use Rattle.nl_types.specs.Limits.{file_limit}
@@ -17,22 +17,32 @@ use Rattle.nl_mounts.specs.Jobs.{JobAnswer}
 use Rattle.nl_mounts.specs.declared.many.ReadJob.{ReadJob}
 use Rattle.nl_script.specs.Events.{asked}
 
--- it is told that the mount isn't found; or what a tree says, unless memory is refused
+-- what each tree says that the mount's checkpoint had when it was mounted, unless memory is refused
+abbrev pub IsToldThrough : Claim → Ask → Reply → Type 0
+IsToldThrough m ask reply = (t : Tree) → TreeOn (image_of m.told.commits) m.checkpoint t → IsUnlessMemory reply (reply_to t ask)
+
+-- a port tells what a tree says, unless memory is refused, or it doesn't find the mount
 abbrev pub IsToldBy : Tree → Ask → Reply → Type 0
 IsToldBy t ask reply = (reply ≡ Err BadMount) ⊎ IsUnlessMemory reply (reply_to t ask)
 
--- it is so by each tree that the mount's checkpoint had when it was mounted
-abbrev pub IsToldThrough : Claim → Ask → Reply → Type 0
-IsToldThrough m ask reply = (t : Tree) → TreeOn (image_of m.told.commits) m.checkpoint t → IsToldBy t ask reply
+-- it does so by each tree that the mount's checkpoint had when it was mounted
+abbrev pub IsPortReply : Claim → Ask → Reply → Type 0
+IsPortReply m ask reply = (t : Tree) → TreeOn (image_of m.told.commits) m.checkpoint t → IsToldBy t ask reply
 
--- a whole file
-abbrev pub IsFileOf : Claim → List ℕ → Reply → Type 0
-IsFileOf m path reply = IsToldThrough m (asked Content path) reply
+-- it is told that the mount isn't found
+abbrev pub is_bad_mount : Reply → Bool
+is_bad_mount (Err BadMount) = true
+is_bad_mount _ = false
 
--- each file in its place, or a refusal of all
-abbrev pub AreFilesOf : Claim → (paths : List (List ℕ)) → Result (List Reply) VolError → Type 0
-AreFilesOf m paths (Ok replies) = AllZip (IsFileOf m) paths replies
-AreFilesOf m paths (Err error) = (error ≡ Memory) ⊎ (error ≡ BadMount)
+-- the first files, each in its place
+abbrev pub AreFirstFiles : Claim → (paths : List (List ℕ)) → List Reply → Type 0
+AreFirstFiles m paths [] = Unit {0}
+AreFirstFiles m (path ∷ paths) (reply ∷ replies) = IsToldThrough m (asked Content path) reply × AreFirstFiles m paths replies
+AreFirstFiles m [] (reply ∷ replies) = ⊥
+
+-- what the mount's tree says is what a volume answers to reads of the mount, and nothing changes
+abbrev pub AnswersReads : {S : Type 0} → (S → Event → Reply → S → Type 0) → S → (mount : ℕ) → Claim → Type 0
+AnswersReads does s mount m = (ask : Ask) (reply : Reply) → IsToldThrough m ask reply → does s (MountRead mount ask) reply s
 
 -- a read of a whole file
 abbrev pub job_of : List ℕ → ReadJob

@@ -1,5 +1,5 @@
 -- What scripts know of a volume.
-use Rattle.std.specs.Prelude.{ℕ, Option, Result}
+use Rattle.std.specs.Prelude.{ℕ, Result}
 use Rattle.nl_types.specs.Worlds.{Reply}
 use Rattle.nl_types.specs.declared.error.VolError.{VolError}
 use Rattle.nl_types.specs.declared.event.Event.{Event}
@@ -7,15 +7,12 @@ use Rattle.nl_types.specs.declared.segment.SegmentInfo.{SegmentInfo}
 use Rattle.nl_cpfile.specs.declared.table.Cpstat.{Cpstat}
 use Rattle.nl_sufile.specs.declared.table.Sustat.{Sustat}
 use Rattle.nl_protect.specs.declared.config.Config.{Config}
-use Rattle.nl_publish.specs.Mounts.{Claim}
 use Rattle.nl_script.specs.Rounds.{Steps}
 
 -- what a volume of states S does and tells of itself, whose rounds of cleaning are values of J
 pub record Habits (S J : Type 0) : Type 1 where
   -- an event with its reply leads from one state to another
   pub does : S → Event → Reply → S → Type 0
-  -- the mount of a number that is held, or none
-  pub holds : S → ℕ → Option Claim → Type 0
   -- what a segment is told to be, by its number
   pub tells : S → ℕ → Result SegmentInfo VolError → Type 0
   -- what is told of the checkpoints together

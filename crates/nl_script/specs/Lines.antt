@@ -1,7 +1,7 @@
 -- What the lines of a script do, one after another.
-use Rattle.std.specs.Prelude.{◌≡◌, ◌⊎◌, ◌+◌, ◌<◌, ℕ, Bool, true, false, List, [], ◌∷◌, ◌++◌, length, map, Option, None, Some, is_some, Result, Ok, Err, OnOk}
+use Rattle.std.specs.Prelude.{◌≡◌, ◌⊎◌, ◌+◌, ◌<◌, ℕ, Bool, true, false, List, [], ◌∷◌, ◌++◌, if◌then◌else◌, length, map, Option, None, Some, is_some, Result, Ok, Err, OnOk}
 use Rattle.std.specs.Io.KnownBytes.{Appends}
-use Rattle.std.specs.List.{list_any}
+use Rattle.std.specs.List.{list_all, list_any}
 use Rattle.nl_types.specs.Runs.{Run}
 use Rattle.nl_types.specs.Worlds.{Reply}
 use Rattle.nl_types.specs.declared.error.VolError.{VolError}
@@ -19,9 +19,8 @@ use Rattle.nl_sufile.specs.declared.table.Sustat.{Sustat}
 use Rattle.nl_texts.specs.RefusalTexts.{refusal_text, usage_text}
 use Rattle.nl_texts.specs.SegmentLines.{seg_header, seg_texts}
 use Rattle.nl_texts.specs.Texts.{Text}
-use Rattle.nl_publish.specs.Mounts.{Claim}
 use Rattle.nl_script.specs.Events.{events_of, reading}
-use Rattle.nl_script.specs.FileReads.{AreFilesOf}
+use Rattle.nl_script.specs.FileReads.{is_bad_mount}
 use Rattle.nl_protect.specs.declared.config.Config.{Config}
 use Rattle.nl_script.specs.Habits.{Habits}
 use Rattle.nl_script.specs.ExitStatus.{refused_if, status_of}
@@ -120,23 +119,17 @@ pub record IsRoundDone {S J : Type 0} (habits : Habits S J) (config : Config) (n
   pub over : IsRoundOver habits.steps job old new sum
   pub end_is : end ≡ ended moment (refused_if (is_some sum.refusal)) (round_text number sum)
 
--- what comes of files that are read: each is told of in its place, or the command is refused as a whole
-abbrev pub files_end : (number moment : ℕ) → List Event → Result (List Reply) VolError → LineEnd
-files_end number moment events (Ok replies) = ended moment (status_of false events replies) (text_of number false events replies)
-files_end number moment events (Err error) = refused number moment error
+-- what comes of files that are read: that the mount isn't found is told once, and else each file is told of in its place
+abbrev pub files_end : (number moment : ℕ) → List Event → List Reply → LineEnd
+files_end number moment events replies = if list_all is_bad_mount replies then refused number moment error.BadMount
+    else ended moment (status_of false events replies) (text_of number false events replies)
 
--- no such mount is held, and that is told; or its files are read, and told of
-abbrev pub AreFilesTold : (number moment mount : ℕ) → (paths : List (List ℕ)) → Option Claim → LineEnd → Type 0
-AreFilesTold number moment mount paths None end = end ≡ refused number moment error.BadMount
-AreFilesTold number moment mount paths (Some m) end =
-    (answer : Result (List Reply) VolError) × AreFilesOf m paths answer
-    × (end ≡ files_end number moment (map (reading mount) paths) answer)
-
--- files of the mount that is held are told of
-abbrev pub AreFilesShown : {S : Type 0} → (S → ℕ → Option Claim → Type 0) → (number moment mount : ℕ)
-    → (paths : List (List ℕ)) → S → LineEnd → Type 0
-AreFilesShown holds number moment mount paths old end =
-    (held : Option Claim) × holds old mount held × AreFilesTold number moment mount paths held end
+-- files of a mount are read one after another, and told of
+pub record AreFilesTold {S : Type 0} (does : S → Event → Reply → S → Type 0) (number moment mount : ℕ)
+    (paths : List (List ℕ)) (old new : S) (end : LineEnd) : Type 0 where
+  pub replies : List Reply
+  pub run : Run does old (map (reading mount) paths) replies new
+  pub end_is : end ≡ files_end number moment (map (reading mount) paths) replies
 
 -- a command is done
 abbrev pub IsCommandDone : {S J : Type 0} → Habits S J → Config → (number moment : ℕ) → Command → S → S → LineEnd
@@ -147,7 +140,7 @@ IsCommandDone habits config number moment (Lssu all) old new end =
     × (AreListed habits.tells habits.measures moment all old end
     ⊎ IsListingRefused habits.tells habits.measures number moment old end)
 IsCommandDone habits config number moment (Catm mount paths) old new end =
-    (new ≡ old) × AreFilesShown habits.holds number moment mount paths old end
+    AreFilesTold habits.does number moment mount paths old new end
 IsCommandDone habits config number moment Clean old new end = IsRoundDone habits config number moment old new end
 IsCommandDone habits config number moment command old new end =
     AreOutcomesTold habits.does habits.counts number moment command old new end

@@ -10,7 +10,7 @@ use nl_types::{Ask, Change, CheckpointNumber, Event, Items, Mode, MountNumber};
 use std::alloc::{AllocError, Global};
 
 /// The most bytes that a file has.
-const MOST_BYTES: u64 = 67_108_864;
+pub(crate) const MOST_BYTES: u64 = 67_108_864;
 
 /// Whether the command tells of no checkpoint that is not kept or a snapshot.
 pub fn is_quiet(command: &Command) -> bool
@@ -145,9 +145,8 @@ pub fn events_of(
     ensures { IfOk result (λ events. events.items ≡ events_of moment latest command) }
 {
     match command {
-        Command::At(_) | Command::Lssu { .. } | Command::Clean | Command::Catm { .. } => {
-            Ok(Vec::new(alloc))
-        }
+        Command::At(_) | Command::Lssu { .. } | Command::Clean => Ok(Vec::new(alloc)),
+        Command::Catm { mount, paths } => readings(alloc, mount, paths.as_slice()),
         Command::Mkcp(mode) => one_event(alloc, Event::Checkpoint { mode, moment }),
         Command::Chcp(mode, numbers) => mode_changes(alloc, mode, numbers.as_slice()),
         Command::Lscp(options) => one_event(alloc, Event::Listing(options)),

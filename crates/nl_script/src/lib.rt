@@ -16,7 +16,7 @@ mod volume;
 pub use configurations::{ConfigurationFault, configuration};
 pub use events::{events_of, is_quiet};
 pub use lines::{LineResult, run_line};
-pub use readers::Readers;
+pub use readers::{Readers, is_bad_mount, reply_of};
 pub use rounds::RoundSum;
 pub use running::run_events;
 pub use scripts::{Done, script};

@@ -1,27 +1,28 @@
 //! A line of a script on a volume.
-ghost use Rattle.std.specs.Prelude.{◌≡◌, ◌⊎◌, ◌≤◌, ◌<◌, ◌^◌, ◌++◌, [], ℕ, List, None, Result, is_some, length, vec_capacity, IfErr, IfOk, OnErr, OnOk};
+ghost use Rattle.std.specs.Prelude.{◌≡◌, ◌⊎◌, ◌≤◌, ◌<◌, ◌^◌, ◌++◌, [], ℕ, List, None, Result, is_some, length, map, take, vec_capacity, IfErr, IfOk, OnErr, OnOk};
 ghost use Rattle.std.specs.Io.KnownBytes.{Appends};
-ghost use Rattle.std.specs.List.{list_any};
+ghost use Rattle.std.specs.List.{list_all, list_any};
 ghost use Rattle.nl_texts.specs.RefusalTexts.{refusal_text};
 ghost use Rattle.nl_texts.specs.SegmentLines.{seg_header, seg_texts};
 ghost use Rattle.nl_types.specs.Worlds.{Reply};
 ghost use Rattle.nl_script.specs.ExitStatus.{refused_if, status_of};
-ghost use Rattle.nl_script.specs.FileReads.{AreFilesOf};
-ghost use Rattle.nl_script.specs.Lines.{AreAllTold, AreEventsDone, AreFilesShown, AreListed, AreOutcomesTold, AreTold, ComesTo, IsCommandDone, IsLatestFor, IsLineDone, IsListingRefused, IsRoundDone, IsUntold, IsUntoldBelow, LacksMemory, ended, files_end, is_open, is_since, refused};
+ghost use Rattle.nl_types.specs.Runs.{Run};
+ghost use Rattle.nl_script.specs.Events.{reading};
+ghost use Rattle.nl_script.specs.FileReads.{is_bad_mount};
+ghost use Rattle.nl_script.specs.Lines.{AreAllTold, AreEventsDone, AreFilesTold, AreListed, AreOutcomesTold, AreTold, ComesTo, IsCommandDone, IsLatestFor, IsLineDone, IsListingRefused, IsRoundDone, IsUntold, IsUntoldBelow, LacksMemory, ended, files_end, is_open, is_since, refused};
 ghost use Rattle.nl_script.specs.Rounds.{IsRoundOver, round_text};
 ghost use Rattle.nl_script.specs.declared.rounds.RoundSum.{RoundSum};
 ghost use Rattle.nl_script.specs.OutcomeTexts.{text_of};
 
 use crate::events::{events_of, is_quiet, readings};
-use crate::readers::Readers;
+use crate::readers::{Readers, is_bad_mount};
 use crate::rounds::{RoundSum, run_steps, tell_round};
-use crate::running::run_events;
+use crate::running::{run_events, run_rest};
 use crate::status::Status;
 use crate::telling::{line_status, tell_all};
 use crate::volume::Volume;
 use nl_commands::{CheckpointRange, Command, LineError, read_line};
 use nl_protect::Config;
-use nl_publish::{Mount, Volumes};
 use nl_texts as texts;
 use nl_types::{
     CheckpointNumber, Event, Items, MountNumber, Reply, Segment, SegmentInfo, VolError,
@@ -251,31 +252,68 @@ fn clean<V: Volume, W: Write>(
     }
 }
 
-/// Reads files of a mount, and tells of each in its place.
-fn show_read<J: Volumes + Send + Sync, R: Threads + Sync, W: Write>(
+/// Reads files of a mount by the readers, where it is held, up to the first that they don't find.
+fn first_files<V: Volume, R: Threads + Sync>(
     alloc: Global,
-    readers: &mut Readers<'_, J, R>,
-    number: u64,
-    mount: &Mount<J>,
+    volume: &V,
+    readers: &mut Readers<'_, V::Book, R>,
+    mount: MountNumber,
     paths: &[Items<u8>],
-    events: &[Event],
-    out: &mut W,
-) -> LineResult
-    requires { length events.now ≡ length paths.now }
-    ensures { (moment : ℕ) → ComesTo (λ end. (answer : Result (List Reply) VolError)
-        × AreFilesOf mount.now paths.now answer × (end ≡ files_end number moment events.now answer))
+) -> Result<Vec<Reply>, VolError>
+    ensures fewer { IfOk result (λ replies. length replies.items ≤ length paths.now) }
+    ensures run { IfOk result (λ replies. Run V.habits.does volume.now
+        (take (length replies.items) (map (reading mount) paths.now)) replies.items volume.now) }
+{
+    let Some(held) = volume.mount_of(mount) else {
+        return Ok(Vec::new(alloc));
+    };
+    let first = readers.read_files(alloc, held, paths)?;
+    Ok(first)
+}
+
+/// Reads files of a mount. The volume itself is asked from the first one on that the readers don't find.
+fn read_files<V: Volume, R: Threads + Sync>(
+    alloc: Global,
+    volume: &mut V,
+    readers: &mut Readers<'_, V::Book, R>,
+    mount: MountNumber,
+    paths: &[Items<u8>],
+) -> Result<(Vec<Event>, Vec<Reply>), VolError>
+    ensures events { IfOk result (λ done. done.0.items ≡ map (reading mount) paths.now) }
+    ensures run { IfOk result (λ done.
+        Run V.habits.does volume.old done.0.items done.1.items volume.new) }
+    ensures count { IfOk result (λ done. length done.0.items ≡ length done.1.items) }
+    ensures err { OnErr result (volume.new ≡ volume.old) }
+{
+    let events = readings(alloc, mount, paths)?;
+    let first = first_files(alloc, volume, readers, mount, paths)?;
+    let replies = run_rest(volume, events.as_slice(), first)?;
+    Ok((events, replies))
+}
+
+fn are_bad_mounts(replies: &[Reply]) -> bool
+    ensures { result ≡ list_all is_bad_mount replies.now }
+{
+    replies.iter().all(|reply| is_bad_mount(reply))
+}
+
+/// Tells of files in their places, or once that the mount isn't found.
+fn tell_files<W: Write>(number: u64, events: &[Event], replies: &[Reply], out: &mut W) -> LineResult
+    requires { length events.now ≡ length replies.now }
+    ensures { (moment : ℕ) → ComesTo (λ end. end ≡ files_end number moment events.now replies.now)
         moment result (W.contents out.old) (W.contents out.new) }
 {
-    match readers.read_files(alloc, mount, paths) {
-        Ok(replies) => tell_done(number, false, events, replies.as_slice(), out),
-        Err(error) => refused(number, error, out),
+    if are_bad_mounts(replies) {
+        refused(number, VolError::BadMount, out)
+    } else {
+        tell_done(number, false, events, replies, out)
     }
 }
 
-/// Reads files of the mount of a number, where it is held, and tells of them.
+/// Reads files of a mount, and tells of them.
 fn show_files<V: Volume, R: Threads + Sync, W: Write>(
     alloc: Global,
-    volume: &V,
+    volume: &mut V,
     readers: &mut Readers<'_, V::Book, R>,
     number: u64,
     mount: MountNumber,
@@ -283,17 +321,14 @@ fn show_files<V: Volume, R: Threads + Sync, W: Write>(
     out: &mut W,
 ) -> LineResult
     ensures { (moment : ℕ) → ComesTo (λ end.
-        AreFilesShown V.habits.holds number moment mount paths.now volume.now end
-        ⊎ LacksMemory number moment volume.now volume.now end)
+        AreFilesTold V.habits.does number moment mount paths.now volume.old volume.new end
+        ⊎ LacksMemory number moment volume.old volume.new end)
         moment result (W.contents out.old) (W.contents out.new) }
 {
-    let Some(held) = volume.mount_of(mount) else {
-        return refused(number, VolError::BadMount, out);
-    };
-    let Ok(events) = readings(alloc, mount, paths) else {
-        return refused(number, VolError::Memory, out);
-    };
-    show_read(alloc, readers, number, held, paths, events.as_slice(), out)
+    match read_files(alloc, volume, readers, mount, paths) {
+        Ok((events, replies)) => tell_files(number, events.as_slice(), replies.as_slice(), out),
+        Err(_) => refused(number, VolError::Memory, out),
+    }
 }
 
 fn run_command<V: Volume, R: Threads + Sync, W: Write>(

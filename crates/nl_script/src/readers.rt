@@ -1,22 +1,25 @@
 //! Ports that read files side by side, each in a thread of its own.
-ghost use Rattle.std.specs.Prelude.{◌≡◌, ◌⊎◌, IfErr, IfOk, length, map};
-ghost use Rattle.std.specs.List.{AllZip};
-ghost use Rattle.nl_script.specs.FileReads.{IsFileOf, job_of, reply_of};
+ghost use Rattle.std.specs.Prelude.{◌≡◌, IfOk, IsOkUnless, map};
+ghost use Rattle.std.specs.List.{position_or_len};
+ghost use Rattle.nl_types.specs.Calls.{IsUnlessMemory, ShowsUnlessMemory};
+ghost use Rattle.nl_types.specs.Worlds.{Reply};
+ghost use Rattle.nl_types.specs.declared.reply.Answer.TheVariants as answered;
+ghost use Rattle.nl_script.specs.FileReads.{AreFirstFiles, is_bad_mount, job_of, reply_of};
 
+use crate::events::MOST_BYTES;
 use nl_mounts::{Gate, JobAnswer, Port, ReadJob, read_many};
 use nl_publish::{Mount, Volumes};
 use nl_types::{Answer, Items, Reply, VolError};
 use std::alloc::{AllocError, Global};
 use std::thread::Threads;
 
-/// The most bytes of a file.
-const MOST_BYTES: u64 = 67_108_864;
-
-/// Ports of a volume, and what makes threads.
+/// What reads files side by side.
 #[derive(Drop)]
 pub struct Readers<'a, J: Volumes, R> {
-    rt: &'a R,
-    ports: Vec<Port<J>>,
+    /// What makes threads.
+    pub rt: &'a R,
+    /// Ports of the volume whose mounts are read, each for a thread of its own.
+    pub ports: Vec<Port<J>>,
 }
 
 /// Nothing stands round a read.
@@ -43,8 +46,11 @@ fn jobs_of(alloc: Global, paths: &[Items<u8>]) -> Result<Vec<ReadJob>, AllocErro
     Ok(jobs)
 }
 
-fn reply_of(answer: JobAnswer) -> Reply
-    ensures { result ≡ reply_of answer }
+/// The answer of a port, as a reply.
+pub fn reply_of(answer: JobAnswer) -> Reply
+    ensures reply { result ≡ reply_of answer }
+    ensures shows { (expected : Reply) → ShowsUnlessMemory answered.Bytes answer expected
+        → IsUnlessMemory result expected }
 {
     match answer {
         Ok(bytes) => Ok(Answer::Bytes(bytes)),
@@ -58,35 +64,49 @@ fn replies_of(alloc: Global, answers: Vec<JobAnswer>) -> Result<Vec<Reply>, Allo
     answers.into_iter().map(reply_of).collect(alloc)
 }
 
-impl<'a, J: Volumes, R> Readers<'a, J, R> {
-    /// The ports are of the volume whose mounts are read.
-    pub fn new(rt: &'a R, ports: Vec<Port<J>>) -> Readers<'a, J, R> {
-        Readers { rt, ports }
+/// Whether a reply is that the mount isn't found.
+pub fn is_bad_mount(reply: &Reply) -> bool
+    ensures { result ≡ is_bad_mount reply.now }
+{
+    matches!(reply, Err(VolError::BadMount))
+}
+
+/// How many replies stand before one that the mount isn't found.
+fn count_found(replies: &[Reply]) -> usize
+    ensures { result ≡ position_or_len is_bad_mount replies.now }
+{
+    for (index, reply) in replies.iter().enumerate() {
+        if is_bad_mount(reply) {
+            return index;
+        }
     }
+    replies.len()
 }
 
 impl<J: Volumes + Send + Sync, R: Threads + Sync> Readers<'_, J, R> {
-    /// Reads whole files of a mount.
+    /// Reads whole files of a mount side by side, and answers the first of them: those before one whose port doesn't find the
+    /// mount, and none without ports.
     ///
     /// # Errors
-    /// `BadMount` where there are no ports, and `Memory`. Each file has refusals of its own.
-    pub fn read_files(
+    /// `Memory`. Each file has refusals of its own.
+    pub(crate) fn read_files(
         &mut self,
         alloc: Global,
         mount: &Mount<J>,
         paths: &[Items<u8>],
     ) -> Result<Vec<Reply>, VolError>
-        ensures files { IfOk result (λ replies. AllZip (IsFileOf mount.now) paths.now replies.items) }
-        ensures count { IfOk result (λ replies. length replies.items ≡ length paths.now) }
-        ensures refused { IfErr result (λ e. (e ≡ VolError.Memory) ⊎ (e ≡ VolError.BadMount)) }
+        ensures files { IfOk result (λ replies. AreFirstFiles mount.now paths.now replies.items) }
+        ensures refused { IsOkUnless result VolError.Memory }
     {
         let ports = self.ports.as_mut_slice();
         if ports.is_empty() {
-            return Err(VolError::BadMount);
+            return Ok(Vec::new(alloc));
         }
         let jobs = jobs_of(alloc, paths)?;
         let answers = read_many(self.rt, alloc, ports, mount, jobs.as_slice(), &Open)?;
-        let replies = replies_of(alloc, answers)?;
+        let mut replies = replies_of(alloc, answers)?;
+        let found = count_found(replies.as_slice());
+        replies.truncate(found);
         Ok(replies)
     }
 }

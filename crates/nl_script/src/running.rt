@@ -1,10 +1,31 @@
 //! Events, one after another, on a volume.
-ghost use Rattle.std.specs.Prelude.{◌≡◌, length, IfOk, OnErr};
+ghost use Rattle.std.specs.Prelude.{◌≡◌, ◌≤◌, ◌++◌, List, drop, length, IfOk, OnErr};
 ghost use Rattle.nl_types.specs.Runs.{Run};
+ghost use Rattle.nl_types.specs.Worlds.{Reply};
 
 use crate::volume::Volume;
 use nl_types::{Event, Reply};
 use std::alloc::{AllocError, Global};
+
+/// Does the events that are not answered yet, in order. Refused by want of memory before the first of them, or not at all.
+pub(crate) fn run_rest<V: Volume>(
+    volume: &mut V,
+    events: &[Event],
+    mut replies: Vec<Reply>,
+) -> Result<Vec<Reply>, AllocError>
+    requires { length replies.items ≤ length events.now }
+    ensures run { IfOk result (λ done. (rest : List Reply) × (done.items ≡ replies.items ++ rest)
+        × Run V.habits.does volume.old (drop (length replies.items) events.now) rest volume.new) }
+    ensures err { OnErr result (volume.new ≡ volume.old) }
+{
+    let rest = &events[replies.len()..];
+    replies.reserve(rest.len())?;
+    for event in rest {
+        let reply = volume.apply(event);
+        replies.push_reserved(reply);
+    }
+    Ok(replies)
+}
 
 /// Does the events in order. Refused by want of memory before the first event, or not at all.
 pub fn run_events<V: Volume>(
@@ -17,12 +38,6 @@ pub fn run_events<V: Volume>(
     ensures count { IfOk result (λ replies. length events.now ≡ length replies.items) }
     ensures err { OnErr result (volume.new ≡ volume.old) }
 {
-    let mut replies = Vec::with_capacity(alloc, events.len())?;
-    for event in events {
-        let reply = volume.apply(event);
-        if replies.push(reply).is_err() {
-            unreachable!();
-        }
-    }
+    let replies = run_rest(volume, events, Vec::new(alloc))?;
     Ok(replies)
 }

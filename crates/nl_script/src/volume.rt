@@ -1,6 +1,7 @@
 //! What scripts know of a volume.
-ghost use Rattle.std.specs.Prelude.{◌<◌, ◌^◌, IfOk, IsOkUnless, OnSome, option_map};
+ghost use Rattle.std.specs.Prelude.{◌<◌, ◌^◌, IfOk, IfSome, IsOkUnless, OnSome};
 ghost use Rattle.nl_types.specs.declared.error.VolError.{VolError};
+ghost use Rattle.nl_script.specs.FileReads.{AnswersReads};
 ghost use Rattle.nl_script.specs.Habits.{Habits};
 
 use nl_cpfile::Cpstat;
@@ -25,9 +26,9 @@ pub trait Volume {
     fn apply(&mut self, event: &Event) -> Reply
         ensures { habits.does self.old event.now result self.new };
 
-    /// The mount of a number, if it is held.
+    /// The mount of a number, where it is held: what its tree says is what the volume answers to reads of it.
     fn mount_of(&self, mount: MountNumber) -> Option<&Mount<Self::Book>>
-        ensures { habits.holds self.now mount (option_map (λ m. m.now) result) };
+        ensures { IfSome result (λ m. AnswersReads habits.does self.now mount m.now) };
 
     /// What is known of a segment.
     fn suinfo(&self, segment: Segment) -> Result<SegmentInfo, VolError>

@@ -1,9 +1,8 @@
 -- What is answered through a mount, as replies.
 use Rattle.std.proofs.Common.{◌≡◌, ◌⊎◌, inl, inr, ap, refl, sym, ◌∙◌, ℕ, List, Ok, Err, Result}
 use Rattle.nl_types.specs.declared.error.VolError.{VolError}
-use Rattle.nl_types.specs.declared.error.VolError.TheVariants.{BadMount, Memory}
+use Rattle.nl_types.specs.declared.error.VolError.TheVariants.{BadMount}
 use Rattle.nl_types.specs.declared.event.Ask.TheVariants as ask
-use Rattle.nl_types.specs.declared.reply.Answer.{Answer}
 use Rattle.nl_types.specs.declared.reply.Answer.TheVariants as answer
 use Rattle.nl_types.specs.declared.reply.Named.{Named}
 use Rattle.nl_types.specs.declared.reply.Stat.{Stat}
@@ -14,14 +13,11 @@ use Rattle.nl_mounts.specs.Ports.{IsBytesOf, IsListOf, IsStatOf}
 use Rattle.nl_script.specs.FileReads.{IsToldBy, reply_of}
 use Rattle.nl_session.specs.SharedVolumes.{names_reply, stat_reply}
 
-bytes_unless : (result : Result (List ℕ) VolError) (expected : Reply) → ShowsUnlessMemory answer.Bytes result expected → IsUnlessMemory (reply_of result) expected
-bytes_unless (Ok bytes) expected shows other = sym shows
-bytes_unless (Err e) expected shows other = sym (shows (λ is. other (ap Err is)))
-
-pub bytes_told : (t : Tree) (path : List ℕ) (offset len : ℕ) (result : Result (List ℕ) VolError)
-    → (result ≡ Err BadMount) ⊎ IsBytesOf t path offset len result → IsToldBy t (ask.Bytes path offset len) (reply_of result)
-bytes_told t path offset len result (inl refused) = inl (ap reply_of refused)
-bytes_told t path offset len result (inr shows) = inr (bytes_unless result _ shows)
+pub bytes_told : (t : Tree) (path : List ℕ) (offset len : ℕ) (result : Result (List ℕ) VolError) (reply : Reply) → reply ≡ reply_of result
+    → ((expected : Reply) → ShowsUnlessMemory answer.Bytes result expected → IsUnlessMemory reply expected)
+    → (result ≡ Err BadMount) ⊎ IsBytesOf t path offset len result → IsToldBy t (ask.Bytes path offset len) reply
+bytes_told t path offset len result reply is shows (inl refused) = inl (is ∙ ap reply_of refused)
+bytes_told t path offset len result reply is shows (inr shown) = inr (shows _ shown)
 
 abbrev as_names : Result (List Named) VolError → Reply
 as_names found = and_then found (λ names. Ok (answer.Names names))

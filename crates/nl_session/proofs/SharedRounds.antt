@@ -3,7 +3,6 @@ use Rattle.std.proofs.Common.{◌≡◌, ◌<◌, ℕ, refl, List, [], ◌∷◌
 use Rattle.std.specs.Prelude.{OnSome}
 use Rattle.nl_types.specs.declared.error.VolError.TheVariants.{Memory}
 use Rattle.nl_types.specs.declared.event.Event.{Event}
-use Rattle.nl_types.specs.declared.event.Event.TheVariants.{Unmount}
 use Rattle.nl_types.specs.declared.reply.Answer.{Answer}
 use Rattle.nl_types.specs.Runs.{Run}
 use Rattle.nl_types.specs.Worlds.{Reply}
@@ -14,7 +13,7 @@ use Rattle.nl_cleaner.specs.Laws.{StepsEndRounds, UnmountsLeaveRounds}
 use Rattle.nl_cleaner.specs.declared.job.Stage.{Stage}
 use Rattle.nl_cleaner.specs.declared.job.Stage.TheVariants.{Cleaning, Ended, Expiring}
 use Rattle.nl_publish.specs.Cleaning.{CleanRan, NotBegun, Over, Stepped}
-use Rattle.nl_publish.specs.Locks.{GoesBy, Held, IsReady, NotedStep, State, all_answered, given_back, state_of}
+use Rattle.nl_publish.specs.Locks.{GoesBy, Held, NotedStep, State, all_answered, given_back, state_of}
 
 none_is_none : (event : Event) → None ≡ Some event → ⊥
 none_is_none event is = cc

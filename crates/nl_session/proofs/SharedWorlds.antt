@@ -13,12 +13,11 @@ use Rattle.nl_types.specs.declared.event.Event.TheVariants.{Mount, Unmount}
 use Rattle.nl_types.specs.declared.event.Mode.{Mode}
 use Rattle.nl_types.specs.declared.event.Mode.TheVariants.{Snapshot}
 use Rattle.nl_types.specs.declared.reply.Answer.TheVariants as answer
-use Rattle.nl_types.specs.Laws.{GivesBack}
+use Rattle.nl_types.specs.Laws.{CopiesStay, GivesBack, MountNumbersAreNew, MountsStay}
 use Rattle.nl_types.specs.Limits.{mount_number_limit}
 use Rattle.nl_types.specs.Rows.{is_snapshot}
 use Rattle.nl_types.specs.Trees.{Tree}
 use Rattle.nl_types.specs.Worlds.{Copy, IsWorld, Outcome, Reply, World, copy_at, kept, mounted, step}
-use Rattle.nl_types.proofs.CopyLaws.{copies_stay, mount_numbers_are_new, mounts_stay}
 use Rattle.nl_types.proofs.EventCases.{after_mount, either_gives, refused_if_gives}
 use Rattle.nl_types.proofs.NumberedLists.{AllBelow, find-push_same, list_all_weaken}
 use Rattle.nl_core.specs.Commits.{image_of}
@@ -26,12 +25,19 @@ use Rattle.nl_core.specs.Layout.{DoesIn, Layout, cleaned}
 use Rattle.nl_core.specs.Notes.{shared}
 use Rattle.nl_publish.specs.Locks.{mount_reply}
 use Rattle.nl_publish.specs.Mounts.{Claim}
-use Rattle.nl_publish.specs.Told.{TreeOn}
+use Rattle.nl_publish.specs.Told.{LockedRunsLeadOn, TreeOn}
 use Rattle.nl_session.specs.SharedLaws.{IsMountIn}
 
 -- a pen, beside a world that it means
 abbrev pub Beside : Type 0
 Beside = Layout × World
+
+-- what the crates below know of worlds, and of runs under the lock
+pub record Laws : Type 0 where
+  pub copies : CopiesStay
+  pub mounts : MountsStay
+  pub numbers : MountNumbersAreNew
+  pub leads : LockedRunsLeadOn
 
 -- ---- mounts that stay
 
@@ -40,11 +46,11 @@ some_copy None mode is = absurd (cc is)
 some_copy (Some copy) mode is = (copy, refl)
 
 -- a mount that is still there has its copy still, with the same tree
-still_shown : (cleaned reply : Reply) (old new : World) (event : Event) (m : Claim) → step cleaned old event ≡ (reply, new)
+still_shown : (laws : Laws) (cleaned reply : Reply) (old new : World) (event : Event) (m : Claim) → step cleaned old event ≡ (reply, new)
     → IsWorld new → IsMountIn old m → find nat_cmp m.number new.mounts ≡ Some m.checkpoint → IsMountIn new m
-still_shown cleaned reply old new event m is world before found =
+still_shown laws cleaned reply old new event m is world before found =
     let now = some_copy (copy_at new m.checkpoint) Snapshot (world.mounted m.number m.checkpoint found) in
-    let same = copies_stay cleaned reply old new event m.checkpoint before.told.copy now.0 is before.told.kept now.1 in
+    let same = laws.copies cleaned reply old new event m.checkpoint before.told.copy now.0 is before.told.kept now.1 in
     record {
       mounted = found;
       told = record {
@@ -54,13 +60,13 @@ still_shown cleaned reply old new event m is world before found =
       };
     }
 
-module _ (a b : Beside) (event : Event) (reply : Reply) (m : Claim) (does : DoesIn shared a event reply b) (before : IsMountIn a.1 m) where
+module _ (laws : Laws) (a b : Beside) (event : Event) (reply : Reply) (m : Claim) (does : DoesIn shared a event reply b) (before : IsMountIn a.1 m) where
   still : b.1 ≡ a.1 → IsMountIn b.1 m
   still same = subst (λ (w : World). IsMountIn w m) (sym same) before
 
   stepped : step (cleaned a.0 event) a.1 event ≡ (reply, b.1) → (GivesBack event m.number → ⊥) → IsMountIn b.1 m
-  stepped is other = elim (mounts_stay (cleaned a.0 event) reply a.1 b.1 event m.number m.checkpoint is before.mounted) [
-    | inl found ↦ still_shown (cleaned a.0 event) reply a.1 b.1 event m is does.means.world before found
+  stepped is other = elim (laws.mounts (cleaned a.0 event) reply a.1 b.1 event m.number m.checkpoint is before.mounted) [
+    | inl found ↦ still_shown laws (cleaned a.0 event) reply a.1 b.1 event m is does.means.world before found
     | inr gone ↦ absurd (other gone)
   ]
 
@@ -72,12 +78,12 @@ module _ (a b : Beside) (event : Event) (reply : Reply) (m : Claim) (does : Does
   ]
 
 -- all of them
-pub all_hold : (a b : Beside) (event : Event) (reply : Reply) (claims : List Claim) → DoesIn shared a event reply b
+pub all_hold : (laws : Laws) (a b : Beside) (event : Event) (reply : Reply) (claims : List Claim) → DoesIn shared a event reply b
     → AllByRecursion (λ (m : Claim). GivesBack event m.number → ⊥) claims → AllByRecursion (IsMountIn a.1) claims
     → AllByRecursion (IsMountIn b.1) claims
-all_hold a b event reply [] does others before = tt
-all_hold a b event reply (m ∷ claims) does others before =
-    (holds a b event reply m does before.0 others.0, all_hold a b event reply claims does others.1 before.1)
+all_hold laws a b event reply [] does others before = tt
+all_hold laws a b event reply (m ∷ claims) does others before =
+    (holds laws a b event reply m does before.0 others.0, all_hold laws a b event reply claims does others.1 before.1)
 
 -- ---- give-backs that are refused
 
@@ -133,7 +139,7 @@ found_given n k given (e ∷ mounts) found all =
       | inr other ↦ found_given n k given mounts (sym (ap (λ b. cond b (Some e.1) (find nat_cmp n mounts)) other) ∙ found) parts.1
     ]
 
-module _ (a b : Beside) (k n : ℕ) (does : DoesIn shared a (Mount k) (mount_reply n) b) (world : IsWorld a.1) where
+module _ (laws : Laws) (a b : Beside) (k n : ℕ) (does : DoesIn shared a (Mount k) (mount_reply n) b) (world : IsWorld a.1) where
   is_step : step (Err error.Memory) a.1 (Mount k) ≡ (mount_reply n, b.1)
   is_step = elim does.step [
     | inl is ↦ is
@@ -147,6 +153,6 @@ module _ (a b : Beside) (k n : ℕ) (does : DoesIn shared a (Mount k) (mount_rep
   -- and was none of those before
   pub mount_is_new : (m : Claim) → IsMountIn a.1 m → (m.number ≢ n)
   mount_is_new m before same =
-      let new = mount_numbers_are_new (Err error.Memory) a.1 b.1 (Mount k) n (λ e. cc e) is_step in
+      let new = laws.numbers (Err error.Memory) a.1 b.1 (Mount k) n (λ e. cc e) is_step in
       let low = found_given m.number m.checkpoint a.1.given a.1.mounts before.mounted world.mounts_given in
       omega arith

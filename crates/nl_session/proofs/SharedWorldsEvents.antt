@@ -1,7 +1,7 @@
 -- What each event on a shared volume comes to, beside a world.
-use Rattle.std.proofs.Common.{◌≡◌, ◌≢◌, ℕ, List, [], ◌∷◌, ◌++◌, map, true, false, Option, Some, None, Ok, Err, refl, sym, ap, ◌∙◌, subst, inl, inr}
+use Rattle.std.proofs.Common.{◌≡◌, ◌≢◌, ◌⊎◌, ℕ, List, [], ◌∷◌, ◌++◌, map, true, false, Option, Some, None, Ok, Err, refl, sym, ap, ◌∙◌, subst, inl, inr}
 use Rattle.std.proofs.lemmas.Option.{same_Some}
-use Rattle.std.specs.List.{AllByRecursion, AllZip}
+use Rattle.std.specs.List.{AllByRecursion}
 use Rattle.std.specs.Prelude.{◌==◌, if◌then◌else◌}
 use Rattle.std.specs.Option.{ok_or}
 use Rattle.std.specs.Ordering.{nat_cmp}
@@ -12,7 +12,7 @@ use Rattle.nl_types.specs.declared.event.Ask.{Ask}
 use Rattle.nl_types.specs.declared.event.Event.{Event}
 use Rattle.nl_types.specs.declared.event.Event.TheVariants as event
 use Rattle.nl_types.specs.declared.event.Event.TheVariants.{Mount, Unmount}
-use Rattle.nl_types.specs.Calls.{and_then, reply_to}
+use Rattle.nl_types.specs.Calls.{IsUnlessMemory, and_then, reply_to}
 use Rattle.nl_types.specs.Laws.{GivesBack}
 use Rattle.nl_types.specs.Worlds.{Copy, Reply, World, copy_at, formatted, mount_read}
 use Rattle.nl_core.specs.Layout.{DoesIn, Layout}
@@ -29,13 +29,11 @@ use Rattle.nl_publish.specs.Locks.{MountRan, Ran, listed, mount_reply}
 use Rattle.nl_publish.specs.Locks as locks
 use Rattle.nl_publish.specs.Mounts.{Claim}
 use Rattle.nl_mounts.specs.Sharing.{MountsCopy}
-use Rattle.nl_commands.specs.declared.command.Shown.TheVariants.{Content}
-use Rattle.nl_script.specs.Events.{asked}
-use Rattle.nl_session.specs.SharedLaws.{Came, ComesBeside, DifferAll, IsBeside, IsDoneBeside, IsFileIn, IsMountIn, IsReadIn, IsSteppedBeside, MountLost, NewVolumesAreBeside, Next, NoNext, SharedEventsFollowWorlds, SharedReadsFollowWorlds, SharedStepsFollowWorlds, Stayed, number_of}
-use Rattle.nl_session.specs.SharedVolumes.{IsReadThrough, IsRoundOver, MountComes, Sharing, left_by, mount_of, without_mount}
+use Rattle.nl_session.specs.SharedLaws.{Came, ComesBeside, DifferAll, IsBeside, IsDoneBeside, IsMountIn, IsReadBeside, IsSteppedBeside, MountLost, NewVolumesAreBeside, Next, NoNext, SharedEventsFollowWorlds, SharedStepsFollowWorlds, Stayed, number_of}
+use Rattle.nl_session.specs.SharedVolumes.{IsHeldTold, IsRoundOver, MountComes, ReadComes, Sharing, left_by, mount_of, without_mount}
 use Rattle.nl_session.specs.SharedVolumes as volume
-use Rattle.nl_script.specs.FileReads.{IsFileOf, IsToldThrough}
-use Rattle.nl_session.proofs.SharedWorlds.{Beside, all_hold, back_refused, mount_found, mount_is_new}
+use Rattle.nl_script.specs.FileReads.{IsToldThrough}
+use Rattle.nl_session.proofs.SharedWorlds.{Beside, Laws, all_hold, back_refused, mount_found, mount_is_new}
 use Rattle.nl_session.proofs.SharedWorldsMounts.{all_and_one, differ_more, differ_none, differ_rest, differ_some, each_so, found_so, left_differ, left_others, left_so}
 use Rattle.nl_session.proofs.SharedWorldsRuns.{IsBehind, behind_ready, behind_whole, comes_behind, comes_clear, comes_same, held_before, stays_ready, stays_so, stays_stuck}
 
@@ -47,59 +45,54 @@ read_is w n m ask held same =
     ∙ ap (λ (o : Option ℕ). and_then (and_then (ok_or o BadMount) (λ (k : ℕ). ok_or (copy_at w k) BadMount)) (λ (copy : Copy). reply_to copy.tree ask)) held.mounted
     ∙ ap (λ (o : Option Copy). and_then (ok_or o BadMount) (λ (copy : Copy). reply_to copy.tree ask)) held.told.kept
 
-told_in : (w : World) (n : ℕ) (m : Claim) (ask : Ask) (reply : Reply) → IsMountIn w m → m.number ≡ n → IsToldThrough m ask reply → IsReadIn w n ask reply
-told_in w n m ask reply held same told = elim (told held.told.copy.tree held.told.shown) [
-  | inl bad ↦ inl bad
-  | inr is ↦ inr (λ other. is other ∙ sym (read_is w n m ask held same))
-]
+told_in : (w : World) (n : ℕ) (m : Claim) (ask : Ask) (reply : Reply) → IsMountIn w m → m.number ≡ n → IsToldThrough m ask reply
+    → IsUnlessMemory reply (mount_read w n ask)
+told_in w n m ask reply held same told other = told held.told.copy.tree held.told.shown other ∙ sym (read_is w n m ask held same)
 
-read_through : (w : World) (s : Sharing) (n : ℕ) (ask : Ask) (reply : Reply) → IsBeside w s → (o : Option Claim) → mount_of n s.mounts ≡ o
-    → IsReadThrough o ask reply → IsReadIn w n ask reply
-read_through w s n ask reply before None at is = inl is
-read_through w s n ask reply before (Some m) at is =
+held_told : (w : World) (s : Sharing) (n : ℕ) (ask : Ask) (reply : Reply) → IsBeside w s → (o : Option Claim) → mount_of n s.mounts ≡ o
+    → IsHeldTold o ask reply → IsUnlessMemory reply (mount_read w n ask)
+held_told w s n ask reply before None at told = absurd told
+held_told w s n ask reply before (Some m) at told =
     let found = found_so (IsMountIn w) n s.mounts m before.mounts at in
-    told_in w n m ask reply found.0 found.1 is
-
-files_in : (w : World) (n : ℕ) (m : Claim) (paths : List (List ℕ)) (replies : List Reply) → IsMountIn w m → m.number ≡ n
-    → AllZip (IsFileOf m) paths replies → AllZip (IsFileIn w n) paths replies
-files_in w n m [] [] held same told = tt
-files_in w n m (path ∷ paths) (reply ∷ replies) held same told =
-    (told_in w n m (asked Content path) reply held same told.0, files_in w n m paths replies held same told.1)
-files_in w n m [] (reply ∷ replies) held same told = absurd told
-files_in w n m (path ∷ paths) [] held same told = absurd told
-
-pub reads_follow : SharedReadsFollowWorlds
-reads_follow w s mount m paths (Ok replies) before held reads =
-    let found = found_so (IsMountIn w) mount s.mounts m before.mounts (sym held) in
-    files_in w mount m paths replies found.0 found.1 reads
-reads_follow w s mount m paths (Err e) before held reads = tt
+    told_in w n m ask reply found.0 found.1 told
 
 -- ---- events
+
+-- the event gives no mount back
+abbrev GivesNone : Event → Type 0
+GivesNone asked = (n : ℕ) → GivesBack asked n → ⊥
+
+each_given_none : (asked : Event) → GivesNone asked → (claims : List Claim) → AllByRecursion (λ (m : Claim). GivesBack asked m.number → ⊥) claims
+each_given_none asked none [] = tt
+each_given_none asked none (m ∷ claims) = (none m.number, each_given_none asked none claims)
 
 none_given : (claims : List Claim) → AllByRecursion (λ (m : Claim). ⊥ → ⊥) claims
 none_given [] = tt
 none_given (m ∷ claims) = ((λ no. no), none_given claims)
 
-module _ (w : World) (old new : Sharing) (reply : Reply) (before : IsBeside w old) where
+module _ (laws : Laws) (w : World) (old new : Sharing) (reply : Reply) (before : IsBeside w old) where
   differ : DifferAll (map number_of old.mounts)
   differ = differ_rest old.held.lost (map number_of old.mounts) before.numbers
+
+  abbrev IsAnswered : Event → Type 0
+  IsAnswered asked = IsReadBeside w asked reply new ⊎ IsDoneBeside w old asked reply new
 
   -- an event that gives no mount back that is held
   ran_same : (asked : Event) → Ran old.held asked reply new.held → new.mounts ≡ old.mounts
       → AllByRecursion (λ (m : Claim). GivesBack asked m.number → ⊥) old.mounts → IsDoneBeside w old asked reply new
   ran_same asked (locks.Done backs goes none) same others =
-      Came (comes_same w old new asked reply before (behind_whole w old.held new.held asked reply backs before.means goes) none same others)
-  ran_same asked (locks.NotBegun stuck is) same others = Stayed is (stays_stuck w old new before same stuck)
+      Came (comes_same laws w old new asked reply before (behind_whole laws w old.held new.held asked reply backs before.means goes) none same others)
+  ran_same asked (locks.NotBegun stuck is) same others = Stayed is (stays_stuck laws w old new before same stuck)
 
   -- ---- unmounts
 
   module _ (n : ℕ) (behind : IsBehind w old.held (Unmount n) reply new.held) where
     held : AllByRecursion (IsMountIn behind.middle.1) old.mounts
-    held = held_before w old new (Unmount n) reply before behind
+    held = held_before laws w old new (Unmount n) reply before behind
 
     mounts_left : (r : Reply) → reply ≡ r → AllByRecursion (IsMountIn behind.after) (left_by n r old.mounts)
     mounts_left (Ok answer) is =
-        all_hold behind.middle (new.held.layout, behind.after) (Unmount n) reply (without_mount n old.mounts) behind.does
+        all_hold laws behind.middle (new.held.layout, behind.after) (Unmount n) reply (without_mount n old.mounts) behind.does
         (each_so (λ (m : Claim). m.number ≢ n) (λ (m : Claim). GivesBack (Unmount n) m.number → ⊥) (λ m other same. other (sym same))
         (without_mount n old.mounts) (left_others n old.mounts differ))
         (left_so (IsMountIn behind.middle.1) n old.mounts held)
@@ -114,15 +107,15 @@ module _ (w : World) (old new : Sharing) (reply : Reply) (before : IsBeside w ol
 
     back_comes : new.held.lost ≡ None → new.mounts ≡ left_by n reply old.mounts → ComesBeside w old (Unmount n) reply new
     back_comes none same =
-        comes_clear w old new (Unmount n) reply before behind none
+        comes_clear laws w old new (Unmount n) reply before behind none
         (subst (AllByRecursion (IsMountIn behind.after)) (sym same) (mounts_left reply refl))
         (subst (λ (claims : List Claim). DifferAll (map number_of claims)) (sym same) (numbers_left reply))
 
   ran_back : (n : ℕ) → Ran old.held (Unmount n) reply new.held → new.mounts ≡ left_by n reply old.mounts → IsDoneBeside w old (Unmount n) reply new
   ran_back n (locks.Done backs goes none) same =
-      Came (back_comes n (behind_whole w old.held new.held (Unmount n) reply backs before.means goes) none same)
+      Came (back_comes n (behind_whole laws w old.held new.held (Unmount n) reply backs before.means goes) none same)
   ran_back n (locks.NotBegun stuck is) same =
-      Stayed is (stays_stuck w old new before (same ∙ ap (λ (r : Reply). left_by n r old.mounts) is) stuck)
+      Stayed is (stays_stuck laws w old new before (same ∙ ap (λ (r : Reply). left_by n r old.mounts) is) stuck)
 
   -- ---- mounts
 
@@ -131,36 +124,36 @@ module _ (w : World) (old new : Sharing) (reply : Reply) (before : IsBeside w ol
     b = (new.held.layout, behind.after)
 
     were : AllByRecursion (IsMountIn behind.middle.1) old.mounts
-    were = held_before w old new (Mount k) (mount_reply n) before behind
+    were = held_before laws w old new (Mount k) (mount_reply n) before behind
 
     are : AllByRecursion (IsMountIn behind.after) old.mounts
-    are = all_hold behind.middle b (Mount k) (mount_reply n) old.mounts behind.does (none_given old.mounts) were
+    are = all_hold laws behind.middle b (Mount k) (mount_reply n) old.mounts behind.does (none_given old.mounts) were
 
     -- the number is none of theirs
     new_number : AllByRecursion (λ (m : Claim). m.number ≢ n) old.mounts
     new_number =
         each_so (IsMountIn behind.middle.1) (λ (m : Claim). m.number ≢ n)
-        (λ m held. mount_is_new behind.middle b k n behind.does behind.means.world m held) old.mounts were
+        (λ m held. mount_is_new laws behind.middle b k n behind.does behind.means.world m held) old.mounts were
 
     -- the mount is held
     mount_held : (m : Claim) → m.number ≡ n → m.checkpoint ≡ k → MountsCopy new.held m → new.held.lost ≡ None
         → new.mounts ≡ old.mounts ++ m ∷ [] → ComesBeside w old (Mount k) (mount_reply n) new
     mount_held m number checkpoint copy none same =
-        let found = mount_found behind.middle b k n behind.does behind.means.world in
+        let found = mount_found laws behind.middle b k n behind.does behind.means.world in
         let one : IsMountIn behind.after m = record {
           mounted = ap (λ (j : ℕ). find nat_cmp j behind.after.mounts) number ∙ (found ∙ ap (λ (j : ℕ). Some j) (sym checkpoint));
           told = copy behind.after behind.does.means;
         } in
         let others : AllByRecursion (λ (c : Claim). c.number ≢ m.number) old.mounts =
         subst (λ (j : ℕ). AllByRecursion (λ (c : Claim). c.number ≢ j) old.mounts) (sym number) new_number in
-        comes_clear w old new (Mount k) (mount_reply n) before behind none
+        comes_clear laws w old new (Mount k) (mount_reply n) before behind none
         (subst (AllByRecursion (IsMountIn behind.after)) (sym same) (all_and_one (IsMountIn behind.after) old.mounts m are one))
         (subst (λ (claims : List Claim). DifferAll (map number_of claims)) (sym same) (differ_more old.mounts m differ others))
 
     -- or it is lost
     mount_lost : new.held.lost ≡ Some n → new.mounts ≡ old.mounts → ComesBeside w old (Mount k) (mount_reply n) new
     mount_lost lost same =
-        comes_behind w old new (Mount k) (mount_reply n) before behind
+        comes_behind laws w old new (Mount k) (mount_reply n) before behind
         (subst (AllByRecursion (IsMountIn behind.after)) (sym same) are)
         (subst (λ (claims : List Claim). DifferAll (listed new.held.lost ++ map number_of claims)) (sym same)
         (differ_some new.held.lost n old.mounts lost differ new_number))
@@ -169,7 +162,7 @@ module _ (w : World) (old new : Sharing) (reply : Reply) (before : IsBeside w ol
       → new.mounts ≡ old.mounts ++ m ∷ [] → MountRan old.held k (Ok m.number) new.held → IsDoneBeside w old (Mount k) reply new
   mount_made k m is of copy same (locks.Mounted clear n begun goes result all none) =
       let number : m.number ≡ n = cc result in
-      let behind = behind_ready w old.held clear new.held (Mount k) (mount_reply n) before.means begun.ready goes in
+      let behind = behind_ready laws w old.held clear new.held (Mount k) (mount_reply n) before.means begun.ready goes in
       Came (subst (λ (r : Reply). ComesBeside w old (Mount k) r new) (sym (is ∙ ap mount_reply number))
       (mount_held k n behind m number of copy none same))
   mount_made k m is of copy same (locks.Lost clear n begun goes result lost) = absurd (cc result)
@@ -182,53 +175,54 @@ module _ (w : World) (old new : Sharing) (reply : Reply) (before : IsBeside w ol
   mount_refused k e is same (locks.Mounted clear n begun goes result all none) = absurd (cc result)
   mount_refused k e is same (locks.Lost clear n begun goes result lost) =
       let memory : e ≡ Memory = cc result in
-      let behind = behind_ready w old.held clear new.held (Mount k) (mount_reply n) before.means begun.ready goes in
+      let behind = behind_ready laws w old.held clear new.held (Mount k) (mount_reply n) before.means begun.ready goes in
       MountLost k n refl (is ∙ ap (λ (x : VolError). Err x) memory) lost (mount_lost k n behind lost same)
   mount_refused k e is same (locks.Refused clear x begun goes result) =
       let error : e ≡ x = cc result in
-      let behind = behind_ready w old.held clear new.held (Mount k) (Err x) before.means begun.ready goes.0 in
+      let behind = behind_ready laws w old.held clear new.held (Mount k) (Err x) before.means begun.ready goes.0 in
       Came (subst (λ (r : Reply). ComesBeside w old (Mount k) r new) (sym (is ∙ ap (λ (y : VolError). Err y) error))
-      (comes_same w old new (Mount k) (Err x) before behind (goes.1 ∙ begun.ready.lost) same (none_given old.mounts)))
+      (comes_same laws w old new (Mount k) (Err x) before behind (goes.1 ∙ begun.ready.lost) same (none_given old.mounts)))
   mount_refused k e is same (locks.Pending ready apart result) =
       let memory : e ≡ Memory = cc result in
-      Stayed (is ∙ ap (λ (x : VolError). Err x) memory) (stays_ready w old new before same ready)
+      Stayed (is ∙ ap (λ (x : VolError). Err x) memory) (stays_ready laws w old new before same ready)
   mount_refused k e is same (locks.Stuck stuck result) =
       let memory : e ≡ Memory = cc result in
-      Stayed (is ∙ ap (λ (x : VolError). Err x) memory) (stays_stuck w old new before same stuck)
+      Stayed (is ∙ ap (λ (x : VolError). Err x) memory) (stays_stuck laws w old new before same stuck)
 
   mount_comes : (k : ℕ) → MountComes old k reply new → IsDoneBeside w old (Mount k) reply new
   mount_comes k (volume.NoPlace is same) = Stayed is (stays_so w old new before same)
   mount_comes k (volume.Mounted m is of told ran copy same) = mount_made k m is of copy same ran
   mount_comes k (volume.Refused e is ran same) = mount_refused k e is same ran
 
-pub events_follow : SharedEventsFollowWorlds
-events_follow w old new (Mount k) reply before does = mount_comes w old new reply before k does
-events_follow w old new (Unmount n) reply before does = ran_back w old new reply before n does.0 does.1
-events_follow w old new (event.MountRead n ask) reply before does =
-    (read_through w old n ask reply before (mount_of n old.mounts) refl does.1, subst (IsBeside w) (sym does.0) before)
-events_follow w old new (event.Apply change) reply before does = ran_same w old new reply before (event.Apply change) does.0 does.1 (none_given old.mounts)
-events_follow w old new (event.Read ask) reply before does = ran_same w old new reply before (event.Read ask) does.0 does.1 (none_given old.mounts)
-events_follow w old new (event.Checkpoint mode now) reply before does =
-    ran_same w old new reply before (event.Checkpoint mode now) does.0 does.1 (none_given old.mounts)
-events_follow w old new (event.ChangeMode n mode) reply before does =
-    ran_same w old new reply before (event.ChangeMode n mode) does.0 does.1 (none_given old.mounts)
-events_follow w old new (event.Remove n) reply before does = ran_same w old new reply before (event.Remove n) does.0 does.1 (none_given old.mounts)
-events_follow w old new (event.RemoveRange first last) reply before does =
-    ran_same w old new reply before (event.RemoveRange first last) does.0 does.1 (none_given old.mounts)
-events_follow w old new (event.Expire now period) reply before does =
-    ran_same w old new reply before (event.Expire now period) does.0 does.1 (none_given old.mounts)
-events_follow w old new (event.Move segment limit now) reply before does =
-    ran_same w old new reply before (event.Move segment limit now) does.0 does.1 (none_given old.mounts)
-events_follow w old new (event.Retire segment) reply before does =
-    ran_same w old new reply before (event.Retire segment) does.0 does.1 (none_given old.mounts)
-events_follow w old new (event.Listing options) reply before does =
-    ran_same w old new reply before (event.Listing options) does.0 does.1 (none_given old.mounts)
+  -- ---- reads through mounts
 
--- ---- steps of rounds
+  read_comes : (n : ℕ) (ask : Ask) → ReadComes old n ask reply new → IsAnswered (event.MountRead n ask)
+  read_comes n ask (inl told) =
+      inl (held_told w old n ask reply before (mount_of n old.mounts) refl told.1, subst (IsBeside w) (sym told.0) before)
+  read_comes n ask (inr ran) = inr (ran_same (event.MountRead n ask) ran.0 ran.1 (none_given old.mounts))
 
--- a round gives no mount back
-abbrev GivesNone : Event → Type 0
-GivesNone asked = (n : ℕ) → GivesBack asked n → ⊥
+  -- ---- the others
+
+  other_comes : (asked : Event) → GivesNone asked → Ran old.held asked reply new.held × (new.mounts ≡ old.mounts)
+      → IsAnswered asked
+  other_comes asked none ran = inr (ran_same asked ran.0 ran.1 (each_given_none asked none old.mounts))
+
+pub events_follow : Laws → SharedEventsFollowWorlds
+events_follow laws w old new (Mount k) reply before does = inr (mount_comes laws w old new reply before k does)
+events_follow laws w old new (Unmount n) reply before does = inr (ran_back laws w old new reply before n does.0 does.1)
+events_follow laws w old new (event.MountRead n ask) reply before does = read_comes laws w old new reply before n ask does
+events_follow laws w old new (event.Apply change) reply before does = other_comes laws w old new reply before (event.Apply change) (λ n no. no) does
+events_follow laws w old new (event.Read ask) reply before does = other_comes laws w old new reply before (event.Read ask) (λ n no. no) does
+events_follow laws w old new (event.Checkpoint mode now) reply before does = other_comes laws w old new reply before (event.Checkpoint mode now) (λ n no. no) does
+events_follow laws w old new (event.ChangeMode n mode) reply before does = other_comes laws w old new reply before (event.ChangeMode n mode) (λ n no. no) does
+events_follow laws w old new (event.Remove n) reply before does = other_comes laws w old new reply before (event.Remove n) (λ n no. no) does
+events_follow laws w old new (event.RemoveRange first last) reply before does = other_comes laws w old new reply before (event.RemoveRange first last) (λ n no. no) does
+events_follow laws w old new (event.Expire now period) reply before does = other_comes laws w old new reply before (event.Expire now period) (λ n no. no) does
+events_follow laws w old new (event.Move segment limit now) reply before does = other_comes laws w old new reply before (event.Move segment limit now) (λ n no. no) does
+events_follow laws w old new (event.Retire segment) reply before does = other_comes laws w old new reply before (event.Retire segment) (λ n no. no) does
+events_follow laws w old new (event.Listing options) reply before does = other_comes laws w old new reply before (event.Listing options) (λ n no. no) does
+
+-- ---- steps of rounds: none gives a mount back
 
 cleaning_gives_none : (l : Layout) (segment now : ℕ) → GivesNone (cleaning_event l segment now)
 cleaning_gives_none l segment now = elim (needed_count l.store (needed_by l.lists) segment == 0)
@@ -244,20 +238,16 @@ next_gives_none Expiring job l asked is = subst GivesNone (same_Some (event.Expi
 next_gives_none Cleaning job l asked is = left_gives_none job.left job.moment l asked is
 next_gives_none Ended job l asked is = absurd (cc is)
 
-each_given_none : (asked : Event) → GivesNone asked → (claims : List Claim) → AllByRecursion (λ (m : Claim). GivesBack asked m.number → ⊥) claims
-each_given_none asked none [] = tt
-each_given_none asked none (m ∷ claims) = (none m.number, each_given_none asked none claims)
-
-stepped : (w : World) (old new : Sharing) (job next : JobView) (reply : Option Reply) → IsBeside w old → CleanRan old.held job reply new.held next
+stepped : (laws : Laws) (w : World) (old new : Sharing) (job next : JobView) (reply : Option Reply) → IsBeside w old → CleanRan old.held job reply new.held next
     → new.mounts ≡ old.mounts → IsSteppedBeside w old job reply new
-stepped w old new job next reply before (cleaning.Stepped begun asked answer ready is goes replied now) same =
-    let behind = behind_ready w old.held begun new.held asked answer before.means ready goes.0 in
-    Next begun.layout asked answer is replied (comes_same w old new asked answer before behind (goes.1 ∙ ready.lost) same
+stepped laws w old new job next reply before (cleaning.Stepped begun asked answer ready is goes replied now) same =
+    let behind = behind_ready laws w old.held begun new.held asked answer before.means ready goes.0 in
+    Next begun.layout asked answer is replied (comes_same laws w old new asked answer before behind (goes.1 ∙ ready.lost) same
     (each_given_none asked (next_gives_none job.stage job begun.layout asked is) old.mounts))
-stepped w old new job next reply before (cleaning.Over ready is replied now) same =
-    NoNext (inl replied) (stays_ready w old new before same ready)
-stepped w old new job next reply before (cleaning.NotBegun stuck replied now) same =
-    NoNext (inr replied) (stays_stuck w old new before same stuck)
+stepped laws w old new job next reply before (cleaning.Over ready is replied now) same =
+    NoNext (inl replied) (stays_ready laws w old new before same ready)
+stepped laws w old new job next reply before (cleaning.NotBegun stuck replied now) same =
+    NoNext (inr replied) (stays_stuck laws w old new before same stuck)
 
 over : (w : World) (old new : Sharing) (job next : JobView) (reply : Option Reply) → IsBeside w old → IsRoundOver old.held job reply new.held next
     → new.mounts ≡ old.mounts → IsSteppedBeside w old job reply new
@@ -265,9 +255,9 @@ over w old new job next reply before round same =
     let still : new ≡ old = λ i. record { held = round.2 i; mounts = same i } in
     NoNext (inl round.1) (stays_so w old new before still)
 
-pub steps_follow : SharedStepsFollowWorlds
-steps_follow w old new job next reply before (inl round, same) = over w old new job next reply before round same
-steps_follow w old new job next reply before (inr ran, same) = stepped w old new job next reply before ran same
+pub steps_follow : Laws → SharedStepsFollowWorlds
+steps_follow laws w old new job next reply before (inl round, same) = over w old new job next reply before round same
+steps_follow laws w old new job next reply before (inr ran, same) = stepped laws w old new job next reply before ran same
 
 -- ---- new volumes
 

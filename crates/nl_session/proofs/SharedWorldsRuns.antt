@@ -11,10 +11,9 @@ use Rattle.nl_core.specs.Layout.{DoesIn, MeansWorld}
 use Rattle.nl_core.specs.Notes.{shared}
 use Rattle.nl_publish.specs.Locks.{Goes, Held, IsReady, IsStuck, all_answered, given_back, listed}
 use Rattle.nl_publish.specs.Mounts.{Claim}
-use Rattle.nl_publish.proofs.Running.{locked_runs_lead_on}
 use Rattle.nl_session.specs.SharedLaws.{ComesBeside, DifferAll, IsBeside, IsMountIn, LeadsBeside, StaysBeside, number_of}
 use Rattle.nl_session.specs.SharedVolumes.{Sharing}
-use Rattle.nl_session.proofs.SharedWorlds.{Beside, all_hold}
+use Rattle.nl_session.proofs.SharedWorlds.{Beside, Laws, all_hold}
 use Rattle.nl_session.proofs.SharedWorldsMounts.{differ_none, differ_rest, each_so, none_is_lost}
 
 abbrev pub RunsIn : Beside → List Event → List Reply → Beside → Type 0
@@ -35,17 +34,17 @@ split a c (x ∷ z ∷ es) e [] r run = absurd run.2
 -- ---- give-backs
 
 -- the give-back of a lost mount leaves all that are held
-back_holds : (lost : Option ℕ) (a b : Beside) (replies : List Reply) (claims : List Claim) → RunsIn a (given_back lost) replies b
+back_holds : (laws : Laws) (lost : Option ℕ) (a b : Beside) (replies : List Reply) (claims : List Claim) → RunsIn a (given_back lost) replies b
     → DifferAll (listed lost ++ map number_of claims) → AllByRecursion (IsMountIn a.1) claims → AllByRecursion (IsMountIn b.1) claims
-back_holds None a b [] claims run differ before = subst (λ (s : Beside). AllByRecursion (IsMountIn s.1) claims) (sym run) before
-back_holds None a b (r ∷ rs) claims run differ before = absurd run
-back_holds (Some n) a b [] claims run differ before = absurd run
-back_holds (Some n) a b (r ∷ []) claims run differ before =
-    let held = all_hold a run.0 (Unmount n) r claims run.1
+back_holds laws None a b [] claims run differ before = subst (λ (s : Beside). AllByRecursion (IsMountIn s.1) claims) (sym run) before
+back_holds laws None a b (r ∷ rs) claims run differ before = absurd run
+back_holds laws (Some n) a b [] claims run differ before = absurd run
+back_holds laws (Some n) a b (r ∷ []) claims run differ before =
+    let held = all_hold laws a run.0 (Unmount n) r claims run.1
     (each_so (λ (m : Claim). m.number ≢ n) (λ (m : Claim). GivesBack (Unmount n) m.number → ⊥) (λ m other same. other (sym same)) claims
     (none_is_lost (Some n) n claims refl differ)) before in
     subst (λ (s : Beside). AllByRecursion (IsMountIn s.1) claims) (sym run.2) held
-back_holds (Some n) a b (r ∷ q ∷ rs) claims run differ before = absurd run.2
+back_holds laws (Some n) a b (r ∷ q ∷ rs) claims run differ before = absurd run.2
 
 -- ---- an event behind a give-back
 
@@ -66,10 +65,10 @@ back_means a b [] (r ∷ rs) run means = absurd run
 back_means a b (e ∷ es) [] run means = absurd run
 
 -- one run of both
-pub behind_whole : (w : World) (old new : Held) (event : Event) (reply : Reply) (backs : List Answer) → MeansWorld old.layout w
+pub behind_whole : (laws : Laws) (w : World) (old new : Held) (event : Event) (reply : Reply) (backs : List Answer) → MeansWorld old.layout w
     → Goes old (given_back old.lost ++ event ∷ []) (all_answered backs ++ reply ∷ []) new → IsBehind w old event reply new
-behind_whole w old new event reply backs means goes =
-    let leads = locked_runs_lead_on old new (given_back old.lost ++ event ∷ []) (all_answered backs ++ reply ∷ []) goes w means in
+behind_whole laws w old new event reply backs means goes =
+    let leads = laws.leads old new (given_back old.lost ++ event ∷ []) (all_answered backs ++ reply ∷ []) goes w means in
     let parts = split (old.layout, w) (new.layout, leads.after) (given_back old.lost) event (all_answered backs) reply leads.run in
     record {
       backs = backs;
@@ -81,11 +80,11 @@ behind_whole w old new event reply backs means goes =
     }
 
 -- a run of each
-pub behind_ready : (w : World) (old clear new : Held) (event : Event) (reply : Reply) → MeansWorld old.layout w → IsReady old clear
+pub behind_ready : (laws : Laws) (w : World) (old clear new : Held) (event : Event) (reply : Reply) → MeansWorld old.layout w → IsReady old clear
     → Goes clear (event ∷ []) (reply ∷ []) new → IsBehind w old event reply new
-behind_ready w old clear new event reply means ready goes =
-    let first = locked_runs_lead_on old clear (given_back old.lost) (all_answered ready.backs) ready.goes w means in
-    let then = locked_runs_lead_on clear new (event ∷ []) (reply ∷ []) goes first.after first.means in
+behind_ready laws w old clear new event reply means ready goes =
+    let first = laws.leads old clear (given_back old.lost) (all_answered ready.backs) ready.goes w means in
+    let then = laws.leads clear new (event ∷ []) (reply ∷ []) goes first.after first.means in
     record {
       backs = ready.backs;
       middle = (clear.layout, first.after);
@@ -95,12 +94,12 @@ behind_ready w old clear new event reply means ready goes =
       means = first.means;
     }
 
-module _ (w : World) (old new : Sharing) (event : Event) (reply : Reply) (before : IsBeside w old)
+module _ (laws : Laws) (w : World) (old new : Sharing) (event : Event) (reply : Reply) (before : IsBeside w old)
     (behind : IsBehind w old.held event reply new.held) where
   -- the mounts that were held are there before the event
   pub held_before : AllByRecursion (IsMountIn behind.middle.1) old.mounts
   held_before =
-      back_holds old.held.lost (old.held.layout, w) behind.middle (all_answered behind.backs) old.mounts behind.begins before.numbers before.mounts
+      back_holds laws old.held.lost (old.held.layout, w) behind.middle (all_answered behind.backs) old.mounts behind.begins before.numbers before.mounts
 
   -- so the event comes behind, where the mounts that are held then are there
   pub comes_behind : AllByRecursion (IsMountIn behind.after) new.mounts → DifferAll (listed new.held.lost ++ map number_of new.mounts)
@@ -126,25 +125,25 @@ module _ (w : World) (old new : Sharing) (event : Event) (reply : Reply) (before
   comes_same none same others =
       comes_clear none
       (subst (AllByRecursion (IsMountIn behind.after)) (sym same)
-      (all_hold behind.middle (new.held.layout, behind.after) event reply old.mounts behind.does others held_before))
+      (all_hold laws behind.middle (new.held.layout, behind.after) event reply old.mounts behind.does others held_before))
       (subst (λ (claims : List Claim). DifferAll (map number_of claims)) (sym same)
       (differ_rest old.held.lost (map number_of old.mounts) before.numbers))
 
 -- ---- runs without an event
 
-module _ (w : World) (old new : Sharing) (before : IsBeside w old) (same : new.mounts ≡ old.mounts) where
+module _ (laws : Laws) (w : World) (old new : Sharing) (before : IsBeside w old) (same : new.mounts ≡ old.mounts) where
   -- just a give-back
   pub leads_back : (replies : List Reply) → Goes old.held (given_back old.held.lost) replies new.held
       → DifferAll (listed new.held.lost ++ map number_of old.mounts) → LeadsBeside w old (given_back old.held.lost) replies new
   leads_back replies goes numbers =
-      let leads = locked_runs_lead_on old.held new.held (given_back old.held.lost) replies goes w before.means in
+      let leads = laws.leads old.held new.held (given_back old.held.lost) replies goes w before.means in
       record {
         after = leads.after;
         run = leads.run;
         beside = record {
           means = leads.means;
           mounts = subst (AllByRecursion (IsMountIn leads.after)) (sym same)
-              (back_holds old.held.lost (old.held.layout, w) (new.held.layout, leads.after) replies old.mounts leads.run before.numbers before.mounts);
+              (back_holds laws old.held.lost (old.held.layout, w) (new.held.layout, leads.after) replies old.mounts leads.run before.numbers before.mounts);
           numbers = subst (λ (claims : List Claim). DifferAll (listed new.held.lost ++ map number_of claims)) (sym same) numbers;
         };
       }

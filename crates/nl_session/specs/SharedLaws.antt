@@ -1,11 +1,9 @@
 -- What a shared volume does, told as plain files with whole copies.
-use Rattle.std.specs.Prelude.{◌≡◌, ◌≢◌, ◌⊎◌, ℕ, List, [], ◌∷◌, ◌++◌, map, Option, None, Some, Result, Err, IfOk}
-use Rattle.std.specs.List.{AllByRecursion, AllZip}
+use Rattle.std.specs.Prelude.{◌≡◌, ◌≢◌, ◌⊎◌, ℕ, List, [], ◌∷◌, ◌++◌, map, Option, None, Some, Err}
+use Rattle.std.specs.List.{AllByRecursion}
 use Rattle.std.specs.Ordering.{nat_cmp}
 use Rattle.std.specs.FinMap.{find}
-use Rattle.nl_types.specs.declared.error.VolError.{VolError}
-use Rattle.nl_types.specs.declared.error.VolError.TheVariants.{BadMount, Memory}
-use Rattle.nl_types.specs.declared.event.Ask.{Ask}
+use Rattle.nl_types.specs.declared.error.VolError.TheVariants.{Memory}
 use Rattle.nl_types.specs.declared.event.Event.{Event}
 use Rattle.nl_types.specs.declared.event.Event.TheVariants.{Mount, MountRead}
 use Rattle.nl_types.specs.declared.geometry.Geometry.{Geometry}
@@ -13,7 +11,6 @@ use Rattle.nl_types.specs.declared.reply.Answer.{Answer}
 use Rattle.nl_types.specs.Calls.{IsUnlessMemory}
 use Rattle.nl_types.specs.Runs.{Run}
 use Rattle.nl_types.specs.Worlds.{Reply, World, formatted, mount_read}
-use Rattle.nl_commands.specs.declared.command.Shown.TheVariants.{Content}
 use Rattle.nl_core.specs.Commits.{image_of}
 use Rattle.nl_core.specs.Layout.{DoesIn, Layout, MeansWorld}
 use Rattle.nl_core.specs.Notes.{shared}
@@ -21,10 +18,8 @@ use Rattle.nl_cleaner.specs.Job.{JobView, next_event}
 use Rattle.nl_publish.specs.Locks.{all_answered, given_back, listed, mount_reply}
 use Rattle.nl_publish.specs.Mounts.{Claim}
 use Rattle.nl_publish.specs.Told.{ShowsCopy}
-use Rattle.nl_script.specs.Events.{asked}
-use Rattle.nl_script.specs.FileReads.{AreFilesOf}
 use Rattle.nl_session.specs.Sessions.{IsNewVolume}
-use Rattle.nl_session.specs.SharedVolumes.{Sharing, shared_does, shared_holds, shared_steps}
+use Rattle.nl_session.specs.SharedVolumes.{Sharing, shared_does, shared_steps}
 
 -- ---- a volume beside a world
 
@@ -72,31 +67,17 @@ pub data IsDoneBeside (w : World) (old : Sharing) (event : Event) (reply : Reply
   MountLost : (checkpoint number : ℕ) → event ≡ Mount checkpoint → reply ≡ Err Memory → new.held.lost ≡ Some number
       → ComesBeside w old event (mount_reply number) new → IsDoneBeside w old event reply new
 
--- it is told that the mount isn't found; or what the mount's copy says, unless memory is refused
-abbrev pub IsReadIn : World → (mount : ℕ) → Ask → Reply → Type 0
-IsReadIn w mount ask reply = (reply ≡ Err BadMount) ⊎ IsUnlessMemory reply (mount_read w mount ask)
-
--- a read through a mount changes nothing
-abbrev pub IsAnsweredBeside : World → Sharing → Event → Reply → Sharing → Type 0
-IsAnsweredBeside w old (MountRead m ask) reply new = IsReadIn w m ask reply × IsBeside w new
-IsAnsweredBeside w old event reply new = IsDoneBeside w old event reply new
+-- a read through a mount is told what the mount's copy says, unless memory is refused, and nothing is done
+abbrev pub IsReadBeside : World → Event → Reply → Sharing → Type 0
+IsReadBeside w (MountRead m ask) reply new = IsUnlessMemory reply (mount_read w m ask) × IsBeside w new
+IsReadBeside w event reply new = ⊥
 
 -- ---- laws
 
 -- where the volume is beside a world, each event is answered as that of plain files with whole copies
 abbrev pub SharedEventsFollowWorlds : Type 0
-SharedEventsFollowWorlds = (w : World) (old new : Sharing) (event : Event) (reply : Reply)
-    → IsBeside w old → shared_does old event reply new → IsAnsweredBeside w old event reply new
-
--- a whole file
-abbrev pub IsFileIn : World → (mount : ℕ) → List ℕ → Reply → Type 0
-IsFileIn w mount path reply = IsReadIn w mount (asked Content path) reply
-
--- files that are read of a mount that is held are those of its copy
-abbrev pub SharedReadsFollowWorlds : Type 0
-SharedReadsFollowWorlds =
-    (w : World) (s : Sharing) (mount : ℕ) (m : Claim) (paths : List (List ℕ)) (result : Result (List Reply) VolError)
-    → IsBeside w s → shared_holds s mount (Some m) → AreFilesOf m paths result → IfOk result (AllZip (IsFileIn w mount) paths)
+SharedEventsFollowWorlds = (w : World) (old new : Sharing) (event : Event) (reply : Reply) → IsBeside w old
+    → shared_does old event reply new → IsReadBeside w event reply new ⊎ IsDoneBeside w old event reply new
 
 -- the next event of a round comes; or there is none, or memory is refused to it
 pub data IsSteppedBeside (w : World) (old : Sharing) (job : JobView) (reply : Option Reply) (new : Sharing) : Type 0 where

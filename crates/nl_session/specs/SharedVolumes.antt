@@ -2,7 +2,7 @@
 use Rattle.std.specs.Prelude.{◌≡◌, ◌⊎◌, ◌==◌, ◌+◌, ◌∷◌, ◌++◌, ℕ, Bool, List, [], length, position, remove, slice_get, Option, None, Some, Result, Ok, Err}
 use Rattle.std.specs.Option.{ok_or, option_and_then}
 use Rattle.nl_types.specs.declared.error.VolError.{VolError}
-use Rattle.nl_types.specs.declared.error.VolError.TheVariants.{BadMount, BadRange, Memory}
+use Rattle.nl_types.specs.declared.error.VolError.TheVariants.{BadRange, Memory}
 use Rattle.nl_types.specs.declared.reply.Answer.TheVariants.{Names}
 use Rattle.nl_types.specs.declared.reply.Answer.TheVariants as answer
 use Rattle.nl_types.specs.declared.reply.Named.{Named}
@@ -37,6 +37,10 @@ pub record Sharing : Type 0 where
 pub record HasBegunShared (id : ℕ) (pen : Layout) (s : Sharing) : Type 0 where
   pub held : HasBegun id pen s.held
   pub mounts : s.mounts ≡ []
+
+-- how many ports read files side by side
+abbrev pub reader_count : ℕ
+reader_count = 4
 
 abbrev pub is_numbered : ℕ → Claim → Bool
 is_numbered m claim = claim.number == m
@@ -76,10 +80,15 @@ left_by m (Err e) claims = claims
 
 -- ---- reads through mounts
 
--- no such mount is held, or it tells
-abbrev pub IsReadThrough : Option Claim → Ask → Reply → Type 0
-IsReadThrough None ask reply = reply ≡ Err BadMount
-IsReadThrough (Some m) ask reply = IsToldThrough m ask reply
+-- what the tree of the mount says, where it is held
+abbrev pub IsHeldTold : Option Claim → Ask → Reply → Type 0
+IsHeldTold None ask reply = ⊥
+IsHeldTold (Some m) ask reply = IsToldThrough m ask reply
+
+-- the tree of the mount that is held says so, and nothing changes; or the pen is asked
+abbrev pub ReadComes : Sharing → (mount : ℕ) → Ask → Reply → Sharing → Type 0
+ReadComes old mount ask reply new = (new ≡ old) × IsHeldTold (mount_of mount old.mounts) ask reply
+    ⊎ Ran old.held (MountRead mount ask) reply new.held × (new.mounts ≡ old.mounts)
 
 -- ---- what it does
 
@@ -87,7 +96,7 @@ abbrev pub shared_does : Sharing → Event → Reply → Sharing → Type 0
 shared_does old (Mount checkpoint) reply new = MountComes old checkpoint reply new
 shared_does old (Unmount m) reply new =
     Ran old.held (Unmount m) reply new.held × (new.mounts ≡ left_by m reply old.mounts)
-shared_does old (MountRead m ask) reply new = (new ≡ old) × IsReadThrough (mount_of m old.mounts) ask reply
+shared_does old (MountRead m ask) reply new = ReadComes old m ask reply new
 shared_does old event reply new = Ran old.held event reply new.held × (new.mounts ≡ old.mounts)
 
 -- what is answered to a listing, and to a question what there is
@@ -98,9 +107,6 @@ names_reply (Err e) = Err e
 abbrev pub stat_reply : Result Stat VolError → Reply
 stat_reply (Ok stat) = Ok (answer.Stat stat)
 stat_reply (Err e) = Err e
-
-abbrev pub shared_holds : Sharing → ℕ → Option Claim → Type 0
-shared_holds s mount held = held ≡ mount_of mount s.mounts
 
 -- nothing is left of the round, and nothing is done
 abbrev pub IsRoundOver : Held → JobView → Option Reply → Held → JobView → Type 0
@@ -137,7 +143,6 @@ shared_left s job = steps_left job s.held.layout
 abbrev pub shared_habits : Habits Sharing JobView
 shared_habits = record {
   does = shared_does;
-  holds = shared_holds;
   tells = shared_tells;
   counts = shared_counts;
   measures = shared_measures;

@@ -1,6 +1,9 @@
 //! What scripts know of a shared volume, as contracts of functions that do nothing.
 ghost use Rattle.nl_session.specs.Laws.{VolumesTellOfSegments};
-ghost use Rattle.nl_session.specs.SharedLaws.{NewVolumesAreBeside, SharedEventsFollowWorlds, SharedReadsFollowWorlds, SharedStepsFollowWorlds};
+ghost use Rattle.nl_session.specs.SharedLaws.{NewVolumesAreBeside, SharedEventsFollowWorlds, SharedStepsFollowWorlds};
+
+use nl_publish::laws::locked_runs_lead_on;
+use nl_types::laws::{copies_stay, mounts_stay};
 
 /// A volume tells of each segment that there is. So `lssu` is refused for memory alone.
 pub fn volumes_tell_of_segments()
@@ -8,11 +11,14 @@ pub fn volumes_tell_of_segments()
 {}
 
 /// Where a shared volume is beside a world, each event on it is answered as that of plain files with whole copies, and it is
-/// beside a world then too. So are reads of files, and steps of rounds. A new volume is beside a new world, so
-/// all of this holds throughout a session.
+/// beside a world then too. So are steps of rounds. A new volume is beside a new world, so all of this holds throughout a
+/// session.
 pub fn shared_volumes_follow_worlds()
     ensures new { NewVolumesAreBeside }
     ensures events { SharedEventsFollowWorlds }
-    ensures reads { SharedReadsFollowWorlds }
     ensures steps { SharedStepsFollowWorlds }
-{}
+{
+    copies_stay();
+    mounts_stay();
+    locked_runs_lead_on();
+}

@@ -86,7 +86,7 @@ fn run_script<J: Volumes + Send + Sync, R: Threads + Wait + Sync, I: Read + Drop
     ensures unprinted { OnErr result (output.new ≡ output.old) }
 {
     let (mut volume, ports) = new_volume::<J, _>(rt, alloc, geometry, opened)?;
-    let mut readers = Readers::new(rt, ports);
+    let mut readers = Readers { rt, ports };
     let done = run_on(alloc, &mut volume, &mut readers, config, input, output);
     // The mounts that the script left are taken out.
     let _pen = volume.end();

@@ -1,11 +1,11 @@
 //! A shared volume as the volume of a script. One thread has its writer and its ports.
-ghost use Rattle.std.specs.Prelude.{◌≡◌, ◌<◌, IfOk, IsOkUnless, OnSome, option_map};
+ghost use Rattle.std.specs.Prelude.{◌≡◌, ◌<◌, IfOk, IfSome, IsOkUnless, OnSome, length, option_map};
 ghost use Rattle.nl_cleaner.specs.Job.{steps_left};
 ghost use Rattle.nl_core.specs.Layout.{layout_of};
 ghost use Rattle.nl_core.specs.Volume.{without_mounts};
 ghost use Rattle.nl_publish.specs.Locks.{Ran};
-ghost use Rattle.nl_session.specs.SharedVolumes.{HasBegunShared, IsReadThrough, IsRoundStep, MountComes, left_by, mount_of, names_reply, place_of, shared_habits, stat_reply, without_mount};
-ghost use Rattle.nl_script.specs.FileReads.{IsToldThrough, reply_of};
+ghost use Rattle.nl_session.specs.SharedVolumes.{HasBegunShared, IsHeldTold, IsRoundStep, MountComes, ReadComes, left_by, mount_of, names_reply, place_of, reader_count, shared_habits, stat_reply, without_mount};
+ghost use Rattle.nl_script.specs.FileReads.{IsPortReply};
 ghost use Rattle.nl_types.specs.declared.event.Ask.TheVariants as question;
 ghost use Rattle.nl_types.specs.declared.event.Event.TheVariants as event;
 
@@ -14,10 +14,10 @@ use nl_cleaner::laws::{steps_end_rounds, unmounts_leave_rounds};
 use nl_core::Pen;
 use nl_cpfile::Cpstat;
 use nl_device::Device;
-use nl_mounts::{JobAnswer, Port, seat_all, spend_all};
+use nl_mounts::{Port, seat_all, spend_all};
 use nl_protect::Config;
 use nl_publish::{Locked, Mount, Opened, Publisher, Volumes};
-use nl_script::Volume;
+use nl_script::{Volume, is_bad_mount, reply_of};
 use nl_sufile::Sustat;
 use nl_types::{
     Answer, Ask, CheckpointNumber, Event, Items, MountNumber, Named, Reply, Segment, SegmentInfo,
@@ -73,15 +73,6 @@ fn forget<J: Volumes>(mounts: &mut Vec<Mount<J>>, number: MountNumber)
 
 // ---- reads
 
-fn reply_of(answer: JobAnswer) -> Reply
-    ensures { result ≡ reply_of answer }
-{
-    match answer {
-        Ok(bytes) => Ok(Answer::Bytes(bytes)),
-        Err(refusal) => Err(refusal),
-    }
-}
-
 fn names_reply(names: Result<Items<Named>, VolError>) -> Reply
     ensures { result ≡ names_reply names }
 {
@@ -108,7 +99,7 @@ fn bytes_through<J: Volumes>(
     offset: u64,
     len: u64,
 ) -> Reply
-    ensures { IsToldThrough mount.now (question.Bytes path.now offset len) result }
+    ensures { IsPortReply mount.now (question.Bytes path.now offset len) result }
 {
     port.learn(mount);
     reply_of(port.read(alloc, mount, path, offset, len))
@@ -120,22 +111,22 @@ fn names_through<J: Volumes>(
     mount: &Mount<J>,
     path: &[u8],
 ) -> Reply
-    ensures { IsToldThrough mount.now (question.List path.now) result }
+    ensures { IsPortReply mount.now (question.List path.now) result }
 {
     port.learn(mount);
     names_reply(port.list(alloc, mount, path))
 }
 
 fn stat_through<J: Volumes>(port: &mut Port<J>, mount: &Mount<J>, path: &[u8]) -> Reply
-    ensures { IsToldThrough mount.now (question.Stat path.now) result }
+    ensures { IsPortReply mount.now (question.Stat path.now) result }
 {
     port.learn(mount);
     stat_reply(port.stat(mount, path))
 }
 
-/// What a mount says to a question.
+/// What the port replies to a question about a mount.
 fn told<J: Volumes>(alloc: Global, port: &mut Port<J>, mount: &Mount<J>, ask: &Ask) -> Reply
-    ensures { IsToldThrough mount.now ask.now result }
+    ensures { IsPortReply mount.now ask.now result }
 {
     match ask {
         Ask::Bytes { path, offset, len } => {
@@ -161,6 +152,7 @@ impl<'a, D: Device, J: Volumes, R: Wait> SharedVolume<'a, D, J, R> {
     ) -> Result<(Self, Vec<Port<J>>), VolError>
         requires id { opened.seen.book ≡ J.book opened.id }
         ensures begun { IfOk result (λ made. HasBegunShared opened.id pen made.0) }
+        ensures ports { IfOk result (λ made. length made.1.items ≡ reader_count) }
         ensures refused { IsOkUnless result VolError.Memory }
     {
         let mut ports = Vec::with_capacity(alloc, READERS)?;
@@ -247,14 +239,28 @@ impl<D: Device, J: Volumes, R: Wait> SharedVolume<'_, D, J, R> {
         reply
     }
 
-    /// Asks the tree of a mount that is held.
-    fn read(&mut self, number: MountNumber, ask: &Ask) -> Reply
-        ensures told { IsReadThrough (mount_of number self.old.mounts) ask.now result }
+    /// What the port tells of a mount that is held, unless it doesn't find the mount.
+    fn told(&mut self, number: MountNumber, ask: &Ask) -> Option<Reply>
+        ensures told { IfSome result (IsHeldTold (mount_of number self.old.mounts) ask.now) }
         ensures same { self.new ≡ self.old }
     {
-        match mount_of(self.mounts.as_slice(), number) {
-            Some(mount) => told(self.alloc, &mut self.port, mount, ask),
-            None => Err(VolError::BadMount),
+        let mount = mount_of(self.mounts.as_slice(), number)?;
+        let reply = told(self.alloc, &mut self.port, mount, ask);
+        if is_bad_mount(&reply) {
+            None
+        } else {
+            Some(reply)
+        }
+    }
+
+    /// Reads through a mount, of which the pen is asked where the port doesn't tell.
+    fn read(&mut self, number: MountNumber, ask: &Ask, asked: &Event) -> Reply
+        requires { asked.now ≡ event.MountRead number ask.now }
+        ensures { ReadComes self.old number ask.now result self.new }
+    {
+        match self.told(number, ask) {
+            Some(reply) => reply,
+            None => self.locked.apply(self.rt, asked),
         }
     }
 }
@@ -270,7 +276,7 @@ impl<D: Device, J: Volumes + Send + Sync, R: Wait> Volume for SharedVolume<'_, D
         match event {
             Event::Mount(checkpoint) => self.mount(*checkpoint),
             Event::Unmount(number) => self.unmount(*number),
-            Event::MountRead(number, ask) => self.read(*number, ask),
+            Event::MountRead(number, ask) => self.read(*number, ask, event),
             _ => self.locked.apply(self.rt, event),
         }
     }

@@ -24,7 +24,6 @@ impl Volume for Counting {
 
     ghost habits = { record {
       does = λ old event reply new. Unit {0};
-      holds = λ old mount held. Unit {0};
       tells = λ old segment result. Unit {0};
       counts = λ old stat. Unit {0};
       measures = λ old stat. Unit {0};
@@ -40,6 +39,7 @@ impl Volume for Counting {
                 Ok(Answer::Checkpoint(CheckpointNumber::new(self.latest)))
             }
             Event::Remove(_) => Err(VolError::NoCheckpoint),
+            Event::MountRead(..) => Err(VolError::BadMount),
             Event::RemoveRange { last, .. } if last.get() == self.latest => Err(VolError::Latest),
             _ => Ok(Answer::Done),
         }
@@ -86,7 +86,10 @@ fn a_script_is_told_of_line_by_line(rt: HostRuntime) {
     let input =
         b"at 5\nmkcp\nrmcp 7\nrmcp -f 7\nrmcp 1..\nmkdir\n# no command\nlssu -a\nclean\ncatm 1 /f /g".as_slice();
     let config = Config::standard();
-    let mut readers = Readers::new(&rt, Vec::new(alloc));
+    let mut readers = Readers {
+        rt: &rt,
+        ports: Vec::new(alloc),
+    };
     let done = script(
         alloc,
         &mut volume,

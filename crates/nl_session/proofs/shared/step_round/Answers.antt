@@ -1,4 +1,4 @@
-use Rattle.std.proofs.Common.{◌≡◌, ◌∙◌, ap, sym, inr, Some}
+use Rattle.std.proofs.Common.{◌∙◌, ap, sym, inr}
 use Rattle.nl_core.specs.Layout.{Layout}
 use Rattle.nl_cleaner.specs.Job.{next_event}
 use Rattle.nl_session.proofs.SharedRounds.{fewer_left}

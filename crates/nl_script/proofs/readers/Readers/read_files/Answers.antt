@@ -1,10 +1,10 @@
-use Rattle.std.proofs.Common.{◌∙◌, ℕ, sym, subst, List, length}
-use Rattle.std.specs.List.{AllZip}
+use Rattle.std.proofs.Common.{◌∙◌, sym, subst, take, ap, List, ℕ}
+use Rattle.std.specs.List.{position_or_len}
 use Rattle.nl_types.specs.Worlds.{Reply}
 use Rattle.nl_mounts.specs.Jobs.{AreAnswers}
 use Rattle.nl_mounts.specs.declared.many.ReadJob.{ReadJob}
-use Rattle.nl_script.specs.FileReads.{IsFileOf}
-use Rattle.nl_script.proofs.FilesRead.{files_told, zip_long}
+use Rattle.nl_script.specs.FileReads.{AreFirstFiles, is_bad_mount}
+use Rattle.nl_script.proofs.FilesRead.{first_files}
 use Rattle.nl_script.proofs.readers.Readers.read_files.Goals as goal
 
 pub returns-clause-files : goal.returns-clause-files
@@ -13,13 +13,7 @@ returns-clause-files g c =
     let paths = c.args.paths.now in
     let answers = c.in_ok-answers.answers.items in
     let told = subst (λ (jobs : List ReadJob). AreAnswers m jobs answers) (c.as_slice.ensures.value ∙ c.in_ok-jobs.ensures) c.in_ok-answers.ensures.answers in
-    subst (λ (replies : List Reply). AllZip (IsFileOf m) paths replies) (sym c.in_ok-replies.ensures) (files_told m paths answers told)
-
-pub returns-clause-count : goal.returns-clause-count
-returns-clause-count g c =
-    let m = c.args.mount.now in
-    let paths = c.args.paths.now in
-    let answers = c.in_ok-answers.answers.items in
-    let told = subst (λ (jobs : List ReadJob). AreAnswers m jobs answers) (c.as_slice.ensures.value ∙ c.in_ok-jobs.ensures) c.in_ok-answers.ensures.answers in
-    zip_long (IsFileOf m) paths c.in_ok-replies.replies.items
-    (subst (λ (replies : List Reply). AllZip (IsFileOf m) paths replies) (sym c.in_ok-replies.ensures) (files_told m paths answers told))
+    let found = c.count_found-found.ensures ∙ ap (position_or_len is_bad_mount) c.as_slice-2.ensures.value in
+    let kept = c.truncate.ensures.items ∙ ap (λ (n : ℕ). take n c.in_ok-replies.replies.items) found
+    ∙ ap (λ (rs : List Reply). take (position_or_len is_bad_mount rs) rs) c.in_ok-replies.ensures in
+    subst (AreFirstFiles m paths) (sym kept) (first_files m paths answers told)

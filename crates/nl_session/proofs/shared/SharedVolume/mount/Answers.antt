@@ -1,6 +1,5 @@
-use Rattle.std.proofs.Common.{◌≡◌, ◌∙◌, ◌++◌, ◌∷◌, [], List, ℕ, ap, refl, subst, Err, Ok}
+use Rattle.std.proofs.Common.{◌∙◌, ◌++◌, ◌∷◌, [], List, ℕ, ap, refl, subst, Err, Ok}
 use Rattle.nl_types.specs.declared.reply.Answer.TheVariants as answer
-use Rattle.nl_types.specs.Worlds.{Reply}
 use Rattle.nl_publish.specs.Mounts.{Claim}
 use Rattle.nl_session.specs.SharedVolumes.{MountComes, Mounted, Refused, Sharing}
 use Rattle.nl_session.proofs.shared.SharedVolume.mount.Goals as goal

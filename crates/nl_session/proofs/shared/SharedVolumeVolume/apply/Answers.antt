@@ -13,6 +13,10 @@ returns-in-Unmount g c =
     subst (λ (e : Event). shared_does c.args.self.now e c.unmount.result c.unmount.new.self) (sym c.in-Unmount.is)
     (c.unmount.ensures.ran, c.unmount.ensures.mounts)
 
+pub returns-in-MountRead : goal.returns-in-MountRead
+returns-in-MountRead g c =
+    subst (λ (e : Event). shared_does c.args.self.now e c.read.result c.read.new.self) (sym c.in-MountRead.is) c.read.ensures
+
 pub returns-in_default : goal.returns-in_default
 returns-in_default g c =
     let new : Sharing = record { held = c.apply.new.self; mounts = c.self.inside.mounts.items } in

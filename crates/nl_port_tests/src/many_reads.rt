@@ -1,0 +1,260 @@
+//! Many reads at once, each port on a thread of its own.
+ghost use Rattle.std.specs.Prelude.{◌≡◌};
+
+use crate::volume::{Volume, ends, shared_among};
+use nl_mounts::{Gate, JobAnswer, Port, ReadJob, read_many};
+use nl_publish::{Mount, Opened, Volumes};
+use nl_types::{CheckpointNumber, Event, Items, Segment, VolError};
+use std::alloc::Global;
+use std::marker::Brand;
+use std::sync::Wait;
+use std::sync::atomic::{AtomicBool, Ordering};
+use std::test::Fail;
+use std::thread::{Threads, join};
+
+/// Each of two jobs waits, for some turns, until the other one has begun.
+#[derive(Drop)]
+struct Meeting {
+    begun: [AtomicBool; 2],
+    met: [AtomicBool; 2],
+}
+
+impl Meeting {
+    fn new() -> Meeting {
+        Meeting {
+            begun: [AtomicBool::new(false), AtomicBool::new(false)],
+            met: [AtomicBool::new(false), AtomicBool::new(false)],
+        }
+    }
+
+    fn took_place(&self) -> bool {
+        self.met[0].load(Ordering::SeqCst) && self.met[1].load(Ordering::SeqCst)
+    }
+}
+
+const TURNS: u64 = 2_000_000_000;
+
+impl Gate for Meeting {
+    fn before(&self, job: usize) {
+        if job > 1 {
+            return;
+        }
+        self.begun[job].store(true, Ordering::SeqCst);
+        for _ in 0..TURNS {
+            if self.begun[1 - job].load(Ordering::SeqCst) {
+                self.met[job].store(true, Ordering::SeqCst);
+                return;
+            }
+        }
+    }
+
+    fn after(&self, _job: usize) {}
+}
+
+/// Moves out of each segment, and frees it.
+fn moves_all<J: Volumes, R: Wait>(rt: &R, shared: &Volume<J>) {
+    for segment in 0..64 {
+        let segment = Segment::new(segment);
+        let moving = Event::Move {
+            segment,
+            limit: 30,
+            now: 0,
+        };
+        let _moved = shared.apply(rt, &moving);
+        let _freed = shared.apply(rt, &Event::Retire(segment));
+    }
+}
+
+/// A job, with what is due.
+type Due<'a> = (&'a [u8], u64, u64, Result<&'a [u8], VolError>);
+
+fn job_of(alloc: Global, due: &Due<'_>) -> Result<ReadJob, VolError> {
+    Ok(ReadJob {
+        path: Items::from_slice(alloc, due.0)?,
+        offset: due.1,
+        len: due.2,
+    })
+}
+
+fn jobs_of(alloc: Global, all: &[Due<'_>]) -> Result<Vec<ReadJob>, VolError> {
+    let mut jobs = Vec::new(alloc);
+    for due in all {
+        jobs.push(job_of(alloc, due)?)?;
+    }
+    Ok(jobs)
+}
+
+fn is_due(answer: &JobAnswer, due: &Due<'_>) -> bool {
+    match (answer, due.3) {
+        (Ok(bytes), Ok(wanted)) => bytes.as_slice() == wanted,
+        (Err(refusal), Err(wanted)) => *refusal == wanted,
+        _ => false,
+    }
+}
+
+/// Whether the ports answer the jobs as is due.
+fn answer_all<J: Volumes + Send + Sync, G: Gate + Sync, R: Threads + Sync>(
+    rt: &R,
+    alloc: Global,
+    ports: &mut [Port<J>],
+    mount: &Mount<J>,
+    all: &[Due<'_>],
+    gate: &G,
+) -> Result<bool, VolError> {
+    if ports.is_empty() {
+        return Ok(false);
+    }
+    let jobs = jobs_of(alloc, all)?;
+    let answers = read_many(rt, alloc, ports, mount, jobs.as_slice(), gate)?;
+    for (answer, due) in answers.iter().zip(all) {
+        if !is_due(answer, due) {
+            return Ok(false);
+        }
+    }
+    Ok(answers.len() == all.len())
+}
+
+/// Refusals stand in their places, and a path may come twice.
+const ALL_KINDS: &[Due<'static>] = &[
+    (b"/one", 0, 9, Ok(b"1")),
+    (b"/nothing", 0, 9, Err(VolError::NotFound)),
+    (b"/block", 1020, 9, Ok(b"2222")),
+    (b"/", 0, 9, Err(VolError::IsDir)),
+    (b"/more", 1024, 9, Ok(b"3")),
+    (b"/one/x", 0, 9, Err(VolError::NotDir)),
+    (b"/long", 299_998, 9, Ok(b"44")),
+    (b"one", 0, 9, Err(VolError::BadPath)),
+    (b"/one", 1, 9, Ok(b"")),
+    (b"/one", 0, 9, Ok(b"1")),
+];
+
+fn all_kinds() -> &'static [Due<'static>] {
+    ALL_KINDS
+}
+
+/// Two jobs for two ports.
+const TWO: &[Due<'static>] = &[(b"/one", 0, 9, Ok(b"1")), (b"/long", 0, 2, Ok(b"44"))];
+
+fn two() -> &'static [Due<'static>] {
+    TWO
+}
+
+/// A gate that is open.
+#[derive(Drop)]
+struct Open;
+
+impl Gate for Open {
+    fn before(&self, _job: usize) {}
+
+    fn after(&self, _job: usize) {}
+}
+
+/// Whether each number of ports answers as is due.
+fn any_number_answers<J: Volumes + Send + Sync, R: Threads + Sync>(
+    rt: &R,
+    alloc: Global,
+    ports: &mut [Port<J>],
+    mount: &Mount<J>,
+) -> Result<bool, VolError> {
+    for count in 1..=ports.len() {
+        if !answer_all(rt, alloc, &mut ports[..count], mount, all_kinds(), &Open)? {
+            return Ok(false);
+        }
+    }
+    Ok(true)
+}
+
+/// Whether two jobs run at once, on two ports, while their blocks are moved.
+fn meet<J: Volumes + Send + Sync, R: Threads + Wait + Sync>(
+    rt: &R,
+    alloc: Global,
+    shared: &Volume<J>,
+    ports: &mut [Port<J>],
+    mount: &Mount<J>,
+) -> Result<bool, VolError> {
+    let meeting = Meeting::new();
+    let (_, answered) = join(
+        rt,
+        || moves_all(rt, shared),
+        || answer_all(rt, alloc, ports, mount, two(), &meeting),
+    );
+    Ok(answered? && meeting.took_place())
+}
+
+/// Whether many reads are answered in the order of their jobs, by any number of ports, and at once by two.
+fn answers_at_once<J: Volumes + Send + Sync, R: Threads + Wait + Sync>(
+    rt: &R,
+    alloc: Global,
+    shared: &Volume<J>,
+    ports: &mut [Port<J>],
+    mount: &Mount<J>,
+) -> Result<bool, VolError> {
+    Ok(any_number_answers(rt, alloc, ports, mount)? && meet(rt, alloc, shared, ports, mount)?)
+}
+
+/// Whether a port finds nothing once its volume has ended.
+fn finds_nothing<J: Volumes>(alloc: Global, port: &mut Port<J>, mount: &Mount<J>) -> bool {
+    let mut into = [b'?'; 4];
+    port.read_into(mount, b"/one", 0, &mut into) == Err(VolError::BadMount)
+        && into == [b'?'; 4]
+        && port.stat(mount, b"/one") == Err(VolError::BadMount)
+        && matches!(port.list(alloc, mount, b"/"), Err(VolError::BadMount))
+        && matches!(
+            port.read(alloc, mount, b"/one", 0, 9),
+            Err(VolError::BadMount)
+        )
+}
+
+/// Mounts the snapshot, and says whether many reads of it come out as is due.
+fn read_all_at_once<J: Volumes + Send + Sync, R: Threads + Wait + Sync>(
+    rt: &R,
+    alloc: Global,
+    shared: &Volume<J>,
+    ports: &mut Vec<Port<J>>,
+) -> Result<(bool, Mount<J>), VolError> {
+    let Some(first) = ports.first_mut() else {
+        return Err(VolError::BadRange);
+    };
+    match shared.mount(rt, first, CheckpointNumber::new(2)) {
+        Err(refusal) => Err(refusal),
+        Ok(mount) => {
+            let good = answers_at_once(rt, alloc, shared, ports.as_mut_slice(), &mount);
+            Ok((good == Ok(true), mount))
+        }
+    }
+}
+
+fn all_find_nothing<J: Volumes>(alloc: Global, ports: &mut [Port<J>], mount: &Mount<J>) -> bool {
+    for index in 0..ports.len() {
+        if !finds_nothing(alloc, &mut ports[index], mount) {
+            return false;
+        }
+    }
+    true
+}
+
+fn many_reads<J: Volumes + Send + Sync, R: Threads + Wait + Sync>(
+    rt: &R,
+    alloc: Global,
+    opened: Opened,
+) -> Result<bool, VolError>
+    requires { opened.seen.book ≡ J.book opened.id }
+{
+    let (shared, mut ports) = shared_among::<J, _>(rt, alloc, 3, opened)?;
+    let came = read_all_at_once(rt, alloc, &shared, &mut ports);
+    let ended = ends(rt, alloc, shared);
+    match came {
+        Err(refusal) => Err(refusal),
+        Ok((good, mount)) => {
+            let nothing = all_find_nothing(alloc, ports.as_mut_slice(), &mount);
+            mount.spend();
+            Ok(good && nothing && ended)
+        }
+    }
+}
+
+#[test]
+fn many_reads_are_made_at_once(rt: HostRuntime) -> Result<(), Fail> {
+    assert!(rt; many_reads::<Brand, _>(&rt, rt.alloc(), Opened::new(1))?);
+    Ok(())
+}
