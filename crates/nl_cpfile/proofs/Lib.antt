@@ -4,3 +4,4 @@ pub mod Told
 pub mod Ranges
 pub mod ToldChanges
 pub mod Listings
+pub mod ImageEntries

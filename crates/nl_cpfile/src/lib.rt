@@ -2,10 +2,12 @@
 #![tactic(auto)]
 
 mod checkpoint;
+mod images;
 mod judging;
 mod listing;
 mod searching;
 mod table;
 
 pub use checkpoint::Checkpoint;
+pub use images::{read_checkpoints, write_checkpoints};
 pub use table::{Checkpoints, Cpstat};

@@ -16,3 +16,9 @@ pub mod Relocating
 pub mod CountedPayload
 pub mod ShownRows
 pub mod DescribedRows
+pub mod EntryReading
+pub mod TakenBlocks
+pub mod ImageEntries
+pub mod ShownNumbers
+pub mod OwnPayload
+pub mod ShownBlocks

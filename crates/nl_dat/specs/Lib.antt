@@ -3,3 +3,5 @@ pub mod Described
 pub mod Inside
 pub mod TakenOut
 pub mod OneProof
+pub mod EntryBytes
+pub mod Images

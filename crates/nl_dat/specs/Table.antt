@@ -1,9 +1,9 @@
 -- The table of virtual block numbers over the payload that is stored.
-use Rattle.std.specs.Prelude.{◌≡◌, ◌≢◌, ℕ, ◌<◌, ◌≤◌, ◌==◌, Bool, true, false, List, length, is_some, slice_index_or, MatchOption, Option, None, Some}
+use Rattle.std.specs.Prelude.{◌≡◌, ◌≢◌, ℕ, ◌<◌, ◌≤◌, ◌==◌, Bool, true, false, List, length, drop, map, is_some, slice_index_or, MatchOption, Option, None, Some}
 use Rattle.std.specs.Option.{option_map, option_and_then}
 use Rattle.nl_types.specs.PartialMaps.{Partial}
 use Rattle.nl_types.specs.Entries.{Birth, Entry, Content, number_of}
-use Rattle.nl_vstore.specs.Stores.{Numbered}
+use Rattle.nl_vstore.specs.Stores.{Numbered, Store}
 use Rattle.nl_dat.specs.declared.entries.DatEntry.{DatEntry}
 use Rattle.nl_types.specs.declared.period.Period.{Period}
 
@@ -14,6 +14,14 @@ entry_in table v = slice_index_or table v None
 -- a number in use as an entry of the table
 abbrev pub dat_entry_of : Numbered → DatEntry
 dat_entry_of n = record { block = n.block; start = n.entry.start; end = n.entry.end }
+
+-- what a store has for each number, as entries
+abbrev pub entries_shown : Store → List (Option DatEntry)
+entries_shown s = map (option_map dat_entry_of) s.numbers
+
+-- and for the numbers from 1 on
+abbrev pub numbers_shown : Store → List (Option DatEntry)
+numbers_shown s = map (option_map dat_entry_of) (drop 1 s.numbers)
 
 abbrev pub period_of_entry : DatEntry → Period
 period_of_entry entry = record { start = entry.start; end = entry.end }

@@ -1,5 +1,5 @@
 //! The table of virtual block numbers, over a space.
-ghost use Rattle.std.specs.Prelude.{◌≡◌, ◌↔◌, ◌⊎◌, ℕ, ◌+◌, ◌<◌, ◌≤◌, length, IfErr, IfOk, OnErr, IsErr, IsErrOf, IsOkUnless, Some};
+ghost use Rattle.std.specs.Prelude.{◌≡◌, ◌↔◌, ◌⊎◌, ℕ, ◌+◌, ◌*◌, ◌<◌, ◌≤◌, length, IfErr, IfOk, OnErr, OnOk, IsErr, IsErrOf, IsOkUnless, Some};
 ghost use Rattle.std.specs.Option.{option_map};
 ghost use Rattle.nl_vstore.specs.Stores.{IsStore};
 ghost use Rattle.nl_dat.specs.Inside.{store_of, IsTable};
@@ -10,6 +10,7 @@ use crate::entries::{
     DatEntry, empty_places, end_entries, enter_births, entry_at, first_free, move_entries,
     number_in, number_with,
 };
+use crate::images::{have_own_payload, write_numbers};
 use crate::moving::{count_payload, load_all, row_tag};
 use crate::reclaim::take_out;
 use nl_layout::Tag;
@@ -54,8 +55,13 @@ impl<S: Space> Model for Dat<S> {
 impl<S: Space> Dat<S> {
     ghost use Rattle.nl_vstore.specs.Summaries.{payload_row};
     ghost use Rattle.nl_dat.specs.Described.{descs_of};
-    ghost use Rattle.nl_vstore.specs.Stores.{new_store, address_in, block_in, capacity, numbered_in};
-    ghost use Rattle.nl_dat.specs.Table.{dat_entry_of};
+    ghost use Rattle.nl_vstore.specs.Stores.{KeepsStored, new_store, address_in, block_in, capacity, numbered_in, space_in};
+    ghost use Rattle.nl_space.specs.Appended.{IsLoadError};
+    ghost use Rattle.nl_space.specs.Images.{AreBlocksOf};
+    ghost use Rattle.nl_dat.specs.EntryBytes.{dat_bytes};
+    ghost use Rattle.nl_dat.specs.Images.{IsTableOver};
+    ghost use Rattle.nl_dat.specs.Inside.{births_in};
+    ghost use Rattle.nl_dat.specs.Table.{HaveOwnPayload, addresses_of, dat_entry_of, entries_shown, entry_in, numbers_shown};
 
     /// The table over a space, with no number in use. Refused by `Memory` alone; the space is dropped then.
     pub fn new(alloc: Global, space: S) -> Result<Dat<S>, VolError>
@@ -65,6 +71,30 @@ impl<S: Space> Dat<S> {
         let table = space.table();
         let count = table.sustat().segments * table.blocks() as usize;
         let table = empty_places(alloc, count + 1)?;
+        Ok(Dat {
+            table,
+            filled: 0,
+            space,
+        })
+    }
+
+    /// The table of an image, over a space with the payload of its logs. Refused by `BadImage(7)` where the block of a number
+    /// is not one that a log has for it; the space is dropped then. It takes no memory.
+    pub fn restore(space: S, table: Items<Option<DatEntry>>) -> Result<Dat<S>, VolError>
+        requires { IsTableOver table (S.content space).segments }
+        ensures restored { IfOk result (λ dat.
+            dat.store ≡ store_of table (S.content space) (S.failure_count space)) }
+        ensures shown { IfOk result (λ dat. entries_shown dat.store ≡ table) }
+        ensures own { OnOk result
+            (HaveOwnPayload (addresses_of (entry_in table)) (births_in (S.content space))) }
+        ensures other { OnErr result
+            (HaveOwnPayload (addresses_of (entry_in table)) (births_in (S.content space)) → ⊥) }
+        ensures refused { OnErr result (result ≡ Err (VolError.BadImage 7)) }
+    {
+        if !have_own_payload(&space, table.as_slice()) {
+            return Err(VolError::BadImage(7));
+        }
+        // What is filled is looked for as numbers are given.
         Ok(Dat {
             table,
             filled: 0,
@@ -84,6 +114,29 @@ impl<S: Space> Dat<S> {
             return Err(VolError::BadRange);
         }
         Ok(entry_at(self.table.as_slice(), number))
+    }
+
+    /// Fills the place with the entries of an image, 24 bytes for each number from 1 on.
+    pub fn dump(&self, out: &mut [u8])
+        requires { length out.old ≡ 24 * capacity self.now.store }
+        ensures { out.new ≡ dat_bytes (numbers_shown self.now.store) }
+    {
+        write_numbers(&self.table.as_slice()[1..], out);
+    }
+
+    /// Fills the place with the blocks of an image, 1,024 bytes for each: what the device has where one is used, else zeros.
+    /// Each used block is loaded once, in order, and nothing else is. Refused by `Fault` where the device failed, and by
+    /// `Memory`.
+    pub fn dump_blocks(&mut self, out: &mut [u8]) -> Result<(), VolError>
+        requires { length out.old ≡ 1024 * capacity self.old.store }
+        ensures blocks { OnOk result (AreBlocksOf (space_in self.old.store) out.new) }
+        ensures same { KeepsStored self.old.store self.new.store }
+        ensures counted { self.old.store.failures ≤ self.new.store.failures }
+        ensures fault { IsErrOf result VolError.Fault
+            → self.old.store.failures < self.new.store.failures }
+        ensures errors { IfErr result IsLoadError }
+    {
+        nl_space::dump(&mut self.space, out)
     }
 
     /// A description of each payload block of the logs of a segment, in the order of the blocks, be their numbers in use or

@@ -4,9 +4,12 @@
 mod bdesc;
 mod dat;
 mod entries;
+mod entry_bytes;
+mod images;
 mod moving;
 mod reclaim;
 
 pub use bdesc::Bdesc;
 pub use dat::Dat;
 pub use entries::DatEntry;
+pub use images::read_numbers;

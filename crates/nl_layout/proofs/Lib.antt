@@ -3,3 +3,4 @@ pub mod Reading
 pub mod Slots
 pub mod Inodes
 pub mod CheckpointReading
+pub mod ImageReading

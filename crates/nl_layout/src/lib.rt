@@ -1,5 +1,5 @@
 //! Blocks of the log as bytes: the summary block at the head of each log, the nodes above the data of a file, and inodes; and
-//! the entries of the checkpoint file.
+//! of an image the superblock, and the entries of the files of segments and of checkpoints.
 #![tactic(auto)]
 
 mod checkpoint_entry;
@@ -7,7 +7,9 @@ mod inode;
 mod level;
 mod node;
 mod root;
+mod segment_entry;
 mod summary;
+mod superblock;
 mod tag;
 
 pub use checkpoint_entry::{CHECKPOINT_SIZE, CheckpointEntry};
@@ -15,5 +17,7 @@ pub use inode::{INODE_SIZE, Inode, InodeEntry, InodeKind};
 pub use level::Level;
 pub use node::{NEXT, Node, SLOTS};
 pub use root::{Root, RootFields};
+pub use segment_entry::{SEGMENT_SIZE, read_segment, write_segment};
 pub use summary::Summary;
+pub use superblock::Superblock;
 pub use tag::Tag;

@@ -4,3 +4,8 @@ pub mod WholeLogs
 pub mod LogWritten
 pub mod LogsWritten
 pub mod AppendedLogs
+pub mod ImagePages
+pub mod ImageLogs
+pub mod ImagePayload
+pub mod PutPages
+pub mod ImageSame

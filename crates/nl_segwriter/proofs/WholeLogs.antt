@@ -21,14 +21,14 @@ use Rattle.nl_space.proofs.KeptLogs.{fill_kept, filled_same}
 use Rattle.nl_segwriter.specs.Writing.{SameOutsideLog, held_in}
 
 -- one more log behind the others
-fill_push : (b end : ℕ) (logs : List WholeLog) (log : WholeLog) (held : Held) (stored : DevicePages) → FillUpTo b end logs held stored → StandsFrom end log held stored
+pub fill_push : (b end : ℕ) (logs : List WholeLog) (log : WholeLog) (held : Held) (stored : DevicePages) → FillUpTo b end logs held stored → StandsFrom end log held stored
     → FillUpTo b (end + 1 + length log.payload) (logs ++ log ∷ []) held stored
 fill_push b end [] log held stored h s =
     (subst (λ (k : ℕ). StandsFrom k log held stored) (sym h) s, ap (λ (k : ℕ). k + 1 + length log.payload) h)
 fill_push b end (first ∷ logs) log held stored h s = (h.0, fill_push (b + 1 + length first.payload) end logs log held stored h.1 s)
 
 -- a page of whole logs
-fill_has : (b end c : ℕ) (logs : List WholeLog) (held : Held) (stored : DevicePages) → FillUpTo b end logs held stored → b ≤ c → c < end → (page : List ℕ) × (stored c ≡ Some page)
+pub fill_has : (b end c : ℕ) (logs : List WholeLog) (held : Held) (stored : DevicePages) → FillUpTo b end logs held stored → b ≤ c → c < end → (page : List ℕ) × (stored c ≡ Some page)
 fill_has b end c [] held stored h low high = absurd (omega (arith, h, low, high))
 fill_has b end c (log ∷ logs) held stored h low high =
     elim (cases_eq c b) [

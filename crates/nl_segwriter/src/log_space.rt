@@ -1,19 +1,21 @@
 //! Space as logs on a device.
 ghost use Rattle.std.specs.Prelude.{◌≡◌, ◌+◌, ◌*◌, ◌<◌, ◌≤◌, ◌⊎◌, OnOk, OnErr, IfOk, IsOkUnless, Some, ℕ, length};
 ghost use Rattle.std.specs.List.{AllByRecursion};
-ghost use Rattle.nl_types.specs.Segments.{HaveLogs, StaysUsed, active_place, info_of, lowest_clean, with_active, with_error};
+ghost use Rattle.nl_types.specs.Segments.{HaveLogs, StaysUsed, active_place, info_of, lowest_clean, total_blocks, with_active, with_error};
 ghost use Rattle.nl_types.specs.Placing.{IsNextLog, AreNextLogs, first_block, with_log, with_logs};
 ghost use Rattle.std.proofs.Props.{props};
 ghost use Rattle.nl_sufile.specs.Table.{IsSegTable};
 ghost use Rattle.nl_space.specs.Content.{HoldsOnlyUsed, KeepsUsed, new_content};
 ghost use Rattle.nl_space.specs.Logs.{AreWholeLogs, StandsFrom};
 ghost use Rattle.nl_space.specs.Appended.{KeepsOtherBlocks};
+ghost use Rattle.nl_segwriter.specs.Images.{HoldLogs, IsShapeOf, IsSpaceOf, page_in};
 ghost use Rattle.nl_segwriter.specs.Staging.{IsReady, logs_of, whole_of};
 ghost use Rattle.nl_segwriter.specs.Writing.{held_in, space_content, SameOutsideLog, MayBeTaken, StagedStands, LogsStand, BreaksOff};
 
+use crate::images::Restored;
 use crate::numbers::numbers_of;
 use crate::payload::{drop_row, hold_row, no_payload};
-use crate::put::put_row;
+use crate::put::{put_pages, put_row};
 use crate::staging::{Staged, stage};
 use nl_device::{Device, DeviceError, Fault};
 use nl_space::{Payload, Space};
@@ -52,6 +54,33 @@ impl<D: Device> LogSpace<D> {
             table,
             payload,
         })
+    }
+
+    /// The space of an image on a device of its geometry, which gets the pages, in the order of their numbers. Refused by
+    /// `Fault` where the device failed; it is dropped then. It takes no memory.
+    pub fn restore(device: D, table: SegTable, restored: Restored) -> Result<Self, VolError>
+        requires shape { IsShapeOf (D.shape device) table }
+        requires pages { length restored.pages ≡ total_blocks table }
+        requires logs { HoldLogs table (page_in restored.pages) restored.payload }
+        requires have_logs { HaveLogs table }
+        ensures content { IfOk result (λ s. IsSpaceOf table restored
+            (⟦<LogSpace<D> as Space>⟧.content s)) }
+        ensures failures { IfOk result (λ s.
+            D.failure_count device ≤ ⟦<LogSpace<D> as Space>⟧.failure_count s) }
+        ensures refused { IsOkUnless result VolError.Fault }
+    {
+        let Restored { pages, payload } = restored;
+        // Tells that the table is within the limits.
+        table.blocks();
+        let mut device = device;
+        match put_pages(&mut device, pages) {
+            Ok(()) => Ok(LogSpace {
+                device,
+                table,
+                payload,
+            }),
+            Err(Fault) => Err(VolError::Fault),
+        }
     }
 
     // Writes one log. Where that fails, its segment is in error.
@@ -130,7 +159,7 @@ fn take_segment(table: &mut SegTable, start: Position)
 }
 
 // How many blocks of a segment are used.
-fn used_of(table: &SegTable, segment: Segment) -> u32
+pub(crate) fn used_of(table: &SegTable, segment: Segment) -> u32
     requires { segment < length table.now.each }
     ensures { result ≡ (info_of table.now.each segment).used }
 {

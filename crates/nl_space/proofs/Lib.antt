@@ -1,2 +1,3 @@
 pub mod KeptLogs
 pub mod LogNumbers
+pub mod ImageBlocks

@@ -1,3 +1,4 @@
 pub mod Content
 pub mod Logs
 pub mod Appended
+pub mod Images

@@ -11,8 +11,10 @@
 //! - views of segment usage ask the table, by `table`.
 #![tactic(auto)]
 
+mod images;
 mod payload;
 mod space;
 
+pub use images::{dump, is_rest_zero};
 pub use payload::Payload;
 pub use space::Space;

@@ -1,2 +1,4 @@
 pub mod NextLog
 pub mod ActiveSegment
+pub mod ImageEntries
+pub mod UsedTests

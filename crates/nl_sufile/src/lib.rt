@@ -7,6 +7,7 @@
 //! cleaner and the views of segment usage read it by `suinfo` and `sustat`.
 #![tactic(auto)]
 
+mod images;
 mod placing;
 mod table;
 

@@ -1,13 +1,15 @@
 //! The table of segments.
-ghost use Rattle.std.specs.Prelude.{◌≡◌, ◌<◌, ◌≤◌, ◌+◌, length, IfOk, IfErr, IsErrOf, IfSome, IfNone, IsOkUnless, OnOk, slice_get, slice_set, replicate};
+ghost use Rattle.std.specs.Prelude.{◌≡◌, ◌↔◌, ◌<◌, ◌≤◌, ◌+◌, length, IfOk, IfErr, IsErrOf, IsTrue, IfSome, IfNone, IsOkUnless, OnOk, slice_get, slice_set, replicate};
 ghost use Rattle.std.specs.Option.{ok_or};
 ghost use Rattle.nl_types.specs.declared.segment.SegmentState.TheVariants.{Active};
-ghost use Rattle.nl_types.specs.Segments.{active_place, clean_from, clean_segments as clean_numbers, clean_info, info_of, lowest_clean, none_active, with_active, with_clean, with_error};
+ghost use Rattle.nl_types.specs.Segments.{IsUsed, active_place, clean_from, clean_segments as clean_numbers, clean_info, info_of, lowest_clean, none_active, with_active, with_clean, with_error};
 ghost use Rattle.nl_types.specs.Placing.{LogsFit, LacksSpace, end_of, with_log};
 ghost use Rattle.nl_sufile.specs.Table.{IsSegTable, IsActiveIn, IsNoSpaceOrMemory, all_clean};
 
 use crate::placing::{clean_segments, place_on};
-use nl_types::{Geometry, Items, Log, Position, Segment, SegmentInfo, SegmentState, VolError};
+use nl_types::{
+    BlockNumber, Geometry, Items, Log, Position, Segment, SegmentInfo, SegmentState, VolError,
+};
 use std::alloc::{AllocError, Global};
 use std::marker::Model;
 
@@ -55,6 +57,30 @@ impl SegTable {
         })
     }
 
+    /// The table of these segments, of which this one is active. Takes no memory.
+    pub(crate) fn from_entries(
+        blocks: u32,
+        each: Items<SegmentInfo>,
+        active: Option<Segment>,
+    ) -> SegTable
+        requires table { IsSegTable (record { blocks = blocks; each = each }) }
+        requires active { IsActiveIn each active }
+        ensures { result ≡ record { blocks = blocks; each = each } }
+    {
+        SegTable {
+            blocks,
+            each,
+            active,
+        }
+    }
+
+    /// What is known of each segment, in order.
+    pub(crate) fn entries(&self) -> &[SegmentInfo]
+        ensures { result.now ≡ self.now.each }
+    {
+        self.each.as_slice()
+    }
+
     /// How many blocks a segment has.
     pub fn blocks(&self) -> u32
         ensures blocks { result ≡ self.now.blocks }
@@ -72,6 +98,17 @@ impl SegTable {
         match self.each.as_slice().get(segment.get() as usize) {
             Some(info) => Ok(*info),
             None => Err(VolError::BadRange),
+        }
+    }
+
+    /// Whether a block lies in the used part of its segment. Takes no memory.
+    pub fn is_used(&self, block: BlockNumber) -> bool
+        ensures { IsTrue result ↔ IsUsed self.now block }
+    {
+        let blocks = self.blocks();
+        match self.suinfo(Segment::new(block.get() / blocks)) {
+            Ok(info) => block.get() % blocks < info.used,
+            Err(_) => false,
         }
     }
 

@@ -1,0 +1,84 @@
+//! The first block of an image.
+ghost use Rattle.std.specs.Prelude.{◌≡◌, ◌↔◌, IsTrue, IfSome, Some, length};
+ghost use Rattle.nl_layout.specs.Superblock.{Fits, HasMark, Spells, header_bytes, superblock_at};
+
+use byteorder::{ByteOrder, LittleEndian};
+use nl_types::BLOCK_SIZE;
+
+const MARK: [u8; 8] = *b"NLVOL001";
+
+const HEADER_SIZE: usize = 24;
+
+/// How the volume of an image is divided, and how many checkpoints it keeps. Whether a volume may be so is judged elsewhere.
+///
+/// The block has 1,024 bytes, with numbers in little endian: the mark `NLVOL001` at 0, the number of segments in 4 bytes at
+/// 8, that of the blocks in each in 4 bytes at 12, and that of kept checkpoints in 8 bytes at 16. All other bytes are zero.
+#[derive(Clone, Copy, Debug, PartialEq, Eq)]
+pub struct Superblock {
+    pub segments: u32,
+    pub blocks: u32,
+    pub checkpoints: u64,
+}
+
+impl Superblock {
+    /// Whether bytes begin as an image does: there are as many as a superblock has, and the first ones are the mark.
+    pub fn has_mark(bytes: &[u8]) -> bool
+        ensures { IsTrue result ↔ HasMark bytes.now }
+    {
+        bytes.len() >= BLOCK_SIZE && bytes[..8] == MARK[..]
+    }
+
+    /// The superblock that the bytes spell. None where they spell none: not 1,024 of them, another mark, or a byte that isn't
+    /// zero outside all fields.
+    pub fn read(bytes: &[u8]) -> Option<Self>
+        ensures found { IfSome result (Spells bytes.now) }
+        ensures only { (s : Superblock) → Spells bytes.now s → result ≡ Some s }
+    {
+        if bytes.len() != BLOCK_SIZE {
+            return None;
+        }
+        let superblock = from_bytes(bytes);
+        // A superblock has one spelling, so whatever the fields don't tell is judged here.
+        let mut again = [0; BLOCK_SIZE];
+        superblock.write(&mut again);
+        if again.as_slice() == bytes {
+            Some(superblock)
+        } else {
+            None
+        }
+    }
+
+    /// Fills a block with the one spelling of the superblock, from which `read` gives it back.
+    pub fn write(&self, out: &mut [u8])
+        requires { length out.old ≡ 1024 }
+        ensures { Spells out.new self.now }
+    {
+        let (header, rest) = out.split_at_mut(HEADER_SIZE);
+        header.copy_from_slice(&header_of(*self));
+        rest.fill(0);
+    }
+}
+
+fn header_of(superblock: Superblock) -> [u8; HEADER_SIZE]
+    ensures bytes { result ≡ header_bytes superblock }
+    ensures fits { Fits superblock }
+{
+    let mut bytes = [0; HEADER_SIZE];
+    bytes[..8].copy_from_slice(&MARK);
+    LittleEndian::write_u32(&mut bytes[8..], superblock.segments);
+    LittleEndian::write_u32(&mut bytes[12..], superblock.blocks);
+    LittleEndian::write_u64(&mut bytes[16..], superblock.checkpoints);
+    bytes
+}
+
+/// What stands in the fields, whatever the other bytes are.
+fn from_bytes(bytes: &[u8]) -> Superblock
+    requires { length bytes.now ≡ 1024 }
+    ensures { result ≡ superblock_at bytes.now }
+{
+    Superblock {
+        segments: LittleEndian::read_u32(&bytes[8..]),
+        blocks: LittleEndian::read_u32(&bytes[12..]),
+        checkpoints: LittleEndian::read_u64(&bytes[16..]),
+    }
+}
