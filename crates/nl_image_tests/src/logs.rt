@@ -3,7 +3,8 @@ ghost use Rattle.std.specs.Prelude.{◌≡◌, ◌*◌, ◌↔◌, IfOk, IsTrue,
 ghost use Rattle.nl_types.specs.Segments.{HaveLogs, total_blocks};
 ghost use Rattle.nl_segwriter.specs.Images.{IsShapeOf};
 
-use crate::bytes::{BLOCKS, NUMBERS, SEGMENTS, Spelling, put_all, spelled};
+use crate::bytes::{BLOCKS, NUMBERS, Spelling, put_all, spelled};
+use crate::tables::table_of;
 use nl_dat::{Dat, read_numbers};
 use nl_device::MemDevice;
 use nl_segwriter::{LogSpace, Restored};
@@ -52,16 +53,6 @@ fn blocks_of(alloc: Global, changes: &[Spelling]) -> Result<Vec<u8>, AllocError>
     put_all(blocks.as_mut_slice(), BLOCKS);
     put_all(blocks.as_mut_slice(), changes);
     Ok(blocks)
-}
-
-fn table_of(alloc: Global, geometry: Geometry, changes: &[Spelling]) -> Result<SegTable, VolError>
-    ensures shape { IfOk result (IsShapeOf geometry) }
-    ensures logs { IfOk result HaveLogs }
-{
-    if geometry.segments != 8 {
-        return Err(VolError::BadGeometry);
-    }
-    SegTable::restore(alloc, geometry, &spelled::<128>(SEGMENTS, changes))
 }
 
 fn fits(table: &SegTable, blocks: &[u8]) -> bool
@@ -127,7 +118,8 @@ fn space_of(
     requires blocks { length blocks.now ≡ 1024 * total_blocks table }
     requires shape { IsShapeOf geometry table }
     requires logs { HaveLogs table }
-    ensures { IfOk result (λ space. (⟦<LogSpace<MemDevice> as Space>⟧.content space).segments ≡ table) }
+    ensures { IfOk result (λ space.
+        (⟦<LogSpace<MemDevice> as Space>⟧.content space).segments ≡ table) }
 {
     let restored = Restored::read(alloc, &table, blocks)?;
     let device = MemDevice::new(alloc, geometry)?;

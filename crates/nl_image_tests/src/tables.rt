@@ -1,5 +1,7 @@
 //! The superblock of an image and its three tables: which bytes they accept, and that these are written again.
-ghost use Rattle.std.specs.Prelude.{◌≡◌};
+ghost use Rattle.std.specs.Prelude.{◌≡◌, IfOk};
+ghost use Rattle.nl_types.specs.Segments.{HaveLogs};
+ghost use Rattle.nl_segwriter.specs.Images.{IsShapeOf};
 
 use crate::bytes::{CHECKPOINTS, NUMBERS, SEGMENTS, Spelling, spelled};
 use nl_cpfile::{Checkpoint, Checkpoints, read_checkpoints, write_checkpoints};
@@ -81,6 +83,21 @@ fn are_segments(alloc: Global, geometry: Geometry, bytes: &[u8; 128]) -> Result<
         Err(VolError::BadImage(4)) => Ok(false),
         Err(error) => Err(error),
     }
+}
+
+/// The table of the base segments with these changes.
+pub(crate) fn table_of(
+    alloc: Global,
+    geometry: Geometry,
+    changes: &[Spelling],
+) -> Result<SegTable, VolError>
+    ensures shape { IfOk result (IsShapeOf geometry) }
+    ensures logs { IfOk result HaveLogs }
+{
+    if geometry.segments != 8 {
+        return Err(VolError::BadGeometry);
+    }
+    SegTable::restore(alloc, geometry, &spelled::<128>(SEGMENTS, changes))
 }
 
 #[test]
@@ -184,16 +201,9 @@ fn are_numbers(alloc: Global, table: &SegTable, bytes: &[u8; 768]) -> Result<boo
     }
 }
 
-fn first_segments(alloc: Global, geometry: Geometry) -> Result<SegTable, VolError> {
-    if geometry.segments != 8 {
-        return Err(VolError::BadGeometry);
-    }
-    SegTable::restore(alloc, geometry, &spelled::<128>(SEGMENTS, &[]))
-}
-
 #[test]
 fn numbers_are_judged_entry_by_entry(rt: HostRuntime) -> Result<(), Fail> {
-    let table = first_segments(rt.alloc(), Geometry::new(8, 4)?)?;
+    let table = table_of(rt.alloc(), Geometry::new(8, 4)?, &[])?;
     for (changes, due) in number_rows() {
         assert!(rt; are_numbers(rt.alloc(), &table, &spelled(NUMBERS, changes))? == *due);
     }
