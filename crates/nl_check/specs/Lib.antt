@@ -1,0 +1,14 @@
+pub mod InodeTrees
+pub mod Shapes
+pub mod Trees
+pub mod Conditions
+pub mod MetFiles
+pub mod Laws
+pub mod Periods
+pub mod SoundInodes
+pub mod SoundFiles
+pub mod DirectoryBlocks
+pub mod InodeBlocks
+pub mod Walks
+pub mod Naming
+pub mod Judging

@@ -1,0 +1,102 @@
+//! What is judged of an inode by itself, and what is known of the kinds of all.
+ghost use Rattle.std.specs.Prelude.{◌≡◌, ◌↔◌, ◌<◌, ◌≤◌, ℕ, length, false, IsTrue, IfOk, IfErr, Some, cond, is_some};
+ghost use Rattle.nl_types.specs.declared.error.VolError;
+ghost use Rattle.nl_types.specs.declared.kind.Kind.{Kind};
+ghost use Rattle.nl_layout.specs.Root.{root_of};
+ghost use Rattle.nl_tree.specs.Held.{IsInodeNumber};
+ghost use Rattle.nl_check.specs.SoundInodes.{IsMeasured, IsSoundInode, kind_for, kind_in};
+ghost use Rattle.nl_check.specs.Naming.{awaited_count};
+
+use crate::directories::is_sound_directory;
+use crate::files::is_sound_file;
+use nl_layout::{Inode, InodeKind};
+use nl_types::{Kind, VolError};
+use nl_vstore::VRead;
+use std::alloc::Global;
+
+/// The number of the root directory's inode.
+pub(crate) const ROOT_INODE: u64 = 2;
+
+/// The inode numbers are below this one.
+pub(crate) const INODE_LIMIT: usize = 524_288;
+
+/// The first number of an inode that isn't the root's.
+const FIRST_INODE: u64 = 11;
+
+/// Whether a number is that of the root directory's inode, or an ordinary one.
+pub(crate) fn is_inode_number(number: u64) -> bool
+    ensures { IsTrue result ↔ IsInodeNumber number }
+{
+    number == ROOT_INODE || (FIRST_INODE <= number && number < INODE_LIMIT as u64)
+}
+
+/// What an inode is for, where it is for a file or a directory.
+pub(crate) fn kind_of(kind: InodeKind) -> Option<Kind>
+    ensures { result ≡ kind_for kind }
+{
+    match kind {
+        InodeKind::File => Some(Kind::File),
+        InodeKind::Directory => Some(Kind::Directory),
+        InodeKind::InodeFile => None,
+    }
+}
+
+/// Whether an inode with a number is as such an inode has to be, where so many indices lead up to its last block. Refused by
+/// `Memory` alone.
+pub(crate) fn is_sound_inode<V: VRead>(
+    alloc: Global,
+    store: &V,
+    number: u64,
+    inode: &Inode,
+    count: u64,
+) -> Result<bool, VolError>
+    requires { IsMeasured (V.pages store.now) (root_of inode.now.root) count }
+    ensures yes { IfOk result (λ sound. IsTrue sound
+        → IsSoundInode (V.pages store.now) number (Some inode.now)) }
+    ensures no { IfOk result (λ sound. sound ≡ false
+        → IsSoundInode (V.pages store.now) number (Some inode.now) → ⊥) }
+    ensures refused { IfErr result (λ e. e ≡ VolError.Memory) }
+{
+    if !is_inode_number(number) {
+        return Ok(false);
+    }
+    match inode.kind {
+        InodeKind::File => Ok(is_sound_file(store, inode, count)),
+        InodeKind::Directory => is_sound_directory(alloc, store, inode, count),
+        InodeKind::InodeFile => Ok(false),
+    }
+}
+
+/// Notes the kind of an inode, where its number may be one.
+pub(crate) fn note_kind(kinds: &mut [Option<Kind>], number: u64, kind: Option<Kind>)
+    requires { length kinds.old ≡ 524288 }
+    ensures count { length kinds.new ≡ 524288 }
+    ensures here { number < 524288 → kind_in kinds.new number ≡ kind }
+    ensures others { (i : ℕ) → (i ≡ number → ⊥) → kind_in kinds.new i ≡ kind_in kinds.old i }
+{
+    if number < INODE_LIMIT as u64 {
+        kinds[number as usize] = kind;
+    }
+}
+
+/// How many inodes are in use.
+pub(crate) fn count_of(kinds: &[Option<Kind>]) -> u64
+    requires { length kinds.now ≡ 524288 }
+    ensures { result ≡ awaited_count kinds.now }
+{
+    let mut count: u64 = 0;
+    for kind in kinds {
+        count += count_of_one(kind);
+    }
+    count
+}
+
+fn count_of_one(kind: &Option<Kind>) -> u64
+    ensures count { result ≡ cond (is_some kind.now) 1 0 }
+    ensures most { result ≤ 1 }
+{
+    match kind {
+        Some(_) => 1,
+        None => 0,
+    }
+}

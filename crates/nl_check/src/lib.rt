@@ -1,0 +1,16 @@
+//! Checks of the checkpoints of an image: the shape of their blocks, the trees that their inodes hold, and the periods of
+//! their numbers.
+#![tactic(auto)]
+
+mod checks;
+mod directories;
+mod files;
+mod inodes;
+pub mod laws;
+mod meeting;
+mod periods;
+mod shape;
+mod trees;
+mod walking;
+
+pub use checks::first_fault;

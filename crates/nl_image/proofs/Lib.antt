@@ -1,0 +1,2 @@
+pub mod ConditionOrder
+pub mod FirstConditions

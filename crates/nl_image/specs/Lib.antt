@@ -1,0 +1,4 @@
+pub mod Parts
+pub mod Conditions
+pub mod StoreImages
+pub mod Laws

@@ -1,0 +1,47 @@
+-- The image of a store of pages and the checkpoints that are kept over it.
+use Rattle.std.specs.Prelude.{◌≡◌, List, ℕ, length, All}
+use Rattle.std.specs.List.{AllZip}
+use Rattle.nl_types.specs.Roots.{Pages, pages_of}
+use Rattle.nl_layout.specs.declared.checkpoint_entry.CheckpointEntry.{CheckpointEntry}
+use Rattle.nl_layout.specs.Checkpoints as checkpoints
+use Rattle.nl_layout.specs.Root.{root_of}
+use Rattle.nl_layout.specs.Segment as segments
+use Rattle.nl_layout.specs.Superblock as superblock
+use Rattle.nl_space.specs.Images.{AreBlocksOf}
+use Rattle.nl_vstore.specs.Stores.{Store, content_in, space_in}
+use Rattle.nl_dat.specs.EntryBytes as numbers
+use Rattle.nl_dat.specs.Table.{numbers_shown}
+use Rattle.nl_cpfile.specs.declared.checkpoint.Checkpoint.{Checkpoint}
+use Rattle.nl_cpfile.specs.Images.{IsEntryOf}
+use Rattle.nl_check.specs.Trees.{IsSizeOf}
+use Rattle.nl_image.specs.Parts.{Parts, image_bytes}
+
+-- the entry of a kept checkpoint, with the size of its file of inodes
+pub record IsSizedEntry (pages : Pages) (c : Checkpoint) (e : CheckpointEntry) : Type 0 where
+  pub entry : IsEntryOf c e
+  pub size : IsSizeOf pages (root_of c.root) e.size
+
+-- the parts are those of the store, and of the kept checkpoints
+pub record AreOf (store : Store) (kept : List Checkpoint) (p : Parts) : Type 0 where
+  pub segment_count : p.shape.segments ≡ length store.segments.each
+  pub block_count : p.shape.blocks ≡ store.segments.blocks
+  pub checkpoint_count : p.shape.checkpoints ≡ length kept
+  pub segments : p.segments ≡ store.segments
+  pub numbers : p.numbers ≡ numbers_shown store
+  pub entries : AllZip (IsSizedEntry (pages_of (content_in store))) kept p.kept
+
+-- all of them have a spelling
+pub record HaveSpelling (p : Parts) : Type 0 where
+  pub shape : superblock.Fits p.shape
+  pub segments : All segments.Fits p.segments.each
+  pub numbers : All numbers.Fits p.numbers
+  pub kept : All checkpoints.Fits p.kept
+
+-- The bytes are the image: its parts, and all blocks as the device has them, with zeros where none is used.
+pub record IsImageOf (store : Store) (kept : List Checkpoint) (bytes : List ℕ) : Type 0 where
+  pub parts : Parts
+  pub blocks : List ℕ
+  pub are : AreOf store kept parts
+  pub blocks_are : AreBlocksOf (space_in store) blocks
+  pub fit : HaveSpelling parts
+  pub spelled : bytes ≡ image_bytes parts blocks

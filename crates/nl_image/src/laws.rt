@@ -1,0 +1,8 @@
+//! What the definitions of images mean, as contracts of functions that do nothing.
+ghost use Rattle.nl_image.specs.Laws.{ImagesHaveNoFault, OneFailsFirst};
+
+/// An image fails no condition first, and other bytes fail one first at most.
+pub fn one_condition_fails_first()
+    ensures none { ImagesHaveNoFault }
+    ensures one { OneFailsFirst }
+{}
