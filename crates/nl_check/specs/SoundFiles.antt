@@ -13,7 +13,7 @@ pub record IsSoundFile (blocks : Blocks) (size : ℕ) : Type 0 where
   pub none_past : (b : ℕ) → size ≤ 1024 * b → blocks b ≡ None
   pub zeros : (k : ℕ) → size ≤ k → byte_stored blocks k ≡ 0
 
--- a record's name may stand in a path, and its inode be in use
+-- a record's name may stand in a path, and its number be an inode's
 abbrev pub IsSoundRecord : Record → Type 0
 IsSoundRecord r = IsTrue (is_name r.name) × IsInodeNumber r.inode
 

@@ -169,7 +169,7 @@ fn judge_all<V: VRead>(
 
 /// Which of the conditions 8 to 10 of an image is the first that a kept checkpoint doesn't meet: the shape of its files (8),
 /// the tree that its inodes hold (9), or that it meets just the numbers whose periods have it (10). None where all meet them.
-/// It answers on any pages. The numbers in use are at most as many as the blocks of the geometry.
+/// The pages are any. A number in use has both a page and a period, and is at most the count of blocks.
 ///
 /// Refused by `Memory` alone.
 pub fn first_fault<V: VRead>(
@@ -179,7 +179,7 @@ pub fn first_fault<V: VRead>(
     kept: &[CheckpointEntry],
 ) -> Result<Option<u8>, VolError>
     requires within { (v : ℕ) → IsSome (V.pages store.now v)
-        → (1 ≤ v) × (v ≤ geometry.segments * geometry.blocks) }
+        → v ≤ geometry.segments * geometry.blocks }
     requires each { (v : ℕ) → is_some (V.pages store.now v) ≡ is_some (V.periods store.now v) }
     ensures fault { IfOk result (λ fault. FirstFault (V.pages store.now) (V.periods store.now)
         (map told kept.now) fault) }

@@ -114,6 +114,7 @@ fn add_block(
         × IsAdded page.now used all.old.items all.new.items size)) }
     ensures only { result ≡ Ok None → (block : List Record) → IsPageOf page.now block
         → Follows all.old.items used block → ⊥ }
+    ensures kept { result ≡ Ok None → all.new.items ≡ all.old.items }
     ensures refused { IfErr result (λ e. e ≡ VolError.Memory) }
 {
     let Some(mut block) = records(alloc, page)? else {

@@ -11,6 +11,7 @@ pub(crate) fn meet<V: VRead>(store: &V, met: &mut [bool], number: VirtualNumber)
     requires { (v : ℕ) → IsSome (V.pages store.now v) → v < length met.old }
     ensures yes { IsTrue result → Meets (V.pages store.now) number met.old met.new }
     ensures no { result ≡ false → CanNotMeet (V.pages store.now) number met.old }
+    ensures kept { result ≡ false → met.new ≡ met.old }
     ensures count { length met.new ≡ length met.old }
 {
     let Some(page) = store.page(number) else {
@@ -32,6 +33,7 @@ pub(crate) fn meet_slot<V: VRead>(store: &V, met: &mut [bool], page: &Page, slot
     requires slot { slot < 128 }
     ensures yes { IsTrue result → MeetsSlot (V.pages store.now) slot page.now met.old met.new }
     ensures no { result ≡ false → CanNotMeetSlot (V.pages store.now) slot page.now met.old }
+    ensures kept { result ≡ false → met.new ≡ met.old }
     ensures count { length met.new ≡ length met.old }
 {
     match Node::slot_in(page, slot) {

@@ -201,7 +201,7 @@ fn walk_index<V: VRead>(
 }
 
 /// Walks the files of all inodes, where the file of inodes is walked and so many indices lead up to its last block. It answers
-/// whether all inodes are sound.
+/// whether all inodes are sound, or none where the checkpoint has not its shape. Refused by `Memory` alone.
 fn walk_inodes<V: VRead>(
     alloc: Global,
     store: &V,

@@ -16,6 +16,7 @@ use std::alloc::Global;
 fn take_awaited(awaited: &mut [Option<Kind>], number: u64, kind: Kind) -> bool
     ensures yes { IsTrue result → IsTaken number kind awaited.old awaited.new }
     ensures no { result ≡ false → kind_in awaited.old number ≡ Some kind → ⊥ }
+    ensures kept { result ≡ false → awaited.new ≡ awaited.old }
     ensures count { length awaited.new ≡ length awaited.old }
 {
     if number >= awaited.len() as u64 || awaited[number as usize] != Some(kind) {
@@ -152,8 +153,8 @@ fn is_none_awaited(awaited: &[Option<Kind>]) -> bool
     true
 }
 
-/// Whether the inodes of a tree are named by one record each, by their kinds, and found from the root. The kinds of all inodes
-/// in use are given, and taken out one after another. Refused by `Memory` alone.
+/// Whether the inodes of a tree but the root's are named by one record each, by their kinds, and found from the root. The kinds
+/// of all inodes in use are given, and taken out one after another. Refused by `Memory` alone.
 pub(crate) fn forms_tree<T: TreeRead>(
     alloc: Global,
     tree: &T,

@@ -1,2 +1,9 @@
 pub mod ConditionOrder
 pub mod FirstConditions
+pub mod Refusing
+pub mod TableConditions
+pub mod OnePayload
+pub mod LaterConditions
+pub mod ReadParts
+pub mod ImageBytes
+pub mod Restoring

@@ -25,9 +25,13 @@ use Rattle.nl_image.specs.Parts.{Parts, blocks_in, cpfile_in, dat_in, image_leng
 
 -- ---- what an image tells
 
+-- the number of the last entry, 0 where there is none
+abbrev pub number_of_last : List CheckpointEntry → ℕ
+number_of_last kept = option_map_or (λ (c : CheckpointEntry). c.number) (slice_get kept (length kept - 1)) 0
+
 -- the number of the latest checkpoint
 abbrev pub latest_told : Parts → ℕ
-latest_told p = option_map_or (λ (c : CheckpointEntry). c.number) (slice_get p.kept (length p.kept - 1)) 0
+latest_told p = number_of_last p.kept
 
 -- the page of each block
 abbrev pub blocks_told : List ℕ → Parts → DevicePages

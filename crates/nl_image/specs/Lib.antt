@@ -2,3 +2,5 @@ pub mod Parts
 pub mod Conditions
 pub mod StoreImages
 pub mod Laws
+pub mod ReadPages
+pub mod Reading

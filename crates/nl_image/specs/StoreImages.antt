@@ -3,6 +3,7 @@ use Rattle.std.specs.Prelude.{◌≡◌, List, ℕ, length, All}
 use Rattle.std.specs.List.{AllZip}
 use Rattle.nl_types.specs.Roots.{Pages, pages_of}
 use Rattle.nl_layout.specs.declared.checkpoint_entry.CheckpointEntry.{CheckpointEntry}
+use Rattle.nl_layout.specs.declared.superblock.Superblock.{Superblock}
 use Rattle.nl_layout.specs.Checkpoints as checkpoints
 use Rattle.nl_layout.specs.Root.{root_of}
 use Rattle.nl_layout.specs.Segment as segments
@@ -21,14 +22,20 @@ pub record IsSizedEntry (pages : Pages) (c : Checkpoint) (e : CheckpointEntry) :
   pub entry : IsEntryOf c e
   pub size : IsSizeOf pages (root_of c.root) e.size
 
--- the parts are those of the store, and of the kept checkpoints
-pub record AreOf (store : Store) (kept : List Checkpoint) (p : Parts) : Type 0 where
-  pub segment_count : p.shape.segments ≡ length store.segments.each
-  pub block_count : p.shape.blocks ≡ store.segments.blocks
-  pub checkpoint_count : p.shape.checkpoints ≡ length kept
-  pub segments : p.segments ≡ store.segments
-  pub numbers : p.numbers ≡ numbers_shown store
-  pub entries : AllZip (IsSizedEntry (pages_of (content_in store))) kept p.kept
+-- the superblock divides the volume as the store is divided
+pub record IsShapeOfStore (store : Store) (s : Superblock) : Type 0 where
+  pub segments : s.segments ≡ length store.segments.each
+  pub blocks : s.blocks ≡ store.segments.blocks
+
+-- the parts of a store, with the entries of checkpoints
+abbrev pub parts_of : Superblock → Store → List CheckpointEntry → Parts
+parts_of s store entries = record { shape = s; segments = store.segments; numbers = numbers_shown store; kept = entries }
+
+-- they are in front of the image of the store and of the kept checkpoints
+pub record AreOf (store : Store) (kept : List Checkpoint) (s : Superblock) (entries : List CheckpointEntry) : Type 0 where
+  pub shape : IsShapeOfStore store s
+  pub count : s.checkpoints ≡ length kept
+  pub sized : AllZip (IsSizedEntry (pages_of (content_in store))) kept entries
 
 -- all of them have a spelling
 pub record HaveSpelling (p : Parts) : Type 0 where
@@ -39,9 +46,10 @@ pub record HaveSpelling (p : Parts) : Type 0 where
 
 -- The bytes are the image: its parts, and all blocks as the device has them, with zeros where none is used.
 pub record IsImageOf (store : Store) (kept : List Checkpoint) (bytes : List ℕ) : Type 0 where
-  pub parts : Parts
+  pub shape : Superblock
+  pub entries : List CheckpointEntry
   pub blocks : List ℕ
-  pub are : AreOf store kept parts
+  pub are : AreOf store kept shape entries
   pub blocks_are : AreBlocksOf (space_in store) blocks
-  pub fit : HaveSpelling parts
-  pub spelled : bytes ≡ image_bytes parts blocks
+  pub fit : HaveSpelling (parts_of shape store entries)
+  pub spelled : bytes ≡ image_bytes (parts_of shape store entries) blocks

@@ -3,5 +3,13 @@
 
 mod geometry;
 pub mod laws;
+mod logs;
+mod pages;
+mod reading;
+mod sections;
+mod tables;
+mod writing;
 
 pub use geometry::geometry_of;
+pub use reading::{ReadImage, read_image};
+pub use writing::write_image;

@@ -6,7 +6,7 @@ use std::alloc::Global;
 use std::test::Fail;
 
 /// Changes of an image that make it fail the condition that the table is for, and none before it.
-type Row = &'static [Change];
+pub(crate) type Row = &'static [Change];
 
 /// Whether the image with these changes fails this condition first.
 fn fails(
@@ -23,7 +23,7 @@ fn fails(
 
 /// Nothing; a dirty segment in place of the active one; a segment in error; a snapshot fewer; other data; records of live
 /// blocks with another inode, offset or level; a file with a hole of 64 MiB behind its blocks.
-const SOUND: &[Row] = &[
+pub(crate) const SOUND: &[Row] = &[
     &[],
     &[(Part::Segment(0), 12, &[2])],
     &[(Part::Segment(1), 0, &[9]), (Part::Segment(1), 12, &[6])],

@@ -1,28 +1,7 @@
-use Rattle.std.proofs.Common.{◌≡◌, Bool, Option, None, true, false, refl, sym}
-use Rattle.std.specs.Option.{IsSome}
-use Rattle.std.proofs.lemmas.List.{length-take-le}
-use Rattle.nl_types.specs.declared.geometry.Geometry.{Geometry}
-use Rattle.nl_image.proofs.FirstConditions.{are-divided, no-mark, not-divided}
+use Rattle.nl_image.proofs.FirstConditions.{are-divided}
 use Rattle.nl_image.proofs.geometry.geometry_of.Goals as goal
 
-pub returns-then-not-has_mark-clause-refused : goal.returns-then-not-has_mark-clause-refused
-returns-then-not-has_mark-clause-refused c =
-    (1, refl, no-mark c.args.bytes.now (λ mark. both c.has_mark.result (c.has_mark.ensures.1 mark) c.if-not-has_mark.true))
-  where
-    both : (b : Bool) → b ≡ true → b ≡ false → ⊥
-    both b p q = cc
-
-pub slice_bounds-divided-end : goal.slice_bounds-divided-end
-slice_bounds-divided-end c = sym (length-take-le 1024 c.args.bytes.now (c.has_mark.ensures.0 c.if-not-has_mark.false).long)
-
-pub returns-in-Some-clause-found : goal.returns-in-Some-clause-found
-returns-in-Some-clause-found c =
-    let d = c.in-Some.ensures.found in
-    are-divided c.args.bytes.now c.in-Some.geometry d.0 (c.has_mark.ensures.0 c.if-not-has_mark.false) d.1 d.2
-
-pub returns-in-None-clause-refused : goal.returns-in-None-clause-refused
-returns-in-None-clause-refused c =
-    (2, refl, not-divided c.args.bytes.now (c.has_mark.ensures.0 c.if-not-has_mark.false) (λ s is. none c.divided.result (c.divided.ensures.only s is) c.in-None.is))
-  where
-    none : (o : Option Geometry) → IsSome o → o ≡ None → ⊥
-    none o some e = cc
+pub returns-clause-found : goal.returns-clause-found
+returns-clause-found c =
+    let d = c.in_ok-division.division in
+    are-divided c.args.bytes.now d.geometry d.superblock c.in_ok-division.ensures.begins c.in_ok-division.ensures.shape

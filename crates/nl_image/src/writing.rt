@@ -1,0 +1,110 @@
+//! The image of a store and of the checkpoints kept over it, written.
+ghost use Rattle.std.specs.Prelude.{◌≡◌, ◌<◌, ◌≤◌, ◌*◌, ◌+◌, ◌^◌, ◌++◌, All, IfErr, IfNone, IfOk, IfSome, IsErrOf, List, length, replicate};
+ghost use Rattle.std.specs.List.{AllZip};
+ghost use Rattle.nl_types.specs.declared.error.VolError;
+ghost use Rattle.nl_types.specs.Roots.{pages_of};
+ghost use Rattle.nl_layout.specs.Superblock.{superblock_bytes};
+ghost use Rattle.nl_layout.specs.Superblock as superblocks;
+ghost use Rattle.nl_layout.specs.Segment as segments;
+ghost use Rattle.nl_layout.specs.Checkpoints as checkpoints;
+ghost use Rattle.nl_space.specs.Appended.{IsLoadError};
+ghost use Rattle.nl_vstore.specs.Stores.{KeepsStored, capacity, content_in};
+ghost use Rattle.nl_dat.specs.EntryBytes as numbers;
+ghost use Rattle.nl_dat.specs.Table.{numbers_shown};
+ghost use Rattle.nl_cpfile.specs.declared.checkpoint.Checkpoint.{Checkpoint};
+ghost use Rattle.nl_image.specs.Parts.{blocks_start, entry_bytes, padding_of};
+ghost use Rattle.nl_image.specs.StoreImages.{IsImageOf, IsShapeOfStore, IsSizedEntry, parts_of};
+
+use nl_cpfile::write_checkpoints;
+use nl_dat::Dat;
+use nl_layout::{CheckpointEntry, Superblock};
+use nl_space::Space;
+use nl_types::{BLOCK_SIZE, VolError};
+use nl_vstore::Vstore;
+use std::alloc::Global;
+
+/// The image of a store, with the entries of the checkpoints that are kept over it. Each used block is loaded once from the
+/// device, in order, and nothing else is. Refused by `Memory`, and by `Fault` where the device failed.
+pub fn write_image<S: Space>(
+    alloc: Global,
+    store: &mut Dat<S>,
+    kept: &[CheckpointEntry],
+) -> Result<Vec<u8>, VolError>
+    requires { All numbers.Fits (numbers_shown store.old.store) }
+    ensures image { IfOk result (λ bytes. (all : List Checkpoint)
+        → AllZip (IsSizedEntry (pages_of (content_in store.old.store))) all kept.now
+        → IsImageOf store.old.store all bytes.items) }
+    ensures same { KeepsStored store.old.store store.new.store }
+    ensures counted { store.old.store.failures ≤ store.new.store.failures }
+    ensures fault { IsErrOf result VolError.Fault
+        → store.old.store.failures < store.new.store.failures }
+    ensures errors { IfErr result IsLoadError }
+{
+    let superblock = superblock_over(store, kept);
+    let Some(front) = front_of(&superblock) else {
+        return Err(VolError::Memory);
+    };
+    let mut image = vec![in alloc; 0; front + BLOCK_SIZE * store.capacity() as usize]?;
+    let (head, blocks) = image.as_mut_slice().split_at_mut(front);
+    write_front(&superblock, store, kept, head);
+    store.dump_blocks(blocks)?;
+    Ok(image)
+}
+
+/// How the store's volume is divided, and how many checkpoints are kept.
+fn superblock_over<S: Space>(store: &Dat<S>, kept: &[CheckpointEntry]) -> Superblock
+    ensures shape { IsShapeOfStore store.now.store result }
+    ensures kept { result.checkpoints ≡ length kept.now }
+{
+    let table = store.table();
+    Superblock {
+        segments: table.sustat().segments as u32,
+        blocks: table.blocks(),
+        checkpoints: kept.len() as u64,
+    }
+}
+
+/// How many bytes stand in front of the blocks. None where no list of bytes is so long.
+fn front_of(superblock: &Superblock) -> Option<usize>
+    requires segments { superblock.now.segments ≤ 4096 }
+    requires blocks { superblock.now.segments * superblock.now.blocks ≤ 262144 }
+    ensures front { IfSome result (λ front. front ≡ blocks_start superblock.now) }
+    ensures few { IfSome result (λ front. front + 1024 * 262144 < 2 ^ 64) }
+    ensures none { IfNone result (2 ^ 64 ≤ 320 * (superblock.now.checkpoints + 1)) }
+{
+    if superblock.checkpoints > u64::MAX / 320 {
+        return None;
+    }
+    let total = (superblock.segments * superblock.blocks) as usize;
+    let tables = 16 * superblock.segments as usize + 24 * total;
+    let padding = BLOCK_SIZE + tables + 160 * superblock.checkpoints as usize;
+    Some(padding + (BLOCK_SIZE - padding % BLOCK_SIZE) % BLOCK_SIZE)
+}
+
+/// Fills the place with all that stands in front of the blocks.
+fn write_front<S: Space>(
+    superblock: &Superblock,
+    store: &Dat<S>,
+    kept: &[CheckpointEntry],
+    out: &mut [u8],
+)
+    requires shape { IsShapeOfStore store.now.store superblock.now }
+    requires kept { superblock.now.checkpoints ≡ length kept.now }
+    requires size { length out.old ≡ blocks_start superblock.now }
+    ensures bytes { out.new ≡ superblock_bytes superblock.now
+        ++ entry_bytes (parts_of superblock.now store.now.store kept.now)
+        ++ replicate (padding_of superblock.now) 0 }
+    ensures superblock { superblocks.Fits superblock.now }
+    ensures segments { All segments.Fits store.now.store.segments.each }
+    ensures kept { All checkpoints.Fits kept.now }
+{
+    let (head, rest) = out.split_at_mut(BLOCK_SIZE);
+    superblock.write(head);
+    let (segments, rest) = rest.split_at_mut(16 * superblock.segments as usize);
+    store.table().dump(segments);
+    let (numbers, rest) = rest.split_at_mut(24 * store.capacity() as usize);
+    store.dump(numbers);
+    let (checkpoints, padding) = rest.split_at_mut(160 * kept.len());
+    write_checkpoints(kept, checkpoints);
+    padding.fill(0);
+}
