@@ -28,7 +28,7 @@ use Rattle.nl_files.specs.CheckpointTrees.{HoldsTree}
 use Rattle.nl_tree.specs.Held.{Held, Holding, IsInodeNumber, Listed, Stored, inode_content, inodes_of_holding}
 use Rattle.nl_files.specs.CheckpointRoots.{IsTreeSound, StandsAs, StandsFor, root_in, roots_at}
 use Rattle.nl_check.specs.Conditions.{has}
-use Rattle.nl_check.specs.Laws.{ExactPeriodsAreExact, SoundCheckpointsMeetAll, SoundTreesAreMeant, StandsForTree}
+use Rattle.nl_check.specs.Laws.{ExactPeriodsAreExact, SoundCheckpointsAreShaped, SoundCheckpointsMeetAll, SoundTreesAreMeant, StandsForTree}
 use Rattle.nl_check.specs.Shapes.{At, HasShape, IsShaped, Itself, Of, Owner, met, root_for}
 use Rattle.nl_check.specs.Trees.{IsTreeOf}
 
@@ -319,18 +319,35 @@ exact_periods_are_exact content c root size inodes shape tree meets = record {
 
 -- ---- the other way round
 
+pub sound_checkpoints_are_shaped : SoundCheckpointsAreShaped
+unfolding place-of
+sound_checkpoints_are_shaped content c root holding sound holds exact = record {
+  files = shaped;
+  inodes = sound.inodes;
+  once = λ p q v a b.
+      let e = exact.once (place p) (place q) v (numbered (pages_of content) root holding holds p v a) (numbered (pages_of content) root holding holds q v b) in
+      same-at p q
+      (owner-there (pages_of content) root holding holds p v a ∙ (ap owner-of (inodes_equal p q e) ∙ sym (owner-there (pages_of content) root holding holds q v b)))
+      (ap (λ (x : Place). x.level) e) (ap (λ (x : Place). x.offset) e);
+}
+  where
+    place : At → Place
+    place = place-of (pages_of content) root holding holds
+
+    inodes_equal : (p q : At) → place p ≡ place q → number-of-owner p.owner ≡ number-of-owner q.owner
+    inodes_equal p q e = ap (λ (x : Place). x.inode) e
+
+    shape_of : (r : Root) → IsSound (pages_of content) r → HasShape (pages_of content) r
+    shape_of r s = record { stored = s.stored; has_top = s.has_top; ends_full = s.ends_full; tree_shape = s.tree_shape }
+
+    shaped : (owner : Owner) → HasShape (pages_of content) (root_for (pages_of content) root owner)
+    shaped Itself = shape_of root sound.inode_file
+    shaped (Of i) = shape_of (root_in (inode_at (pages_of content) root i)) (sound.each i)
+
 pub sound_checkpoints_meet_all : SoundCheckpointsMeetAll
-unfolding at-of place-of
+unfolding at-of
 sound_checkpoints_meet_all content c root size holding tree inodes sound holds means sized exact = record {
-  shaped = record {
-    files = shaped;
-    inodes = sound.inodes;
-    once = λ p q v a b.
-        let e = exact.once (place p) (place q) v (numbered (pages_of content) root holding holds p v a) (numbered (pages_of content) root holding holds q v b) in
-        same-at p q
-        (owner-there (pages_of content) root holding holds p v a ∙ (ap owner-of (inodes_equal p q e) ∙ sym (owner-there (pages_of content) root holding holds q v b)))
-        (ap (λ (x : Place). x.level) e) (ap (λ (x : Place). x.offset) e);
-  };
+  shaped = sound_checkpoints_are_shaped content c root holding sound holds exact;
   tree = record {
     holding = holding;
     stores = holds.stores;
@@ -352,16 +369,6 @@ sound_checkpoints_meet_all content c root size holding tree inodes sound holds m
   where
     place : At → Place
     place = place-of (pages_of content) root holding holds
-
-    inodes_equal : (p q : At) → place p ≡ place q → number-of-owner p.owner ≡ number-of-owner q.owner
-    inodes_equal p q e = ap (λ (x : Place). x.inode) e
-
-    shape_of : (r : Root) → IsSound (pages_of content) r → HasShape (pages_of content) r
-    shape_of r s = record { stored = s.stored; has_top = s.has_top; ends_full = s.ends_full; tree_shape = s.tree_shape }
-
-    shaped : (owner : Owner) → HasShape (pages_of content) (root_for (pages_of content) root owner)
-    shaped Itself = shape_of root sound.inode_file
-    shaped (Of i) = shape_of (root_in (inode_at (pages_of content) root i)) (sound.each i)
 
     formed : FormTree (inodes_of_holding holding)
     formed = meant_trees_are_formed (inodes_of_holding holding) tree means.means

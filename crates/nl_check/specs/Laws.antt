@@ -45,3 +45,10 @@ SoundCheckpointsMeetAll = (content : Content) (c : ℕ) (root : Root) (size : �
     → MeansPaths (inodes_of_holding holding) tree inodes → IsSizeOf (pages_of content) root size
     → IsExact content c (numbers_of (pages_of content) (roots_at (pages_of content) root))
     → MeetsAll content c root size inodes
+
+-- of these conditions its shape needs neither the tree's paths nor the size
+abbrev pub SoundCheckpointsAreShaped : Type 0
+SoundCheckpointsAreShaped = (content : Content) (c : ℕ) (root : Root) (holding : Holding)
+    → IsTreeSound (pages_of content) root → HoldsTree (pages_of content) root holding
+    → IsExact content c (numbers_of (pages_of content) (roots_at (pages_of content) root))
+    → IsShaped (pages_of content) root

@@ -1,7 +1,7 @@
 -- Which roots, nodes and blocks of inodes a checkpoint may have.
 use Rattle.std.specs.Prelude.{◌≡◌, ◌≢◌, ℕ, ◌/◌, ◌≤◌, IsSome, Option, Some}
 use Rattle.nl_types.specs.Roots.{NoBlocks, OfChain, OfTree, Pages, Root, height_of, kind_of, place_at}
-use Rattle.nl_types.specs.RootChanges.{HasData, HasTreeShape}
+use Rattle.nl_types.specs.RootChanges.{HasData, HasTreeShape, places}
 use Rattle.nl_files.specs.CheckpointRoots.{root_in}
 use Rattle.nl_ifile.specs.Inodes.{IsInodeFile, inode_at}
 
@@ -33,6 +33,11 @@ pub record HasShape (pages : Pages) (root : Root) : Type 0 where
   pub ends_full : kind_of root ≡ OfChain → (p v : ℕ) → place_at pages root 1 p ≡ Some v
       → (i : ℕ) × (p ≤ i / 127) × HasData pages root i
   pub tree_shape : kind_of root ≡ OfTree → HasTreeShape pages root
+
+-- the file has its shape, and no number stands at two places of it
+pub record StandsAlone (pages : Pages) (root : Root) : Type 0 where
+  pub shape : HasShape pages root
+  pub once : (a b : ℕ × ℕ) (v : ℕ) → places pages root a ≡ Some v → places pages root b ≡ Some v → a ≡ b
 
 -- All files have their shape, each block of the file of inodes is one of inodes and has one in use, and no number is met at
 -- two places.

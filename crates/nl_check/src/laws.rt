@@ -1,6 +1,6 @@
 //! What the conditions mean, as contracts of functions that do nothing.
 ghost use Rattle.nl_check.specs.InodeTrees.{FormedTreesAreMeant, MeantTreesAreFormed};
-ghost use Rattle.nl_check.specs.Laws.{ExactPeriodsAreExact, SoundCheckpointsMeetAll, SoundTreesAreMeant};
+ghost use Rattle.nl_check.specs.Laws.{ExactPeriodsAreExact, SoundCheckpointsAreShaped, SoundCheckpointsMeetAll, SoundTreesAreMeant};
 ghost use Rattle.nl_check.specs.Periods.{TellPeriods};
 
 /// Inodes stand for a tree exactly where they form one: each but the root's is named by one record, by its kind, and is
@@ -20,6 +20,11 @@ pub fn checked_checkpoints_are_sound()
 /// A sound checkpoint with exact lifetimes that stands for a tree meets all conditions.
 pub fn sound_checkpoints_meet_all()
     ensures { SoundCheckpointsMeetAll }
+{}
+
+/// A sound checkpoint with exact lifetimes has the shape, whatever size is told of it.
+pub fn sound_checkpoints_are_shaped()
+    ensures { SoundCheckpointsAreShaped }
 {}
 
 /// The numbers that were met in a checkpoint tell whether it meets just those whose periods have it.

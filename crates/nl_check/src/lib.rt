@@ -10,7 +10,9 @@ pub mod laws;
 mod meeting;
 mod periods;
 mod shape;
+mod sizes;
 mod trees;
 mod walking;
 
 pub use checks::first_fault;
+pub use sizes::size_of_blocks;

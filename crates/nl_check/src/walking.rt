@@ -83,7 +83,7 @@ fn end_of(page: &Page, position: u64) -> Option<u64>
     ensures some { IfSome result (λ count. (last : ℕ) × (s : ℕ) × IsLastNamed page.now last × (last ≡ suc s)
         × IsSome (slot s page.now) × (count ≡ 127 * position + last)) }
     ensures none { IfNone result ((last : ℕ) × IsLastNamed page.now last × (last ≡ 0)) }
-    ensures small { IfSome result (λ count. count < 2 ^ 60) }
+    ensures small { IfSome result (λ count. count < 2 ^ 50) }
 {
     let last = last_named(page);
     if last == 0 {
@@ -100,7 +100,7 @@ fn walk_chain<V: VRead>(store: &V, met: &mut [bool], first: VirtualNumber) -> Op
     requires few { length met.old < 2 ^ 40 }
     ensures yes { IfSome result (IsWalked (V.pages store.now) (AnyChain first) met.old met.new) }
     ensures no { IfNone result (CanBeMet (V.pages store.now) (AnyChain first) met.old → ⊥) }
-    ensures small { IfSome result (λ count. count < 2 ^ 60) }
+    ensures small { IfSome result (λ count. count < 2 ^ 50) }
     ensures count { length met.new ≡ length met.old }
 {
     if first.get() == 0 {
@@ -127,7 +127,7 @@ pub(crate) fn walk_file<V: VRead>(store: &V, met: &mut [bool], root: Root) -> Op
     requires few { length met.old < 2 ^ 40 }
     ensures yes { IfSome result (IsWalked (V.pages store.now) (root_of root) met.old met.new) }
     ensures no { IfNone result (CanBeMet (V.pages store.now) (root_of root) met.old → ⊥) }
-    ensures small { IfSome result (λ count. count < 2 ^ 60) }
+    ensures small { IfSome result (λ count. count < 2 ^ 50) }
     ensures count { length met.new ≡ length met.old }
 {
     match root {

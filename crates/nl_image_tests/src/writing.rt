@@ -1,11 +1,14 @@
 //! Images that are read, and written again.
 use crate::faults::SOUND;
 use crate::volume::{Change, TWO_BLOCKS, image_with};
+use nl_check::size_of_blocks;
 use nl_dat::Dat;
 use nl_device::MemDevice;
 use nl_image::{ReadImage, read_image, write_image};
+use nl_layout::CheckpointEntry;
 use nl_segwriter::LogSpace;
 use nl_types::VolError;
+use nl_vstore::Vstore;
 use std::alloc::Global;
 use std::test::Fail;
 
@@ -22,7 +25,33 @@ fn is_written_again(alloc: Global, image: &[u8]) -> Result<bool, VolError> {
     let space = LogSpace::restore(device, segments, logs)?;
     let mut store = Dat::restore(space, numbers)?;
     let again = write_image(alloc, &mut store, kept.as_slice())?;
-    Ok(again.as_slice() == image)
+    Ok(again.as_slice() == image && have_sizes(alloc, &store, kept.as_slice())?)
+}
+
+/// Whether the entries tell the sizes of the files of inodes.
+fn have_sizes<S: Vstore>(
+    alloc: Global,
+    store: &S,
+    kept: &[CheckpointEntry],
+) -> Result<bool, VolError> {
+    for entry in kept {
+        if size_told(alloc, store, entry)? != Some(entry.size) {
+            return Ok(false);
+        }
+    }
+    Ok(true)
+}
+
+/// The size of the blocks of the file of inodes.
+fn size_told<S: Vstore>(
+    alloc: Global,
+    store: &S,
+    entry: &CheckpointEntry,
+) -> Result<Option<u64>, VolError> {
+    match entry.root.root() {
+        Some(root) => size_of_blocks(alloc, store, store.capacity(), &root),
+        None => Ok(None),
+    }
 }
 
 fn is_kept(alloc: Global, more: &[Change], row: &[Change]) -> Result<bool, VolError> {
