@@ -7,3 +7,8 @@ pub mod LaterConditions
 pub mod ReadParts
 pub mod ImageBytes
 pub mod Restoring
+pub mod SpelledParts
+pub mod StoreNumbers
+pub mod StoreLogs
+pub mod StoreConditions
+pub mod StoreBlocks
