@@ -99,8 +99,8 @@ fn follow_directory<T: TreeRead>(
     turn: usize,
 ) -> Result<bool, VolError>
     requires { turn < length queue.old.items }
-    ensures yes { IfOk result (λ all. IsTrue all → (held : Holding) → T.holds tree.now held → IsHolding held
-        → IsNaming held queue.old.items turn 0 awaited.old
+    ensures yes { IfOk result (λ all. IsTrue all → (held : Holding)
+        → T.holds tree.now held → IsHolding held → IsNaming held queue.old.items turn 0 awaited.old
         → IsNaming held queue.new.items (turn + 1) 0 awaited.new) }
     ensures no { IfOk result (λ all. all ≡ false → (held : Holding) → T.holds tree.now held
         → IsHolding held → IsNaming held queue.old.items turn 0 awaited.old
@@ -122,11 +122,11 @@ fn follow_names<T: TreeRead>(
     tree: &T,
     awaited: &mut [Option<Kind>],
 ) -> Result<bool, VolError>
-    ensures yes { IfOk result (λ all. IsTrue all → (held : Holding) → T.holds tree.now held → IsHolding held
-        → IsNaming held (2 ∷ []) 0 0 awaited.old
+    ensures yes { IfOk result (λ all. IsTrue all → (held : Holding)
+        → T.holds tree.now held → IsHolding held → IsNaming held (2 ∷ []) 0 0 awaited.old
         → (queue : List ℕ) × IsNaming held queue (length queue) 0 awaited.new) }
-    ensures no { IfOk result (λ all. all ≡ false → (held : Holding) → T.holds tree.now held → IsHolding held
-        → IsNaming held (2 ∷ []) 0 0 awaited.old → FormTree (inodes_of_holding held) → ⊥) }
+    ensures no { IfOk result (λ all. all ≡ false → (held : Holding)
+        → T.holds tree.now held → IsHolding held → IsNaming held (2 ∷ []) 0 0 awaited.old → FormTree (inodes_of_holding held) → ⊥) }
     ensures refused { IfErr result (λ e. e ≡ VolError.Memory) }
 {
     let mut queue = Vec::new(alloc);

@@ -80,8 +80,8 @@ fn meet_node<'a, V: VRead>(
 /// How many indices lead up to the last data of a chain that ends with the node of a page. None where that names no data.
 fn end_of(page: &Page, position: u64) -> Option<u64>
     requires { position < 2 ^ 40 }
-    ensures some { IfSome result (λ count. (last : ℕ) × (s : ℕ) × IsLastNamed page.now last × (last ≡ suc s)
-        × IsSome (slot s page.now) × (count ≡ 127 * position + last)) }
+    ensures some { IfSome result (λ count. (last : ℕ) × (s : ℕ)
+        × IsLastNamed page.now last × (last ≡ suc s) × IsSome (slot s page.now) × (count ≡ 127 * position + last)) }
     ensures none { IfNone result ((last : ℕ) × IsLastNamed page.now last × (last ≡ 0)) }
     ensures small { IfSome result (λ count. count < 2 ^ 50) }
 {

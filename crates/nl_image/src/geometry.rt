@@ -19,8 +19,10 @@ pub(crate) struct Division {
 /// don't begin as an image does, and by `BadImage(2)` where no volume is divided so, no checkpoint is kept, or a byte outside
 /// the fields of the superblock isn't zero.
 pub fn geometry_of(bytes: &[u8]) -> Result<Geometry, VolError>
-    ensures found { IfOk result (λ g. (p : Parts) × MeetsFirst 2 bytes.now p × IsShapeOf g p.shape) }
-    ensures refused { IfErr result (λ e. (n : ℕ) × (e ≡ VolError.BadImage n) × FirstFails n bytes.now) }
+    ensures found { IfOk result (λ g.
+        (p : Parts) × MeetsFirst 2 bytes.now p × IsShapeOf g p.shape) }
+    ensures refused { IfErr result (λ e.
+        (n : ℕ) × (e ≡ VolError.BadImage n) × FirstFails n bytes.now) }
 {
     let division = division_of(bytes)?;
     Ok(division.geometry)
@@ -30,7 +32,8 @@ pub fn geometry_of(bytes: &[u8]) -> Result<Geometry, VolError>
 pub(crate) fn division_of(bytes: &[u8]) -> Result<Division, VolError>
     ensures begins { IfOk result (λ d. BeginsWith bytes.now d.superblock) }
     ensures shape { IfOk result (λ d. IsShapeOf d.geometry d.superblock) }
-    ensures refused { IfErr result (λ e. (n : ℕ) × (e ≡ VolError.BadImage n) × FirstFails n bytes.now) }
+    ensures refused { IfErr result (λ e.
+        (n : ℕ) × (e ≡ VolError.BadImage n) × FirstFails n bytes.now) }
 {
     if !Superblock::has_mark(bytes) {
         return Err(VolError::BadImage(1));
@@ -43,7 +46,8 @@ pub(crate) fn division_of(bytes: &[u8]) -> Result<Division, VolError>
 
 /// The superblock that the bytes spell, where they spell one, a volume may be divided so, and a checkpoint is kept.
 fn divided(bytes: &[u8]) -> Option<Division>
-    ensures found { IfSome result (λ d. IsDividedBy bytes.now d.superblock × IsShapeOf d.geometry d.superblock) }
+    ensures found { IfSome result (λ d.
+        IsDividedBy bytes.now d.superblock × IsShapeOf d.geometry d.superblock) }
     ensures only { (s : Superblock) → IsDividedBy bytes.now s → IfSome result (λ d. d.superblock ≡ s) }
     ensures some { (s : Superblock) → IsDividedBy bytes.now s → IsSome result }
 {

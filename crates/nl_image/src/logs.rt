@@ -27,7 +27,8 @@ pub(crate) fn read_logs(
     requires numbered { AreNumbered tables.now.numbers tables.now.segments
         (parts_read sections.now tables.now) }
     ensures found { IfOk result (HaveLogs sections.now tables.now) }
-    ensures meets { IfOk result (λ _. HasLogs sections.now.image.now (parts_read sections.now tables.now)) }
+    ensures meets { IfOk result (λ _.
+        HasLogs sections.now.image.now (parts_read sections.now tables.now)) }
     ensures refused { IfErr result (IsRefusal sections.now.image.now) }
 {
     // So the logs hold one payload alone.

@@ -63,7 +63,8 @@ fn read_checked(
     requires numbered { AreNumbered tables.now.numbers tables.now.segments
         (parts_read sections.now tables.now) }
     ensures found { IfOk result (HaveLogs sections.now tables.now) }
-    ensures image { IfOk result (λ _. IsImage sections.now.image.now (parts_read sections.now tables.now)) }
+    ensures image { IfOk result (λ _.
+        IsImage sections.now.image.now (parts_read sections.now tables.now)) }
     ensures refused { IfErr result (IsRefusal sections.now.image.now) }
 {
     let logs = read_logs(alloc, sections, tables)?;

@@ -33,7 +33,8 @@ pub(crate) struct Sections<'a> {
 pub(crate) fn sections_of<'a>(image: &'a [u8]) -> Result<Sections<'a>, VolError>
     ensures found { IfOk result IsSectioned }
     ensures image { IfOk result (λ x. x.image.now ≡ image.now) }
-    ensures refused { IfErr result (λ e. (n : ℕ) × (e ≡ VolError.BadImage n) × FirstFails n image.now) }
+    ensures refused { IfErr result (λ e.
+        (n : ℕ) × (e ≡ VolError.BadImage n) × FirstFails n image.now) }
 {
     let division = division_of(image)?;
     match split(image, division) {

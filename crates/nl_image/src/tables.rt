@@ -23,7 +23,8 @@ pub(crate) struct Tables {
 /// The tables of an image. Refused by `BadImage` 4 to 6 by the first condition that fails, and by `Memory`.
 pub(crate) fn read_tables(alloc: Global, sections: &Sections<'_>) -> Result<Tables, VolError>
     requires { IsSectioned sections.now }
-    ensures found { IfOk result (λ tables. HaveTables sections.now.image.now (parts_read sections.now tables)) }
+    ensures found { IfOk result (λ tables.
+        HaveTables sections.now.image.now (parts_read sections.now tables)) }
     ensures numbered { IfOk result (λ tables. AreNumbered tables.numbers tables.segments
         (parts_read sections.now tables)) }
     ensures refused { IfErr result (IsRefusal sections.now.image.now) }
