@@ -17,19 +17,19 @@ four a b c d = meant (a ∷ b ∷ c ∷ d ∷ [])
 
 -- ---- numbers
 
-no_words : meant [] ≡ run (divided 64 64 None)
+no_words : meant [] ≡ run (divided 64 64 None None None)
 unfolding clap_on_literals
 no_words = refl
 
-segments_alone : two (codes "--segments") (codes "8") ≡ run (divided 8 64 None)
+segments_alone : two (codes "--segments") (codes "8") ≡ run (divided 8 64 None None None)
 unfolding clap_on_literals
 segments_alone = refl
 
-blocks_first : two (codes "--blocks=0004") (codes "--segments=0008") ≡ run (divided 8 4 None)
+blocks_first : two (codes "--blocks=0004") (codes "--segments=0008") ≡ run (divided 8 4 None None None)
 unfolding clap_on_literals
 blocks_first = refl
 
-greatest_number : two (codes "--segments") (codes "4294967295") ≡ run (divided 4294967295 64 None)
+greatest_number : two (codes "--segments") (codes "4294967295") ≡ run (divided 4294967295 64 None None None)
 unfolding clap_on_literals
 greatest_number = refl
 
@@ -73,11 +73,11 @@ letter_of_an_option = refl
 
 -- ---- a configuration
 
-configuration_alone : two (codes "--conf") (codes "a.conf") ≡ run (divided 64 64 (Some (codes "a.conf")))
+configuration_alone : two (codes "--conf") (codes "a.conf") ≡ run (divided 64 64 (Some (codes "a.conf")) None None)
 unfolding clap_on_literals
 configuration_alone = refl
 
-configuration_before_a_number : four (codes "--conf=/a b") (codes "--blocks") (codes "8") (codes "--segments=9") ≡ run (divided 9 8 (Some (codes "/a b")))
+configuration_before_a_number : four (codes "--conf=/a b") (codes "--blocks") (codes "8") (codes "--segments=9") ≡ run (divided 9 8 (Some (codes "/a b")) None None)
 unfolding clap_on_literals
 configuration_before_a_number = refl
 
@@ -92,6 +92,48 @@ configuration_missing = refl
 option_for_a_configuration : two (codes "--conf") (codes "--blocks=8") ≡ misread
 unfolding clap_on_literals
 option_for_a_configuration = refl
+
+-- ---- images
+
+image_opened : two (codes "--open") (codes "a.img") ≡ run (divided 64 64 None (Some (codes "a.img")) None)
+unfolding clap_on_literals
+image_opened = refl
+
+image_saved : one (codes "--save=/a b") ≡ run (divided 64 64 None None (Some (codes "/a b")))
+unfolding clap_on_literals
+image_saved = refl
+
+image_saved_before_it_is_opened : four (codes "--save") (codes "b") (codes "--conf=c") (codes "--open=a") ≡ run (divided 64 64 (Some (codes "c")) (Some (codes "a")) (Some (codes "b")))
+unfolding clap_on_literals
+image_saved_before_it_is_opened = refl
+
+numbers_with_an_image : two (codes "--open=a") (codes "--segments=8") ≡ run (divided 8 64 None (Some (codes "a")) None)
+unfolding clap_on_literals
+numbers_with_an_image = refl
+
+no_number_with_an_image : two (codes "--open=a") (codes "--blocks=x") ≡ misread
+unfolding clap_on_literals
+no_number_with_an_image = refl
+
+image_opened_twice : two (codes "--open=a") (codes "--open=b") ≡ misread
+unfolding clap_on_literals
+image_opened_twice = refl
+
+image_saved_twice : two (codes "--save=a") (codes "--save=a") ≡ misread
+unfolding clap_on_literals
+image_saved_twice = refl
+
+image_to_open_missing : one (codes "--open") ≡ misread
+unfolding clap_on_literals
+image_to_open_missing = refl
+
+place_to_save_missing : one (codes "--save") ≡ misread
+unfolding clap_on_literals
+place_to_save_missing = refl
+
+option_for_an_image : two (codes "--open") (codes "--save=b") ≡ misread
+unfolding clap_on_literals
+option_for_an_image = refl
 
 -- ---- texts
 

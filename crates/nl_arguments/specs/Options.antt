@@ -20,8 +20,9 @@ bare = record {
 
 abbrev pub program : App
 program =
-    with_rule (with_rule (with_rule bare
-    (value_rule (codes "segments"))) (value_rule (codes "blocks"))) (value_rule (codes "conf"))
+    with_rule (with_rule (with_rule (with_rule (with_rule bare
+    (value_rule (codes "segments"))) (value_rule (codes "blocks"))) (value_rule (codes "conf")))
+    (value_rule (codes "open"))) (value_rule (codes "save"))
 
 -- the number in the word, and 64 without one
 abbrev pub number_or_64 : Option Text → Option ℕ
@@ -37,8 +38,16 @@ geometry_given rows =
     option_and_then (λ segments. option_map (λ blocks. (segments, blocks)) (number_given (codes "blocks") rows))
     (number_given (codes "segments") rows)
 
-abbrev pub divided : ℕ → ℕ → Option Text → Arguments
-divided segments blocks configuration = record { segments = segments; blocks = blocks; configuration = configuration }
+abbrev pub divided : ℕ → ℕ → (configuration opened saved : Option Text) → Arguments
+divided segments blocks configuration opened saved = record {
+  segments = segments;
+  blocks = blocks;
+  configuration = configuration;
+  «open» = opened;
+  save = saved;
+}
 
 abbrev pub arguments_given : List Row → Option Arguments
-arguments_given rows = option_map (λ g. divided g.0 g.1 (first_of (codes "conf") rows)) (geometry_given rows)
+arguments_given rows =
+    option_map (λ g. divided g.0 g.1 (first_of (codes "conf") rows) (first_of (codes "open") rows) (first_of (codes "save") rows))
+    (geometry_given rows)

@@ -1,5 +1,6 @@
 //! The words that the program is started with, behind its own name: how the volume's device is
-//! divided and where the cleaner's configuration stands, or what a person asks to be told.
+//! divided and where the cleaner's configuration and the volume's images stand, or what a person
+//! asks to be told.
 #![tactic(auto)]
 
 mod arguments;

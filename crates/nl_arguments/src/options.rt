@@ -45,7 +45,7 @@ fn bare<'a>(alloc: Global) -> Command<'a>
     ensures { app_of result ≡ bare }
 {
     Command::new(alloc, "nlvol")
-        .about("Runs a script on a new volume with continuous snapshots, kept in memory")
+        .about("Runs a script on a volume with continuous snapshots, kept in memory")
         .version("0.1.0")
         .override_usage(USAGE)
         .after_help(SCRIPT_COMMANDS)
@@ -59,9 +59,13 @@ fn program<'a>(alloc: Global) -> Result<Command<'a>, AllocError>
     let segments = "Segments of the device [default: 64]";
     let blocks = "Blocks in each segment [default: 64]";
     let conf = "Cleaner's configuration, in a part of the language of nilfs_cleanerd.conf(5)";
+    let open = "Image of the volume, in place of a new one";
+    let save = "Where the image of the volume is saved in the end";
     let command = with_value(alloc, bare(alloc), "segments", "S", segments)?;
     let command = with_value(alloc, command, "blocks", "B", blocks)?;
-    with_value(alloc, command, "conf", "FILE", conf)
+    let command = with_value(alloc, command, "conf", "FILE", conf)?;
+    let command = with_value(alloc, command, "open", "FILE", open)?;
+    with_value(alloc, command, "save", "FILE", save)
 }
 
 fn matches<'a>(alloc: Global, words: &'a [&'a str]) -> Result<ArgMatches<'a>, clap::Error>
@@ -156,10 +160,14 @@ fn arguments_given(alloc: Global, matches: &ArgMatches<'_>) -> Result<Arguments,
 {
     let (segments, blocks) = geometry_given(alloc, matches)?;
     let configuration = word_given(alloc, matches, "conf")?;
+    let open = word_given(alloc, matches, "open")?;
+    let save = word_given(alloc, matches, "save")?;
     Ok(Arguments {
         segments,
         blocks,
         configuration,
+        open,
+        save,
     })
 }
 

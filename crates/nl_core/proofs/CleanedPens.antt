@@ -76,7 +76,7 @@ same_lists : (old new : Layout) → new.lists ≡ old.lists → new ≡ layout_o
 same_lists old new lists = ap (λ (ls : Lists). layout_of ls new.store) lists
 
 -- where numbers stand for the same, and the lists stay
-same-content : (old new : Layout) → IsPen old → new.lists ≡ old.lists → IsStore new.store
+pub same-content : (old new : Layout) → IsPen old → new.lists ≡ old.lists → IsStore new.store
     → content_in new.store ≡ content_in old.store → StaysPen old new
 same-content old new pen lists is_store same =
     subst (λ (l : Layout). StaysPen old l) (sym (same_lists old new lists)) (stays-content old new.store same pen is_store)
@@ -86,7 +86,7 @@ moves_keep_pens segment checkpoint stamp numbers old new pen lists is_store move
     same-content old new pen lists is_store moved.content
 
 -- the same numbers have the same content
-content-of : (old new : Store) → new.numbers ≡ old.numbers → content_in new ≡ content_in old
+pub content-of : (old new : Store) → new.numbers ≡ old.numbers → content_in new ≡ content_in old
 content-of old new same = ap (λ (numbers : List (Option Numbered)). λ (v : ℕ). option_map entry_now (get_or numbers v None)) same
 
 pub refused-numbers : (checkpoint stamp : ℕ) (numbers : List ℕ) (e : VolError) (old new : Store)
@@ -105,7 +105,7 @@ refused_moves_keep_pens checkpoint stamp numbers e old new pen lists is_store re
 -- ---- numbers that are taken out
 
 -- each kept checkpoint holds something
-all-held : (l : Layout) (kept : List Checkpoint) (copies : List (ℕ × Copy)) → AllZip (CopyMeans (pages_in l)) kept copies
+pub all-held : (l : Layout) (kept : List Checkpoint) (copies : List (ℕ × Copy)) → AllZip (CopyMeans (pages_in l)) kept copies
     → All (λ (c : Checkpoint). (held : Holding) × HoldsTree (pages_in l) (root_of (root_in c)) held) kept
 all-held l [] copies means i d low = absurd (omega (arith, low))
 all-held l (c ∷ kept) [] means i d low = absurd means

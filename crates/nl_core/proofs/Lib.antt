@@ -36,3 +36,13 @@ pub mod Telling
 pub mod NotedEvents
 pub mod GivenBack
 pub mod ShownStores
+pub mod CheckedCopies
+pub mod Opened
+pub mod Opening
+pub mod RestoredStores
+pub mod OpenedImages
+pub mod BlockPages
+pub mod RestoredImages
+pub mod Closed
+pub mod PenImages
+pub mod OneImage

@@ -50,7 +50,7 @@ copy-one pages c copy other m n =
     λ i. (number i, record { tree = tree i; mode = mode i; stamp = stamp i })
 
 -- and a list of them one list of copies
-copies-one : (pages : Pages) (kept : List Checkpoint) (copies others : List (ℕ × Copy))
+pub copies-one : (pages : Pages) (kept : List Checkpoint) (copies others : List (ℕ × Copy))
     → AllZip (CopyMeans pages) kept copies → AllZip (CopyMeans pages) kept others → copies ≡ others
 copies-one pages [] [] [] m n = refl
 copies-one pages [] (x ∷ xs) others m n = absurd m

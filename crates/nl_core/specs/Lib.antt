@@ -15,3 +15,6 @@ pub mod Laws
 pub mod LedgerEvents
 pub mod CleanedPens
 pub mod CleanerViews
+pub mod Opened
+pub mod Closed
+pub mod PenImages

@@ -4,8 +4,15 @@ ghost use Rattle.nl_core.specs.Commits.{MountsStillShow};
 ghost use Rattle.nl_core.specs.Layout.{unshared};
 ghost use Rattle.nl_core.specs.LedgerEvents.{EventsAreLedgerEvents, RunsAreLedgerEvents, RunsKeepNumbers};
 ghost use Rattle.nl_core.specs.Notes.{CommitsTellAll, PensAreImages, shared};
+ghost use Rattle.nl_core.specs.PenImages.{ImagesMeanOneWorld, PenImagesAreImages, PensHaveOneImage};
+ghost use Rattle.nl_core.specs.Opened.{CheckedCheckpointsHaveInodes, OpenedImagesArePens};
 ghost use Rattle.nl_core.specs.Laws.{MeansOneWorld, EventsLeadOn, RunsLeadOn, RefusalsKeepPens, RefusalsHaveReasons, NoSpaceIsSaid, NoSpaceIsTrue, MemoryIsTaken, RangesGoOneByOne, ExpiriesGoOneByOne, SettlingsAreAlike};
 
+use nl_check::laws::{checked_checkpoints_are_sound, sound_checkpoints_meet_all};
+use nl_image::laws::{
+    images_have_one_list_of_parts, store_images_are_images, store_images_tell_the_store,
+};
+use nl_types::inode_laws::limited_inodes_mean_trees;
 use nl_types::laws::{covered_numbers_stay, numbers_end_once};
 
 /// A pen means one world at most.
@@ -111,3 +118,39 @@ pub fn commits_tell_all()
 pub fn mounts_still_show()
     ensures { MountsStillShow }
 {}
+
+/// What is opened of an image that meets all conditions is a pen: it is sound, and means a world.
+pub fn opened_images_are_pens()
+    ensures { OpenedImagesArePens }
+{
+    checked_checkpoints_are_sound();
+    limited_inodes_mean_trees();
+}
+
+/// A checkpoint that was checked has an inode in use, the root's: so its paths beside the root are one fewer.
+pub fn checked_checkpoints_have_inodes()
+    ensures { CheckedCheckpointsHaveInodes }
+{
+    checked_checkpoints_are_sound();
+    limited_inodes_mean_trees();
+}
+
+/// The image of a pen meets all conditions of one, and a pen has no other image.
+pub fn pens_have_one_image()
+    ensures image { PenImagesAreImages }
+    ensures one { PensHaveOneImage }
+{
+    sound_checkpoints_meet_all();
+    store_images_are_images();
+    store_images_tell_the_store();
+}
+
+/// Pens of one image, of which nothing is dirty or mounted, mean one world, but for how many mount numbers were given.
+pub fn pens_of_one_image_mean_one_world()
+    ensures { ImagesMeanOneWorld }
+{
+    sound_checkpoints_meet_all();
+    store_images_are_images();
+    store_images_tell_the_store();
+    images_have_one_list_of_parts();
+}

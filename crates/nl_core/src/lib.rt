@@ -3,9 +3,11 @@
 
 mod cleaner_views;
 mod cleaning;
+mod closing;
 mod commit;
 mod draft;
 mod expiry;
+mod image;
 pub mod laws;
 mod mounts;
 mod noting;
@@ -13,6 +15,8 @@ mod pen;
 mod tables;
 
 pub use commit::{Commit, NewPage, ShownPage, Whole, Written};
+pub use image::open;
 pub use mounts::{Mounted, Mounts};
 pub use nl_cpfile::Cpstat;
+pub use nl_image::geometry_of;
 pub use pen::{Pen, run};

@@ -1,5 +1,5 @@
 //! The pen: what the writer of a volume holds, the device included.
-ghost use Rattle.std.specs.Prelude.{◌≡◌, ◌↔◌, ◌⊎◌, ◌<◌, ◌≤◌, ◌+◌, ◌-◌, ◌∷◌, [], IfErr, IfOk, IsErr, IsErrOf, OnErr, IsOkUnless, length};
+ghost use Rattle.std.specs.Prelude.{◌≡◌, ◌↔◌, ◌⊎◌, ◌<◌, ◌≤◌, ◌+◌, ◌-◌, ◌∷◌, [], false, IfErr, IfOk, IsErr, IsErrOf, OnErr, IsOkUnless, length};
 ghost use Rattle.std.specs.Option.{option_map};
 ghost use Rattle.nl_types.specs.Runs.{Run};
 ghost use Rattle.nl_types.specs.Rows.{kept_row};
@@ -20,8 +20,10 @@ ghost use Rattle.nl_core.specs.Volume.{boundary_in, without_mounts};
 
 use crate::cleaner_views::{needed_in, payload_count};
 use crate::cleaning::{empty, move_out};
+use crate::closing::image_of;
 use crate::commit::Commit;
 use crate::draft::write_draft;
+use crate::laws::opened_images_are_pens;
 use crate::noting::{note, note_checkpoint, note_mounted, note_retirement, note_where_gone, whole};
 use crate::tables::Tables;
 use nl_cpfile::Cpstat;
@@ -102,6 +104,9 @@ fn checkpoint<V: Vstore>(
 
 impl<D: Device> Pen<D> {
     ghost use Rattle.nl_core.specs.Layout.{IsFormatted, Layout};
+    ghost use Rattle.nl_core.specs.Opened.{IsOpened};
+    ghost use Rattle.nl_vstore.specs.Stores.{KeepsStored};
+    ghost use Rattle.nl_core.specs.PenImages.{CanBeClosed, IsPenImage};
 
     /// A volume on a device of this geometry, with checkpoint 1 of the root alone, which it writes. What the device holds is
     /// no part of it.
@@ -124,6 +129,20 @@ impl<D: Device> Pen<D> {
             store,
             tables,
         })
+    }
+
+    /// The volume of an image that meets all conditions: the store of its blocks, and the tables over its checkpoints.
+    pub(crate) fn opened(alloc: Global, store: Dat<LogSpace<D>>, tables: Tables) -> Self
+        requires { IsOpened (layout_of tables.lists store.store) }
+        ensures layout { result ≡ layout_of tables.lists store.store }
+        ensures pen { IsPen result }
+    {
+        opened_images_are_pens();
+        Pen {
+            alloc,
+            store,
+            tables,
+        }
     }
 
     /// Every pen means a world, and is sound. This says so to its callers, and does nothing.
@@ -432,6 +451,21 @@ impl<D: Device> Pen<D> {
         ensures world { (w : World) → MeansWorld self.old w → MeansWorld self.new (record w { mounts = [] }) }
     {
         self.tables.give_all_back();
+    }
+
+    /// The image of a volume of which nothing is dirty and nothing mounted. It reads each used block once from the device, in
+    /// order. Refused by `Memory`, and by `Fault` where the device failed.
+    pub fn close(&mut self) -> Result<Vec<u8>, VolError>
+        requires { CanBeClosed self.old.lists }
+        ensures image { IfOk result (λ bytes. IsPenImage self.old bytes.items) }
+        ensures lists { self.new.lists ≡ self.old.lists }
+        ensures same { KeepsStored self.old.store self.new.store }
+        ensures counted { self.old.store.failures ≤ self.new.store.failures }
+        ensures fault { IsErrOf result VolError.Fault
+            → self.old.store.failures < self.new.store.failures }
+        ensures refused { IfErr result (λ e. (e ≡ VolError.Fault) ⊎ (e ≡ VolError.Memory)) }
+    {
+        image_of(self.alloc, &self.tables, &mut self.store)
     }
 }
 

@@ -1,6 +1,6 @@
 //! What the pen holds in memory: the current tree, kept checkpoints and mounts. Their blocks are in a store, under virtual
 //! block numbers.
-ghost use Rattle.std.specs.Prelude.{◌≡◌, ◌<◌, [], ◌∷◌, IfErr, IfOk, OnErr, OnOk, IsOkUnless, length};
+ghost use Rattle.std.specs.Prelude.{◌≡◌, ◌<◌, ◌≤◌, [], ◌∷◌, IfErr, IfOk, OnErr, OnOk, IsOkUnless, length};
 ghost use Rattle.nl_types.specs.Calls as calls;
 ghost use Rattle.nl_types.specs.Roots.{Pages};
 ghost use Rattle.nl_types.specs.Rows.{kept_row};
@@ -52,13 +52,14 @@ impl Model for Tables {
 
 impl Tables {
     ghost use Rattle.nl_types.specs.declared.event.Event.TheVariants.{Apply, Read, ChangeMode, Remove, RemoveRange, Expire, Mount, Unmount, MountRead, Listing};
-    ghost use Rattle.nl_cpfile.specs.Tables.{ComesNext};
+    ghost use Rattle.nl_cpfile.specs.Tables.{ComesNext, IsTable};
     ghost use Rattle.nl_core.specs.Changes.{HasChanged};
     ghost use Rattle.nl_core.specs.Draft.{CanBeDrafted, HasFewNames, IsDraftRefusal, IsNextDraft};
     ghost use Rattle.nl_core.specs.Means.{FollowsOver, Means};
     ghost use Rattle.nl_core.specs.Tables.{blank_lists};
     ghost use Rattle.nl_core.specs.Volume.{IsTakenOut, IsExpired, IsTakenOutRange, is_held_at, latest_alone, latest_root, published, with_change, with_checkpoint_mode, with_mount, without_mount, without_mounts};
     ghost use Rattle.nl_core.specs.Notes.{has_other_mode};
+    ghost use Rattle.nl_core.specs.Opened.{IsAtRest, opened_lists};
     ghost use Rattle.nl_core.specs.Shown.{MountsRise, whole_of};
 
     /// The tables before a volume is formatted: the root alone, over a checkpoint 0 without files. Refused by `Memory` alone.
@@ -79,6 +80,24 @@ impl Tables {
             checkpoints: Checkpoints::new(alloc, blank),
             mounts: Mounts::new(alloc),
         })
+    }
+
+    /// The tables of a volume that was just opened, over the checkpoints that its image keeps: nothing differs from the latest
+    /// one, there is no mount, and no mount number was given. Takes no memory.
+    pub fn opened(alloc: Global, checkpoints: Checkpoints) -> Tables
+        requires { 1 ≤ checkpoints.table.latest.inodes }
+        ensures lists { result.lists ≡ opened_lists checkpoints.table }
+        ensures rest { IsAtRest result.lists }
+        ensures table { IsTable result.lists.table }
+    {
+        // Of its inodes one is the root's, which no name leads to.
+        let names = checkpoints.latest().inodes - 1;
+        Tables {
+            current: CurrentTree::new(alloc, names),
+            dirty: false,
+            checkpoints,
+            mounts: Mounts::new(alloc),
+        }
     }
 
     pub fn is_dirty(&self) -> bool

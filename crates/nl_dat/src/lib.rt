@@ -6,6 +6,7 @@ mod dat;
 mod entries;
 mod entry_bytes;
 mod images;
+pub mod laws;
 mod moving;
 mod reclaim;
 

@@ -12,3 +12,5 @@ pub mod StoreNumbers
 pub mod StoreLogs
 pub mod StoreConditions
 pub mod StoreBlocks
+pub mod OneParts
+pub mod OneImage

@@ -17,7 +17,7 @@ use Rattle.nl_cpfile.specs.declared.checkpoint.Checkpoint.{Checkpoint}
 use Rattle.nl_check.specs.Conditions.{AreExact, AreShaped, AreTrees}
 use Rattle.nl_check.specs.Judging.{told}
 use Rattle.nl_image.specs.Conditions.{HasCheckpoints, HasItsLength, HasLogs, HasNumbers, HasPeriods, HasSegments, HasShapes, HasTrees, HasZeros, IsDivided, IsImage, blocks_told, pages_told, periods_told}
-use Rattle.nl_image.specs.Laws.{AreKeptOver, StoreImagesAreImages}
+use Rattle.nl_image.specs.Laws.{AreKeptOver, StoreImagesAreImages, StoreImagesTellPages}
 use Rattle.nl_image.specs.Parts.{Parts, total_of}
 use Rattle.nl_image.specs.StoreImages.{IsImageOf, IsSizedEntry, parts_of}
 use Rattle.nl_image.proofs.SpelledParts.{HaveCounts, all-long, blocks-told, head-told, kept-told, numbers-told, padding-told, segments-told}
@@ -32,7 +32,7 @@ marked bytes s long is = record {
   mark = sym (take-take 8 1024 bytes (omega arith)) ∙ ap (take 8) is;
 }
 
-module _ (store : Store) (kept : List Checkpoint) (bytes : List ℕ) (is : IsStore store) (image : IsImageOf store kept bytes) (over : AreKeptOver store image.entries) where
+module _ (store : Store) (kept : List Checkpoint) (bytes : List ℕ) (is : IsStore store) (image : IsImageOf store kept bytes) where
   abbrev parts : Parts
   parts = parts_of image.shape store image.entries
 
@@ -68,13 +68,6 @@ module _ (store : Store) (kept : List Checkpoint) (bytes : List ℕ) (is : IsSto
   limits : IsGeometry image.shape.segments image.shape.blocks
   limits = rw (image.are.shape.segments, image.are.shape.blocks) is.limits.geometry
 
-  is-divided : IsDivided bytes parts
-  is-divided = record {
-    spelled = record { fits = image.fit.shape; spelling = head-is };
-    geometry = limits;
-    some = subst (λ (n : ℕ). 1 ≤ n) kept-count over.some;
-  }
-
   has-segments : HasSegments bytes parts
   has-segments = record {
     geometry = record {
@@ -97,22 +90,6 @@ module _ (store : Store) (kept : List Checkpoint) (bytes : List ℕ) (is : IsSto
     };
   }
 
-  has-checkpoints : HasCheckpoints bytes parts
-  has-checkpoints = record {
-    spelled = kept-told parts image.blocks bytes counts image.spelled;
-    fit = image.fit.kept;
-    rise = over.rise;
-  }
-
-  has-numbers : HasNumbers bytes parts
-  has-numbers = record {
-    spelled = numbers-told parts image.blocks bytes counts image.spelled;
-    fit = image.fit.numbers;
-    count = numbers-long store is;
-    entries = λ v e at. record { period = over.periods v e at; used = are-used store is v e at };
-    apart = own-blocks store is;
-  }
-
   -- ---- the blocks
 
   has-logs : HasLogs bytes parts
@@ -128,7 +105,7 @@ module _ (store : Store) (kept : List Checkpoint) (bytes : List ℕ) (is : IsSto
     blocks = subst (IsRestZero store.segments) (sym blocks-are) (rest-zero (space_in store) image.blocks image.blocks_are);
   }
 
-  -- ---- the trees
+  -- ---- the pages and periods of numbers
 
   same-pages : pages_told bytes parts ≡ roots.pages_of (content_in store)
   same-pages = pages-are store is (blocks_told bytes parts) used-are
@@ -136,22 +113,70 @@ module _ (store : Store) (kept : List Checkpoint) (bytes : List ℕ) (is : IsSto
   same-periods : periods_told parts ≡ periods_of (content_in store)
   same-periods = periods-are store is
 
-  has-shapes : HasShapes bytes parts
-  has-shapes = subst (λ (pages : Pages). AreShaped pages (map told image.entries)) (sym same-pages) over.shaped
+  -- ---- all conditions, where the checkpoints are kept over the store
 
-  has-trees : HasTrees bytes parts
-  has-trees = subst (λ (pages : Pages). AreTrees pages (map told image.entries)) (sym same-pages) over.trees
+  module _ (over : AreKeptOver store image.entries) where
+    is-divided : IsDivided bytes parts
+    is-divided = record {
+      spelled = record { fits = image.fit.shape; spelling = head-is };
+      geometry = limits;
+      some = subst (λ (n : ℕ). 1 ≤ n) kept-count over.some;
+    }
 
-  has-periods : HasPeriods bytes parts
-  has-periods =
-      subst (λ (pages : Pages). AreExact pages (periods_told parts) (map told image.entries)) (sym same-pages)
-      (subst (λ (periods : Periods). AreExact (roots.pages_of (content_in store)) periods (map told image.entries)) (sym same-periods) over.exact)
+    has-checkpoints : HasCheckpoints bytes parts
+    has-checkpoints = record {
+      spelled = kept-told parts image.blocks bytes counts image.spelled;
+      fit = image.fit.kept;
+      rise = over.rise;
+    }
 
-  meets-all : IsImage bytes parts
-  meets-all = (
-    marked bytes image.shape (omega (arith, has-length)) head-is,
-    (is-divided, (has-length, (has-segments, (has-checkpoints, (has-numbers, (has-logs, (has-shapes, (has-trees, (has-periods, (has-zeros, tt)))))))))),
-  )
+    has-numbers : HasNumbers bytes parts
+    has-numbers = record {
+      spelled = numbers-told parts image.blocks bytes counts image.spelled;
+      fit = image.fit.numbers;
+      count = numbers-long store is;
+      entries = λ v e at. record { period = over.periods v e at; used = are-used store is v e at };
+      apart = own-blocks store is;
+    }
+
+    has-shapes : HasShapes bytes parts
+    has-shapes = subst (λ (pages : Pages). AreShaped pages (map told image.entries)) (sym same-pages) over.shaped
+
+    has-trees : HasTrees bytes parts
+    has-trees = subst (λ (pages : Pages). AreTrees pages (map told image.entries)) (sym same-pages) over.trees
+
+    has-periods : HasPeriods bytes parts
+    has-periods =
+        subst (λ (pages : Pages). AreExact pages (periods_told parts) (map told image.entries)) (sym same-pages)
+        (subst (λ (periods : Periods). AreExact (roots.pages_of (content_in store)) periods (map told image.entries)) (sym same-periods) over.exact)
+
+    meets-all : IsImage bytes parts
+    meets-all = (
+      marked bytes image.shape (omega (arith, has-length)) head-is,
+      (
+        is-divided,
+        (
+          has-length,
+          (
+            has-segments,
+            (
+              has-checkpoints,
+              (
+                has-numbers,
+                (
+                  has-logs,
+                  (has-shapes, (has-trees, (has-periods, (has-zeros, tt)))),
+                ),
+              ),
+            ),
+          ),
+        ),
+      ),
+    )
+
+-- an image tells the pages under its store's numbers, whatever checkpoints are kept
+pub store_images_tell_pages : StoreImagesTellPages
+store_images_tell_pages store kept bytes is image = same-pages store kept bytes is image
 
 pub store_images_are_images : StoreImagesAreImages
 store_images_are_images store kept bytes is image over = meets-all store kept bytes is image over

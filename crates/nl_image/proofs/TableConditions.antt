@@ -32,7 +32,7 @@ sufile-of g h bytes others s t is segments blocks same_bytes same = subst (IsSuf
   have_logs = is.have_logs;
 }))
 
-same-parts : (p q : Parts) → p.shape ≡ q.shape → p.segments ≡ q.segments → p.numbers ≡ q.numbers → p.kept ≡ q.kept → p ≡ q
+pub same-parts : (p q : Parts) → p.shape ≡ q.shape → p.segments ≡ q.segments → p.numbers ≡ q.numbers → p.kept ≡ q.kept → p ≡ q
 same-parts p q shape segments numbers kept =
     ap (λ (s : Superblock). of s p.segments p.numbers p.kept) shape ∙ ap (λ (s : Segments). of q.shape s p.numbers p.kept) segments ∙ ap (λ (n : List (Option DatEntry)). of q.shape q.segments n p.kept) numbers ∙ ap (of q.shape q.segments q.numbers) kept
   where

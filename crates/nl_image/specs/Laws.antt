@@ -11,7 +11,7 @@ use Rattle.nl_cpfile.specs.declared.checkpoint.Checkpoint.{Checkpoint}
 use Rattle.nl_cpfile.specs.Images.{AreRising}
 use Rattle.nl_check.specs.Conditions.{AreExact, AreShaped, AreTrees}
 use Rattle.nl_check.specs.Judging.{told}
-use Rattle.nl_image.specs.Conditions.{FirstFails, IsImage, condition_count, number_of_last}
+use Rattle.nl_image.specs.Conditions.{FirstFails, IsImage, condition_count, number_of_last, pages_told}
 use Rattle.nl_image.specs.Parts.{Parts, blocks_in, image_bytes}
 use Rattle.nl_image.specs.StoreImages.{IsImageOf, parts_of}
 
@@ -27,7 +27,24 @@ OneFailsFirst = (n m : ℕ) (bytes : List ℕ) → FirstFails n bytes → FirstF
 abbrev pub ImagesAreSpelled : Type 0
 ImagesAreSpelled = (bytes : List ℕ) (p : Parts) → IsImage bytes p → bytes ≡ image_bytes p (blocks_in p.shape bytes)
 
+-- an image has no other parts
+abbrev pub ImagesHaveOneParts : Type 0
+ImagesHaveOneParts = (bytes : List ℕ) (p q : Parts) → IsImage bytes p → IsImage bytes q → p ≡ q
+
 -- ---- images of stores
+
+-- A store and the checkpoints kept over it have one image, where the roots of those have their shape: where a root names a number
+-- without a page, its file has no one size.
+abbrev pub StoresHaveOneImage : Type 0
+StoresHaveOneImage =
+    (store : Store) (kept : List Checkpoint) (a b : List ℕ) → (image : IsImageOf store kept a)
+    → AreShaped (pages_of (content_in store)) (map told image.entries) → IsImageOf store kept b → a ≡ b
+
+-- which tells the pages under its numbers
+abbrev pub StoreImagesTellPages : Type 0
+StoreImagesTellPages =
+    (store : Store) (kept : List Checkpoint) (bytes : List ℕ) → IsStore store → (image : IsImageOf store kept bytes)
+    → pages_told bytes (parts_of image.shape store image.entries) ≡ pages_of (content_in store)
 
 -- What a store alone doesn't tell of the checkpoints kept over it: there are some, they rise, all numbers have periods up to
 -- the latest one, and the store has their trees.

@@ -1,5 +1,8 @@
 //! What the definitions of images mean, as contracts of functions that do nothing.
-ghost use Rattle.nl_image.specs.Laws.{ImagesAreSpelled, ImagesHaveNoFault, OneFailsFirst, StoreImagesAreImages};
+ghost use Rattle.nl_image.specs.Laws.{ImagesAreSpelled, ImagesHaveNoFault, ImagesHaveOneParts, OneFailsFirst, StoreImagesAreImages, StoreImagesTellPages, StoresHaveOneImage};
+
+use nl_dat::laws::bytes_spell_one_entry;
+use nl_layout::laws::bytes_spell_one_value;
 
 /// An image fails no condition first, and other bytes fail one first at most.
 pub fn one_condition_fails_first()
@@ -10,6 +13,20 @@ pub fn one_condition_fails_first()
 /// An image is the bytes of its parts and of its blocks, and no others.
 pub fn images_are_spelled()
     ensures { ImagesAreSpelled }
+{}
+
+/// An image has one list of parts.
+pub fn images_have_one_list_of_parts()
+    ensures { ImagesHaveOneParts }
+{
+    bytes_spell_one_value();
+    bytes_spell_one_entry();
+}
+
+/// A store, and checkpoints kept over it, have one image, which tells the pages under the store's numbers.
+pub fn store_images_tell_the_store()
+    ensures one { StoresHaveOneImage }
+    ensures pages { StoreImagesTellPages }
 {}
 
 /// The image of a store, and of checkpoints kept over it, is one.

@@ -13,6 +13,8 @@ mod judging;
 #[cfg(test)]
 mod logs;
 #[cfg(test)]
+mod opening;
+#[cfg(test)]
 mod tables;
 #[cfg(test)]
 mod volume;

@@ -123,8 +123,10 @@ fn space_of(
 {
     let restored = Restored::read(alloc, &table, blocks)?;
     let device = MemDevice::new(alloc, geometry)?;
-    let space = LogSpace::restore(device, table, restored)?;
-    Ok(space)
+    match LogSpace::restore(device, table, restored) {
+        Ok(space) => Ok(space),
+        Err(_) => Err(VolError::Fault),
+    }
 }
 
 /// Whether the space of an image dumps its blocks again.

@@ -22,7 +22,9 @@ fn is_written_again(alloc: Global, image: &[u8]) -> Result<bool, VolError> {
         logs,
     } = read_image(alloc, image)?;
     let device = MemDevice::new(alloc, geometry)?;
-    let space = LogSpace::restore(device, segments, logs)?;
+    let Ok(space) = LogSpace::restore(device, segments, logs) else {
+        return Err(VolError::Fault);
+    };
     let mut store = Dat::restore(space, numbers)?;
     let again = write_image(alloc, &mut store, kept.as_slice())?;
     Ok(again.as_slice() == image && have_sizes(alloc, &store, kept.as_slice())?)

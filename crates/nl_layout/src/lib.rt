@@ -4,6 +4,7 @@
 
 mod checkpoint_entry;
 mod inode;
+pub mod laws;
 mod level;
 mod node;
 mod root;

@@ -9,3 +9,4 @@ pub mod Lines
 pub mod Scripts
 pub mod Turns
 pub mod Configurations
+pub mod Files

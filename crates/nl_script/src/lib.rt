@@ -3,6 +3,7 @@
 
 mod configurations;
 mod events;
+mod files;
 mod lines;
 mod readers;
 mod reading;
@@ -13,8 +14,9 @@ mod status;
 mod telling;
 mod volume;
 
-pub use configurations::{ConfigurationFault, configuration};
+pub use configurations::configuration;
 pub use events::{events_of, is_quiet};
+pub use files::{FileFault, read_file, write_file};
 pub use lines::{LineResult, run_line};
 pub use readers::{Readers, is_bad_mount, reply_of};
 pub use rounds::RoundSum;

@@ -1,5 +1,5 @@
 //! Space as logs on a device.
-ghost use Rattle.std.specs.Prelude.{◌≡◌, ◌+◌, ◌*◌, ◌<◌, ◌≤◌, ◌⊎◌, OnOk, OnErr, IfOk, IsOkUnless, Some, ℕ, length};
+ghost use Rattle.std.specs.Prelude.{◌≡◌, ◌+◌, ◌*◌, ◌<◌, ◌≤◌, ◌⊎◌, OnOk, OnErr, IfErr, IfOk, IsOkUnless, Some, ℕ, length};
 ghost use Rattle.std.specs.List.{AllByRecursion};
 ghost use Rattle.nl_types.specs.Segments.{HaveLogs, StaysUsed, active_place, info_of, lowest_clean, total_blocks, with_active, with_error};
 ghost use Rattle.nl_types.specs.Placing.{IsNextLog, AreNextLogs, first_block, with_log, with_logs};
@@ -56,9 +56,9 @@ impl<D: Device> LogSpace<D> {
         })
     }
 
-    /// The space of an image on a device of its geometry, which gets the pages, in the order of their numbers. Refused by
-    /// `Fault` where the device failed; it is dropped then. It takes no memory.
-    pub fn restore(device: D, table: SegTable, restored: Restored) -> Result<Self, VolError>
+    /// The space of an image on a device of its geometry, which gets the pages, in the order of their numbers. Where the device
+    /// failed, it is given back. It takes no memory.
+    pub fn restore(device: D, table: SegTable, restored: Restored) -> Result<Self, D>
         requires shape { IsShapeOf (D.shape device) table }
         requires pages { length restored.pages ≡ total_blocks table }
         requires logs { HoldLogs table (page_in restored.pages) restored.payload }
@@ -67,7 +67,7 @@ impl<D: Device> LogSpace<D> {
             (⟦<LogSpace<D> as Space>⟧.content s)) }
         ensures failures { IfOk result (λ s.
             D.failure_count device ≤ ⟦<LogSpace<D> as Space>⟧.failure_count s) }
-        ensures refused { IsOkUnless result VolError.Fault }
+        ensures refused { IfErr result (λ d. D.failure_count device < D.failure_count d) }
     {
         let Restored { pages, payload } = restored;
         // Tells that the table is within the limits.
@@ -79,7 +79,7 @@ impl<D: Device> LogSpace<D> {
                 table,
                 payload,
             }),
-            Err(Fault) => Err(VolError::Fault),
+            Err(Fault) => Err(device),
         }
     }
 

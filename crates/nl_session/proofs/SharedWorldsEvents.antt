@@ -15,7 +15,7 @@ use Rattle.nl_types.specs.declared.event.Event.TheVariants.{Mount, Unmount}
 use Rattle.nl_types.specs.Calls.{IsUnlessMemory, and_then, reply_to}
 use Rattle.nl_types.specs.Laws.{GivesBack}
 use Rattle.nl_types.specs.Worlds.{Copy, Reply, World, copy_at, formatted, mount_read}
-use Rattle.nl_core.specs.Layout.{DoesIn, Layout}
+use Rattle.nl_core.specs.Layout.{DoesIn, Layout, MeansWorld}
 use Rattle.nl_core.specs.Notes.{shared}
 use Rattle.nl_cleaner.specs.Job.{JobView, next_by, next_cleaning}
 use Rattle.nl_cleaner.specs.declared.job.Stage.{Stage}
@@ -29,7 +29,8 @@ use Rattle.nl_publish.specs.Locks.{MountRan, Ran, listed, mount_reply}
 use Rattle.nl_publish.specs.Locks as locks
 use Rattle.nl_publish.specs.Mounts.{Claim}
 use Rattle.nl_mounts.specs.Sharing.{MountsCopy}
-use Rattle.nl_session.specs.SharedLaws.{Came, ComesBeside, DifferAll, IsBeside, IsDoneBeside, IsMountIn, IsReadBeside, IsSteppedBeside, MountLost, NewVolumesAreBeside, Next, NoNext, SharedEventsFollowWorlds, SharedStepsFollowWorlds, Stayed, number_of}
+use Rattle.nl_session.specs.SharedLaws.{Came, ComesBeside, DifferAll, IsBeside, IsDoneBeside, IsMountIn, IsReadBeside, IsSteppedBeside, KeptVolumesAreBeside, MountLost, NewVolumesAreBeside, Next, NoNext, SharedEventsFollowWorlds, SharedStepsFollowWorlds, Stayed, number_of}
+use Rattle.nl_session.specs.Sessions.{IsUnused}
 use Rattle.nl_session.specs.SharedVolumes.{IsHeldTold, IsRoundOver, MountComes, ReadComes, Sharing, left_by, mount_of, without_mount}
 use Rattle.nl_session.specs.SharedVolumes as volume
 use Rattle.nl_script.specs.FileReads.{IsToldThrough}
@@ -259,12 +260,18 @@ pub steps_follow : Laws → SharedStepsFollowWorlds
 steps_follow laws w old new job next reply before (inl round, same) = over w old new job next reply before round same
 steps_follow laws w old new job next reply before (inr ran, same) = stepped laws w old new job next reply before ran same
 
--- ---- new volumes
+-- ---- volumes as sessions begin with them
+
+unused_beside : (w : World) (s : Sharing) → IsUnused s → MeansWorld s.held.layout w → IsBeside w s
+unused_beside w s unused means = record {
+  means = means;
+  mounts = subst (AllByRecursion (IsMountIn w)) (sym unused.mounts) tt;
+  numbers = differ_none s.held.lost (map number_of s.mounts) unused.lost
+      (subst (λ (claims : List Claim). DifferAll (map number_of claims)) (sym unused.mounts) tt);
+}
 
 pub new_beside : NewVolumesAreBeside
-new_beside geometry s new = record {
-  means = new.pen.means;
-  mounts = subst (AllByRecursion (IsMountIn (formatted 0))) (sym new.mounts) tt;
-  numbers = differ_none s.held.lost (map number_of s.mounts) new.lost
-      (subst (λ (claims : List Claim). DifferAll (map number_of claims)) (sym new.mounts) tt);
-}
+new_beside geometry s new = unused_beside (formatted 0) s new.unused new.pen.means
+
+pub kept_beside : KeptVolumesAreBeside
+kept_beside image w s kept means = unused_beside w s kept.unused means

@@ -2,3 +2,5 @@ pub mod Sessions
 pub mod SharedVolumes
 pub mod Laws
 pub mod SharedLaws
+pub mod Beginnings
+pub mod Endings

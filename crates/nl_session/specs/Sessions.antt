@@ -1,13 +1,6 @@
 -- What a session of the program does.
 use Rattle.std.specs.Prelude.{◌≡◌, ◌⊎◌, ◌<◌, ◌≤◌, ℕ, List, [], length, string_bytes, Option, None, Result, Ok, Err}
 use Rattle.std.specs.Io.KnownBytes.{Appends}
-use Rattle.nl_types.specs.Limits.{IsGeometry}
-use Rattle.nl_types.specs.Worlds.{formatted}
-use Rattle.nl_types.specs.declared.error.VolError.{VolError}
-use Rattle.nl_types.specs.declared.error.VolError.TheVariants.{BadGeometry, Fault, Memory}
-use Rattle.nl_types.specs.declared.geometry.Geometry.{Geometry}
-use Rattle.nl_device.specs.Pages.{DevicePages}
-use Rattle.nl_core.specs.Layout.{IsFormatted, Layout, MeansWorld}
 use Rattle.nl_arguments.specs.Meanings.{Asks}
 use Rattle.nl_arguments.specs.Statuses.{fault_status}
 use Rattle.nl_arguments.specs.declared.arguments.Arguments.{Arguments}
@@ -15,27 +8,27 @@ use Rattle.nl_arguments.specs.declared.asked.Asked.{Asked}
 use Rattle.nl_arguments.specs.declared.asked.Asked.TheVariants.{Run, Help, Version}
 use Rattle.nl_arguments.specs.declared.asked.ArgumentsFault.{ArgumentsFault}
 use Rattle.nl_texts.specs.Texts.{Text}
-use Rattle.nl_texts.specs.declared.refusals.StartStep.{StartStep}
-use Rattle.nl_texts.specs.declared.refusals.StartStep.TheVariants as step
 use Rattle.nl_protect.specs.declared.config.Config.{Config}
 use Rattle.nl_script.specs.Configurations.{ConfigurationRead, IsConfigured}
 use Rattle.nl_script.specs.Scripts.{IsScriptDone, exit_status}
 use Rattle.nl_script.specs.declared.scripts.Done.{Done}
+use Rattle.nl_core.specs.Layout.{Layout, layout_of}
+use Rattle.nl_core.specs.Volume.{without_mounts}
+use Rattle.nl_session.specs.Beginnings.{Beginning, IsBegunBy, IsPenOf, IsStartFault}
+use Rattle.nl_session.specs.Endings.{Ends}
 use Rattle.nl_session.specs.SharedVolumes.{Sharing, shared_habits}
+use Rattle.nl_session.specs.declared.starting.StartFault.{StartFault}
 
--- the pen has this geometry and checkpoint 1 of the root alone, of moment 0
-pub record IsNewPen (geometry : Geometry) (l : Layout) : Type 0 where
-  pub pages : DevicePages
-  pub failures : ℕ
-  pub is_formatted : IsFormatted geometry pages failures 0 l
-  pub means : MeansWorld l (formatted 0)
-
--- so the volume is, all of which is published, and nothing is mounted
-pub record IsNewVolume (geometry : Geometry) (s : Sharing) : Type 0 where
-  pub pen : IsNewPen geometry s.held.layout
+-- all of the volume is published, and nothing was mounted
+pub record IsUnused (s : Sharing) : Type 0 where
   pub published : s.held.published ≡ s.held.history
   pub lost : s.held.lost ≡ None
   pub mounts : s.mounts ≡ []
+
+-- a volume as a session begins with it
+pub record IsVolumeOf (beginning : Beginning) (s : Sharing) : Type 0 where
+  pub pen : IsPenOf beginning s.held.layout
+  pub unused : IsUnused s
 
 -- the streams of a session
 pub record Streams (O E : Type 0) : Type 0 where
@@ -61,50 +54,45 @@ streams input contents output printed errors told = record {
 }
 
 -- a script is done on a volume, from moment 0 on, with rounds by this configuration, and nothing but its texts is printed
-pub record IsScriptRun {O : Type 0} (config : Config) (input : Option Text) (contents : O → Option Text)
-    (output printed : O) (old : Sharing) (done : Done) : Type 0 where
-  pub new : Sharing
-  pub does : IsScriptDone shared_habits config 0 old new done input contents output printed
+abbrev pub IsScriptRun : {O : Type 0} → Config → Option Text → (contents : O → Option Text)
+    → (output printed : O) → (old new : Sharing) → Done → Type 0
+IsScriptRun config input contents output printed old new done =
+    IsScriptDone shared_habits config 0 old new done input contents output printed
 
-pub record RunsOnNew {O : Type 0} (geometry : Geometry) (config : Config) (input : Option Text)
+-- the volume's pen, without mounts
+abbrev pub pen_left : Sharing → Layout
+pen_left s = layout_of (without_mounts s.held.layout.lists) s.held.layout.store
+
+-- so on a volume of this pen, and this one is left
+pub record RunsOn {O : Type 0} (pen left : Layout) (config : Config) (input : Option Text)
     (contents : O → Option Text) (output printed : O) (done : Done) : Type 0 where
-  pub volume : Sharing
-  pub is_new : IsNewVolume geometry volume
-  pub runs : IsScriptRun config input contents output printed volume done
+  pub old : Sharing
+  pub unused : IsUnused old
+  pub of_pen : old.held.layout ≡ pen
+  pub new : Sharing
+  pub runs : IsScriptRun config input contents output printed old new done
+  pub left_is : left ≡ pen_left new
 
--- The script is done on a new volume of what was asked for, which is within the limits. No word is said of errors, unless a
--- stream failed.
+-- The script is done on the volume that was asked for, which is saved in the end where that was asked for.
 pub record IsRunOf {O E : Type 0} (arguments : Arguments) (config : Config) (s : Streams O E) (status : ℕ) : Type 0 where
-  pub geometry : Geometry
-  pub segments : geometry.segments ≡ arguments.segments
-  pub blocks : geometry.blocks ≡ arguments.blocks
-  pub within : IsGeometry arguments.segments arguments.blocks
+  pub pen : Layout
+  pub begun : IsBegunBy arguments pen
+  pub left : Layout
   pub done : Done
-  pub runs : RunsOnNew geometry config s.input s.contents s.output s.printed done
-  pub silent : done.failed ≡ None → s.told ≡ s.errors
-  pub status_is : status ≡ exit_status done
-
-abbrev pub IsMemoryOrFault : VolError → Type 0
-IsMemoryOrFault error = (error ≡ Memory) ⊎ (error ≡ Fault)
-
--- why a step is refused behind the configuration and before the first line: the geometry is judged, and then the volume is made
-abbrev pub IsStartRefused : Arguments → StartStep → VolError → Type 0
-IsStartRefused arguments step.Configuration error = ⊥
-IsStartRefused arguments step.Geometry error = (IsGeometry arguments.segments arguments.blocks → ⊥) × (error ≡ BadGeometry)
-IsStartRefused arguments step.Start error = IsGeometry arguments.segments arguments.blocks × IsMemoryOrFault error
+  pub runs : RunsOn pen left config s.input s.contents s.output s.printed done
+  pub ends : Ends arguments.save left done s.errors s.told status
 
 -- no line is run: the output is as it was
 abbrev pub RunsNoLine : {O E : Type 0} → Streams O E → Type 0
 RunsNoLine s = s.printed ≡ s.output
 
 pub record IsRefusedBefore {O E : Type 0} (arguments : Arguments) (s : Streams O E) (status : ℕ) : Type 0 where
-  pub step : StartStep
-  pub error : VolError
-  pub is_refused : IsStartRefused arguments step error
+  pub fault : StartFault
+  pub is_fault : IsStartFault arguments fault
   pub no_line : RunsNoLine s
   pub status_is : status ≡ 1
 
--- the script is done, or a step before its first line is refused
+-- the script is done, or there is a fault before its first line
 abbrev pub RunsWith : {O E : Type 0} → Arguments → Config → Streams O E → (status : ℕ) → Type 0
 RunsWith arguments config s status = IsRunOf arguments config s status ⊎ IsRefusedBefore arguments s status
 

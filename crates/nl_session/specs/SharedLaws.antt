@@ -18,7 +18,8 @@ use Rattle.nl_cleaner.specs.Job.{JobView, next_event}
 use Rattle.nl_publish.specs.Locks.{all_answered, given_back, listed, mount_reply}
 use Rattle.nl_publish.specs.Mounts.{Claim}
 use Rattle.nl_publish.specs.Told.{ShowsCopy}
-use Rattle.nl_session.specs.Sessions.{IsNewVolume}
+use Rattle.nl_session.specs.Beginnings.{Kept, New}
+use Rattle.nl_session.specs.Sessions.{IsVolumeOf}
 use Rattle.nl_session.specs.SharedVolumes.{Sharing, shared_does, shared_steps}
 
 -- ---- a volume beside a world
@@ -92,4 +93,9 @@ SharedStepsFollowWorlds = (w : World) (old new : Sharing) (job next : JobView) (
 
 -- a new volume is beside a new world
 abbrev pub NewVolumesAreBeside : Type 0
-NewVolumesAreBeside = (geometry : Geometry) (s : Sharing) → IsNewVolume geometry s → IsBeside (formatted 0) s
+NewVolumesAreBeside = (geometry : Geometry) (s : Sharing) → IsVolumeOf (New geometry) s → IsBeside (formatted 0) s
+
+-- and that of an image beside the world that its pen means
+abbrev pub KeptVolumesAreBeside : Type 0
+KeptVolumesAreBeside = (image : List ℕ) (w : World) (s : Sharing) → IsVolumeOf (Kept image) s → MeansWorld s.held.layout w
+    → IsBeside w s

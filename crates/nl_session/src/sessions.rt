@@ -1,20 +1,20 @@
-//! A session of the program: the words behind its name, and then a script on a new volume in memory.
+//! A session of the program: the words behind its name, and then a script on a volume in memory.
 ghost use Rattle.std.specs.Prelude.{◌≡◌, map, option_map, IfErr, IfOk, IsOkUnless, List, None, OnErr, OnOk, Option, ℕ};
 ghost use Rattle.std.specs.Io.KnownBytes.{Appends};
 ghost use Rattle.nl_arguments.specs.Statuses.{fault_status};
-ghost use Rattle.nl_script.specs.Scripts.{exit_status};
-ghost use Rattle.nl_session.specs.Sessions.{IsMemoryOrFault, IsNewPen, IsNewVolume, IsScriptRun, IsSession, Prints, RunsOnNew, RunsOrRefuses, RunsWith, streams};
+ghost use Rattle.nl_session.specs.Sessions.{IsScriptRun, IsSession, Prints, RunsOn, RunsOrRefuses, RunsWith, streams};
 
+use crate::ending::{end, tell_failure};
 use crate::shared::SharedVolume;
+use crate::starting::{MOMENT, StartFault, pen_for};
 use nl_arguments::{Arguments, ArgumentsFault, Asked, read};
 use nl_core::Pen;
 use nl_device::MemDevice;
-use nl_mounts::Port;
 use nl_protect::Config;
 use nl_publish::{Opened, Volumes};
-use nl_script::{ConfigurationFault, Done, Readers, configuration, script};
-use nl_texts::{StandardStream, StartStep, start_text, stream_text, unread_text};
-use nl_types::{Geometry, Items, VolError};
+use nl_script::{Done, FileFault, Readers, configuration, script};
+use nl_texts::{StandardStream, StartStep, start_text, unread_text};
+use nl_types::{Items, VolError};
 use std::alloc::Global;
 use std::io;
 use std::io::{BufReader, Read, Write};
@@ -22,33 +22,6 @@ use std::marker::Brand;
 use std::rt::Files;
 use std::sync::Wait;
 use std::thread::Threads;
-
-/// When the volume is formatted, and the moment of the first lines, in whole seconds.
-const MOMENT: u64 = 0;
-
-/// A new volume in memory.
-fn new_pen(alloc: Global, geometry: Geometry) -> Result<Pen<MemDevice>, VolError>
-    ensures made { IfOk result (IsNewPen geometry) }
-    ensures refused { IfErr result IsMemoryOrFault }
-{
-    let device = MemDevice::new(alloc, geometry)?;
-    Pen::format(alloc, device, geometry, MOMENT)
-}
-
-/// A new volume in memory, and the ports that share it.
-fn new_volume<'a, J: Volumes, R: Wait>(
-    rt: &'a R,
-    alloc: Global,
-    geometry: Geometry,
-    opened: Opened,
-) -> Result<(SharedVolume<'a, MemDevice, J, R>, Vec<Port<J>>), VolError>
-    requires id { opened.seen.book ≡ J.book opened.id }
-    ensures made { IfOk result (λ made. IsNewVolume geometry made.0) }
-    ensures refused { IfErr result IsMemoryOrFault }
-{
-    let pen = new_pen(alloc, geometry)?;
-    SharedVolume::new(rt, alloc, pen, opened)
-}
 
 /// Makes the input's buffer, and runs the script. Refused by `Memory`, no line was run.
 fn run_on<J: Volumes + Send + Sync, R: Threads + Wait + Sync, I: Read + Drop, O: Write>(
@@ -61,7 +34,7 @@ fn run_on<J: Volumes + Send + Sync, R: Threads + Wait + Sync, I: Read + Drop, O:
 ) -> Result<Done, VolError>
     ensures run { IfOk result (λ done.
         IsScriptRun config.now (I.remaining input) O.contents
-        output.old output.new volume.old done) }
+        output.old output.new volume.old volume.new done) }
     ensures refused { IsOkUnless result VolError.Memory }
     ensures unprinted { OnErr result (output.new ≡ output.old) }
 {
@@ -69,28 +42,29 @@ fn run_on<J: Volumes + Send + Sync, R: Threads + Wait + Sync, I: Read + Drop, O:
     Ok(script(alloc, volume, readers, config, MOMENT, input, output))
 }
 
-/// Runs the script on a new volume, and ends that. Refused, no line was run.
+/// Runs the script on a volume, and gives its pen back, without mounts. Refused, no line was run.
 fn run_script<J: Volumes + Send + Sync, R: Threads + Wait + Sync, I: Read + Drop, O: Write>(
     rt: &R,
     alloc: Global,
-    geometry: Geometry,
+    pen: Pen<MemDevice>,
     opened: Opened,
     config: &Config,
     input: I,
     output: &mut O,
-) -> Result<Done, VolError>
+) -> Result<(Done, Pen<MemDevice>), VolError>
     requires id { opened.seen.book ≡ J.book opened.id }
-    ensures run { IfOk result (λ done.
-        RunsOnNew geometry config.now (I.remaining input) O.contents output.old output.new done) }
-    ensures refused { IfErr result IsMemoryOrFault }
+    ensures run { IfOk result (λ left.
+        RunsOn pen left.1 config.now (I.remaining input) O.contents output.old output.new left.0) }
+    ensures refused { IsOkUnless result VolError.Memory }
     ensures unprinted { OnErr result (output.new ≡ output.old) }
 {
-    let (mut volume, ports) = new_volume::<J, _>(rt, alloc, geometry, opened)?;
+    let (mut volume, ports) = SharedVolume::<_, J, _>::new(rt, alloc, pen, opened)?;
     let mut readers = Readers { rt, ports };
     let done = run_on(alloc, &mut volume, &mut readers, config, input, output);
     // The mounts that the script left are taken out.
-    let _pen = volume.end();
-    done
+    let pen = volume.end();
+    let done = done?;
+    Ok((done, pen))
 }
 
 /// Tells of a refusal before the first line, and answers the status for it.
@@ -100,12 +74,6 @@ fn refused<E: Write>(step: StartStep, error: VolError, errors: &mut E) -> u8
     // Where this can't be told either, the status still says that something was refused.
     let _ = start_text(step, error, errors);
     1
-}
-
-/// Tells that a standard stream failed.
-fn tell_failure<E: Write>(stream: StandardStream, errors: &mut E) {
-    // Where this can't be told either, the status still says it.
-    let _ = stream_text(stream, errors);
 }
 
 /// Writes a text, and hands it on.
@@ -141,34 +109,38 @@ fn misread<E: Write>(fault: &ArgumentsFault, errors: &mut E) -> u8
 }
 
 /// Tells why there is no configuration, and answers the status for it.
-fn unconfigured<E: Write>(path: &[u8], fault: ConfigurationFault, errors: &mut E) -> u8
+fn unconfigured<E: Write>(path: &[u8], fault: FileFault, errors: &mut E) -> u8
     ensures { result ≡ 1 }
 {
     match fault {
-        ConfigurationFault::Unread => {
+        FileFault::Unread => {
             // Where this can't be told either, the status still says that something was refused.
             let _ = unread_text(path, errors);
             1
         }
-        ConfigurationFault::Refused(VolError::Memory) => {
+        FileFault::Refused(VolError::Memory) => {
             refused(StartStep::Start, VolError::Memory, errors)
         }
-        ConfigurationFault::Refused(error) => refused(StartStep::Configuration, error, errors),
+        FileFault::Refused(error) => refused(StartStep::Configuration, error, errors),
     }
 }
 
-/// Tells which stream failed, if one did, and answers the status of a script.
-fn ended<E: Write>(done: Done, errors: &mut E) -> u8
-    ensures status { result ≡ exit_status done }
-    ensures silent { done.failed ≡ None → errors.new ≡ errors.old }
+/// Tells why there is no volume, and answers the status for it.
+fn unstarted<E: Write>(arguments: &Arguments, fault: StartFault, errors: &mut E) -> u8
+    ensures { result ≡ 1 }
 {
-    if let Some(stream) = done.failed {
-        tell_failure(stream, errors);
+    match fault {
+        StartFault::Unread => {
+            let path = arguments.open.as_ref().map(Items::as_slice);
+            // Where this can't be told either, the status still says that something was refused.
+            let _ = unread_text(path.unwrap_or_default(), errors);
+            1
+        }
+        StartFault::Refused(step, error) => refused(step, error, errors),
     }
-    done.exit_status()
 }
 
-fn run_with<R: AllocGlobal + Threads + Wait + Sync, I: Read + Drop, O: Write, E: Write>(
+fn run_with<R: AllocGlobal + Files + Threads + Wait + Sync, I: Read + Drop, O: Write, E: Write>(
     rt: &R,
     arguments: &Arguments,
     config: &Config,
@@ -179,14 +151,14 @@ fn run_with<R: AllocGlobal + Threads + Wait + Sync, I: Read + Drop, O: Write, E:
     ensures { RunsWith arguments.now config.now (streams (I.remaining input) O.contents
         output.old output.new errors.old errors.new) result }
 {
-    let geometry = match arguments.geometry() {
-        Ok(geometry) => geometry,
-        Err(error) => return refused(StartStep::Geometry, error, errors),
+    let pen = match pen_for(rt, arguments) {
+        Ok(pen) => pen,
+        Err(fault) => return unstarted(arguments, fault, errors),
     };
     // The session has one shared volume.
     let opened = Opened::new(1);
-    match run_script::<Brand, _, _, _>(rt, rt.alloc(), geometry, opened, config, input, output) {
-        Ok(done) => ended(done, errors),
+    match run_script::<Brand, _, _, _>(rt, rt.alloc(), pen, opened, config, input, output) {
+        Ok((done, pen)) => end(rt, arguments, done, pen, errors),
         Err(error) => refused(StartStep::Start, error, errors),
     }
 }
@@ -215,10 +187,12 @@ fn run<R: AllocGlobal + Files + Threads + Wait + Sync, I: Read + Drop, O: Write,
     }
 }
 
-/// What the words behind the program's name ask for: a script on a new volume in memory, or a text about the program.
+/// What the words behind the program's name ask for: a script on a volume in memory, or a text about the program. The volume
+/// is new, or that of an image in a file, and its image is saved in the end where that is asked for.
 /// Answers the exit status: 2 where the words or a line were no command, else 1 where anything was refused, or a stream or
 /// the configuration's file failed, else 0. What the lines answer goes to the output, which is best buffered: it is flushed
-/// behind each line. Only why no line was run, and that a stream failed, goes to `errors`.
+/// behind each line. Only why no
+/// line was run, that a stream failed, and why the volume isn't saved goes to `errors`.
 pub fn session<R: AllocGlobal + Files + Threads + Wait + Sync, I: Read + Drop, O: Write, E: Write>(
     rt: &R,
     words: &[&str],

@@ -1,5 +1,5 @@
 //! A shared volume beside a pen: on both the rows of events come out as is due, and what is told of both in the end is the
-//! same. Mounts of the shared one are read through a port.
+//! same, and their images are. Mounts of the shared one are read through a port.
 ghost use Rattle.std.specs.Prelude.{◌≡◌};
 
 use crate::checkpoints::on_checkpoints;
@@ -148,6 +148,27 @@ fn same_numbers<D: Device>(one: &Pen<D>, other: &Pen<D>, shape: Shape) -> bool {
     true
 }
 
+// ---- images
+
+/// The image of a pen, empty where something is dirty or mounted.
+fn image_of<D: Device>(alloc: Global, pen: &mut Pen<D>) -> Result<Vec<u8>, VolError> {
+    if pen.is_dirty() || pen.mount_count() > 0 {
+        return Ok(Vec::new(alloc));
+    }
+    pen.close()
+}
+
+/// Whether both pens close to the same bytes.
+fn close_alike<D: Device>(
+    alloc: Global,
+    one: &mut Pen<D>,
+    other: &mut Pen<D>,
+) -> Result<bool, VolError> {
+    let image = image_of(alloc, one)?;
+    let other = image_of(alloc, other)?;
+    Ok(image.as_slice() == other.as_slice())
+}
+
 /// Whether the same is told of both pens, and none has a mount.
 fn same_views<D: Device>(alloc: Global, one: &Pen<D>, other: &Pen<D>, shape: Shape) -> bool {
     same_checkpoints(one, other)
@@ -203,20 +224,22 @@ fn shared_alone<J: Volumes, R: Wait>(
     }
 }
 
-/// Ends a shared volume with its mounts, and compares its pen with another one.
+/// Ends a shared volume with its mounts, and compares its pen and its image with another one.
 fn same_in_the_end<D: Device, J: Volumes, R: Wait>(
     alloc: Global,
-    pen: &Pen<D>,
+    pen: &mut Pen<D>,
     ported: Ported<'_, D, J, R>,
     shape: Shape,
-) -> bool {
+) -> Result<bool, VolError> {
     let Ported {
         rt,
         shared,
         port: _port,
         mounts,
     } = ported;
-    same_views(alloc, pen, &shared.end(rt, mounts), shape)
+    let mut other = shared.end(rt, mounts);
+    let same = same_views(alloc, pen, &other, shape);
+    Ok(same && close_alike(alloc, pen, &mut other)?)
 }
 
 /// Whether a pen and a shared volume with one port reply alike to calls, and the same is told of both in the end.
@@ -245,7 +268,7 @@ fn is_twin<J: Volumes, R: Wait>(
             };
             let alike = reply_alike(alloc, pen, &mut ported, calls);
             let same = same_in_the_end(alloc, pen, ported, shape);
-            alike.map(|alike| alike && same)
+            Ok(alike? && same?)
         }
     }
 }

@@ -6,7 +6,7 @@ use Rattle.nl_types.specs.declared.error.VolError.{VolError}
 use Rattle.nl_types.specs.declared.error.VolError.TheVariants.{BadImage, BadConfig}
 use Rattle.nl_texts.specs.Texts.{Text}
 use Rattle.nl_texts.specs.declared.refusals.StartStep.{StartStep}
-use Rattle.nl_texts.specs.declared.refusals.StartStep.TheVariants.{Configuration, Geometry, Start}
+use Rattle.nl_texts.specs.declared.refusals.StartStep.TheVariants.{Configuration, Geometry, Image, Start}
 
 -- the line of the script, and which of its numbers, where one alone was refused
 abbrev pub place_text : (line : ℕ) → Option ℕ → Text
@@ -36,6 +36,7 @@ usage_text line = decimal line ++ (codes ": usage" ++ (10 ∷ []))
 
 abbrev pub step_text : StartStep → Text
 step_text Configuration = codes "conf: "
+step_text Image = codes "image: "
 step_text Geometry = codes "geometry: "
 step_text Start = codes "start: "
 
@@ -43,5 +44,12 @@ step_text Start = codes "start: "
 abbrev pub start_text : StartStep → VolError → Text
 start_text step error = step_text step ++ (kind_text error ++ (detail_text (detail_of error) ++ (10 ∷ [])))
 
+-- the image of the volume isn't saved in the end
+abbrev pub save_text : VolError → Text
+save_text error = codes "save: " ++ (kind_text error ++ (detail_text (detail_of error) ++ (10 ∷ [])))
+
 abbrev pub unread_text : (path : List ℕ) → Text
 unread_text path = path ++ (codes ": cannot be read" ++ (10 ∷ []))
+
+abbrev pub unwritten_text : (path : List ℕ) → Text
+unwritten_text path = path ++ (codes ": cannot be written" ++ (10 ∷ []))

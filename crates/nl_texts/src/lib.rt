@@ -14,6 +14,8 @@ mod streams;
 pub use answers::{clean_line, content_line, name_line, name_lines, number_line, stat_text};
 pub use checkpoints::{cp_header, cp_line, cp_lines};
 pub use columns::{left, right};
-pub use refusals::{StartStep, refusal_text, start_text, unread_text, usage_text};
+pub use refusals::{
+    StartStep, refusal_text, save_text, start_text, unread_text, unwritten_text, usage_text,
+};
 pub use segments::{listed_seg_line, seg_header, seg_line, seg_lines};
 pub use streams::{StandardStream, stream_text};

@@ -1,7 +1,7 @@
 //! Refusals, and lines that are no command.
 ghost use Rattle.std.specs.Prelude.{◌≡◌, OnOk};
 ghost use Rattle.std.specs.Io.KnownBytes.{Appends};
-ghost use Rattle.nl_texts.specs.RefusalTexts.{place_text, kind_text, detail_of, detail_text, refusal_text, start_text, step_text, unread_text, usage_text};
+ghost use Rattle.nl_texts.specs.RefusalTexts.{place_text, kind_text, detail_of, detail_text, refusal_text, save_text, start_text, step_text, unread_text, unwritten_text, usage_text};
 
 use nl_types::VolError;
 use std::io;
@@ -72,6 +72,8 @@ pub fn usage_text<W: Write>(line: u64, out: &mut W) -> io::Result<()>
 pub enum StartStep {
     /// It reads the configuration.
     Configuration,
+    /// It judges the image of the volume.
+    Image,
     /// It judges the geometry.
     Geometry,
     /// It makes the volume, and takes the memory for it and for its streams.
@@ -83,6 +85,7 @@ fn step(step: StartStep) -> &'static [u8]
 {
     match step {
         StartStep::Configuration => b"conf: ",
+        StartStep::Image => b"image: ",
         StartStep::Geometry => b"geometry: ",
         StartStep::Start => b"start: ",
     }
@@ -99,6 +102,16 @@ pub fn start_text<W: Write>(what: StartStep, error: VolError, out: &mut W) -> io
     out.write_all(b"\n")
 }
 
+/// Writes that the image of the volume isn't saved in the end.
+pub fn save_text<W: Write>(error: VolError, out: &mut W) -> io::Result<()>
+    ensures { OnOk result (Appends (W.contents out.old) (W.contents out.new) (save_text error)) }
+{
+    out.write_all(b"save: ")?;
+    kind(error, out)?;
+    detail(detail_of(error), out)?;
+    out.write_all(b"\n")
+}
+
 /// Writes that a file can't be read.
 pub fn unread_text<W: Write>(path: &[u8], out: &mut W) -> io::Result<()>
     ensures { OnOk result (Appends (W.contents out.old) (W.contents out.new)
@@ -106,4 +119,13 @@ pub fn unread_text<W: Write>(path: &[u8], out: &mut W) -> io::Result<()>
 {
     out.write_all(path)?;
     out.write_all(b": cannot be read\n")
+}
+
+/// Writes that a file can't be written.
+pub fn unwritten_text<W: Write>(path: &[u8], out: &mut W) -> io::Result<()>
+    ensures { OnOk result (Appends (W.contents out.old) (W.contents out.new)
+        (unwritten_text path.now)) }
+{
+    out.write_all(path)?;
+    out.write_all(b": cannot be written\n")
 }

@@ -1,8 +1,11 @@
-use Rattle.nl_session.proofs.SharedWorldsEvents.{events_follow, new_beside, steps_follow}
+use Rattle.nl_session.proofs.SharedWorldsEvents.{events_follow, kept_beside, new_beside, steps_follow}
 use Rattle.nl_session.proofs.laws.shared_volumes_follow_worlds.Goals as goal
 
 pub returns-clause-new : goal.returns-clause-new
 returns-clause-new c = new_beside
+
+pub returns-clause-kept : goal.returns-clause-kept
+returns-clause-kept c = kept_beside
 
 pub returns-clause-events : goal.returns-clause-events
 returns-clause-events c = events_follow (record {

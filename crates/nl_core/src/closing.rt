@@ -1,0 +1,99 @@
+//! The image of a volume that is closed.
+ghost use Rattle.std.specs.Prelude.{◌≡◌, ◌<◌, ◌≤◌, IfErr, IfOk, IsErrOf};
+ghost use Rattle.nl_types.specs.declared.error.VolError;
+ghost use Rattle.nl_types.specs.Roots.{pages_of};
+ghost use Rattle.nl_space.specs.Appended.{IsLoadError};
+ghost use Rattle.nl_vstore.specs.Stores.{KeepsStored, content_in};
+ghost use Rattle.nl_cpfile.specs.Tables as tables;
+ghost use Rattle.nl_image.specs.StoreImages.{IsSizedEntry};
+ghost use Rattle.nl_core.specs.Closed.{AreSized, HasSize, HaveSizes};
+ghost use Rattle.nl_core.specs.Layout.{IsPen, layout_of};
+ghost use Rattle.nl_core.specs.PenImages.{IsPenImage};
+
+use crate::tables::Tables;
+use nl_check::size_of_blocks;
+use nl_cpfile::{Checkpoint, Checkpoints};
+use nl_dat::Dat;
+use nl_image::write_image;
+use nl_layout::CheckpointEntry;
+use nl_space::Space;
+use nl_types::VolError;
+use nl_vstore::Vstore;
+use std::alloc::Global;
+
+/// The entry of a checkpoint, with the size of its file of inodes. Refused by `Memory` alone.
+fn sized_entry<V: Vstore>(
+    alloc: Global,
+    store: &V,
+    checkpoint: &Checkpoint,
+) -> Result<CheckpointEntry, VolError>
+    requires { HasSize (pages_of (content_in (V.store store.now))) checkpoint.now }
+    ensures entry { IfOk result
+        (IsSizedEntry (pages_of (content_in (V.store store.now))) checkpoint.now) }
+    ensures refused { IfErr result (λ e. e ≡ VolError.Memory) }
+{
+    let Some(size) = size_of_blocks(alloc, store, store.capacity(), &checkpoint.root)? else {
+        unreachable!();
+    };
+    Ok(checkpoint.entry(size))
+}
+
+/// The entries of checkpoints, with room for one more. Refused by `Memory` alone.
+fn entries_of<V: Vstore>(
+    alloc: Global,
+    store: &V,
+    kept: &[Checkpoint],
+) -> Result<Vec<CheckpointEntry>, VolError>
+    requires { HaveSizes (pages_of (content_in (V.store store.now))) kept.now }
+    ensures entries { IfOk result (λ entries.
+        AreSized (pages_of (content_in (V.store store.now))) kept.now entries.items) }
+    ensures refused { IfErr result (λ e. e ≡ VolError.Memory) }
+{
+    let mut entries = Vec::with_capacity(alloc, kept.len() + 1)?;
+    for checkpoint in kept {
+        let entry = sized_entry(alloc, store, checkpoint)?;
+        entries.push(entry)?;
+    }
+    Ok(entries)
+}
+
+/// The entries of all kept checkpoints. Refused by `Memory` alone.
+fn all_entries<V: Vstore>(
+    alloc: Global,
+    store: &V,
+    checkpoints: &Checkpoints,
+) -> Result<Vec<CheckpointEntry>, VolError>
+    requires { HaveSizes (pages_of (content_in (V.store store.now)))
+        (tables.all checkpoints.now.table) }
+    ensures entries { IfOk result (λ entries.
+        AreSized (pages_of (content_in (V.store store.now)))
+        (tables.all checkpoints.now.table) entries.items) }
+    ensures refused { IfErr result (λ e. e ≡ VolError.Memory) }
+{
+    let mut entries = entries_of(alloc, store, checkpoints.earlier())?;
+    let latest = sized_entry(alloc, store, checkpoints.latest())?;
+    entries.push(latest)?;
+    Ok(entries)
+}
+
+/// The image of a store and of the checkpoints that are kept over it, as a pen holds them. Each used block is loaded once from
+/// the device, in order, and nothing else is. Refused by `Memory`, and by `Fault` where the device failed.
+pub fn image_of<S: Space>(
+    alloc: Global,
+    tables: &Tables,
+    store: &mut Dat<S>,
+) -> Result<Vec<u8>, VolError>
+    requires { IsPen (layout_of tables.now.lists store.old.store) }
+    ensures image { IfOk result (λ bytes.
+        IsPenImage (layout_of tables.now.lists store.old.store) bytes.items) }
+    ensures pen { IsPen (layout_of tables.now.lists store.new.store) }
+    ensures same { KeepsStored store.old.store store.new.store }
+    ensures counted { store.old.store.failures ≤ store.new.store.failures }
+    ensures fault { IsErrOf result VolError.Fault
+        → store.old.store.failures < store.new.store.failures }
+    ensures errors { IfErr result IsLoadError }
+{
+    let entries = all_entries(alloc, store, tables.checkpoints())?;
+    let image = write_image(alloc, store, entries.as_slice())?;
+    Ok(image)
+}

@@ -1,0 +1,165 @@
+//! Volumes that are opened of images, go on, and are closed.
+use crate::faults::SOUND;
+use crate::volume::image_with;
+use nl_core::{Pen, geometry_of, open};
+use nl_device::{Device, Failing, FaultyDevice, MemDevice};
+use nl_types::{
+    Answer, Ask, Change, CheckpointNumber, Event, Items, Mode, MountNumber, Reply, VolError,
+};
+use std::alloc::Global;
+use std::test::Fail;
+
+/// The volume of an image, on a device in memory.
+fn opened(alloc: Global, image: &[u8]) -> Result<Pen<MemDevice>, VolError> {
+    let geometry = geometry_of(image)?;
+    let device = MemDevice::new(alloc, geometry)?;
+    open(alloc, image, device)
+}
+
+/// The image of a volume, empty where something is dirty or mounted.
+fn closed<D: Device>(alloc: Global, pen: &mut Pen<D>) -> Result<Vec<u8>, VolError> {
+    if pen.is_dirty() || pen.mount_count() > 0 {
+        return Ok(Vec::new(alloc));
+    }
+    pen.close()
+}
+
+/// Whether an image is opened, and closed to the same bytes.
+fn closes_again(alloc: Global, image: &[u8]) -> Result<bool, VolError> {
+    let mut pen = opened(alloc, image)?;
+    let again = closed(alloc, &mut pen)?;
+    Ok(again.as_slice() == image)
+}
+
+#[test]
+fn images_are_opened_and_closed(rt: HostRuntime) -> Result<(), Fail> {
+    for row in SOUND {
+        let image = image_with(rt.alloc(), &[], row)?;
+        assert!(rt; closes_again(rt.alloc(), image.as_slice())?);
+    }
+    Ok(())
+}
+
+// ---- a volume that goes on
+
+/// Asks for the first six bytes of `/f`.
+fn ask(alloc: Global) -> Result<Ask, VolError> {
+    let path = Items::from_slice(alloc, b"/f")?;
+    Ok(Ask::Bytes {
+        path,
+        offset: 0,
+        len: 6,
+    })
+}
+
+fn are(reply: Reply, due: &[u8]) -> bool {
+    match reply {
+        Ok(Answer::Bytes(bytes)) => bytes.as_slice() == due,
+        _ => false,
+    }
+}
+
+/// Whether `/f` begins with these bytes in the current tree.
+fn begins(alloc: Global, pen: &mut Pen<MemDevice>, due: &[u8]) -> Result<bool, VolError> {
+    let ask = ask(alloc)?;
+    Ok(are(pen.apply(&Event::Read(ask)), due))
+}
+
+/// Whether it does in the first mount.
+fn begins_mounted(alloc: Global, pen: &mut Pen<MemDevice>, due: &[u8]) -> Result<bool, VolError> {
+    let ask = ask(alloc)?;
+    Ok(are(pen.apply(&Event::MountRead(MountNumber::new(1), ask)), due))
+}
+
+fn write_third(alloc: Global, pen: &mut Pen<MemDevice>) -> Result<(), VolError> {
+    let path = Items::from_slice(alloc, b"/f")?;
+    let bytes = Items::from_slice(alloc, b"third!")?;
+    let change = Change::Write {
+        path,
+        offset: 0,
+        bytes,
+    };
+    pen.apply(&Event::Apply(change))?;
+    Ok(())
+}
+
+/// The number of a checkpoint at moment 20, 0 where another answer comes.
+fn checkpoint(pen: &mut Pen<MemDevice>) -> Result<CheckpointNumber, VolError> {
+    let event = Event::Checkpoint {
+        mode: Mode::Plain,
+        moment: 20,
+    };
+    match pen.apply(&event)? {
+        Answer::Checkpoint(number) => Ok(number),
+        _ => Ok(CheckpointNumber::new(0)),
+    }
+}
+
+/// The file is read in the current tree and in the mounted snapshot, and is written: the snapshot still has what it had.
+fn is_read_beside_a_write(alloc: Global, pen: &mut Pen<MemDevice>) -> Result<bool, VolError> {
+    pen.apply(&Event::Mount(CheckpointNumber::new(2)))?;
+    let current = begins(alloc, pen, b"after\0")?;
+    write_third(alloc, pen)?;
+    let written = begins(alloc, pen, b"third!")?;
+    let mounted = begins_mounted(alloc, pen, b"after\0")?;
+    pen.apply(&Event::Unmount(MountNumber::new(1)))?;
+    Ok(current && written && mounted)
+}
+
+/// The image of the volume behind one checkpoint more.
+fn gone_on(alloc: Global, image: &[u8]) -> Result<Vec<u8>, VolError> {
+    let mut pen = opened(alloc, image)?;
+    if !is_read_beside_a_write(alloc, &mut pen)? || checkpoint(&mut pen)?.get() != 3 {
+        return Err(VolError::NoCheckpoint);
+    }
+    closed(alloc, &mut pen)
+}
+
+#[test]
+fn opened_volumes_go_on(rt: HostRuntime) -> Result<(), Fail> {
+    let image = image_with(rt.alloc(), &[], &[])?;
+    let next = gone_on(rt.alloc(), image.as_slice())?;
+    // One checkpoint more has its entry in the padding of the first image.
+    assert!(rt; next.len() == image.len());
+    let mut pen = opened(rt.alloc(), next.as_slice())?;
+    assert!(rt; pen.latest().get() == 3 && begins(rt.alloc(), &mut pen, b"third!")?);
+    Ok(())
+}
+
+// ---- a device that fails
+
+/// The blocks in use in the image by hand.
+const USED: u64 = 16;
+
+/// The volume of an image, on a device of which one get fails, after so many further ones.
+fn opened_on(alloc: Global, image: &[u8], gets: u64) -> Result<Pen<FaultyDevice>, VolError> {
+    let geometry = geometry_of(image)?;
+    let device = FaultyDevice::new(MemDevice::new(alloc, geometry)?, Failing::Get, gets);
+    open(alloc, image, device)
+}
+
+fn is_fault(closed: Result<Vec<u8>, VolError>) -> bool {
+    match closed {
+        Err(error) => error == VolError::Fault,
+        Ok(_) => false,
+    }
+}
+
+#[test]
+fn closes_read_each_used_block_once(rt: HostRuntime) -> Result<(), Fail> {
+    let image = image_with(rt.alloc(), &[], &[])?;
+    let mut pen = opened_on(rt.alloc(), image.as_slice(), USED)?;
+    assert!(rt; closed(rt.alloc(), &mut pen)?.as_slice() == image.as_slice());
+    // The get behind these fails.
+    assert!(rt; is_fault(closed(rt.alloc(), &mut pen)));
+    Ok(())
+}
+
+#[test]
+fn a_close_succeeds_behind_a_fault(rt: HostRuntime) -> Result<(), Fail> {
+    let image = image_with(rt.alloc(), &[], &[])?;
+    let mut pen = opened_on(rt.alloc(), image.as_slice(), USED - 1)?;
+    assert!(rt; is_fault(closed(rt.alloc(), &mut pen)));
+    assert!(rt; closed(rt.alloc(), &mut pen)?.as_slice() == image.as_slice());
+    Ok(())
+}

@@ -1,0 +1,113 @@
+//! What a session begins with: the pen of a new volume, or of an image.
+ghost use Rattle.std.specs.Prelude.{◌≡◌, IfErr, IfOk, List, None, ℕ};
+ghost use Rattle.nl_core.specs.Opened.{IsOpenRefusal};
+ghost use Rattle.nl_session.specs.Beginnings.{IsBegunBy, IsImageFault, IsMemoryOrFault, IsNewPen, IsOpenedPen, IsStartFault, image_fault, step_of};
+
+use nl_arguments::Arguments;
+use nl_core::{Pen, geometry_of, open};
+use nl_device::MemDevice;
+use nl_script::{FileFault, read_file};
+use nl_texts::StartStep;
+use nl_types::{Geometry, VolError};
+use std::alloc::Global;
+use std::rt::Files;
+
+/// When a new volume is formatted, and the moment of the first lines, in whole seconds.
+pub const MOMENT: u64 = 0;
+
+/// Why a session has no volume.
+#[derive(Clone, Copy, Debug, PartialEq, Eq)]
+pub enum StartFault {
+    /// The file of the image can't be read.
+    Unread,
+    /// A step before the first line is refused.
+    Refused(StartStep, VolError),
+}
+
+// ---- a new volume
+
+/// A new volume in memory.
+fn new_pen(alloc: Global, geometry: Geometry) -> Result<Pen<MemDevice>, VolError>
+    ensures made { IfOk result (IsNewPen geometry) }
+    ensures refused { IfErr result IsMemoryOrFault }
+{
+    let device = MemDevice::new(alloc, geometry)?;
+    Pen::format(alloc, device, geometry, MOMENT)
+}
+
+/// A new volume of the geometry that was asked for.
+fn asked_pen(alloc: Global, arguments: &Arguments) -> Result<Pen<MemDevice>, StartFault>
+    requires { arguments.now.«open» ≡ None }
+    ensures begun { IfOk result (IsBegunBy arguments.now) }
+    ensures refused { IfErr result (IsStartFault arguments.now) }
+{
+    let geometry = match arguments.geometry() {
+        Ok(geometry) => geometry,
+        Err(error) => return Err(StartFault::Refused(StartStep::Geometry, error)),
+    };
+    match new_pen(alloc, geometry) {
+        Ok(pen) => Ok(pen),
+        Err(error) => Err(StartFault::Refused(StartStep::Start, error)),
+    }
+}
+
+// ---- the volume of an image
+
+/// The volume of an image, on a device in memory.
+fn opened_pen(alloc: Global, image: &[u8]) -> Result<Pen<MemDevice>, VolError>
+    ensures opened { IfOk result (IsOpenedPen image.now) }
+    ensures refused { IfErr result (IsOpenRefusal image.now) }
+{
+    let geometry = geometry_of(image)?;
+    let device = MemDevice::new(alloc, geometry)?;
+    let pen = open(alloc, image, device)?;
+    Ok(pen)
+}
+
+/// The step that judges what is refused so.
+fn step_of(error: VolError) -> StartStep
+    ensures { result ≡ step_of error }
+{
+    match error {
+        VolError::BadImage(_) => StartStep::Image,
+        _ => StartStep::Start,
+    }
+}
+
+fn image_fault(fault: FileFault) -> StartFault
+    ensures { result ≡ image_fault fault }
+{
+    match fault {
+        FileFault::Unread => StartFault::Unread,
+        FileFault::Refused(error) => StartFault::Refused(step_of(error), error),
+    }
+}
+
+/// The volume of the image in the file at a path. Its bytes are given back once it is open.
+fn pen_at<R: AllocGlobal + Files>(rt: &R, path: &[u8]) -> Result<Pen<MemDevice>, StartFault>
+    ensures opened { IfOk result (λ pen. (image : List ℕ) × IsOpenedPen image pen) }
+    ensures refused { IfErr result IsImageFault }
+{
+    let image = match read_file(rt, path) {
+        Ok(image) => image,
+        Err(fault) => return Err(image_fault(fault)),
+    };
+    match opened_pen(rt.alloc(), image.as_slice()) {
+        Ok(pen) => Ok(pen),
+        Err(error) => Err(StartFault::Refused(step_of(error), error)),
+    }
+}
+
+/// The volume that the arguments ask for: that of an image, or else a new one.
+pub fn pen_for<R: AllocGlobal + Files>(
+    rt: &R,
+    arguments: &Arguments,
+) -> Result<Pen<MemDevice>, StartFault>
+    ensures begun { IfOk result (IsBegunBy arguments.now) }
+    ensures refused { IfErr result (IsStartFault arguments.now) }
+{
+    match arguments.open.as_ref() {
+        None => asked_pen(rt.alloc(), arguments),
+        Some(path) => pen_at(rt, path.as_slice()),
+    }
+}
