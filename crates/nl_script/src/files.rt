@@ -63,7 +63,16 @@ pub fn read_file<R: AllocGlobal + Files>(rt: &R, path: &[u8]) -> Result<Vec<u8>,
     ensures refused { IfErr result IsUnread }
 {
     let mut file = open_file(rt, path)?;
-    read_all(rt.alloc(), &mut file)
+    // Room for all of it is made at once, as a list that grows is copied time and again.
+    let length = file.metadata().map_or(0, |metadata| metadata.len());
+    let room = usize::try_from(length).unwrap_or(usize::MAX);
+    let Ok(mut bytes) = Vec::with_capacity(rt.alloc(), room) else {
+        return Err(FileFault::Refused(VolError::Memory));
+    };
+    match file.read_to_end(&mut bytes) {
+        Ok(_) => Ok(bytes),
+        Err(error) => Err(read_fault(&error)),
+    }
 }
 
 // ---- writing

@@ -5,8 +5,6 @@ use Rattle.nl_core.specs.Layout.{Layout, MeansWorld}
 use Rattle.nl_core.specs.Opened.{IsAtRest}
 use Rattle.nl_core.specs.PenImages.{CanBeClosed, ImagesMeanOneWorld}
 use Rattle.nl_core.specs.Volume.{Lists}
-use Rattle.nl_session.specs.Beginnings.{IsOpenedPen}
-use Rattle.nl_session.specs.Endings.{SavesFrom}
 use Rattle.nl_session.specs.Laws.{SavedVolumesComeBack}
 
 -- a pen at rest could be closed at once

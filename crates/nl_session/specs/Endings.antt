@@ -1,5 +1,5 @@
 -- How a session ends behind its script: where that is asked for, the volume's image is saved.
-use Rattle.std.specs.Prelude.{◌≡◌, ◌≢◌, ◌⊎◌, ℕ, Bool, true, false, List, Option, None, Some, Ok, Err}
+use Rattle.std.specs.Prelude.{◌≡◌, ◌≢◌, ◌⊎◌, ℕ, Bool, true, false, List, Option, None, Ok, Err}
 use Rattle.nl_types.specs.declared.error.VolError.{VolError}
 use Rattle.nl_types.specs.declared.error.VolError.TheVariants.{Fault, Memory}
 use Rattle.nl_types.specs.declared.event.Event.TheVariants.{Checkpoint}
@@ -44,7 +44,8 @@ pub record IsQuietEnd {E : Type 0} (done : Done) (errors told : E) (status : ℕ
 
 -- Nothing is to be saved; or the image of what the script left is, at its last moment; or that isn't, which is told. What is
 -- in the file then is known to no contract.
-pub data Ends {E : Type 0} (save : Option (List ℕ)) (left : Layout) (done : Done) (errors told : E) (status : ℕ) : Type 0 where
+pub data Ends {E : Type 0} (save : Option (List ℕ)) (left : Layout) (done : Done)
+    (errors told : E) (status : ℕ) : Type 0 where
   Plainly : save ≡ None → IsQuietEnd done errors told status → Ends save left done errors told status
   Saved : (image : List ℕ) → save ≢ None → SavesFrom done.moment left image → IsQuietEnd done errors told status
       → Ends save left done errors told status

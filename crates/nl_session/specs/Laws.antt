@@ -15,5 +15,6 @@ VolumesTellOfSegments = (s : Sharing) (error : VolError) → IsUntold shared_tel
 -- A volume that was saved comes back: what is opened of its image means the world that was saved, where no mount number was
 -- given yet.
 abbrev pub SavedVolumesComeBack : Type 0
-SavedVolumesComeBack = (moment : ℕ) (left opened : Layout) (image : List ℕ) (saves : SavesFrom moment left image) (w v : World)
+SavedVolumesComeBack = (moment : ℕ) (left opened : Layout) (image : List ℕ)
+    (saves : SavesFrom moment left image) (w v : World)
     → IsOpenedPen image opened → MeansWorld saves.closed w → MeansWorld opened v → v ≡ record w { given = 0 }

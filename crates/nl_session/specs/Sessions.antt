@@ -10,7 +10,7 @@ use Rattle.nl_arguments.specs.declared.asked.ArgumentsFault.{ArgumentsFault}
 use Rattle.nl_texts.specs.Texts.{Text}
 use Rattle.nl_protect.specs.declared.config.Config.{Config}
 use Rattle.nl_script.specs.Configurations.{ConfigurationRead, IsConfigured}
-use Rattle.nl_script.specs.Scripts.{IsScriptDone, exit_status}
+use Rattle.nl_script.specs.Scripts.{IsScriptDone}
 use Rattle.nl_script.specs.declared.scripts.Done.{Done}
 use Rattle.nl_core.specs.Layout.{Layout, layout_of}
 use Rattle.nl_core.specs.Volume.{without_mounts}
@@ -43,7 +43,8 @@ pub record Streams (O E : Type 0) : Type 0 where
   pub errors : E
   pub told : E
 
-abbrev pub streams : {O E : Type 0} → Option Text → (O → Option Text) → (output printed : O) → (errors told : E) → Streams O E
+abbrev pub streams : {O E : Type 0} → Option Text → (O → Option Text)
+    → (output printed : O) → (errors told : E) → Streams O E
 streams input contents output printed errors told = record {
   input = input;
   contents = contents;
@@ -74,7 +75,8 @@ pub record RunsOn {O : Type 0} (pen left : Layout) (config : Config) (input : Op
   pub left_is : left ≡ pen_left new
 
 -- The script is done on the volume that was asked for, which is saved in the end where that was asked for.
-pub record IsRunOf {O E : Type 0} (arguments : Arguments) (config : Config) (s : Streams O E) (status : ℕ) : Type 0 where
+pub record IsRunOf {O E : Type 0} (arguments : Arguments) (config : Config)
+    (s : Streams O E) (status : ℕ) : Type 0 where
   pub pen : Layout
   pub begun : IsBegunBy arguments pen
   pub left : Layout
