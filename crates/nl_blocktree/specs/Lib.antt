@@ -1,8 +1,10 @@
 pub mod Changed
 pub mod Numbering
 pub mod Chains
-pub mod SlotChanges
-pub mod NodePages
 pub mod Putting
 pub mod Checkpoints
 pub mod Walked
+pub mod TreeLevels
+pub mod Edits
+pub mod Writing
+pub mod Renewing

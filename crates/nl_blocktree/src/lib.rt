@@ -5,10 +5,14 @@ mod chain;
 mod change;
 mod cursor;
 mod data;
+mod height;
 pub mod laws;
-mod nodes;
+mod levels;
+mod path;
 mod put;
 mod read;
+mod slots;
+mod tree;
 mod walking;
 
 pub use change::BlockChange;

@@ -1,15 +1,7 @@
 -- Where the nodes and the data of a chain stand.
 use Rattle.std.proofs.Common.{◌≡◌, ◌≢◌, ℕ, zero, suc, ◌+◌, ◌-◌, ◌/◌, ◌%◌, ◌≤◌, Option, None, refl, ap, subst, arith}
 use Rattle.nl_types.specs.Roots.{Chain, Empty, OfTree, Pages, Root, Tree, chain_node, child, kind_of, place_at}
-use Rattle.nl_layout.specs.Root.{root_of}
-use Rattle.nl_layout.specs.declared.root.Root.{Root as CodeRoot}
-use Rattle.nl_layout.specs.declared.root.Root.TheVariants as code
 use Rattle.nl_blocktree.specs.Chains.{top_of}
-
--- a root of the code is no tree
-pub not_tree : (root : CodeRoot) → kind_of (root_of root) ≢ OfTree
-not_tree code.Empty = λ e. cc
-not_tree (code.Chain top) = λ e. cc
 
 pub above : (pages : Pages) (root : Root) (level offset : ℕ) → kind_of root ≢ OfTree → place_at pages root (suc (suc level)) offset ≡ None
 unfolding place_at

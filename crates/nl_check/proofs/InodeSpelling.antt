@@ -2,20 +2,22 @@
 use Rattle.std.proofs.Common.{Bool, subst, ◌≡◌, ℕ, zero, suc, ◌/◌, ◌%◌, ◌<◌, ◌≤◌, ◌^◌, ◌*◌, List, ◌++◌, take, drop, slice_index, true, false, cond, Option, None, Some, IfSome, refl, ap, sym, ◌∙◌, arith}
 use Rattle.std.proofs.Math.Nat.{mod-lt}
 use Rattle.std.proofs.Math.ListN.{replicate}
+use Rattle.std.specs.Prelude.{◌==◌, ◌&&◌, nat_le}
 use Rattle.std.specs.Option.{option_map, option_and_then}
 use Rattle.std.specs.Str.{bytes_eq}
-use Rattle.std.proofs.lemmas.Bool.{cond-true}
+use Rattle.std.proofs.lemmas.Bool.{cond-true, leb-true}
 use Rattle.std.proofs.lemmas.Slice.Eq.{bytes_eq-Decides}
 use Rattle.byteorder.specs.Endian.{little_bytes, little_number}
 use Rattle.byteorder.specs.Numbers.{little_from-bytes}
 use Rattle.nl_layout.specs.declared.root.Root.{Root}
-use Rattle.nl_layout.specs.declared.root.Root.TheVariants.{Empty, Chain}
+use Rattle.nl_layout.specs.declared.root.Root.TheVariants.{Empty, Chain, Tree}
 use Rattle.nl_layout.specs.declared.inode.Inode.{Inode}
 use Rattle.nl_layout.specs.declared.inode.InodeKind.{InodeKind}
 use Rattle.nl_layout.specs.declared.inode.InodeKind.TheVariants.{File, Directory, InodeFile}
 use Rattle.nl_layout.specs.declared.inode.InodeEntry.{InodeEntry}
 use Rattle.nl_layout.specs.declared.inode.InodeEntry.TheVariants.{Free, InUse}
-use Rattle.nl_layout.specs.Inode.{Spells, InodeFits, EntryFits, entry_bytes, entry_at, entry_with, inode_bytes, root_at, root_number}
+use Rattle.nl_layout.specs.Inode.{Spells, InodeFits, EntryFits, entry_bytes, entry_at, entry_with, inode_bytes}
+use Rattle.nl_layout.specs.Root.{fields_of, root_told_by}
 use Rattle.nl_layout.specs.Inode as layout
 use Rattle.nl_check.proofs.EntryFields.{entry_at-Spells}
 use borrow.Rule.Slice.PartMut.{mid_of}
@@ -28,12 +30,30 @@ number_fits n rest =
     let low : n / 256 ^ 0 % 256 ^ 8 < 256 ^ 8 = mod-lt (n / 256 ^ 0) (omega arith) in
     omega (arith, little_from-bytes 8 0 n rest)
 
-root_number-root_at : (code number : ℕ) (r : Root) → root_at code number ≡ Some r → root_number r ≤ number
-root_number-root_at zero number Empty e = omega arith
-root_number-root_at zero number (Chain first) e = cc
-root_number-root_at (suc zero) number Empty e = omega arith
-root_number-root_at (suc zero) number (Chain first) e = let same : number ≡ first = cc in omega arith
-root_number-root_at (suc (suc code)) number r e = cc
+told-if : (test : Bool) (made root : Root) → cond test (Some made) None ≡ Some root → (test ≡ true) × (made ≡ root)
+told-if true made root e = let same : made ≡ root = cc in (refl, same)
+told-if false made root e = absurd (cc)
+
+-- the root that fields spell has a number no greater than the one that is read, and a height that a tree may have
+root-fits : (code height number : ℕ) (root : Root) → root_told_by code height number ≡ Some root
+    → ((fields_of root).number ≤ number) × ((fields_of root).height ≤ 3)
+root-fits zero height number root e =
+    let made = told-if (height == 0 && number == 0) Empty root e in
+    let number_is = ap (λ (r : Root). (fields_of r).number) made.1 in
+    let height_is = ap (λ (r : Root). (fields_of r).height) made.1 in
+    (omega (arith, number_is), omega (arith, height_is))
+root-fits (suc zero) height number root e =
+    let made = told-if (height == 0) (Chain number) root e in
+    let number_is = ap (λ (r : Root). (fields_of r).number) made.1 in
+    let height_is = ap (λ (r : Root). (fields_of r).height) made.1 in
+    (omega (arith, number_is), omega (arith, height_is))
+root-fits (suc (suc zero)) height number root e =
+    let made = told-if (nat_le height 3) (Tree height number) root e in
+    let number_is = ap (λ (r : Root). (fields_of r).number) made.1 in
+    let height_is = ap (λ (r : Root). (fields_of r).height) made.1 in
+    let low = leb-true height 3 made.0 in
+    (omega (arith, number_is), omega (arith, height_is, low))
+root-fits (suc (suc (suc code))) height number root e = absurd (cc)
 
 inode-option_map : (kind : InodeKind) (size : ℕ) (o : Option Root) (i : Inode) → option_map (λ root. InUse (record { kind = kind; root = root; size = size })) o ≡ Some (InUse i) → (i.size ≡ size) × (o ≡ Some i.root)
 inode-option_map kind size None i e = cc
@@ -44,13 +64,13 @@ inode-option_map kind size (Some r) i e =
 
 inode_at-fits : (kind : InodeKind) (bytes : List ℕ) (i : Inode) → layout.used_entry_at kind bytes ≡ Some (InUse i) → inode_bytes i ≡ bytes → InodeFits i
 inode_at-fits kind bytes i e spelling =
-    let parts = inode-option_map kind (little_number 8 (drop 8 bytes)) (root_at (slice_index bytes 1) (little_number 8 (drop 16 bytes))) i e in
-    let size : little_number 8 (drop 8 (inode_bytes i)) < 2 ^ 64 = number_fits i.size (little_bytes 8 (root_number i.root) ++ replicate 104 0) in
-    let number : little_number 8 (drop 16 (inode_bytes i)) < 2 ^ 64 = number_fits (root_number i.root) (replicate 104 0) in
+    let parts = inode-option_map kind (little_number 8 (drop 8 bytes)) (root_told_by (slice_index bytes 1) (slice_index bytes 2) (little_number 8 (drop 16 bytes))) i e in
+    let size : little_number 8 (drop 8 (inode_bytes i)) < 2 ^ 64 = number_fits i.size (little_bytes 8 ((fields_of i.root).number) ++ replicate 104 0) in
+    let number : little_number 8 (drop 16 (inode_bytes i)) < 2 ^ 64 = number_fits (fields_of i.root).number (replicate 104 0) in
     let size_is : little_number 8 (drop 8 (inode_bytes i)) ≡ little_number 8 (drop 8 bytes) = ap (λ (b : List ℕ). little_number 8 (drop 8 b)) spelling in
     let number_is : little_number 8 (drop 16 (inode_bytes i)) ≡ little_number 8 (drop 16 bytes) = ap (λ (b : List ℕ). little_number 8 (drop 16 b)) spelling in
-    let most : root_number i.root ≤ little_number 8 (drop 16 bytes) = root_number-root_at _ _ i.root parts.1 in
-    record { size = omega (arith, parts.0, size, size_is); number = omega (arith, most, number, number_is) }
+    let fits = root-fits (slice_index bytes 1) (slice_index bytes 2) (little_number 8 (drop 16 bytes)) i.root parts.1 in
+    record { size = omega (arith, parts.0, size, size_is); height = fits.1; number = omega (arith, fits.0, number, number_is) }
 
 entry_with-fits : (code : ℕ) (bytes : List ℕ) (entry : InodeEntry) → entry_with code bytes ≡ Some entry → entry_bytes entry ≡ bytes → EntryFits entry
 entry_with-fits code bytes Free e spelling = tt

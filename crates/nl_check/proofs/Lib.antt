@@ -3,6 +3,9 @@ pub mod Packed
 pub mod ChainPlaces
 pub mod Checkpoints
 pub mod MetPlaces
+pub mod TreePlaces
+pub mod MetRanges
+pub mod MetTrees
 pub mod MetNumbers
 pub mod EntryFields
 pub mod InodeSpelling

@@ -39,7 +39,7 @@ pub slot-fewer : (pages : Pages) (s : ℕ) (page : List ℕ) (old new : List Boo
 slot-fewer pages s page old new (inl (none, same)) = let e = ap unmet same in omega (arith, e)
 slot-fewer pages s page old new (inr (v, some, m)) = let less = meets-fewer pages v old new m in omega (arith, less)
 
-no-some : {A : Type 0} (o : Option A) → IsSome o → o ≡ None → ⊥
+pub no-some : {A : Type 0} (o : Option A) → IsSome o → o ≡ None → ⊥
 no-some o h e = cc
 
 module _ (pages : Pages) (root : Root) (old : List Bool) (Visited Next : ℕ × ℕ → Type 0) (at : ℕ × ℕ)
@@ -143,7 +143,7 @@ module _ (pages : Pages) (root : Root) (old : List Bool) (Visited Next : ℕ × 
 
 -- ---- the places of a chain, node by node and slot by slot
 
-pair : (a b : ℕ × ℕ) → a.0 ≡ b.0 → a.1 ≡ b.1 → a ≡ b
+pub pair : (a b : ℕ × ℕ) → a.0 ≡ b.0 → a.1 ≡ b.1 → a ≡ b
 pair a b p q = λ i. (p i, q i)
 
 node-step : (n d : ℕ) (b : ℕ × ℕ) → IsVisited (suc n) d b → IsVisited n d b ⊎ (b ≡ (1, n))
@@ -247,14 +247,14 @@ all-met pages root old new Visited each m = record {
     clash : (at : ℕ × ℕ) (v : ℕ) → places pages root at ≡ None → places pages root at ≡ Some v → ⊥
     clash at v none is = cc
 
-can-met : (pages : Pages) (root : Root) (old new : List Bool) → HasShape pages root → HasMet pages root IsAny old new → CanBeMet pages root old
+pub can-met : (pages : Pages) (root : Root) (old new : List Bool) → HasShape pages root → HasMet pages root IsAny old new → CanBeMet pages root old
 can-met pages root old new shape m = record {
   shape = shape;
   fresh = λ at v is. m.fresh at v tt is;
   once = λ a b v is other. m.once a b v tt tt is other;
 }
 
-no-block : (pages : Pages) (root : Root) (i : ℕ) → place_at pages root 0 i ≡ None → page_at pages root i ≡ None
+pub no-block : (pages : Pages) (root : Root) (i : ℕ) → place_at pages root 0 i ≡ None → page_at pages root i ≡ None
 no-block pages root i none = ap (option_and_then pages) none
 
 module _ (pages : Pages) (top p : ℕ) (page : List ℕ) (node : IsNode pages (Chain top) p page) (no_next : slot 127 page ≡ None) where
@@ -382,7 +382,7 @@ walked-empty pages old = record {
 pub no-top : (pages : Pages) (top : ℕ) (old : List Bool) → top ≡ 0 → CanBeMet pages (Chain top) old → ⊥
 no-top pages top old zero_is can = no-some (place_at pages (Chain top) 1 0) (can.shape.has_top (λ e. cc)) (sym (first-place pages (Chain top) (λ e. cc)) ∙ ap numbered zero_is)
 
-numbered-some : (n : ℕ) → (n ≡ 0 → ⊥) → numbered n ≡ Some n
+pub numbered-some : (n : ℕ) → (n ≡ 0 → ⊥) → numbered n ≡ Some n
 numbered-some zero h = absurd (h refl)
 numbered-some (suc n) h = refl
 

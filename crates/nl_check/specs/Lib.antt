@@ -3,6 +3,7 @@ pub mod Shapes
 pub mod Trees
 pub mod Conditions
 pub mod MetFiles
+pub mod TreePlaces
 pub mod Laws
 pub mod Periods
 pub mod SoundInodes

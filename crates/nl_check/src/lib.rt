@@ -11,6 +11,7 @@ mod meeting;
 mod periods;
 mod shape;
 mod sizes;
+mod tree_nodes;
 mod trees;
 mod walking;
 

@@ -5,6 +5,7 @@ ghost use Rattle.nl_layout.specs.Root.{root_of};
 ghost use Rattle.nl_check.specs.MetFiles.{CanBeMet, HasMet, IsLastNamed, IsNode, IsVisited, IsWalked, unmet};
 
 use crate::meeting::{meet, meet_slot};
+use crate::tree_nodes::walk_tree;
 use nl_layout::{NEXT, Node, Root};
 use nl_types::{Page, VirtualNumber};
 use nl_vstore::VRead;
@@ -133,5 +134,6 @@ pub(crate) fn walk_file<V: VRead>(store: &V, met: &mut [bool], root: Root) -> Op
     match root {
         Root::Empty => Some(0),
         Root::Chain(first) => walk_chain(store, met, first),
+        Root::Tree(height, top) => walk_tree(store, met, height, top),
     }
 }

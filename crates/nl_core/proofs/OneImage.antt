@@ -1,5 +1,5 @@
 -- Pens of one image mean one world.
-use Rattle.std.proofs.Common.{◌≡◌, ℕ, List, [], ◌∷◌, map, Option, ap, refl, sym, subst, ◌∙◌}
+use Rattle.std.proofs.Common.{◌≡◌, ◌⊎◌, ◌<◌, ℕ, List, [], ◌∷◌, map, Option, ap, arith, inl, inr, refl, sym, subst, ◌∙◌}
 use Rattle.std.specs.List.{AllZip}
 use Rattle.std.specs.Option.{option_map}
 use Rattle.std.specs.Ordering.{nat_cmp}
@@ -8,7 +8,9 @@ use Rattle.std.proofs.lemmas.Option.{same_Some}
 use Rattle.nl_types.specs.Roots.{Pages}
 use Rattle.nl_types.specs.Trees.{Tree}
 use Rattle.nl_types.specs.Worlds.{Copy, World, greatest, numbers}
-use Rattle.nl_layout.specs.Root.{fields_of, root_told}
+use Rattle.nl_layout.specs.Root.{fields_of}
+use Rattle.nl_layout.specs.declared.root.RootFields.{RootFields}
+use Rattle.nl_layout.specs.declared.root.Root.TheVariants as variant
 use Rattle.nl_layout.specs.declared.checkpoint_entry.CheckpointEntry.{CheckpointEntry}
 use Rattle.nl_layout.specs.declared.root.Root.{Root}
 use Rattle.nl_check.specs.Laws.{SoundCheckpointsMeetAll}
@@ -23,13 +25,28 @@ use Rattle.nl_core.specs.Means.{CopyMeans}
 use Rattle.nl_core.specs.PenImages.{CanBeClosed, ImagesMeanOneWorld, IsPenImage}
 use Rattle.nl_core.specs.Volume.{kept_by, mount_of}
 use Rattle.nl_core.proofs.OneWorld.{copies-one}
-use Rattle.nl_core.proofs.Opening.{told-fields}
 use Rattle.nl_core.proofs.PenImages.{entries-of, pen_images_are_images}
 
 -- ---- checkpoints of one entry
 
+abbrev kind_of_fields : RootFields → ℕ
+kind_of_fields fields = fields.kind
+
+apart : (m n : ℕ) → m ≡ n → (m < n) ⊎ (n < m) → ⊥
+apart m n same (inl low) = omega (arith, same, low)
+apart m n same (inr high) = omega (arith, same, high)
+
 fields-one : (a b : Root) → fields_of a ≡ fields_of b → a ≡ b
-fields-one a b same = same_Some a b (sym (told-fields a) ∙ ap root_told same ∙ told-fields b)
+fields-one variant.Empty variant.Empty same = refl
+fields-one variant.Empty (variant.Chain u) same = absurd (apart 0 1 (ap kind_of_fields same) (inl (omega arith)))
+fields-one variant.Empty (variant.Tree h u) same = absurd (apart 0 2 (ap kind_of_fields same) (inl (omega arith)))
+fields-one (variant.Chain t) variant.Empty same = absurd (apart 1 0 (ap kind_of_fields same) (inr (omega arith)))
+fields-one (variant.Chain t) (variant.Chain u) same = ap variant.Chain (ap (λ (f : RootFields). f.number) same)
+fields-one (variant.Chain t) (variant.Tree h u) same = absurd (apart 1 2 (ap kind_of_fields same) (inl (omega arith)))
+fields-one (variant.Tree g t) variant.Empty same = absurd (apart 2 0 (ap kind_of_fields same) (inr (omega arith)))
+fields-one (variant.Tree g t) (variant.Chain u) same = absurd (apart 2 1 (ap kind_of_fields same) (inr (omega arith)))
+fields-one (variant.Tree g t) (variant.Tree h u) same =
+    ap (λ (k : ℕ). variant.Tree k t) (ap (λ (f : RootFields). f.height) same) ∙ ap (variant.Tree h) (ap (λ (f : RootFields). f.number) same)
 
 checkpoint-one : (c d : Checkpoint) (e : CheckpointEntry) → IsEntryOf c e → IsEntryOf d e → c ≡ d
 checkpoint-one c d e a b =

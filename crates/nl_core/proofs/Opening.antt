@@ -1,18 +1,21 @@
 -- What was judged of an image is what a pen needs that is opened of it.
-use Rattle.std.proofs.Common.{◌≡◌, ℕ, ◌≤◌, List, [], ◌∷◌, map, slice_index_or, Option, Some, None, refl, ap, sym, subst, ◌∙◌}
-use Rattle.std.specs.Prelude.{All, IsSome}
+use Rattle.std.proofs.Common.{◌≡◌, ℕ, ◌<◌, ◌≤◌, ◌^◌, Bool, true, false, cond, List, [], ◌∷◌, map, slice_index_or, Option, Some, None, refl, ap, sym, subst, ◌∙◌, arith}
+use Rattle.std.specs.Prelude.{All, IsSome, nat_le}
 use Rattle.std.specs.List.{AllZip}
 use Rattle.std.specs.Option.{option_map}
 use Rattle.std.proofs.Math.ListN.{get_or-map}
+use Rattle.std.proofs.lemmas.Bool.{le-leb}
 use Rattle.std.proofs.lemmas.List.Elements.{All-cons, All-head, All-nil, All-tail, recursion_from_All}
 use Rattle.nl_types.specs.Entries.{Content, Entry}
 use Rattle.nl_types.specs.Lifetimes.{IsBounded}
-use Rattle.nl_types.specs.Roots.{Pages, Root, pages_of}
+use Rattle.nl_types.specs.RootChanges.{HasData, IsSound}
+use Rattle.nl_types.specs.Roots.{Pages, Root, pages_of, place_at}
+use Rattle.nl_types.specs.Roots as roots
 use Rattle.nl_types.specs.Segments.{Segments}
 use Rattle.nl_layout.specs.Root.{fields_of, root_of, root_told}
 use Rattle.nl_layout.specs.declared.checkpoint_entry.CheckpointEntry.{CheckpointEntry}
 use Rattle.nl_layout.specs.declared.root.Root as layout
-use Rattle.nl_layout.specs.declared.root.Root.TheVariants.{Chain, Empty}
+use Rattle.nl_layout.specs.declared.root.Root.TheVariants.{Chain, Empty, Tree}
 use Rattle.nl_vstore.specs.Periods.{periods_of}
 use Rattle.nl_vstore.specs.Stores.{Numbered, Store, content_in, entry_now, numbered_in}
 use Rattle.nl_dat.specs.declared.entries.DatEntry.{DatEntry}
@@ -30,14 +33,45 @@ use Rattle.nl_core.specs.Opened.{IsChecked}
 
 -- ---- conditions 8 to 10
 
--- the fields of a root tell it
-pub told-fields : (root : layout.Root) → root_told (fields_of root) ≡ Some root
-told-fields Empty = refl
-told-fields (Chain top) = refl
+-- the fields of a root tell no other
+told-one : (r s : layout.Root) → root_told (fields_of r) ≡ Some s → r ≡ s
+told-one Empty s is = cc
+told-one (Chain top) s is = cc
+told-one (Tree height top) s is = by (nat_le height 3) is
+  where
+    by : (low : Bool) → cond low (Some (Tree height top)) None ≡ Some s → Tree height top ≡ s
+    by true same = cc
+    by false same = cc
 
--- so an entry tells the root of its checkpoint
-pub told-root : (c : Checkpoint) (e : CheckpointEntry) → IsEntryOf c e → (told e).root ≡ Some (root_of (root_in c))
-told-root c e is = ap (option_map root_of) (ap root_told is.root ∙ told-fields (root_in c))
+-- so an entry tells the root of its checkpoint, if it tells one
+pub told-root : (c : Checkpoint) (e : CheckpointEntry) (root : Root) → IsEntryOf c e → (told e).root ≡ Some root
+    → root ≡ root_of (root_in c)
+told-root c e root is same = by (root_told e.root) refl same
+  where
+    by : (o : Option layout.Root) → root_told e.root ≡ o → option_map root_of o ≡ Some root → root ≡ root_of (root_in c)
+    by None found none = cc
+    by (Some r) found some =
+        let its : root_of r ≡ root = cc in
+        sym its ∙ sym (ap root_of (told-one (root_in c) r (ap root_told (sym is.root) ∙ found)))
+
+-- the root of a sound file is told, as no tree is higher than 3
+root-told : (pages : Pages) (root : layout.Root) → IsSound pages (root_of root) → root_told (fields_of root) ≡ Some root
+root-told pages Empty sound = refl
+root-told pages (Chain top) sound = refl
+root-told pages (Tree height top) sound = rw (le-leb height 3 low) refl
+  where
+    far : (i : ℕ) (o : Option ℕ) → place_at pages (roots.Tree height top) 0 i ≡ o → IsSome o → i < 128 ^ 3
+    far i None at there = cc
+    far i (Some v) at there = let range = sound.in_range 0 i v at in omega (arith, range)
+
+    low : height ≤ 3
+    low =
+        let least = (sound.tree_shape refl).least in
+        least.2 3 (omega arith) (far least.0 (place_at pages (roots.Tree height top) 0 least.0) refl least.1)
+
+pub told-whole : (pages : Pages) (c : Checkpoint) (e : CheckpointEntry) → IsEntryOf c e → IsSound pages (root_of (root_in c))
+    → (told e).root ≡ Some (root_of (root_in c))
+told-whole pages c e is sound = ap (option_map root_of) (ap root_told is.root ∙ root-told pages (root_in c) sound)
 
 inside_some : {A : Type 0} (a b : A) → Some a ≡ Some b → a ≡ b
 inside_some a b same = cc
@@ -60,7 +94,7 @@ module _ (content : Content) where
   }
     where
       its : (root : Root) → (told e).root ≡ Some root → root ≡ root_of (root_in c)
-      its root same = inside_some root (root_of (root_in c)) (sym same ∙ told-root c e is)
+      its root same = told-root c e root is same
 
   -- the checkpoints of entries that meet the conditions were checked
   pub each-checked : (kept : List Checkpoint) (entries : List CheckpointEntry) → AllZip IsEntryOf kept entries

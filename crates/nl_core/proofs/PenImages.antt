@@ -41,7 +41,7 @@ use Rattle.nl_core.specs.Volume.{kept_by}
 use Rattle.nl_core.proofs.CheckedCopies.{HasTree}
 use Rattle.nl_core.proofs.KeptNumbers.{found-own}
 use Rattle.nl_core.proofs.OpenedImages.{last-number}
-use Rattle.nl_core.proofs.Opening.{told-root}
+use Rattle.nl_core.proofs.Opening.{told-whole}
 
 -- ---- entries
 
@@ -175,7 +175,7 @@ module _ (meets_all : SoundCheckpointsMeetAll) (content : Content) where
   all-shaped (c ∷ kept) [] whole sized = absurd sized
   all-shaped (c ∷ kept) (e ∷ entries) whole sized =
       All-cons (IsSoundShape (pages_of content)) (told e) (map told entries)
-      (root_of (root_in c), told-root c e sized.0.entry, (one-meets c e (All-head (IsWhole content) c kept whole) sized.0).shaped)
+      (root_of (root_in c), told-whole (pages_of content) c e sized.0.entry (All-head (IsWhole content) c kept whole).sound.inode_file, (one-meets c e (All-head (IsWhole content) c kept whole) sized.0).shaped)
       (all-shaped kept entries (All-tail (IsWhole content) c kept whole) sized.1)
 
   all-trees : (kept : List Checkpoint) (entries : List CheckpointEntry) → All (IsWhole content) kept
@@ -186,7 +186,7 @@ module _ (meets_all : SoundCheckpointsMeetAll) (content : Content) where
   all-trees (c ∷ kept) (e ∷ entries) whole sized =
       All-cons (IsSoundTree (pages_of content)) (told e) (map told entries) (
         root_of (root_in c),
-        told-root c e sized.0.entry,
+        told-whole (pages_of content) c e sized.0.entry (All-head (IsWhole content) c kept whole).sound.inode_file,
         subst (IsTreeOf (pages_of content) (root_of (root_in c)) e.size) (sym sized.0.entry.inodes)
             (one-meets c e (All-head (IsWhole content) c kept whole) sized.0).tree,
       )
@@ -200,7 +200,7 @@ module _ (meets_all : SoundCheckpointsMeetAll) (content : Content) where
   all-exact (c ∷ kept) (e ∷ entries) whole sized =
       All-cons (HasExactPeriods (pages_of content) (periods_of content)) (told e) (map told entries) (
         root_of (root_in c),
-        told-root c e sized.0.entry,
+        told-whole (pages_of content) c e sized.0.entry (All-head (IsWhole content) c kept whole).sound.inode_file,
         subst (λ (n : ℕ). MeetsItsNumbers (pages_of content) (periods_of content) n (root_of (root_in c)))
             (sym sized.0.entry.number) (one-meets c e (All-head (IsWhole content) c kept whole) sized.0).exact,
       )

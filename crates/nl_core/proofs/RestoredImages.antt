@@ -33,21 +33,15 @@ use Rattle.nl_core.specs.Opened.{IsRestoredStore, opened_lists}
 use Rattle.nl_core.specs.Volume.{Lists, kept_by}
 use Rattle.nl_core.proofs.BlockPages.{IsPageAt, cut-at, cut-count, cut-spelled, cut_pages}
 use Rattle.nl_core.proofs.OpenedImages.{numbers-shown, pages-are}
-use Rattle.nl_core.proofs.Opening.{told-fields}
+use Rattle.nl_core.proofs.Opening.{told-root}
 
 -- ---- sizes
 
 one-sized : (pages : Pages) (c : Checkpoint) (e : CheckpointEntry) → IsEntryOf c e → IsSoundTree pages (told e) → IsSizedEntry pages c e
 one-sized pages c e is tree = record {
   entry = is;
-  size = subst (λ (root : Root). IsSizeOf pages root e.size) (some_is (sym tree.1 ∙ its)) tree.2.sized;
+  size = subst (λ (root : Root). IsSizeOf pages root e.size) (told-root c e tree.0 is tree.1) tree.2.sized;
 }
-  where
-    its : (told e).root ≡ Some (root_of c.root)
-    its = ap (option_map root_of) (ap root_told is.root ∙ told-fields c.root)
-
-    some_is : {A : Type 0} {a b : A} → Some a ≡ Some b → a ≡ b
-    some_is same = cc
 
 each-sized : (pages : Pages) (kept : List Checkpoint) (entries : List CheckpointEntry) → AllZip IsEntryOf kept entries
     → AreTrees pages (map told entries) → AllZip (IsSizedEntry pages) kept entries

@@ -1,12 +1,12 @@
 -- What a checkpoint of a pen could write.
-use Rattle.std.proofs.Common.{◌≡◌, length, sym, ap, ◌∙◌, subst, refl}
+use Rattle.std.proofs.Common.{◌≡◌, ℕ, length, sym, ap, ◌∙◌, subst, refl}
 use Rattle.std.proofs.lemmas.List.{length-map}
 use Rattle.nl_types.specs.Roots as roots
 use Rattle.nl_vstore.specs.Batches.{Changes, item_of_birth, items_of}
 use Rattle.nl_vstore.specs.Stores.{content_in}
 use Rattle.nl_layout.specs.Root.{root_of}
 use Rattle.nl_layout.specs.declared.root.Root.{Root}
-use Rattle.nl_layout.specs.declared.root.Root.TheVariants.{Empty, Chain}
+use Rattle.nl_layout.specs.declared.root.Root.TheVariants.{Empty, Chain, Tree}
 use Rattle.nl_tree.specs.Became.{holding_over}
 use Rattle.nl_tree.specs.Held.{Holding}
 use Rattle.nl_files.specs.CheckpointRoots.{IsCheckpointRoot}
@@ -23,8 +23,16 @@ use Rattle.nl_core.proofs.Ledgers.{is-latest}
 root_of-one : (a b : Root) → root_of a ≡ root_of b → a ≡ b
 root_of-one Empty Empty e = refl
 root_of-one Empty (Chain t) e = cc
+root_of-one Empty (Tree h t) e = cc
 root_of-one (Chain t) Empty e = cc
 root_of-one (Chain t) (Chain u) e = let top : t ≡ u = cc in ap Chain top
+root_of-one (Chain t) (Tree h u) e = cc
+root_of-one (Tree g t) Empty e = cc
+root_of-one (Tree g t) (Chain u) e = cc
+root_of-one (Tree g t) (Tree h u) e =
+    let height : g ≡ h = cc in
+    let top : t ≡ u = cc in
+    ap (λ (k : ℕ). Tree k t) height ∙ ap (Tree h) top
 
 module _ (l : Layout) (sound : IsSoundPen l) (root other : Root) (one : Settled l root) (two : Settled l other) where
   abbrev old_root : roots.Root

@@ -1,25 +1,25 @@
 -- The first checkpoint writes two blocks at most: a block of inodes, and its node.
-use Rattle.std.proofs.Common.{◌≡◌, ◌≢◌, ◌⊎◌, ◌≤◌, ◌+◌, ◌*◌, ℕ, zero, suc, Bool, List, [], ◌∷◌, length, Option, Some, None, refl, ap, sym, subst, ◌∙◌, inl, inr, arith}
-use Rattle.std.proofs.lemmas.Bool.{cases_eq, eq-eqb, ne_eqb}
+use Rattle.std.proofs.Common.{◌≡◌, ◌≢◌, ◌⊎◌, ◌<◌, ◌≤◌, ◌+◌, ◌*◌, ◌/◌, ◌^◌, ℕ, zero, suc, Bool, List, [], ◌∷◌, length, Option, Some, None, refl, ap, sym, subst, ◌∙◌, inl, inr, arith}
+use Rattle.std.proofs.lemmas.Bool.{cases_eq, cases_lt, eq-eqb, ne_eqb}
 use Rattle.std.specs.Prelude.{cond}
+use Rattle.std.proofs.Math.Nat.{div-le_self}
 use Rattle.std.specs.List.{Contains, slice_get}
 use Rattle.std.specs.Option.{option_map, option_and_then}
 use Rattle.nl_types.specs.Entries.{Birth, GivenOnce, birth_of}
 use Rattle.nl_types.specs.Lifetimes.{blank}
 use Rattle.nl_types.specs.Roots as roots
-use Rattle.nl_types.specs.Roots.{Pages, OfChain, OfTree, kind_of, page_at, pages_of, place_at}
+use Rattle.nl_types.specs.Roots.{Pages, page_at, pages_of, place_at}
 use Rattle.nl_types.specs.RootChanges.{IsSound}
 use Rattle.nl_vstore.specs.Batches.{Changes, Fits}
 use Rattle.nl_layout.specs.Root.{root_of}
 use Rattle.nl_layout.specs.declared.root.Root.{Root}
-use Rattle.nl_layout.specs.declared.root.Root.TheVariants.{Empty, Chain}
 use Rattle.nl_layout.specs.declared.inode.Inode.{Inode}
 use Rattle.nl_layout.specs.declared.inode.InodeKind.{InodeKind}
 use Rattle.nl_layout.specs.declared.inode.InodeKind.TheVariants.{File, Directory, InodeFile}
 use Rattle.nl_blocktree.specs.Checkpoints.{WritesWhatDiffers, pages_in}
 use Rattle.nl_blocktree.specs.Putting.{pages_after}
-use Rattle.nl_blocktree.proofs.Frames.{chain-of}
 use Rattle.nl_blocktree.proofs.Staying.{some-of}
+use Rattle.nl_blocktree.proofs.TreeLevels.{tree_above}
 use Rattle.nl_types.proofs.ExactLifetimes.{ledger-blank}
 use Rattle.nl_ifile.specs.Inodes.{block_for, in_block, inode_at}
 use Rattle.nl_dirs.specs.declared.record.Record.{Record}
@@ -61,13 +61,32 @@ empty-directory pages (Some n) h s e sound level offset = empty-as n.kind pages 
 block-none : (f : ℕ → Option Inode) → ((p : ℕ) → f p ≡ None) → block_for f ≡ None
 block-none f h = let e : f ≡ (λ p. None) = λ j. λ p. h p j in ap block_for e
 
-not-tree : (root : Root) → kind_of (root_of root) ≢ OfTree
-not-tree Empty e = cc
-not-tree (Chain top) e = cc
-
-above-none : (pages : Pages) (root : Root) (level offset : ℕ) → place_at pages (root_of root) (suc (suc level)) offset ≡ None
-above-none pages Empty level offset = empty-none pages (suc (suc level)) offset
-above-none pages (Chain top) level offset = high-none pages top level offset
+-- where data has index 0 alone, there is one node at most
+shape-first : (pages : Pages) (root : roots.Root) → IsSound pages root → ((offset v : ℕ) → place_at pages root 0 offset ≡ Some v → offset ≡ 0) →
+    (level offset v : ℕ) → place_at pages root (suc level) offset ≡ Some v → (suc level ≤ 1) × (offset ≡ 0)
+shape-first pages roots.Empty sound first level offset v e = let no : None ≡ Some v = sym (empty-none pages (suc level) offset) ∙ e in cc
+shape-first pages (roots.Chain top) sound first zero offset v e =
+    let r = sound.ends_full refl offset v e in
+    let x = some-of (place_at pages (roots.Chain top) 0 r.0) r.2 in
+    let i = first r.0 x.0 x.1 in
+    (omega arith, omega (arith, r.1, i))
+shape-first pages (roots.Chain top) sound first (suc level) offset v e = let no : None ≡ Some v = sym (high-none pages top level offset) ∙ e in cc
+shape-first pages (roots.Tree height top) sound first level offset v e =
+    let shape = sound.tree_shape refl in
+    let r = shape.above_data level offset v e in
+    let x = some-of (place_at pages (roots.Tree height top) 0 r.0) r.2 in
+    let i = first r.0 x.0 x.1 in
+    let at = r.1 in
+    let least = shape.least in
+    let y = some-of (place_at pages (roots.Tree height top) 0 least.0) least.1 in
+    let j = first least.0 y.0 y.1 in
+    let low = least.2 1 (omega arith) (omega (arith, j)) in
+    let down = div-le_self r.0 (128 ^ suc level) in
+    (within (cases_lt height (suc level)) low, omega (arith, i, at, down))
+  where
+    within : (height < suc level) ⊎ (suc level ≤ height) → height ≤ 1 → suc level ≤ 1
+    within (inl far) low = let no : None ≡ Some v = sym (tree_above pages height top (suc level) offset far) ∙ e in cc
+    within (inr near) low = omega (arith, near, low)
 
 -- two births of a list have two numbers
 one-number : (b : Birth) (births : List Birth) (n : ℕ) → b.number ≡ n → birth_of (b ∷ births) n ≡ None → ⊥
@@ -91,12 +110,7 @@ module _ (room : ℕ) (new : Root) (batch : Changes) (s : Settles blank.content 
 
   place-first : (level offset v : ℕ) → place_at (pages_after blank.content batch) (root_of new) level offset ≡ Some v → (level ≤ 1) × (offset ≡ 0)
   place-first zero offset v e = (omega arith, data-first offset v e)
-  place-first (suc zero) offset v e =
-      let r = s.sound.inode_file.ends_full (chain-of _ (root_of new) offset v (not-tree new) e) offset v e in
-      let x = some-of (place_at (pages_after blank.content batch) (root_of new) 0 r.0) r.2 in
-      let i = data-first r.0 x.0 x.1 in
-      (omega arith, omega (arith, r.1, i))
-  place-first (suc (suc level)) offset v e = absurd (let no : None ≡ Some v = sym (above-none (pages_after blank.content batch) new level offset) ∙ e in cc)
+  place-first (suc level) offset v e = shape-first (pages_after blank.content batch) (root_of new) s.sound.inode_file data-first level offset v e
 
   differs : WritesWhatDiffers (pages_in blank) (pages_in (ledger_with batch blank)) (roots_at (pages_in blank) roots.Empty) (roots_at (pages_in (ledger_with batch blank)) (root_of new)) 6 batch.births batch.ends
   differs = settled-differ room blank roots.Empty (root_of new) nothing_held first_holding root_directory_alone batch ledger-blank latest-first s fits

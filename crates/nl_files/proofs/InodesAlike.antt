@@ -22,8 +22,16 @@ use Rattle.nl_files.proofs.Following.{some-held}
 root_of-one : (a b : CodeRoot) → root_of a ≡ root_of b → a ≡ b
 root_of-one code_root.Empty code_root.Empty e = refl
 root_of-one code_root.Empty (code_root.Chain t) e = cc
+root_of-one code_root.Empty (code_root.Tree h t) e = cc
 root_of-one (code_root.Chain t) code_root.Empty e = cc
 root_of-one (code_root.Chain t) (code_root.Chain u) e = let top : t ≡ u = cc in ap code_root.Chain top
+root_of-one (code_root.Chain t) (code_root.Tree h u) e = cc
+root_of-one (code_root.Tree g t) code_root.Empty e = cc
+root_of-one (code_root.Tree g t) (code_root.Chain u) e = cc
+root_of-one (code_root.Tree g t) (code_root.Tree h u) e =
+    let height : g ≡ h = cc in
+    let top : t ≡ u = cc in
+    ap (λ (k : ℕ). code_root.Tree k t) height ∙ ap (code_root.Tree h) top
 
 inode-one : (n m : Inode) → n.kind ≡ m.kind → n.root ≡ m.root → n.size ≡ m.size → n ≡ m
 inode-one n m kind root size = λ i. record { kind = kind i; root = root i; size = size i }

@@ -8,7 +8,7 @@ use Rattle.nl_types.specs.RootChanges.{IsSound}
 use Rattle.nl_vstore.specs.Batches.{Changes}
 use Rattle.nl_layout.specs.Root.{root_of}
 use Rattle.nl_layout.specs.declared.root.Root.{Root}
-use Rattle.nl_layout.specs.declared.root.Root.TheVariants.{Empty, Chain}
+use Rattle.nl_layout.specs.declared.root.Root.TheVariants.{Empty, Chain, Tree}
 use Rattle.nl_layout.specs.declared.inode.Inode.{Inode}
 use Rattle.nl_blocktree.specs.declared.change.BlockChange.{BlockChange}
 use Rattle.nl_blocktree.specs.Changed.{blocks_with}
@@ -53,6 +53,9 @@ no_root pages (Chain top) sound none =
     let first = some-of (place_at pages (roots.Chain top) 1 0) (sound.has_top (λ e. let no : OfChain ≡ NoBlocks = e in cc)) in
     let there = sound.ends_full refl 0 first.0 first.1 in
     absurd (clash (place_at pages (roots.Chain top) 0 there.0) there.2 (no_data pages (roots.Chain top) sound none there.0))
+no_root pages (Tree height top) sound none =
+    let there = (sound.tree_shape refl).least in
+    absurd (clash (place_at pages (roots.Tree height top) 0 there.0) there.1 (no_data pages (roots.Tree height top) sound none there.0))
 
 pub no_place : (pages : Pages) (root : Root) → IsSound pages (root_of root) → ((b : ℕ) → page_at pages (root_of root) b ≡ None) →
     (level offset : ℕ) → place_at pages (root_of root) level offset ≡ None

@@ -1,21 +1,21 @@
 -- Two ways to put changes into a file that lead to the same blocks: they write the same places, under the same numbers, and
 -- give one root.
-use Rattle.std.proofs.Common.{◌≡◌, ◌≢◌, ◌⊎◌, ℕ, zero, suc, ◌/◌, ◌%◌, ◌≤◌, List, [], ◌∷◌, ◌++◌, Option, Some, None, refl, ap, sym, subst, ◌∙◌, arith, inl, inr}
+use Rattle.std.proofs.Common.{◌≡◌, ◌≢◌, ◌⊎◌, ℕ, zero, suc, ◌/◌, ◌^◌, ◌<◌, ◌≤◌, List, [], ◌∷◌, ◌++◌, Option, Some, None, refl, ap, sym, subst, ◌∙◌, arith, inl, inr}
 use Rattle.std.specs.List.{Contains}
 use Rattle.std.specs.Option.{IsSome, option_and_then}
 use Rattle.std.proofs.lemmas.Bool.{both_ways, cases_lt}
 use Rattle.std.proofs.lemmas.List.{append-nil}
 use Rattle.nl_types.proofs.Births.{uncons}
 use Rattle.nl_types.specs.Entries.{Birth, Content, number_of}
-use Rattle.nl_types.specs.Roots.{Chain, Empty, NoBlocks, OfChain, OfTree, Pages, Root, RootKind, Tree, chain_node, child, kind_of, numbered, page_at, pages_of, place_at}
+use Rattle.nl_types.specs.Roots.{Chain, Empty, NoBlocks, OfChain, OfTree, Pages, Root, RootKind, Tree, height_of, kind_of, numbered, page_at, pages_of, place_at}
 use Rattle.nl_types.specs.RootChanges.{InPayloadOrder, IsAt, IsSound, IsWrittenPlace, KeepsFile, NodeWritten, Precedes, born, new_kind, of_chain, of_tree, was_absent}
 use Rattle.nl_vstore.specs.Batches.{Changes, IsLowestFree, TakeLowestFree}
 use Rattle.nl_blocktree.specs.declared.change.BlockChange.{BlockChange}
 use Rattle.nl_blocktree.specs.Putting.{IsWrittenKind, PutsAll, pages_after}
-use Rattle.nl_blocktree.proofs.Frames.{births-keep, cases-Option, chain-of, keeps-file}
+use Rattle.nl_blocktree.proofs.Frames.{births-keep, cases-Option, keeps-file}
 use Rattle.nl_blocktree.proofs.Numbers.{born-append, free-same}
 use Rattle.nl_blocktree.proofs.Pairwise.{pairs-head, pairs-tail}
-use Rattle.nl_blocktree.proofs.Places.{above}
+use Rattle.nl_blocktree.proofs.TreeLevels.{below_power, node_above, tree_above, tree_top}
 use Rattle.nl_blocktree.proofs.Staying.{some-is, some-of, unwritten}
 
 -- ---- lists in payload order
@@ -133,24 +133,6 @@ beside (z ∷ xs) (y ∷ ys) s e x c = elim (uncons z xs x c) [
 
 -- ---- places of the same blocks
 
-child-some : (pages : Pages) (s : ℕ) (o : Option ℕ) → IsSome (child pages s o) → IsSome o
-child-some pages s None h = cc
-child-some pages s (Some n) h = some-is (Some n) n refl
-
-nodes-before : (pages : Pages) (top n p : ℕ) → p ≤ n → IsSome (chain_node pages top n) → IsSome (chain_node pages top p)
-unfolding chain_node
-nodes-before pages top zero p l h = let e : 0 ≡ p = omega (arith, l) in subst (λ (k : ℕ). IsSome (chain_node pages top k)) e h
-nodes-before pages top (suc n) p l h = elim (cases_lt n p) [
-  | inl m ↦ let e : suc n ≡ p = omega (arith, l, m) in subst (λ (k : ℕ). IsSome (chain_node pages top k)) e h
-  | inr m ↦ nodes-before pages top n p m (child-some pages 127 (chain_node pages top n) h)
-]
-
-node-over : (pages : Pages) (root : Root) (i p : ℕ) → kind_of root ≢ OfTree → p ≤ i / 127 → IsSome (place_at pages root 0 i) → IsSome (place_at pages root 1 p)
-unfolding place_at
-node-over pages Empty i p flat l h = cc
-node-over pages (Chain top) i p flat l h = nodes-before pages top (i / 127) p l (child-some pages (i % 127) (chain_node pages top (i / 127)) h)
-node-over pages (Tree height top) i p flat l h = absurd (flat refl)
-
 block-some : (pages : Pages) (root : Root) (i : ℕ) → IsSound pages root → IsSome (place_at pages root 0 i) → IsSome (page_at pages root i)
 block-some pages root i s h =
     let v = some-of _ h in
@@ -161,50 +143,95 @@ place-some : (pages : Pages) (o : Option ℕ) → IsSome (option_and_then pages 
 place-some pages None h = cc
 place-some pages (Some n) h = some-is (Some n) n refl
 
-module _ (pages more other : Pages) (root new alike : Root) (sound : IsSound more new) (flat : kind_of new ≢ OfTree) (flat' : kind_of alike ≢ OfTree) (target : (i : ℕ) → page_at more new i ≡ page_at other alike i) where
+none-empty : (pages : Pages) (level offset : ℕ) → place_at pages Empty level offset ≡ None
+unfolding place_at
+none-empty pages level offset = refl
+
+-- data stands below a height of nodes
+height-over : (pages : Pages) (root : Root) (i : ℕ) → kind_of root ≢ OfChain → IsSound pages root → IsSome (place_at pages root 0 i) → (1 ≤ height_of root) × (i < 128 ^ height_of root)
+height-over pages Empty i c s h = let v = some-of _ h in let no : None ≡ Some v.0 = sym (none-empty pages 0 i) ∙ v.1 in cc
+height-over pages (Chain top) i c s h = absurd (c refl)
+height-over pages (Tree height top) i c s h = let v = some-of _ h in ((s.tree_shape refl).low, below_power pages height top i v.0 v.1)
+
+node-over : (pages : Pages) (root : Root) (i level : ℕ) → kind_of root ≢ OfChain → level ≤ height_of root → IsSome (place_at pages root 0 i) → IsSome (place_at pages root level (i / 128 ^ level))
+node-over pages Empty i level c l h = let v = some-of _ h in let no : None ≡ Some v.0 = sym (none-empty pages 0 i) ∙ v.1 in cc
+node-over pages (Chain top) i level c l h = absurd (c refl)
+node-over pages (Tree height top) i level c l h = let v = some-of _ h in let n = node_above pages height top i v.0 v.1 level l in some-is (place_at pages (Tree height top) level (i / 128 ^ level)) n.0 n.1
+
+-- what stands on a level of nodes stands above data, within the height
+above-data : (pages : Pages) (root : Root) (level offset : ℕ) → kind_of root ≢ OfChain → IsSound pages root → IsSome (place_at pages root (suc level) offset) →
+    (kind_of root ≡ OfTree) × (suc level ≤ height_of root) × ((i : ℕ) × (i / 128 ^ suc level ≡ offset) × IsSome (place_at pages root 0 i))
+above-data pages Empty level offset c s h = let v = some-of _ h in let no : None ≡ Some v.0 = sym (none-empty pages (suc level) offset) ∙ v.1 in cc
+above-data pages (Chain top) level offset c s h = absurd (c refl)
+above-data pages (Tree height top) level offset c s h =
+    let v = some-of _ h in (
+      refl,
+      elim (cases_lt height (suc level)) [
+        | inl far ↦ let no : None ≡ Some v.0 = sym (tree_above pages height top (suc level) offset far) ∙ v.1 in cc
+        | inr low ↦ low
+      ],
+      (s.tree_shape refl).above_data level offset v.0 v.1,
+    )
+
+module _ (pages more other : Pages) (root new alike : Root) (sound : IsSound more new) (sound' : IsSound other alike) (flat : kind_of new ≢ OfChain) (flat' : kind_of alike ≢ OfChain) (target : (i : ℕ) → page_at more new i ≡ page_at other alike i) where
   some-data : (i : ℕ) → IsSome (place_at more new 0 i) → IsSome (place_at other alike 0 i)
   some-data i h = place-some other (place_at other alike 0 i) (subst (λ (o : Option (List ℕ)). IsSome o) (target i) (block-some more new i sound h))
 
+  lower-height : height_of new ≤ height_of alike
+  lower-height = at new refl
+    where
+      at : (r : Root) → r ≡ new → height_of new ≤ height_of alike
+      at Empty e = let z = ap height_of e in omega (arith, z)
+      at (Chain top) e = absurd (flat (sym (ap kind_of e)))
+      at (Tree height top) e =
+          let l = (sound.tree_shape (sym (ap kind_of e))).least in
+          let o = height-over other alike l.0 flat' sound' (some-data l.0 l.1) in
+          l.2 (height_of alike) o.0 o.1
+
   some-alike : (level offset : ℕ) → IsSome (place_at more new level offset) → IsSome (place_at other alike level offset)
   some-alike zero i h = some-data i h
-  some-alike (suc zero) p h =
-      let v = some-of _ h in
-      let r = sound.ends_full (chain-of more new p v.0 flat v.1) p v.0 v.1 in
-      node-over other alike r.0 p flat' r.1 (some-data r.0 r.2)
-  some-alike (suc (suc level)) offset h = let v = some-of _ h in let no : None ≡ Some v.0 = sym (above more new level offset flat) ∙ v.1 in cc
+  some-alike (suc level) offset h =
+      let r = above-data more new level offset flat sound h in
+      let l = lower-height in
+      let low : suc level ≤ height_of alike = (let m = r.1 in omega (arith, m, l)) in
+      subst (λ (o : ℕ). IsSome (place_at other alike (suc level) o)) r.2.1 (node-over other alike r.2.0 (suc level) flat' low (some-data r.2.0 r.2.2))
+
+  is-tree : (level offset : ℕ) → IsSome (place_at more new (suc level) offset) → kind_of alike ≡ OfTree
+  is-tree level offset h = (above-data other alike level offset flat' sound' (some-alike (suc level) offset h)).0
 
   written-alike : (level offset : ℕ) → IsWrittenPlace pages more root new level offset → IsWrittenPlace pages other root alike level offset
   written-alike zero i w = (some-alike 0 i w.0, λ e. w.1 (e ∙ sym (target i)))
-  written-alike (suc zero) p w = (some-alike 1 p w.0, node w.1)
+  written-alike (suc level) p w = (some-alike (suc level) p w.0, node w.1)
     where
-      is_chain : kind_of new ≡ OfChain
-      is_chain = let v = some-of _ w.0 in chain-of more new p v.0 flat v.1
+      tree : kind_of new ≡ OfTree
+      tree = (above-data more new level p flat sound w.0).0
 
-      is_chain' : kind_of alike ≡ OfChain
-      is_chain' = let v = some-of _ (some-alike 1 p w.0) in chain-of other alike p v.0 flat' v.1
+      tree' : kind_of alike ≡ OfTree
+      tree' = is-tree level p w.0
 
-      node : NodeWritten pages more root new 1 p → NodeWritten pages other root alike 1 p
+      node : NodeWritten pages more root new (suc level) p → NodeWritten pages other root alike (suc level) p
       node (was_absent e) = was_absent e
-      node (new_kind e) = new_kind (λ k. e (k ∙ (is_chain' ∙ sym is_chain)))
-      node (of_chain k i e) = of_chain is_chain' i (λ x. e (x ∙ sym (target i)))
-      node (of_tree k i at e) = absurd (flat k)
-  written-alike (suc (suc level)) offset w = let v = some-of _ w.0 in let no : None ≡ Some v.0 = sym (above more new level offset flat) ∙ v.1 in cc
+      node (new_kind e) = new_kind (λ k. e (k ∙ (tree' ∙ sym tree)))
+      node (of_chain k i e) = absurd (flat k)
+      node (of_tree k i at e) = of_tree tree' i at (λ x. e (x ∙ sym (target i)))
 
--- a root is told by its first node
-one-root : (pages other : Pages) (a b : Root) → kind_of a ≢ OfTree → kind_of b ≢ OfTree → IsSound pages a → IsSound other b → place_at pages a 1 0 ≡ place_at other b 1 0 → a ≡ b
-unfolding place_at chain_node
-one-root pages other Empty Empty fa fb sa sb e = refl
-one-root pages other Empty (Chain t) fa fb sa sb e = let x = some-of _ (sb.has_top (λ k. cc)) in let no : None ≡ Some x.0 = e ∙ x.1 in cc
-one-root pages other (Chain t) Empty fa fb sa sb e = let x = some-of _ (sa.has_top (λ k. cc)) in let no : None ≡ Some x.0 = sym e ∙ x.1 in cc
-one-root pages other (Chain t) (Chain u) fa fb sa sb e = ap Chain (tops t u e (sa.has_top (λ k. cc)))
+-- a root is told by its height and its top
+one-root : (pages other : Pages) (a b : Root) → kind_of a ≢ OfChain → kind_of b ≢ OfChain → IsSound pages a → IsSound other b → height_of a ≡ height_of b → ((level : ℕ) → place_at pages a level 0 ≡ place_at other b level 0) → a ≡ b
+one-root pages other Empty Empty fa fb sa sb n e = refl
+one-root pages other Empty (Tree height t) fa fb sa sb n e = let x = some-of _ (sb.has_top (λ k. cc)) in let no : None ≡ Some x.0 = sym (none-empty pages height 0) ∙ (e height ∙ x.1) in cc
+one-root pages other (Tree height t) Empty fa fb sa sb n e = let x = some-of _ (sa.has_top (λ k. cc)) in let no : None ≡ Some x.0 = sym (none-empty other height 0) ∙ (sym (e height) ∙ x.1) in cc
+one-root pages other (Tree height t) (Tree h u) fa fb sa sb n e =
+    ap (λ (k : ℕ). Tree k t) n ∙ ap (Tree h) (tops t u
+    (sym (tree_top pages height t 0) ∙ (e height ∙ (ap (λ (k : ℕ). place_at other (Tree h u) k 0) n ∙ tree_top other h u 0)))
+    (subst (λ (o : Option ℕ). IsSome o) (tree_top pages height t 0) (sa.has_top (λ k. cc))))
   where
     tops : (t u : ℕ) → numbered t ≡ numbered u → IsSome (numbered t) → t ≡ u
     tops zero u e h = cc
     tops (suc t) zero e h = cc
     tops (suc t) (suc u) e h = cc
-one-root pages other (Tree height t) b fa fb sa sb e = absurd (fa refl)
-one-root pages other Empty (Tree height t) fa fb sa sb e = absurd (fb refl)
-one-root pages other (Chain u) (Tree height t) fa fb sa sb e = absurd (fb refl)
+one-root pages other (Chain t) b fa fb sa sb n e = absurd (fa refl)
+one-root pages other Empty (Chain t) fa fb sa sb n e = absurd (fb refl)
+one-root pages other (Tree height u) (Chain t) fa fb sa sb n e = absurd (fb refl)
 
 -- ---- two ways
 
@@ -214,19 +241,19 @@ SameBatchAndRoot one two root other = (born one.births ≡ born two.births) × (
 
 module _ (content : Content) (inode : ℕ) (root one other : Root) (changes changes' : List BlockChange) (before after before' after' : Changes)
     (p : PutsAll content inode root one changes before after) (q : PutsAll content inode root other changes' before' after')
-    (flat : kind_of one ≢ OfTree) (flat' : kind_of other ≢ OfTree)
+    (flat : kind_of one ≢ OfChain) (flat' : kind_of other ≢ OfChain)
     (target : (i : ℕ) → page_at (pages_after content after) one i ≡ page_at (pages_after content after') other i)
     (numbers : born before.births ≡ born before'.births) where
   there : StandAmong p.births q.births
   there x c = turned x (q.rewrites.written_born x.place.level x.place.offset
-      (written-alike (pages_of content) (pages_after content after) (pages_after content after') root one other p.sound flat flat' target x.place.level x.place.offset (p.rewrites.born_written x c)))
+      (written-alike (pages_of content) (pages_after content after) (pages_after content after') root one other p.sound q.sound flat flat' target x.place.level x.place.offset (p.rewrites.born_written x c)))
     where
       turned : (x : Birth) → ((b : Birth) × Contains q.births b × IsAt b x.place.level x.place.offset) → (y : Birth) × Contains q.births y × IsSamePlace x y
       turned x r = (r.0, r.1, (sym r.2.0, sym r.2.1))
 
   back : StandAmong q.births p.births
   back x c = turned x (p.rewrites.written_born x.place.level x.place.offset
-      (written-alike (pages_of content) (pages_after content after') (pages_after content after) root other one q.sound flat' flat (λ i. sym (target i)) x.place.level x.place.offset (q.rewrites.born_written x c)))
+      (written-alike (pages_of content) (pages_after content after') (pages_after content after) root other one q.sound p.sound flat' flat (λ i. sym (target i)) x.place.level x.place.offset (q.rewrites.born_written x c)))
     where
       turned : (x : Birth) → ((b : Birth) × Contains p.births b × IsAt b x.place.level x.place.offset) → (y : Birth) × Contains p.births y × IsSamePlace x y
       turned x r = (r.0, r.1, (sym r.2.0, sym r.2.1))
@@ -275,23 +302,29 @@ module _ (content : Content) (inode : ℕ) (root one other : Root) (changes chan
     | inl e ↦ elim (cases-Option (place_at (pages_after content after') other level offset)) [
       | inl f ↦ e ∙ sym f
       | inr w ↦
-          let s = some-alike (pages_of content) (pages_after content after') (pages_after content after) root other one q.sound flat' flat (λ i. sym (target i)) level offset (some-is _ w.0 w.1) in
+          let s = some-alike (pages_of content) (pages_after content after') (pages_after content after) root other one q.sound p.sound flat' flat (λ i. sym (target i)) level offset (some-is _ w.0 w.1) in
           let x = some-of _ s in
           let no : None ≡ Some x.0 = sym e ∙ x.1 in cc
     ]
     | inr v ↦
-        let s = some-alike (pages_of content) (pages_after content after) (pages_after content after') root one other p.sound flat flat' target level offset (some-is _ v.0 v.1) in
+        let s = some-alike (pages_of content) (pages_after content after) (pages_after content after') root one other p.sound q.sound flat flat' target level offset (some-is _ v.0 v.1) in
         let w = some-of _ s in
         v.1 ∙ (ap Some (same-place level offset v.0 w.0 v.1 w.1) ∙ sym w.1)
   ]
 
-  chains-alike : SameBatchAndRoot after after' one other
-  chains-alike = (born-alike, one-root (pages_after content after) (pages_after content after') one other flat flat' p.sound q.sound (places-alike 1 0))
+  same-height : height_of one ≡ height_of other
+  same-height =
+      let a = lower-height (pages_of content) (pages_after content after) (pages_after content after') root one other p.sound q.sound flat flat' target in
+      let b = lower-height (pages_of content) (pages_after content after') (pages_after content after) root other one q.sound p.sound flat' flat (λ i. sym (target i)) in
+      omega (arith, a, b)
 
-is_flat : (kind : RootKind) → IsWrittenKind kind → kind ≢ OfTree
+  trees-alike : SameBatchAndRoot after after' one other
+  trees-alike = (born-alike, one-root (pages_after content after) (pages_after content after') one other flat flat' p.sound q.sound same-height (λ level. places-alike level 0))
+
+is_flat : (kind : RootKind) → IsWrittenKind kind → kind ≢ OfChain
 is_flat NoBlocks k = λ e. cc
-is_flat OfChain k = λ e. cc
-is_flat OfTree k = absurd k
+is_flat OfChain k = absurd k
+is_flat OfTree k = λ e. cc
 
 -- a root that was there before is sound, and its numbers have their pages still
 old-stays : (content : Content) (inode : ℕ) (root new : Root) (changes : List BlockChange) (before after : Changes) → PutsAll content inode root new changes before after →
@@ -340,4 +373,4 @@ put-alike content inode root one other changes changes' before after before' aft
     by (inr h) (inl same) =
         let r = root-stays content inode root other one changes' changes before' after' before after q p sound (λ i. sym (target i)) (sym numbers) same in
         (sym r.0, sym r.1)
-    by (inr h) (inr k) = chains-alike content inode root one other changes changes' before after before' after' p q (is_flat (kind_of one) h) (is_flat (kind_of other) k) target numbers
+    by (inr h) (inr k) = trees-alike content inode root one other changes changes' before after before' after' p q (is_flat (kind_of one) h) (is_flat (kind_of other) k) target numbers

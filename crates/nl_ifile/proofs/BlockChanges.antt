@@ -10,7 +10,7 @@ use Rattle.nl_layout.specs.Inode.{EntryFits}
 use Rattle.nl_blocktree.specs.declared.change.BlockChange.{BlockChange}
 use Rattle.nl_blocktree.specs.Changed.{blocks_with, indexes}
 use Rattle.nl_blocktree.proofs.HeldPages.{Sets}
-use Rattle.nl_blocktree.proofs.MoreChanges.{sets-one}
+use Rattle.nl_blocktree.proofs.TreeData.{sets-one}
 use Rattle.nl_ifile.specs.declared.change.InodeChange.{InodeChange}
 use Rattle.nl_ifile.specs.Inodes.{InodeMap, block_for, entry_for, in_block}
 use Rattle.nl_ifile.specs.Changing.{AreBlockChanges, AreFirstBlockChanges, NumbersAscend, inodes_with}

@@ -2,20 +2,22 @@
 use Rattle.std.proofs.Common.{Bool, subst, ◌≡◌, ℕ, zero, suc, ◌/◌, ◌%◌, ◌<◌, ◌≤◌, ◌^◌, ◌*◌, List, ◌++◌, take, drop, slice_index, true, false, cond, Option, None, Some, IfSome, refl, ap, sym, ◌∙◌, arith}
 use Rattle.std.proofs.Math.Nat.{mod-lt}
 use Rattle.std.proofs.Math.ListN.{replicate}
+use Rattle.std.specs.Prelude.{◌==◌, ◌&&◌, nat_le}
 use Rattle.std.specs.Option.{option_map, option_and_then}
 use Rattle.std.specs.Str.{bytes_eq}
-use Rattle.std.proofs.lemmas.Bool.{cond-true}
+use Rattle.std.proofs.lemmas.Bool.{cond-true, leb-true}
 use Rattle.std.proofs.lemmas.Slice.Eq.{bytes_eq-Decides}
 use Rattle.byteorder.specs.Endian.{little_bytes, little_number}
 use Rattle.byteorder.specs.Numbers.{little_from-bytes}
 use Rattle.nl_layout.specs.declared.root.Root.{Root}
-use Rattle.nl_layout.specs.declared.root.Root.TheVariants.{Empty, Chain}
+use Rattle.nl_layout.specs.declared.root.Root.TheVariants.{Empty, Chain, Tree}
 use Rattle.nl_layout.specs.declared.inode.Inode.{Inode}
 use Rattle.nl_layout.specs.declared.inode.InodeKind.{InodeKind}
 use Rattle.nl_layout.specs.declared.inode.InodeKind.TheVariants.{File, Directory, InodeFile}
 use Rattle.nl_layout.specs.declared.inode.InodeEntry.{InodeEntry}
 use Rattle.nl_layout.specs.declared.inode.InodeEntry.TheVariants.{Free, InUse}
-use Rattle.nl_layout.specs.Inode.{Spells, InodeFits, EntryFits, entry_bytes, entry_at, entry_with, inode_bytes, root_at, root_number}
+use Rattle.nl_layout.specs.Inode.{Spells, InodeFits, EntryFits, entry_bytes, entry_at, entry_with, inode_bytes}
+use Rattle.nl_layout.specs.Root.{fields_of, root_told_by}
 use Rattle.nl_layout.specs.Inode as layout
 use Rattle.nl_layout.proofs.Inodes.{entry_at-Spells}
 use borrow.Rule.Slice.PartMut.{mid_of}
@@ -28,12 +30,29 @@ number_fits n rest =
     let low : n / 256 ^ 0 % 256 ^ 8 < 256 ^ 8 = mod-lt (n / 256 ^ 0) (omega arith) in
     omega (arith, little_from-bytes 8 0 n rest)
 
-root_number-root_at : (code number : ℕ) (r : Root) → root_at code number ≡ Some r → root_number r ≤ number
-root_number-root_at zero number Empty e = omega arith
-root_number-root_at zero number (Chain first) e = cc
-root_number-root_at (suc zero) number Empty e = omega arith
-root_number-root_at (suc zero) number (Chain first) e = let same : number ≡ first = cc in omega arith
-root_number-root_at (suc (suc code)) number r e = cc
+-- what is told of a root: a number no greater than the one that is read, and a height that is one
+told-if : (b : Bool) (x r : Root) → cond b (Some x) None ≡ Some r → x ≡ r
+told-if true x r is = cc
+told-if false x r is = cc
+
+root_fits : (code height number : ℕ) (r : Root) → root_told_by code height number ≡ Some r
+    → ((fields_of r).number ≤ number) × ((fields_of r).height ≤ 3)
+root_fits zero height number r is =
+    let same = told-if (height == 0 && number == 0) Empty r is in
+    (let n = ap (λ (x : Root). (fields_of x).number) same in omega (arith, n), let h = ap (λ (x : Root). (fields_of x).height) same in omega (arith, h))
+root_fits (suc zero) height number r is =
+    let same = told-if (height == 0) (Chain number) r is in
+    (let n = ap (λ (x : Root). (fields_of x).number) same in omega (arith, n), let h = ap (λ (x : Root). (fields_of x).height) same in omega (arith, h))
+root_fits (suc (suc zero)) height number r is = by (nat_le height 3) refl is
+  where
+    by : (low : Bool) → nat_le height 3 ≡ low → cond low (Some (Tree height number)) None ≡ Some r
+        → ((fields_of r).number ≤ number) × ((fields_of r).height ≤ 3)
+    by true low told =
+        let same = told-if true (Tree height number) r told in
+        let most = leb-true height 3 low in
+        (let n = ap (λ (x : Root). (fields_of x).number) same in omega (arith, n), let h = ap (λ (x : Root). (fields_of x).height) same in omega (arith, h, most))
+    by false low told = cc
+root_fits (suc (suc (suc code))) height number r is = cc
 
 inode-option_map : (kind : InodeKind) (size : ℕ) (o : Option Root) (i : Inode) → option_map (λ root. InUse (record { kind = kind; root = root; size = size })) o ≡ Some (InUse i) → (i.size ≡ size) × (o ≡ Some i.root)
 inode-option_map kind size None i e = cc
@@ -44,13 +63,13 @@ inode-option_map kind size (Some r) i e =
 
 inode_at-fits : (kind : InodeKind) (bytes : List ℕ) (i : Inode) → layout.used_entry_at kind bytes ≡ Some (InUse i) → inode_bytes i ≡ bytes → InodeFits i
 inode_at-fits kind bytes i e spelling =
-    let parts = inode-option_map kind (little_number 8 (drop 8 bytes)) (root_at (slice_index bytes 1) (little_number 8 (drop 16 bytes))) i e in
-    let size : little_number 8 (drop 8 (inode_bytes i)) < 2 ^ 64 = number_fits i.size (little_bytes 8 (root_number i.root) ++ replicate 104 0) in
-    let number : little_number 8 (drop 16 (inode_bytes i)) < 2 ^ 64 = number_fits (root_number i.root) (replicate 104 0) in
+    let parts = inode-option_map kind (little_number 8 (drop 8 bytes)) (root_told_by (slice_index bytes 1) (slice_index bytes 2) (little_number 8 (drop 16 bytes))) i e in
+    let size : little_number 8 (drop 8 (inode_bytes i)) < 2 ^ 64 = number_fits i.size (little_bytes 8 (fields_of i.root).number ++ replicate 104 0) in
+    let number : little_number 8 (drop 16 (inode_bytes i)) < 2 ^ 64 = number_fits ((fields_of i.root).number) (replicate 104 0) in
     let size_is : little_number 8 (drop 8 (inode_bytes i)) ≡ little_number 8 (drop 8 bytes) = ap (λ (b : List ℕ). little_number 8 (drop 8 b)) spelling in
     let number_is : little_number 8 (drop 16 (inode_bytes i)) ≡ little_number 8 (drop 16 bytes) = ap (λ (b : List ℕ). little_number 8 (drop 16 b)) spelling in
-    let most : root_number i.root ≤ little_number 8 (drop 16 bytes) = root_number-root_at _ _ i.root parts.1 in
-    record { size = omega (arith, parts.0, size, size_is); number = omega (arith, most, number, number_is) }
+    let most = root_fits (slice_index bytes 1) (slice_index bytes 2) (little_number 8 (drop 16 bytes)) i.root parts.1 in
+    record { size = omega (arith, parts.0, size, size_is); height = most.1; number = omega (arith, most.0, number, number_is) }
 
 entry_with-fits : (code : ℕ) (bytes : List ℕ) (entry : InodeEntry) → entry_with code bytes ≡ Some entry → entry_bytes entry ≡ bytes → EntryFits entry
 entry_with-fits code bytes Free e spelling = tt

@@ -1,6 +1,6 @@
 -- A store, and checkpoints kept over it, have one image.
-use Rattle.std.proofs.Common.{◌≡◌, ◌∙◌, ℕ, ◌<◌, List, [], ◌∷◌, Some, ap, arith, get_or, inl, inr, length, refl, subst, sym}
-use Rattle.std.specs.Prelude.{map}
+use Rattle.std.proofs.Common.{◌≡◌, ◌∙◌, ℕ, ◌<◌, Bool, true, false, cond, List, [], ◌∷◌, Option, None, Some, ap, arith, get_or, inl, inr, length, refl, subst, sym}
+use Rattle.std.specs.Prelude.{map, nat_le}
 use Rattle.std.specs.List.{AllZip}
 use Rattle.std.specs.Option.{option_and_then, option_map}
 use Rattle.std.proofs.lemmas.Bool.{cases_eq, cases_order}
@@ -12,7 +12,7 @@ use Rattle.nl_types.specs.Segments.{IsUsed}
 use Rattle.nl_layout.specs.Root.{fields_of, root_of, root_told}
 use Rattle.nl_layout.specs.declared.checkpoint_entry.CheckpointEntry.{CheckpointEntry}
 use Rattle.nl_layout.specs.declared.root.Root as layout
-use Rattle.nl_layout.specs.declared.root.Root.TheVariants.{Chain, Empty}
+use Rattle.nl_layout.specs.declared.root.Root.TheVariants.{Chain, Empty, Tree}
 use Rattle.nl_space.specs.Content.{SpaceContent}
 use Rattle.nl_space.specs.Images.{AreBlocksOf, IsPageOf, page_bytes}
 use Rattle.nl_vstore.specs.Stores.{Store, content_in, space_in}
@@ -81,9 +81,23 @@ one-size pages root a b shape s t = elim (cases_order s.count t.count) [
   | inr (inr more) ↦ absurd (not-less pages root b a shape t s more)
 ]
 
-told-fields : (r : layout.Root) → root_told (fields_of r) ≡ Some r
-told-fields Empty = refl
-told-fields (Chain top) = refl
+-- the fields of a root tell no other
+told-one : (r s : layout.Root) → root_told (fields_of r) ≡ Some s → r ≡ s
+told-one Empty s is = same_Some Empty s is
+told-one (Chain top) s is = same_Some (Chain top) s is
+told-one (Tree height top) s is = by (nat_le height 3) is
+  where
+    by : (low : Bool) → cond low (Some (Tree height top)) None ≡ Some s → Tree height top ≡ s
+    by true same = same_Some (Tree height top) s same
+    by false same = cc
+
+told-root : (c : Checkpoint) (e : CheckpointEntry) (root : Root) → e.root ≡ fields_of c.root → (told e).root ≡ Some root → root ≡ root_of c.root
+told-root c e root is same = by (root_told e.root) refl same
+  where
+    by : (o : Option layout.Root) → root_told e.root ≡ o → option_map root_of o ≡ Some root → root ≡ root_of c.root
+    by None found none = cc
+    by (Some r) found some =
+        same_Some root (root_of r) (sym some) ∙ sym (ap root_of (told-one c.root r (ap root_told (sym is) ∙ found)))
 
 one-entry : (pages : Pages) (c : Checkpoint) (e f : CheckpointEntry)
     → IsSizedEntry pages c e → IsSizedEntry pages c f → IsSoundShape pages (told e) → e ≡ f
@@ -96,11 +110,8 @@ one-entry pages c e f one other shape = λ i. record {
   size = one-size pages (root_of c.root) e.size f.size has one.size other.size i;
 }
   where
-    its : (told e).root ≡ Some (root_of c.root)
-    its = ap (option_map root_of) (ap root_told one.entry.root ∙ told-fields c.root)
-
     has : HasShape pages (root_of c.root)
-    has = subst (HasShape pages) (same_Some shape.0 (root_of c.root) (sym shape.1 ∙ its)) (shape.2.files Itself)
+    has = subst (HasShape pages) (told-root c e shape.0 one.entry.root shape.1) (shape.2.files Itself)
 
 same-entries : (pages : Pages) (kept : List Checkpoint) (es fs : List CheckpointEntry)
     → AllZip (IsSizedEntry pages) kept es → AllZip (IsSizedEntry pages) kept fs

@@ -1,6 +1,6 @@
 //! Which condition is the first that an image fails: for each sentence of the conditions an image that breaks it.
 use crate::judging::fault_of;
-use crate::volume::{Change, NO_END, Part, TWO_BLOCKS, image_with};
+use crate::volume::{Change, HIGH_TREE, NO_END, Part, TREES, TWO_BLOCKS, image_with};
 use nl_types::VolError;
 use std::alloc::Global;
 use std::test::Fail;
@@ -22,7 +22,7 @@ fn fails(
 // ---- what meets all conditions
 
 /// Nothing; a dirty segment in place of the active one; a segment in error; a snapshot fewer; other data; records of live
-/// blocks with another inode, offset or level; a file with a hole of 64 MiB behind its blocks.
+/// blocks with another inode, offset or level; a file with a hole of 64 MiB behind its blocks; trees in the place of chains.
 pub(crate) const SOUND: &[Row] = &[
     &[],
     &[(Part::Segment(0), 12, &[2])],
@@ -35,6 +35,8 @@ pub(crate) const SOUND: &[Row] = &[
         (Part::Block(0), 88, &[3]),
     ],
     &[(Part::Block(14), 392, &[0, 0, 0, 4])],
+    TREES,
+    HIGH_TREE,
 ];
 
 // ---- conditions 1 to 3
@@ -121,18 +123,21 @@ const LOGS: &[Row] = &[
 
 // ---- condition 8: shapes
 
-/// Of the file of inodes: a root of kind 2; one with a height; an empty one with a number; a chain without one.
+/// Of the file of inodes: a root of kind 3; a chain with a height; a tree without one; an empty root with a number; a chain
+/// without one.
 const ROOTS: &[Row] = &[
-    &[(Part::Checkpoint(1), 33, &[2])],
+    &[(Part::Checkpoint(1), 33, &[3])],
     &[(Part::Checkpoint(1), 34, &[1])],
+    &[(Part::Checkpoint(1), 33, &[2])],
     &[(Part::Checkpoint(1), 33, &[0])],
     &[(Part::Checkpoint(1), 48, &[0])],
 ];
 
 /// The same of inodes; an inode of kind 4; a byte outside the fields of one in use, and of a free one; a block without one.
 const INODES: &[Row] = &[
-    &[(Part::Block(14), 385, &[2])],
+    &[(Part::Block(14), 385, &[3])],
     &[(Part::Block(14), 386, &[1])],
+    &[(Part::Block(14), 385, &[2])],
     &[(Part::Block(14), 656, &[1])],
     &[(Part::Block(14), 400, &[0])],
     &[(Part::Block(14), 640, &[4])],
@@ -153,6 +158,44 @@ const NODES: &[Row] = &[
     &[(Part::Block(13), 8, &[11])],
     &[(Part::Block(14), 641, &[1]), (Part::Block(14), 656, &[12])],
     &[(Part::Block(14), 641, &[1]), (Part::Block(14), 656, &[14])],
+];
+
+/// Of trees: heights 0 and 4, of a file and of the file of inodes; no number at the top, in both; a node that names nothing, in
+/// both; a number that is not in use, in the first and in the last slot; one at two indices, and one in two files; the top at its
+/// own first slot; a height of 2 over a node of data.
+const TREE_NODES: &[Row] = &[
+    &[(Part::Block(14), 386, &[0])],
+    &[(Part::Block(14), 386, &[4])],
+    &[(Part::Checkpoint(1), 34, &[0])],
+    &[(Part::Checkpoint(1), 34, &[4])],
+    &[(Part::Block(14), 400, &[0])],
+    &[(Part::Checkpoint(1), 48, &[0])],
+    &[(Part::Block(13), 0, &[0; 9])],
+    &[(Part::Block(15), 0, &[0; 9])],
+    &[(Part::Block(13), 0, &[20])],
+    &[(Part::Block(13), 1016, &[20])],
+    &[(Part::Block(13), 16, &[4])],
+    &[
+        (Part::Block(14), 641, &[2, 1]),
+        (Part::Block(14), 656, &[12]),
+    ],
+    &[(Part::Block(13), 0, &[12])],
+    &[(Part::Block(14), 386, &[2])],
+];
+
+/// Of a tree of height 2: one that would do with 1, with data at indices 0 and 1, and at 126 and 127; a node of level 1 that
+/// names nothing; one at two places; a top that names itself; a number that is not in use in the place of a node.
+const HIGH_NODES: &[Row] = &[
+    &[(Part::Block(16), 0, b"\x0c\0\0\0\0\0\0\0\0")],
+    &[
+        (Part::Block(16), 0, b"\x0c\0\0\0\0\0\0\0\0"),
+        (Part::Block(13), 0, &[0; 9]),
+        (Part::Block(13), 1008, b"\x0b\0\0\0\0\0\0\0\x04"),
+    ],
+    &[(Part::Block(13), 0, &[0; 9])],
+    &[(Part::Block(16), 16, &[12])],
+    &[(Part::Block(16), 16, &[15])],
+    &[(Part::Block(16), 16, &[20])],
 ];
 
 // ---- condition 9: trees
@@ -307,6 +350,8 @@ fn shapes_are_judged_before_trees(rt: HostRuntime) -> Result<(), Fail> {
     assert!(rt; all_fail(rt.alloc(), ROOTS, &[], Some(8))?);
     assert!(rt; all_fail(rt.alloc(), INODES, &[], Some(8))?);
     assert!(rt; all_fail(rt.alloc(), NODES, &[], Some(8))?);
+    assert!(rt; all_fail(rt.alloc(), TREE_NODES, TREES, Some(8))?);
+    assert!(rt; all_fail(rt.alloc(), HIGH_NODES, HIGH_TREE, Some(8))?);
     assert!(rt; all_fail(rt.alloc(), SHAPES_FIRST, &[], Some(8))?);
     Ok(())
 }

@@ -1,6 +1,6 @@
 //! Volumes that are opened of images, go on, and are closed.
-use crate::faults::SOUND;
-use crate::volume::image_with;
+use crate::faults::{Row, SOUND};
+use crate::volume::{NO_END, Part, has_all, image_with};
 use nl_core::{Pen, geometry_of, open};
 use nl_device::{Device, Failing, FaultyDevice, MemDevice};
 use nl_types::{
@@ -115,10 +115,41 @@ fn gone_on(alloc: Global, image: &[u8]) -> Result<Vec<u8>, VolError> {
     closed(alloc, &mut pen)
 }
 
+/// What checkpoint 3 makes of the numbers: the block and the node of `/f`, its block of inodes and the node of that end and are
+/// born anew, as 15 to 18 at blocks 17, 18, 19 and 21. Both chains become trees, and that of `/d` stays.
+const GONE_ON: Row = &[
+    (Part::Number(4), 16, NO_END),
+    (Part::Number(7), 16, NO_END),
+    (Part::Number(11), 16, &[3, 0]),
+    (Part::Number(12), 16, &[3, 0]),
+    (Part::Number(13), 16, &[3, 0]),
+    (Part::Number(14), 16, &[3, 0]),
+    (Part::Number(15), 0, b"\x11\0\0\0\0\0\0\0\x03"),
+    (Part::Number(16), 0, b"\x12\0\0\0\0\0\0\0\x03"),
+    (Part::Number(17), 0, b"\x13\0\0\0\0\0\0\0\x03"),
+    (Part::Number(18), 0, b"\x15\0\0\0\0\0\0\0\x03"),
+    (Part::Number(19), 0, &[0; 24]),
+    (Part::Checkpoint(2), 32, &[3, 2, 1]),
+    (Part::Checkpoint(2), 48, &[18]),
+    (Part::Block(18), 0, b"\x0f\0\0\0\0\0\0\0\x04"),
+    (
+        Part::Block(19),
+        384,
+        b"\x01\x02\x01\0\0\0\0\0\xdc\x05\0\0\0\0\0\0\x10",
+    ),
+    (
+        Part::Block(19),
+        512,
+        b"\x02\x01\0\0\0\0\0\0\0\x04\0\0\0\0\0\0\x07",
+    ),
+    (Part::Block(21), 0, b"\x08\0\0\0\0\0\0\0\x11"),
+];
+
 #[test]
 fn opened_volumes_go_on(rt: HostRuntime) -> Result<(), Fail> {
     let image = image_with(rt.alloc(), &[], &[])?;
     let next = gone_on(rt.alloc(), image.as_slice())?;
+    assert!(rt; has_all(next.as_slice(), GONE_ON));
     // One checkpoint more has its entry in the padding of the first image.
     assert!(rt; next.len() == image.len());
     let mut pen = opened(rt.alloc(), next.as_slice())?;

@@ -250,6 +250,33 @@ pub(crate) const TWO_BLOCKS: &[Change] = &[
     (Part::Block(16), 6, &[b'i'; 255]),
 ];
 
+/// What makes `/f` and the file of inodes trees in checkpoint 2: their nodes are as those of a chain.
+pub(crate) const TREES: &[Change] = &[
+    (Part::Checkpoint(1), 33, &[2, 1]),
+    (Part::Block(14), 385, &[2, 1]),
+];
+
+/// What makes `/f` a tree of height 2 in checkpoint 2, with its blocks at indices 128 and 129: one block more in the second log,
+/// of number 15, which is the top.
+pub(crate) const HIGH_TREE: &[Change] = &[
+    (Part::Segment(0), 8, &[17]),
+    (Part::Number(15), 0, b"\x10\0\0\0\0\0\0\0\x02"),
+    (Part::Number(15), 16, NO_END),
+    (Part::Block(11), 4, &[5]),
+    (
+        Part::Block(11),
+        192,
+        b"\x0f\0\0\0\0\0\0\0\x0b\0\0\0\0\0\0\0\0\0\0\0\0\0\0\0\x02",
+    ),
+    // 133,120 bytes, which are 130 blocks.
+    (
+        Part::Block(14),
+        385,
+        b"\x02\x02\0\0\0\0\0\0\x08\x02\0\0\0\0\0\x0f",
+    ),
+    (Part::Block(16), 8, &[12]),
+];
+
 /// Puts bytes into an image.
 pub(crate) fn change_all(image: &mut [u8], changes: &[Change]) {
     for (part, offset, bytes) in changes {
@@ -260,6 +287,17 @@ pub(crate) fn change_all(image: &mut [u8], changes: &[Change]) {
             }
         }
     }
+}
+
+/// Whether an image has all these bytes.
+pub(crate) fn has_all(image: &[u8], due: &[Change]) -> bool {
+    for (part, offset, bytes) in due {
+        let first = part.start().saturating_add(*offset);
+        if image.get(first..first.saturating_add(bytes.len())) != Some(*bytes) {
+            return false;
+        }
+    }
+    true
 }
 
 /// The image with these changes.

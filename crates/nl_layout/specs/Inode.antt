@@ -1,14 +1,13 @@
 -- The bytes of an inode: 128 of them, numbers in little endian.
-use Rattle.std.specs.Prelude.{◌≡◌, ℕ, zero, suc, ◌<◌, ◌^◌, List, ◌∷◌, ◌++◌, replicate, drop, slice_index, Option, None, Some}
+use Rattle.std.specs.Prelude.{◌≡◌, ℕ, zero, suc, ◌<◌, ◌≤◌, ◌^◌, List, ◌∷◌, ◌++◌, replicate, drop, slice_index, Option, None, Some}
 use Rattle.std.specs.Option.{option_map}
 use Rattle.byteorder.specs.Endian.{little_bytes, little_number}
-use Rattle.nl_layout.specs.declared.root.Root.{Root}
-use Rattle.nl_layout.specs.declared.root.Root.TheVariants.{Empty, Chain}
 use Rattle.nl_layout.specs.declared.inode.Inode.{Inode}
 use Rattle.nl_layout.specs.declared.inode.InodeKind.{InodeKind}
 use Rattle.nl_layout.specs.declared.inode.InodeKind.TheVariants.{File, Directory, InodeFile}
 use Rattle.nl_layout.specs.declared.inode.InodeEntry.{InodeEntry}
 use Rattle.nl_layout.specs.declared.inode.InodeEntry.TheVariants.{Free, InUse}
+use Rattle.nl_layout.specs.Root.{fields_of, root_told_by}
 
 -- ---- writing
 
@@ -17,18 +16,12 @@ inode_kind_code File = 1
 inode_kind_code Directory = 2
 inode_kind_code InodeFile = 3
 
-abbrev pub root_code : Root → ℕ
-root_code Empty = 0
-root_code (Chain first) = 1
-
--- the number of the first node, 0 where there is none
-abbrev pub root_number : Root → ℕ
-root_number Empty = 0
-root_number (Chain first) = first
-
--- the kind, the root's kind, 6 zeros, the size and the root's number, and 104 zeros
+-- the kind, the root's kind and its height, 5 zeros, the size and the root's number, and 104 zeros
 abbrev pub inode_bytes : Inode → List ℕ
-inode_bytes inode = inode_kind_code inode.kind ∷ root_code inode.root ∷ replicate 6 0 ++ little_bytes 8 inode.size ++ little_bytes 8 (root_number inode.root) ++ replicate 104 0
+inode_bytes inode =
+    let root = fields_of inode.root in
+    inode_kind_code inode.kind ∷ root.kind ∷ root.height ∷ replicate 5 0
+    ++ little_bytes 8 inode.size ++ little_bytes 8 root.number ++ replicate 104 0
 
 abbrev pub entry_bytes : InodeEntry → List ℕ
 entry_bytes Free = replicate 128 0
@@ -37,7 +30,8 @@ entry_bytes (InUse inode) = inode_bytes inode
 -- what has a spelling
 pub record InodeFits (inode : Inode) : Type 0 where
   pub size : inode.size < 2 ^ 64
-  pub number : root_number inode.root < 2 ^ 64
+  pub height : (fields_of inode.root).height ≤ 3
+  pub number : (fields_of inode.root).number < 2 ^ 64
 
 abbrev pub EntryFits : InodeEntry → Type 0
 EntryFits Free = Unit {0}
@@ -50,13 +44,8 @@ pub record Spells (bytes : List ℕ) (entry : InodeEntry) : Type 0 where
 
 -- ---- reading: what stands in the fields of an entry, whether the bytes spell one or not
 
-abbrev pub root_at : ℕ → ℕ → Option Root
-root_at zero number = Some Empty
-root_at (suc zero) number = Some (Chain number)
-root_at (suc (suc kind)) number = None
-
 abbrev pub used_entry_at : InodeKind → List ℕ → Option InodeEntry
-used_entry_at kind bytes = option_map (λ root. InUse (record { kind = kind; root = root; size = little_number 8 (drop 8 bytes) })) (root_at (slice_index bytes 1) (little_number 8 (drop 16 bytes)))
+used_entry_at kind bytes = option_map (λ root. InUse (record { kind = kind; root = root; size = little_number 8 (drop 8 bytes) })) (root_told_by (slice_index bytes 1) (slice_index bytes 2) (little_number 8 (drop 16 bytes)))
 
 abbrev pub entry_with : ℕ → List ℕ → Option InodeEntry
 entry_with zero bytes = Some Free

@@ -2,7 +2,7 @@
 ghost use Rattle.std.specs.Prelude.{◌≡◌, ◌≤◌, length, IfSome, Some};
 ghost use Rattle.nl_layout.specs.Inode.{Spells, InodeFits, entry_at, inode_bytes};
 
-use crate::root::Root;
+use crate::root::{Root, RootFields};
 use byteorder::{ByteOrder, LittleEndian};
 use nl_types::VirtualNumber;
 
@@ -29,8 +29,9 @@ pub struct Inode {
 /// A place for an inode in the file of inodes, as in the ifile of nilfs2.rst.
 ///
 /// It has 128 bytes, with numbers in little endian: the kind at 0 (1 for a file, 2 for a directory, 3 for the file of
-/// inodes), the root's kind at 1 (0 for an empty one, 1 for a chain), the size in 8 bytes at 8, and the number of the root's
-/// first node in 8 bytes at 16, which is 0 for an empty root. All other bytes are zero, and so are all bytes of a free place.
+/// inodes), the root's kind at 1 (0 for an empty one, 1 for a chain, 2 for a tree), the height of a tree at 2, the size in 8
+/// bytes at 8, and the number of the root's first or topmost node in 8 bytes at 16, which is 0 for an empty root. All other
+/// bytes are zero, and so are all bytes of a free place.
 #[derive(Clone, Copy, Debug, PartialEq, Eq)]
 pub enum InodeEntry {
     Free,
@@ -38,8 +39,8 @@ pub enum InodeEntry {
 }
 
 impl InodeEntry {
-    /// The entry that the bytes spell. None where they spell none: not 128 of them, a kind or a root's kind that is none, or
-    /// a byte that isn't zero outside all fields, or anywhere in a free place.
+    /// The entry that the bytes spell. None where they spell none: not 128 of them, a kind or a root's kind that is none, a
+    /// tree higher than 3, or a byte that isn't zero outside all fields, or anywhere in a free place.
     pub fn read(bytes: &[u8]) -> Option<Self>
         ensures found { IfSome result (Spells bytes.now) }
         ensures only { (entry : InodeEntry) → Spells bytes.now entry → result ≡ Some entry }
@@ -75,11 +76,13 @@ impl Inode {
         ensures bytes { result ≡ inode_bytes self }
         ensures fits { InodeFits self }
     {
+        let root = self.root.fields();
         let mut bytes = [0; INODE_SIZE];
         bytes[0] = self.kind.code();
-        bytes[1] = self.root.kind_code();
+        bytes[1] = root.kind;
+        bytes[2] = root.height;
         LittleEndian::write_u64(&mut bytes[8..], self.size);
-        LittleEndian::write_u64(&mut bytes[16..], self.root.number().get());
+        LittleEndian::write_u64(&mut bytes[16..], root.number.get());
         bytes
     }
 }
@@ -98,39 +101,6 @@ impl InodeKind {
     }
 }
 
-impl Root {
-    ghost use Rattle.nl_layout.specs.Inode.{root_code, root_number, root_at};
-
-    fn kind_code(self) -> u8
-        ensures { result ≡ root_code self }
-    {
-        match self {
-            Root::Empty => 0,
-            Root::Chain(_) => 1,
-        }
-    }
-
-    /// The number of the first node, 0 where there is none.
-    fn number(self) -> VirtualNumber
-        ensures { result ≡ root_number self }
-    {
-        match self {
-            Root::Empty => VirtualNumber::new(0),
-            Root::Chain(first) => first,
-        }
-    }
-
-    fn from_fields(kind: u8, number: VirtualNumber) -> Option<Root>
-        ensures { result ≡ root_at kind number }
-    {
-        match kind {
-            0 => Some(Root::Empty),
-            1 => Some(Root::Chain(number)),
-            _ => None,
-        }
-    }
-}
-
 /// What stands in the fields of an entry, whatever the other bytes are. None where a kind is none.
 pub(crate) fn from_fields(bytes: &[u8]) -> Option<InodeEntry>
     requires { length bytes.now ≡ 128 }
@@ -143,11 +113,14 @@ pub(crate) fn from_fields(bytes: &[u8]) -> Option<InodeEntry>
         3 => InodeKind::InodeFile,
         _ => return None,
     };
-    let first = VirtualNumber::new(LittleEndian::read_u64(&bytes[16..]));
-    let root = Root::from_fields(bytes[1], first)?;
+    let root = RootFields {
+        kind: bytes[1],
+        height: bytes[2],
+        number: VirtualNumber::new(LittleEndian::read_u64(&bytes[16..])),
+    };
     Some(InodeEntry::InUse(Inode {
         kind,
-        root,
+        root: root.root()?,
         size: LittleEndian::read_u64(&bytes[8..]),
     }))
 }

@@ -1,16 +1,19 @@
 //! Where the blocks of a file begin.
-ghost use Rattle.std.specs.Prelude.{◌≡◌, Some};
+ghost use Rattle.std.specs.Prelude.{◌≡◌, ◌≤◌, Some};
 ghost use Rattle.nl_layout.specs.Root.{fields_of, root_told};
 
+use crate::level::Level;
 use nl_types::VirtualNumber;
 
-/// The root of a file, a directory or the file of inodes. A root of the kind that the format calls a tree is not read yet.
+/// The root of a file, a directory or the file of inodes.
 #[derive(Clone, Copy, Debug, PartialEq, Eq)]
 pub enum Root {
     /// No block.
     Empty,
     /// The first node of a chain.
     Chain(VirtualNumber),
+    /// The topmost node of a tree, and its level.
+    Tree(Level, VirtualNumber),
 }
 
 /// What the fields of an inode tell of its root, whether a root may be so or not.
@@ -26,6 +29,7 @@ impl Root {
     pub fn fields(self) -> RootFields
         ensures fields { result ≡ fields_of self }
         ensures back { root_told result ≡ Some self }
+        ensures low { result.height ≤ 3 }
     {
         match self {
             Root::Empty => RootFields {
@@ -38,19 +42,25 @@ impl Root {
                 height: 0,
                 number: first,
             },
+            Root::Tree(height, top) => RootFields {
+                kind: 2,
+                height: height.get(),
+                number: top,
+            },
         }
     }
 }
 
 impl RootFields {
-    /// The root that the fields spell. None where they spell none: another kind than 0 and 1, a height, or a number of an
-    /// empty root.
+    /// The root that the fields spell. None where they spell none: another kind than 0, 1 and 2, a height that isn't a
+    /// tree's, a tree higher than 3, or a number of an empty root.
     pub fn root(self) -> Option<Root>
         ensures { result ≡ root_told self }
     {
         match self.kind {
             0 if self.height == 0 && self.number.get() == 0 => Some(Root::Empty),
             1 if self.height == 0 => Some(Root::Chain(self.number)),
+            2 if self.height <= 3 => Some(Root::Tree(Level::new(self.height), self.number)),
             _ => None,
         }
     }

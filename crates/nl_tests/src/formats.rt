@@ -111,6 +111,9 @@ fn nodes_are_spelled_byte_by_byte(rt: HostRuntime) -> Result<(), Fail> {
 /// A directory of one block, whose chain begins at number 2,571.
 const DIRECTORY: &[Spelling] = &[(0, &[2, 1]), (8, &[0x00, 0x04]), (16, &[0x0b, 0x0a])];
 
+/// A file of 67,108,864 bytes, a tree of height 3 with number 2,571 at its top.
+const HIGH_FILE: &[Spelling] = &[(0, &[1, 2, 3]), (8, &[0, 0, 0, 4]), (16, &[0x0b, 0x0a])];
+
 const EMPTY_FILE: &[Spelling] = &[(0, &[1])];
 
 /// Whether the bytes are what an entry is written as, and it is read from them.
@@ -128,6 +131,8 @@ fn in_use(kind: InodeKind, root: Root, size: u64) -> InodeEntry {
 fn inodes_are_spelled_byte_by_byte(rt: HostRuntime) {
     let root = Root::Chain(VirtualNumber::new(0x0a0b));
     assert!(rt; spells(in_use(InodeKind::Directory, root, 1024), DIRECTORY));
+    let root = Root::Tree(Level::new(3), VirtualNumber::new(0x0a0b));
+    assert!(rt; spells(in_use(InodeKind::File, root, 67_108_864), HIGH_FILE));
     assert!(rt; spells(in_use(InodeKind::File, Root::Empty, 0), EMPTY_FILE));
     assert!(rt; spells(InodeEntry::Free, &[]));
 }

@@ -362,13 +362,13 @@ const TEN_THOUSAND: &[Step<'static>] = &[
 ];
 
 /// Of 1,006 names, each with a record of 11 bytes, 93 stand in a block, and take 11. Their inodes are those from 11 to 1,016,
-/// with 8 in a block: the blocks from 0 to 127, of which the last one takes a second node.
+/// with 8 in a block: the blocks from 0 to 127, which fill one node.
 const THOUSAND: &[Step<'static>] = &[
     Step::Create(1_006),
     Step::Inodes(&[(b"01005", Some(1_016))]),
     Step::Checkpoint(
         1,
-        142,
+        141,
         &[
             (0, 2, 0, 0),
             (10, 2, 0, 10),
@@ -376,11 +376,10 @@ const THOUSAND: &[Step<'static>] = &[
             (12, 6, 0, 0),
             (139, 6, 0, 127),
             (140, 6, 1, 0),
-            (141, 6, 1, 1),
         ],
         0,
     ),
-    Step::InodeBlocks(130),
+    Step::InodeBlocks(129),
     Step::Calls(&[(Call::Stat(b"/01005"), Want::Stat(Stat::File(0)))]),
 ];
 
@@ -417,10 +416,11 @@ const FEW: &[Step<'static>] = &[
     Step::Checkpoint(10, 2, INODES, 7),
 ];
 
-/// A chain of 300 blocks has 3 nodes. With its first block changed and one more written, both blocks and all nodes are
-/// written, and the old block and the old nodes end. Where the last 47 blocks go, so does a node, and where all go the file
-/// is empty. Each time the file's block of inodes is written, and the node of that.
-const CHAIN: &[Step<'static>] = &[
+/// A tree of 300 blocks has 3 nodes, and a top above them. With its first block changed and one more written, both blocks, the
+/// nodes above them and the top are written, and what they replace ends. Where the last 47 blocks go, so does a node. Where 128
+/// blocks are left, their node is the top and keeps its number, and where all go the file is empty. Each time the file's block
+/// of inodes is written, and the node of that.
+const TREE: &[Step<'static>] = &[
     Step::Calls(&[
         (Call::Create(b"/f"), Want::Done),
         (Call::Fill(b"/f", 4096, 7, 1024), Want::Written(1024)),
@@ -432,14 +432,15 @@ const CHAIN: &[Step<'static>] = &[
     ]),
     Step::Checkpoint(
         8,
-        305,
+        306,
         &[
             (0, 11, 0, 0),
             (299, 11, 0, 299),
             (300, 11, 1, 0),
             (302, 11, 1, 2),
-            (303, 6, 0, 1),
-            (304, 6, 1, 0),
+            (303, 11, 2, 0),
+            (304, 6, 0, 1),
+            (305, 6, 1, 0),
         ],
         4,
     ),
@@ -448,13 +449,14 @@ const CHAIN: &[Step<'static>] = &[
         (Call::Fill(b"/f", 307_200, 3, 1024), Want::Written(1024)),
     ]),
     Step::Checkpoint(
-        313,
+        314,
         7,
         &[
             (0, 11, 0, 0),
             (1, 11, 0, 300),
             (2, 11, 1, 0),
-            (4, 11, 1, 2),
+            (3, 11, 1, 2),
+            (4, 11, 2, 0),
             (5, 6, 0, 1),
             (6, 6, 1, 0),
         ],
@@ -466,19 +468,77 @@ const CHAIN: &[Step<'static>] = &[
         (Call::Read(b"/f", 308_223, ALL), Want::Bytes(&[3])),
         (Call::Fill(b"/f", 0, 2, 1024), Want::Written(1024)),
     ]),
-    Step::Checkpoint(320, 0, &[], 0),
+    Step::Checkpoint(321, 0, &[], 0),
     Step::Calls(&[(Call::Truncate(b"/f", 260_096), Want::Done)]),
     Step::Checkpoint(
-        320,
+        321,
         4,
-        &[(0, 11, 1, 0), (1, 11, 1, 1), (2, 6, 0, 1), (3, 6, 1, 0)],
+        &[(0, 11, 1, 1), (1, 11, 2, 0), (2, 6, 0, 1), (3, 6, 1, 0)],
         52,
     ),
     Step::Calls(&[
         (Call::Read(b"/f", 260_095, ALL), Want::Bytes(&[1])),
+        (Call::Truncate(b"/f", 131_072), Want::Done),
+    ]),
+    Step::Checkpoint(325, 2, &[(0, 6, 0, 1), (1, 6, 1, 0)], 130),
+    Step::Calls(&[
+        (Call::Read(b"/f", 131_071, ALL), Want::Bytes(&[1])),
         (Call::Truncate(b"/f", 0), Want::Done),
     ]),
-    Step::Checkpoint(324, 2, &[(0, 6, 0, 1), (1, 6, 1, 0)], 258),
+    Step::Checkpoint(327, 2, &[(0, 6, 0, 1), (1, 6, 1, 0)], 131),
+];
+
+/// The last block that a file may have stands below three nodes. One at 0 takes two nodes and a new top. Without the last one
+/// the node above the first is the top and keeps its number; and so it does below another top, once there is a block at 128.
+const HIGH: &[Step<'static>] = &[
+    Step::Calls(&[
+        (Call::Create(b"/f"), Want::Done),
+        (Call::Write(b"/f", 67_107_840, b"x"), Want::Written(1)),
+    ]),
+    Step::Checkpoint(
+        1,
+        9,
+        &[
+            (2, 11, 0, 65_535),
+            (3, 11, 1, 511),
+            (4, 11, 2, 3),
+            (5, 11, 3, 0),
+            (8, 6, 1, 0),
+        ],
+        0,
+    ),
+    Step::Calls(&[(Call::Write(b"/f", 0, b"y"), Want::Written(1))]),
+    Step::Checkpoint(
+        10,
+        6,
+        &[
+            (0, 11, 0, 0),
+            (1, 11, 1, 0),
+            (2, 11, 2, 0),
+            (3, 11, 3, 0),
+            (5, 6, 1, 0),
+        ],
+        3,
+    ),
+    Step::Calls(&[
+        (Call::Read(b"/f", 67_107_839, 2), Want::Bytes(b"\0x")),
+        (Call::Truncate(b"/f", 1), Want::Done),
+    ]),
+    Step::Checkpoint(16, 2, &[(0, 6, 0, 1), (1, 6, 1, 0)], 7),
+    Step::Calls(&[
+        (Call::Read(b"/f", 0, ALL), Want::Bytes(b"y")),
+        (Call::Write(b"/f", 131_072, b"z"), Want::Written(1)),
+    ]),
+    Step::Checkpoint(
+        18,
+        5,
+        &[(0, 11, 0, 128), (1, 11, 1, 1), (2, 11, 2, 0), (4, 6, 1, 0)],
+        2,
+    ),
+    Step::Calls(&[
+        (Call::Read(b"/f", 0, 2), Want::Bytes(b"y\0")),
+        (Call::Read(b"/f", 131_071, ALL), Want::Bytes(b"\0z")),
+    ]),
 ];
 
 /// Of the numbers that the checkpoint leaves free the lowest are given.
@@ -521,7 +581,8 @@ const CASES: &[Case] = &[
     (Start::New, TEN_THOUSAND),
     (Start::New, THOUSAND),
     (Start::New, FEW),
-    (Start::New, CHAIN),
+    (Start::New, TREE),
+    (Start::New, HIGH),
     (Start::OverTwo, OVER_TWO),
 ];
 

@@ -161,13 +161,13 @@ const NO_ZEROS: &[Row<'static>] = &[
 ];
 
 /// Of 64 segments a checkpoint leaves two clean. Each that it takes has 61 blocks: two logs of 30 and one of 1; behind the
-/// format's log the first one has 59 more. That is room for 3,745 blocks of a file, their 30 nodes, and 5 of the directory
+/// format's log the first one has 59 more. That is room for 3,744 blocks of a file, their 31 nodes, and 5 of the directory
 /// and the inodes.
 const LARGE: &[Row<'static>] = &[
     (Call::Create(b"/f"), Want::Done),
     (
-        Call::Fill(b"/f", 0, b'A', 3_834_880),
-        Want::Written(3_834_880),
+        Call::Fill(b"/f", 0, b'A', 3_833_856),
+        Want::Written(3_833_856),
     ),
     (SNAPSHOT, Want::Checkpoint(2)),
     (Call::Write(b"/f", 0, b"B"), Want::Written(1)),
@@ -175,7 +175,7 @@ const LARGE: &[Row<'static>] = &[
     (Call::Mount(2), Want::Mount(1)),
     (Call::ReadMount(1, b"/f", 0, 2), Want::Bytes(b"AA")),
     (Call::Read(b"/f", 0, 2), Want::Bytes(b"BA")),
-    (Call::Read(b"/f", 3_834_878, ALL), Want::Bytes(b"AA")),
+    (Call::Read(b"/f", 3_833_854, ALL), Want::Bytes(b"AA")),
 ];
 
 // ---- refused memory

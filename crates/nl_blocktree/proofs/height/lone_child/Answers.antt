@@ -1,0 +1,21 @@
+use Rattle.std.proofs.Common.{◌≡◌, ◌∙◌, sym, true, false, inl, inr}
+use Rattle.nl_blocktree.proofs.TreeHeights.{last_is}
+use Rattle.nl_blocktree.proofs.height.lone_child.Goals as goal
+
+pub returns-else-is_last_birth-clause-lone : goal.returns-else-is_last_birth-clause-lone
+returns-else-is_last_birth-clause-lone g c = λ page at n r. elim at [
+  | inl t ↦
+      let told = c.is_last_birth.ensures.1 (t.3, last_is _ t.0 t.1 _ t.2 t.4) in
+      let not : c.is_last_birth.result ≡ false = c.if-is_last_birth.false in
+      absurd (let clash : true ≡ false = sym told ∙ not in cc)
+  | inr t ↦ c.only_first-else-is_last_birth.ensures.lone page n (c.page.ensures ∙ t.1) r
+]
+
+pub returns-else-is_last_birth-clause-more : goal.returns-else-is_last_birth-clause-more
+returns-else-is_last_birth-clause-more g c = λ page at r. elim at [
+  | inl t ↦
+      let told = c.is_last_birth.ensures.1 (t.3, last_is _ t.0 t.1 _ t.2 t.4) in
+      let not : c.is_last_birth.result ≡ false = c.if-is_last_birth.false in
+      absurd (let clash : true ≡ false = sym told ∙ not in cc)
+  | inr t ↦ c.only_first-else-is_last_birth.ensures.more page (c.page.ensures ∙ t.1) r
+]
