@@ -3,7 +3,7 @@ use Rattle.std.proofs.Common.{◌≡◌, ℕ, Bool, true, false, [], ◌∷◌, 
 use Rattle.std.specs.Prelude.{codes}
 use Rattle.clap.specs.Words.{Text}
 use Rattle.clap.proofs.OnLiterals.{clap_on_literals}
-use Rattle.nl_types.specs.declared.event.Change.TheVariants.{Create, Write, Rename}
+use Rattle.nl_types.specs.declared.event.Change.TheVariants.{Create, Write, Truncate, Rename}
 use Rattle.nl_types.specs.declared.event.Mode.TheVariants.{Snapshot}
 use Rattle.nl_commands.specs.declared.command.CheckpointRange.TheVariants.{One, Between, Since}
 use Rattle.nl_commands.specs.declared.command.Command.{Command}
@@ -141,6 +141,42 @@ text_with_a_hyphen = refl
 text_behind_the_options : five (codes "write") (codes "--") (codes "/f") (codes "0") (codes "-x") ≡ Ok (Change (Write (codes "/f") 0 (codes "-x")))
 unfolding clap_on_literals
 text_behind_the_options = refl
+
+options_ended_amid_operands : five (codes "write") (codes "/f") (codes "--") (codes "0") (codes "-x") ≡ Ok (Change (Write (codes "/f") 0 (codes "-x")))
+unfolding clap_on_literals
+options_ended_amid_operands = refl
+
+text_missing : three (codes "write") (codes "/f") (codes "0") ≡ Err Usage
+unfolding clap_on_literals
+text_missing = refl
+
+two_texts : five (codes "write") (codes "/f") (codes "0") (codes "x") (codes "y") ≡ Err Usage
+unfolding clap_on_literals
+two_texts = refl
+
+no_operands : command_meant (codes "write" ∷ []) ≡ Err Usage
+unfolding clap_on_literals
+no_operands = refl
+
+moves_nowhere : two (codes "mv") (codes "/f") ≡ Err Usage
+unfolding clap_on_literals
+moves_nowhere = refl
+
+moves_to_two_places : four (codes "mv") (codes "/f") (codes "/g") (codes "/h") ≡ Err Usage
+unfolding clap_on_literals
+moves_to_two_places = refl
+
+size_missing : two (codes "truncate") (codes "/f") ≡ Err Usage
+unfolding clap_on_literals
+size_missing = refl
+
+cuts : three (codes "truncate") (codes "/f") (codes "5") ≡ Ok (Change (Truncate (codes "/f") 5))
+unfolding clap_on_literals
+cuts = refl
+
+count_missing : four (codes "fill") (codes "/f") (codes "3") (codes "255") ≡ Err Usage
+unfolding clap_on_literals
+count_missing = refl
 
 moves : three (codes "mv") (codes "/f") (codes "/g") ≡ Ok (Change (Rename (codes "/f") (codes "/g")))
 unfolding clap_on_literals

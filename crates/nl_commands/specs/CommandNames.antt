@@ -11,8 +11,8 @@ use Rattle.nl_commands.specs.declared.names.CommandName.{CommandName}
 use Rattle.nl_commands.specs.declared.names.CommandName.TheVariants as name
 use Rattle.nl_commands.specs.AskingCommands.{catm_given, catm_rules, show_given, show_rules}
 use Rattle.nl_commands.specs.CheckpointCommands.{at_given, at_rules, chcp_given, chcp_rules, lscp_given, lscp_rules, mkcp_given, mkcp_rules, rmcp_given, rmcp_rules}
-use Rattle.nl_commands.specs.FileCommands.{create_given, fill_given, fill_rules, mkdir_given, mv_given, mv_rules, path_rules}
-use Rattle.nl_commands.specs.FileCommands.{rm_given, rmdir_given, truncate_given, truncate_rules, write_given, write_rules}
+use Rattle.nl_commands.specs.FileCommands.{create_given, fill_given, mkdir_given, mv_given, operands_rules, path_rules}
+use Rattle.nl_commands.specs.FileCommands.{rm_given, rmdir_given, truncate_given, write_given}
 use Rattle.nl_commands.specs.Grammars.{grammar, parsed}
 use Rattle.nl_commands.specs.Outcomes.{after}
 use Rattle.nl_commands.specs.SegmentCommands.{lssu_given, lssu_rules, mount_given, mount_rules, umount_given, umount_rules}
@@ -66,10 +66,10 @@ rules_of name.Create = path_rules
 rules_of name.Mkdir = path_rules
 rules_of name.Rm = path_rules
 rules_of name.Rmdir = path_rules
-rules_of name.Mv = mv_rules
-rules_of name.Write = write_rules
-rules_of name.Fill = fill_rules
-rules_of name.Truncate = truncate_rules
+rules_of name.Mv = operands_rules
+rules_of name.Write = operands_rules
+rules_of name.Fill = operands_rules
+rules_of name.Truncate = operands_rules
 rules_of name.Cat = show_rules
 rules_of name.Catm = catm_rules
 rules_of name.Ls = show_rules

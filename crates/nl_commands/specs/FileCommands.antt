@@ -1,12 +1,14 @@
 -- Commands that change the tree of files: what they may be given, and what they ask for then.
-use Rattle.std.specs.Prelude.{ℕ, List, [], ◌∷◌, codes, min, Result, Ok}
-use Rattle.clap.specs.Words.{Row, Rule}
+use Rattle.std.specs.Prelude.{ℕ, List, [], ◌∷◌, codes, min, Result, Ok, Err}
+use Rattle.clap.specs.Words.{Row, Rule, Text}
 use Rattle.nl_types.specs.declared.event.Change.TheVariants.{Create, Mkdir, Write, Truncate, Unlink, Rmdir, Rename}
 use Rattle.nl_commands.specs.declared.command.Command.{Command}
 use Rattle.nl_commands.specs.declared.command.Command.TheVariants.{Change, Fill}
 use Rattle.nl_commands.specs.declared.error.LineError.{LineError}
-use Rattle.nl_commands.specs.Grammars.{operand_rule}
-use Rattle.nl_commands.specs.GivenOperands.{byte_at, number_at, word_at}
+use Rattle.nl_commands.specs.declared.error.LineError.TheVariants.{Usage}
+use Rattle.nl_commands.specs.Grammars.{operand_rule, operands_rule}
+use Rattle.nl_commands.specs.GivenOperands.{byte_in, word_at, words_at}
+use Rattle.nl_commands.specs.NumberWords.{number_in}
 use Rattle.nl_commands.specs.Outcomes.{after}
 
 -- create P, mkdir P, rm P, rmdir P
@@ -25,50 +27,42 @@ rm_given rows = after (word_at (codes "path") rows) (λ path. Ok (Change (Unlink
 abbrev pub rmdir_given : List Row → Result Command LineError
 rmdir_given rows = after (word_at (codes "path") rows) (λ path. Ok (Change (Rmdir path)))
 
--- mv A B
-abbrev pub mv_rules : List Rule
-mv_rules = operand_rule (codes "from") ∷ operand_rule (codes "to") ∷ []
+-- mv A B, write P OFF TEXT, fill P OFF BYTE COUNT, truncate P SIZE
+abbrev pub operands_rules : List Rule
+operands_rules = operands_rule (codes "operands") ∷ []
+
+abbrev pub mv_of : List Text → Result Command LineError
+mv_of (from ∷ to ∷ []) = Ok (Change (Rename from to))
+mv_of words = Err Usage
 
 abbrev pub mv_given : List Row → Result Command LineError
-mv_given rows =
-    after (word_at (codes "from") rows) (λ from.
-    after (word_at (codes "to") rows) (λ to.
-    Ok (Change (Rename from to))))
+mv_given rows = after (words_at (codes "operands") rows) mv_of
 
--- write P OFF TEXT
-abbrev pub write_rules : List Rule
-write_rules = operand_rule (codes "path") ∷ operand_rule (codes "offset") ∷ operand_rule (codes "text") ∷ []
+abbrev pub write_of : List Text → Result Command LineError
+write_of (path ∷ offset ∷ text ∷ []) = after (number_in offset) (λ n. Ok (Change (Write path n text)))
+write_of words = Err Usage
 
 abbrev pub write_given : List Row → Result Command LineError
-write_given rows =
-    after (number_at (codes "offset") rows) (λ offset.
-    after (word_at (codes "path") rows) (λ path.
-    after (word_at (codes "text") rows) (λ text.
-    Ok (Change (Write path offset text)))))
+write_given rows = after (words_at (codes "operands") rows) write_of
 
--- fill P OFF BYTE COUNT, where a greater count than this counts as this: one more byte than a file has
+-- a greater count than this counts as this: one more byte than a file has
 abbrev pub most_filled : ℕ
 most_filled = 67108865
 
-abbrev pub fill_rules : List Rule
-fill_rules =
-    operand_rule (codes "path") ∷ operand_rule (codes "offset") ∷ operand_rule (codes "byte")
-    ∷ operand_rule (codes "count") ∷ []
+abbrev pub fill_of : List Text → Result Command LineError
+fill_of (path ∷ offset ∷ byte ∷ count ∷ []) =
+    after (number_in offset) (λ start.
+    after (byte_in byte) (λ value.
+    after (number_in count) (λ n.
+    Ok (Fill path start value (min n most_filled)))))
+fill_of words = Err Usage
 
 abbrev pub fill_given : List Row → Result Command LineError
-fill_given rows =
-    after (number_at (codes "offset") rows) (λ offset.
-    after (byte_at (codes "byte") rows) (λ byte.
-    after (number_at (codes "count") rows) (λ count.
-    after (word_at (codes "path") rows) (λ path.
-    Ok (Fill path offset byte (min count most_filled))))))
+fill_given rows = after (words_at (codes "operands") rows) fill_of
 
--- truncate P SIZE
-abbrev pub truncate_rules : List Rule
-truncate_rules = operand_rule (codes "path") ∷ operand_rule (codes "size") ∷ []
+abbrev pub truncate_of : List Text → Result Command LineError
+truncate_of (path ∷ size ∷ []) = after (number_in size) (λ n. Ok (Change (Truncate path n)))
+truncate_of words = Err Usage
 
 abbrev pub truncate_given : List Row → Result Command LineError
-truncate_given rows =
-    after (number_at (codes "size") rows) (λ size.
-    after (word_at (codes "path") rows) (λ path.
-    Ok (Change (Truncate path size))))
+truncate_given rows = after (words_at (codes "operands") rows) truncate_of

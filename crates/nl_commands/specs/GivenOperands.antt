@@ -26,8 +26,8 @@ optional_number_at id rows = if_given (first_of id rows)
 abbrev pub byte_of : ℕ → Result ℕ LineError
 byte_of n = if nat_lt n 256 then Ok n else Err Usage
 
-abbrev pub byte_at : Text → List Row → Result ℕ LineError
-byte_at id rows = after (number_at id rows) byte_of
+abbrev pub byte_in : Text → Result ℕ LineError
+byte_in word = after (number_in word) byte_of
 
 -- ---- words that are all of one kind
 

@@ -7,7 +7,8 @@ ghost use Rattle.nl_commands.specs.Outcomes.{IsUnlessMemory};
 use crate::command::Command;
 use crate::error::LineError;
 use crate::grammar::{Argument, Given};
-use crate::operands::{byte_at, bytes_at, number_at};
+use crate::numbers::number;
+use crate::operands::{byte_in, bytes_at, bytes_of};
 use nl_types::Change;
 use std::alloc::Global;
 
@@ -49,46 +50,38 @@ pub fn rmdir(alloc: Global, given: &Given<'_>) -> Result<Command, LineError>
     Ok(Command::Change(Change::Rmdir { path }))
 }
 
-pub const MV_ARGUMENTS: &[Argument<'static>] = &[
-    Argument::Operand("from"),
-    Argument::Operand("to"),
-];
+/// What `mv`, `write`, `fill` and `truncate` are given: all operands as one argument, since the library looks at each pair of
+/// arguments that are given.
+pub const OPERANDS_ARGUMENTS: &[Argument<'static>] = &[Argument::Operands("operands")];
 
 /// `mv FROM TO`
 pub fn mv(alloc: Global, given: &Given<'_>) -> Result<Command, LineError>
     ensures { IsUnlessMemory result (mv_given given.now) }
 {
-    let from = bytes_at(alloc, given, "from")?;
-    let to = bytes_at(alloc, given, "to")?;
+    let Some([from, to]) = given.texts("operands") else {
+        return Err(LineError::Usage);
+    };
+    let from = bytes_of(alloc, from)?;
+    let to = bytes_of(alloc, to)?;
     Ok(Command::Change(Change::Rename { from, to }))
 }
-
-pub const WRITE_ARGUMENTS: &[Argument<'static>] = &[
-    Argument::Operand("path"),
-    Argument::Operand("offset"),
-    Argument::Operand("text"),
-];
 
 /// `write PATH OFFSET TEXT`
 pub fn write(alloc: Global, given: &Given<'_>) -> Result<Command, LineError>
     ensures { IsUnlessMemory result (write_given given.now) }
 {
-    let offset = number_at(given, "offset")?;
-    let path = bytes_at(alloc, given, "path")?;
-    let bytes = bytes_at(alloc, given, "text")?;
+    let Some([path, offset, text]) = given.texts("operands") else {
+        return Err(LineError::Usage);
+    };
+    let offset = number(offset)?;
+    let path = bytes_of(alloc, path)?;
+    let bytes = bytes_of(alloc, text)?;
     Ok(Command::Change(Change::Write {
         path,
         offset,
         bytes,
     }))
 }
-
-pub const FILL_ARGUMENTS: &[Argument<'static>] = &[
-    Argument::Operand("path"),
-    Argument::Operand("offset"),
-    Argument::Operand("byte"),
-    Argument::Operand("count"),
-];
 
 fn counted(count: u64) -> u64
     ensures { result ≡ min count most_filled }
@@ -104,10 +97,13 @@ fn counted(count: u64) -> u64
 pub fn fill(alloc: Global, given: &Given<'_>) -> Result<Command, LineError>
     ensures { IsUnlessMemory result (fill_given given.now) }
 {
-    let offset = number_at(given, "offset")?;
-    let byte = byte_at(given, "byte")?;
-    let count = number_at(given, "count")?;
-    let path = bytes_at(alloc, given, "path")?;
+    let Some([path, offset, byte, count]) = given.texts("operands") else {
+        return Err(LineError::Usage);
+    };
+    let offset = number(offset)?;
+    let byte = byte_in(byte)?;
+    let count = number(count)?;
+    let path = bytes_of(alloc, path)?;
     Ok(Command::Fill {
         path,
         offset,
@@ -116,16 +112,14 @@ pub fn fill(alloc: Global, given: &Given<'_>) -> Result<Command, LineError>
     })
 }
 
-pub const TRUNCATE_ARGUMENTS: &[Argument<'static>] = &[
-    Argument::Operand("path"),
-    Argument::Operand("size"),
-];
-
 /// `truncate PATH SIZE`
 pub fn truncate(alloc: Global, given: &Given<'_>) -> Result<Command, LineError>
     ensures { IsUnlessMemory result (truncate_given given.now) }
 {
-    let size = number_at(given, "size")?;
-    let path = bytes_at(alloc, given, "path")?;
+    let Some([path, size]) = given.texts("operands") else {
+        return Err(LineError::Usage);
+    };
+    let size = number(size)?;
+    let path = bytes_of(alloc, path)?;
     Ok(Command::Change(Change::Truncate { path, size }))
 }

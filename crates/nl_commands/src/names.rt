@@ -105,10 +105,8 @@ fn arguments_of(name: CommandName) -> &'static [Argument<'static>]
         CommandName::Umount => mounts::UMOUNT_ARGUMENTS,
         CommandName::Create | CommandName::Mkdir | CommandName::Rm | CommandName::Rmdir =>
             files::PATH_ARGUMENTS,
-        CommandName::Mv => files::MV_ARGUMENTS,
-        CommandName::Write => files::WRITE_ARGUMENTS,
-        CommandName::Fill => files::FILL_ARGUMENTS,
-        CommandName::Truncate => files::TRUNCATE_ARGUMENTS,
+        CommandName::Mv | CommandName::Write | CommandName::Fill | CommandName::Truncate =>
+            files::OPERANDS_ARGUMENTS,
         CommandName::Catm => asking::CATM_ARGUMENTS,
         CommandName::Cat | CommandName::Ls | CommandName::Stat => asking::SHOW_ARGUMENTS,
     }

@@ -1,6 +1,6 @@
 //! What a command is given, by the names of its grammar.
 ghost use Rattle.std.specs.Prelude.{◌≡◌, Ok, map, nat_lt};
-ghost use Rattle.nl_commands.specs.GivenOperands.{byte_at, byte_of, number_at, numbers_at, numbers_in, optional_number_at, ranges_at, ranges_in, word_at, words_at};
+ghost use Rattle.nl_commands.specs.GivenOperands.{byte_in, byte_of, number_at, numbers_at, numbers_in, optional_number_at, ranges_at, ranges_in, word_at, words_at};
 ghost use Rattle.nl_commands.specs.Outcomes.{IsUnlessMemory};
 
 use crate::command::CheckpointRange;
@@ -61,19 +61,26 @@ fn byte_of(number: u64) -> Result<u8, LineError>
 }
 
 /// A number up to 255.
-pub fn byte_at(given: &Given<'_>, id: &str) -> Result<u8, LineError>
-    ensures { result ≡ byte_at id.now given.now }
+pub fn byte_in(word: &str) -> Result<u8, LineError>
+    ensures { result ≡ byte_in word.now }
 {
-    let number = number_at(given, id)?;
+    let number = number(word)?;
     byte_of(number)
 }
 
 /// The bytes of a word.
+pub fn bytes_of(alloc: Global, word: &str) -> Result<Items<u8>, LineError>
+    ensures { IsUnlessMemory result (Ok word.now) }
+{
+    Ok(Items::from_slice(alloc, word.as_bytes())?)
+}
+
+/// The bytes of the word that is given.
 pub fn bytes_at(alloc: Global, given: &Given<'_>, id: &str) -> Result<Items<u8>, LineError>
     ensures { IsUnlessMemory result (word_at id.now given.now) }
 {
     match given.text(id) {
-        Some(word) => Ok(Items::from_slice(alloc, word.as_bytes())?),
+        Some(word) => bytes_of(alloc, word),
         None => Err(LineError::Usage),
     }
 }
