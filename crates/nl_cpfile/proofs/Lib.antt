@@ -1,4 +1,5 @@
 pub mod Rising
+pub mod Numbers
 pub mod Found
 pub mod Told
 pub mod Ranges

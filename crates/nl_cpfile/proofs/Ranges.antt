@@ -1,10 +1,11 @@
 -- What becomes of the checkpoints of a range.
-use Rattle.std.proofs.Common.{◌≡◌, ◌≢◌, ℕ, ◌<◌, ◌+◌, true, false, true≢false, Bool, not, ◌&&◌, cond, List, [], ◌∷◌, ◌++◌, length, get_or, map, take, Option, None, Some, refl, sym, ap, ◌∙◌, arith}
+use Rattle.std.proofs.Common.{◌≡◌, ◌≢◌, ℕ, ◌<◌, ◌+◌, true, false, true≢false, Bool, not, ◌&&◌, cond, List, [], ◌∷◌, ◌++◌, length, get_or, map, take, Option, None, Some, refl, sym, ap, subst, ◌∙◌, arith}
 use Rattle.std.specs.Prelude.{◌==◌, ◌||◌, Result, Ok, Err}
-use Rattle.std.specs.List.{AllByRecursion, cons_option, filter, filter_map, list_any}
+use Rattle.std.specs.List.{All, AllByRecursion, AllPairs, cons_option, filter, filter_map, list_any}
 use Rattle.std.specs.Option.{is_none, option_map}
 use Rattle.std.proofs.lemmas.Bool.{and_left, and_right, eq-eqb, ne_eqb}
 use Rattle.std.proofs.lemmas.List.{take_more}
+use Rattle.std.proofs.lemmas.List.Elements.{All-filter, All-map}
 use Rattle.nl_types.specs.Rows.{is_snapshot}
 use Rattle.nl_types.specs.CheckpointLaws.{removed_by}
 use Rattle.nl_types.specs.declared.error.VolError.{VolError}
@@ -15,8 +16,9 @@ use Rattle.nl_types.specs.declared.row.Row.{Row}
 use Rattle.nl_types.specs.declared.row.Stays.{Stays}
 use Rattle.nl_cpfile.specs.Judging.{joined}
 use Rattle.nl_types.specs.Rows.{between, is_among, is_between, is_empty_range, is_no_range, judged, may_go, number_of, range_removal, reason_to_stay, removable, stay_of, staying}
-use Rattle.nl_cpfile.specs.Tables.{IsRising, IsTable, Precedes, Table, is_kept_without, range_in, row_of, rows, rows_of, without}
-use Rattle.nl_cpfile.proofs.Rising.{IsRising-front, IsRising-last, map-push}
+use Rattle.nl_cpfile.specs.Tables.{IsRising, IsTable, Precedes, Table, is_kept_without, kept_numbers, range_in, row_of, rows, rows_of, without}
+use Rattle.nl_cpfile.proofs.Rising.{IsRising-filter, IsRising-front, IsRising-last, earlier-low, map-push}
+use Rattle.nl_cpfile.proofs.Numbers.{numbers-rise}
 
 -- ---- of two parts
 
@@ -92,16 +94,13 @@ judged-empty latest first last (row ∷ rs) =
 
 -- ---- those that leave
 
-abbrev numbers : List Checkpoint → List ℕ
-numbers kept = map (λ (c : Checkpoint). c.number) kept
-
-among_above : (p : Checkpoint → Bool) (c : Checkpoint) (kept : List Checkpoint) → AllByRecursion (Precedes c) kept → is_among (numbers (filter p kept)) c.number ≡ false
+among_above : (p : Checkpoint → Bool) (c : Checkpoint) (kept : List Checkpoint) → AllByRecursion (Precedes c) kept → is_among (kept_numbers (filter p kept)) c.number ≡ false
 among_above p c [] each = refl
 among_above p c (x ∷ kept) each =
     let up = each.0.number in
     let rest = among_above p c kept each.1 in
-    elim (p x) as (λ b. is_among (numbers (cond b (x ∷ filter p kept) (filter p kept))) c.number ≡ false) [
-      | true ↦ ap (λ b. b || is_among (numbers (filter p kept)) c.number) (ne_eqb x.number c.number (λ same. absurd (omega (arith, up, same)))) ∙ rest
+    elim (p x) as (λ b. is_among (kept_numbers (cond b (x ∷ filter p kept) (filter p kept))) c.number ≡ false) [
+      | true ↦ ap (λ b. b || is_among (kept_numbers (filter p kept)) c.number) (ne_eqb x.number c.number (λ same. absurd (omega (arith, up, same)))) ∙ rest
       | false ↦ rest
     ]
 
@@ -115,12 +114,12 @@ among-later p c gone (x ∷ kept) above each =
     let up = above.0.number in
     (ap (λ b. b || is_among gone x.number) (ne_eqb c.number x.number (λ same. absurd (omega (arith, up, same)))) ∙ each.0, among-later p c gone kept above.1 each.1)
 
-among-filter : (p : Checkpoint → Bool) (kept : List Checkpoint) → IsRising kept → AllByRecursion (IsAmongThem p (numbers (filter p kept))) kept
+among-filter : (p : Checkpoint → Bool) (kept : List Checkpoint) → IsRising kept → AllByRecursion (IsAmongThem p (kept_numbers (filter p kept))) kept
 among-filter p [] rising = tt
 among-filter p (c ∷ kept) rising =
     let rest = among-filter p kept rising.1 in
-    elim (p c) as (λ b. (is_among (numbers (cond b (c ∷ filter p kept) (filter p kept))) c.number ≡ b) × AllByRecursion (IsAmongThem p (numbers (cond b (c ∷ filter p kept) (filter p kept)))) kept) [
-      | true ↦ (ap (λ b. b || is_among (numbers (filter p kept)) c.number) (eq-eqb c.number c.number refl), among-later p c (numbers (filter p kept)) kept rising.0 rest)
+    elim (p c) as (λ b. (is_among (kept_numbers (cond b (c ∷ filter p kept) (filter p kept))) c.number ≡ b) × AllByRecursion (IsAmongThem p (kept_numbers (cond b (c ∷ filter p kept) (filter p kept)))) kept) [
+      | true ↦ (ap (λ b. b || is_among (kept_numbers (filter p kept)) c.number) (eq-eqb c.number c.number refl), among-later p c (kept_numbers (filter p kept)) kept rising.0 rest)
       | false ↦ (among_above p c kept rising.0, rest)
     ]
 
@@ -142,13 +141,13 @@ stays-unless_goes latest first last c other =
     judge false true = refl
     judge false false = refl
 
-removable-goes : (latest first last : ℕ) (kept : List Checkpoint) → removable latest (between first last (rows_of kept)) ≡ numbers (filter (goes latest first last) kept)
+removable-goes : (latest first last : ℕ) (kept : List Checkpoint) → removable latest (between first last (rows_of kept)) ≡ kept_numbers (filter (goes latest first last) kept)
 removable-goes latest first last [] = refl
 removable-goes latest first last (c ∷ kept) =
     let rest = removable-goes latest first last kept in
     let more = ap (λ ns. c.number ∷ ns) rest in
-    elim (is_between first last (row_of c)) as (λ b. removable latest (cond b (row_of c ∷ between first last (rows_of kept)) (between first last (rows_of kept))) ≡ numbers (cond (b && may_go latest (row_of c)) (c ∷ filter (goes latest first last) kept) (filter (goes latest first last) kept))) [
-      | true ↦ elim (may_go latest (row_of c)) as (λ b. map number_of (cond b (row_of c ∷ filter (may_go latest) (between first last (rows_of kept))) (filter (may_go latest) (between first last (rows_of kept)))) ≡ numbers (cond b (c ∷ filter (goes latest first last) kept) (filter (goes latest first last) kept))) [
+    elim (is_between first last (row_of c)) as (λ b. removable latest (cond b (row_of c ∷ between first last (rows_of kept)) (between first last (rows_of kept))) ≡ kept_numbers (cond (b && may_go latest (row_of c)) (c ∷ filter (goes latest first last) kept) (filter (goes latest first last) kept))) [
+      | true ↦ elim (may_go latest (row_of c)) as (λ b. map number_of (cond b (row_of c ∷ filter (may_go latest) (between first last (rows_of kept))) (filter (may_go latest) (between first last (rows_of kept)))) ≡ kept_numbers (cond b (c ∷ filter (goes latest first last) kept) (filter (goes latest first last) kept))) [
         | true ↦ more
         | false ↦ rest
       ]
@@ -172,7 +171,7 @@ append-none : (ns : List ℕ) → ns ++ [] ≡ ns
 append-none [] = refl
 append-none (n ∷ ns) = ap (λ ms. n ∷ ms) (append-none ns)
 
-removable-earlier : (first last : ℕ) (t : Table) → removable t.latest.number (between first last (rows t)) ≡ numbers (filter (goes t.latest.number first last) t.earlier)
+removable-earlier : (first last : ℕ) (t : Table) → removable t.latest.number (between first last (rows t)) ≡ kept_numbers (filter (goes t.latest.number first last) t.earlier)
 removable-earlier first last t =
     let latest = t.latest.number in
     let parts : between first last (rows t) ≡ between first last (rows_of t.earlier) ++ between first last (row_of t.latest ∷ []) =
@@ -181,6 +180,22 @@ removable-earlier first last t =
     ∙ ap (λ ns. removable latest (between first last (rows_of t.earlier)) ++ ns) (removable-latest first last t.latest)
     ∙ append-none (removable latest (between first last (rows_of t.earlier)))
     ∙ removable-goes latest first last t.earlier
+
+-- they rise
+pub removable-rise : (first last : ℕ) (t : Table) → IsTable t → AllPairs ◌<◌ (removable t.latest.number (between first last (rows t)))
+removable-rise first last t is =
+    let gone : List Checkpoint = filter (goes t.latest.number first last) t.earlier in
+    let rising : IsRising gone = IsRising-filter (goes t.latest.number first last) t.earlier (IsRising-front t.earlier (t.latest ∷ []) is.rising) in
+    subst (λ (ns : List ℕ). AllPairs ◌<◌ ns) (sym (removable-earlier first last t)) (numbers-rise gone rising)
+
+-- and lie below the latest one
+pub removable-low : (first last : ℕ) (t : Table) → IsTable t → All (λ n. n < t.latest.number) (removable t.latest.number (between first last (rows t)))
+removable-low first last t is =
+    let latest = t.latest.number in
+    let test = goes latest first last in
+    subst (λ (ns : List ℕ). All (λ n. n < latest) ns) (sym (removable-earlier first last t))
+    (All-map (λ n. n < latest) (λ (c : Checkpoint). c.number) (filter test t.earlier)
+    (All-filter test (λ (c : Checkpoint). c.number < latest) t.earlier (earlier-low t is)))
 
 filter-agree : (p q : Checkpoint → Bool) (kept : List Checkpoint) → AllByRecursion (λ c. p c ≡ q c) kept → filter p kept ≡ filter q kept
 filter-agree p q [] each = refl
@@ -200,7 +215,7 @@ pub stays-removed : (first last : ℕ) (t : Table) → IsTable t → filter (sta
 stays-removed first last t is =
     let latest = t.latest.number in
     let rising = IsRising-front t.earlier (t.latest ∷ []) is.rising in
-    let gone = numbers (filter (goes latest first last) t.earlier) in
+    let gone = kept_numbers (filter (goes latest first last) t.earlier) in
     filter-agree (stays_in first last) (is_kept_without gone) t.earlier
     (stays-without latest first last t.latest gone t.earlier refl (IsRising-last t.earlier t.latest is.rising) (among-filter (goes latest first last) t.earlier rising))
     ∙ ap (λ (ns : List ℕ). filter (is_kept_without ns) t.earlier) (sym (removable-earlier first last t))
@@ -263,13 +278,13 @@ without-none t = ap (λ (cs : List Checkpoint). record t { earlier = cs }) (none
 
 -- ---- the latest checkpoint stays
 
-among_below : (p : Checkpoint → Bool) (l : Checkpoint) (kept : List Checkpoint) → AllByRecursion (λ (c : Checkpoint). Precedes c l) kept → is_among (numbers (filter p kept)) l.number ≡ false
+among_below : (p : Checkpoint → Bool) (l : Checkpoint) (kept : List Checkpoint) → AllByRecursion (λ (c : Checkpoint). Precedes c l) kept → is_among (kept_numbers (filter p kept)) l.number ≡ false
 among_below p l [] each = refl
 among_below p l (x ∷ kept) each =
     let up = each.0.number in
     let rest = among_below p l kept each.1 in
-    elim (p x) as (λ b. is_among (numbers (cond b (x ∷ filter p kept) (filter p kept))) l.number ≡ false) [
-      | true ↦ ap (λ b. b || is_among (numbers (filter p kept)) l.number) (ne_eqb x.number l.number (λ same. absurd (omega (arith, up, same)))) ∙ rest
+    elim (p x) as (λ b. is_among (kept_numbers (cond b (x ∷ filter p kept) (filter p kept))) l.number ≡ false) [
+      | true ↦ ap (λ b. b || is_among (kept_numbers (filter p kept)) l.number) (ne_eqb x.number l.number (λ same. absurd (omega (arith, up, same)))) ∙ rest
       | false ↦ rest
     ]
 

@@ -1,7 +1,7 @@
 -- Lists of checkpoints that rise.
 use Rattle.std.proofs.Common.{◌≡◌, ℕ, zero, suc, ◌<◌, true, false, Bool, cond, List, [], ◌∷◌, ◌++◌, length, get_or, map, refl, ap, subst, arith}
 use Rattle.std.specs.Prelude.{◌==◌}
-use Rattle.std.specs.List.{AllByRecursion, filter}
+use Rattle.std.specs.List.{All, AllByRecursion, filter}
 use Rattle.std.specs.List.Sorted.{IsNonDecreasingBy}
 use Rattle.nl_types.specs.declared.event.Mode.{Mode}
 use Rattle.nl_cpfile.specs.declared.checkpoint.Checkpoint.{Checkpoint}
@@ -52,6 +52,10 @@ IsRising-front (c ∷ xs) ys rising = (All-front (Precedes c) xs ys rising.0, Is
 pub IsRising-last : (xs : List Checkpoint) (y : Checkpoint) → IsRising (xs ++ y ∷ []) → AllByRecursion (λ (c : Checkpoint). Precedes c y) xs
 IsRising-last [] y rising = tt
 IsRising-last (c ∷ xs) y rising = (All-last (Precedes c) xs y rising.0, IsRising-last xs y rising.1)
+
+-- so the earlier ones of a table lie below its latest one
+pub earlier-low : (t : Table) → IsTable t → All (λ (c : Checkpoint). c.number < t.latest.number) t.earlier
+earlier-low t is k d within = (All-at (λ (c : Checkpoint). Precedes c t.latest) t.earlier k d (IsRising-last t.earlier t.latest is.rising) within).number
 
 pub IsRising-push : (xs : List Checkpoint) (y : Checkpoint) → IsRising xs → AllByRecursion (λ (c : Checkpoint). Precedes c y) xs → IsRising (xs ++ y ∷ [])
 IsRising-push [] y rising before = (tt, tt)

@@ -41,6 +41,9 @@ rows_of kept = map row_of kept
 abbrev pub rows : Table → List Row
 rows t = rows_of (all t)
 
+abbrev pub kept_numbers : List Checkpoint → List ℕ
+kept_numbers kept = map (λ (c : Checkpoint). c.number) kept
+
 abbrev pub cpstat_of : Table → Cpstat
 cpstat_of t = record {
   latest = t.latest.number;

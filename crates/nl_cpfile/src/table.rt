@@ -1,16 +1,17 @@
 //! The checkpoints that are kept.
-ghost use Rattle.std.specs.Prelude.{◌≡◌, ◌<◌, [], ◌∷◌, IfOk, OnErr, OnOk};
+ghost use Rattle.std.specs.Prelude.{◌≡◌, ◌<◌, [], ◌∷◌, All, AllPairs, IfOk, OnErr, OnOk};
 ghost use Rattle.std.specs.Option.{option_copied};
 ghost use Rattle.nl_types.specs.Calls.{IsUnlessMemory};
 ghost use Rattle.nl_types.specs.Limits.{checkpoint_number_limit};
 ghost use Rattle.nl_types.specs.Rows.{between, judged, kept_row, mode_change, range_removal, removal};
 ghost use Rattle.nl_types.specs.Rows as told;
+ghost use Rattle.nl_cpfile.specs.Searching.{IsLeastAbove};
 ghost use Rattle.nl_cpfile.specs.Tables as tables;
 
 use crate::checkpoint::Checkpoint;
 use crate::judging::{count_snapshots, is_no_range, judge};
 use crate::listing::listed;
-use crate::searching::place_of;
+use crate::searching::{least_above, place_of};
 use nl_types::{CheckpointNumber, Items, ListOptions, Mode, Range, Row, VolError};
 use std::alloc::{AllocError, Global};
 use std::marker::Model;
@@ -46,7 +47,7 @@ impl Model for Checkpoints {
 }
 
 impl Checkpoints {
-    ghost use Rattle.nl_cpfile.specs.Tables.{ComesNext, IsTable, cpstat_of, kept_at, rows};
+    ghost use Rattle.nl_cpfile.specs.Tables.{ComesNext, IsTable, all, cpstat_of, kept_at, kept_numbers, rows};
 
     /// The first checkpoint alone, which may be the blank one of number 0. Takes no memory yet.
     pub fn new(alloc: Global, first: Checkpoint) -> Self
@@ -92,6 +93,14 @@ impl Checkpoints {
             None if self.latest.number == number => Some(&self.latest),
             None => None,
         }
+    }
+
+    /// The least kept number above one that is below the latest. Takes no memory, and halves the list.
+    pub fn first_above(&self, number: CheckpointNumber) -> CheckpointNumber
+        requires { number < self.now.table.latest.number }
+        ensures { IsLeastAbove number (kept_numbers (all self.now.table)) result }
+    {
+        least_above(self.earlier.as_slice(), number).unwrap_or(self.latest.number)
     }
 
     /// Makes room for one more checkpoint. Refused for memory alone.
@@ -143,6 +152,7 @@ impl Checkpoints {
         ensures removed { OnOk result (self.new.table ≡ tables.without (number ∷ []) self.old.table) }
         ensures told { OnOk result
             (rows self.new.table ≡ told.without (number ∷ []) (rows self.old.table)) }
+        ensures low { OnOk result (number < self.old.table.latest.number) }
         ensures same { OnErr result (self.new ≡ self.old) }
     {
         if self.latest.number == number {
@@ -178,6 +188,9 @@ impl Checkpoints {
             self.new.table ≡ tables.without range.removed self.old.table) }
         ensures told { IfOk result (λ range.
             rows self.new.table ≡ told.without range.removed (rows self.old.table)) }
+        ensures rising { IfOk result (λ range. AllPairs ◌<◌ range.removed) }
+        ensures low { IfOk result (λ range.
+            All (λ n. n < self.old.table.latest.number) range.removed) }
         ensures same { OnErr result (self.new ≡ self.old) }
     {
         let range = self.judge(alloc, first, last)?;
@@ -228,6 +241,9 @@ impl Checkpoints {
             (range_removal first last self.now.table.latest.number (rows self.now.table)) }
         ensures found { IfOk result (λ range. range ≡ judged self.now.table.latest.number
             (between first last (rows self.now.table))) }
+        ensures rising { IfOk result (λ range. AllPairs ◌<◌ range.removed) }
+        ensures low { IfOk result (λ range.
+            All (λ n. n < self.now.table.latest.number) range.removed) }
     {
         if is_no_range(first, last) {
             return Err(VolError::BadRange);

@@ -13,14 +13,10 @@ use Rattle.nl_types.specs.Segments.{Segments, info_of, IsUsed, used_in, used_blo
 use Rattle.nl_types.specs.Placing.{row_of}
 use Rattle.nl_types.specs.PartialMaps.{Partial}
 use Rattle.nl_types.specs.Entries.{Birth, Content, number_of}
+use Rattle.nl_sufile.specs.BySegment.{count_to}
 use Rattle.nl_vstore.specs.Batches.{is_born, is_taken}
 
 -- ---- how many numbers pass a test
-
--- how many of the numbers 1 to n do
-abbrev pub count_to : (ℕ → Bool) → ℕ → ℕ
-count_to test zero = 0
-count_to test (suc n) = cond (test (suc n)) 1 0 + count_to test n
 
 count-all : (test : ℕ → Bool) (n : ℕ) → ((v : ℕ) → 1 ≤ v → v ≤ n → test v ≡ true) → count_to test n ≡ n
 count-all test zero each = refl

@@ -9,6 +9,7 @@ pub mod FreeNumbers
 pub mod Writing
 pub mod Refusals
 pub mod Positions
+pub mod SegmentOf
 pub mod TakingOut
 pub mod Reclaiming
 pub mod Loading

@@ -8,7 +8,7 @@ ghost use Rattle.nl_dat.specs.OneProof.{IsStore-prop, IsTable-prop};
 use crate::bdesc::{Bdesc, describe_row};
 use crate::entries::{
     DatEntry, empty_places, end_entries, enter_births, entry_at, first_free, move_entries,
-    number_in, number_with,
+    number_in, number_with, segment_at,
 };
 use crate::images::{have_own_payload, write_numbers};
 use crate::moving::{count_payload, load_all, row_tag};
@@ -244,6 +244,11 @@ impl<S: Space> Vstore for Dat<S> {
         let block = segment.get() * table.blocks() + position;
         let number = self.tagged(segment, position);
         number_with(self.table.as_slice(), number, block)
+    }
+
+    fn segment_of(&self, number: VirtualNumber) -> Option<Segment> {
+        let blocks = self.space.table().blocks();
+        segment_at(self.table.as_slice(), number, blocks)
     }
 
     fn tag(&self, segment: Segment, position: u32) -> Option<Tag> {

@@ -1,5 +1,5 @@
 //! The table of virtual block numbers, as a slice.
-ghost use Rattle.std.specs.Prelude.{◌≡◌, ◌<◌, length, replicate, slice_index_or, MatchOption, IfOk, None};
+ghost use Rattle.std.specs.Prelude.{◌≡◌, ◌/◌, ◌<◌, length, replicate, slice_index_or, MatchOption, IfOk, None};
 ghost use Rattle.std.specs.List.{All};
 ghost use Rattle.nl_types.specs.PartialMaps.{put, put_each, adjust, adjust_all, adjust_each};
 ghost use Rattle.nl_types.specs.Entries.{number_of};
@@ -8,7 +8,7 @@ ghost use Rattle.std.specs.Option.{option_map};
 ghost use Rattle.nl_dat.specs.Table.{AreInUse, IsNumberWith, addresses_of, IsFirstFree, entry_in, new_entry, ended_entry, moved_entry};
 
 use nl_space::Payload;
-use nl_types::{BlockNumber, CheckpointNumber, Items, Period, VirtualNumber};
+use nl_types::{BlockNumber, CheckpointNumber, Items, Period, Segment, VirtualNumber};
 use std::alloc::{AllocError, Global};
 
 /// What the table has for a number in use: where its page stands, and its period. As in the DAT of nilfs2.rst.
@@ -65,6 +65,19 @@ pub(crate) fn block_at(table: &[Option<DatEntry>], number: VirtualNumber) -> Opt
 {
     let entry = entry_at(table, number)?;
     Some(entry.block)
+}
+
+/// The segment where the page of a number stands, of segments of so many blocks, where the number is in use.
+pub(crate) fn segment_at(
+    table: &[Option<DatEntry>],
+    number: VirtualNumber,
+    blocks: u32,
+) -> Option<Segment>
+    requires { 0 < blocks }
+    ensures { result ≡ option_map (λ b. b / blocks) (addresses_of (entry_in table.now) number) }
+{
+    let block = block_at(table, number)?;
+    Some(Segment::new(block.get() / blocks))
 }
 
 /// The number of the payload at a position of a row, if there is payload.

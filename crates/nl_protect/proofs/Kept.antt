@@ -1,9 +1,9 @@
 -- Kept checkpoints that ascend: the least protected one, and those that a period holds.
-use Rattle.std.proofs.Common.{◌≡◌, ℕ, zero, suc, ◌<◌, ◌&&◌, Bool, true, false, cond, List, [], ◌∷◌, ◌++◌, length, get_or, map, take, drop, reverse, unwrap_or, Option, None, Some, refl, sym, ap, subst, ◌∙◌, arith, rules}
+use Rattle.std.proofs.Common.{◌≡◌, ℕ, zero, suc, ◌+◌, ◌<◌, ◌≤◌, ◌&&◌, Bool, true, false, not, cond, List, [], ◌∷◌, ◌++◌, length, get_or, map, take, drop, reverse, unwrap_or, Option, None, Some, refl, sym, ap, subst, ◌∙◌, arith, rules}
 use Rattle.std.specs.Prelude.{◌||◌, min, nat_lt}
 use Rattle.std.specs.List.{AllByRecursion, filter, find, list_any}
-use Rattle.std.specs.List.Sorted.{IsNonDecreasingBy, IsPartitionPoint}
-use Rattle.std.specs.Option.{option_map_or}
+use Rattle.std.specs.List.Sorted.{IsNonDecreasingBy, IsPartitionPoint, IsPartitionedBy}
+use Rattle.std.specs.Option.{option_map, option_map_or}
 use Rattle.std.proofs.lemmas.Bool.Decides.{nat_tests}
 use Rattle.std.proofs.lemmas.List.Sorted.{IsPermutation-reverse, list_any-IsPermutation}
 use Rattle.nl_types.specs.declared.period.Period.{Period}
@@ -13,7 +13,7 @@ use Rattle.nl_types.specs.Entries.{holds, is_period_needed}
 use Rattle.nl_types.specs.Rows.{number_of}
 use Rattle.nl_cpfile.specs.declared.checkpoint.Checkpoint.{Checkpoint}
 use Rattle.nl_cpfile.specs.Tables.{IsRising, Precedes, row_of, rows_of}
-use Rattle.nl_protect.specs.Keeping.{found, is_before, is_from, is_staying}
+use Rattle.nl_protect.specs.Keeping.{first_protected, found, is_before, is_from, is_protected, is_staying}
 
 -- ---- rising lists
 
@@ -30,6 +30,10 @@ pub rising-front : (xs ys : List Checkpoint) → IsRising (xs ++ ys) → IsRisin
 rising-front [] ys rising = tt
 rising-front (c ∷ xs) ys rising = (all-front (Precedes c) xs ys rising.0, rising-front xs ys rising.1)
 
+pub all-last : {X : Type 0} (P : X → Type 0) (xs : List X) (y : X) → AllByRecursion P (xs ++ y ∷ []) → P y
+all-last P [] y each = each.0
+all-last P (x ∷ xs) y each = all-last P xs y each.1
+
 all-filter : {X : Type 0} (P : X → Type 0) (p : X → Bool) (xs : List X) → AllByRecursion P xs → AllByRecursion P (filter p xs)
 all-filter P p [] each = tt
 all-filter P p (x ∷ xs) each = elim (p x) as (λ b. AllByRecursion P (cond b (x ∷ filter p xs) (filter p xs))) [
@@ -44,14 +48,31 @@ rising-filter p (c ∷ xs) rising = elim (p c) as (λ b. IsRising (cond b (c ∷
   | false ↦ rising-filter p xs rising.1
 ]
 
--- their numbers never fall
+-- what no checkpoint has less of than those before it never falls
+module _ (f : Checkpoint → ℕ) (up : (a b : Checkpoint) → Precedes a b → f a ≤ f b) where
+  never-falls : (xs : List Checkpoint) → IsRising xs → IsNonDecreasingBy f xs
+  never-falls [] rising i j d le lt = absurd (omega arith)
+  never-falls (c ∷ xs) rising zero zero d le lt = omega arith
+  never-falls (c ∷ xs) rising zero (suc j) d le lt = up c (get_or xs j d) (all-at (Precedes c) xs j d rising.0 (omega arith))
+  never-falls (c ∷ xs) rising (suc i) zero d le lt = absurd (omega arith)
+  never-falls (c ∷ xs) rising (suc i) (suc j) d le lt = never-falls xs rising.1 i j d (omega arith) (omega arith)
+
 pub rising-numbers : (xs : List Checkpoint) → IsRising xs → IsNonDecreasingBy (λ (c : Checkpoint). c.number) xs
-rising-numbers [] rising i j d le lt = absurd (omega arith)
-rising-numbers (c ∷ xs) rising zero zero d le lt = omega arith
-rising-numbers (c ∷ xs) rising zero (suc j) d le lt =
-    let up = (all-at (Precedes c) xs j d rising.0 (omega arith)).number in omega (arith, up)
-rising-numbers (c ∷ xs) rising (suc i) zero d le lt = absurd (omega arith)
-rising-numbers (c ∷ xs) rising (suc i) (suc j) d le lt = rising-numbers xs rising.1 i j d (omega arith) (omega arith)
+rising-numbers xs rising = never-falls (λ c. c.number) (λ a b before. let low = before.number in omega (arith, low)) xs rising
+
+rising-stamps : (xs : List Checkpoint) → IsRising xs → IsNonDecreasingBy (λ (c : Checkpoint). c.stamp) xs
+rising-stamps xs rising = never-falls (λ c. c.stamp) (λ a b before. before.stamp) xs rising
+
+-- ---- where a test ends that those before a place pass
+
+abbrev IsPoint : (passes : Checkpoint → Bool) → List Checkpoint → ℕ → Type 0
+IsPoint passes kept i = IsPartitionPoint (λ c. passes c ≡ true) (λ c. passes c ≡ false) kept i
+
+behind : (passes : Checkpoint → Bool) (c : Checkpoint) (kept : List Checkpoint) (i : ℕ) → IsPoint passes (c ∷ kept) (suc i) → IsPoint passes kept i
+behind passes c kept i point = (λ k d low lt. point.0 (suc k) d (omega arith) (omega arith), λ k d low lt. point.1 (suc k) d (omega arith) (omega arith))
+
+behind-first : (passes : Checkpoint → Bool) (c : Checkpoint) (kept : List Checkpoint) → IsPoint passes (c ∷ kept) 0 → IsPoint passes kept 0
+behind-first passes c kept point = (λ k d low lt. absurd (omega arith), λ k d low lt. point.1 (suc k) d (omega arith) (omega arith))
 
 -- ---- the least protected one
 
@@ -75,28 +96,64 @@ module _ (now period : ℕ) where
       ]
 
   -- so the first protected one decides, or else the latest one
-  pub first : (xs : List Checkpoint) (y : Checkpoint) → IsRising (xs ++ y ∷ []) → option_map_or (λ (c : Checkpoint). c.number) (find (λ (c : Checkpoint). protection.is_protected now period (row_of c)) xs) y.number ≡ unwrap_or (least_of (xs ++ y ∷ [])) y.number
-  first [] y rising = elim (protection.is_protected now period (row_of y)) as (λ b. y.number ≡ unwrap_or (protection.least (map number_of (cond b (row_of y ∷ []) []))) y.number) [
+  pub first-decides : (xs : List Checkpoint) (y : Checkpoint) → IsRising (xs ++ y ∷ []) → unwrap_or (first_protected now period xs) y.number ≡ protection.boundary now period y.number (rows_of (xs ++ y ∷ []))
+  first-decides [] y rising = elim (is_protected now period y) as (λ b. y.number ≡ unwrap_or (protection.least (map number_of (cond b (row_of y ∷ []) []))) y.number) [
     | true ↦ refl
     | false ↦ refl
   ]
-  first (x ∷ xs) y rising =
-      let rest = first xs y rising.1 in
-      elim (protection.is_protected now period (row_of x)) as (λ b. option_map_or (λ (c : Checkpoint). c.number) (cond b (Some x) (find (λ (c : Checkpoint). protection.is_protected now period (row_of c)) xs)) y.number ≡ unwrap_or (protection.least (map number_of (cond b (row_of x ∷ protection.protected now period (rows_of (xs ++ y ∷ []))) (protection.protected now period (rows_of (xs ++ y ∷ [])))))) y.number) [
+  first-decides (x ∷ xs) y rising =
+      let rest = first-decides xs y rising.1 in
+      elim (is_protected now period x) as (λ b. unwrap_or (option_map (λ (c : Checkpoint). c.number) (cond b (Some x) (find (is_protected now period) xs))) y.number ≡ unwrap_or (protection.least (map number_of (cond b (row_of x ∷ protection.protected now period (rows_of (xs ++ y ∷ []))) (protection.protected now period (rows_of (xs ++ y ∷ [])))))) y.number) [
         | true ↦ sym (lowest x (xs ++ y ∷ []) rising.0)
         | false ↦ rest
       ]
 
+  -- and lies no higher than the latest one
+  pub boundary-low : (xs : List Checkpoint) (y : Checkpoint) → IsRising (xs ++ y ∷ []) → unwrap_or (first_protected now period xs) y.number ≤ y.number
+  boundary-low [] y rising = omega arith
+  boundary-low (x ∷ xs) y rising =
+      let up = (all-last (Precedes x) xs y rising.0).number in
+      elim (is_protected now period x) as (λ b. unwrap_or (option_map (λ (c : Checkpoint). c.number) (cond b (Some x) (find (is_protected now period) xs))) y.number ≤ y.number) [
+        | true ↦ omega (arith, up)
+        | false ↦ boundary-low xs y rising.1
+      ]
+
+  -- ---- by halving
+
+  abbrev pub is_unprotected : Checkpoint → Bool
+  is_unprotected c = not (is_protected now period c)
+
+  ended : (a b : ℕ) → a ≤ b → not (nat_lt now (b + period)) ≡ true → not (nat_lt now (a + period)) ≡ true
+  ended a b le is = grind (arith, nat_tests)
+
+  -- what precedes an unprotected one is unprotected too
+  pub unprotected-first : (kept : List Checkpoint) → IsRising kept → IsPartitionedBy is_unprotected kept
+  unprotected-first kept rising i j d le lt is = ended (get_or kept i d).stamp (get_or kept j d).stamp (rising-stamps kept rising i j d le lt) is
+
+  protected-past : (c : Checkpoint) → is_unprotected c ≡ false → is_protected now period c ≡ true
+  protected-past c past = search (rules, nat_tests)
+
+  protected-not_yet : (c : Checkpoint) → is_unprotected c ≡ true → is_protected now period c ≡ false
+  protected-not_yet c low = search (rules, nat_tests)
+
+  -- the one at the point is the first one
+  pub protected-at : (kept : List Checkpoint) (i : ℕ) (d : Checkpoint) → IsPoint is_unprotected kept i → i < length kept → find (is_protected now period) kept ≡ Some (get_or kept i d)
+  protected-at [] i d point within = absurd (omega arith)
+  protected-at (c ∷ kept) zero d point within =
+      ap (λ b. cond b (Some c) (find (is_protected now period) kept)) (protected-past c (point.1 0 c (omega arith) (omega arith)))
+  protected-at (c ∷ kept) (suc i) d point within =
+      ap (λ b. cond b (Some c) (find (is_protected now period) kept)) (protected-not_yet c (point.0 0 c (omega arith) (omega arith)))
+      ∙ protected-at kept i d (behind is_unprotected c kept i point) (omega arith)
+
+  -- or there is none
+  pub protected-none : (kept : List Checkpoint) (i : ℕ) → IsPoint is_unprotected kept i → length kept ≤ i → find (is_protected now period) kept ≡ None
+  protected-none [] i point past = refl
+  protected-none (c ∷ kept) zero point past = absurd (omega arith)
+  protected-none (c ∷ kept) (suc i) point past =
+      ap (λ b. cond b (Some c) (find (is_protected now period) kept)) (protected-not_yet c (point.0 0 c (omega arith) (omega arith)))
+      ∙ protected-none kept i (behind is_unprotected c kept i point) (omega arith)
+
 -- ---- those that a period holds
-
-abbrev IsPoint : (bound : ℕ) → List Checkpoint → ℕ → Type 0
-IsPoint bound kept i = IsPartitionPoint (λ (c : Checkpoint). nat_lt c.number bound ≡ true) (λ (c : Checkpoint). nat_lt c.number bound ≡ false) kept i
-
-behind : (bound : ℕ) (c : Checkpoint) (kept : List Checkpoint) (i : ℕ) → IsPoint bound (c ∷ kept) (suc i) → IsPoint bound kept i
-behind bound c kept i point = (λ k d low lt. point.0 (suc k) d (omega arith) (omega arith), λ k d low lt. point.1 (suc k) d (omega arith) (omega arith))
-
-behind-first : (bound : ℕ) (c : Checkpoint) (kept : List Checkpoint) → IsPoint bound (c ∷ kept) 0 → IsPoint bound kept 0
-behind-first bound c kept point = (λ k d low lt. absurd (omega arith), λ k d low lt. point.1 (suc k) d (omega arith) (omega arith))
 
 from-point : (first : ℕ) (c : Checkpoint) → nat_lt c.number first ≡ false → is_from first c ≡ true
 from-point first c past = search (rules, nat_tests)
@@ -105,29 +162,29 @@ not_from-point : (first : ℕ) (c : Checkpoint) → nat_lt c.number first ≡ tr
 not_from-point first c low = search (rules, nat_tests)
 
 -- those from the point on are those from the bound on
-pub dropped : (first : ℕ) (kept : List Checkpoint) (i : ℕ) → IsPoint first kept i → drop i kept ≡ filter (is_from first) kept
+pub dropped : (first : ℕ) (kept : List Checkpoint) (i : ℕ) → IsPoint (is_before first) kept i → drop i kept ≡ filter (is_from first) kept
 dropped first [] zero point = refl
 dropped first [] (suc i) point = refl
 dropped first (c ∷ kept) zero point =
     let here : is_from first c ≡ true = from-point first c (point.1 0 c (omega arith) (omega arith)) in
-    ap (λ (xs : List Checkpoint). c ∷ xs) (dropped first kept 0 (behind-first first c kept point))
+    ap (λ (xs : List Checkpoint). c ∷ xs) (dropped first kept 0 (behind-first (is_before first) c kept point))
     ∙ ap (λ b. cond b (c ∷ filter (is_from first) kept) (filter (is_from first) kept)) (sym here)
 dropped first (c ∷ kept) (suc i) point =
     let here : is_from first c ≡ false = not_from-point first c (point.0 0 c (omega arith) (omega arith)) in
-    dropped first kept i (behind first c kept i point)
+    dropped first kept i (behind (is_before first) c kept i point)
     ∙ ap (λ b. cond b (c ∷ filter (is_from first) kept) (filter (is_from first) kept)) (sym here)
 
 -- those before the point are those before the bound
-pub taken : (end : ℕ) (kept : List Checkpoint) (i : ℕ) → IsPoint end kept i → take i kept ≡ filter (is_before end) kept
+pub taken : (end : ℕ) (kept : List Checkpoint) (i : ℕ) → IsPoint (is_before end) kept i → take i kept ≡ filter (is_before end) kept
 taken end [] zero point = refl
 taken end [] (suc i) point = refl
 taken end (c ∷ kept) zero point =
     let here : is_before end c ≡ false = point.1 0 c (omega arith) (omega arith) in
-    taken end kept 0 (behind-first end c kept point)
+    taken end kept 0 (behind-first (is_before end) c kept point)
     ∙ ap (λ b. cond b (c ∷ filter (is_before end) kept) (filter (is_before end) kept)) (sym here)
 taken end (c ∷ kept) (suc i) point =
     let here : is_before end c ≡ true = point.0 0 c (omega arith) (omega arith) in
-    ap (λ (xs : List Checkpoint). c ∷ xs) (taken end kept i (behind end c kept i point))
+    ap (λ (xs : List Checkpoint). c ∷ xs) (taken end kept i (behind (is_before end) c kept i point))
     ∙ ap (λ b. cond b (c ∷ filter (is_before end) kept) (filter (is_before end) kept)) (sym here)
 
 -- ---- whether one of them stays

@@ -1,4 +1,6 @@
 mod Comments
 mod ConfigurationLaws
 mod Kept
+mod Expiring
+mod Gone
 mod Numerals

@@ -1,7 +1,9 @@
 -- Where checkpoints lie, and which of them stay.
-use Rattle.std.specs.Prelude.{ℕ, Bool, nat_le, nat_lt, List}
-use Rattle.std.specs.List.{filter, list_any}
+use Rattle.std.specs.Prelude.{ℕ, Bool, not, nat_le, nat_lt, List, Option}
+use Rattle.std.specs.List.{filter, find, list_any}
+use Rattle.std.specs.Option.{option_map}
 use Rattle.nl_types.specs.Protection as protection
+use Rattle.nl_types.specs.Rows.{is_snapshot}
 use Rattle.nl_cpfile.specs.declared.checkpoint.Checkpoint.{Checkpoint}
 use Rattle.nl_cpfile.specs.Tables.{row_of}
 
@@ -10,6 +12,20 @@ is_from first c = nat_le first c.number
 
 abbrev pub is_before : ℕ → Checkpoint → Bool
 is_before end c = nat_lt c.number end
+
+abbrev pub is_protected : (now period : ℕ) → Checkpoint → Bool
+is_protected now period c = protection.is_protected now period (row_of c)
+
+-- the number of the first one that a period protects
+abbrev pub first_protected : (now period : ℕ) → List Checkpoint → Option ℕ
+first_protected now period kept = option_map (λ (c : Checkpoint). c.number) (find (is_protected now period) kept)
+
+abbrev pub is_plain : Checkpoint → Bool
+is_plain c = not (is_snapshot c.mode)
+
+-- the number of the first one that is no snapshot
+abbrev pub first_plain : List Checkpoint → Option ℕ
+first_plain kept = option_map (λ (c : Checkpoint). c.number) (find is_plain kept)
 
 abbrev pub is_staying : (below : ℕ) → Checkpoint → Bool
 is_staying below c = protection.is_staying below (row_of c)

@@ -1,11 +1,13 @@
 //! Which checkpoints a protection period protects, and which pages the kept ones need.
-ghost use Rattle.std.specs.Prelude.{◌≡◌, ◌&&◌, [], ◌∷◌, ◌++◌, IfOk, OnErr};
+ghost use Rattle.std.specs.Prelude.{◌≡◌, ℕ, ◌<◌, ◌≤◌, ◌&&◌, true, [], ◌∷◌, ◌++◌, unwrap_or, IfOk, IfSome, OnErr, slice_get};
 ghost use Rattle.std.specs.List.{filter, list_any};
 ghost use Rattle.nl_types.specs.Entries.{is_period_needed};
+ghost use Rattle.nl_types.specs.NeedLaws.{AreGone};
+ghost use Rattle.nl_types.specs.PartialMaps.{is_one_of};
 ghost use Rattle.nl_types.specs.Protection as protection;
 ghost use Rattle.nl_types.specs.Rows as told;
 ghost use Rattle.nl_cpfile.specs.Tables as tables;
-ghost use Rattle.nl_protect.specs.Keeping.{found, is_before, is_from, is_staying};
+ghost use Rattle.nl_protect.specs.Keeping.{first_plain, first_protected, found, is_before, is_from, is_staying};
 
 use nl_cpfile::{Checkpoint, Checkpoints};
 use nl_types::{CheckpointNumber, Items, Period, Row, VolError};
@@ -21,20 +23,25 @@ fn is_protected(checkpoint: &Checkpoint, now: u64, period: u64) -> bool
     }
 }
 
-/// The number of the first checkpoint that a protection period protects, or else of the latest one: plain checkpoints below
-/// it may go. A checkpoint is protected where its stamp and the period, in seconds, come to more than the moment.
-pub fn boundary(kept: &Checkpoints, now: u64, period: u64) -> CheckpointNumber
-    ensures { result ≡ protection.boundary now period kept.now.table.latest.number
-        (tables.rows kept.now.table) }
+/// The number of the first one that is protected, in a list whose stamps never fall.
+fn first_protected(kept: &[Checkpoint], now: u64, period: u64) -> Option<CheckpointNumber>
+    requires { tables.IsRising kept.now }
+    ensures { result ≡ first_protected now period kept.now }
 {
-    let first = kept
-        .earlier()
-        .iter()
-        .find(|checkpoint| is_protected(checkpoint, now, period));
-    match first {
-        Some(checkpoint) => checkpoint.number,
-        None => kept.latest().number,
-    }
+    let index = kept.partition_point(|checkpoint| !is_protected(checkpoint, now, period));
+    let checkpoint = kept.get(index)?;
+    Some(checkpoint.number)
+}
+
+/// The number of the first checkpoint that a protection period protects, or else of the latest one: plain checkpoints below
+/// it may go. A checkpoint is protected where its stamp and the period, in seconds, come to more than the moment. Takes no
+/// memory, and halves the list.
+pub fn boundary(kept: &Checkpoints, now: u64, period: u64) -> CheckpointNumber
+    ensures boundary { result ≡ protection.boundary now period kept.now.table.latest.number
+        (tables.rows kept.now.table) }
+    ensures low { result ≤ kept.now.table.latest.number }
+{
+    first_protected(kept.earlier(), now, period).unwrap_or(kept.latest().number)
 }
 
 fn is_below(row: &Row, boundary: CheckpointNumber) -> bool
@@ -83,6 +90,54 @@ pub fn expired(
 {
     let numbers = expired_among(alloc, kept.earlier(), kept.latest(), boundary)?;
     Ok(Items::from_vec(numbers))
+}
+
+/// The number of the first one that is no snapshot.
+fn first_plain(kept: &[Checkpoint]) -> Option<CheckpointNumber>
+    ensures { result ≡ first_plain kept.now }
+{
+    let first = kept
+        .iter()
+        .find(|checkpoint| !checkpoint.mode.is_snapshot())?;
+    Some(first.number)
+}
+
+/// The first of the numbers that `expired` answers, or none where nothing expires. It asks the checkpoints below the
+/// boundary, up to the first plain one.
+fn first_expiring(kept: &Checkpoints, boundary: CheckpointNumber) -> Option<CheckpointNumber>
+    ensures first { result ≡ slice_get
+        (protection.expired boundary kept.now.table.latest.number (tables.rows kept.now.table)) 0 }
+    ensures low { IfSome result (λ first. first < boundary) }
+{
+    first_plain(ending_before(kept.earlier(), boundary))
+}
+
+/// The run of checkpoints that an expiry takes out: the first that goes, and the first kept one from the boundary on, which
+/// is behind all that go, and stays. Where nothing expires, both are the latest one. Takes no memory.
+pub fn expiring_run(
+    kept: &Checkpoints,
+    below: CheckpointNumber,
+) -> (CheckpointNumber, CheckpointNumber)
+    requires { below ≤ kept.now.table.latest.number }
+    ensures order { result.0 ≤ result.1 }
+    ensures run { AreGone result.0 result.1 (tables.kept_numbers (tables.all kept.now.table))
+        (protection.staying below (tables.rows kept.now.table)) }
+    ensures first { result.0 ≡ unwrap_or
+        (slice_get (protection.expired below kept.now.table.latest.number (tables.rows kept.now.table)) 0)
+        kept.now.table.latest.number }
+    // where one expires, the run ends no later than with the first kept one from the boundary on
+    ensures next { result.0 < below → (n : ℕ)
+        → is_one_of (tables.kept_numbers (tables.all kept.now.table)) n ≡ true → below ≤ n → result.1 ≤ n }
+{
+    let latest = kept.latest().number;
+    match first_expiring(kept, below) {
+        Some(first) => {
+            let last = CheckpointNumber::new(below.get() - 1);
+            let next = kept.first_above(last);
+            (first, next)
+        }
+        None => (latest, latest),
+    }
 }
 
 fn stays(checkpoint: &Checkpoint, below: CheckpointNumber) -> bool

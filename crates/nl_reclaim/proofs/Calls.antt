@@ -7,7 +7,7 @@ use Rattle.nl_types.specs.declared.error.VolError.TheVariants.{StillNeeded}
 use Rattle.nl_types.specs.Entries.{Entry}
 use Rattle.nl_types.proofs.PartialMaps.{is_one_of-get_or}
 use Rattle.nl_vstore.specs.Stores.{Store, IsStore, IsReclaimed, address_in, is_inside}
-use Rattle.nl_vstore.specs.Located.{needed_in, needed_count, numbers_in}
+use Rattle.nl_vstore.specs.Located.{needed_in, numbers_in}
 use Rattle.nl_vstore.proofs.NumberAt.{gone-is, needed-inside}
 use Rattle.nl_vstore.proofs.MovedNumbers.{among-front}
 use Rattle.nl_reclaim.specs.Cleaning.{freed}
@@ -17,7 +17,7 @@ front-inside s needed segment n numbers same = subst (All (λ v. is_inside s.seg
     (λ k d within. needed-inside s needed segment (get_or (take n (needed_in s needed segment)) k d)
     (among-front n (needed_in s needed segment) (get_or (take n (needed_in s needed segment)) k d) (is_one_of-get_or (take n (needed_in s needed segment)) k d within)))
 
-pub freed-is : (s new : Store) (needed : Entry → Bool) (segment count k : ℕ) → IsStore s → k ≡ needed_count s needed segment → k ≡ 0 → IsReclaimed segment count s new → Ok count ≡ freed s needed segment
-freed-is s new needed segment count k store counted none reclaimed =
+pub freed-is : (s new : Store) (segment count needed : ℕ) → IsStore s → needed ≡ 0 → IsReclaimed segment count s new → Ok count ≡ freed s needed segment
+freed-is s new segment count needed store none reclaimed =
     ap Ok (gone-is segment count s new store reclaimed)
-    ∙ sym (ap (λ (n : ℕ). cond {A = Result ℕ VolError} (n == 0) (Ok (length (numbers_in s segment))) (Err StillNeeded)) (sym counted ∙ none))
+    ∙ sym (ap (λ (n : ℕ). cond {A = Result ℕ VolError} (n == 0) (Ok (length (numbers_in s segment))) (Err StillNeeded)) none)

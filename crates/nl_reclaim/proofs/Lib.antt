@@ -3,4 +3,5 @@ pub mod Rows
 pub mod Rounds
 pub mod Reclaims
 pub mod Calls
+pub mod Listed
 pub mod ClosedSegments

@@ -1,5 +1,5 @@
 -- Rows of blocks that grow at their end.
-use Rattle.std.proofs.Common.{◌≡◌, ◌≤◌, ◌<◌, ℕ, ◌+◌, Bool, true, false, cond, List, [], ◌++◌, Option, Some, None, inl, inr, sym, refl, ap, ◌∙◌, length, take, length-append, arith}
+use Rattle.std.proofs.Common.{◌≡◌, ◌≤◌, ◌<◌, ℕ, ◌+◌, Bool, true, false, cond, List, [], ◌++◌, Option, Some, None, inl, inr, sym, refl, ap, ◌∙◌, length, take, length-append, length-take, arith}
 use Rattle.std.specs.Prelude.{nat_lt}
 use Rattle.std.specs.Option.{option_map}
 use Rattle.std.proofs.lemmas.Bool.{cases_lt}
@@ -37,6 +37,9 @@ seen-next f b limit position count next first more found seen is sum put = recor
       ∙ ap (λ (k : ℕ). cond (nat_lt k limit) (take limit (picked f b position) ++ onto found []) (take limit (picked f b position))) seen.counted.counts
       ∙ take-grows limit (picked f b position) found ∙ ap (λ (o : Option ℕ). take limit (picked f b position ++ onto o [])) is ∙ ap (take limit) (sym (row-grows f b position));
 }
+
+pub seen-few : (f : ℕ → Option ℕ) (b limit position count : ℕ) (first : List ℕ) → AreSeen f b limit position count first → length first ≤ count
+seen-few f b limit position count first seen = omega (arith, ap length seen.front, length-take limit (picked f b position), seen.counted.counts)
 
 -- ---- one block
 

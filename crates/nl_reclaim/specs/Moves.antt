@@ -1,5 +1,5 @@
 -- What moves and a retirement make of the needed numbers of each segment.
-use Rattle.std.specs.Prelude.{◌≡◌, ◌≢◌, ◌≤◌, ℕ, zero, suc, ◌*◌, List, length, take, drop, Some, Result, Ok, IfOk}
+use Rattle.std.specs.Prelude.{◌≡◌, ◌≢◌, ◌≤◌, ℕ, zero, suc, ◌*◌, Bool, List, length, take, drop, Some, Result, Ok, IfOk}
 use Rattle.nl_types.specs.declared.error.VolError.{VolError}
 use Rattle.nl_types.specs.declared.segment.SegmentInfo.{SegmentInfo}
 use Rattle.nl_types.specs.declared.segment.SegmentState.TheVariants.{Dirty}
@@ -7,7 +7,7 @@ use Rattle.nl_types.specs.Segments.{IsClosed, clean_info, info_of}
 use Rattle.nl_types.specs.Entries.{Entry, is_needed}
 use Rattle.nl_vstore.specs.Stores.{Store, IsStore, IsMoved, IsMoveRefused, IsReclaimed, content_in}
 use Rattle.nl_vstore.specs.Located.{numbers_in, needed_in}
-use Rattle.nl_reclaim.specs.Cleaning.{retired}
+use Rattle.nl_reclaim.specs.Cleaning.{HasListedFirst, HasListedNone, HasMovedFirst, HasMovedNone, retired, split}
 
 -- a store, and the numbers of the kept checkpoints: a volume, as its cleaner sees it
 pub record KeptStore : Type 0 where
@@ -48,6 +48,28 @@ abbrev pub MoveTakesFirst : Type 0
 MoveTakesFirst =
     (segment checkpoint stamp m : ℕ) (old new : KeptStore) → IsStore old.store → IsClosedIn old segment
     → HasMoved segment checkpoint stamp m old new → MovesOut segment m old new
+
+-- ---- a move in two halves: first needed numbers are listed, and then moved
+
+-- moved after they were listed, they are moved as the definition of a move says
+abbrev pub ListedMovesAreFirst : Type 0
+ListedMovesAreFirst =
+    (needed : Entry → Bool) (segment limit checkpoint stamp count : ℕ) (listed : List ℕ) (old new : Store)
+    → HasListedFirst needed segment limit old listed count → IsMoved segment checkpoint stamp listed old new
+    → HasMovedFirst needed segment limit checkpoint stamp old new (split (length listed) count)
+
+-- where the second half is refused, so is the move
+abbrev pub RefusedMovesAreNone : Type 0
+RefusedMovesAreNone =
+    (needed : Entry → Bool) (segment limit checkpoint stamp count : ℕ) (listed : List ℕ) (old new : Store) (e : VolError)
+    → HasListedFirst needed segment limit old listed count → IsMoveRefused checkpoint stamp listed old new e
+    → HasMovedNone needed segment limit checkpoint stamp old new e
+
+-- and where the first half is
+abbrev pub RefusedListsAreNone : Type 0
+RefusedListsAreNone =
+    (needed : Entry → Bool) (segment limit checkpoint stamp : ℕ) (s : Store) (e : VolError)
+    → HasListedNone segment limit s e → HasMovedNone needed segment limit checkpoint stamp s s e
 
 -- ---- a retirement
 

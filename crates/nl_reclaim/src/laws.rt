@@ -1,5 +1,5 @@
 //! Laws of cleaning, as contracts of functions that do nothing.
-ghost use Rattle.nl_reclaim.specs.Moves.{FullMovesComeClean, MovesKeepClosed, MoveTakesFirst, RefusedMovesKeepClosed, RetirementsKeepOthers, SegmentsComeClean};
+ghost use Rattle.nl_reclaim.specs.Moves.{FullMovesComeClean, ListedMovesAreFirst, MovesKeepClosed, MoveTakesFirst, RefusedListsAreNone, RefusedMovesAreNone, RefusedMovesKeepClosed, RetirementsKeepOthers, SegmentsComeClean};
 ghost use Rattle.nl_reclaim.specs.Reclaims.{RetiredSegmentsAreUnreached, RetiringIsAllowed};
 ghost use Rattle.nl_reclaim.specs.Rounds.{RoundsLeaveNothingDead};
 
@@ -8,6 +8,13 @@ pub fn closed_segments_stay()
     ensures moved { MovesKeepClosed }
     ensures refused { RefusedMovesKeepClosed }
     ensures retired { RetirementsKeepOthers }
+{}
+
+/// Listing the first needed numbers and then moving them is one move of them, which is refused where either half is.
+pub fn listed_moves_are_moves()
+    ensures moved { ListedMovesAreFirst }
+    ensures refused { RefusedMovesAreNone }
+    ensures unlisted { RefusedListsAreNone }
 {}
 
 /// A move takes the first needed numbers out of its segment, and leaves those of every other closed segment.

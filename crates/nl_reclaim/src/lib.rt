@@ -10,6 +10,6 @@ mod needed;
 mod retiring;
 
 pub use judging::judge;
-pub use moving::{MoveCount, move_needed};
+pub use moving::{MoveCount, list_needed, move_listed};
 pub use needed::{Keeping, Needed, count_needed, first_needed};
 pub use retiring::retire;

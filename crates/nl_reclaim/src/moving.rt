@@ -1,12 +1,12 @@
-//! Needed pages are moved out of a segment.
-ghost use Rattle.std.specs.Prelude.{◌≡◌, ◌<◌, ◌≤◌, IfOk, IfErr, MatchResult, length, take};
+//! Needed pages are listed, and moved out of their segment.
+ghost use Rattle.std.specs.Prelude.{◌≡◌, ◌<◌, ◌≤◌, IfOk, IfErr, OnErr, OnOk, length, take};
 ghost use Rattle.nl_types.specs.Segments.{IsClosed};
 ghost use Rattle.nl_vstore.specs.Located.{by_period, needed_in, needed_count};
 ghost use Rattle.nl_vstore.specs.Stores.{IsMoved, IsMoveRefused};
-ghost use Rattle.nl_reclaim.specs.Cleaning.{HasMovedFirst, HasMovedNone, split};
+ghost use Rattle.nl_reclaim.specs.Cleaning.{CanBeMoved, HasListedFirst, HasListedNone, split};
 
 use crate::judging::judge;
-use crate::needed::{Keeping, first_needed};
+use crate::needed::{Keeping, Needed, first_needed};
 use nl_types::{CheckpointNumber, Segment, VolError};
 use nl_vstore::Vstore;
 use std::alloc::Global;
@@ -34,64 +34,77 @@ fn split_count(count: u32, limit: u32) -> MoveCount
     }
 }
 
-/// Moves the first needed pages out of a segment that takes no more logs.
-fn move_first<V: Vstore, K: Keeping>(
+/// The first needed numbers of a segment that takes no more logs, and how many there are.
+fn list_first<V: Vstore, K: Keeping>(
     alloc: Global,
-    store: &mut V,
+    store: &V,
     keeping: &K,
     segment: Segment,
     limit: u32,
-    checkpoint: CheckpointNumber,
-    now: u64,
-) -> Result<MoveCount, VolError>
-    requires segment { segment < length (V.store store.old).segments.each }
-    requires closed { IsClosed (V.store store.old).segments segment }
-    ensures count { IfOk result (λ m. m
-        ≡ split limit (needed_count (V.store store.old) (by_period (K.test keeping.now)) segment)) }
-    ensures moved { MatchResult result
-        (λ _. IsMoved segment checkpoint now
-        (take limit (needed_in (V.store store.old) (by_period (K.test keeping.now)) segment))
-        (V.store store.old) (V.store store.new))
-        (IsMoveRefused checkpoint now
-        (take limit (needed_in (V.store store.old) (by_period (K.test keeping.now)) segment))
-        (V.store store.old) (V.store store.new)) }
-    ensures counted { (V.store store.old).failures ≤ (V.store store.new).failures }
+) -> Result<Needed, VolError>
+    requires segment { segment < length (V.store store.now).segments.each }
+    requires closed { IsClosed (V.store store.now).segments segment }
+    ensures first { IfOk result (λ n. n.first.items
+        ≡ take limit (needed_in (V.store store.now) (by_period (K.test keeping.now)) segment)) }
+    ensures count { IfOk result (λ n. n.count
+        ≡ needed_count (V.store store.now) (by_period (K.test keeping.now)) segment) }
+    ensures movable { IfOk result (λ n. CanBeMoved segment n.first.items (V.store store.now)) }
+    ensures refused { OnErr result (result ≡ Err VolError.Memory) }
 {
-    let needed = match first_needed(alloc, &*store, keeping, segment, limit) {
-        Ok(needed) => needed,
-        Err(_) => return Err(VolError::Memory),
-    };
-    match store.relocate(alloc, segment, &needed.first, checkpoint, now) {
-        Ok(()) => Ok(split_count(needed.count, limit)),
-        Err(refusal) => Err(refusal),
-    }
+    let needed = first_needed(alloc, store, keeping, segment, limit)?;
+    Ok(needed)
 }
 
-/// Moves the first needed pages of a segment elsewhere, by block and up to a limit: each is read from the device and written
-/// again. The checkpoint is the latest one, and `now` the moment in whole seconds: both go into the logs' summaries.
+/// The first half of a move: it lists the first needed numbers of a segment, by block and up to a limit, and counts all of
+/// them. It looks at each block of the segment.
 ///
-/// Refused by `BadRange` for a limit of 0, then as `judge` says, before anything is looked at. Then refused by `NoSpace` where
-/// no list of logs fits, by `Memory`, and by `Fault` where the device failed: no number has changed then.
-pub fn move_needed<V: Vstore, K: Keeping>(
+/// Refused by `BadRange` for a limit of 0, then as `judge` says, before anything is looked at. Then refused by `Memory`.
+pub fn list_needed<V: Vstore, K: Keeping>(
     alloc: Global,
-    store: &mut V,
+    store: &V,
     keeping: &K,
     segment: Segment,
     limit: u32,
-    checkpoint: CheckpointNumber,
-    now: u64,
-) -> Result<MoveCount, VolError>
-    ensures moved { IfOk result (HasMovedFirst (by_period (K.test keeping.now)) segment limit checkpoint now
-        (V.store store.old) (V.store store.new)) }
-    ensures refused { IfErr result (HasMovedNone (by_period (K.test keeping.now)) segment limit checkpoint now
-        (V.store store.old) (V.store store.new)) }
-    ensures counted { (V.store store.old).failures ≤ (V.store store.new).failures }
+) -> Result<Needed, VolError>
+    ensures listed { IfOk result (λ n. HasListedFirst (by_period (K.test keeping.now)) segment limit
+        (V.store store.now) n.first.items n.count) }
+    ensures movable { IfOk result (λ n. CanBeMoved segment n.first.items (V.store store.now)) }
+    ensures refused { IfErr result (HasListedNone segment limit (V.store store.now)) }
 {
     if limit == 0 {
         return Err(VolError::BadRange);
     }
     match judge(store.table(), segment) {
-        Ok(_) => move_first(alloc, store, keeping, segment, limit, checkpoint, now),
+        Ok(_) => list_first(alloc, store, keeping, segment, limit),
+        Err(refusal) => Err(refusal),
+    }
+}
+
+/// The second half: the pages of the listed numbers are moved elsewhere, in that order, each read from the device and written
+/// again. It answers how many these are, and how many needed ones are left. The checkpoint is the one of the logs'
+/// summaries, and `now` their moment in whole seconds.
+///
+/// Refused by `NoSpace` where no list of logs fits, by `Memory`, and by `Fault` where the device failed: no number has changed
+/// then.
+pub fn move_listed<V: Vstore>(
+    alloc: Global,
+    store: &mut V,
+    needed: &Needed,
+    segment: Segment,
+    checkpoint: CheckpointNumber,
+    now: u64,
+) -> Result<MoveCount, VolError>
+    requires { CanBeMoved segment needed.now.first.items (V.store store.old) }
+    ensures count { IfOk result (λ m. m ≡ split (length needed.now.first.items) needed.now.count) }
+    ensures moved { OnOk result (IsMoved segment checkpoint now needed.now.first.items
+        (V.store store.old) (V.store store.new)) }
+    ensures refused { IfErr result (IsMoveRefused checkpoint now needed.now.first.items
+        (V.store store.old) (V.store store.new)) }
+    ensures counted { (V.store store.old).failures ≤ (V.store store.new).failures }
+{
+    let first = needed.first.as_slice();
+    match store.relocate(alloc, segment, first, checkpoint, now) {
+        Ok(()) => Ok(split_count(needed.count, first.len() as u32)),
         Err(refusal) => Err(refusal),
     }
 }

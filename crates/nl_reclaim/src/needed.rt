@@ -1,5 +1,5 @@
 //! The needed numbers of a segment, block by block.
-ghost use Rattle.std.specs.Prelude.{◌≡◌, ℕ, ◌+◌, ◌*◌, ◌<◌, ◌^◌, ◌++◌, Bool, if◌then◌else◌, nat_lt, length, take, [], IfOk};
+ghost use Rattle.std.specs.Prelude.{◌≡◌, ℕ, ◌+◌, ◌*◌, ◌<◌, ◌≤◌, ◌^◌, ◌++◌, Bool, if◌then◌else◌, nat_lt, length, take, [], IfOk};
 ghost use Rattle.nl_vstore.specs.Located.{by_period, needed_at, needed_in, needed_count, onto};
 ghost use Rattle.nl_vstore.specs.Stores.{block_in};
 ghost use Rattle.nl_types.specs.declared.period.Period.{Period};
@@ -83,6 +83,7 @@ pub fn count_needed<V: Vstore, K: Keeping>(store: &V, keeping: &K, segment: Segm
 pub struct Needed {
     pub first: Vec<VirtualNumber>,
     pub count: u32,
+    ghost few: { length first.items ≤ count },
 }
 
 /// Puts a number behind the first ones, where there are fewer than the limit, and counts it.

@@ -1,46 +1,27 @@
 //! Which logs an event's payload goes into.
-ghost use Rattle.std.specs.Prelude.{◌≡◌, ◌+◌, ◌≤◌, IfOk, IfErr, IsErrOf, IfSome, MatchOption, List, length};
+ghost use Rattle.std.specs.Prelude.{◌≡◌, ◌+◌, ◌≤◌, IfOk, IfErr, IsErrOf, IfSome, MatchOption, List};
 ghost use Rattle.nl_types.specs.declared.segment.Log.{Log};
-ghost use Rattle.nl_types.specs.Segments.{clean_from};
 ghost use Rattle.nl_types.specs.Placing.{GoOn, has_room};
 ghost use Rattle.nl_sufile.specs.NextPlace.{IsNowhere, IsNext};
 ghost use Rattle.nl_sufile.specs.Table.{IsNoSpaceOrMemory};
 
-use nl_types::{Log, MAX_PAYLOAD, Position, Segment, SegmentInfo, SegmentState, VolError};
-use std::alloc::{AllocError, Global};
+use crate::clean::FreeSegments;
+use nl_types::{Log, MAX_PAYLOAD, Position, VolError};
+use std::alloc::Global;
 
-/// The clean segments, ascending.
-pub fn clean_segments(alloc: Global, each: &[SegmentInfo]) -> Result<Vec<Segment>, AllocError>
-    requires { length each.now ≤ 4096 }
-    ensures { IfOk result (λ clean. clean.items ≡ clean_from 0 each.now) }
-{
-    let mut clean = Vec::new(alloc);
-    for (number, info) in each.iter().enumerate() {
-        if let SegmentState::Clean = info.state {
-            clean.push(Segment::new(number as u32))?;
-        }
-    }
-    Ok(clean)
-}
-
-// Where the next log begins, and what is free then.
-fn next_place(
-    blocks: u32,
-    left: Option<Position>,
-    free: &[Segment],
-) -> Option<(Position, &[Segment])>
+// Where the next log begins. A segment that it takes is not free then.
+fn next_place(blocks: u32, left: Option<Position>, free: &mut FreeSegments<'_>) -> Option<Position>
     requires { IfSome left (λ place. place.block ≤ 4096) }
-    ensures { MatchOption result (IsNowhere blocks left free.now)
-        (λ next. IsNext (has_room blocks left) blocks left free.now next.0 next.1.now) }
+    ensures { MatchOption result (IsNowhere blocks left free.old)
+        (λ place. IsNext (has_room blocks left) blocks left free.old place free.new) }
 {
     if let Some(place) = left
         && place.block + 2 <= blocks
     {
-        return Some((place, free));
+        return Some(place);
     }
-    let (segment, rest) = free.split_first()?;
-    let segment = *segment;
-    Some((Position { segment, block: 0 }, rest))
+    let segment = free.pop_first()?;
+    Some(Position { segment, block: 0 })
 }
 
 /// The logs that take `n` payload blocks, from the place left on and in the free segments. Refused by `NoSpace` where
@@ -49,14 +30,14 @@ pub fn place_on(
     alloc: Global,
     blocks: u32,
     left: Option<Position>,
-    free: &[Segment],
+    free: FreeSegments<'_>,
     n: usize,
 ) -> Result<Vec<Log>, VolError>
     requires few { 2 ≤ blocks }
     requires many { blocks ≤ 2048 }
     requires inside { IfSome left (λ place. place.block ≤ blocks) }
-    ensures fits { IfOk result (λ logs. GoOn blocks left free.now n logs.items) }
-    ensures none { IsErrOf result VolError.NoSpace → (logs : List Log) → GoOn blocks left free.now n logs → ⊥ }
+    ensures fits { IfOk result (λ logs. GoOn blocks left free.entry n logs.items) }
+    ensures none { IsErrOf result VolError.NoSpace → (logs : List Log) → GoOn blocks left free.entry n logs → ⊥ }
     ensures errors { IfErr result IsNoSpaceOrMemory }
 {
     // A log that is shorter than the others ends its segment, or the list.
@@ -66,7 +47,7 @@ pub fn place_on(
     let mut free = free;
     let mut rest = n;
     while rest > 0 {
-        let Some((place, others)) = next_place(blocks, left, free) else {
+        let Some(place) = next_place(blocks, left, &mut free) else {
             return Err(VolError::NoSpace);
         };
         let room = (blocks - place.block - 1).min(MAX_PAYLOAD);
@@ -81,7 +62,6 @@ pub fn place_on(
             segment: place.segment,
             block: place.block + 1 + count,
         });
-        free = others;
     }
     Ok(logs)
 }

@@ -2,11 +2,12 @@
 ghost use Rattle.std.specs.Prelude.{◌≡◌, ◌↔◌, ◌<◌, ◌≤◌, ◌+◌, length, IfOk, IfErr, IsErrOf, IsTrue, IfSome, IfNone, IsOkUnless, OnOk, slice_get, slice_set, replicate};
 ghost use Rattle.std.specs.Option.{ok_or};
 ghost use Rattle.nl_types.specs.declared.segment.SegmentState.TheVariants.{Active};
-ghost use Rattle.nl_types.specs.Segments.{IsUsed, active_place, clean_from, clean_segments as clean_numbers, clean_info, info_of, lowest_clean, none_active, with_active, with_clean, with_error};
+ghost use Rattle.nl_types.specs.Segments.{IsUsed, active_place, clean_segments, clean_info, free_segments, info_of, lowest_clean, none_active, with_active, with_clean, with_error};
 ghost use Rattle.nl_types.specs.Placing.{LogsFit, LacksSpace, end_of, with_log};
 ghost use Rattle.nl_sufile.specs.Table.{IsSegTable, IsActiveIn, IsNoSpaceOrMemory, all_clean};
 
-use crate::placing::{clean_segments, place_on};
+use crate::clean::{CleanSegments, FreeSegments};
+use crate::placing::place_on;
 use nl_types::{
     BlockNumber, Geometry, Items, Log, Position, Segment, SegmentInfo, SegmentState, VolError,
 };
@@ -19,10 +20,12 @@ pub struct SegTable {
     blocks: u32,
     each: Items<SegmentInfo>,
     active: Option<Segment>,
+    clean: CleanSegments,
 }
 
 impl Model for SegTable {
     ghost use Rattle.nl_types.specs.Segments.{Segments};
+    ghost use Rattle.nl_sufile.specs.Clean.{TellsClean};
     ghost use Rattle.nl_sufile.specs.Table.{IsSegTable, IsActiveIn};
 
     ghost Value = { Segments };
@@ -30,7 +33,7 @@ impl Model for SegTable {
     ghost view = { λ table. record { blocks = table.blocks; each = table.each } };
 
     ghost invariant = { λ table. IsSegTable (record { blocks = table.blocks; each = table.each })
-        × IsActiveIn table.each table.active };
+        × IsActiveIn table.each table.active × TellsClean table.each table.clean };
 }
 
 /// How many segments there are, and of them how many are clean, and how many dirty. An active segment and one in error
@@ -54,10 +57,14 @@ impl SegTable {
             blocks: geometry.blocks,
             each,
             active: None,
+            clean: CleanSegments {
+                count: geometry.segments as usize,
+                mark: 0,
+            },
         })
     }
 
-    /// The table of these segments, of which this one is active. Takes no memory.
+    /// The table of these segments, of which this one is active. Takes no memory, and counts the clean ones.
     pub(crate) fn from_entries(
         blocks: u32,
         each: Items<SegmentInfo>,
@@ -67,10 +74,12 @@ impl SegTable {
         requires active { IsActiveIn each active }
         ensures { result ≡ record { blocks = blocks; each = each } }
     {
+        let clean = CleanSegments::counted(each.as_slice());
         SegTable {
             blocks,
             each,
             active,
+            clean,
         }
     }
 
@@ -112,13 +121,13 @@ impl SegTable {
         }
     }
 
-    /// Counts the segments. Takes no memory.
+    /// How many segments there are of which kind. They are counted as they change, not here. Takes no memory.
     pub fn sustat(&self) -> Sustat
         ensures segments { result.segments ≡ length self.now.each }
-        ensures clean { result.clean ≡ length (clean_numbers self.now) }
+        ensures clean { result.clean ≡ length (clean_segments self.now) }
         ensures dirty { result.dirty + result.clean ≡ result.segments }
     {
-        let clean = count_clean(self.each.as_slice());
+        let clean = self.clean.count;
         let segments = self.each.len();
         Sustat {
             segments,
@@ -139,34 +148,53 @@ impl SegTable {
         })
     }
 
+    // The clean segments that a move may take, or with `reserve` a checkpoint, which leaves the last two.
+    fn free_segments(&self, reserve: bool) -> FreeSegments<'_>
+        ensures { result ≡ free_segments reserve self.now }
+    {
+        let each = self.each.as_slice();
+        let count = self.clean.count;
+        if reserve {
+            self.clean.first(each, count.saturating_sub(2))
+        } else {
+            self.clean.first(each, count)
+        }
+    }
+
     /// The logs that `n` payload blocks go into: the active segment is filled, and then the lowest clean ones, by logs of
     /// at most 30. A checkpoint, with `reserve`, leaves two clean segments where it takes any. Refused by `NoSpace` where
     /// no list of logs fits, and by `Memory`.
+    ///
+    /// It passes the segments from the mark (see `take_clean`) to the last clean one that it uses, once for all logs, also
+    /// where it is refused. Where the active segment has room for all, it passes none.
     pub fn place(&self, alloc: Global, n: usize, reserve: bool) -> Result<Vec<Log>, VolError>
         ensures fits { IfOk result (λ logs. LogsFit self.now reserve n logs.items) }
         ensures no_space { IsErrOf result VolError.NoSpace → LacksSpace self.now reserve n }
         ensures errors { IfErr result IsNoSpaceOrMemory }
     {
         let left = self.active_place();
-        let clean = clean_segments(alloc, self.each.as_slice())?;
-        let spare = if reserve {
-            clean.len().saturating_sub(2)
-        } else {
-            clean.len()
-        };
-        place_on(alloc, self.blocks, left, &clean[..spare], n)
+        let free = self.free_segments(reserve);
+        place_on(alloc, self.blocks, left, free, n)
     }
 
     /// Takes the lowest clean segment, which alone is active then, if one is clean. It has no logs yet.
+    ///
+    /// It is looked for from a mark on, below which no segment is clean, and the mark moves on behind it: where segments are
+    /// taken one after another, each is passed once. `mark_clean` moves the mark down, and the dirty ones behind it are passed
+    /// once more. So at worst a call passes all segments, and all calls together pass them once, and once more for each
+    /// segment that was emptied.
     pub fn take_clean(&mut self) -> Option<Segment>
         ensures lowest { result ≡ lowest_clean self.old }
         ensures taken { IfSome result (λ segment. self.new ≡ with_active self.old segment 0 0) }
         ensures none { IfNone result (self.new ≡ self.old) }
     {
-        let segment = first_clean(self.each.as_slice())?;
+        let each = self.each.as_slice();
+        let segment = self.clean.lowest(each)?;
+        let clean = self.clean.without_lowest(each, segment);
         let active = self.active;
         make_active(&mut self.each, active, segment, 0, 0);
         self.active = Some(segment);
+        self.clean = clean;
         Some(segment)
     }
 
@@ -180,8 +208,10 @@ impl SegTable {
         let active = self.active;
         let segment = log.segment;
         let used = log.end();
+        let clean = self.clean.without(self.each.as_slice(), segment);
         make_active(&mut self.each, active, segment, stamp, used);
         self.active = Some(segment);
+        self.clean = clean;
     }
 
     /// A write to a segment failed: it is in error and keeps its logs, and no segment is active.
@@ -196,18 +226,23 @@ impl SegTable {
             ..self.each.as_slice()[at]
         };
         let active = self.active;
+        let clean = self.clean.without(self.each.as_slice(), segment);
         rest_active(&mut self.each, active);
         self.each.set(at, info);
         self.active = None;
+        self.clean = clean;
     }
 
-    /// A segment was emptied: it is clean, whatever it was before.
+    /// A segment was emptied: it is clean, whatever it was before. Where it lies below the mark (see `take_clean`), the mark
+    /// moves down to it.
     pub fn mark_clean(&mut self, segment: Segment)
         requires { segment < length self.old.each }
         ensures clean { self.new ≡ with_clean self.old segment }
         ensures limits { IsSegTable self.new }
     {
+        let clean = self.clean.with(self.each.as_slice(), segment);
         self.each.set(segment.get() as usize, SegmentInfo::clean());
+        self.clean = clean;
         if self.active == Some(segment) {
             self.active = None;
         }
@@ -223,32 +258,6 @@ fn clean_table(alloc: Global, segments: u32) -> Result<Items<SegmentInfo>, Alloc
         each.push(SegmentInfo::clean())?;
     }
     Ok(Items::from_vec(each))
-}
-
-fn count_clean(each: &[SegmentInfo]) -> usize
-    ensures count { result ≡ length (clean_from 0 each.now) }
-    ensures most { result ≤ length each.now }
-{
-    let mut count = 0;
-    for info in each {
-        if let SegmentState::Clean = info.state {
-            count += 1;
-        }
-    }
-    count
-}
-
-// The lowest clean segment.
-fn first_clean(each: &[SegmentInfo]) -> Option<Segment>
-    requires { length each.now ≤ 4096 }
-    ensures { result ≡ slice_get (clean_from 0 each.now) 0 }
-{
-    for (number, info) in each.iter().enumerate() {
-        if let SegmentState::Clean = info.state {
-            return Some(Segment::new(number as u32));
-        }
-    }
-    None
 }
 
 // No segment is active now.

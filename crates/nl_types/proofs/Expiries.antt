@@ -12,9 +12,9 @@ use Rattle.nl_types.specs.declared.reply.Answer.TheVariants as answer
 use Rattle.nl_types.specs.declared.row.Range.{Range}
 use Rattle.nl_types.specs.declared.row.Row.{Row}
 use Rattle.nl_types.specs.Limits.{checkpoint_number_limit}
-use Rattle.nl_types.specs.Protection.{is_below, is_protected, least, protected}
+use Rattle.nl_types.specs.Protection.{is_below, least, protected}
 use Rattle.nl_types.specs.Rows.{is_among, is_between, between, is_snapshot, judged, number_of, range_removal, removable}
-use Rattle.nl_types.specs.Worlds.{World, Copy, IsWorld, Outcome, Reply, boundary_of, copy_at, expiry_of, latest, row_of, rows, take_out}
+use Rattle.nl_types.specs.Worlds.{World, Copy, IsWorld, Outcome, Reply, boundary_of, copy_at, expiry_of, latest, row_of, rows}
 use Rattle.nl_types.specs.CheckpointLaws.{BoundariesAreLeastProtected, ExpiriesAnswerExpiring, ExpiriesAreRemovals, ExpiriesTakeExpiring, IsBoundary, is_expiring, is_protected_at, is_removable, removed_by, where_passes}
 use Rattle.nl_types.proofs.Booleans.{not_true}
 use Rattle.nl_types.proofs.NumberedParts.{find-filter, is_among-find, tied-same}

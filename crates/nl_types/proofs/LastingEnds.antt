@@ -3,7 +3,7 @@ use Rattle.std.proofs.Common.{◌≡◌, ℕ, ◌+◌, ◌≤◌, ◌<◌, List,
 use Rattle.std.specs.Prelude.{◌⊎◌}
 use Rattle.std.proofs.lemmas.Bool.{cases_Bool}
 use Rattle.nl_types.specs.PartialMaps.{is_one_of}
-use Rattle.nl_types.specs.Entries.{Entry, written, birth_of}
+use Rattle.nl_types.specs.Entries.{Entry, birth_of}
 use Rattle.nl_types.proofs.WrittenEntries.{written-at}
 use Rattle.nl_types.specs.Lifetimes.{Ledger, LedgerEvent, IsLedger, EndsOnceSince, EndsSince, Write, Remove, Reclaim, numbers_at, Allowed, EachAllowed, ledger_after, ledger_after_all}
 use Rattle.nl_types.proofs.ExactLifetimes.{origin, end-Write, end-same, latest_grows, ledger_after-IsLedger}

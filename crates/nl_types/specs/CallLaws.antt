@@ -1,6 +1,5 @@
 -- What file calls leave: a tree, and at every path what the call says.
-use Rattle.std.specs.Prelude.{◌≡◌, ℕ, ◌+◌, ◌<◌, max, false, if◌then◌else◌, IfOk, List, [], ◌++◌, length, drop, Option, None, Some, Err}
-use Rattle.nl_types.specs.declared.error.VolError.{VolError}
+use Rattle.std.specs.Prelude.{◌≡◌, ℕ, ◌+◌, ◌<◌, max, false, if◌then◌else◌, IfOk, List, [], ◌++◌, length, drop, Option, None, Some}
 use Rattle.nl_types.specs.declared.reply.Answer.TheVariants as answer
 use Rattle.nl_types.specs.declared.reply.Node.{Node}
 use Rattle.nl_types.specs.declared.reply.Node.TheVariants.{File}

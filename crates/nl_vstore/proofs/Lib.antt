@@ -4,5 +4,6 @@ pub mod MovedBlocks
 pub mod MovedOut
 pub mod NumberAt
 pub mod MovedNumbers
+pub mod Standing
 pub mod CountedRows
 pub mod StoredLogs

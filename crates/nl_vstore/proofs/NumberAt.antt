@@ -154,7 +154,7 @@ inside-high s segment b h = grind (arith, nat_tests)
 pub inside-of : (s : Segments) (segment b : ℕ) → segment * s.blocks ≤ b → b < segment * s.blocks + s.blocks → is_inside s segment (Some b) ≡ true
 inside-of s segment b low high = grind (arith, nat_tests)
 
-same_bool : (a b : Bool) → (a ≡ true → b ≡ true) → (b ≡ true → a ≡ true) → a ≡ b
+pub same_bool : (a b : Bool) → (a ≡ true → b ≡ true) → (b ≡ true → a ≡ true) → a ≡ b
 same_bool true b f g = sym (f refl)
 same_bool false true f g = g refl
 same_bool false false f g = refl

@@ -1,5 +1,5 @@
 -- What a store of numbered pages holds, and what its calls do to it.
-use Rattle.std.specs.Prelude.{◌≡◌, ◌⊎◌, All, ℕ, ◌+◌, ◌*◌, ◌<◌, ◌≤◌, ◌&&◌, nat_le, nat_lt, if◌then◌else◌, Bool, true, false, List, length, map, replicate, slice_index_or, Option, None, Some}
+use Rattle.std.specs.Prelude.{◌≡◌, ◌⊎◌, All, ℕ, ◌+◌, ◌*◌, ◌<◌, ◌≤◌, if◌then◌else◌, Bool, true, false, List, length, map, replicate, slice_index_or, Option, None, Some}
 use Rattle.std.specs.List.{range_with_len}
 use Rattle.std.specs.Option.{option_map}
 use Rattle.nl_types.specs.declared.error.VolError.{VolError}
@@ -9,6 +9,7 @@ use Rattle.nl_types.specs.Placing.{LacksSpace}
 use Rattle.nl_types.specs.PartialMaps.{Partial, put_each, adjust_each, is_one_of, NoneTwice}
 use Rattle.nl_types.specs.Entries.{Birth, Entry, Content, number_of, written}
 use Rattle.nl_layout.specs.declared.tag.Tag.{Tag}
+use Rattle.nl_sufile.specs.BySegment.{lies_in}
 use Rattle.nl_sufile.specs.Table.{IsSegTable}
 use Rattle.nl_space.specs.Content.{SpaceContent, Payload, HoldsOnlyUsed, KeepsUsed, IsFreed, payload_tag}
 use Rattle.nl_space.specs.Logs.{AreWholeLogs}
@@ -120,9 +121,8 @@ pub record SoundStore : Type 0 where
 -- ---- segments
 
 -- whether the block, if there is one, lies in the segment
-abbrev pub is_inside : Segments → ℕ → Option ℕ → Bool
-is_inside s segment None = false
-is_inside s segment (Some b) = nat_le (segment * s.blocks) b && nat_lt b (segment * s.blocks + s.blocks)
+abbrev pub is_inside : Segments → (segment : ℕ) → Option ℕ → Bool
+is_inside s segment block = lies_in s.blocks segment block
 
 -- the pages of all the numbers stand in the segment
 abbrev pub AreInside : Store → ℕ → List ℕ → Type 0

@@ -5,6 +5,7 @@ ghost use Rattle.nl_types.specs.Roots.{Pages, pages_of};
 ghost use Rattle.nl_vstore.specs.Batches.{Fits, IsLowestFree, LacksSpaceFrom, last_number};
 ghost use Rattle.nl_vstore.specs.Periods.{Periods, periods_of};
 ghost use Rattle.nl_vstore.specs.Located.{IsNumberAt, number_at, payload_count_in};
+ghost use Rattle.nl_vstore.specs.Counts.{IsSegmentOf};
 ghost use Rattle.nl_vstore.specs.Summaries.{IsOfLogs, payload_row};
 ghost use Rattle.nl_vstore.specs.Stores.{Store, IsStore, HasNoneFree, IsWritten, IsWriteRefused, AreInside, IsMoved, IsMoveRefused, IsReclaimed, block_in, capacity, content_in, tag_in};
 
@@ -80,6 +81,10 @@ pub trait Vstore: VRead {
         requires position { position < (store self.now).segments.blocks }
         ensures is { result ≡ number_at (store self.now) (block_in (store self.now) segment position) }
         ensures there { IsNumberAt (store self.now) (block_in (store self.now) segment position) result };
+
+    /// The segment where the page of a number stands, where it is in use. It takes no memory.
+    fn segment_of(&self, number: VirtualNumber) -> Option<Segment>
+        ensures { IsSegmentOf (store self.now) number result };
 
     /// What the summary of its log says of the block at a position of a segment, be its number in use or not. None where
     /// the block has no payload.

@@ -1,28 +1,30 @@
-use Rattle.std.proofs.Common.{◌∙◌, sym, ap, rules, tests}
-use Rattle.std.specs.Prelude.{Option}
-use Rattle.std.specs.List.{find}
-use Rattle.std.specs.Option.{option_map, option_map_or}
-use Rattle.std.proofs.lemmas.Iterator.{YieldsList-from_slice}
-use Rattle.std.proofs.lemmas.Iterator.Search.{find_from_yields_List}
-use Rattle.nl_types.specs.Protection.{is_protected}
+use Rattle.std.proofs.Common.{◌≡◌, ◌≤◌, ◌∙◌, ◌∷◌, [], List, ℕ, unwrap_or, ap, subst, sym}
 use Rattle.nl_cpfile.specs.declared.checkpoint.Checkpoint.{Checkpoint}
-use Rattle.nl_cpfile.specs.Tables.{row_of}
-use Rattle.nl_protect.proofs.Kept.{first}
+use Rattle.nl_cpfile.specs.Tables.{IsRising}
+use Rattle.nl_protect.specs.Keeping.{first_protected}
+use Rattle.nl_protect.proofs.Kept.{first-decides, boundary-low, rising-front}
 use Rattle.nl_protect.proofs.protection.boundary.Goals as goal
 
-pub returns-in-Some : goal.returns-in-Some
-returns-in-Some c =
+pub first_protected-requires : goal.first_protected-requires
+first_protected-requires c =
     let t = c.args.kept.now.table in
-    let found = find_from_yields_List (λ (x : Checkpoint). is_protected c.args.now c.args.period (row_of x)) _ _ c.find-first.result c.find-first.ensures.ran (YieldsList-from_slice _ c.iter.ensures.rest) (λ x b q k. search (rules, tests)) in
-    ap (λ (o : Option Checkpoint). option_map_or (λ (x : Checkpoint). x.number) o t.latest.number)
-    (ap (option_map (λ b. b.now)) (sym c.in-Some.is) ∙ found ∙ ap (find (λ (x : Checkpoint). is_protected c.args.now c.args.period (row_of x))) c.earlier.ensures.earlier)
-    ∙ first c.args.now c.args.period t.earlier t.latest c.earlier.ensures.table.rising
+    subst IsRising (sym c.earlier.ensures.earlier) (rising-front t.earlier (t.latest ∷ []) c.earlier.ensures.table.rising)
 
-pub returns-in-None : goal.returns-in-None
-returns-in-None c =
+-- what is answered
+answered : (c : goal.After-unwrap_or) → c.unwrap_or.result ≡ unwrap_or (first_protected c.args.now c.args.period c.args.kept.now.table.earlier) c.args.kept.now.table.latest.number
+answered c =
+    let now = c.args.now in
+    let period = c.args.period in
+    c.unwrap_or.ensures
+    ∙ ap (λ o. unwrap_or o c.latest.result.now.number) (c.first_protected.ensures ∙ ap (λ (xs : List Checkpoint). first_protected now period xs) c.earlier.ensures.earlier)
+    ∙ ap (λ (x : Checkpoint). unwrap_or (first_protected now period c.args.kept.now.table.earlier) x.number) c.latest.ensures.latest
+
+pub returns-clause-boundary : goal.returns-clause-boundary
+returns-clause-boundary c =
     let t = c.args.kept.now.table in
-    let found = find_from_yields_List (λ (x : Checkpoint). is_protected c.args.now c.args.period (row_of x)) _ _ c.find-first.result c.find-first.ensures.ran (YieldsList-from_slice _ c.iter.ensures.rest) (λ x b q k. search (rules, tests)) in
-    ap (λ (x : Checkpoint). x.number) c.latest.ensures.latest
-    ∙ ap (λ (o : Option Checkpoint). option_map_or (λ (x : Checkpoint). x.number) o t.latest.number)
-    (ap (option_map (λ b. b.now)) (sym c.in-None.is) ∙ found ∙ ap (find (λ (x : Checkpoint). is_protected c.args.now c.args.period (row_of x))) c.earlier.ensures.earlier)
-    ∙ first c.args.now c.args.period t.earlier t.latest c.earlier.ensures.table.rising
+    answered c ∙ first-decides c.args.now c.args.period t.earlier t.latest c.earlier.ensures.table.rising
+
+pub returns-clause-low : goal.returns-clause-low
+returns-clause-low c =
+    let t = c.args.kept.now.table in
+    subst (λ (n : ℕ). n ≤ t.latest.number) (sym (answered c)) (boundary-low c.args.now c.args.period t.earlier t.latest c.earlier.ensures.table.rising)

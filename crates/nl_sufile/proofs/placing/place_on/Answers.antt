@@ -12,7 +12,7 @@ pub loop-rest-preserved : goal.loop-rest-preserved
 loop-rest-preserved c =
     let e : c.min-count.result ≡ fill c.args.blocks c.in-Some.place c.loop-rest.rest = omega (arith, c.min-count.ensures, c.min-room.ensures) in
     record {
-      inside = (let fits = next_fits _ c.args.blocks c.loop-rest.left c.loop-rest.free.now c.in-Some.place c.in-Some.others.now refl c.in-Some.ensures c.requires.few in omega (arith, c.min-count.ensures, c.min-room.ensures, fits));
+      inside = (let fits = next_fits _ c.args.blocks c.loop-rest.left c.loop-rest.free c.in-Some.place c.next_place.new.free refl c.in-Some.ensures c.requires.few in omega (arith, c.min-count.ensures, c.min-room.ensures, fits));
       onward = onward_more _ _ _ _ _ _ _ c.in-Some.place _ _ _ _ e c.in_ok-push.ensures.items c.in-Some.ensures c.loop-rest-test.true c.requires.few c.loop-rest.invariant.onward;
       only = only_more _ _ _ _ _ _ _ c.in-Some.place _ _ _ _ e c.in_ok-push.ensures.items c.in-Some.ensures c.loop-rest-test.true c.loop-rest.invariant.only;
     }

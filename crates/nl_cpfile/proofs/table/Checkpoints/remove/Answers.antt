@@ -1,4 +1,4 @@
-use Rattle.std.proofs.Common.{◌≡◌, ◌∙◌, ◌∷◌, [], List, eqb, false, get_or, ap, refl, subst, sym}
+use Rattle.std.proofs.Common.{◌≡◌, ◌∙◌, ◌∷◌, ◌<◌, [], List, ℕ, eqb, false, get_or, ap, refl, subst, sym}
 use Rattle.std.specs.List.{filter}
 use Rattle.std.specs.Prelude.{Err, None, Some}
 use Rattle.nl_types.specs.declared.error.VolError.TheVariants.{IsSnapshot, Latest}
@@ -8,7 +8,7 @@ use Rattle.nl_types.specs.Rows.{is_among, removal}
 use Rattle.nl_cpfile.specs.Searching.{HasNumberAt}
 use Rattle.nl_cpfile.specs.Tables.{IsTable, Roomy, is_kept_without, rows, without}
 use Rattle.nl_cpfile.proofs.Found.{earlier-IsRising, kept-earlier, kept-last, kept-none, other_number, remove-filter}
-use Rattle.nl_cpfile.proofs.Rising.{filter-IsTable, same_table}
+use Rattle.nl_cpfile.proofs.Rising.{earlier-low, filter-IsTable, same_table}
 use Rattle.nl_cpfile.proofs.Told.{latest-stays, plain-goes, removal-kept, removal-none, snapshot-stays}
 use Rattle.nl_cpfile.proofs.ToldChanges.{latest-not_among, rows-without}
 use Rattle.nl_cpfile.proofs.table.Checkpoints.remove.Goals.{in-Plain, in-Snapshot}
@@ -54,11 +54,22 @@ returns-in-Plain-mode-clause-judged c =
     removal-kept n t c.index.result.now None here (plain-goes t.latest.number c.index.result.now c.in-Plain-mode.is other)
     ∙ ap (λ (r : Roomy). removal n r.table.latest.number (rows r.table)) c.self.view_is
 
+-- it stands among the earlier ones
+here : (c : goal.After-remove) → HasNumberAt c.self.inside.earlier.items c.args.number c.in-Some.index
+here c = subst (λ (cs : List Checkpoint). HasNumberAt cs c.args.number c.in-Some.index) c.as_slice.ensures.value c.in-Some.ensures
+
+pub returns-in-Plain-mode-clause-low : goal.returns-in-Plain-mode-clause-low
+returns-in-Plain-mode-clause-low c =
+    let t = table_of c.self.inside in
+    let low = earlier-low t c.self.invariant c.in-Some.index t.latest (here c).inside in
+    subst (λ (r : Roomy). c.args.number < r.table.latest.number) c.self.view_is
+    (subst (λ (n : ℕ). n < t.latest.number) ((here c).number t.latest) low)
+
 -- what is left is the table without the number
 left : (c : goal.After-remove) → c.remove.new.self.items ≡ filter (is_kept_without (c.args.number ∷ [])) c.self.inside.earlier.items
 left c =
     let items = c.self.inside.earlier.items in
-    let has : HasNumberAt items c.args.number c.in-Some.index = subst (λ (cs : List Checkpoint). HasNumberAt cs c.args.number c.in-Some.index) c.as_slice.ensures.value c.in-Some.ensures in
+    let has = here c in
     c.remove.ensures.items ∙ remove-filter c.args.number items c.in-Some.index c.index.result.now
     (earlier-IsRising (table_of c.self.inside) c.self.invariant c.args.number items refl) has.inside (has.number c.index.result.now)
 

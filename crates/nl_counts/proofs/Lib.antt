@@ -1,0 +1,16 @@
+pub mod EndPlaces
+pub mod Runs
+pub mod SegmentsOf
+pub mod LetGo
+pub mod JoinedCounts
+pub mod RemovedEnds
+pub mod SweptEnds
+pub mod WrittenEnds
+pub mod MixedPlaces
+pub mod StoreChanges
+pub mod WrittenCounts
+pub mod MovedCounts
+pub mod StayingCounts
+pub mod WalkedCounts
+pub mod FirstNeeded
+pub mod EventSteps

@@ -1,0 +1,14 @@
+use Rattle.std.proofs.Common.{◌≡◌, ◌≤◌}
+use Rattle.nl_vstore.specs.Located.{by_period, needs}
+use Rattle.nl_vstore.specs.Stores.{content_in}
+use Rattle.nl_counts.specs.Listed.{AreListed, HasLetGoAll}
+use Rattle.nl_counts.proofs.letting_go.let_go.Given as goal
+
+abbrev pub invariant-loop-index : goal.invariant-loop-index
+invariant-loop-index g l = record {
+  low : l.from ≤ l.index;
+  high : l.index ≤ l.to;
+  listed : AreListed (g.V.Vstore.store l.store) l.counts l.ends.ended;
+  gone : HasLetGoAll (needs (by_period (g.K.Keeping.test l.keeping)) (content_in (g.V.Vstore.store l.store))) l.from l.index l.fn.ends.ended l.ends.ended;
+  room : l.ends.room ≡ l.fn.ends.room;
+}

@@ -1,0 +1,14 @@
+use Rattle.std.proofs.Common.{◌≤◌, List}
+use Rattle.nl_vstore.specs.Located.{by_period, needs}
+use Rattle.nl_vstore.specs.Stores.{content_in}
+use Rattle.nl_counts.specs.declared.ends.Ended.{Ended}
+use Rattle.nl_counts.specs.Listed.{AreListed, HasLetGoAll}
+use Rattle.nl_counts.proofs.letting_go.take_run_off.Given as goal
+
+abbrev pub invariant-loop-index : goal.invariant-loop-index
+invariant-loop-index g l = record {
+  low : l.from ≤ l.index;
+  high : l.index ≤ l.to;
+  left : (left : List Ended) × AreListed (g.V.Vstore.store l.store) l.counts left
+      × HasLetGoAll (needs (by_period (g.K.Keeping.test l.keeping)) (content_in (g.V.Vstore.store l.store))) l.from l.index l.ends.ended left;
+}

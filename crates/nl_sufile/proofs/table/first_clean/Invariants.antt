@@ -1,6 +1,0 @@
-use Rattle.std.proofs.Common.{◌≡◌, drop}
-use Rattle.nl_types.specs.Segments.{clean_from}
-use Rattle.nl_sufile.proofs.table.first_clean.Given as goal
-
-abbrev pub invariant-loop-number : goal.invariant-loop-number
-invariant-loop-number l = clean_from l.number (drop l.number l.each) ≡ clean_from 0 l.each
