@@ -11,7 +11,7 @@ Commands of a script:
                                that the volume made itself, -i N from N on, -n K the first K
   rmcp [-f] R..                remove checkpoints: N, A..B, A.. or ..B; with -f not a word of
                                snapshots, or of numbers that aren't kept
-  lssu [-a]                    list segments, clean ones too with -a
+  lssu [-a] [-l]               list segments: -a clean ones too, -l how many needed blocks each has
   clean                        do one round of cleaning, by the configuration of --conf
   mount N                      mount a snapshot, and print the mount
   umount M                     give a mount back

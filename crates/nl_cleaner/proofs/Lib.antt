@@ -1,4 +1,5 @@
 mod Ages
+mod ByCounts
 mod Victims
 mod Found
 mod CleanRuns

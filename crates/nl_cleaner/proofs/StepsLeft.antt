@@ -1,5 +1,5 @@
 -- Each step of a round leaves fewer.
-use Rattle.std.proofs.Common.{◌≡◌, ◌≢◌, ℕ, zero, suc, ◌*◌, ◌-◌, ◌<◌, ◌≤◌, ◌==◌, Bool, true, false, cond, List, [], ◌∷◌, length, Option, Some, None, Ok, Err, refl, sym, ap, subst, ◌∙◌, true≢false, arith}
+use Rattle.std.proofs.Common.{◌≡◌, ◌≢◌, ℕ, ◌*◌, ◌-◌, ◌<◌, ◌≤◌, ◌==◌, Bool, true, false, cond, List, [], ◌∷◌, length, Option, Some, None, Ok, Err, refl, sym, ap, subst, ◌∙◌, true≢false, arith}
 use Rattle.std.specs.Prelude.{IsOk, slice_get}
 use Rattle.std.proofs.lemmas.List.{length-drop}
 use Rattle.std.proofs.lemmas.Bool.{eq-eqb}
@@ -12,7 +12,7 @@ use Rattle.nl_types.specs.declared.segment.SegmentInfo.{SegmentInfo}
 use Rattle.nl_types.specs.declared.segment.SegmentState.TheVariants.{Active, Clean, Dirty, Error}
 use Rattle.nl_types.specs.Segments.{IsClosed, Segments, clean_info, is_closed}
 use Rattle.nl_types.specs.Worlds.{Reply}
-use Rattle.nl_vstore.specs.Located.{needed_at, needed_count, onto, picked}
+use Rattle.nl_vstore.specs.Located.{needed_at, needed_count}
 use Rattle.nl_reclaim.specs.Cleaning.{judged, judged_by, judged_info}
 use Rattle.nl_reclaim.specs.Moves.{needed_now}
 use Rattle.nl_reclaim.proofs.Moves.{move-takes-first}
@@ -25,6 +25,7 @@ use Rattle.nl_protect.specs.Rounds.{ends_round}
 use Rattle.nl_cleaner.specs.Job.{Cleaning, Ended, Expiring, JobView, Stepped, answered, at_stage, cleaning_left, first_done, left_by, next_by, next_cleaning, next_event, noted, noted_by, steps_left}
 use Rattle.nl_cleaner.specs.declared.job.Stage.{Stage}
 use Rattle.nl_cleaner.specs.Laws.{StepsEndRounds, UnmountsLeaveRounds}
+use Rattle.nl_cleaner.proofs.ByCounts.{picked-few}
 use Rattle.nl_cleaner.proofs.CleanRuns.{move-is}
 use Rattle.nl_cleaner.proofs.Rounds.{cleaning, none-some, some-is}
 
@@ -33,14 +34,6 @@ abbrev needed_of : Layout → ℕ → ℕ
 needed_of l segment = needed_count l.store (needed_by l.lists) segment
 
 -- ---- no segment has more of them than blocks
-
-picked-few : (f : ℕ → Option ℕ) (b n : ℕ) → length (picked f b n) ≤ n
-picked-few f b zero = omega arith
-picked-few f b (suc n) = by (f b) (picked-few f (suc b) n)
-  where
-    by : (o : Option ℕ) → length (picked f (suc b) n) ≤ n → length (onto o (picked f (suc b) n)) ≤ suc n
-    by None few = omega (arith, few)
-    by (Some v) few = omega (arith, few)
 
 needed-few : (l : Layout) (segment : ℕ) → IsPen l → needed_of l segment ≤ 2048
 needed-few l segment held =

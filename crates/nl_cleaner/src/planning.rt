@@ -1,15 +1,18 @@
 //! Which segments a round takes.
-ghost use Rattle.std.specs.Prelude.{◌≡◌, IfOk, IsOkUnless, length};
+ghost use Rattle.std.specs.Prelude.{◌≡◌, ℕ, ◌-◌, ◌<◌, ◌&&◌, nat_le, length, slice_index_or, IfOk, IsOkUnless};
+ghost use Rattle.nl_types.specs.Segments.{info_of};
+ghost use Rattle.nl_core.specs.CleanerViews.{counts_after};
 ghost use Rattle.nl_cleaner.specs.Choice.{candidates_in};
 ghost use Rattle.nl_cleaner.specs.Plan as asked;
-ghost use Rattle.nl_cleaner.specs.Plan.{AreTaken, AreVictims, IsPlan, candidate_by, candidate_in};
+ghost use Rattle.nl_cleaner.specs.Plan.{AreTaken, AreVictims, IsPlan, candidate_by, candidate_in, is_dirty};
 
 use crate::choice::{Candidate, choose, push_found};
 use crate::job::Job;
 use nl_core::Pen;
 use nl_device::Device;
 use nl_protect::Config;
-use nl_types::{CheckpointNumber, Segment, SegmentInfo, SegmentState, VolError};
+use nl_sufile::SegmentCounts;
+use nl_types::{Segment, SegmentInfo, SegmentState, VolError};
 use std::alloc::{AllocError, Global};
 
 fn segment_count<D: Device>(pen: &Pen<D>) -> u32
@@ -62,12 +65,21 @@ fn least_freed<D: Device>(pen: &Pen<D>, config: &Config) -> u64
     }
 }
 
-/// How many payload blocks of a segment are not needed once the plain checkpoints below a number are gone.
-fn reclaimable<D: Device>(pen: &Pen<D>, segment: Segment, below: CheckpointNumber) -> u64
-    ensures { result ≡ asked.reclaimable pen.now below segment }
+/// How many blocks of a segment are needed, by counts of these.
+fn needed_of(needed: &SegmentCounts, segment: Segment) -> u32
+    ensures { result ≡ slice_index_or needed.now segment 0 }
+{
+    needed.get(segment).unwrap_or(0)
+}
+
+/// How many payload blocks of a segment are not needed, by counts of those that are.
+fn reclaimable<D: Device>(pen: &Pen<D>, needed: &SegmentCounts, segment: Segment) -> u64
+    requires { segment < length pen.now.store.segments.each }
+    ensures { (below : ℕ) → needed.now ≡ counts_after pen.now below
+        → result ≡ asked.reclaimable pen.now below segment }
 {
     let payload = u64::from(pen.payload_count(segment));
-    payload.saturating_sub(u64::from(pen.needed_in(segment, below)))
+    payload.saturating_sub(u64::from(needed_of(needed, segment)))
 }
 
 /// The segment, where it is dirty and enough of its blocks are freed by cleaning it.
@@ -83,77 +95,107 @@ fn if_enough(segment: Segment, info: SegmentInfo, least: u64, reclaimable: u64) 
     }
 }
 
-/// The segment, where it qualifies.
-fn candidate<D: Device>(
+/// Whether a segment is dirty, and has enough used blocks over the needed ones. No other one qualifies: what has payload is used.
+fn may_qualify(info: SegmentInfo, needed: u32, least: u64) -> bool
+    ensures { result ≡ (is_dirty info.state && nat_le least (info.used - needed)) }
+{
+    match info.state {
+        SegmentState::Dirty => least <= u64::from(info.used.saturating_sub(needed)),
+        _ => false,
+    }
+}
+
+/// The segment of which this is known, where it qualifies. Its blocks are looked at only where it may.
+fn known_candidate<D: Device>(
     pen: &Pen<D>,
+    needed: &SegmentCounts,
     segment: Segment,
-    below: CheckpointNumber,
+    info: SegmentInfo,
     least: u64,
 ) -> Option<Candidate>
-    ensures { result ≡ candidate_in pen.now below least segment }
+    requires segment { segment < length pen.now.store.segments.each }
+    requires info { info ≡ info_of pen.now.store.segments.each segment }
+    ensures { (below : ℕ) → needed.now ≡ counts_after pen.now below
+        → result ≡ candidate_in pen.now below least segment }
+{
+    if may_qualify(info, needed_of(needed, segment), least) {
+        if_enough(segment, info, least, reclaimable(pen, needed, segment))
+    } else {
+        None
+    }
+}
+
+/// The segment, where it qualifies by the counts of needed blocks.
+fn candidate<D: Device>(
+    pen: &Pen<D>,
+    needed: &SegmentCounts,
+    segment: Segment,
+    least: u64,
+) -> Option<Candidate>
+    ensures { (below : ℕ) → needed.now ≡ counts_after pen.now below
+        → result ≡ candidate_in pen.now below least segment }
 {
     match pen.segments().suinfo(segment) {
-        Ok(info) => if_enough(segment, info, least, reclaimable(pen, segment, below)),
+        Ok(info) => known_candidate(pen, needed, segment, info, least),
         Err(_) => None,
     }
 }
 
-/// The segments that qualify, by their numbers.
+/// The segments that qualify by the counts of needed blocks, by their numbers.
 fn candidates<D: Device>(
     alloc: Global,
     pen: &Pen<D>,
-    below: CheckpointNumber,
+    needed: &SegmentCounts,
     least: u64,
 ) -> Result<Vec<Candidate>, AllocError>
-    ensures { IfOk result (λ found. found.items
+    ensures { IfOk result (λ found. (below : ℕ) → needed.now ≡ counts_after pen.now below → found.items
         ≡ candidates_in (candidate_in pen.now below least) (length pen.now.store.segments.each)) }
 {
     let mut found = Vec::new(alloc);
     for number in 0..segment_count(pen) {
-        let candidate = candidate(pen, Segment::new(number), below, least);
+        let candidate = candidate(pen, needed, Segment::new(number), least);
         push_found(&mut found, candidate)?;
     }
     Ok(found)
 }
 
-/// The oldest segments that qualify, at most so many.
+/// The oldest segments that qualify by the counts of needed blocks, at most so many.
 fn victims<D: Device>(
     alloc: Global,
     pen: &Pen<D>,
-    below: CheckpointNumber,
+    needed: &SegmentCounts,
     least: u64,
     most: u64,
 ) -> Result<Vec<Segment>, AllocError>
-    ensures { IfOk result (λ victims. AreVictims pen.now below least most victims.items) }
+    requires { (below : ℕ) × (needed.now ≡ counts_after pen.now below) }
+    ensures { IfOk result (λ victims. (below : ℕ) → needed.now ≡ counts_after pen.now below
+        → AreVictims pen.now below least most victims.items) }
 {
-    let found = candidates(alloc, pen, below, least)?;
+    let found = candidates(alloc, pen, needed, least)?;
     choose(alloc, found, most)
 }
 
-/// The segments that a round takes: none where enough are clean.
+/// The segments that a round takes: none where enough are clean. Refused by `Memory` alone.
 fn taken<D: Device>(
     alloc: Global,
     pen: &Pen<D>,
     config: &Config,
     now: u64,
-) -> Result<Vec<Segment>, AllocError>
-    ensures { IfOk result (λ segments. AreTaken pen.now config.now now segments.items) }
+) -> Result<Vec<Segment>, VolError>
+    ensures taken { IfOk result (λ segments. AreTaken pen.now config.now now segments.items) }
+    ensures refused { IsOkUnless result VolError.Memory }
 {
     if is_full(pen, config) {
         return Ok(Vec::new(alloc));
     }
     let below = pen.boundary(now, config.protection_period);
-    victims(
-        alloc,
-        pen,
-        below,
-        least_freed(pen, config),
-        most_taken(pen, config),
-    )
+    let needed = pen.counts_after(alloc, below)?;
+    let (least, most) = (least_freed(pen, config), most_taken(pen, config));
+    Ok(victims(alloc, pen, &needed, least, most)?)
 }
 
 /// The round of cleaning that a configuration asks for at a moment: the expiry, and the segments to clean after it. It only
-/// looks, at each block of the dirty segments. Refused by `Memory` alone.
+/// looks, at the blocks of those dirty segments in which enough used ones are not needed. Refused by `Memory` alone.
 pub fn plan<D: Device>(
     alloc: Global,
     pen: &Pen<D>,

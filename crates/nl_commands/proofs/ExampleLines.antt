@@ -7,7 +7,7 @@ use Rattle.nl_types.specs.declared.event.Change.TheVariants.{Create, Write, Trun
 use Rattle.nl_types.specs.declared.event.Mode.TheVariants.{Snapshot}
 use Rattle.nl_commands.specs.declared.command.CheckpointRange.TheVariants.{One, Between, Since}
 use Rattle.nl_commands.specs.declared.command.Command.{Command}
-use Rattle.nl_commands.specs.declared.command.Command.TheVariants.{At, Chcp, Lscp, Rmcp, Clean, Change, Fill, Show}
+use Rattle.nl_commands.specs.declared.command.Command.TheVariants.{At, Chcp, Lscp, Rmcp, Lssu, Clean, Change, Fill, Show}
 use Rattle.nl_commands.specs.declared.command.Shown.TheVariants.{Content}
 use Rattle.nl_commands.specs.declared.error.LineError.{LineError}
 use Rattle.nl_commands.specs.declared.error.LineError.TheVariants.{Usage}
@@ -119,6 +119,38 @@ second_end_of_options = refl
 option_behind_an_operand : four (codes "cat") (codes "/f") (codes "-m") (codes "2") ≡ Ok (Show Content (Some 2) (codes "/f"))
 unfolding clap_on_literals
 option_behind_an_operand = refl
+
+plain_listing_of_segments : command_meant (codes "lssu" ∷ []) ≡ Ok (Lssu false false)
+unfolding clap_on_literals
+plain_listing_of_segments = refl
+
+long_listing_of_segments : two (codes "lssu") (codes "-l") ≡ Ok (Lssu false true)
+unfolding clap_on_literals
+long_listing_of_segments = refl
+
+listing_of_all_segments : two (codes "lssu") (codes "-a") ≡ Ok (Lssu true false)
+unfolding clap_on_literals
+listing_of_all_segments = refl
+
+letters_together : two (codes "lssu") (codes "-al") ≡ Ok (Lssu true true)
+unfolding clap_on_literals
+letters_together = refl
+
+letters_in_two_words : three (codes "lssu") (codes "-l") (codes "-a") ≡ Ok (Lssu true true)
+unfolding clap_on_literals
+letters_in_two_words = refl
+
+letter_twice : two (codes "lssu") (codes "-ll") ≡ Err Usage
+unfolding clap_on_literals
+letter_twice = refl
+
+letter_in_two_words : three (codes "lssu") (codes "-l") (codes "-l") ≡ Err Usage
+unfolding clap_on_literals
+letter_in_two_words = refl
+
+no_operand_of_a_listing : three (codes "lssu") (codes "-l") (codes "x") ≡ Err Usage
+unfolding clap_on_literals
+no_operand_of_a_listing = refl
 
 -- ---- operands
 

@@ -8,12 +8,12 @@ use Rattle.nl_commands.specs.Grammars.{flag_rule, is_used, operand_rule}
 use Rattle.nl_commands.specs.GivenOperands.{number_at}
 use Rattle.nl_commands.specs.Outcomes.{after}
 
--- lssu [-a]
+-- lssu [-a] [-l]
 abbrev pub lssu_rules : List Rule
-lssu_rules = flag_rule (codes "all") 97 ∷ []
+lssu_rules = flag_rule (codes "all") 97 ∷ flag_rule (codes "long") 108 ∷ []
 
 abbrev pub lssu_given : List Row → Command
-lssu_given rows = Lssu (is_used (codes "all") rows)
+lssu_given rows = Lssu (is_used (codes "all") rows) (is_used (codes "long") rows)
 
 -- mount N
 abbrev pub mount_rules : List Rule

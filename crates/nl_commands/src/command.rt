@@ -42,9 +42,10 @@ pub enum Command {
         quiet: bool,
         ranges: Items<CheckpointRange>,
     },
-    /// Lists segments: all of them, or those alone that are not clean.
+    /// Lists segments: all of them, or those alone that are not clean. Where `long`, it tells the needed blocks of each.
     Lssu {
         all: bool,
+        long: bool,
     },
     /// Does one round of cleaning.
     Clean,

@@ -9,14 +9,18 @@ use crate::grammar::{Argument, Given};
 use crate::operands::number_at;
 use nl_types::{CheckpointNumber, MountNumber};
 
-pub const LSSU_ARGUMENTS: &[Argument<'static>] = &[Argument::Flag("all", 'a')];
+pub const LSSU_ARGUMENTS: &[Argument<'static>] = &[
+    Argument::Flag("all", 'a'),
+    Argument::Flag("long", 'l'),
+];
 
-/// `lssu [-a]`
+/// `lssu [-a] [-l]`
 pub fn lssu(given: &Given<'_>) -> Command
     ensures { result ≡ lssu_given given.now }
 {
     let all = given.has("all");
-    Command::Lssu { all }
+    let long = given.has("long");
+    Command::Lssu { all, long }
 }
 
 pub const MOUNT_ARGUMENTS: &[Argument<'static>] = &[Argument::Operand("checkpoint")];

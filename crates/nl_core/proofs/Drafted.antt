@@ -1,6 +1,6 @@
 -- What comes of the draft of a checkpoint.
 use Rattle.std.proofs.Common.{◌≡◌, ℕ, ◌+◌, List, [], ◌∷◌, ◌++◌, refl, ap, sym, subst, ◌∙◌, arith}
-use Rattle.std.specs.Prelude.{Result, Ok, Err, IfErr, IfOk, OnErr, OnOk, max}
+use Rattle.std.specs.Prelude.{max}
 use Rattle.nl_types.specs.declared.error.VolError.{VolError}
 use Rattle.nl_types.specs.declared.error.VolError.TheVariants as error
 use Rattle.nl_types.specs.declared.event.Event.TheVariants as event
@@ -10,6 +10,7 @@ use Rattle.nl_files.specs.Laws.{SettledNumbersAreLowest}
 use Rattle.nl_core.specs.Draft.{CanBeDrafted, IsNextDraft}
 use Rattle.nl_core.specs.Layout.{HasRefused, HasWritten, Settled, layout_of}
 use Rattle.nl_layout.specs.Root.{root_of}
+use Rattle.nl_core.specs.NeededBlocks.{HasWrittenBatch}
 use Rattle.nl_core.specs.Notes.{HasNotedWrite, new_checkpoint}
 use Rattle.nl_core.specs.declared.commit.Commit.{Commit}
 use Rattle.nl_core.specs.declared.commit.Commit.TheVariants.{Written}
@@ -53,16 +54,18 @@ module _ (lists : Lists) (store : Store) (mode : Mode) (moment : ℕ) (draft : D
       written = written;
     }
 
-    pub written-draft : HasWritten mode moment (layout_of lists store) (layout_of now after)
-    written-draft = subst (λ (ls : Lists). HasWritten mode moment (layout_of lists store) (layout_of ls after)) (sym is) writes-draft
+    pub written-draft : HasWrittenBatch mode moment draft.batch (layout_of lists store) (layout_of now after)
+    written-draft = subst (λ (ls : Lists). HasWrittenBatch mode moment draft.batch (layout_of lists store) (layout_of ls after)) (sym is)
+        (record { writes = writes-draft; batch_is = refl })
 
     -- and it is noted
     pub noted-draft : (before notes : List Commit) (commit : Commit)
         → commit ≡ Written (new_checkpoint draft.batch draft.checkpoint) → notes ≡ before ++ commit ∷ []
-        → HasNotedWrite mode moment (layout_of lists store) (layout_of now after) before notes
+        → HasNotedWrite mode moment draft.batch (layout_of lists store) (layout_of now after) before notes
     noted-draft before notes commit told behind =
-        subst (λ (ls : Lists). HasNotedWrite mode moment (layout_of lists store) (layout_of ls after) before notes) (sym is) (record {
+        subst (λ (ls : Lists). HasNotedWrite mode moment draft.batch (layout_of lists store) (layout_of ls after) before notes) (sym is) (record {
           writes = writes-draft;
+          batch_is = refl;
           behind = behind ∙ ap (λ (c : Commit). before ++ c ∷ []) told;
         })
 
@@ -76,25 +79,9 @@ module _ (lists : Lists) (store : Store) (mode : Mode) (moment : ℕ) (draft : D
   refused error.Fault after why = record { left = drafted.left; lists = refl; root = root_in draft.checkpoint; settled = settled-draft; store = why }
   refused _ after why = absurd why
 
-  pub refused-draft : (e : VolError) (after : Store)
+  pub refused-draft : (e : VolError) (now : Lists) (after : Store) → now ≡ lists
       → IsWriteRefused draft.checkpoint.number draft.checkpoint.stamp draft.batch store after e
-      → HasRefused (event.Checkpoint mode moment) e (layout_of lists store) (layout_of lists after)
-  refused-draft e after why =
-      refused e after (subst (λ (c : Checkpoint). IsWriteRefused c.number c.stamp draft.batch store after e) drafted.checkpoint why)
-
-  -- so it is of any result, where the lists were still the same before the write
-  module _ {A : Type 0} (before now : Lists) (after : Store) (same : before ≡ lists) where
-    pub written-where_ok : (r : Result A VolError) → SettledNumbersAreLowest → OnOk r (now ≡ published draft.checkpoint before)
-        → OnOk r (IsWritten draft.checkpoint.number draft.checkpoint.stamp draft.batch store after)
-        → IfOk r (λ _. HasWritten mode moment (layout_of lists store) (layout_of now after))
-    written-where_ok (Ok a) lowest kept written =
-        written-draft lowest now after (kept ∙ ap (published draft.checkpoint) same) written
-    written-where_ok (Err e) lowest kept written = tt
-
-    pub refused-where_err : (r : Result A VolError) → OnErr r (now ≡ before)
-        → IfErr r (IsWriteRefused draft.checkpoint.number draft.checkpoint.stamp draft.batch store after)
-        → IfErr r (λ e. HasRefused (event.Checkpoint mode moment) e (layout_of lists store) (layout_of now after))
-    refused-where_err (Ok a) stays why = tt
-    refused-where_err (Err e) stays why =
-        subst (λ (ls : Lists). HasRefused (event.Checkpoint mode moment) e (layout_of lists store) (layout_of ls after))
-        (sym (stays ∙ same)) (refused-draft e after why)
+      → HasRefused (event.Checkpoint mode moment) e (layout_of lists store) (layout_of now after)
+  refused-draft e now after same why =
+      subst (λ (ls : Lists). HasRefused (event.Checkpoint mode moment) e (layout_of lists store) (layout_of ls after)) (sym same)
+      (refused e after (subst (λ (c : Checkpoint). IsWriteRefused c.number c.stamp draft.batch store after e) drafted.checkpoint why))

@@ -101,11 +101,11 @@ module _ (geometry : Geometry) (device : DevicePages) (failures : ℕ) where
   ledger-before i = record { content = content-blank i; latest = 0; kept = λ c. kept-blank c i }
 
   -- the tree of a new volume stands over it
-  stands-before : StandsOverLatest (ledger_of before) roots.Empty first_tree nothing_held root_alone
+  pub stands-before : StandsOverLatest (ledger_of before) roots.Empty first_tree nothing_held root_alone
   stands-before = subst (λ (ledger : Ledger). StandsOverLatest ledger roots.Empty first_tree nothing_held root_alone)
       (sym ledger-before) first_trees-stand
 
-  sound-before : IsStore before.store → IsSoundPen before
+  pub sound-before : IsStore before.store → IsSoundPen before
   sound-before is_store = record {
     ledger = stands-before.is_ledger;
     kept = All-cons (λ (c : Kept). IsTreeSound (pages_in before) (root_of (root_in c))) blank_checkpoint []
@@ -259,22 +259,25 @@ pub record IsNew (geometry : Geometry) (device : DevicePages) (failures now : �
   pub is_formatted : IsFormatted geometry device failures now l
   pub is_pen : IsPen l
 
--- over a store that is made of a clean space
-module _ (geometry : Geometry) (device : DevicePages) (failures : ℕ) (lists : Lists) (store : Store) (space : SpaceContent)
-    (count : ℕ) (blank_then : lists ≡ blank_lists) (fresh : store ≡ new_store space count)
-    (clean : space ≡ new_content geometry device) (same_count : count ≡ failures) where
-  abbrev old : Layout
-  old = layout_of lists store
+-- such a layout is made of a clean space and of tables that are blank
+pub blank-volume : (geometry : Geometry) (device : DevicePages) (failures : ℕ) (lists : Lists) (store : Store) (space : SpaceContent) (count : ℕ)
+    → lists ≡ blank_lists → store ≡ new_store space count → space ≡ new_content geometry device → count ≡ failures
+    → layout_of lists store ≡ blank_layout geometry device failures
+blank-volume geometry device failures lists store space count blank_then fresh clean same_count i =
+    layout_of (blank_then i) ((fresh ∙ (λ j. new_store (clean j) (same_count j))) i)
 
-  is-blank : old ≡ blank_layout geometry device failures
-  is-blank i = layout_of (blank_then i) ((fresh ∙ (λ j. new_store (clean j) (same_count j))) i)
+module _ (geometry : Geometry) (device : DevicePages) (failures : ℕ) (old : Layout) (is-blank : old ≡ blank_layout geometry device failures) where
+  pub has_few-names : HasFewNames old.lists
+  has_few-names = subst (λ (l : Layout). HasFewNames l.lists) (sym is-blank) (omega arith)
 
-  pub has_few-names : HasFewNames lists
-  has_few-names = subst HasFewNames (sym blank_then) (omega arith)
-
-  pub can_be-drafted : CanBeDrafted (content_in store) lists
+  pub can_be-drafted : CanBeDrafted (content_in old.store) old.lists
   can_be-drafted = subst (λ (l : Layout). CanBeDrafted (content_in l.store) l.lists) (sym is-blank)
       (drafted-before geometry device failures)
+
+  -- no number is in use
+  pub none-in-use : (v : ℕ) → content_in old.store v ≡ None
+  none-in-use v =
+      ap (λ (l : Layout). content_in l.store v) is-blank ∙ ap (λ (content : Content). content v) (content-blank geometry device failures)
 
   module _ (new : Layout) (now : ℕ) where
     pub refused-first : (e : VolError) → HasRefused (Checkpoint Plain now) e old new
@@ -282,7 +285,7 @@ module _ (geometry : Geometry) (device : DevicePages) (failures : ℕ) (lists : 
     refused-first e refused = refused-before geometry device failures new now e
         (subst (λ (l : Layout). HasRefused (Checkpoint Plain now) e l new) is-blank refused)
 
-    pub new-volume : (left : Lists) → HasWritten Plain now old new → IsStore store → IsStore new.store
+    pub new-volume : (left : Lists) → HasWritten Plain now old new → IsStore old.store → IsStore new.store
         → left ≡ latest_alone new.lists
         → IsNew geometry device failures now (layout_of left new.store)
     new-volume left writes old_store is_store is =

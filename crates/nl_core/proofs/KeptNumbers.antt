@@ -23,7 +23,7 @@ use Rattle.nl_core.specs.Volume.{kept_by}
 
 -- ---- numbers under which there is a checkpoint
 
-found-among : (n : ℕ) (kept : List Checkpoint) (c : Checkpoint) → found n kept ≡ Some c → is_one_of (map number_in kept) n ≡ true
+pub found-among : (n : ℕ) (kept : List Checkpoint) (c : Checkpoint) → found n kept ≡ Some c → is_one_of (map number_in kept) n ≡ true
 found-among n [] c is = cc
 found-among n (k ∷ kept) c is = elim (cases_Bool (eq_by_cmp nat_cmp n k.number)) [
   | inl t ↦ ap (λ b. b || is_one_of (map number_in kept) n) (sym (unsigned_tied n k.number) ∙ t)

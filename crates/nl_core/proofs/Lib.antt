@@ -24,6 +24,9 @@ pub mod Formats
 pub mod KeptNumbers
 pub mod CleanedPens
 pub mod Outside
+pub mod KeptLists
+pub mod CountedPens
+pub mod FirstCounts
 pub mod NextCleaning
 pub mod LedgerEvents
 pub mod ShownNumbers

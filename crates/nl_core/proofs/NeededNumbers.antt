@@ -20,7 +20,7 @@ or-true false = refl
 stays : (c : Checkpoint) → is_staying 0 (row_of c) ≡ true
 stays c = ap (λ b. is_snapshot c.mode || b) (leb-zero c.number) ∙ or-true (is_snapshot c.mode)
 
-staying-all : (kept : List Checkpoint) → staying 0 (rows_of kept) ≡ map (λ c. c.number) kept
+pub staying-all : (kept : List Checkpoint) → staying 0 (rows_of kept) ≡ map (λ c. c.number) kept
 staying-all [] = refl
 staying-all (c ∷ kept) =
     ap (λ b. map number_of (cond b (row_of c ∷ filter (is_staying 0) (rows_of kept)) (filter (is_staying 0) (rows_of kept)))) (stays c)

@@ -3,16 +3,14 @@ use Rattle.std.proofs.Common.{◌≡◌, ◌≢◌, ℕ, Bool, true, false, cond
 use Rattle.std.proofs.lemmas.Bool.{eq-eqb, ne_eqb}
 use Rattle.nl_types.specs.declared.event.Event.{Event}
 use Rattle.nl_types.specs.declared.event.Event.TheVariants.{Move, Retire}
-use Rattle.nl_types.specs.Entries.{Entry}
 use Rattle.nl_vstore.specs.Located.{needed_count}
-use Rattle.nl_core.specs.CleanerViews.{cleaning_event, needed_after}
+use Rattle.nl_core.specs.CleanerViews.{cleaning_event}
 use Rattle.nl_core.specs.CleaningEvents.{needed_by}
 use Rattle.nl_core.specs.Layout.{Layout}
-use Rattle.nl_core.proofs.NeededNumbers.{needs-same}
 
-module _ (l : Layout) (segment now n : ℕ) (is : n ≡ needed_after l 0 segment) where
+module _ (l : Layout) (segment now n : ℕ) (is : n ≡ needed_count l.store (needed_by l.lists) segment) where
   counted : needed_count l.store (needed_by l.lists) segment ≡ n
-  counted = ap (λ (needed : Entry → Bool). needed_count l.store needed segment) (sym (needs-same l.lists)) ∙ sym is
+  counted = sym is
 
   by-test : (t : Bool) → eqb n 0 ≡ t → cleaning_event l segment now ≡ cond {A = Event} t (Retire segment) (Move segment 30 now)
   by-test t h =

@@ -11,10 +11,12 @@ use Rattle.nl_types.specs.declared.reply.Answer.{Answer}
 use Rattle.nl_types.specs.declared.reply.Answer.TheVariants as answer
 use Rattle.nl_types.specs.Runs.{Step}
 use Rattle.nl_types.specs.Worlds.{Reply, World}
+use Rattle.nl_vstore.specs.Batches.{Changes}
 use Rattle.nl_vstore.specs.Located.{numbers_in}
 use Rattle.nl_vstore.specs.Stores.{IsStore}
 use Rattle.nl_core.specs.CleaningEvents.{needed_by}
 use Rattle.nl_core.specs.Layout.{Does, HasRefused, IsPen, Layout, Touches, cleaned, unshared}
+use Rattle.nl_core.specs.NeededBlocks.{HasWrittenBatch}
 use Rattle.nl_core.specs.Notes.{AreCommitsOf, ChangesLists, DoesNoting, HasNoted, HasNotedWrite, has_other_mode, new_checkpoint, shared, where_any, where_true}
 use Rattle.nl_core.specs.declared.commit.Commit.{Commit}
 use Rattle.nl_core.specs.declared.commit.Commit.TheVariants.{Freed, ModeSet, Written}
@@ -165,14 +167,19 @@ noting-same_mode old new n mode (Err e) before pen same does =
 
 -- ---- checkpoints and retirements
 
-pub noting-written : (old new : Layout) (mode : Mode) (moment : ℕ) (before after : List Commit) → IsPen old
-    → HasNotedWrite mode moment old new before after → IsStore new.store → old.store.failures ≤ new.store.failures
+pub noting-written : (old new : Layout) (mode : Mode) (moment : ℕ) (batch : Changes) (before after : List Commit) → IsPen old
+    → HasNotedWrite mode moment batch old new before after → IsStore new.store → old.store.failures ≤ new.store.failures
     → DoesNoting old (event.Checkpoint mode moment) (Ok (answer.Checkpoint new.lists.table.latest.number)) new before after
-noting-written old new mode moment before after pen noted store counted =
+noting-written old new mode moment batch before after pen noted store counted =
     let done = event.Checkpoint mode moment in
     let reply : Reply = Ok (answer.Checkpoint new.lists.table.latest.number) in
     noting old done new before after pen reply (Written (new_checkpoint noted.writes.settled.changes new.lists.table.latest) ∷ [])
     (does-shared old new done reply (does-written old new mode moment pen noted.writes store counted)) noted.behind (noted.writes, refl)
+
+-- what was noted was written by its batch
+pub written-batch : (old new : Layout) (mode : Mode) (moment : ℕ) (batch : Changes) (before after : List Commit)
+    → HasNotedWrite mode moment batch old new before after → HasWrittenBatch mode moment batch old new
+written-batch old new mode moment batch before after noted = record { writes = noted.writes; batch_is = noted.batch_is }
 
 pub noting-unwritten : (old new : Layout) (mode : Mode) (moment : ℕ) (e : VolError) (before after : List Commit) → IsPen old
     → HasRefused (event.Checkpoint mode moment) e old new → IsStore new.store → after ≡ before

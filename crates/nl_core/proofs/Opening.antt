@@ -8,7 +8,7 @@ use Rattle.std.proofs.lemmas.Bool.{le-leb}
 use Rattle.std.proofs.lemmas.List.Elements.{All-cons, All-head, All-nil, All-tail, recursion_from_All}
 use Rattle.nl_types.specs.Entries.{Content, Entry}
 use Rattle.nl_types.specs.Lifetimes.{IsBounded}
-use Rattle.nl_types.specs.RootChanges.{HasData, IsSound}
+use Rattle.nl_types.specs.RootChanges.{IsSound}
 use Rattle.nl_types.specs.Roots.{Pages, Root, pages_of, place_at}
 use Rattle.nl_types.specs.Roots as roots
 use Rattle.nl_types.specs.Segments.{Segments}

@@ -6,7 +6,6 @@ use Rattle.std.proofs.lemmas.List.{drop-map, length-drop, length-take-le}
 use Rattle.std.proofs.lemmas.List.Elements.{All-head, All-tail}
 use Rattle.nl_types.specs.Roots.{Pages, Root, pages_of}
 use Rattle.nl_types.specs.Segments.{IsUsed, Segments, total_blocks}
-use Rattle.nl_layout.specs.Root.{root_of, root_told}
 use Rattle.nl_layout.specs.declared.checkpoint_entry.CheckpointEntry.{CheckpointEntry}
 use Rattle.nl_space.specs.Images as blocks
 use Rattle.nl_space.specs.Images.{AreBlocksOf, IsPageOf, zero_page}

@@ -1,5 +1,5 @@
 -- What moves out of segments and retirements of segments answer, and what they do to the blocks.
-use Rattle.std.specs.Prelude.{◌≡◌, ℕ, Bool, false, List, Ok, map, min}
+use Rattle.std.specs.Prelude.{◌≡◌, ℕ, Bool, false, List, Ok, min}
 use Rattle.nl_types.specs.declared.event.Event.{Event}
 use Rattle.nl_types.specs.declared.event.Event.TheVariants as event
 use Rattle.nl_types.specs.declared.reply.Answer.{Answer}
@@ -8,6 +8,7 @@ use Rattle.nl_types.specs.Calls.{and_then}
 use Rattle.nl_types.specs.Entries.{Entry, is_needed}
 use Rattle.nl_types.specs.Placing.{LacksSpace}
 use Rattle.nl_types.specs.Worlds.{Reply}
+use Rattle.nl_cpfile.specs.Tables as cpfile
 use Rattle.nl_vstore.specs.Located.{needed_count}
 use Rattle.nl_vstore.specs.Stores.{IsReclaimed, Store}
 use Rattle.nl_reclaim.specs.Cleaning.{HasMovedFirst, judged_for, retired, split}
@@ -16,7 +17,7 @@ use Rattle.nl_core.specs.Volume.{Lists, kept_by}
 
 -- the numbers of the kept checkpoints
 abbrev pub kept_numbers : Lists → List ℕ
-kept_numbers l = map (λ c. c.number) (kept_by l)
+kept_numbers l = cpfile.kept_numbers (kept_by l)
 
 -- a number that has not ended, or belongs to one of these, is needed
 abbrev pub needed_by : Lists → Entry → Bool

@@ -13,6 +13,7 @@ pub mod Commits
 pub mod Notes
 pub mod Laws
 pub mod LedgerEvents
+pub mod NeededBlocks
 pub mod CleanedPens
 pub mod CleanerViews
 pub mod Opened

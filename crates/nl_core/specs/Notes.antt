@@ -143,10 +143,11 @@ pub record DoesNoting (old : Layout) (event : Event) (reply : Reply) (new : Layo
   pub behind : after ≡ before ++ more
   pub noted : IsNoted old event reply new more
 
--- a checkpoint was written, and is noted behind the commits before
-pub record HasNotedWrite (mode : Mode) (moment : ℕ) (old new : Layout)
+-- a checkpoint was written by this batch, and is noted behind the commits before
+pub record HasNotedWrite (mode : Mode) (moment : ℕ) (batch : Changes) (old new : Layout)
     (before after : List Commit) : Type 0 where
   pub writes : HasWritten mode moment old new
+  pub batch_is : writes.settled.changes ≡ batch
   pub behind : after
       ≡ before ++ Written (new_checkpoint writes.settled.changes new.lists.table.latest) ∷ []
 

@@ -1,13 +1,19 @@
 //! What the cleaner is told of a pen.
-ghost use Rattle.std.specs.Prelude.{◌≡◌};
+ghost use Rattle.std.specs.Prelude.{◌≡◌, ◌≤◌, IfOk, IsOkUnless};
+ghost use Rattle.nl_vstore.specs.Counts.{needed_counts};
 ghost use Rattle.nl_vstore.specs.Located.{needed_count, payload_count_in};
+ghost use Rattle.nl_counts.specs.Counted.{IsCounted};
+ghost use Rattle.nl_cpfile.specs.Tables.{all, kept_numbers};
 ghost use Rattle.nl_core.specs.CleanerViews.{needed_from};
 
+use nl_counts::NeededCounts;
 use nl_cpfile::Checkpoints;
-use nl_protect::needed;
+use nl_protect::{expiring_run, needed};
 use nl_reclaim::{Keeping, count_needed};
-use nl_types::{CheckpointNumber, Period, Segment};
+use nl_sufile::SegmentCounts;
+use nl_types::{CheckpointNumber, Period, Segment, VolError};
 use nl_vstore::Vstore;
+use std::alloc::Global;
 
 /// The kept checkpoints without the plain ones below a number.
 #[derive(Clone, Copy)]
@@ -42,6 +48,24 @@ pub fn needed_in<V: Vstore>(
         Ok(_) => count_needed(store, &Staying { kept, below }, segment),
         Err(_) => 0,
     }
+}
+
+/// How many needed blocks each segment has once the plain checkpoints below one are gone. Refused by `Memory` alone.
+pub fn counts_after<V: Vstore>(
+    alloc: Global,
+    store: &V,
+    kept: &Checkpoints,
+    needed: &NeededCounts,
+    below: CheckpointNumber,
+) -> Result<SegmentCounts, VolError>
+    requires below { below ≤ kept.now.table.latest.number }
+    requires needed { IsCounted (V.store store.now) (kept_numbers (all kept.now.table)) needed.now }
+    ensures counts { IfOk result (λ counts.
+        counts ≡ needed_counts (V.store store.now) (needed_from below kept.now.table)) }
+    ensures refused { IsOkUnless result VolError.Memory }
+{
+    let (first, next) = expiring_run(kept, below);
+    needed.after(alloc, store, &Staying { kept, below }, first, next)
 }
 
 /// How many blocks of the logs of a segment have payload: 0 where there is no such segment.

@@ -1,13 +1,16 @@
 //! A checkpoint that is not published yet.
-ghost use Rattle.std.specs.Prelude.{◌≡◌, ◌<◌, ◌≤◌, IfErr, IfOk, OnErr, OnOk};
+ghost use Rattle.std.specs.Prelude.{◌≡◌, ◌<◌, ◌≤◌, ℕ, List, length, IfErr, IfOk, OnErr, OnOk};
 ghost use Rattle.nl_cpfile.specs.Tables.{ComesNext};
 ghost use Rattle.nl_vstore.specs.Batches.{Fits};
-ghost use Rattle.nl_vstore.specs.Stores.{IsWriteRefused, IsWritten, capacity, content_in};
+ghost use Rattle.nl_vstore.specs.Stores.{IsWriteRefused, IsWritten, Store, capacity, content_in};
+ghost use Rattle.nl_counts.specs.Counted.{IsCounted};
+ghost use Rattle.nl_core.specs.Draft.{CanBeDrafted, HasFewNames, IsDraftRefusal, IsNextDraft};
 ghost use Rattle.nl_core.specs.Volume.{published};
 
 use crate::tables::Tables;
+use nl_counts::NeededCounts;
 use nl_cpfile::Checkpoint;
-use nl_types::{CheckpointNumber, VolError};
+use nl_types::{CheckpointNumber, Mode, VolError};
 use nl_vstore::{Batch, Vstore};
 use std::alloc::Global;
 
@@ -17,6 +20,30 @@ pub struct Draft {
     pub checkpoint: Checkpoint,
     /// The blocks that differ from those of the latest checkpoint, each under a number of its own, and the numbers that end.
     pub batch: Batch,
+}
+
+/// The next checkpoint, with all the memory that it takes, and with room for its ends among the counts of needed blocks.
+/// Refused by `NumbersSpent` and `Memory`.
+pub fn draft_next<V: Vstore>(
+    alloc: Global,
+    tables: &mut Tables,
+    store: &V,
+    needed: &mut NeededCounts,
+    mode: Mode,
+    moment: u64,
+) -> Result<Draft, VolError>
+    requires base { CanBeDrafted (content_in (V.store store.now)) tables.old.lists }
+    requires few { HasFewNames tables.old.lists }
+    ensures same { tables.new.lists ≡ tables.old.lists }
+    ensures drafted { IfOk result (IsNextDraft (V.store store.now) mode moment tables.old.lists) }
+    ensures refused { IfErr result (IsDraftRefusal tables.old.lists) }
+    ensures room { OnOk result (0 < tables.new.room) }
+    ensures needed { (s : Store) (kept : List ℕ) → IsCounted s kept needed.old → IsCounted s kept needed.new }
+    ensures ends { IfOk result (λ draft. length draft.batch.ends ≤ needed.new.room) }
+{
+    let draft = tables.draft(alloc, store, mode, moment)?;
+    needed.reserve(draft.batch.ends().len())?;
+    Ok(draft)
 }
 
 /// Writes the blocks of a draft, and then keeps its checkpoint. The write takes its memory before its first put,

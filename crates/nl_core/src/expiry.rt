@@ -1,5 +1,6 @@
 //! The expiry of checkpoints that no protection period protects.
-ghost use Rattle.std.specs.Prelude.{◌≡◌, [], if◌then◌else◌, IfOk, IsOkUnless, OnErr};
+ghost use Rattle.std.specs.Prelude.{◌≡◌, ◌<◌, [], if◌then◌else◌, All, IfOk, IsOkUnless, OnErr};
+ghost use Rattle.std.specs.List.{AllPairs};
 ghost use Rattle.nl_cpfile.specs.Tables as cpfile;
 ghost use Rattle.nl_core.specs.Volume.{gone_from, is_memory};
 
@@ -35,6 +36,8 @@ pub fn expire(
 ) -> Result<Items<CheckpointNumber>, VolError>
     ensures gone { IfOk result (λ gone. gone ≡ gone_from kept.old.table now period) }
     ensures removed { IfOk result (λ gone. kept.new.table ≡ cpfile.without gone kept.old.table) }
+    ensures rising { IfOk result (λ gone. AllPairs ◌<◌ gone) }
+    ensures low { IfOk result (λ gone. All (λ n. n < kept.old.table.latest.number) gone) }
     ensures refused { IsOkUnless result VolError.Memory }
     ensures same { OnErr result (kept.new ≡ kept.old) }
 {

@@ -12,9 +12,10 @@ ghost use Rattle.nl_core.specs.Layout.{IsPen};
 ghost use Rattle.nl_core.specs.Opened.{IsAtRest, IsOpenRefusal, IsRestoredStore};
 ghost use Rattle.nl_core.specs.PenImages.{IsPenImage};
 
-use crate::laws::checked_checkpoints_have_inodes;
+use crate::laws::{checked_checkpoints_have_inodes, opened_images_are_pens};
 use crate::pen::Pen;
 use crate::tables::Tables;
+use nl_counts::NeededCounts;
 use nl_cpfile::Checkpoints;
 use nl_dat::{Dat, DatEntry};
 use nl_device::Device;
@@ -54,6 +55,7 @@ fn open_read<D: Device>(alloc: Global, read: ReadImage, device: D) -> Result<Pen
     // Of the latest one's inodes one is the root's.
     checked_checkpoints_have_inodes();
     images_are_spelled();
+    opened_images_are_pens();
     let ReadImage {
         segments,
         kept,
@@ -63,7 +65,9 @@ fn open_read<D: Device>(alloc: Global, read: ReadImage, device: D) -> Result<Pen
     } = read;
     let checkpoints = Checkpoints::from_entries(alloc, kept.as_slice())?;
     let store = restore_store(device, segments, logs, numbers)?;
-    Ok(Pen::opened(alloc, store, Tables::opened(alloc, checkpoints)))
+    let tables = Tables::opened(alloc, checkpoints);
+    let needed = NeededCounts::of_store(alloc, &store, &tables)?;
+    Ok(Pen::opened(alloc, store, tables, needed))
 }
 
 /// The store of an image, on a device of its geometry.

@@ -12,7 +12,9 @@ pub mod laws;
 mod mounts;
 mod noting;
 mod pen;
+mod removing;
 mod tables;
+mod writing;
 
 pub use commit::{Commit, NewPage, ShownPage, Whole, Written};
 pub use image::open;

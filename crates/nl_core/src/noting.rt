@@ -1,20 +1,24 @@
 //! Events with the commits that tell readers of them. What a commit takes of memory is taken before anything changes.
-ghost use Rattle.std.specs.Prelude.{◌≡◌, ◌<◌, ◌≤◌, ◌∷◌, ◌++◌, [], if◌then◌else◌, length, map, vec_capacity, vec_len, IfOk, IfErr, OnErr, OnOk};
+ghost use Rattle.std.specs.Prelude.{◌≡◌, ◌<◌, ◌≤◌, ◌∷◌, ◌++◌, [], ℕ, List, if◌then◌else◌, length, map, vec_capacity, vec_len, IfOk, IfErr, OnErr, OnOk};
 ghost use Rattle.std.specs.Option.{option_map};
 ghost use Rattle.nl_types.specs.declared.event.Event.TheVariants.{Checkpoint, Retire};
 ghost use Rattle.nl_vstore.specs.Batches.{births_of};
 ghost use Rattle.nl_vstore.specs.Located.{numbers_in, onto};
-ghost use Rattle.nl_vstore.specs.Stores.{content_in, numbered_in};
+ghost use Rattle.nl_vstore.specs.Stores.{Store, content_in, numbered_in};
+ghost use Rattle.nl_counts.specs.Counted.{IsCounted};
 ghost use Rattle.nl_core.specs.Draft.{CanBeDrafted, HasFewNames};
-ghost use Rattle.nl_core.specs.Layout.{HasRefused, IsPen, layout_of};
+ghost use Rattle.nl_core.specs.Layout.{HasRefused, layout_of};
+ghost use Rattle.nl_core.specs.NeededBlocks.{AreNeededCounts, IsCountedPen};
 ghost use Rattle.nl_core.specs.Notes.{DoesNoting, HasNotedWrite, mounted_as, new_checkpoint, new_page, shown_of, shown_page, where_any, where_gone};
 ghost use Rattle.nl_core.specs.Shown.{MountsRise, whole_of};
 
 use crate::cleaning::empty;
 use crate::commit::{Commit, NewPage, ShownPage, Whole, Written};
-use crate::draft::{Draft, write_draft};
+use crate::draft::{Draft, draft_next, write_draft};
 use crate::mounts::Mounted;
 use crate::tables::Tables;
+use nl_counts::NeededCounts;
+use nl_counts::laws::refusals_keep_counts;
 use nl_cpfile::Checkpoint as Kept;
 use nl_files::laws::settled_numbers_are_lowest;
 use nl_space::Payload;
@@ -117,28 +121,32 @@ fn write_noting<V: Vstore>(
     alloc: Global,
     tables: &mut Tables,
     store: &mut V,
+    needed: &mut NeededCounts,
     mode: Mode,
     moment: u64,
     notes: &mut Vec<Commit>,
-) -> Result<CheckpointNumber, VolError>
+) -> Result<Draft, VolError>
     requires base { CanBeDrafted (content_in (V.store store.old)) tables.old.lists }
     requires few { HasFewNames tables.old.lists }
-    ensures written { IfOk result (λ _. HasNotedWrite mode moment
+    ensures written { IfOk result (λ draft. HasNotedWrite mode moment draft.batch
         (layout_of tables.old.lists (V.store store.old)) (layout_of tables.new.lists (V.store store.new))
         notes.old.items notes.new.items) }
-    ensures number { IfOk result (λ number. number ≡ tables.new.lists.table.latest.number) }
+    ensures number { IfOk result (λ draft.
+        draft.checkpoint.number ≡ tables.new.lists.table.latest.number) }
     ensures refused { IfErr result (λ e. HasRefused (Checkpoint mode moment) e
         (layout_of tables.old.lists (V.store store.old)) (layout_of tables.new.lists (V.store store.new))) }
     ensures same { OnErr result (notes.new.items ≡ notes.old.items) }
     ensures counted { (V.store store.old).failures ≤ (V.store store.new).failures }
+    ensures needed { (s : Store) (kept : List ℕ) → IsCounted s kept needed.old → IsCounted s kept needed.new }
+    ensures ends { IfOk result (λ draft. length draft.batch.ends ≤ needed.new.room) }
 {
     // Whatever is settled takes the lowest numbers that are free.
     settled_numbers_are_lowest();
-    let draft = tables.draft(alloc, store, mode, moment)?;
+    let draft = draft_next(alloc, tables, store, needed, mode, moment)?;
     let commit = drafted_commit(alloc, &draft, notes)?;
-    let number = write_draft(alloc, tables, store, &draft)?;
+    let _ = write_draft(alloc, tables, store, &draft)?;
     note(notes, commit);
-    Ok(number)
+    Ok(draft)
 }
 
 /// A checkpoint of a pen beside readers.
@@ -146,16 +154,20 @@ pub fn note_checkpoint<V: Vstore>(
     alloc: Global,
     tables: &mut Tables,
     store: &mut V,
+    needed: &mut NeededCounts,
     mode: Mode,
     moment: u64,
     notes: &mut Vec<Commit>,
 ) -> Reply
-    requires { IsPen (layout_of tables.old.lists (V.store store.old)) }
-    ensures { DoesNoting (layout_of tables.old.lists (V.store store.old)) (Checkpoint mode moment) result
+    requires { IsCountedPen (layout_of tables.old.lists (V.store store.old)) needed.old }
+    ensures does { DoesNoting (layout_of tables.old.lists (V.store store.old)) (Checkpoint mode moment) result
         (layout_of tables.new.lists (V.store store.new)) notes.old.items notes.new.items }
+    ensures needed { AreNeededCounts (layout_of tables.new.lists (V.store store.new)) needed.new }
 {
-    let number = write_noting(alloc, tables, store, mode, moment, notes)?;
-    Ok(Answer::Checkpoint(number))
+    refusals_keep_counts();
+    let draft = write_noting(alloc, tables, store, needed, mode, moment, notes)?;
+    needed.written(&*store, &draft.batch, draft.checkpoint.number);
+    Ok(Answer::Checkpoint(draft.checkpoint.number))
 }
 
 // ---- a retirement
@@ -220,16 +232,18 @@ pub fn note_retirement<V: Vstore>(
     alloc: Global,
     tables: &Tables,
     store: &mut V,
+    needed: &NeededCounts,
     segment: Segment,
     notes: &mut Vec<Commit>,
 ) -> Reply
-    requires { IsPen (layout_of tables.now.lists (V.store store.old)) }
-    ensures { DoesNoting (layout_of tables.now.lists (V.store store.old)) (Retire segment) result
+    requires { IsCountedPen (layout_of tables.now.lists (V.store store.old)) needed.now }
+    ensures does { DoesNoting (layout_of tables.now.lists (V.store store.old)) (Retire segment) result
         (layout_of tables.now.lists (V.store store.new)) notes.old.items notes.new.items }
+    ensures needed { AreNeededCounts (layout_of tables.now.lists (V.store store.new)) needed.now }
 {
     let gone = segment_numbers(alloc, &*store, segment)?;
     notes.reserve(1)?;
-    let answer = empty(tables, store, segment)?;
+    let answer = empty(tables, store, needed, segment)?;
     note_freed(notes, gone);
     Ok(answer)
 }

@@ -11,28 +11,31 @@ ghost use Rattle.nl_dat.specs.Described.{descs_of};
 ghost use Rattle.nl_vstore.specs.Stores.{capacity, content_in, numbered_in};
 ghost use Rattle.nl_dat.specs.Table.{dat_entry_of};
 ghost use Rattle.nl_vstore.specs.Summaries.{payload_row};
-ghost use Rattle.nl_vstore.specs.Located.{payload_count_in};
-ghost use Rattle.nl_core.specs.CleanerViews.{cleaning_event, needed_after};
+ghost use Rattle.nl_vstore.specs.Located.{needed_count, payload_count_in};
+ghost use Rattle.nl_core.specs.CleaningEvents.{needed_by};
+ghost use Rattle.nl_core.specs.CleanerViews.{cleaning_event, counts_after, needed_after, needed_told};
 ghost use Rattle.nl_core.specs.Commits.{IsHistory, image_of};
 ghost use Rattle.nl_core.specs.Shown.{MountsRise};
 ghost use Rattle.nl_core.specs.Notes.{ChangesLists, DoesNoting, HasNoted, has_other_mode, shown_of, where_gone};
 ghost use Rattle.nl_core.specs.Volume.{boundary_in, without_mounts};
 
-use crate::cleaner_views::{needed_in, payload_count};
+use crate::cleaner_views::{counts_after, needed_in, payload_count};
 use crate::cleaning::{empty, move_out};
 use crate::closing::image_of;
 use crate::commit::Commit;
-use crate::draft::write_draft;
 use crate::laws::opened_images_are_pens;
 use crate::noting::{note, note_checkpoint, note_mounted, note_retirement, note_where_gone, whole};
+use crate::removing::{expire, remove, remove_range};
 use crate::tables::Tables;
+use crate::writing::{checkpoint, first_checkpoint};
+use nl_counts::NeededCounts;
+use nl_counts::laws::counts_stay;
 use nl_cpfile::Cpstat;
 use nl_dat::{Bdesc, Dat, DatEntry};
 use nl_device::Device;
-use nl_files::laws::settled_numbers_are_lowest;
 use nl_protect::boundary;
 use nl_segwriter::LogSpace;
-use nl_sufile::SegTable;
+use nl_sufile::{SegTable, SegmentCounts};
 use nl_types::{
     Answer, CheckpointNumber, Event, Geometry, MAX_PAYLOAD, Mode, Reply, Row, Segment,
     VirtualNumber, VolError,
@@ -41,69 +44,33 @@ use nl_vstore::Vstore;
 use std::alloc::Global;
 use std::marker::Model;
 
-/// The writer's state of a volume: its tables in memory, and the store of its blocks on the device that it writes to.
+/// The writer's state of a volume: its tables in memory, the store of its blocks on the device that it writes to, and how many
+/// needed blocks each segment has.
 #[derive(Drop)]
 pub struct Pen<D: Device> {
     alloc: Global,
     store: Dat<LogSpace<D>>,
     tables: Tables,
+    needed: NeededCounts,
 }
 
 impl<D: Device> Model for Pen<D> {
-    ghost use Rattle.nl_core.specs.Layout.{Layout, IsPen, layout_of};
+    ghost use Rattle.nl_core.specs.Layout.{Layout, layout_of};
+    ghost use Rattle.nl_core.specs.NeededBlocks.{IsCountedPen};
 
     ghost Value = { Layout };
 
     ghost view = { λ p. layout_of p.tables.lists p.store.store };
 
-    ghost invariant = { λ p. IsPen (layout_of p.tables.lists p.store.store) };
+    ghost invariant = { λ p. IsCountedPen (layout_of p.tables.lists p.store.store) p.needed };
 }
 
-ghost use Rattle.nl_core.specs.Draft.{CanBeDrafted, HasFewNames};
-ghost use Rattle.nl_core.specs.Layout.{IsPen, Does, HasRefused, HasWritten, MeansWorld, layout_of, unshared};
-ghost use Rattle.nl_types.specs.declared.event.Event.TheVariants.{ChangeMode, Checkpoint, Mount};
-
-/// Writes the next checkpoint: its draft, which takes the memory for the tables, and then what the draft has.
-fn write_checkpoint<V: Vstore>(
-    alloc: Global,
-    tables: &mut Tables,
-    store: &mut V,
-    mode: Mode,
-    moment: u64,
-) -> Result<CheckpointNumber, VolError>
-    requires base { CanBeDrafted (content_in (V.store store.old)) tables.old.lists }
-    requires few { HasFewNames tables.old.lists }
-    ensures written { IfOk result (λ _. HasWritten mode moment
-        (layout_of tables.old.lists (V.store store.old)) (layout_of tables.new.lists (V.store store.new))) }
-    ensures number { IfOk result (λ number. number ≡ tables.new.lists.table.latest.number) }
-    ensures refused { IfErr result (λ e. HasRefused (Checkpoint mode moment) e
-        (layout_of tables.old.lists (V.store store.old)) (layout_of tables.new.lists (V.store store.new))) }
-    ensures counted { (V.store store.old).failures ≤ (V.store store.new).failures }
-{
-    // Whatever is settled takes the lowest numbers that are free.
-    settled_numbers_are_lowest();
-    let draft = tables.draft(alloc, store, mode, moment)?;
-    write_draft(alloc, tables, store, &draft)
-}
-
-/// A checkpoint of a pen.
-fn checkpoint<V: Vstore>(
-    alloc: Global,
-    tables: &mut Tables,
-    store: &mut V,
-    mode: Mode,
-    moment: u64,
-) -> Reply
-    requires { IsPen (layout_of tables.old.lists (V.store store.old)) }
-    ensures { Does unshared (layout_of tables.old.lists (V.store store.old))
-        (Checkpoint mode moment) result (layout_of tables.new.lists (V.store store.new)) }
-{
-    let number = write_checkpoint(alloc, tables, store, mode, moment)?;
-    Ok(Answer::Checkpoint(number))
-}
+ghost use Rattle.nl_core.specs.Layout.{IsPen, Does, MeansWorld, layout_of, unshared};
+ghost use Rattle.nl_types.specs.declared.event.Event.TheVariants.{ChangeMode, Mount};
 
 impl<D: Device> Pen<D> {
     ghost use Rattle.nl_core.specs.Layout.{IsFormatted, Layout};
+    ghost use Rattle.nl_core.specs.NeededBlocks.{AreNeededCounts};
     ghost use Rattle.nl_core.specs.Opened.{IsOpened};
     ghost use Rattle.nl_vstore.specs.Stores.{KeepsStored};
     ghost use Rattle.nl_core.specs.PenImages.{CanBeClosed, IsPenImage};
@@ -122,18 +89,26 @@ impl<D: Device> Pen<D> {
         let space = LogSpace::new(alloc, device, geometry)?;
         let mut store = Dat::new(alloc, space)?;
         let mut tables = Tables::blank(alloc)?;
-        write_checkpoint(alloc, &mut tables, &mut store, Mode::Plain, now)?;
-        tables.forget_earlier();
+        let mut needed = NeededCounts::new(alloc, geometry.segments)?;
+        first_checkpoint(alloc, &mut tables, &mut store, &mut needed, now)?;
         Ok(Pen {
             alloc,
             store,
             tables,
+            needed,
         })
     }
 
-    /// The volume of an image that meets all conditions: the store of its blocks, and the tables over its checkpoints.
-    pub(crate) fn opened(alloc: Global, store: Dat<LogSpace<D>>, tables: Tables) -> Self
-        requires { IsOpened (layout_of tables.lists store.store) }
+    /// The volume of an image that meets all conditions: the store of its blocks, the tables over its checkpoints, and the
+    /// counts of its needed blocks.
+    pub(crate) fn opened(
+        alloc: Global,
+        store: Dat<LogSpace<D>>,
+        tables: Tables,
+        needed: NeededCounts,
+    ) -> Self
+        requires opened { IsOpened (layout_of tables.lists store.store) }
+        requires needed { AreNeededCounts (layout_of tables.lists store.store) needed }
         ensures layout { result ≡ layout_of tables.lists store.store }
         ensures pen { IsPen result }
     {
@@ -142,6 +117,7 @@ impl<D: Device> Pen<D> {
             alloc,
             store,
             tables,
+            needed,
         }
     }
 
@@ -226,6 +202,7 @@ impl<D: Device> Pen<D> {
     /// The boundary of protection: plain checkpoints below it may go.
     pub fn boundary(&self, now: u64, period: u64) -> CheckpointNumber
         ensures layout { result ≡ boundary_in self.now.lists.table now period }
+        ensures low { result ≤ self.now.lists.table.latest.number }
         ensures world { (w : World) → MeansWorld self.now w → result ≡ worlds.boundary_of w now period }
     {
         boundary(self.tables.checkpoints(), now, period)
@@ -239,6 +216,44 @@ impl<D: Device> Pen<D> {
         needed_in(&self.store, self.tables.checkpoints(), segment, below)
     }
 
+    /// How many needed blocks a segment has. Refused by `BadRange` where there is no such segment. It takes no memory.
+    pub fn needed(&self, segment: Segment) -> Result<u32, VolError>
+        ensures { result ≡ needed_told self.now segment }
+    {
+        self.needed.get(segment)
+    }
+
+    /// How many needed blocks a segment has: 0 where there is no such segment.
+    fn count_in(&self, segment: Segment) -> u32
+        ensures { result ≡ needed_count self.now.store (needed_by self.now.lists) segment }
+    {
+        self.means_a_world();
+        match self.needed(segment) {
+            Ok(count) => count,
+            Err(_) => 0,
+        }
+    }
+
+    /// How many needed blocks each segment has once the plain checkpoints below one are gone. It looks at those alone that
+    /// have ended at one of these. Refused by `Memory` alone.
+    pub fn counts_after(
+        &self,
+        alloc: Global,
+        below: CheckpointNumber,
+    ) -> Result<SegmentCounts, VolError>
+        requires { below ≤ self.now.lists.table.latest.number }
+        ensures counts { IfOk result (λ counts. counts ≡ counts_after self.now below) }
+        ensures refused { IsOkUnless result VolError.Memory }
+    {
+        counts_after(
+            alloc,
+            &self.store,
+            self.tables.checkpoints(),
+            &self.needed,
+            below,
+        )
+    }
+
     /// How many blocks of the logs of a segment have payload, be their numbers in use or not: 0 where there is no such segment.
     pub fn payload_count(&self, segment: Segment) -> u32
         ensures { result ≡ payload_count_in self.now.store segment }
@@ -250,7 +265,7 @@ impl<D: Device> Pen<D> {
     pub fn cleaning_event(&self, segment: Segment, now: u64) -> Event
         ensures { result ≡ cleaning_event self.now segment now }
     {
-        if self.needed_in(segment, CheckpointNumber::new(0)) == 0 {
+        if self.count_in(segment) == 0 {
             Event::Retire(segment)
         } else {
             Event::Move {
@@ -274,15 +289,30 @@ impl<D: Device> Pen<D> {
                 self.alloc,
                 &mut self.tables,
                 &mut self.store,
+                &mut self.needed,
                 *mode,
                 *moment,
             ),
             Event::ChangeMode(number, mode) => self.tables.change_mode(*number, *mode),
-            Event::Remove(number) => self.tables.remove(*number),
-            Event::RemoveRange { first, last } => self
-                .tables
-                .remove_range(self.alloc, *first, *last),
-            Event::Expire { now, period } => self.tables.expire(self.alloc, *now, *period),
+            Event::Remove(number) => {
+                remove(&mut self.tables, &self.store, &mut self.needed, *number)
+            }
+            Event::RemoveRange { first, last } => remove_range(
+                self.alloc,
+                &mut self.tables,
+                &self.store,
+                &mut self.needed,
+                *first,
+                *last,
+            ),
+            Event::Expire { now, period } => expire(
+                self.alloc,
+                &mut self.tables,
+                &self.store,
+                &mut self.needed,
+                *now,
+                *period,
+            ),
             Event::Move {
                 segment,
                 limit,
@@ -291,11 +321,14 @@ impl<D: Device> Pen<D> {
                 self.alloc,
                 &self.tables,
                 &mut self.store,
+                &mut self.needed,
                 *segment,
                 *limit,
                 *now,
             ),
-            Event::Retire(segment) => empty(&self.tables, &mut self.store, *segment),
+            Event::Retire(segment) => {
+                empty(&self.tables, &mut self.store, &self.needed, *segment)
+            },
             Event::Mount(number) => self.tables.mount(*number),
             Event::Unmount(mount) => self.tables.unmount(*mount),
             Event::MountRead(mount, ask) => self
@@ -315,6 +348,7 @@ impl<D: Device> Pen<D> {
                 self.alloc,
                 &mut self.tables,
                 &mut self.store,
+                &mut self.needed,
                 *mode,
                 *moment,
                 notes,
@@ -323,6 +357,7 @@ impl<D: Device> Pen<D> {
                 self.alloc,
                 &self.tables,
                 &mut self.store,
+                &self.needed,
                 *segment,
                 notes,
             ),
@@ -465,6 +500,7 @@ impl<D: Device> Pen<D> {
             → self.old.store.failures < self.new.store.failures }
         ensures refused { IfErr result (λ e. (e ≡ VolError.Fault) ⊎ (e ≡ VolError.Memory)) }
     {
+        counts_stay();
         image_of(self.alloc, &self.tables, &mut self.store)
     }
 }

@@ -52,7 +52,11 @@ impl Model for Tables {
 
 impl Tables {
     ghost use Rattle.nl_types.specs.declared.event.Event.TheVariants.{Apply, Read, ChangeMode, Remove, RemoveRange, Expire, Mount, Unmount, MountRead, Listing};
+    ghost use Rattle.nl_cpfile.specs.Searching.{IsLeastAbove};
     ghost use Rattle.nl_cpfile.specs.Tables.{ComesNext, IsTable};
+    ghost use Rattle.nl_core.specs.CleaningEvents.{kept_numbers};
+    ghost use Rattle.nl_core.specs.LedgerEvents.{taken_out};
+    ghost use Rattle.nl_core.specs.NeededBlocks.{AreEarlier};
     ghost use Rattle.nl_core.specs.Changes.{HasChanged};
     ghost use Rattle.nl_core.specs.Draft.{CanBeDrafted, HasFewNames, IsDraftRefusal, IsNextDraft};
     ghost use Rattle.nl_core.specs.Means.{FollowsOver, Means};
@@ -111,6 +115,14 @@ impl Tables {
         ensures { result ≡ self.now.lists.table.latest.number }
     {
         self.checkpoints.latest().number
+    }
+
+    /// The least kept number above one that is below the latest. Takes no memory.
+    pub fn first_above(&self, number: CheckpointNumber) -> CheckpointNumber
+        requires { number < self.now.lists.table.latest.number }
+        ensures { IsLeastAbove number (kept_numbers self.now.lists) result }
+    {
+        self.checkpoints.first_above(number)
     }
 
     /// The kept checkpoints.
@@ -292,6 +304,7 @@ impl Tables {
         ensures follows { (pages : Pages)
             → FollowsOver pages self.old.lists (Remove number) result self.new.lists }
         ensures removed { IfOk result (λ _. IsTakenOut (number ∷ []) self.old.lists self.new.lists) }
+        ensures low { IfOk result (λ _. number < self.old.lists.table.latest.number) }
         ensures same { OnErr result (self.new.lists ≡ self.old.lists) }
     {
         self.checkpoints.remove(number)?;
@@ -311,6 +324,7 @@ impl Tables {
             → FollowsOver pages self.old.lists (RemoveRange first last) result self.new.lists }
         ensures removed { IfOk result (λ answer.
             IsTakenOutRange first last answer self.old.lists self.new.lists) }
+        ensures earlier { IfOk result (λ answer. AreEarlier (taken_out answer) self.old.lists) }
         ensures same { OnErr result (self.new.lists ≡ self.old.lists) }
     {
         let range = self.checkpoints.remove_range(alloc, first, last)?;
@@ -323,6 +337,7 @@ impl Tables {
         ensures follows { (pages : Pages)
             → FollowsOver pages self.old.lists (Expire now period) result self.new.lists }
         ensures expired { IfOk result (λ answer. IsExpired now period answer self.old.lists self.new.lists) }
+        ensures earlier { IfOk result (λ answer. AreEarlier (taken_out answer) self.old.lists) }
         ensures same { OnErr result (self.new.lists ≡ self.old.lists) }
     {
         let gone = expire(alloc, &mut self.checkpoints, now, period)?;

@@ -10,6 +10,7 @@ ghost use Rattle.nl_dat.specs.Described.{descs_of};
 ghost use Rattle.nl_vstore.specs.Stores.{capacity, numbered_in};
 ghost use Rattle.nl_dat.specs.Table.{dat_entry_of};
 ghost use Rattle.nl_vstore.specs.Summaries.{IsOfLogs, payload_row};
+ghost use Rattle.nl_core.specs.CleanerViews.{needed_told};
 ghost use Rattle.nl_core.specs.Layout.{MeansWorld};
 ghost use Rattle.nl_core.specs.Views.{counted};
 
@@ -45,6 +46,14 @@ pub fn get_suinfo<D: Device>(pen: &Pen<D>, segment: Segment) -> Result<SegmentIn
     ensures { result ≡ ok_or (slice_get pen.now.store.segments.each segment) VolError.BadRange }
 {
     pen.segments().suinfo(segment)
+}
+
+/// How many needed blocks a segment has: those whose virtual block numbers have not ended, or belong to a kept checkpoint.
+/// libnilfs has no such call. Refused by `BadRange` where there is no such segment. It takes no memory.
+pub fn get_needed<D: Device>(pen: &Pen<D>, segment: Segment) -> Result<u32, VolError>
+    ensures { result ≡ needed_told pen.now segment }
+{
+    pen.needed(segment)
 }
 
 /// How many segments there are, and of them how many are clean, and how many dirty, after `nilfs_get_sustat`. It takes no

@@ -13,6 +13,7 @@ use Rattle.nl_sufile.specs.declared.table.Sustat.{Sustat}
 use Rattle.nl_cpfile.specs.Tables.{cpstat_of}
 use Rattle.nl_cpfile.specs.declared.table.Cpstat.{Cpstat}
 use Rattle.nl_protect.specs.declared.config.Config.{Config}
+use Rattle.nl_core.specs.CleanerViews.{needed_told}
 use Rattle.nl_core.specs.Commits.{image_of}
 use Rattle.nl_core.specs.Layout.{IsPen, Layout, MeansWorld, layout_of}
 use Rattle.nl_core.specs.Volume.{without_mounts}
@@ -107,6 +108,11 @@ pub record IsSegmentTold (segment : ℕ) (result : Result SegmentInfo VolError) 
   pub state : Held
   pub sound : IsSound state
   pub told : result ≡ ok_or (slice_get state.layout.store.segments.each segment) BadRange
+
+pub record IsNeededTold (segment : ℕ) (result : Result ℕ VolError) : Type 0 where
+  pub state : Held
+  pub sound : IsSound state
+  pub told : result ≡ needed_told state.layout segment
 
 pub record AreSegmentsCounted (stat : Sustat) : Type 0 where
   pub state : Held

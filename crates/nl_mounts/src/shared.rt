@@ -1,7 +1,7 @@
 //! A volume that threads share.
 ghost use Rattle.std.specs.Prelude.{◌≡◌, ◌≤◌, ◌+◌, IfErr, IfOk, IsOkUnless, length};
 ghost use Rattle.nl_mounts.specs.Ports.{HasLearned, IsLater};
-ghost use Rattle.nl_mounts.specs.Sharing.{AreCheckpointsCounted, AreSegmentsCounted, GivesBack, HasCleaned, HasMounted, HasRun, HasUnmounted, IsPlanned, IsPortCount, IsSegmentTold, IsShareRefused, IsSound};
+ghost use Rattle.nl_mounts.specs.Sharing.{AreCheckpointsCounted, AreSegmentsCounted, GivesBack, HasCleaned, HasMounted, HasRun, HasUnmounted, IsNeededTold, IsPlanned, IsPortCount, IsSegmentTold, IsShareRefused, IsSound};
 
 use crate::port::Port;
 use nl_cleaner::Job;
@@ -167,6 +167,16 @@ fn segment_in<D: Device, J: Volumes, W: Press>(
     locked.suinfo(segment)
 }
 
+fn needed_in<D: Device, J: Volumes, W: Press>(
+    locked: &Locked<Pen<D>, J, W>,
+    segment: Segment,
+) -> Result<u32, VolError>
+    ensures { IsNeededTold segment result }
+{
+    is_sound(locked);
+    locked.needed(segment)
+}
+
 fn segments_in<D: Device, J: Volumes, W: Press>(locked: &Locked<Pen<D>, J, W>) -> Sustat
     ensures { AreSegmentsCounted result }
 {
@@ -214,6 +224,16 @@ impl<D: Device, J: Volumes, W: Press> Shared<Pen<D>, J, W> {
         ensures { IsSegmentTold segment result }
     {
         segment_in(&self.locked.lock(rt), segment)
+    }
+
+    /// How many needed blocks a segment has. It takes no memory.
+    ///
+    /// # Errors
+    /// `BadRange` where there is no such segment.
+    pub fn needed<R: Wait>(&self, rt: &R, segment: Segment) -> Result<u32, VolError>
+        ensures { IsNeededTold segment result }
+    {
+        needed_in(&self.locked.lock(rt), segment)
     }
 
     /// How many segments there are, and of them how many are clean, and how many dirty. It takes no memory.

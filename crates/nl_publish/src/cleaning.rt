@@ -3,6 +3,7 @@ ghost use Rattle.std.specs.Prelude.{◌≡◌, ◌+◌, IfOk, IsOkUnless, length
 ghost use Rattle.std.specs.Option.{ok_or};
 ghost use Rattle.nl_types.specs.Segments.{clean_segments};
 ghost use Rattle.nl_cpfile.specs.Tables.{cpstat_of};
+ghost use Rattle.nl_core.specs.CleanerViews.{needed_told};
 ghost use Rattle.nl_cleaner.specs.Plan.{IsPlan};
 ghost use Rattle.nl_publish.specs.Cleaning.{CleanRan};
 
@@ -49,6 +50,13 @@ impl<D: Device, J: Volumes, W: Press> Locked<Pen<D>, J, W> {
         ensures { result ≡ ok_or (slice_get self.now.layout.store.segments.each segment) VolError.BadRange }
     {
         self.pen().segments().suinfo(segment)
+    }
+
+    /// How many needed blocks a segment has. Refused by `BadRange` where there is no such segment. It takes no memory.
+    pub fn needed(&self, segment: Segment) -> Result<u32, VolError>
+        ensures { result ≡ needed_told self.now.layout segment }
+    {
+        self.pen().needed(segment)
     }
 
     /// How many segments there are, and of them how many are clean, and how many dirty. It takes no memory.

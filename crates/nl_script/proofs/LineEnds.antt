@@ -44,24 +44,24 @@ told_end does counts number moment command old new events es replies rs quiet re
       written = OnOk-same result.1 before after _ _ texts written;
     }
 
-listing_cases : {S J : Type 0} (habits : Habits S J) (config : Config) (number moment : ℕ) (all : Bool) (old : S) (end : LineEnd)
-    → (AreListed habits.tells habits.measures moment all old end ⊎ IsListingRefused habits.tells habits.measures number moment old end)
+listing_cases : {S J : Type 0} (habits : Habits S J) (config : Config) (number moment : ℕ) (all long : Bool) (old : S) (end : LineEnd)
+    → (AreListed habits moment all long old end ⊎ IsListingRefused habits number moment long old end)
     ⊎ (end ≡ refused number moment error.Memory)
-    → IsCommandDone habits config number moment (Lssu all) old old end ⊎ LacksMemory number moment old old end
-listing_cases habits config number moment all old end (inl told) = inl (refl, told)
-listing_cases habits config number moment all old end (inr lacks) = inr (refl, lacks)
+    → IsCommandDone habits config number moment (Lssu all long) old old end ⊎ LacksMemory number moment old old end
+listing_cases habits config number moment all long old end (inl told) = inl (refl, told)
+listing_cases habits config number moment all long old end (inr lacks) = inr (refl, lacks)
 
 -- segments are listed
-pub listing_end : {S J X E : Type 0} (habits : Habits S J) (config : Config) (number moment : ℕ) (all : Bool) (command : Command) (old : S)
-    (result : Status × Result X E) (before after : Option Text) → command ≡ Lssu all
-    → ComesTo (λ end. (AreListed habits.tells habits.measures moment all old end ⊎ IsListingRefused habits.tells habits.measures number moment old end)
+pub listing_end : {S J X E : Type 0} (habits : Habits S J) (config : Config) (number moment : ℕ) (all long : Bool) (command : Command) (old : S)
+    (result : Status × Result X E) (before after : Option Text) → command ≡ Lssu all long
+    → ComesTo (λ end. (AreListed habits moment all long old end ⊎ IsListingRefused habits number moment long old end)
     ⊎ (end ≡ refused number moment error.Memory)) moment result before after
     → ComesTo (λ end. IsCommandDone habits config number moment command old old end ⊎ LacksMemory number moment old old end) moment result before after
-listing_end habits config number moment all command old result before after is told = record {
+listing_end habits config number moment all long command old result before after is told = record {
   text = told.text;
   does = subst (λ (c : Command). IsCommandDone habits config number moment c old old (ended moment result.0 told.text)
       ⊎ LacksMemory number moment old old (ended moment result.0 told.text)) (sym is)
-      (listing_cases habits config number moment all old (ended moment result.0 told.text) told.does);
+      (listing_cases habits config number moment all long old (ended moment result.0 told.text) told.does);
   written = told.written;
 }
 

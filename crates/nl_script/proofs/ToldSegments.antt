@@ -1,14 +1,14 @@
 -- Segments that are told of, one after another.
-use Rattle.std.proofs.Common.{◌≡◌, ◌+◌, ◌++◌, subst, List, ◌∷◌, [], ℕ, Result, Ok, length, arith}
-use Rattle.nl_types.specs.declared.error.VolError.{VolError}
-use Rattle.nl_types.specs.declared.segment.SegmentInfo.{SegmentInfo}
-use Rattle.nl_script.specs.Lines.{AreTold}
+use Rattle.std.proofs.Common.{◌≡◌, ◌+◌, ◌++◌, subst, List, ◌∷◌, [], ℕ, Bool, length, arith}
+use Rattle.nl_texts.specs.declared.segments.SegmentRow.{SegmentRow}
+use Rattle.nl_script.specs.Habits.{Habits}
+use Rattle.nl_script.specs.Lines.{AreTold, IsRowTold}
 
-pub told-more : {S : Type 0} (tells : S → ℕ → Result SegmentInfo VolError → Type 0) (old : S) (n m : ℕ) (infos : List SegmentInfo) (info : SegmentInfo)
-    → n + length infos ≡ m → AreTold tells old n infos → tells old m (Ok info) → AreTold tells old n (infos ++ info ∷ [])
-told-more tells old n m [] info next told one =
+pub told-more : {S J : Type 0} (habits : Habits S J) (long : Bool) (old : S) (n m : ℕ) (rows : List SegmentRow) (row : SegmentRow)
+    → n + length rows ≡ m → AreTold habits long old n rows → IsRowTold habits long old m row → AreTold habits long old n (rows ++ row ∷ [])
+told-more habits long old n m [] row next told one =
     let here : m ≡ n = grind (arith, next) in
-    (subst (λ (k : ℕ). tells old k (Ok info)) here one, tt)
-told-more tells old n m (x ∷ infos) info next told one =
-    let behind : (n + 1) + length infos ≡ m = grind (arith, next) in
-    (told.0, told-more tells old (n + 1) m infos info behind told.1 one)
+    (subst (λ (k : ℕ). IsRowTold habits long old k row) here one, tt)
+told-more habits long old n m (x ∷ rows) row next told one =
+    let behind : (n + 1) + length rows ≡ m = grind (arith, next) in
+    (told.0, told-more habits long old (n + 1) m rows row behind told.1 one)

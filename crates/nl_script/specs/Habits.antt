@@ -15,6 +15,8 @@ pub record Habits (S J : Type 0) : Type 1 where
   pub does : S → Event → Reply → S → Type 0
   -- what a segment is told to be, by its number
   pub tells : S → ℕ → Result SegmentInfo VolError → Type 0
+  -- how many needed blocks a segment is told to have, by its number
+  pub needs : S → ℕ → Result ℕ VolError → Type 0
   -- what is told of the checkpoints together
   pub counts : S → Cpstat → Type 0
   -- what is told of the segments together

@@ -7,7 +7,6 @@ use Rattle.nl_types.specs.Worlds.{Reply}
 use Rattle.nl_types.specs.declared.error.VolError.{VolError}
 use Rattle.nl_types.specs.declared.error.VolError.TheVariants as error
 use Rattle.nl_types.specs.declared.event.Event.{Event}
-use Rattle.nl_types.specs.declared.segment.SegmentInfo.{SegmentInfo}
 use Rattle.nl_commands.specs.LineMeanings.{LineRead, MeansLine}
 use Rattle.nl_commands.specs.declared.command.CheckpointRange.{CheckpointRange}
 use Rattle.nl_commands.specs.declared.command.CheckpointRange.TheVariants.{Since}
@@ -19,6 +18,7 @@ use Rattle.nl_sufile.specs.declared.table.Sustat.{Sustat}
 use Rattle.nl_texts.specs.RefusalTexts.{refusal_text, usage_text}
 use Rattle.nl_texts.specs.SegmentLines.{seg_header, seg_texts}
 use Rattle.nl_texts.specs.Texts.{Text}
+use Rattle.nl_texts.specs.declared.segments.SegmentRow.{SegmentRow}
 use Rattle.nl_script.specs.Events.{events_of, reading}
 use Rattle.nl_script.specs.FileReads.{is_bad_mount}
 use Rattle.nl_protect.specs.declared.config.Config.{Config}
@@ -74,41 +74,55 @@ pub record AreOutcomesTold {S : Type 0} (does : S → Event → Reply → S → 
   pub done : AreEventsDone does counts moment command events replies old new
   pub end_is : end ≡ ended moment (status_of (is_quiet command) events replies) (text_of number (is_quiet command) events replies)
 
+-- how many needed blocks a segment has is told where the listing is long, and not asked elsewhere
+abbrev pub IsNeededTold : {S J : Type 0} → Habits S J → (long : Bool) → S → (segment : ℕ) → Option ℕ → Type 0
+IsNeededTold habits long old segment None = long ≡ false
+IsNeededTold habits long old segment (Some count) = (long ≡ true) × habits.needs old segment (Ok count)
+
+-- a segment is told to be this
+abbrev pub IsRowTold : {S J : Type 0} → Habits S J → (long : Bool) → S → (segment : ℕ) → SegmentRow → Type 0
+IsRowTold habits long old segment row = habits.tells old segment (Ok row.info) × IsNeededTold habits long old segment row.needed
+
 -- the segments from a number on are told to be these
-abbrev pub AreTold : {S : Type 0} → (S → ℕ → Result SegmentInfo VolError → Type 0) → S → ℕ → List SegmentInfo → Type 0
-AreTold tells old segment [] = Unit {0}
-AreTold tells old segment (info ∷ infos) = tells old segment (Ok info) × AreTold tells old (segment + 1) infos
+abbrev pub AreTold : {S J : Type 0} → Habits S J → (long : Bool) → S → (segment : ℕ) → List SegmentRow → Type 0
+AreTold habits long old segment [] = Unit {0}
+AreTold habits long old segment (row ∷ rows) = IsRowTold habits long old segment row × AreTold habits long old (segment + 1) rows
 
 -- these are all segments, as many as the volume says that there are
-pub record AreAllTold {S : Type 0} (tells : S → ℕ → Result SegmentInfo VolError → Type 0) (measures : S → Sustat → Type 0)
-    (old : S) (infos : List SegmentInfo) : Type 0 where
+pub record AreAllTold {S J : Type 0} (habits : Habits S J) (long : Bool) (old : S) (rows : List SegmentRow) : Type 0 where
   pub stat : Sustat
-  pub measured : measures old stat
-  pub count : length infos ≡ stat.segments
-  pub told : AreTold tells old 0 infos
+  pub measured : habits.measures old stat
+  pub count : length rows ≡ stat.segments
+  pub told : AreTold habits long old 0 rows
 
 -- all segments are listed
-abbrev pub AreListed : {S : Type 0} → (S → ℕ → Result SegmentInfo VolError → Type 0) → (S → Sustat → Type 0)
-    → (moment : ℕ) → Bool → S → LineEnd → Type 0
-AreListed tells measures moment all old end =
-    (infos : List SegmentInfo) × AreAllTold tells measures old infos × (end ≡ ended moment Fine (seg_header ++ seg_texts all infos))
+abbrev pub AreListed : {S J : Type 0} → Habits S J → (moment : ℕ) → (all long : Bool) → S → LineEnd → Type 0
+AreListed habits moment all long old end =
+    (rows : List SegmentRow) × AreAllTold habits long old rows
+    × (end ≡ ended moment Fine (seg_header long ++ seg_texts all rows))
+
+-- the listing is long, and the volume refuses so to tell of the needed blocks of a segment
+abbrev pub IsNeededRefused : {S J : Type 0} → Habits S J → (long : Bool) → S → (segment : ℕ) → VolError → Type 0
+IsNeededRefused habits long old segment error = (long ≡ true) × habits.needs old segment (Err error)
+
+-- the volume refuses so to tell of a segment, or of its needed blocks
+abbrev pub IsRowRefused : {S J : Type 0} → Habits S J → (long : Bool) → S → (segment : ℕ) → VolError → Type 0
+IsRowRefused habits long old segment error =
+    habits.tells old segment (Err error) ⊎ IsNeededRefused habits long old segment error
 
 -- the volume refuses so to tell of one of the first so many segments
-abbrev pub IsUntoldBelow : {S : Type 0} → (S → ℕ → Result SegmentInfo VolError → Type 0) → (count : ℕ) → S → VolError
-    → Type 0
-IsUntoldBelow tells count old error = (segment : ℕ) × (segment < count) × tells old segment (Err error)
+abbrev pub IsUntoldBelow : {S J : Type 0} → Habits S J → (long : Bool) → (count : ℕ) → S → VolError → Type 0
+IsUntoldBelow habits long count old error = (segment : ℕ) × (segment < count) × IsRowRefused habits long old segment error
 
 -- the volume refuses so to tell of a segment that there is
-abbrev pub IsUntold : {S : Type 0} → (S → ℕ → Result SegmentInfo VolError → Type 0) → (S → Sustat → Type 0)
-    → S → VolError → Type 0
-IsUntold tells measures old error =
-    (stat : Sustat) × measures old stat × IsUntoldBelow tells stat.segments old error
+abbrev pub IsUntold : {S J : Type 0} → Habits S J → (long : Bool) → S → VolError → Type 0
+IsUntold habits long old error =
+    (stat : Sustat) × habits.measures old stat × IsUntoldBelow habits long stat.segments old error
 
 -- the listing is refused, since the volume refuses to tell of one
-abbrev pub IsListingRefused : {S : Type 0} → (S → ℕ → Result SegmentInfo VolError → Type 0) → (S → Sustat → Type 0)
-    → (number moment : ℕ) → S → LineEnd → Type 0
-IsListingRefused tells measures number moment old end =
-    (error : VolError) × IsUntold tells measures old error × (end ≡ refused number moment error)
+abbrev pub IsListingRefused : {S J : Type 0} → Habits S J → (number moment : ℕ) → (long : Bool) → S → LineEnd → Type 0
+IsListingRefused habits number moment long old end =
+    (error : VolError) × IsUntold habits long old error × (end ≡ refused number moment error)
 
 -- a round is planned and done, and all that it came to is told
 pub record IsRoundDone {S J : Type 0} (habits : Habits S J) (config : Config) (number moment : ℕ) (old new : S)
@@ -135,10 +149,8 @@ pub record AreFilesTold {S : Type 0} (does : S → Event → Reply → S → Typ
 abbrev pub IsCommandDone : {S J : Type 0} → Habits S J → Config → (number moment : ℕ) → Command → S → S → LineEnd
     → Type 0
 IsCommandDone habits config number moment (At later) old new end = (new ≡ old) × (end ≡ ended later Fine [])
-IsCommandDone habits config number moment (Lssu all) old new end =
-    (new ≡ old)
-    × (AreListed habits.tells habits.measures moment all old end
-    ⊎ IsListingRefused habits.tells habits.measures number moment old end)
+IsCommandDone habits config number moment (Lssu all long) old new end =
+    (new ≡ old) × (AreListed habits moment all long old end ⊎ IsListingRefused habits number moment long old end)
 IsCommandDone habits config number moment (Catm mount paths) old new end =
     AreFilesTold habits.does number moment mount paths old new end
 IsCommandDone habits config number moment Clean old new end = IsRoundDone habits config number moment old new end

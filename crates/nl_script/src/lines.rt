@@ -9,7 +9,7 @@ ghost use Rattle.nl_script.specs.ExitStatus.{refused_if, status_of};
 ghost use Rattle.nl_types.specs.Runs.{Run};
 ghost use Rattle.nl_script.specs.Events.{reading};
 ghost use Rattle.nl_script.specs.FileReads.{is_bad_mount};
-ghost use Rattle.nl_script.specs.Lines.{AreAllTold, AreEventsDone, AreFilesTold, AreListed, AreOutcomesTold, AreTold, ComesTo, IsCommandDone, IsLatestFor, IsLineDone, IsListingRefused, IsRoundDone, IsUntold, IsUntoldBelow, LacksMemory, ended, files_end, is_open, is_since, refused};
+ghost use Rattle.nl_script.specs.Lines.{AreAllTold, AreEventsDone, AreFilesTold, AreListed, AreOutcomesTold, AreTold, ComesTo, IsCommandDone, IsLatestFor, IsLineDone, IsListingRefused, IsNeededRefused, IsNeededTold, IsRoundDone, IsRowRefused, IsRowTold, IsUntold, IsUntoldBelow, LacksMemory, ended, files_end, is_open, is_since, refused};
 ghost use Rattle.nl_script.specs.Rounds.{IsRoundOver, round_text};
 ghost use Rattle.nl_script.specs.declared.rounds.RoundSum.{RoundSum};
 ghost use Rattle.nl_script.specs.OutcomeTexts.{text_of};
@@ -24,9 +24,8 @@ use crate::volume::Volume;
 use nl_commands::{CheckpointRange, Command, LineError, read_line};
 use nl_protect::Config;
 use nl_texts as texts;
-use nl_types::{
-    CheckpointNumber, Event, Items, MountNumber, Reply, Segment, SegmentInfo, VolError,
-};
+use nl_texts::SegmentRow;
+use nl_types::{CheckpointNumber, Event, Items, MountNumber, Reply, Segment, VolError};
 use std::alloc::{AllocError, Global};
 use std::io;
 use std::io::Write;
@@ -142,38 +141,65 @@ fn run_all<V: Volume, W: Write>(
     }
 }
 
+/// How many needed blocks a segment has, where the listing is long.
+fn told_needed<V: Volume>(volume: &V, segment: Segment, long: bool) -> Result<Option<u32>, VolError>
+    ensures told { IfOk result (IsNeededTold V.habits long volume.now segment) }
+    ensures refused { IfErr result (IsNeededRefused V.habits long volume.now segment) }
+{
+    if long {
+        volume.needed(segment).map(Some)
+    } else {
+        Ok(None)
+    }
+}
+
+/// What the volume tells of a segment.
+fn told_row<V: Volume>(volume: &V, segment: Segment, long: bool) -> Result<SegmentRow, VolError>
+    ensures told { IfOk result (IsRowTold V.habits long volume.now segment) }
+    ensures refused { IfErr result (IsRowRefused V.habits long volume.now segment) }
+{
+    let info = volume.suinfo(segment)?;
+    let needed = told_needed(volume, segment, long)?;
+    Ok(SegmentRow { info, needed })
+}
+
 /// What the volume tells of so many segments, in a vector with room for them.
-fn told_infos<V: Volume>(
+fn told_rows<V: Volume>(
     volume: &V,
     count: usize,
-    mut infos: Vec<SegmentInfo>,
-) -> Result<Vec<SegmentInfo>, VolError>
-    requires empty { infos.items ≡ [] }
-    requires room { count ≤ vec_capacity infos }
+    long: bool,
+    mut rows: Vec<SegmentRow>,
+) -> Result<Vec<SegmentRow>, VolError>
+    requires empty { rows.items ≡ [] }
+    requires room { count ≤ vec_capacity rows }
     requires small { count < 2 ^ 32 }
-    ensures told { IfOk result (λ infos. AreTold V.habits.tells volume.now 0 infos.items) }
-    ensures count { IfOk result (λ infos. length infos.items ≡ count) }
-    ensures refused { IfErr result (λ error. IsUntoldBelow V.habits.tells count volume.now error) }
+    ensures told { IfOk result (λ rows. AreTold V.habits long volume.now 0 rows.items) }
+    ensures count { IfOk result (λ rows. length rows.items ≡ count) }
+    ensures refused { IfErr result (IsUntoldBelow V.habits long count volume.now) }
 {
     for segment in 0..count {
-        let info = volume.suinfo(Segment::new(segment as u32))?;
-        if infos.push(info).is_err() {
+        let row = told_row(volume, Segment::new(segment as u32), long)?;
+        if rows.push(row).is_err() {
             unreachable!();
         }
     }
-    Ok(infos)
+    Ok(rows)
 }
 
 /// What the volume tells of all segments.
-fn segment_infos<V: Volume>(alloc: Global, volume: &V) -> Result<Vec<SegmentInfo>, VolError>
-    ensures told { IfOk result (λ infos. AreAllTold V.habits.tells V.habits.measures volume.now infos.items) }
-    ensures small { IfOk result (λ infos. length infos.items ≤ 2 ^ 32) }
+fn segment_rows<V: Volume>(
+    alloc: Global,
+    volume: &V,
+    long: bool,
+) -> Result<Vec<SegmentRow>, VolError>
+    ensures told { IfOk result (λ rows. AreAllTold V.habits long volume.now rows.items) }
+    ensures small { IfOk result (λ rows. length rows.items ≤ 2 ^ 32) }
     ensures refused { IfErr result (λ error.
-        (error ≡ VolError.Memory) ⊎ IsUntold V.habits.tells V.habits.measures volume.now error) }
+        (error ≡ VolError.Memory) ⊎ IsUntold V.habits long volume.now error) }
 {
     let count = volume.sustat().segments;
     match Vec::with_capacity(alloc, count) {
-        Ok(infos) => told_infos(volume, count, infos),
+        Ok(rows) => told_rows(volume, count, long, rows),
         Err(_) => Err(VolError::Memory),
     }
 }
@@ -183,27 +209,33 @@ fn list_segments<V: Volume, W: Write>(
     volume: &V,
     number: u64,
     all: bool,
+    long: bool,
     out: &mut W,
 ) -> LineResult
     ensures { (moment : ℕ) → ComesTo (λ end.
-        (AreListed V.habits.tells V.habits.measures moment all volume.now end
-        ⊎ IsListingRefused V.habits.tells V.habits.measures number moment volume.now end)
+        (AreListed V.habits moment all long volume.now end
+        ⊎ IsListingRefused V.habits number moment long volume.now end)
         ⊎ (end ≡ refused number moment VolError.Memory))
         moment result (W.contents out.old) (W.contents out.new) }
 {
-    match segment_infos(alloc, volume) {
-        Ok(infos) => (Status::Fine, tell_segments(infos.as_slice(), all, out)),
+    match segment_rows(alloc, volume, long) {
+        Ok(rows) => (Status::Fine, tell_segments(rows.as_slice(), all, long, out)),
         Err(error) => refused(number, error, out),
     }
 }
 
-fn tell_segments<W: Write>(infos: &[SegmentInfo], all: bool, out: &mut W) -> io::Result<()>
-    requires { length infos.now ≤ 2 ^ 32 }
+fn tell_segments<W: Write>(
+    rows: &[SegmentRow],
+    all: bool,
+    long: bool,
+    out: &mut W,
+) -> io::Result<()>
+    requires { length rows.now ≤ 2 ^ 32 }
     ensures { OnOk result (Appends (W.contents out.old) (W.contents out.new)
-        (seg_header ++ seg_texts all infos.now)) }
+        (seg_header long ++ seg_texts all rows.now)) }
 {
-    texts::seg_header(out)?;
-    texts::seg_lines(infos, all, out)
+    texts::seg_header(long, out)?;
+    texts::seg_lines(rows, all, out)
 }
 
 fn round_status(sum: RoundSum) -> Status
@@ -352,7 +384,7 @@ fn run_command<V: Volume, R: Threads + Sync, W: Write>(
             *moment = later;
             (Status::Fine, Ok(()))
         }
-        Command::Lssu { all } => list_segments(alloc, volume, number, all, out),
+        Command::Lssu { all, long } => list_segments(alloc, volume, number, all, long, out),
         Command::Catm { mount, paths } => {
             let paths = paths.as_slice();
             show_files(alloc, volume, readers, number, mount, paths, out)

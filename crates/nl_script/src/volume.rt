@@ -34,6 +34,10 @@ pub trait Volume {
     fn suinfo(&self, segment: Segment) -> Result<SegmentInfo, VolError>
         ensures { habits.tells self.now segment result };
 
+    /// Counts the needed blocks of a segment.
+    fn needed(&self, segment: Segment) -> Result<u32, VolError>
+        ensures { habits.needs self.now segment result };
+
     /// Counts the segments.
     fn sustat(&self) -> Sustat
         ensures told { habits.measures self.now result }

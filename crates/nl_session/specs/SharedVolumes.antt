@@ -19,6 +19,7 @@ use Rattle.nl_sufile.specs.declared.table.Sustat.{Sustat}
 use Rattle.nl_protect.specs.declared.config.Config.{Config}
 use Rattle.nl_cleaner.specs.Job.{JobView, next_event, steps_left}
 use Rattle.nl_cleaner.specs.Plan.{IsPlan}
+use Rattle.nl_core.specs.CleanerViews.{needed_told}
 use Rattle.nl_core.specs.Layout.{Layout}
 use Rattle.nl_publish.specs.Begun.{HasBegun}
 use Rattle.nl_publish.specs.Cleaning.{CleanRan}
@@ -125,6 +126,9 @@ shared_steps old job reply new next = IsRoundStep old.held job reply new.held ne
 abbrev pub shared_tells : Sharing → ℕ → Result SegmentInfo VolError → Type 0
 shared_tells s segment result = result ≡ ok_or (slice_get s.held.layout.store.segments.each segment) BadRange
 
+abbrev pub shared_needs : Sharing → ℕ → Result ℕ VolError → Type 0
+shared_needs s segment result = result ≡ needed_told s.held.layout segment
+
 abbrev pub shared_counts : Sharing → Cpstat → Type 0
 shared_counts s stat = stat ≡ cpstat_of s.held.layout.lists.table
 
@@ -144,6 +148,7 @@ abbrev pub shared_habits : Habits Sharing JobView
 shared_habits = record {
   does = shared_does;
   tells = shared_tells;
+  needs = shared_needs;
   counts = shared_counts;
   measures = shared_measures;
   plans = shared_plans;

@@ -6,7 +6,7 @@ use nl_core::laws::pens_of_one_image_mean_one_world;
 use nl_publish::laws::locked_runs_lead_on;
 use nl_types::laws::{copies_stay, mounts_stay};
 
-/// A volume tells of each segment that there is. So `lssu` is refused for memory alone.
+/// A volume tells of each segment that there is, and of its needed blocks. So `lssu` is refused for memory alone.
 pub fn volumes_tell_of_segments()
     ensures { VolumesTellOfSegments }
 {}

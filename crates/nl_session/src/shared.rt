@@ -289,6 +289,10 @@ impl<D: Device, J: Volumes + Send + Sync, R: Wait> Volume for SharedVolume<'_, D
         self.locked.suinfo(segment)
     }
 
+    fn needed(&self, segment: Segment) -> Result<u32, VolError> {
+        self.locked.needed(segment)
+    }
+
     fn sustat(&self) -> Sustat {
         self.locked.means_a_world();
         self.locked.sustat()

@@ -11,7 +11,7 @@ use nl_device::Device;
 use nl_layout::Level;
 use nl_lib::{
     Cleaned, change_cpmode, clean_segments, delete_checkpoint, get_bdescs, get_cpinfo, get_cpstat,
-    get_suinfo, get_sustat, get_vinfo, sync,
+    get_needed, get_suinfo, get_sustat, get_vinfo, sync,
 };
 use nl_sufile::Sustat;
 use nl_types::{
@@ -38,6 +38,8 @@ enum Step<'a> {
     Checkpoints(u64, usize, usize),
     /// State, stamp and used blocks of a segment.
     Segment(u32, Result<(SegmentState, u64, u32), VolError>),
+    /// How many needed blocks a segment has.
+    Needed(u32, Result<u32, VolError>),
     /// How many segments there are, clean ones, and dirty ones.
     Segments(usize, usize, usize),
     /// Block, start and end of a virtual number that is in use.
@@ -106,6 +108,7 @@ fn finds<D: Device>(alloc: Global, pen: &Pen<D>, step: Step<'_>) -> bool {
         Step::Segment(segment, due) => {
             get_suinfo(pen, Segment::new(segment)) == due.map(info_of)
         }
+        Step::Needed(segment, due) => get_needed(pen, Segment::new(segment)) == due,
         Step::Segments(segments, clean, dirty) => {
             get_sustat(pen)
                 == Sustat {
@@ -199,6 +202,10 @@ const OVERWRITTEN: &[Step<'static>] = &[
     Step::Segment(6, Ok((Active, 30, 2))),
     Step::Segment(7, Ok((Clean, 0, 0))),
     Step::Segment(16, Err(VolError::BadRange)),
+    Step::Needed(3, Ok(2)),
+    Step::Needed(4, Ok(3)),
+    Step::Needed(7, Ok(0)),
+    Step::Needed(16, Err(VolError::BadRange)),
     Step::Blocks(3, Ok(&[(13, 6, 0, 1, Some(13)), (15, 11, 0, 0, Some(15))])),
     Step::Blocks(
         4,
@@ -222,6 +229,7 @@ const OVERWRITTEN: &[Step<'static>] = &[
     Step::Checkpoints(4, 3, 0),
     Step::Checkpoint(3, Err(VolError::NoCheckpoint)),
     Step::Number(13, Ok(Some((19, 3, 4)))),
+    Step::Needed(4, Ok(0)),
 ];
 
 /// On 16 segments of 8 blocks, where the ninth put fails: the summary of the second log of a checkpoint, whose first one has 4

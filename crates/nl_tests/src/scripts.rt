@@ -25,6 +25,7 @@ impl Volume for Counting {
     ghost habits = { record {
       does = λ old event reply new. Unit {0};
       tells = λ old segment result. Unit {0};
+      needs = λ old segment result. Unit {0};
       counts = λ old stat. Unit {0};
       measures = λ old stat. Unit {0};
       plans = λ old config moment job. Unit {0};
@@ -51,6 +52,10 @@ impl Volume for Counting {
 
     fn suinfo(&self, _: Segment) -> Result<SegmentInfo, VolError> {
         Ok(SegmentInfo::clean())
+    }
+
+    fn needed(&self, _: Segment) -> Result<u32, VolError> {
+        Ok(0)
     }
 
     fn sustat(&self) -> Sustat {

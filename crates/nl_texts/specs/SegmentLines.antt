@@ -1,11 +1,12 @@
 -- The lines of segments.
-use Rattle.std.specs.Prelude.{ℕ, Bool, not, ◌||◌, if◌then◌else◌, List, [], ◌∷◌, ◌++◌, codes}
+use Rattle.std.specs.Prelude.{ℕ, Bool, true, false, not, ◌||◌, if◌then◌else◌, List, [], ◌∷◌, ◌++◌, codes, Option, None, Some}
 use Rattle.std.specs.Fmt.{decimal}
 use Rattle.std.specs.List.{flat_map, enumerate_from}
 use Rattle.nl_types.specs.Segments.{is_clean}
 use Rattle.nl_types.specs.declared.segment.SegmentInfo.{SegmentInfo}
 use Rattle.nl_types.specs.declared.segment.SegmentState.{SegmentState}
 use Rattle.nl_types.specs.declared.segment.SegmentState.TheVariants.{Clean, Dirty, Active, Error}
+use Rattle.nl_texts.specs.declared.segments.SegmentRow.{SegmentRow}
 use Rattle.nl_texts.specs.Texts.{Text, right, left}
 
 -- active, dirty, error
@@ -15,25 +16,31 @@ state_letters Dirty = codes "-d-"
 state_letters Active = codes "ad-"
 state_letters Error = codes "-de"
 
-abbrev pub seg_header : Text
-seg_header = codes "  SEGNUM       MOMENT STAT  NBLOCKS" ++ (10 ∷ [])
+abbrev pub seg_header : (long : Bool) → Text
+seg_header false = codes "  SEGNUM       MOMENT STAT  NBLOCKS" ++ (10 ∷ [])
+seg_header true = codes "  SEGNUM       MOMENT STAT  NBLOCKS   NEEDED" ++ (10 ∷ [])
 
--- number, stamp, letters, and blocks used
-abbrev pub seg_text : ℕ → SegmentInfo → Text
-seg_text segment info =
+-- the blocks needed, where they are counted
+abbrev pub needed_column : Option ℕ → Text
+needed_column None = []
+needed_column (Some count) = 32 ∷ right 8 (decimal count)
+
+-- number, stamp, letters, blocks used, and blocks needed
+abbrev pub seg_text : ℕ → SegmentInfo → Option ℕ → Text
+seg_text segment info needed =
     right 8 (decimal segment) ++ (32 ∷ (right 12 (decimal info.stamp) ++ (32 ∷ (left 4 (state_letters info.state)
-    ++ (32 ∷ (right 8 (decimal info.used) ++ (10 ∷ [])))))))
+    ++ (32 ∷ (right 8 (decimal info.used) ++ (needed_column needed ++ (10 ∷ []))))))))
 
 -- a clean segment is listed among all alone
 abbrev pub is_listed : (all : Bool) → SegmentInfo → Bool
 is_listed all info = all || not (is_clean info.state)
 
-abbrev pub listed_seg_text : (all : Bool) → ℕ → SegmentInfo → Text
-listed_seg_text all segment info = if is_listed all info then seg_text segment info else []
+abbrev pub listed_seg_text : (all : Bool) → ℕ → SegmentRow → Text
+listed_seg_text all segment row = if is_listed all row.info then seg_text segment row.info row.needed else []
 
 -- those of a table, from a segment on
-abbrev pub seg_texts_from : (all : Bool) → ℕ → List SegmentInfo → Text
-seg_texts_from all segment infos = flat_map (λ entry. listed_seg_text all entry.0 entry.1) (enumerate_from segment infos)
+abbrev pub seg_texts_from : (all : Bool) → ℕ → List SegmentRow → Text
+seg_texts_from all segment rows = flat_map (λ entry. listed_seg_text all entry.0 entry.1) (enumerate_from segment rows)
 
-abbrev pub seg_texts : (all : Bool) → List SegmentInfo → Text
-seg_texts all infos = seg_texts_from all 0 infos
+abbrev pub seg_texts : (all : Bool) → List SegmentRow → Text
+seg_texts all rows = seg_texts_from all 0 rows

@@ -17,5 +17,5 @@ pub use columns::{left, right};
 pub use refusals::{
     StartStep, refusal_text, save_text, start_text, unread_text, unwritten_text, usage_text,
 };
-pub use segments::{listed_seg_line, seg_header, seg_line, seg_lines};
+pub use segments::{SegmentRow, listed_seg_line, seg_header, seg_line, seg_lines};
 pub use streams::{StandardStream, stream_text};

@@ -3,7 +3,7 @@ use Rattle.nl_script.proofs.lines.run_command.Goals as goal
 
 pub returns-in-Lssu : goal.returns-in-Lssu
 returns-in-Lssu g c =
-    listing_end g.V.Volume.habits c.args.config.now c.args.number c.args.moment.now c.in-Lssu.all
+    listing_end g.V.Volume.habits c.args.config.now c.args.number c.args.moment.now c.in-Lssu.all c.in-Lssu.long
     c.args.command c.args.volume.now c.list_segments.result _ _ c.in-Lssu.is (c.list_segments.ensures c.args.moment.now)
 
 pub returns-in-Catm : goal.returns-in-Catm

@@ -13,4 +13,4 @@ returns g c =
     OnOk-then r _ _ _ _ _ number (OnOk-then r _ _ _ _ _ c.in_ok-write_all.ensures.bytes (
     OnOk-then r _ _ _ _ _ c.in_ok-right-2.ensures (OnOk-then r _ _ _ _ _ c.in_ok-write_all-2.ensures.bytes (
     OnOk-then r _ _ _ _ _ letters (OnOk-then r _ _ _ _ _ c.in_ok-write_all-3.ensures.bytes (
-    OnOk-then r _ _ _ _ _ used c.write_all-4.ensures.bytes))))))
+    OnOk-then r _ _ _ _ _ used (OnOk-then r _ _ _ _ _ c.in_ok-needed_column.ensures c.write_all-4.ensures.bytes)))))))

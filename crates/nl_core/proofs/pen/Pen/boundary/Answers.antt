@@ -6,7 +6,7 @@ use Rattle.nl_core.proofs.pen.Pen.boundary.Goals as goal
 
 pub returns-clause-world : goal.returns-clause-world
 returns-clause-world g c = λ w m.
-    c.boundary.ensures
+    c.boundary.ensures.boundary
     ∙ (ap (λ t. boundary_in t c.args.now c.args.period) c.checkpoints.ensures
     ∙ (ap (λ (l : Layout). boundary_in l.lists.table c.args.now c.args.period) c.self.view_is
     ∙ boundary-means (pages_in c.args.self.now) c.args.self.now.lists w m c.args.now c.args.period))

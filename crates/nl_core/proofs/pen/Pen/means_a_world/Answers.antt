@@ -3,4 +3,4 @@ use Rattle.nl_core.specs.Layout.{IsPen}
 use Rattle.nl_core.proofs.pen.Pen.means_a_world.Goals as goal
 
 pub returns : goal.returns
-returns g c = subst IsPen c.self.view_is c.self.invariant
+returns g c = subst IsPen c.self.view_is c.self.invariant.pen

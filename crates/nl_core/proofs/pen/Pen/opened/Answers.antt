@@ -2,7 +2,10 @@ use Rattle.nl_core.specs.Layout.{layout_of}
 use Rattle.nl_core.proofs.pen.Pen.opened.Goals as goal
 
 pub invariant_of-result : goal.invariant_of-result
-invariant_of-result g c = c.opened_images_are_pens.ensures (layout_of c.args.tables.lists c.args.store.store) c.requires
+invariant_of-result g c = record {
+  pen = c.opened_images_are_pens.ensures (layout_of c.args.tables.lists c.args.store.store) c.requires.opened;
+  counts = c.requires.needed;
+}
 
 pub returns-clause-pen : goal.returns-clause-pen
-returns-clause-pen g c = c.opened_images_are_pens.ensures (layout_of c.args.tables.lists c.args.store.store) c.requires
+returns-clause-pen g c = c.opened_images_are_pens.ensures (layout_of c.args.tables.lists c.args.store.store) c.requires.opened

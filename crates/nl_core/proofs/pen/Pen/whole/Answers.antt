@@ -7,6 +7,6 @@ use Rattle.nl_core.proofs.pen.Pen.whole.Goals as goal
 pub returns-clause-begins : goal.returns-clause-begins
 returns-clause-begins g c = (
   subst IsImage (sym c.in_ok-all.ensures.image)
-      (pen-image (layout_of c.self.inside.tables.lists c.self.inside.store.store) c.self.invariant),
+      (pen-image (layout_of c.self.inside.tables.lists c.self.inside.store.store) c.self.invariant.pen),
   tt,
 )
