@@ -1,5 +1,6 @@
 #!/usr/bin/env python3
-"""Makes the images of tests/data by the formats of docs/SPECIFICATION.md, without the program, and what rows on trees are due.
+"""Makes the images of tests/data by the formats of docs/SPECIFICATION.md, without the program, and what rows on trees and on
+needed blocks are due.
 
 Each is written from the rules, which tests/volume.py keeps: which blocks a checkpoint writes, under which numbers and where, and
 how an image spells them. So a row that opens or saves one compares the program with the rules, not with itself. Of an image too
@@ -13,6 +14,7 @@ import struct
 import subprocess
 import sys
 
+from cleaning import Configuration
 from scripts import Session
 from volume import CHAIN, NO_END, TREE, Places, Volume
 
@@ -212,11 +214,15 @@ def images():
     return made
 
 
-# ---- rows on trees
+# ---- rows on trees and on needed blocks
 
 # Rows whose output is made here, with the volume that each begins on.
 ROWS = {
     "chain_becomes_a_tree": lambda: opened(chain300()),
+    "needed_after_each_event": lambda: Volume(16, 8),
+    "needed_after_overwrites": lambda: Volume(16, 8),
+    "needed_in_a_new_volume": lambda: Volume(16, 8),
+    "needed_in_an_opened_volume": four,
     "old_files_stay": lambda: opened(keep(CHAIN)),
     "open_a_high_tree": high,
     "saved_tree": lambda: Volume(16, 32),
@@ -232,9 +238,19 @@ def sum_of(image):
     return subprocess.run(["cksum"], input=image, stdout=subprocess.PIPE, check=True).stdout.decode().strip()
 
 
+def configuration_of(name):
+    """What a row's configuration says, or else the standard values."""
+    with open(os.path.join(FOLDER, "rows", name + ".nlvol.args")) as args:
+        words = args.read().split()
+    if "--conf" not in words:
+        return Configuration()
+    with open(os.path.join(FOLDER, "data", words[words.index("--conf") + 1])) as file:
+        return Configuration(file.read())
+
+
 def row_of(name, start):
     """What a row prints, and the image that it saves."""
-    session = Session(start())
+    session = Session(start(), configuration_of(name))
     with open(os.path.join(FOLDER, "rows", name + ".nlvol")) as script:
         printed = session.run(script.read())
     return printed, session.end()

@@ -1,11 +1,16 @@
 """Scripts on the model of volumes: what their lines print, and the volume that they leave.
 
-It takes the lines that rows on trees have: those that are done, and checkpoints that lack space. For developers.
+It takes the lines that rows on trees and on needed blocks have: file calls that are done, and checkpoints, mounts and rounds,
+refused or not. For developers.
 """
 
 import shlex
 
-from volume import ACTIVE, DIRECTORY, FILE, ROOT, NoSpace
+from cleaning import Configuration, Round
+from volume import ACTIVE, DIRECTORY, FILE, ROOT, Refused
+
+# The numbers of refusals.
+REFUSALS = {"NoCheckpoint": 10, "IsSnapshot": 11, "NotSnapshot": 12, "Mounted": 13, "Latest": 14, "BadRange": 15, "NoSpace": 16, "BadMount": 19}
 
 
 def line_of(columns, values):
@@ -13,13 +18,14 @@ def line_of(columns, values):
     return " ".join(f"{value:>{width}}" if width > 0 else f"{value:<{-width}}" for width, value in zip(columns, values))
 
 
-def segment_lines(volume, with_clean):
-    columns = (8, 12, -4, 8)
-    lines = [line_of(columns, ("SEGNUM", "MOMENT", "STAT", "NBLOCKS"))]
+def segment_lines(volume, with_clean, with_needed):
+    columns = (8, 12, -4, 8, 8) if with_needed else (8, 12, -4, 8)
+    lines = [line_of(columns, ("SEGNUM", "MOMENT", "STAT", "NBLOCKS", "NEEDED"))]
     for number, segment in enumerate(volume.segments):
         if segment.flags or with_clean:
             state = "ad-" if segment.flags & ACTIVE else "-d-" if segment.flags else "---"
-            lines.append(line_of(columns, (number, segment.stamp, state, segment.used)))
+            needed = len(volume.needed_numbers(number))
+            lines.append(line_of(columns, (number, segment.stamp, state, segment.used, needed)))
     return lines
 
 
@@ -31,11 +37,19 @@ def checkpoint_lines(volume):
     return lines
 
 
+def range_of(word, latest):
+    """The ends of a range."""
+    first, last = word.split("..")
+    return int(first or 1), int(last or latest)
+
+
 class Session:
     """A script's run on a volume: what it printed so far, the moment, the mounts, and whether something is dirty."""
 
-    def __init__(self, volume):
+    def __init__(self, volume, configuration=Configuration()):
         self.volume = volume
+        self.configuration = configuration
+        self.line = 0
         self.printed = []
         self.moment = 0
         self.mounts = {}
@@ -44,14 +58,19 @@ class Session:
 
     def run(self, script):
         """Runs a script, and gives what it prints."""
-        for count, line in enumerate(script.splitlines(), 1):
+        for self.line, line in enumerate(script.splitlines(), 1):
             if line.strip() and not line.startswith("#"):
                 name, *words = shlex.split(line)
                 try:
                     self.printed += getattr(self, "do_" + name)(*words) or []
-                except NoSpace:
-                    self.printed.append(f"{count}: error 16 NoSpace")
+                except Refused as refusal:
+                    self.printed.append(self.refused(refusal))
         return "".join(line + "\n" for line in self.printed)
+
+    def refused(self, refusal, checkpoint=""):
+        """What tells of a refusal of the line, or of one of its checkpoints."""
+        name = str(refusal)
+        return f"{self.line}: {checkpoint}error {REFUSALS[name]} {name}"
 
     def end(self):
         """What --save does in the end."""
@@ -115,15 +134,51 @@ class Session:
         self.is_dirty = False
         return [str(number)]
 
-    def do_rmcp(self, number):
-        self.volume.remove(int(number))
+    def do_chcp(self, mode, *numbers):
+        return [line for number in numbers for line in self.set_mode(int(number), mode == "ss")]
+
+    def set_mode(self, number, is_snapshot):
+        try:
+            checkpoint = self.volume.kept_at(number)
+            if checkpoint in self.mounts.values() and not is_snapshot:
+                raise Refused("Mounted")
+            checkpoint.is_snapshot = is_snapshot
+        except Refused as refusal:
+            return [self.refused(refusal, f"{number}: ")]
+        return []
+
+    def do_rmcp(self, *ranges):
+        latest = self.volume.kept[-1].number
+        return [line for word in ranges for line in self.remove(word, latest)]
+
+    def remove(self, word, latest):
+        """What is told of the removal of a checkpoint, or of a range."""
+        is_range = ".." in word
+        try:
+            if is_range:
+                stay = self.volume.remove_range(*range_of(word, latest))
+                return [self.refused(why, f"{number}: ") for number, why in stay]
+            self.volume.remove(int(word))
+        except Refused as refusal:
+            return [self.refused(refusal, "" if is_range else f"{word}: ")]
+        return []
+
+    def do_clean(self):
+        done = Round(self.volume, self.moment, self.configuration)
+        told = [f"expired {done.expired} moved {done.moved} freed {done.freed}"]
+        return told + [self.refused(done.refusal)] if done.refusal else told
 
     def do_mount(self, number):
+        checkpoint = self.volume.kept_at(int(number))
+        if not checkpoint.is_snapshot:
+            raise Refused("NotSnapshot")
         self.given += 1
-        self.mounts[str(self.given)] = next(c for c in self.volume.kept if c.number == int(number))
+        self.mounts[str(self.given)] = checkpoint
         return [str(self.given)]
 
     def do_umount(self, mount):
+        if mount not in self.mounts:
+            raise Refused("BadMount")
         del self.mounts[mount]
 
     def do_cat(self, *words):
@@ -138,7 +193,8 @@ class Session:
         return [name.decode() + "/" * (names[name][1] == DIRECTORY) for name in sorted(names)]
 
     def do_lssu(self, *options):
-        return segment_lines(self.volume, options == ("-a",))
+        letters = "".join(options)
+        return segment_lines(self.volume, "a" in letters, "l" in letters)
 
     def do_lscp(self):
         return checkpoint_lines(self.volume)

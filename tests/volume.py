@@ -158,7 +158,8 @@ class Inode:
 
 class Segment:
     def __init__(self):
-        self.stamp, self.used, self.flags = 0, 0, 0
+        # Used blocks with the summaries, and without.
+        self.stamp, self.used, self.payload, self.flags = 0, 0, 0, 0
 
 
 class Checkpoint:
@@ -168,8 +169,8 @@ class Checkpoint:
         self.files = files
 
 
-class NoSpace(Exception):
-    pass
+class Refused(Exception):
+    """A call is refused, by a name of the table of refusals."""
 
 
 class Volume:
@@ -180,8 +181,9 @@ class Volume:
         self.segment_blocks = blocks
         self.segments = [Segment() for _ in range(segments)]
         self.device = {}
-        # Block, start and end of each number in use.
+        # Block, start and end of each number in use, and the page that it stands for.
         self.numbers = {}
+        self.pages = {}
         self.kept = []
         self.inodes = {ROOT: Inode(DIRECTORY)}
         # The blocks of each inode at the latest checkpoint.
@@ -237,8 +239,33 @@ class Volume:
 
     # -- checkpoints
 
+    def kept_at(self, number):
+        """The kept checkpoint of a number."""
+        for c in self.kept:
+            if c.number == number:
+                return c
+        raise Refused("NoCheckpoint")
+
+    def why_it_stays(self, c):
+        """The refusal that a removal of a kept checkpoint meets, if it meets one."""
+        return "IsSnapshot" if c.is_snapshot else "Latest" if c is self.kept[-1] else None
+
     def remove(self, number):
+        why = self.why_it_stays(self.kept_at(number))
+        if why:
+            raise Refused(why)
         self.kept = [c for c in self.kept if c.number != number]
+
+    def remove_range(self, first, last):
+        """Removes what a range lets go, and gives the numbers that stay, each with the reason."""
+        if first == 0 or last < first:
+            raise Refused("BadRange")
+        inside = [c for c in self.kept if first <= c.number <= last]
+        if not inside:
+            raise Refused("NoCheckpoint")
+        stay = [(c.number, self.why_it_stays(c)) for c in inside if self.why_it_stays(c)]
+        self.kept = [c for c in self.kept if c not in inside or self.why_it_stays(c)]
+        return stay
 
     def checkpoint(self, moment, is_snapshot=False):
         """Writes what differs from the latest checkpoint: inodes ascending, the file of inodes last."""
@@ -252,7 +279,7 @@ class Volume:
             blocks[inode] = self.change(inode, pages, free, births, ended)
         blocks[INODES] = self.change(INODES, self.pages_of_inodes(blocks), free, births, ended)
         if not self.fits(len(births)):
-            raise NoSpace
+            raise Refused("NoSpace")
         self.append(births, number, stamp)
         for old in ended:
             self.numbers[old][2] = number
@@ -322,14 +349,14 @@ class Volume:
     def active(self):
         return next((s for s in self.segments if s.flags & ACTIVE), None)
 
-    def fits(self, count):
-        """Whether there is room for the payload of a checkpoint."""
+    def fits(self, count, reserve=2):
+        """Whether there is room for so much payload, where so many clean segments are left, as a checkpoint leaves two."""
         active = self.active()
         left = self.segment_blocks - active.used if active else 0
         clean = sum(s.flags == 0 for s in self.segments)
         while count:
             if left < 2:
-                if clean < 3:
+                if clean <= reserve:
                     return False
                 left, clean = self.segment_blocks, clean - 1
             taken = min(count, LOG, left - 1)
@@ -337,7 +364,8 @@ class Volume:
         return True
 
     def append(self, births, checkpoint, moment):
-        """Places logs: in the active segment as long as a summary and a block fit, else in the lowest clean one."""
+        """Places logs: in the active segment as long as a summary and a block fit, else in the lowest clean one. A number that
+        is in use already keeps its period."""
         first = 0
         while first < len(births):
             active = self.active()
@@ -350,18 +378,48 @@ class Volume:
             for birth in log:
                 block += 1
                 self.device[block] = birth.data
-                self.numbers[birth.number] = [block, checkpoint, NO_END]
+                self.numbers.setdefault(birth.number, [block, checkpoint, NO_END])[0] = block
+                self.pages[birth.number] = birth
             active.used += 1 + len(log)
+            active.payload += len(log)
             active.stamp = moment
 
     def take(self, active):
-        """A clean segment becomes the active one, and two clean ones are left."""
+        """The lowest clean segment becomes the active one."""
         clean = [s for s in self.segments if s.flags == 0]
-        assert len(clean) >= 3, "no space"
         if active is not None:
             active.flags = DIRTY
         clean[0].flags = ACTIVE | DIRTY
         return clean[0]
+
+    # -- what is needed, and what cleans a segment
+
+    def needed_numbers(self, segment, kept=None):
+        """The numbers whose pages stand in a segment and that haven't ended, or belong to one of the kept checkpoints, by
+        block."""
+        kept = self.kept if kept is None else kept
+        found = []
+        for number, (block, start, end) in self.numbers.items():
+            is_needed = end == NO_END or any(start <= c.number < end for c in kept)
+            if is_needed and block // self.segment_blocks == segment:
+                found.append((block, number))
+        return [number for _, number in sorted(found)]
+
+    def move(self, numbers, moment):
+        """Writes the pages of numbers elsewhere, into any clean segment."""
+        if not self.fits(len(numbers), reserve=0):
+            raise Refused("NoSpace")
+        self.append([self.pages[number] for number in numbers], self.kept[-1].number, moment)
+
+    def retire(self, segment):
+        """Takes the numbers of a segment out of use, and makes it clean."""
+        assert not self.needed_numbers(segment)
+        first = segment * self.segment_blocks
+        blocks = range(first, first + self.segment_blocks)
+        for number in [n for n, (block, _, _) in self.numbers.items() if block in blocks]:
+            del self.numbers[number], self.pages[number]
+        self.device = {block: data for block, data in self.device.items() if block not in blocks}
+        self.segments[segment] = Segment()
 
     # -- the image
 
