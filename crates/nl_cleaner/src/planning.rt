@@ -2,6 +2,7 @@
 ghost use Rattle.std.specs.Prelude.{◌≡◌, ℕ, ◌-◌, ◌<◌, ◌&&◌, nat_le, length, slice_index_or, IfOk, IsOkUnless};
 ghost use Rattle.nl_types.specs.Segments.{info_of};
 ghost use Rattle.nl_core.specs.CleanerViews.{counts_after};
+ghost use Rattle.nl_core.specs.Volume.{boundary_in};
 ghost use Rattle.nl_cleaner.specs.Choice.{candidates_in};
 ghost use Rattle.nl_cleaner.specs.Plan as asked;
 ghost use Rattle.nl_cleaner.specs.Plan.{AreTaken, AreVictims, IsPlan, candidate_by, candidate_in, is_dirty};
@@ -175,6 +176,25 @@ fn victims<D: Device>(
     choose(alloc, found, most)
 }
 
+/// The oldest segments that qualify by a configuration, with what expires at this moment taken as gone. Refused by `Memory`
+/// alone.
+fn oldest_asked<D: Device>(
+    alloc: Global,
+    pen: &Pen<D>,
+    config: &Config,
+    now: u64,
+) -> Result<Vec<Segment>, VolError>
+    ensures victims { IfOk result (λ victims.
+        AreVictims pen.now (boundary_in pen.now.lists.table now config.now.protection_period)
+        (asked.least_freed pen.now config.now) (asked.most_taken pen.now config.now) victims.items) }
+    ensures refused { IsOkUnless result VolError.Memory }
+{
+    let below = pen.boundary(now, config.protection_period);
+    let needed = pen.counts_after(alloc, below)?;
+    let (least, most) = (least_freed(pen, config), most_taken(pen, config));
+    Ok(victims(alloc, pen, &needed, least, most)?)
+}
+
 /// The segments that a round takes: none where enough are clean. Refused by `Memory` alone.
 fn taken<D: Device>(
     alloc: Global,
@@ -188,14 +208,12 @@ fn taken<D: Device>(
     if is_full(pen, config) {
         return Ok(Vec::new(alloc));
     }
-    let below = pen.boundary(now, config.protection_period);
-    let needed = pen.counts_after(alloc, below)?;
-    let (least, most) = (least_freed(pen, config), most_taken(pen, config));
-    Ok(victims(alloc, pen, &needed, least, most)?)
+    oldest_asked(alloc, pen, config, now)
 }
 
-/// The round of cleaning that a configuration asks for at a moment: the expiry, and the segments to clean after it. It only
-/// looks, at the blocks of those dirty segments in which enough used ones are not needed. Refused by `Memory` alone.
+/// The round of cleaning that a configuration asks for at a moment: the expiry, and the segments to clean after it. It changes
+/// nothing, and looks at each block of those dirty segments alone of which enough used blocks are not needed. Refused by
+/// `Memory` alone.
 pub fn plan<D: Device>(
     alloc: Global,
     pen: &Pen<D>,

@@ -1,25 +1,30 @@
 //! What the cleaner is told of a pen.
 ghost use Rattle.std.specs.Prelude.{◌≡◌, ◌≤◌, IfOk, IsOkUnless};
+ghost use Rattle.std.specs.List.{AllByRecursion};
+ghost use Rattle.std.proofs.Props.{props};
+ghost use Rattle.nl_types.specs.Protection.{staying};
 ghost use Rattle.nl_vstore.specs.Counts.{needed_counts};
 ghost use Rattle.nl_vstore.specs.Located.{needed_count, payload_count_in};
 ghost use Rattle.nl_counts.specs.Counted.{IsCounted};
-ghost use Rattle.nl_cpfile.specs.Tables.{all, kept_numbers};
+ghost use Rattle.nl_cpfile.specs.Tables.{all, kept_numbers, rows};
 ghost use Rattle.nl_core.specs.CleanerViews.{needed_from};
 
 use nl_counts::NeededCounts;
 use nl_cpfile::Checkpoints;
-use nl_protect::{expiring_run, needed};
+use nl_protect::{expiring_run, first_staying, needed_from};
 use nl_reclaim::{Keeping, count_needed};
 use nl_sufile::SegmentCounts;
 use nl_types::{CheckpointNumber, Period, Segment, VolError};
 use nl_vstore::Vstore;
 use std::alloc::Global;
 
-/// The kept checkpoints without the plain ones below a number.
+/// The kept checkpoints without the plain ones below a number. None of them lies below the first.
 #[derive(Clone, Copy)]
 struct Staying<'a> {
     kept: &'a Checkpoints,
     below: CheckpointNumber,
+    first: CheckpointNumber,
+    ghost least: { AllByRecursion (λ n. first ≤ n) (staying below (rows kept.now.table)) } by { Prim.hlevel props },
 }
 
 impl<'a> Keeping for Staying<'a> {
@@ -30,7 +35,7 @@ impl<'a> Keeping for Staying<'a> {
     ghost test = { λ s. is_period_needed (staying s.below (rows s.kept.now.table)) };
 
     fn needed(&self, period: Period) -> bool {
-        needed(self.kept, self.below, period)
+        needed_from(self.kept, self.below, self.first, period)
     }
 }
 
@@ -45,7 +50,10 @@ pub fn needed_in<V: Vstore>(
     ensures { result ≡ needed_count (V.store store.now) (needed_from below kept.now.table) segment }
 {
     match store.table().suinfo(segment) {
-        Ok(_) => count_needed(store, &Staying { kept, below }, segment),
+        Ok(_) => {
+            let first = first_staying(kept, below);
+            count_needed(store, &Staying { kept, below, first }, segment)
+        }
         Err(_) => 0,
     }
 }
@@ -64,8 +72,9 @@ pub fn counts_after<V: Vstore>(
         counts ≡ needed_counts (V.store store.now) (needed_from below kept.now.table)) }
     ensures refused { IsOkUnless result VolError.Memory }
 {
-    let (first, next) = expiring_run(kept, below);
-    needed.after(alloc, store, &Staying { kept, below }, first, next)
+    let first = first_staying(kept, below);
+    let (gone, next) = expiring_run(kept, below);
+    needed.after(alloc, store, &Staying { kept, below, first }, gone, next)
 }
 
 /// How many blocks of the logs of a segment have payload: 0 where there is no such segment.

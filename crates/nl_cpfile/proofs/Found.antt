@@ -146,6 +146,12 @@ remove-filter n (c ∷ kept) (suc i) d rising lt is =
     sym (ap (λ b. cond b (c ∷ filter (is_kept_without (n ∷ [])) kept) (filter (is_kept_without (n ∷ [])) kept)) (kept_without-apart n c (λ same. absurd (omega (arith, up, is, same))))
     ∙ ap (λ (xs : List Checkpoint). c ∷ xs) (sym (remove-filter n kept i d rising.1 (omega arith) is)))
 
+-- what stands at a place is the same, whatever stands for the places where there is none
+pub get_or_same : (kept : List Checkpoint) (i : ℕ) (d e : Checkpoint) → i < length kept → get_or kept i d ≡ get_or kept i e
+get_or_same [] i d e within = absurd (omega arith)
+get_or_same (c ∷ kept) zero d e within = refl
+get_or_same (c ∷ kept) (suc i) d e within = get_or_same kept i d e (omega arith)
+
 -- none has the number
 pub filter-absent : (n : ℕ) (kept : List Checkpoint) → found n kept ≡ None → filter (is_kept_without (n ∷ [])) kept ≡ kept
 filter-absent n [] none = refl

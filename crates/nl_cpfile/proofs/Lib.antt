@@ -6,3 +6,4 @@ pub mod Ranges
 pub mod ToldChanges
 pub mod Listings
 pub mod ImageEntries
+pub mod Gaps

@@ -1,5 +1,4 @@
 -- What the fields of the checkpoints hold.
-use Rattle.std.specs.Prelude.{◌-◌, vec_capacity, vec_len}
 use Rattle.nl_cpfile.specs.Tables.{Table, Roomy}
 use Rattle.nl_cpfile.specs.declared.table.Checkpoints.TheInside.{Inside}
 
@@ -7,7 +6,4 @@ abbrev pub table_of : Inside → Table
 table_of inside = record { earlier = inside.earlier.items; latest = inside.latest }
 
 abbrev pub roomy_of : Inside → Roomy
-roomy_of inside = record {
-  table = table_of inside;
-  room = vec_capacity inside.earlier - vec_len inside.earlier;
-}
+roomy_of inside = record { table = table_of inside; room = inside.earlier.room }

@@ -105,3 +105,8 @@ pub record Roomy : Type 0 where
   pub table : Table
   -- for how many more checkpoints there is room
   pub room : ℕ
+
+-- a list of checkpoints, and the room for more behind it
+pub record RoomyList : Type 0 where
+  pub items : List Checkpoint
+  pub room : ℕ

@@ -2,6 +2,7 @@
 #![tactic(auto)]
 
 mod checkpoint;
+mod earlier;
 mod images;
 mod judging;
 mod listing;

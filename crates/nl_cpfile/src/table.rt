@@ -9,6 +9,7 @@ ghost use Rattle.nl_cpfile.specs.Searching.{IsLeastAbove};
 ghost use Rattle.nl_cpfile.specs.Tables as tables;
 
 use crate::checkpoint::Checkpoint;
+use crate::earlier::Earlier;
 use crate::judging::{count_snapshots, is_no_range, judge};
 use crate::listing::listed;
 use crate::searching::{least_above, place_of};
@@ -31,7 +32,7 @@ pub struct Cpstat {
 /// The kept checkpoints, ascending by their numbers. Contracts see them, and for how many more there is room.
 #[derive(Drop)]
 pub struct Checkpoints {
-    earlier: Vec<Checkpoint>,
+    earlier: Earlier,
     latest: Checkpoint,
 }
 
@@ -55,7 +56,7 @@ impl Checkpoints {
         ensures { result.table ≡ record { earlier = []; latest = first } }
     {
         Checkpoints {
-            earlier: Vec::new(alloc),
+            earlier: Earlier::new(alloc),
             latest: first,
         }
     }
@@ -65,7 +66,10 @@ impl Checkpoints {
         requires { IsTable (record { earlier = earlier.items; latest = latest }) }
         ensures { result.table ≡ record { earlier = earlier.items; latest = latest } }
     {
-        Checkpoints { earlier, latest }
+        Checkpoints {
+            earlier: Earlier::from_vec(earlier),
+            latest,
+        }
     }
 
     /// The latest checkpoint.
@@ -88,8 +92,9 @@ impl Checkpoints {
     pub fn kept(&self, number: CheckpointNumber) -> Option<&Checkpoint>
         ensures { option_copied result ≡ kept_at number self.now.table }
     {
-        match place_of(self.earlier.as_slice(), number) {
-            Some(index) => Some(&self.earlier[index]),
+        let earlier = self.earlier.as_slice();
+        match place_of(earlier, number) {
+            Some(index) => Some(&earlier[index]),
             None if self.latest.number == number => Some(&self.latest),
             None => None,
         }
@@ -109,7 +114,7 @@ impl Checkpoints {
         ensures room { OnOk result (0 < self.new.room) }
         ensures same { OnErr result (self.new ≡ self.old) }
     {
-        self.earlier.reserve(1)
+        self.earlier.reserve()
     }
 
     /// Keeps one more checkpoint, which is now the latest one. Takes no memory.
@@ -119,9 +124,7 @@ impl Checkpoints {
         ensures { self.new.table ≡ tables.with_next checkpoint self.old.table }
     {
         let replaced = replace(&mut self.latest, checkpoint);
-        if self.earlier.push(replaced).is_err() {
-            unreachable!();
-        }
+        self.earlier.push(replaced);
     }
 
     /// Keeps a checkpoint in this mode. Takes no memory. Refused by `NoCheckpoint` where it isn't kept.
@@ -136,9 +139,11 @@ impl Checkpoints {
             self.latest.mode = mode;
             return Ok(());
         }
-        match place_of(self.earlier.as_slice(), number) {
+        let earlier = self.earlier.as_slice();
+        match place_of(earlier, number) {
             Some(index) => {
-                self.earlier[index].mode = mode;
+                let checkpoint = earlier[index];
+                self.earlier.set(index, Checkpoint { mode, ..checkpoint });
                 Ok(())
             }
             None => Err(VolError::NoCheckpoint),
@@ -161,9 +166,10 @@ impl Checkpoints {
                 Mode::Snapshot => VolError::IsSnapshot,
             });
         }
-        match place_of(self.earlier.as_slice(), number) {
+        let earlier = self.earlier.as_slice();
+        match place_of(earlier, number) {
             None => Err(VolError::NoCheckpoint),
-            Some(index) => match self.earlier[index].mode {
+            Some(index) => match earlier[index].mode {
                 Mode::Snapshot => Err(VolError::IsSnapshot),
                 Mode::Plain => {
                     self.earlier.remove(index);
@@ -248,7 +254,7 @@ impl Checkpoints {
         if is_no_range(first, last) {
             return Err(VolError::BadRange);
         }
-        let range = judge(alloc, &self.earlier, &self.latest, first, last)?;
+        let range = judge(alloc, self.earlier.as_slice(), &self.latest, first, last)?;
         if range.is_empty() {
             return Err(VolError::NoCheckpoint);
         }

@@ -95,7 +95,7 @@ pub(crate) fn load_all<S: Space>(
     ensures fault { IsErrOf result VolError.Fault → S.failure_count space.old < S.failure_count space.new }
     ensures errors { IfErr result IsLoadError }
 {
-    let mut payload = Vec::new(alloc);
+    let mut payload = Vec::with_capacity(alloc, numbers.len())?;
     for number in numbers {
         payload.push(load_one(space, table, segment, *number)?)?;
     }

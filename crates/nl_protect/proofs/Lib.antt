@@ -3,4 +3,5 @@ mod ConfigurationLaws
 mod Kept
 mod Expiring
 mod Gone
+mod Staying
 mod Numerals

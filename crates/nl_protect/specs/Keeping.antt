@@ -1,5 +1,5 @@
 -- Where checkpoints lie, and which of them stay.
-use Rattle.std.specs.Prelude.{ℕ, Bool, not, nat_le, nat_lt, List, Option}
+use Rattle.std.specs.Prelude.{ℕ, Bool, false, not, nat_le, nat_lt, List, Option, None, Some}
 use Rattle.std.specs.List.{filter, find, list_any}
 use Rattle.std.specs.Option.{option_map}
 use Rattle.nl_types.specs.Protection as protection
@@ -33,3 +33,12 @@ is_staying below c = protection.is_staying below (row_of c)
 -- whether one of those from a first number on and before an end stays
 abbrev pub found : (below start end : ℕ) → List Checkpoint → Bool
 found below start end kept = list_any (is_staying below) (filter (is_from start) (filter (is_before end) kept))
+
+-- the number of the first one that stays
+abbrev pub first_staying : (below : ℕ) → List Checkpoint → Option ℕ
+first_staying below kept = option_map (λ (c : Checkpoint). c.number) (find (is_staying below) kept)
+
+-- whether there is an end, no later than with a checkpoint
+abbrev pub has_ended_by : ℕ → Option ℕ → Bool
+has_ended_by n None = false
+has_ended_by n (Some end) = nat_le end n

@@ -14,5 +14,5 @@ mod words;
 
 pub use amount::Amount;
 pub use config::Config;
-pub use protection::{boundary, expired, expiring_run, needed};
+pub use protection::{boundary, expired, expiring_run, first_staying, needed, needed_from};
 pub use rounds::ends_round;

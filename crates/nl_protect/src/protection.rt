@@ -1,13 +1,13 @@
 //! Which checkpoints a protection period protects, and which pages the kept ones need.
 ghost use Rattle.std.specs.Prelude.{◌≡◌, ℕ, ◌<◌, ◌≤◌, ◌&&◌, true, [], ◌∷◌, ◌++◌, unwrap_or, IfOk, IfSome, OnErr, slice_get};
-ghost use Rattle.std.specs.List.{filter, list_any};
+ghost use Rattle.std.specs.List.{AllByRecursion, filter, list_any};
 ghost use Rattle.nl_types.specs.Entries.{is_period_needed};
 ghost use Rattle.nl_types.specs.NeedLaws.{AreGone};
 ghost use Rattle.nl_types.specs.PartialMaps.{is_one_of};
 ghost use Rattle.nl_types.specs.Protection as protection;
 ghost use Rattle.nl_types.specs.Rows as told;
 ghost use Rattle.nl_cpfile.specs.Tables as tables;
-ghost use Rattle.nl_protect.specs.Keeping.{first_plain, first_protected, found, is_before, is_from, is_staying};
+ghost use Rattle.nl_protect.specs.Keeping.{first_plain, first_protected, first_staying, found, has_ended_by, is_before, is_from, is_staying};
 
 use nl_cpfile::{Checkpoint, Checkpoints};
 use nl_types::{CheckpointNumber, Items, Period, Row, VolError};
@@ -207,4 +207,45 @@ pub fn needed(kept: &Checkpoints, below: CheckpointNumber, period: Period) -> bo
         return true;
     }
     earlier_stays(kept.earlier(), below, start, end)
+}
+
+/// The number of the first one that stays.
+fn first_staying_of(kept: &[Checkpoint], below: CheckpointNumber) -> Option<CheckpointNumber>
+    ensures { result ≡ first_staying below kept.now }
+{
+    let staying = kept.iter().find(|checkpoint| stays(checkpoint, below))?;
+    Some(staying.number)
+}
+
+/// A number that none of the checkpoints lies below that stay once the plain ones below a number are gone: the first of
+/// these, or the latest one where none stays. Takes no memory, and asks the checkpoints up to the first one that stays.
+pub fn first_staying(kept: &Checkpoints, below: CheckpointNumber) -> CheckpointNumber
+    ensures { AllByRecursion (λ n. result ≤ n) (protection.staying below (tables.rows kept.now.table)) }
+{
+    first_staying_of(kept.earlier(), below).unwrap_or(kept.latest().number)
+}
+
+/// Whether there is an end, no later than with a checkpoint.
+fn has_ended_by(end: Option<CheckpointNumber>, checkpoint: CheckpointNumber) -> bool
+    ensures { result ≡ has_ended_by checkpoint end }
+{
+    match end {
+        Some(end) => end <= checkpoint,
+        None => false,
+    }
+}
+
+/// What `needed` tells, by a number that none of the checkpoints lies below that stay: what has ended by then isn't needed,
+/// and is not looked for among them.
+pub fn needed_from(
+    kept: &Checkpoints,
+    below: CheckpointNumber,
+    first: CheckpointNumber,
+    period: Period,
+) -> bool
+    requires { AllByRecursion (λ n. first ≤ n) (protection.staying below (tables.rows kept.now.table)) }
+    ensures { result ≡ is_period_needed
+        (protection.staying below (tables.rows kept.now.table)) period }
+{
+    !has_ended_by(period.end, first) && needed(kept, below, period)
 }

@@ -184,7 +184,7 @@ impl<D: Device> Space for LogSpace<D> {
     ) -> Result<Vec<BlockNumber>, VolError> {
         let planned = self.table.place(alloc, items.len(), reserve)?;
         let logs = planned.as_slice();
-        let numbers = numbers_of(alloc, self.table.blocks(), logs)?;
+        let numbers = numbers_of(alloc, self.table.blocks(), logs, items.len())?;
         let all = stage(alloc, logs, items, checkpoint, now)?;
         match self.write_logs(all, now) {
             Ok(()) => Ok(numbers),

@@ -19,12 +19,18 @@ fn push_row(numbers: &mut Vec<BlockNumber>, blocks: u32, log: Log) -> Result<(),
     Ok(())
 }
 
-/// The numbers of the payload blocks of these logs, in order, in segments of so many blocks.
-pub fn numbers_of(alloc: Global, blocks: u32, logs: &[Log]) -> Result<Vec<BlockNumber>, AllocError>
+/// The numbers of the payload blocks of these logs, in order, in segments of so many blocks. Room is made for as many as the
+/// caller knows of.
+pub fn numbers_of(
+    alloc: Global,
+    blocks: u32,
+    logs: &[Log],
+    known: usize,
+) -> Result<Vec<BlockNumber>, AllocError>
     requires { AllByRecursion (λ log. first_block blocks log + 1 + log.count ≤ 262144) logs.now }
     ensures { IfOk result (λ numbers. numbers.items ≡ addresses blocks logs.now) }
 {
-    let mut numbers = Vec::new(alloc);
+    let mut numbers = Vec::with_capacity(alloc, known)?;
     for log in logs {
         push_row(&mut numbers, blocks, *log)?;
     }

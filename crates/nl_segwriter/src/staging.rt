@@ -27,7 +27,7 @@ ghost use Rattle.nl_segwriter.specs.Staging.{IsStaged, AreStaged, AreSized};
 fn tags_of(alloc: Global, items: &[Payload]) -> Result<Vec<Tag>, AllocError>
     ensures { IfOk result (λ tags. tags.items ≡ map payload_tag items.now) }
 {
-    let mut tags = Vec::new(alloc);
+    let mut tags = Vec::with_capacity(alloc, items.len())?;
     for (tag, _) in items {
         tags.push(*tag)?;
     }
@@ -67,23 +67,23 @@ fn pages_of(
         (record { stamp = stamp; checkpoint = checkpoint; tags = map payload_tag items.now })
         ∷ map payload_page items.now) }
 {
-    let mut pages = Items::new(alloc);
+    let mut pages = Vec::with_capacity(alloc, items.len() + 1)?;
     pages.push(summary_page(alloc, items, checkpoint, stamp)?)?;
     for (_, page) in items {
         pages.push(page.share()?)?;
     }
-    Ok(pages)
+    Ok(Items::from_vec(pages))
 }
 
 // For memory: the items again, with shared pages.
 fn payload_of(alloc: Global, items: &[Payload]) -> Result<Items<Payload>, AllocError>
     ensures { IfOk result (λ payload. payload ≡ items.now) }
 {
-    let mut payload = Items::new(alloc);
+    let mut payload = Vec::with_capacity(alloc, items.len())?;
     for (tag, page) in items {
         payload.push((*tag, page.share()?))?;
     }
-    Ok(payload)
+    Ok(Items::from_vec(payload))
 }
 
 // One log of these items.
@@ -122,7 +122,7 @@ pub fn stage(
     requires count { payload_count logs.now ≡ length items.now }
     ensures { IfOk result (λ all. AreStaged stamp checkpoint logs.now items.now all.items) }
 {
-    let mut all = Vec::new(alloc);
+    let mut all = Vec::with_capacity(alloc, logs.len())?;
     let mut rest = items;
     for log in logs {
         let (part, others) = rest.split_at(log.count as usize);

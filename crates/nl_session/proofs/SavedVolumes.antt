@@ -1,5 +1,5 @@
 -- Volumes that are saved and opened again.
-use Rattle.std.proofs.Common.{◌≡◌, ◌∙◌, ℕ, List, sym}
+use Rattle.std.proofs.Common.{◌≡◌, ◌∙◌}
 use Rattle.nl_types.specs.Worlds.{World}
 use Rattle.nl_core.specs.Layout.{Layout, MeansWorld}
 use Rattle.nl_core.specs.Opened.{IsAtRest}

@@ -2,7 +2,6 @@
 use Rattle.std.proofs.Common.{◌≡◌, ◌≢◌, ◌∙◌, Bool, true, false, ℕ, List, [], None, Option, Some, refl, subst, sym}
 use Rattle.nl_core.specs.Layout.{Layout}
 use Rattle.nl_core.specs.PenImages.{CanBeClosed}
-use Rattle.nl_core.specs.Volume.{Lists}
 use Rattle.nl_session.specs.Endings.{IsSettled}
 
 -- where a path is named, it is asked for

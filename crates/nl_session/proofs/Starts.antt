@@ -1,5 +1,5 @@
 -- What a session begins with.
-use Rattle.std.proofs.Common.{◌≡◌, inl, inr, refl, subst, sym}
+use Rattle.std.proofs.Common.{◌≡◌, inl, inr}
 use Rattle.nl_types.specs.declared.error.VolError.{VolError}
 use Rattle.nl_types.specs.declared.error.VolError.TheVariants.{Memory}
 use Rattle.nl_core.specs.Layout.{Layout}

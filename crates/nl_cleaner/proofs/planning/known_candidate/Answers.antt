@@ -1,4 +1,4 @@
-use Rattle.std.proofs.Common.{◌≡◌, ℕ, ◌-◌, ◌&&◌, List, sym, ap, ◌∙◌}
+use Rattle.std.proofs.Common.{◌≡◌, ℕ, ◌-◌, Bool, false, ◌&&◌, List, ap, subst, ◌∙◌}
 use Rattle.std.specs.Prelude.{nat_le, slice_index_or}
 use Rattle.nl_types.specs.declared.segment.SegmentInfo.{SegmentInfo}
 use Rattle.nl_core.specs.CleanerViews.{needed_after}
@@ -17,6 +17,6 @@ returns-else-may_qualify g c = λ below is.
     c.needed_of.ensures ∙ ap (λ (counts : List ℕ). slice_index_or counts c.args.segment 0) is
     ∙ count-of c.args.pen.now below c.args.segment c.requires.segment in
     too-few-used c.args.pen.now below c.args.least c.args.segment
-    (ap (λ (i : SegmentInfo). is_dirty i.state && nat_le c.args.least (i.used - needed_after c.args.pen.now below c.args.segment)) (sym c.requires.info)
-    ∙ ap (λ (n : ℕ). is_dirty c.args.info.state && nat_le c.args.least (c.args.info.used - n)) (sym needed)
-    ∙ sym c.may_qualify.ensures ∙ c.if-may_qualify.false)
+    (subst (λ (i : SegmentInfo). (is_dirty i.state && nat_le c.args.least (i.used - needed_after c.args.pen.now below c.args.segment)) ≡ false) c.requires.info
+    (subst (λ (n : ℕ). (is_dirty c.args.info.state && nat_le c.args.least (c.args.info.used - n)) ≡ false) needed
+    (subst (λ (t : Bool). t ≡ false) c.may_qualify.ensures c.if-may_qualify.false)))

@@ -10,4 +10,4 @@ returns-clause-counts g c =
     let table = c.args.kept.now.table in
     let stay = staying c.args.below (rows table) in
     counts-left c.after.result (g.V.Vstore.store c.args.store.now) c.args.needed.now (is_period_needed stay) _ _ (kept_numbers (all table)) stay
-    c.after.ensures.counts c.requires.needed c.expiring_run-first.ensures.run (λ p. refl)
+    c.after.ensures.counts c.requires.needed c.expiring_run-gone.ensures.run (λ p. refl)

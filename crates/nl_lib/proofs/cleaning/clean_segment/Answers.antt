@@ -1,5 +1,4 @@
-use Rattle.std.proofs.Common.{◌≡◌, suc, true, false, sym, ◌∙◌}
-use Rattle.nl_lib.specs.CleanedSegments.{Cleans}
+use Rattle.std.proofs.Common.{suc, sym, ◌∙◌}
 use Rattle.nl_lib.proofs.MovedAway.{fewer}
 use Rattle.nl_lib.proofs.cleaning.clean_segment.Goals as goal
 

@@ -1,5 +1,4 @@
 use Rattle.std.proofs.Common.{◌∙◌, ◌∷◌, ◌++◌, [], ap, sym, subst}
-use Rattle.std.specs.Prelude.{if◌then◌else◌}
 use Rattle.nl_cpfile.specs.declared.checkpoint.Checkpoint.{Checkpoint}
 use Rattle.nl_cpfile.specs.Inside.{table_of}
 use Rattle.nl_cpfile.specs.Tables.{ComesNext, IsTable, Roomy}
@@ -10,5 +9,5 @@ pub invariant_of-self : goal.invariant_of-self
 invariant_of-self c =
     let t = table_of c.self.inside in
     let next : ComesNext c.args.checkpoint t = subst (λ (r : Roomy). ComesNext c.args.checkpoint r.table) (sym c.self.view_is) c.requires.next in
-    let pushed = c.push.ensures.items ∙ ap (λ b. if b then (t.earlier ++ c.replace-replaced.result ∷ []) else t.earlier) c.if-is_err.ensures.negation ∙ ap (λ (x : Checkpoint). t.earlier ++ x ∷ []) c.replace-replaced.ensures.value in
+    let pushed = c.push.ensures.items ∙ ap (λ (x : Checkpoint). t.earlier ++ x ∷ []) c.replace-replaced.ensures.value in
     subst IsTable (sym (same_table pushed c.replace-replaced.ensures.after)) (with_next-IsTable c.args.checkpoint t c.self.invariant next)

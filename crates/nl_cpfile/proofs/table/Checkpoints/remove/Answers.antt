@@ -1,13 +1,14 @@
 use Rattle.std.proofs.Common.{◌≡◌, ◌∙◌, ◌∷◌, ◌<◌, [], List, ℕ, eqb, false, get_or, ap, refl, subst, sym}
 use Rattle.std.specs.List.{filter}
 use Rattle.std.specs.Prelude.{Err, None, Some}
+use Rattle.nl_types.specs.declared.event.Mode.{Mode}
 use Rattle.nl_types.specs.declared.error.VolError.TheVariants.{IsSnapshot, Latest}
 use Rattle.nl_cpfile.specs.declared.checkpoint.Checkpoint.{Checkpoint}
 use Rattle.nl_cpfile.specs.Inside.{table_of}
 use Rattle.nl_types.specs.Rows.{is_among, removal}
 use Rattle.nl_cpfile.specs.Searching.{HasNumberAt}
 use Rattle.nl_cpfile.specs.Tables.{IsTable, Roomy, is_kept_without, rows, without}
-use Rattle.nl_cpfile.proofs.Found.{earlier-IsRising, kept-earlier, kept-last, kept-none, other_number, remove-filter}
+use Rattle.nl_cpfile.proofs.Found.{earlier-IsRising, get_or_same, kept-earlier, kept-last, kept-none, other_number, remove-filter}
 use Rattle.nl_cpfile.proofs.Rising.{earlier-low, filter-IsTable, same_table}
 use Rattle.nl_cpfile.proofs.Told.{latest-stays, plain-goes, removal-kept, removal-none, snapshot-stays}
 use Rattle.nl_cpfile.proofs.ToldChanges.{latest-not_among, rows-without}
@@ -25,38 +26,48 @@ returns-then-eq-clause-judged c =
     ] ∙ ap (λ (r : Roomy). removal n r.table.latest.number (rows r.table)) c.self.view_is
 
 pub place_of-requires : goal.place_of-requires
-place_of-requires c = earlier-IsRising (table_of c.self.inside) c.self.invariant c.args.number _ c.as_slice.ensures.value
+place_of-requires c = earlier-IsRising (table_of c.self.inside) c.self.invariant c.args.number _ c.as_slice-earlier.ensures.value
 
 pub returns-in-None-clause-judged : goal.returns-in-None-clause-judged
 returns-in-None-clause-judged c =
     let t = table_of c.self.inside in
     let n = c.args.number in
-    removal-none n t (kept-none t c.self.invariant n _ c.as_slice.ensures.value c.in-None.ensures (sym c.if-eq.ensures))
+    removal-none n t (kept-none t c.self.invariant n _ c.as_slice-earlier.ensures.value c.in-None.ensures (sym c.if-eq.ensures))
     ∙ ap (λ (r : Roomy). removal n r.table.latest.number (rows r.table)) c.self.view_is
+
+abbrev mode_in : Checkpoint → Mode
+mode_in checkpoint = checkpoint.mode
 
 pub returns-in-Snapshot-mode-clause-judged : goal.returns-in-Snapshot-mode-clause-judged
 returns-in-Snapshot-mode-clause-judged c =
     let t = table_of c.self.inside in
     let n = c.args.number in
-    let here = kept-earlier t c.self.invariant n _ c.in-Some.index _ c.as_slice.ensures.value c.in-Some.ensures
-    (c.index.ensures ∙ ap (λ (cs : List Checkpoint). get_or cs c.in-Some.index c.index.result.now) (sym c.as_slice.ensures.value)) in
-    removal-kept n t c.index.result.now (Some IsSnapshot) here (snapshot-stays t.latest.number c.index.result.now c.in-Snapshot-mode.is)
+    let items = c.as_slice-earlier.result.now in
+    let index = c.in-Some.index in
+    let has = c.in-Some.ensures in
+    let found = get_or items index t.latest in
+    let mode = ap mode_in (get_or_same items index t.latest _ has.inside) ∙ c.in-Snapshot-mode.is in
+    let here = kept-earlier t c.self.invariant n items index found c.as_slice-earlier.ensures.value has (get_or_same items index t.latest found has.inside) in
+    removal-kept n t found (Some IsSnapshot) here (snapshot-stays t.latest.number found mode)
     ∙ ap (λ (r : Roomy). removal n r.table.latest.number (rows r.table)) c.self.view_is
 
 pub returns-in-Plain-mode-clause-judged : goal.returns-in-Plain-mode-clause-judged
 returns-in-Plain-mode-clause-judged c =
     let t = table_of c.self.inside in
     let n = c.args.number in
-    let at = c.index.ensures ∙ ap (λ (cs : List Checkpoint). get_or cs c.in-Some.index c.index.result.now) (sym c.as_slice.ensures.value) in
-    let here = kept-earlier t c.self.invariant n _ c.in-Some.index _ c.as_slice.ensures.value c.in-Some.ensures at in
-    let number : c.index.result.now.number ≡ n = ap (λ (x : Checkpoint). x.number) at ∙ c.in-Some.ensures.number c.index.result.now in
-    let other : eqb c.index.result.now.number t.latest.number ≡ false = other_number t.latest.number number (sym c.if-eq.ensures) in
-    removal-kept n t c.index.result.now None here (plain-goes t.latest.number c.index.result.now c.in-Plain-mode.is other)
+    let items = c.as_slice-earlier.result.now in
+    let index = c.in-Some.index in
+    let has = c.in-Some.ensures in
+    let found = get_or items index t.latest in
+    let mode = ap mode_in (get_or_same items index t.latest _ has.inside) ∙ c.in-Plain-mode.is in
+    let here = kept-earlier t c.self.invariant n items index found c.as_slice-earlier.ensures.value has (get_or_same items index t.latest found has.inside) in
+    let other : eqb found.number t.latest.number ≡ false = other_number t.latest.number (has.number t.latest) (sym c.if-eq.ensures) in
+    removal-kept n t found None here (plain-goes t.latest.number found mode other)
     ∙ ap (λ (r : Roomy). removal n r.table.latest.number (rows r.table)) c.self.view_is
 
 -- it stands among the earlier ones
 here : (c : goal.After-remove) → HasNumberAt c.self.inside.earlier.items c.args.number c.in-Some.index
-here c = subst (λ (cs : List Checkpoint). HasNumberAt cs c.args.number c.in-Some.index) c.as_slice.ensures.value c.in-Some.ensures
+here c = subst (λ (cs : List Checkpoint). HasNumberAt cs c.args.number c.in-Some.index) c.as_slice-earlier.ensures.value c.in-Some.ensures
 
 pub returns-in-Plain-mode-clause-low : goal.returns-in-Plain-mode-clause-low
 returns-in-Plain-mode-clause-low c =
@@ -70,8 +81,8 @@ left : (c : goal.After-remove) → c.remove.new.self.items ≡ filter (is_kept_w
 left c =
     let items = c.self.inside.earlier.items in
     let has = here c in
-    c.remove.ensures.items ∙ remove-filter c.args.number items c.in-Some.index c.index.result.now
-    (earlier-IsRising (table_of c.self.inside) c.self.invariant c.args.number items refl) has.inside (has.number c.index.result.now)
+    c.remove.ensures.items ∙ remove-filter c.args.number items c.in-Some.index c.self.inside.latest
+    (earlier-IsRising (table_of c.self.inside) c.self.invariant c.args.number items refl) has.inside (has.number c.self.inside.latest)
 
 pub invariant_of-self : goal.invariant_of-self
 invariant_of-self c =

@@ -1,11 +1,11 @@
-use Rattle.std.proofs.Common.{◌∙◌, List, get_or, ap, subst, sym}
+use Rattle.std.proofs.Common.{◌≡◌, ◌∙◌, refl, List, get_or, ap, subst, sym}
 use Rattle.nl_cpfile.specs.declared.checkpoint.Checkpoint.{Checkpoint}
 use Rattle.nl_cpfile.specs.Inside.{table_of}
 use Rattle.nl_types.specs.Rows.{mode_change}
 use Rattle.nl_cpfile.specs.Searching.{HasNumberAt}
-use Rattle.nl_cpfile.specs.Tables.{IsTable, Roomy, rows, with_mode}
+use Rattle.nl_cpfile.specs.Tables.{IsTable, Roomy, RoomyList, rows, with_mode}
 use Rattle.nl_cpfile.proofs.Found.{earlier-IsRising, kept-earlier, kept-last, kept-none, with_mode-earlier, with_mode-latest}
-use Rattle.nl_cpfile.proofs.Rising.{with_mode-IsTable}
+use Rattle.nl_cpfile.proofs.Rising.{same_table, with_mode-IsTable}
 use Rattle.nl_cpfile.proofs.Told.{mode_change-kept, mode_change-none}
 use Rattle.nl_cpfile.proofs.ToldChanges.{rows-with_mode}
 use Rattle.nl_cpfile.proofs.table.Checkpoints.set_mode.Goals as goal
@@ -28,34 +28,37 @@ returns-then-eq-clause-changed c =
     ∙ ap (λ (r : Roomy). with_mode c.args.number c.args.mode r.table) c.self.view_is
 
 pub place_of-requires : goal.place_of-requires
-place_of-requires c = earlier-IsRising (table_of c.self.inside) c.self.invariant c.args.number _ c.as_slice.ensures.value
+place_of-requires c = earlier-IsRising (table_of c.self.inside) c.self.invariant c.args.number _ c.as_slice-earlier.ensures.value
+
+-- what is left is the table with the mode
+left : (c : goal.After-set) → with_mode c.args.number c.args.mode (table_of c.self.inside) ≡ record { earlier = c.set.new.self.items; latest = c.self.inside.latest }
+left c =
+    let t = table_of c.self.inside in
+    let found = c.index-earlier-index.result in
+    let has : HasNumberAt t.earlier c.args.number c.in-Some.index = subst (λ (cs : List Checkpoint). HasNumberAt cs c.args.number c.in-Some.index) c.as_slice-earlier.ensures.value c.in-Some.ensures in
+    let at = c.index-earlier-index.is ∙ ap (λ (cs : List Checkpoint). get_or cs c.in-Some.index found) c.as_slice-earlier.ensures.value in
+    with_mode-earlier t c.self.invariant c.args.number c.args.mode c.in-Some.index found (sym c.if-eq.ensures) has at
+    ∙ same_table (sym (ap (λ (r : RoomyList). r.items) c.set.ensures)) refl
 
 pub invariant_of-self-in-Some : goal.invariant_of-self-in-Some
 invariant_of-self-in-Some c =
-    let t = table_of c.self.inside in
-    let has : HasNumberAt t.earlier c.args.number c.in-Some.index = subst (λ (cs : List Checkpoint). HasNumberAt cs c.args.number c.in-Some.index) c.as_slice.ensures.value c.in-Some.ensures in
-    subst IsTable
-    (with_mode-earlier t c.self.invariant c.args.number c.args.mode c.in-Some.index c.index_mut.result.now (sym c.if-eq.ensures) has c.index_mut.ensures.value)
-    (with_mode-IsTable c.args.number c.args.mode t c.self.invariant)
+    subst IsTable (left c) (with_mode-IsTable c.args.number c.args.mode (table_of c.self.inside) c.self.invariant)
 
 pub returns-in-Some-clause-judged : goal.returns-in-Some-clause-judged
 returns-in-Some-clause-judged c =
     let t = table_of c.self.inside in
-    let at = c.index_mut.ensures.value ∙ ap (λ (cs : List Checkpoint). get_or cs c.in-Some.index c.index_mut.result.now) (sym c.as_slice.ensures.value) in
-    mode_change-kept c.args.number t c.index_mut.result.now (kept-earlier t c.self.invariant c.args.number _ c.in-Some.index _ c.as_slice.ensures.value c.in-Some.ensures at)
+    let found = c.index-earlier-index.result in
+    mode_change-kept c.args.number t found (kept-earlier t c.self.invariant c.args.number _ c.in-Some.index found c.as_slice-earlier.ensures.value c.in-Some.ensures c.index-earlier-index.is)
     ∙ ap (λ (r : Roomy). mode_change c.args.number (rows r.table)) c.self.view_is
 
 pub returns-in-Some-clause-changed : goal.returns-in-Some-clause-changed
 returns-in-Some-clause-changed c =
-    let t = table_of c.self.inside in
-    let has : HasNumberAt t.earlier c.args.number c.in-Some.index = subst (λ (cs : List Checkpoint). HasNumberAt cs c.args.number c.in-Some.index) c.as_slice.ensures.value c.in-Some.ensures in
-    sym (with_mode-earlier t c.self.invariant c.args.number c.args.mode c.in-Some.index c.index_mut.result.now (sym c.if-eq.ensures) has c.index_mut.ensures.value)
-    ∙ ap (λ (r : Roomy). with_mode c.args.number c.args.mode r.table) c.self.view_is
+    sym (left c) ∙ ap (λ (r : Roomy). with_mode c.args.number c.args.mode r.table) c.self.view_is
 
 pub returns-in-None-clause-judged : goal.returns-in-None-clause-judged
 returns-in-None-clause-judged c =
     let t = table_of c.self.inside in
-    mode_change-none c.args.number t (kept-none t c.self.invariant c.args.number _ c.as_slice.ensures.value c.in-None.ensures (sym c.if-eq.ensures))
+    mode_change-none c.args.number t (kept-none t c.self.invariant c.args.number _ c.as_slice-earlier.ensures.value c.in-None.ensures (sym c.if-eq.ensures))
     ∙ ap (λ (r : Roomy). mode_change c.args.number (rows r.table)) c.self.view_is
 
 pub returns-then-eq-clause-told : goal.returns-then-eq-clause-told

@@ -1,4 +1,4 @@
-use Rattle.std.proofs.Common.{rules, ap, sym, ◌∙◌, subst}
+use Rattle.std.proofs.Common.{ap, sym, ◌∙◌, subst}
 use Rattle.nl_core.specs.Commits.{IsNext, applied}
 use Rattle.nl_core.specs.Shown.{Shown}
 use Rattle.nl_core.specs.declared.commit.Commit.TheVariants.{RangeRemoved}
