@@ -46,6 +46,8 @@ fn case_of(word: &str) -> Option<Case> {
         "read_ports" => Some(Case::Reads),
         "read_ports_into_new" => Some(Case::ReadsIntoNew),
         "read_ports_beside_writer" => Some(Case::ReadsBesideWriter),
+        "read_kept" => Some(Case::ReadsOfKept),
+        "read_kept_beside_writer" => Some(Case::ReadsOfKeptBesideWriter),
         "write_beside_ports" => Some(Case::CallsBesidePorts),
         "checkpoint_beside_ports" => Some(Case::CheckpointsBesidePorts),
         _ => None,
@@ -103,6 +105,7 @@ fn tell_usage(rt: &HostRuntime) -> u8 {
     let _ = eprintln!(rt;
         "       nl_bench read_ports|read_ports_into_new|read_ports_beside_writer PORTS BYTES COUNT"
     );
+    let _ = eprintln!(rt; "       nl_bench read_kept|read_kept_beside_writer PORTS BYTES COUNT");
     let _ = eprintln!(rt;
         "       nl_bench write_beside_ports|checkpoint_beside_ports PORTS BYTES COUNT"
     );

@@ -25,6 +25,10 @@ pub(crate) enum Case {
     ReadsIntoNew,
     /// Reads into memory of the thread while a writer makes checkpoints.
     ReadsBesideWriter,
+    /// Reads into memory of the thread, of pages that the port keeps.
+    ReadsOfKept,
+    /// The same while a writer makes checkpoints.
+    ReadsOfKeptBesideWriter,
     /// File calls of a writer while ports read.
     CallsBesidePorts,
     /// File calls with a checkpoint behind each while ports read.
@@ -42,6 +46,9 @@ pub(crate) struct Task {
 
 /// The ports of a volume, whether all of them read or not.
 const PORTS: usize = 4;
+
+/// As many pages as a port keeps, where it does: all of the large file.
+const PAGES: usize = 1024;
 
 /// What the threads of a task share.
 #[derive(Drop)]
@@ -67,6 +74,22 @@ impl<J: Volumes + Send + Sync, R: Threads + Wait + Clock + Sync> Bench<'_, J, R>
     }
 
     // ---- readers
+
+    /// Each port keeps the pages that it reads from now on, where the task is of such.
+    fn warm(&self, ports: &mut [Port<J>]) -> Result<(), VolError> {
+        if !matches!(
+            self.task.case,
+            Case::ReadsOfKept | Case::ReadsOfKeptBesideWriter
+        ) {
+            return Ok(());
+        }
+        for port in ports {
+            port.learn(self.mount);
+            port.set_cache(self.alloc, PAGES)?;
+            port.warm(self.mount, large(), 0, self.task.bytes as u64)?;
+        }
+        Ok(())
+    }
 
     /// Whether a read of the large file's first bytes comes out right.
     fn reads(&self, port: &mut Port<J>, into: &mut [u8]) -> bool {
@@ -173,8 +196,8 @@ impl<J: Volumes + Send + Sync, R: Threads + Wait + Clock + Sync> Bench<'_, J, R>
 
     fn time(&self, ports: &mut [Port<J>]) -> Result<Duration, VolError> {
         match self.task.case {
-            Case::Reads | Case::ReadsIntoNew => self.time_reads(ports),
-            Case::ReadsBesideWriter => {
+            Case::Reads | Case::ReadsIntoNew | Case::ReadsOfKept => self.time_reads(ports),
+            Case::ReadsBesideWriter | Case::ReadsOfKeptBesideWriter => {
                 let (took, written) = join(
                     self.rt,
                     || self.time_reads(ports),
@@ -213,6 +236,7 @@ fn time_on<J: Volumes + Send + Sync, R: Threads + Wait + Clock + Sync>(
         failed: AtomicBool::new(false),
     };
     let count = task.ports.min(ports.len());
+    bench.warm(&mut ports[..count])?;
     let took = bench.time(&mut ports[..count]);
     if bench.failed.load(Ordering::SeqCst) {
         return Err(VolError::BadMount);

@@ -1,2 +1,6 @@
 pub mod Looking
 pub mod Lanes
+pub mod Parts
+pub mod PortPages
+pub mod Stored
+pub mod Warming

@@ -8,7 +8,6 @@ use lib.ListN.{get_elem?}
 use Rattle.crossbeam_utils.specs.Register.{Turns}
 use Rattle.nl_types.specs.Roots.{Pages}
 use Rattle.nl_types.specs.Trees.{Tree}
-use Rattle.nl_layout.specs.declared.root.Root.{Root}
 use Rattle.nl_cpfile.specs.Tables.{kept_at, root_in}
 use Rattle.nl_cpfile.specs.declared.checkpoint.Checkpoint.{Checkpoint}
 use Rattle.nl_core.specs.Commits.{IsHistory, IsImage, image_of}
@@ -19,7 +18,8 @@ use Rattle.nl_publish.specs.Histories.{Known}
 use Rattle.nl_publish.specs.Images.{IsWhole, Kept, Looks}
 use Rattle.nl_publish.specs.Mounts.{Claim, IsClaim}
 use Rattle.nl_publish.specs.Told.{HistoriesShowImages, MountsStay, TreeOn}
-use Rattle.nl_mounts.specs.Ports.{Entered, Finds, IsLater, IsOfRoot, Lacks, LookView, Looked, NoImage, NoMount, Older, Shows, Told, mounted_root}
+use Rattle.nl_mounts.specs.declared.port.MountedTree.{MountedTree}
+use Rattle.nl_mounts.specs.Ports.{Entered, Finds, IsLater, IsMountTree, IsOfTree, Lacks, LookView, Looked, NoImage, NoMount, Older, Shows, Told, mounted_tree, tree_of}
 
 -- ---- what has been seen
 
@@ -44,34 +44,34 @@ set_again (y ∷ xs) (suc i) x at = ap (λ ys. y ∷ ys) (set_again xs i x at)
 pub looks_keep : (seat : ℕ) (v : List ℕ) → Turns Kept seat v (λ x. x) Looks
 looks_keep seat v x views kept at = (v, subst (Kept x) (sym (set_again views seat v at)) kept, (kept.whole, kept.known seat v at, refl))
 
--- ---- roots of mounts
+-- ---- trees of mounts
 
-record HasRoot (o : Option ℕ) (kept : ℕ → Option Checkpoint) (root : Root) : Type 0 where
+record HasTree (o : Option ℕ) (kept : ℕ → Option Checkpoint) (tree : MountedTree) : Type 0 where
   n : ℕ
   checkpoint : Checkpoint
   mounted : o ≡ Some n
   at : kept n ≡ Some checkpoint
-  root_is : root_in checkpoint ≡ root
+  tree_is : tree_of n checkpoint ≡ tree
 
-root_at : (n : ℕ) (kept : ℕ → Option Checkpoint) (o : Option Checkpoint) (root : Root) → kept n ≡ o → option_map root_in o ≡ Some root → HasRoot (Some n) kept root
-root_at n kept None root at is = absurd cc
-root_at n kept (Some c) root at is = record { n = n; checkpoint = c; mounted = refl; at = at; root_is = cc is }
+tree_at : (n : ℕ) (kept : ℕ → Option Checkpoint) (o : Option Checkpoint) (tree : MountedTree) → kept n ≡ o → option_map (tree_of n) o ≡ Some tree → HasTree (Some n) kept tree
+tree_at n kept None tree at is = absurd cc
+tree_at n kept (Some c) tree at is = record { n = n; checkpoint = c; mounted = refl; at = at; tree_is = cc is }
 
-has_root : (o : Option ℕ) (kept : ℕ → Option Checkpoint) (root : Root) → option_and_then (λ n. option_map root_in (kept n)) o ≡ Some root → HasRoot o kept root
-has_root None kept root is = absurd cc
-has_root (Some n) kept root is = root_at n kept (kept n) root refl is
+has_tree : (o : Option ℕ) (kept : ℕ → Option Checkpoint) (tree : MountedTree) → option_and_then (λ n. option_map (tree_of n) (kept n)) o ≡ Some tree → HasTree o kept tree
+has_tree None kept tree is = absurd cc
+has_tree (Some n) kept tree is = tree_at n kept (kept n) tree refl is
 
-lacks_root : (o : Option ℕ) (kept : ℕ → Option Checkpoint) → ((n : ℕ) → o ≡ Some n → (c : Checkpoint) × (kept n ≡ Some c)) → option_and_then (λ n. option_map root_in (kept n)) o ≡ None → o ≡ None
-lacks_root None kept all is = refl
-lacks_root (Some n) kept all is =
+lacks_tree : (o : Option ℕ) (kept : ℕ → Option Checkpoint) → ((n : ℕ) → o ≡ Some n → (c : Checkpoint) × (kept n ≡ Some c)) → option_and_then (λ n. option_map (tree_of n) (kept n)) o ≡ None → o ≡ None
+lacks_tree None kept all is = refl
+lacks_tree (Some n) kept all is =
     let c = all n refl in
-    let none : option_map root_in (Some c.0) ≡ None = ap (λ (k : Option Checkpoint). option_map root_in k) (sym c.1) ∙ is in
+    let none : option_map (tree_of n) (Some c.0) ≡ None = ap (λ (k : Option Checkpoint). option_map (tree_of n) k) (sym c.1) ∙ is in
     absurd (cc none)
 
-means_root : (x : Shown) (n : ℕ) (c : Checkpoint) (root : Root) (t : Tree) → kept_at n x.table ≡ Some c → root_in c ≡ root → TreeOn x n t → RootMeans (pages_shown x) root t
-means_root x n c root t kept is tree =
+means_root : (x : Shown) (n : ℕ) (c : Checkpoint) (t : Tree) → kept_at n x.table ≡ Some c → TreeOn x n t → RootMeans (pages_shown x) (root_in c) t
+means_root x n c t kept tree =
     let same : tree.checkpoint ≡ c = cc (tree.kept, kept) in
-    subst (λ (r : Root). RootMeans (pages_shown x) r t) (ap root_in same ∙ is) tree.means
+    subst (λ (d : Checkpoint). RootMeans (pages_shown x) (root_in d) t) same tree.means
 
 -- ---- looks
 
@@ -87,24 +87,32 @@ module _ (m : Claim) (old new : Known) (i : Image) (images : HistoriesShowImages
   image : IsImage i.tables
   image = subst IsImage (sym shown) (images new.commits history)
 
-  lacks : None ≡ mounted_root i.tables m.number → mounted_on (image_of new.commits) m.number ≡ None
+  lacks : None ≡ mounted_tree i.tables m.number → mounted_on (image_of new.commits) m.number ≡ None
   lacks is = subst (λ (x : Shown). mounted_on x m.number ≡ None) shown
-      (lacks_root (mounted_on i.tables m.number) (λ n. kept_at n i.tables.table) (λ n at. let c = image.mounted m.number n at in (c.0, c.1)) (sym is))
+      (lacks_tree (mounted_on i.tables m.number) (λ n. kept_at n i.tables.table) (λ n at. let c = image.mounted m.number n at in (c.0, c.1)) (sym is))
 
-  pub looked_at : (root : Option Root) → root ≡ mounted_root i.tables m.number → Finds m old new i.tables root
-  looked_at None is = Lacks later history (lacks is) refl
-  looked_at (Some root) is =
-      let at = has_root (mounted_on i.tables m.number) (λ n. kept_at n i.tables.table) root (sym is) in
-      let mounted : mounted_on (image_of new.commits) m.number ≡ Some at.n = subst (λ (x : Shown). mounted_on x m.number ≡ Some at.n) shown at.mounted in
-      let means : (t : Tree) → TreeOn (image_of new.commits) at.n t → RootMeans (pages_shown i.tables) root t =
-      λ t tree. means_root i.tables at.n at.checkpoint root t at.at at.root_is (subst (λ (x : Shown). TreeOn x at.n t) (sym shown) tree) in
-      Shows root later history (record {
+  -- the checkpoint is shown
+  shows : (n : ℕ) (c : Checkpoint) → mounted_on i.tables m.number ≡ Some n → kept_at n i.tables.table ≡ Some c → IsMountTree m old new i.tables (tree_of n c)
+  shows n c mounted_was kept_was =
+      let mounted : mounted_on (image_of new.commits) m.number ≡ Some n = subst (λ (x : Shown). mounted_on x m.number ≡ Some n) shown mounted_was in
+      let means : (t : Tree) → TreeOn (image_of new.commits) n t → RootMeans (pages_shown i.tables) (root_in c) t =
+      λ t tree. means_root i.tables n c t kept_was (subst (λ (x : Shown). TreeOn x n t) (sym shown) tree) in
+      record {
         volume = volume;
-        checkpoint = at.n;
+        shown = shown;
         mounted = mounted;
+        checkpoint = c;
+        kept = subst (λ (x : Shown). kept_at n x.table ≡ Some c) shown kept_was;
+        root = refl;
         means = means;
-        told = λ learned t tree. means t ((stay m new.commits at.n claim history (prefix_trans m.told.commits old.commits new.commits (learned volume) later.commits) mounted).trees t tree);
-      }) refl
+        told = λ learned t tree. means t ((stay m new.commits n claim history (prefix_trans m.told.commits old.commits new.commits (learned volume) later.commits) mounted).trees t tree);
+      }
+
+  pub looked_at : (tree : Option MountedTree) → tree ≡ mounted_tree i.tables m.number → Finds m old new i.tables tree
+  looked_at None is = Lacks later history (lacks is) refl
+  looked_at (Some tree) is =
+      let at = has_tree (mounted_on i.tables m.number) (λ n. kept_at n i.tables.table) tree (sym is) in
+      Shows tree later history (subst (λ (t : MountedTree). IsMountTree m old new i.tables t) at.tree_is (shows at.n at.checkpoint at.mounted at.at)) refl
 
 -- ---- what a call of a port comes to
 
@@ -114,33 +122,33 @@ pub record Comes (m : Claim) (old new : Known) (Refused : Type 0) (Answers : Tre
   pub told : Told m old Refused Answers
 
 module _ (m : Claim) (old new : Known) (x : Shown) (Refused : Type 0) (Answers : Tree → Type 0) where
-  under : (o p : Option Root) → o ≡ p → IsOfRoot (pages_shown x) o Refused Answers → IsOfRoot (pages_shown x) p Refused Answers
-  under o p is answers = subst (λ (r : Option Root). IsOfRoot (pages_shown x) r Refused Answers) is answers
+  under : (o p : Option MountedTree) → o ≡ p → IsOfTree (pages_shown x) o Refused Answers → IsOfTree (pages_shown x) p Refused Answers
+  under o p is answers = subst (λ (r : Option MountedTree). IsOfTree (pages_shown x) r Refused Answers) is answers
 
-  comes_of : (o : Option Root) → Finds m old new x o → IsOfRoot (pages_shown x) o Refused Answers → Comes m old new Refused Answers
+  comes_of : (o : Option MountedTree) → Finds m old new x o → IsOfTree (pages_shown x) o Refused Answers → Comes m old new Refused Answers
   comes_of o (Older same none) answers =
       let refused : Refused = under o None none answers in
       record { later = subst (λ (k : Known). IsLater old k) (sym same) (later_self old); looked = NoImage same refused; told = λ learned t tree. inl refused }
   comes_of o (Lacks later history lacks none) answers =
       let refused : Refused = under o None none answers in
       record { later = later; looked = NoMount history lacks refused; told = λ learned t tree. inl refused }
-  comes_of o (Shows root later history at is) answers =
-      let answered : (t : Tree) → RootMeans (pages_shown x) root t → Answers t = under o (Some root) is answers in
+  comes_of o (Shows tree later history at is) answers =
+      let answered : (t : Tree) → RootMeans (pages_shown x) tree.root t → Answers t = under o (Some tree) is answers in
       record {
         later = later;
-        looked = Entered at.checkpoint at.volume history at.mounted (λ t tree. answered t (at.means t tree));
+        looked = Entered tree.checkpoint at.volume history at.mounted (λ t tree. answered t (at.means t tree));
         told = λ learned t tree. inr (answered t (at.told learned t tree));
       }
 
 -- by the steps of its body
-pub comes : (m : Claim) (old new : Known) (look : LookView) (x : Shown) (o : Option Root) (Refused : Type 0) (Answers : Tree → Type 0)
-    → Finds m old look.front look.shown look.root → new ≡ look.front → x ≡ look.shown → o ≡ look.root → IsOfRoot (pages_shown x) o Refused Answers
+pub comes : (m : Claim) (old new : Known) (look : LookView) (x : Shown) (o : Option MountedTree) (Refused : Type 0) (Answers : Tree → Type 0)
+    → Finds m old look.front look.shown look.tree → new ≡ look.front → x ≡ look.shown → o ≡ look.tree → IsOfTree (pages_shown x) o Refused Answers
     → Comes m old new Refused Answers
 comes m old new look x o Refused Answers finds seen shown root answers =
-    subst (λ (k : Known). Comes m old k Refused Answers) (sym seen) (comes_of m old look.front look.shown Refused Answers look.root finds
-    (under m old new look.shown Refused Answers o look.root root (subst (λ (y : Shown). IsOfRoot (pages_shown y) o Refused Answers) shown answers)))
+    subst (λ (k : Known). Comes m old k Refused Answers) (sym seen) (comes_of m old look.front look.shown Refused Answers look.tree finds
+    (under m old new look.shown Refused Answers o look.tree root (subst (λ (y : Shown). IsOfTree (pages_shown y) o Refused Answers) shown answers)))
 
--- ---- answers under a root
+-- ---- answers under a tree
 
-pub of_root : (pages : Pages) (o : Option Root) (root : Root) (Refused : Type 0) (Answers : Tree → Type 0) → o ≡ Some root → ((t : Tree) → RootMeans pages root t → Answers t) → IsOfRoot pages o Refused Answers
-of_root pages o root Refused Answers is all = subst (λ (r : Option Root). IsOfRoot pages r Refused Answers) (sym is) all
+pub of_tree : (pages : Pages) (o : Option MountedTree) (tree : MountedTree) (Refused : Type 0) (Answers : Tree → Type 0) → o ≡ Some tree → ((t : Tree) → RootMeans pages tree.root t → Answers t) → IsOfTree pages o Refused Answers
+of_tree pages o tree Refused Answers is all = subst (λ (r : Option MountedTree). IsOfTree pages r Refused Answers) (sym is) all

@@ -9,7 +9,7 @@ use Rattle.nl_publish.specs.Histories.{Known}
 use Rattle.nl_publish.specs.Mounts.{Claim}
 use Rattle.nl_publish.specs.Told.{TreeOn}
 use Rattle.nl_mounts.specs.declared.many.ReadJob.{ReadJob}
-use Rattle.nl_mounts.specs.Ports.{IsBytesOf, IsLater}
+use Rattle.nl_mounts.specs.Ports.{IsBytesOf, IsLater, PortView}
 
 abbrev pub JobAnswer : Type 0
 JobAnswer = Result (List ℕ) VolError
@@ -28,9 +28,13 @@ no_memory job = Err Memory
 abbrev pub AreAnswers : Claim → List ReadJob → List JobAnswer → Type 0
 AreAnswers m jobs answers = AllZip (IsAnswerTo m) jobs answers
 
--- each port is later
-abbrev pub AreLater : (old new : List Known) → Type 0
-AreLater old new = AllZip IsLater old new
+-- a port is later, and keeps what it kept
+pub record IsLaterPort (old new : PortView) : Type 0 where
+  pub later : IsLater old.known new.known
+  pub cache : new.cache ≡ old.cache
+
+abbrev pub AreLater : (old new : List PortView) → Type 0
+AreLater old new = AllZip IsLaterPort old new
 
 -- ---- lanes
 
@@ -42,23 +46,23 @@ abbrev pub ArePlaced : Claim → List ReadJob → List (ℕ × JobAnswer) → Ty
 ArePlaced m jobs [] = Unit {0}
 ArePlaced m jobs (a ∷ answers) = IsPlaced m jobs a × ArePlaced m jobs answers
 
--- a port out of its place, and what it has answered
+-- what a port out of its place has seen, and what it has answered
 pub record LaneView : Type 0 where
   pub port : Known
   pub answers : List (ℕ × JobAnswer)
 
 -- a lane that has not run
-abbrev pub idle : Known → LaneView
-idle port = record { port = port; answers = [] }
+abbrev pub idle : PortView → LaneView
+idle port = record { port = port.known; answers = [] }
 
--- a lane that began with a port, and has run
-pub record IsLaneOf (m : Claim) (jobs : List ReadJob) (port : Known) (lane : LaneView) : Type 0 where
-  pub later : IsLater port lane.port
+-- a lane that has seen so much when it began, and has run
+pub record IsLaneOf (m : Claim) (jobs : List ReadJob) (known : Known) (lane : LaneView) : Type 0 where
+  pub later : IsLater known lane.port
   pub answers : ArePlaced m jobs lane.answers
 
 abbrev pub HasRunBy : Claim → List ReadJob → (old new : LaneView) → Type 0
 HasRunBy m jobs old new = IsLaneOf m jobs old.port new
 
 -- lanes that began with ports, and have run
-abbrev pub AreLanes : Claim → List ReadJob → List Known → List LaneView → Type 0
-AreLanes m jobs ports lanes = AllZip (IsLaneOf m jobs) ports lanes
+abbrev pub AreLanes : Claim → List ReadJob → List PortView → List LaneView → Type 0
+AreLanes m jobs ports lanes = AllZip (λ port lane. IsLaneOf m jobs port.known lane) ports lanes

@@ -1,3 +1,5 @@
+pub mod Caching
+pub mod Warming
 pub mod Ports
 pub mod Jobs
 pub mod Sharing

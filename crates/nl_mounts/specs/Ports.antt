@@ -1,5 +1,5 @@
 -- What a port answers.
-use Rattle.std.specs.Prelude.{ℕ, ◌≡◌, ◌≢◌, ◌⊎◌, List, length, take, drop, IfOk, Option, None, Some, Result, Err}
+use Rattle.std.specs.Prelude.{ℕ, ◌≡◌, ◌≢◌, ◌⊎◌, List, Contains, length, take, drop, IfOk, OnErr, Option, None, Some, Result, Ok, Err}
 use Rattle.std.specs.Option.{option_and_then, option_map}
 use mathlib.Core.List.{IsPrefix}
 use Rattle.nl_types.specs.declared.error.VolError.{VolError}
@@ -11,20 +11,41 @@ use Rattle.nl_types.specs.Calls.{ShowsUnlessMemory, and_then, list, read, stat}
 use Rattle.nl_types.specs.Paths.{path_of}
 use Rattle.nl_types.specs.Roots.{Pages}
 use Rattle.nl_types.specs.Trees.{Tree}
-use Rattle.nl_layout.specs.declared.root.Root.{Root}
+use Rattle.nl_layout.specs.Root.{root_of}
 use Rattle.nl_cpfile.specs.Tables.{kept_at, root_in}
+use Rattle.nl_cpfile.specs.declared.checkpoint.Checkpoint.{Checkpoint}
+use Rattle.nl_tree.specs.Held.{Holding}
 use Rattle.nl_tree.specs.Reading.{ShowsAs}
+use Rattle.nl_files.specs.CheckpointTrees.{HoldsTree}
 use Rattle.nl_core.specs.Commits.{IsHistory, image_of}
 use Rattle.nl_core.specs.Means.{RootMeans}
 use Rattle.nl_core.specs.Shown.{Shown, mounted_on, pages_shown}
 use Rattle.nl_publish.specs.Histories.{Known}
 use Rattle.nl_publish.specs.Mounts.{Claim}
 use Rattle.nl_publish.specs.Told.{TreeOn}
+use Rattle.nl_mounts.specs.declared.cache.CacheKey.{CacheKey}
+use Rattle.nl_mounts.specs.declared.port.MountedTree.{MountedTree}
+use Rattle.nl_mounts.specs.Caching.{Cache, HasCachedBlocks}
+use Rattle.nl_mounts.specs.Warming.{HasTouched, IsStored, OfHeldFile, Warms}
+
+-- a port: what it has seen, and what it keeps of files
+pub record PortView : Type 0 where
+  pub known : Known
+  pub cache : Option Cache
+
+-- a port that keeps nothing
+abbrev pub bare : Known → PortView
+bare known = record { known = known; cache = None }
 
 -- the second is known later than the first, of the same volume
 pub record IsLater (old new : Known) : Type 0 where
   pub volume : new.volume ≡ old.volume
   pub commits : IsPrefix old.commits new.commits
+
+-- nothing more is seen, or a history that goes on
+pub data IsSeenOn (old new : Known) : Type 0 where
+  Same : new ≡ old → IsSeenOn old new
+  More : IsLater old new → IsHistory new.commits → IsSeenOn old new
 
 -- ---- answers
 
@@ -38,6 +59,7 @@ pub record IsNotRead (result : Result ℕ VolError) (was now : List ℕ) : Type 
 pub record IsReadOf (t : Tree) (path : List ℕ) (offset : ℕ) (was : List ℕ) (result : Result ℕ VolError) (now : List ℕ) : Type 0 where
   pub reads : ShowsAs (λ count. Bytes (take count now)) result (and_then (path_of path) (read t offset (length was)))
   pub rest : IfOk result (λ count. drop count now ≡ drop count was)
+  pub same : OnErr result (now ≡ was)
 
 -- the bytes, or a refusal as the tree says, or one for memory
 abbrev pub IsBytesOf : Tree → List ℕ → (offset len : ℕ) → Result (List ℕ) VolError → Type 0
@@ -52,42 +74,50 @@ IsListOf t path result = ShowsUnlessMemory (λ names. names) result (and_then (p
 
 -- ---- looks
 
--- the root of the checkpoint that a mount shows
-abbrev pub mounted_root : Shown → ℕ → Option Root
-mounted_root x m = option_and_then (λ n. option_map root_in (kept_at n x.table)) (mounted_on x m)
+-- a checkpoint under its number, as a tree
+abbrev pub tree_of : ℕ → Checkpoint → MountedTree
+tree_of n c = record { checkpoint = n; root = root_in c }
+
+-- the tree that a mount shows
+abbrev pub mounted_tree : Shown → ℕ → Option MountedTree
+mounted_tree x m = option_and_then (λ n. option_map (tree_of n) (kept_at n x.table)) (mounted_on x m)
 
 -- what was seen begins with what the mount was told, where it is of the same volume
 abbrev pub HasLearned : Claim → Known → Type 0
 HasLearned m k = m.told.volume ≡ k.volume → IsPrefix m.told.commits k.commits
 
--- The root of the checkpoint that a mount shows in the image x of what has been seen. Where the mount was learned of, the root
--- means the tree that its checkpoint had when the mount was told.
-pub record IsMountRoot (m : Claim) (old new : Known) (x : Shown) (root : Root) : Type 0 where
+-- The tree that a mount shows in the image x of what has been seen. Where the mount was learned of, its root means the tree
+-- that its checkpoint had when the mount was told.
+pub record IsMountTree (m : Claim) (old new : Known) (x : Shown) (tree : MountedTree) : Type 0 where
   pub volume : m.told.volume ≡ old.volume
-  pub checkpoint : ℕ
-  pub mounted : mounted_on (image_of new.commits) m.number ≡ Some checkpoint
-  pub means : (t : Tree) → TreeOn (image_of new.commits) checkpoint t → RootMeans (pages_shown x) root t
-  pub told : HasLearned m old → (t : Tree) → TreeOn (image_of m.told.commits) m.checkpoint t → RootMeans (pages_shown x) root t
+  pub shown : x ≡ image_of new.commits
+  pub mounted : mounted_on (image_of new.commits) m.number ≡ Some tree.checkpoint
+  pub checkpoint : Checkpoint
+  pub kept : kept_at tree.checkpoint (image_of new.commits).table ≡ Some checkpoint
+  pub root : root_in checkpoint ≡ tree.root
+  pub means : (t : Tree) → TreeOn (image_of new.commits) tree.checkpoint t → RootMeans (pages_shown x) tree.root t
+  pub told : HasLearned m old → (t : Tree) → TreeOn (image_of m.told.commits) m.checkpoint t
+      → RootMeans (pages_shown x) tree.root t
 
 -- What a look for a mount at the image x finds. The image is older than what was seen, and nothing more is seen; or its history
 -- is seen then, and the image lacks the mount, or shows its checkpoint.
-pub data Finds (m : Claim) (old new : Known) (x : Shown) (root : Option Root) : Type 0 where
-  Older : new ≡ old → root ≡ None → Finds m old new x root
-  Lacks : IsLater old new → IsHistory new.commits → mounted_on (image_of new.commits) m.number ≡ None → root ≡ None
-      → Finds m old new x root
-  Shows : (r : Root) → IsLater old new → IsHistory new.commits → IsMountRoot m old new x r → root ≡ Some r
-      → Finds m old new x root
+pub data Finds (m : Claim) (old new : Known) (x : Shown) (tree : Option MountedTree) : Type 0 where
+  Older : new ≡ old → tree ≡ None → Finds m old new x tree
+  Lacks : IsLater old new → IsHistory new.commits → mounted_on (image_of new.commits) m.number ≡ None → tree ≡ None
+      → Finds m old new x tree
+  Shows : (t : MountedTree) → IsLater old new → IsHistory new.commits → IsMountTree m old new x t → tree ≡ Some t
+      → Finds m old new x tree
 
--- what is shown where a port has entered, what it has seen then, and the root that a mount has there
+-- what is shown where a port has entered, what it has seen then, and the tree that a mount has there
 pub record LookView : Type 0 where
   pub shown : Shown
   pub front : Known
-  pub root : Option Root
+  pub tree : Option MountedTree
 
 -- what is answered under a root is true of every tree that the root means; where there is none, the call is refused
-abbrev pub IsOfRoot : Pages → Option Root → (Refused : Type 0) → (Answers : Tree → Type 0) → Type 0
-IsOfRoot pages None Refused Answers = Refused
-IsOfRoot pages (Some root) Refused Answers = (t : Tree) → RootMeans pages root t → Answers t
+abbrev pub IsOfTree : Pages → Option MountedTree → (Refused : Type 0) → (Answers : Tree → Type 0) → Type 0
+IsOfTree pages None Refused Answers = Refused
+IsOfTree pages (Some tree) Refused Answers = (t : Tree) → RootMeans pages tree.root t → Answers t
 
 -- What a call of a port comes to. It is refused where the mount is another volume's, where no image was entered that is as
 -- new as what was seen, and where the image that was entered lacks the mount. Else the answer is that of the mount's
@@ -104,3 +134,37 @@ pub data Looked (m : Claim) (old new : Known) (Refused : Type 0) (Answers : Tree
 abbrev pub Told : Claim → Known → (Refused : Type 0) → (Answers : Tree → Type 0) → Type 0
 Told m old Refused Answers = HasLearned m old
     → (t : Tree) → TreeOn (image_of m.told.commits) m.checkpoint t → Refused ⊎ Answers t
+
+-- ---- what is kept of files
+
+-- P holds of the file at a path of the tree that a mount has, if it has one
+abbrev pub OfTreeFile : Pages → Option MountedTree → (path : List ℕ) → (ℕ → Holding → ℕ → Type 0) → Type 0
+OfTreeFile pages tree path P =
+    (t : MountedTree) → tree ≡ Some t → OfHeldFile (HoldsTree pages (root_of t.root)) t.checkpoint path P
+
+-- so it does of the file in the checkpoint that a mount shows in an image
+abbrev pub OfMountFile : Shown → (mount : ℕ) → (path : List ℕ) → (ℕ → Holding → ℕ → Type 0) → Type 0
+OfMountFile x m path P = (n : ℕ) (c : Checkpoint) → mounted_on x m ≡ Some n → kept_at n x.table ≡ Some c
+    → OfHeldFile (HoldsTree (pages_shown x) (root_of (root_in c))) n path P
+
+-- what is kept are blocks of the files of the tree that a mount has
+abbrev pub IsCacheOf : Pages → Option MountedTree → Option Cache → Type 0
+IsCacheOf pages tree cache = (t : MountedTree) (c : Cache) (held : Holding) → tree ≡ Some t → cache ≡ Some c
+    → HoldsTree pages (root_of t.root) held → HasCachedBlocks c t.checkpoint held
+
+-- each new entry is a block of a file of the tree that a mount has
+abbrev pub PutsOfTree : Pages → Option MountedTree → (old new : Cache) → Type 0
+PutsOfTree pages tree old new = (e : CacheKey × List ℕ) → Contains new.entries e → Contains old.entries e
+    ⊎ ((t : MountedTree) × (tree ≡ Some t) × IsStored (HoldsTree pages (root_of t.root)) t.checkpoint e)
+
+-- where pages are kept, a read does so; else none are
+abbrev pub TouchesIfAny : ((ℕ → Holding → ℕ → Type 0) → Type 0) → (offset : ℕ) → Option Cache → Result ℕ VolError
+    → Option Cache → Type 0
+TouchesIfAny OfFile offset None result new = new ≡ None
+TouchesIfAny OfFile offset (Some old) result new = (c : Cache) × (new ≡ Some c) × HasTouched OfFile offset old result c
+
+-- where pages are kept, warming does so; else it answers 0
+abbrev pub WarmsIfAny : ((ℕ → Holding → ℕ → Type 0) → Type 0) → (offset len : ℕ) → Option Cache → Result ℕ VolError
+    → Option Cache → Type 0
+WarmsIfAny OfFile offset len None result new = (result ≡ Ok 0) × (new ≡ None)
+WarmsIfAny OfFile offset len (Some old) result new = (c : Cache) × (new ≡ Some c) × Warms OfFile offset len old result c

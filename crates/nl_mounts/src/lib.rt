@@ -1,6 +1,9 @@
 //! Readers of a shared volume on other threads: ports, which read mounts without waiting, and the volume that they share.
 #![tactic(auto)]
 
+mod cache;
+mod cached_reads;
+mod cached_tree;
 mod many;
 mod port;
 mod shared;

@@ -44,7 +44,7 @@ impl<J: Volumes> Model for Lane<J> {
 
     ghost Value = { LaneView };
 
-    ghost view = { λ l. record { port = l.port; answers = l.answers.items } };
+    ghost view = { λ l. record { port = l.port.known; answers = l.answers.items } };
 }
 
 /// Adds an answer, where there is memory for it.
@@ -59,7 +59,7 @@ fn push_answer(answers: &mut Vec<(usize, JobAnswer)>, index: usize, answer: JobA
 impl<J: Volumes> Lane<J> {
     /// Takes a port out of its place.
     fn new(alloc: Global, port: &mut Port<J>) -> Lane<J>
-        ensures lane { result ≡ record { port = port.old; answers = [] } }
+        ensures lane { result ≡ idle port.old }
         ensures same { port.new ≡ port.old }
     {
         Lane {
@@ -116,11 +116,12 @@ impl<J: Volumes> Lane<J> {
 
     /// Puts the port back into its place, and takes the answers out.
     fn put_back(&mut self, alloc: Global, port: &mut Port<J>) -> Vec<(usize, JobAnswer)>
-        ensures port { port.new ≡ self.old.port }
+        requires { IsLater port.old.known self.old.port }
+        ensures port { port.new ≡ record { known = self.old.port; cache = port.old.cache } }
         ensures answers { result.items ≡ self.old.answers }
         ensures lane { self.new ≡ record { port = self.old.port; answers = [] } }
     {
-        *port = self.port.take();
+        port.put_back(self.port.take());
         replace(&mut self.answers, Vec::new(alloc))
     }
 }

@@ -38,11 +38,12 @@ fn mount_for<P: NotingPen, J: Volumes, W: Press, R: Wait>(
     port: &mut Port<J>,
     checkpoint: CheckpointNumber,
 ) -> Result<Mount<J>, VolError>
-    ensures mounted { HasMounted port.old checkpoint result }
+    ensures mounted { HasMounted port.old.known checkpoint result }
     ensures checkpoint { IfOk result (λ m. m.checkpoint ≡ checkpoint) }
-    ensures volume { IfOk result (λ m. m.told.volume ≡ port.old.volume) }
-    ensures told { IfOk result (λ m. HasLearned m port.new) }
-    ensures later { IsLater port.old port.new }
+    ensures volume { IfOk result (λ m. m.told.volume ≡ port.old.known.volume) }
+    ensures told { IfOk result (λ m. HasLearned m port.new.known) }
+    ensures later { IsLater port.old.known port.new.known }
+    ensures cache { port.new.cache ≡ port.old.cache }
     ensures same { IfErr result (λ _. port.new ≡ port.old) }
 {
     is_sound(locked);
@@ -109,11 +110,12 @@ impl<P: NotingPen, J: Volumes, W: Press> Shared<P, J, W> {
         port: &mut Port<J>,
         checkpoint: CheckpointNumber,
     ) -> Result<Mount<J>, VolError>
-        ensures mounted { HasMounted port.old checkpoint result }
+        ensures mounted { HasMounted port.old.known checkpoint result }
         ensures checkpoint { IfOk result (λ m. m.checkpoint ≡ checkpoint) }
-        ensures volume { IfOk result (λ m. m.told.volume ≡ port.old.volume) }
-        ensures told { IfOk result (λ m. HasLearned m port.new) }
-        ensures later { IsLater port.old port.new }
+        ensures volume { IfOk result (λ m. m.told.volume ≡ port.old.known.volume) }
+        ensures told { IfOk result (λ m. HasLearned m port.new.known) }
+        ensures later { IsLater port.old.known port.new.known }
+        ensures cache { port.new.cache ≡ port.old.cache }
         ensures same { IfErr result (λ _. port.new ≡ port.old) }
     {
         mount_for(rt, &mut self.locked.lock(rt), port, checkpoint)

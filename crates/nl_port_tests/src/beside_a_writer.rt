@@ -2,11 +2,13 @@
 //! is written, removed and moved meanwhile.
 ghost use Rattle.std.specs.Prelude.{◌≡◌};
 
-use crate::volume::{File, Volume, checkpoint, ends, files, fill, shared_among};
+use crate::volume::{
+    File, Volume, checkpoint, cleans, ends, files, fill, is_checkpoint, shared_among,
+};
 use nl_mounts::Port;
 use nl_protect::{Amount, Config};
 use nl_publish::{Mount, Opened, Volumes};
-use nl_types::{Answer, CheckpointNumber, Mode, Reply, Stat, VolError};
+use nl_types::{CheckpointNumber, Mode, Stat, VolError};
 use std::alloc::Global;
 use std::marker::Brand;
 use std::sync::Wait;
@@ -55,10 +57,6 @@ fn reads_files<J: Volumes>(
     Ok(true)
 }
 
-fn is_checkpoint(reply: &Reply, number: u64) -> bool {
-    matches!(reply, Ok(Answer::Checkpoint(made)) if made.get() == number)
-}
-
 /// No checkpoint is protected, and a segment is cleaned where a block of it isn't needed.
 fn config() -> Config {
     Config {
@@ -67,22 +65,6 @@ fn config() -> Config {
         min_reclaimable_blocks: Amount::Count(1),
         ..Config::standard()
     }
-}
-
-/// One round of cleaning.
-fn cleans<J: Volumes, R: Wait>(
-    rt: &R,
-    alloc: Global,
-    shared: &Volume<J>,
-    now: u64,
-) -> Result<(), VolError> {
-    let mut job = shared.plan(rt, alloc, &config(), now)?;
-    for _ in 0..1000 {
-        if shared.clean_step(rt, &mut job).is_none() {
-            return Ok(());
-        }
-    }
-    Ok(())
 }
 
 /// How many checkpoints the writer makes.
@@ -111,7 +93,7 @@ fn writes<J: Volumes, R: Wait>(
             return Ok(false);
         }
         if turn % 10 == 9 {
-            cleans(rt, alloc, shared, turn)?;
+            cleans(rt, alloc, shared, &config(), turn)?;
         }
     }
     Ok(true)
@@ -123,12 +105,24 @@ fn cleans_often<J: Volumes, R: Wait>(
     shared: &Volume<J>,
 ) -> Result<bool, VolError> {
     for now in 0..200 {
-        cleans(rt, alloc, shared, now)?;
+        cleans(rt, alloc, shared, &config(), now)?;
     }
     Ok(true)
 }
 
-/// Whether two of the ports read what is due.
+/// A port keeps some blocks of the files from now on.
+fn keeps_blocks<J: Volumes>(
+    alloc: Global,
+    port: &mut Port<J>,
+    mount: &Mount<J>,
+) -> Result<bool, VolError> {
+    port.set_cache(alloc, 100)?;
+    let small = port.warm(mount, b"/more", 0, 1025)?;
+    let long = port.warm(mount, b"/long", 50_000, 200_000)?;
+    Ok(small == 2 && long == 197 && port.cached() == 100)
+}
+
+/// Whether two of the ports read what is due, one of them through pages that it keeps.
 fn both_read<J: Volumes + Send + Sync, R: Threads + Sync>(
     rt: &R,
     alloc: Global,
@@ -140,7 +134,10 @@ fn both_read<J: Volumes + Send + Sync, R: Threads + Sync>(
     other.learn(mount);
     let (a, b) = join(
         rt,
-        || reads_files(alloc, one, mount, 50),
+        || match keeps_blocks(alloc, one, mount) {
+            Ok(true) => reads_files(alloc, one, mount, 50),
+            other => other,
+        },
         || reads_files(alloc, other, mount, 50),
     );
     a == Ok(true) && b == Ok(true)

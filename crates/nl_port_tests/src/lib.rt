@@ -7,6 +7,8 @@ mod backup;
 #[cfg(test)]
 mod beside_a_writer;
 #[cfg(test)]
+mod caches;
+#[cfg(test)]
 mod foreign;
 #[cfg(test)]
 mod many_reads;

@@ -4,8 +4,9 @@ ghost use Rattle.std.specs.Prelude.{◌≡◌};
 use nl_core::Pen;
 use nl_device::{Device, MemDevice};
 use nl_mounts::{Port, Shared, share};
+use nl_protect::Config;
 use nl_publish::{Opened, Volumes};
-use nl_types::{Change, Event, Geometry, Items, Mode, VolError};
+use nl_types::{Answer, Change, Event, Geometry, Items, Mode, Reply, VolError};
 use std::alloc::Global;
 use std::sync::Wait;
 
@@ -31,12 +32,23 @@ pub(crate) fn create(alloc: Global, path: &[u8]) -> Result<Event, VolError> {
     Ok(Event::Apply(Change::Create { path }))
 }
 
-pub(crate) fn fill(alloc: Global, path: &[u8], byte: u8, count: usize) -> Result<Event, VolError> {
+/// Writes a byte so many times, from an offset on.
+pub(crate) fn put(
+    alloc: Global,
+    path: &[u8],
+    offset: u64,
+    byte: u8,
+    count: usize,
+) -> Result<Event, VolError> {
     Ok(Event::Apply(Change::Write {
         path: Items::from_slice(alloc, path)?,
-        offset: 0,
+        offset,
         bytes: Items::from_vec(vec![in alloc; byte; count]?),
     }))
+}
+
+pub(crate) fn fill(alloc: Global, path: &[u8], byte: u8, count: usize) -> Result<Event, VolError> {
+    put(alloc, path, 0, byte, count)
 }
 
 pub(crate) fn checkpoint(mode: Mode, moment: u64) -> Event {
@@ -69,10 +81,44 @@ pub(crate) fn shared_among<J: Volumes, R: Wait>(
 ) -> Result<(Volume<J>, Vec<Port<J>>), VolError>
     requires { opened.seen.book ≡ J.book opened.id }
 {
-    match share::<_, J, _>(alloc, rt, new_pen(alloc)?, ports, opened) {
+    share_pen(rt, alloc, new_pen(alloc)?, ports, opened)
+}
+
+/// A pen, shared among so many ports.
+pub(crate) fn share_pen<J: Volumes, R: Wait>(
+    rt: &R,
+    alloc: Global,
+    pen: Pen<MemDevice>,
+    ports: usize,
+    opened: Opened,
+) -> Result<(Volume<J>, Vec<Port<J>>), VolError>
+    requires { opened.seen.book ≡ J.book opened.id }
+{
+    match share::<_, J, _>(alloc, rt, pen, ports, opened) {
         Ok(made) => Ok(made),
         Err((refusal, _pen)) => Err(refusal),
     }
+}
+
+pub(crate) fn is_checkpoint(reply: &Reply, number: u64) -> bool {
+    matches!(reply, Ok(Answer::Checkpoint(made)) if made.get() == number)
+}
+
+/// One round of cleaning.
+pub(crate) fn cleans<J: Volumes, R: Wait>(
+    rt: &R,
+    alloc: Global,
+    shared: &Volume<J>,
+    config: &Config,
+    now: u64,
+) -> Result<(), VolError> {
+    let mut job = shared.plan(rt, alloc, config, now)?;
+    for _ in 0..1000 {
+        if shared.clean_step(rt, &mut job).is_none() {
+            return Ok(());
+        }
+    }
+    Ok(())
 }
 
 /// Ends a volume, and says whether its pen has no mounts.

@@ -7,3 +7,4 @@ pub mod Running
 pub mod Staying
 pub mod Copies
 pub mod Following
+pub mod CachedPages

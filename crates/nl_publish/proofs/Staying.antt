@@ -178,7 +178,7 @@ all_rest : (x : Shown) (xs ys : List Commit) → AllNext x (xs ++ ys) → AllNex
 all_rest x [] ys h = h
 all_rest x (c ∷ xs) ys h = all_rest (applied x c) xs ys h.1
 
-rest_of : (log more : List Commit) → IsHistory (log ++ more) → IsHistory log → AllNext (image_of log) more
+pub rest_of : (log more : List Commit) → IsHistory (log ++ more) → IsHistory log → AllNext (image_of log) more
 rest_of [] more h begun = absurd begun
 rest_of (commit.Whole w ∷ log) more h begun = all_rest (whole_of w) log more h.1
 rest_of (commit.Written w ∷ log) more h begun = absurd h

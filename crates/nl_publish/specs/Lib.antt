@@ -7,3 +7,4 @@ pub mod Begun
 pub mod Cleaning
 pub mod Mounts
 pub mod Told
+pub mod Cached

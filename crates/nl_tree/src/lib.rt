@@ -27,6 +27,7 @@ mod writing;
 pub use current::CurrentTree;
 pub use listing::Listing;
 pub use overlay::{Changed, FileBlocks, Overlay, Slot};
-pub use reading::{answer, list, read, read_into, stat};
+pub use paths::find_file;
+pub use reading::{answer, list, read, read_file_into, read_into, stat};
 pub use tree_read::{Base, Link, TreeRead};
 pub use view::View;

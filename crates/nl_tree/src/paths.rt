@@ -138,8 +138,11 @@ pub(crate) fn find_path<T: TreeRead>(tree: &T, path: &[u8]) -> Result<Link, VolE
     walk(tree, root, names)
 }
 
-/// The file at a path. Refused as `find_path` is, and by `IsDir` where there is a directory.
-pub(crate) fn find_file<T: TreeRead>(tree: &T, path: &[u8]) -> Result<InodeNumber, VolError>
+/// The file at a path. It takes no memory.
+///
+/// Refused by `BadPath` and `BadName` as the path's syntax is, by `NotDir` where a file is on the way, by `NotFound`
+/// where nothing stands, and by `IsDir` where a directory does.
+pub fn find_file<T: TreeRead>(tree: &T, path: &[u8]) -> Result<InodeNumber, VolError>
     ensures { (held : Holding) → T.holds tree.now held
         → result ≡ and_then (link_at held path.now) as_file }
 {

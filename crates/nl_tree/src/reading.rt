@@ -1,5 +1,5 @@
 //! Calls that read a tree.
-ghost use Rattle.std.specs.Prelude.{◌≡◌, ◌≤◌, List, Some, Ok, IfErr, IfOk, OnErr, length, map, take, drop};
+ghost use Rattle.std.specs.Prelude.{◌≡◌, ◌+◌, ◌<◌, ◌≤◌, ◌^◌, List, Some, Ok, IfErr, IfOk, OnErr, length, map, take, drop};
 ghost use Rattle.nl_types.specs.declared.error.VolError;
 ghost use Rattle.nl_types.specs.Paths.{path_of};
 ghost use Rattle.nl_types.specs.Trees.{Tree};
@@ -11,8 +11,28 @@ ghost use Rattle.nl_tree.specs.Reading.{ArePartOf, HoldingMeans, ShowsAs, named_
 use crate::paths::{find_directory, find_file, find_path};
 use crate::tree_read::TreeRead;
 use nl_dirs::Record;
-use nl_types::{Answer, Ask, Items, Kind, Named, Reply, Stat, VolError};
+use nl_types::{Answer, Ask, InodeNumber, Items, Kind, Named, Reply, Stat, VolError};
 use std::alloc::Global;
+
+/// Reads the bytes of a file from an offset on into the front of a slice, as many as there are and it takes, and answers how
+/// many. It takes no memory.
+pub fn read_file_into<T: TreeRead>(
+    tree: &T,
+    file: InodeNumber,
+    offset: u64,
+    into: &mut [u8],
+) -> usize
+    ensures reads { (held : Holding) → T.holds tree.now held
+        → ArePartOf (held file) offset (length into.old) (take result into.new) }
+    ensures within { result ≤ length into.new }
+    ensures end { offset + result < 2 ^ 64 }
+    ensures rest { drop result into.new ≡ drop result into.old }
+{
+    let left = tree.size(file.get()).saturating_sub(offset);
+    let count = into.len().min(left as usize);
+    tree.read_bytes(file.get(), offset, &mut into[..count]);
+    count
+}
 
 /// Reads the bytes of the file at a path from an offset on into the front of a slice, as many as there are and it takes,
 /// and answers how many. It takes no memory.
@@ -33,11 +53,8 @@ pub fn read_into<T: TreeRead>(
     ensures rest { IfOk result (λ count. drop count into.new ≡ drop count into.old) }
     ensures refused { OnErr result (into.new ≡ into.old) }
 {
-    let file = find_file(tree, path)?.get();
-    let left = tree.size(file).saturating_sub(offset);
-    let count = into.len().min(left as usize);
-    tree.read_bytes(file, offset, &mut into[..count]);
-    Ok(count)
+    let file = find_file(tree, path)?;
+    Ok(read_file_into(tree, file, offset, into))
 }
 
 /// What stands at a path: a file with its size, or a directory with the number of its names. It takes no memory.

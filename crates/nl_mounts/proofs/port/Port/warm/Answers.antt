@@ -1,0 +1,15 @@
+use Rattle.std.proofs.Common.{◌≡◌, Err, ap, sym, subst}
+use Rattle.nl_types.specs.declared.error.VolError.TheVariants.{BadMount}
+use Rattle.nl_publish.specs.Histories.{Known}
+use Rattle.nl_mounts.specs.Ports.{Looked, PortView}
+use Rattle.nl_mounts.specs.Warming.{IsWarmingOf}
+use Rattle.nl_mounts.proofs.port.Port.warm.Goals as goal
+
+pub returns-clause-looked : goal.returns-clause-looked
+returns-clause-looked g c = λ some.
+    let m = c.args.mount.now in let result = c.warm_through-result.result in
+    let old = ap (λ (p : PortView). p.known) c.self.view_is in
+    let new = ap (λ (p : PortView). p.known) c.self-2.view_is in
+    subst (λ (k : Known). Looked m k c.self-2.inside.front (result ≡ Err BadMount) (λ t. IsWarmingOf t c.args.path.now result)) old
+    (subst (λ (k : Known). Looked m c.self.inside.front k (result ≡ Err BadMount) (λ t. IsWarmingOf t c.args.path.now result)) (sym new)
+    c.warm_through-result.ensures.looked)

@@ -1,0 +1,5 @@
+use Rattle.nl_publish.proofs.CachedPages.{cached_pages_stay}
+use Rattle.nl_publish.proofs.laws.cached_pages_stay.Goals as goal
+
+pub returns : goal.returns
+returns c = cached_pages_stay
