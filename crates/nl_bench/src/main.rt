@@ -48,6 +48,8 @@ fn case_of(word: &str) -> Option<Case> {
         "read_ports_beside_writer" => Some(Case::ReadsBesideWriter),
         "read_kept" => Some(Case::ReadsOfKept),
         "read_kept_beside_writer" => Some(Case::ReadsOfKeptBesideWriter),
+        "read_in_turn" => Some(Case::ReadsInTurn),
+        "read_kept_in_turn" => Some(Case::ReadsOfKeptInTurn),
         "write_beside_ports" => Some(Case::CallsBesidePorts),
         "checkpoint_beside_ports" => Some(Case::CheckpointsBesidePorts),
         _ => None,

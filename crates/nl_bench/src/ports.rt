@@ -29,6 +29,10 @@ pub(crate) enum Case {
     ReadsOfKept,
     /// The same while a writer makes checkpoints.
     ReadsOfKeptBesideWriter,
+    /// Reads of bytes and of those behind them in turn, into memory of the thread.
+    ReadsInTurn,
+    /// The same of pages that the port keeps.
+    ReadsOfKeptInTurn,
     /// File calls of a writer while ports read.
     CallsBesidePorts,
     /// File calls with a checkpoint behind each while ports read.
@@ -75,31 +79,46 @@ impl<J: Volumes + Send + Sync, R: Threads + Wait + Clock + Sync> Bench<'_, J, R>
 
     // ---- readers
 
+    /// How many of the large file's bytes a port keeps.
+    fn kept_bytes(&self) -> usize {
+        match self.task.case {
+            Case::ReadsOfKept | Case::ReadsOfKeptBesideWriter => self.task.bytes,
+            Case::ReadsOfKeptInTurn => self.task.bytes.saturating_mul(2),
+            _ => 0,
+        }
+    }
+
     /// Each port keeps the pages that it reads from now on, where the task is of such.
     fn warm(&self, ports: &mut [Port<J>]) -> Result<(), VolError> {
-        if !matches!(
-            self.task.case,
-            Case::ReadsOfKept | Case::ReadsOfKeptBesideWriter
-        ) {
+        let kept = self.kept_bytes();
+        if kept == 0 {
             return Ok(());
         }
         for port in ports {
             port.learn(self.mount);
             port.set_cache(self.alloc, PAGES)?;
-            port.warm(self.mount, large(), 0, self.task.bytes as u64)?;
+            port.warm(self.mount, large(), 0, kept as u64)?;
         }
         Ok(())
     }
 
-    /// Whether a read of the large file's first bytes comes out right.
-    fn reads(&self, port: &mut Port<J>, into: &mut [u8]) -> bool {
+    /// Where the read of a turn begins in the large file.
+    fn offset(&self, turn: u64) -> u64 {
+        match self.task.case {
+            Case::ReadsInTurn | Case::ReadsOfKeptInTurn if turn % 2 == 1 => self.task.bytes as u64,
+            _ => 0,
+        }
+    }
+
+    /// Whether a read of the large file comes out right.
+    fn reads(&self, port: &mut Port<J>, turn: u64, into: &mut [u8]) -> bool {
         let length = into.len();
         match self.task.case {
             Case::ReadsIntoNew => {
                 let bytes = port.read(self.alloc, self.mount, large(), 0, length as u64);
                 matches!(bytes, Ok(bytes) if bytes.as_slice().len() == length)
             }
-            _ => port.read_into(self.mount, large(), 0, into) == Ok(length),
+            _ => port.read_into(self.mount, large(), self.offset(turn), into) == Ok(length),
         }
     }
 
@@ -108,11 +127,11 @@ impl<J: Volumes + Send + Sync, R: Threads + Wait + Clock + Sync> Bench<'_, J, R>
         let Ok(mut into) = vec![in self.alloc; 0; self.task.bytes] else {
             return false;
         };
-        for _ in 0..count {
+        for turn in 0..count {
             if self.has_ended() {
                 return true;
             }
-            if !self.reads(port, into.as_mut_slice()) {
+            if !self.reads(port, turn, into.as_mut_slice()) {
                 return false;
             }
         }
@@ -196,7 +215,11 @@ impl<J: Volumes + Send + Sync, R: Threads + Wait + Clock + Sync> Bench<'_, J, R>
 
     fn time(&self, ports: &mut [Port<J>]) -> Result<Duration, VolError> {
         match self.task.case {
-            Case::Reads | Case::ReadsIntoNew | Case::ReadsOfKept => self.time_reads(ports),
+            Case::Reads
+            | Case::ReadsIntoNew
+            | Case::ReadsOfKept
+            | Case::ReadsInTurn
+            | Case::ReadsOfKeptInTurn => self.time_reads(ports),
             Case::ReadsBesideWriter | Case::ReadsOfKeptBesideWriter => {
                 let (took, written) = join(
                     self.rt,

@@ -1,3 +1,5 @@
+pub mod Kept
+pub mod InFront
 pub mod Looking
 pub mod Lanes
 pub mod Parts

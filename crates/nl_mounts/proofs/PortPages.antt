@@ -4,7 +4,6 @@ use Rattle.std.specs.Ordering.{nat_cmp, eq_by_cmp}
 use Rattle.std.proofs.lemmas.Bool.{eqb-true}
 use mathlib.Core.List.{IsPrefix}
 use Rattle.lru.specs.LruCache.{lru_cache}
-use Rattle.lru.proofs.CallerLemmas.{Contains-lookup}
 use Rattle.lru.proofs.Splits.{Contains-nil}
 use Rattle.nl_types.specs.declared.error.VolError.{VolError}
 use Rattle.nl_types.specs.declared.error.VolError.TheVariants.{BadMount}
@@ -28,11 +27,10 @@ use Rattle.nl_publish.proofs.CachedPages.{cached_pages_stay}
 use Rattle.nl_publish.proofs.Staying.{history_image}
 use Rattle.nl_mounts.specs.declared.cache.CacheKey.{CacheKey}
 use Rattle.nl_mounts.specs.declared.port.MountedTree.{MountedTree}
-use Rattle.nl_mounts.specs.Caching.{AreCachedPages, Cache, HasCachedBlocks, is_key, key_of}
+use Rattle.nl_mounts.specs.Caching.{AreCachedPages, Cache, HasCachedBlocks, key_of}
 use Rattle.nl_mounts.specs.Ports.{Finds, IsCacheOf, IsMountTree, IsNotRead, IsOfTree, IsSeenOn, Lacks, More, OfMountFile, OfTreeFile, Older, PutsOfTree, Same, Shows, TouchesIfAny}
 use Rattle.nl_mounts.specs.Warming.{HasTouched, IsStored, OfHeldFile, PutsStored, Warms}
 use Rattle.nl_mounts.specs.Warming.Warms.{Nothing, Part, Whole}
-use Rattle.nl_mounts.proofs.Stored.{one_key}
 
 -- ---- while more is seen
 
@@ -94,11 +92,8 @@ module _ (m : Claim) (old new : Known) (x : Shown) (t : MountedTree) (at : IsMou
   -- what is kept of the checkpoint are blocks of its files
   blocks_of : (c : Cache) → ((key : CacheKey) (page : List ℕ) → Contains c.entries (key, page) → IsCachedPage new.commits key.checkpoint key.inode key.index page)
       → (held : Holding) → HoldsTree (pages_shown x) (root_of t.root) held → HasCachedBlocks c t.checkpoint held
-  blocks_of c each held holds inode index page found_page =
-      let entry = Contains-lookup (is_key (key_of t.checkpoint inode index)) c.entries page found_page in
-      let key : entry.0 ≡ key_of t.checkpoint inode index = sym (one_key (key_of t.checkpoint inode index) entry.0 entry.2) in
-      let right = subst (λ (k : CacheKey). IsCachedPage new.commits k.checkpoint k.inode k.index page) key (each entry.0 page entry.1) in
-      right.block at.checkpoint held at.kept (holds_at x (image_of new.commits) t.root (root_in at.checkpoint) held at.shown (sym at.root) holds)
+  blocks_of c each held holds inode index page has =
+      (each (key_of t.checkpoint inode index) page has).block at.checkpoint held at.kept (holds_at x (image_of new.commits) t.root (root_in at.checkpoint) held at.shown (sym at.root) holds)
 
   of_mount_file : (path : List ℕ) (P : ℕ → Holding → ℕ → Type 0) → OfHeldFile (HoldsTree (pages_shown x) (root_of t.root)) t.checkpoint path P
       → OfMountFile (image_of new.commits) m.number path P

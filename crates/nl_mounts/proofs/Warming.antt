@@ -14,7 +14,7 @@ use Rattle.nl_tree.specs.Held.{Holding}
 use Rattle.nl_tree.specs.Reading.{HoldingMeans, as_file, link_at}
 use Rattle.nl_tree.proofs.ReadingCalls.{read_bytes}
 use Rattle.nl_mounts.specs.declared.cache.CacheKey.{CacheKey}
-use Rattle.nl_mounts.specs.Caching.{Cache, cached_at, is_key, key_of, put_by, put_count, put_one, touched, touched_one, warmed, warmed_one}
+use Rattle.nl_mounts.specs.Caching.{Cache, cached_at, is_key, key_of, put_by, put_count, put_one, touched_one, warmed, warmed_one}
 use Rattle.nl_mounts.specs.Warming.{HasBegunToWarm, HasWarmed, IsWarmingOf, OfHeldFile, Warms}
 use Rattle.nl_mounts.specs.Warming.Warms.{Part, Whole}
 
@@ -62,13 +62,6 @@ module _ (first index : ℕ) (le : first ≤ index) where
 
   at : index ≡ first + (index - first)
   at = omega (arith, le)
-
-  pub touched_more : (n i : ℕ) (start was now : Cache) → was ≡ touched n i first (index - first) start → now ≡ touched_one (key_of n i index) was
-      → now ≡ touched n i first (index + 1 - first) start
-  touched_more n i start was now was_is now_is =
-      now_is ∙ (ap (λ (c : Cache). touched_one (key_of n i index) c) was_is
-      ∙ (ap (λ (k : ℕ). touched_one (key_of n i k) (touched n i first (index - first) start)) at
-      ∙ sym (ap (λ (count : ℕ). touched n i first count start) more)))
 
   pub warmed_more : (blocks : Blocks) (n i : ℕ) (start was now : Cache) → was ≡ warmed blocks n i first (index - first) start
       → now ≡ warmed_one (key_of n i index) (blocks index) was → now ≡ warmed blocks n i first (index + 1 - first) start

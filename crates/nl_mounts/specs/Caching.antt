@@ -37,7 +37,7 @@ IsCacheRefused pages e = (IsCacheSize pages × (e ≡ Memory)) ⊎ ((IsCacheSize
 -- what is kept of a checkpoint are blocks of its files
 abbrev pub HasCachedBlocks : Cache → (checkpoint : ℕ) → Holding → Type 0
 HasCachedBlocks c checkpoint held = (inode index : ℕ) (page : List ℕ)
-    → cached_at (key_of checkpoint inode index) c ≡ Some page → held_block (held inode) index ≡ Some page
+    → Contains c.entries (key_of checkpoint inode index, page) → held_block (held inode) index ≡ Some page
 
 -- inodes hold this, and what is kept are blocks of their files
 abbrev pub HoldsWith : (Holding → Type 0) → Cache → (checkpoint : ℕ) → Holding → Type 0

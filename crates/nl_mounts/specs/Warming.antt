@@ -1,11 +1,12 @@
 -- What reads and warming make of what is kept of files.
-use Rattle.std.specs.Prelude.{◌≡◌, ◌⊎◌, ℕ, ◌-◌, ◌/◌, ◌<◌, min, List, Contains, Some, IfOk, OnErr, IsOkUnless, MatchResult, Result, Ok, Err}
+use Rattle.std.specs.Prelude.{◌≡◌, ◌⊎◌, ℕ, ◌+◌, ◌-◌, ◌/◌, ◌<◌, ◌≤◌, min, slice_index, List, Contains, Some, IfOk, OnErr, IsOkUnless, MatchResult, Result, Ok, Err}
 use Rattle.nl_types.specs.declared.error.VolError.{VolError}
 use Rattle.nl_types.specs.declared.error.VolError.TheVariants.{Memory}
 use Rattle.nl_types.specs.Calls.{and_then, read}
 use Rattle.nl_types.specs.Paths.{path_of}
+use Rattle.nl_types.specs.Roots.{Blocks}
 use Rattle.nl_types.specs.Trees.{Tree}
-use Rattle.nl_tree.specs.Held.{Holding, held_block, held_size}
+use Rattle.nl_tree.specs.Held.{Holding, byte_stored, held_block, held_size}
 use Rattle.nl_tree.specs.Reading.{as_file, link_at}
 use Rattle.nl_mounts.specs.declared.cache.CacheKey.{CacheKey}
 use Rattle.nl_mounts.specs.Caching.{Cache, block_count, put_count, touched, warmed}
@@ -32,6 +33,15 @@ PutsStored holds n old new =
     (e : CacheKey × List ℕ) → Contains new.entries e → Contains old.entries e ⊎ IsStored holds n e
 
 -- ---- reads
+
+-- the first so many bytes are those of blocks from an offset on
+abbrev pub AreReadUpTo : (count : ℕ) → Blocks → (offset : ℕ) → List ℕ → Type 0
+AreReadUpTo count blocks offset bytes = (k : ℕ) → k < count → slice_index bytes k ≡ byte_stored blocks (offset + k)
+
+-- of so many bytes, those from one on are so
+abbrev pub AreReadFrom : (first count : ℕ) → Blocks → (offset : ℕ) → List ℕ → Type 0
+AreReadFrom first count blocks offset bytes =
+    (k : ℕ) → first ≤ k → k < count → slice_index bytes k ≡ byte_stored blocks (offset + k)
 
 -- A read changes the order alone: where it answers so many bytes, each of their blocks that is kept has come to the front, one
 -- after another.

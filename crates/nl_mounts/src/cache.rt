@@ -2,7 +2,7 @@
 ghost use Rattle.std.specs.Prelude.{◌≡◌, ◌+◌, ◌-◌, ◌/◌, ◌<◌, ◌≤◌, ◌^◌, [], None, ℕ, IfErr, IfOk, OnErr, OnOk, is_some, option_copied};
 ghost use Rattle.lru.specs.LruCache.{lru_cache};
 ghost use Rattle.nl_tree.specs.Held.{Holding, held_block};
-ghost use Rattle.nl_mounts.specs.Caching.{IsCacheRefused, IsCacheSize, block_count, block_end, cached_at, key_of, put_by, put_count, put_one, touched, touched_one, warmed, warmed_one};
+ghost use Rattle.nl_mounts.specs.Caching.{IsCacheRefused, IsCacheSize, block_end, key_of, put_by, put_count, put_one, warmed, warmed_one};
 ghost use Rattle.nl_mounts.specs.Warming.{PutsStored};
 
 use lru::LruCache;
@@ -71,18 +71,6 @@ pub(crate) fn block_end(offset: u64, count: u64) -> u64
         offset / block
     } else {
         (offset + (count - 1)) / block + 1
-    }
-}
-
-/// Brings the blocks of so many bytes of a file to the front, ascending, where they are there.
-pub(crate) fn touch(cache: &mut Cache, file: &CachedFile, offset: u64, count: u64)
-    requires { offset + count < 2 ^ 64 }
-    ensures { cache.new ≡ touched file.now.checkpoint file.now.inode (offset / 1024)
-        (block_count offset count) cache.old }
-{
-    let first = offset / BLOCK_SIZE as u64;
-    for index in first..block_end(offset, count) {
-        cache.promote(&file.key(index));
     }
 }
 

@@ -1,38 +1,37 @@
 //! Reads of files through a cache, and what is put into it.
-ghost use Rattle.std.specs.Prelude.{◌≡◌, ◌+◌, ◌<◌, ◌^◌, Ok, IfErr, IfOk, OnErr, length, take, drop};
+ghost use Rattle.std.specs.Prelude.{◌≡◌, ◌/◌, IfErr, IfOk, OnErr, length, take, drop};
 ghost use Rattle.nl_types.specs.Calls.{and_then, read};
 ghost use Rattle.nl_types.specs.Paths.{path_of};
 ghost use Rattle.nl_types.specs.Trees.{Tree};
 ghost use Rattle.nl_tree.specs.Held.{Holding};
-ghost use Rattle.nl_tree.specs.Reading.{HoldingMeans, ShowsAs, as_file, link_at};
-ghost use Rattle.nl_mounts.specs.Caching.{HoldsWith};
+ghost use Rattle.nl_tree.specs.Reading.{ArePartOf, HoldingMeans, ShowsAs};
+ghost use Rattle.nl_mounts.specs.Caching.{HasCachedBlocks, HoldsWith, block_count, touched};
 ghost use Rattle.nl_mounts.specs.Warming.{HasBegunToWarm, HasTouched, HasWarmed, IsWarmingOf, OfHeldFile, PutsStored, Warms};
 
-use crate::cache::{Cache, CachedFile, block_end, touch, warm_file};
-use crate::cached_tree::CachedTree;
-use nl_tree::{TreeRead, find_file, read_file_into};
-use nl_types::{Answer, BLOCK_SIZE, CheckpointNumber, InodeNumber, VolError};
+use crate::cache::{Cache, CachedFile, block_end, warm_file};
+use crate::file_read::FileRead;
+use nl_tree::{TreeRead, find_file};
+use nl_types::{Answer, BLOCK_SIZE, CheckpointNumber, VolError};
 
-/// Reads bytes as `nl_tree::read_into` does, and answers of which file they are too.
-fn read_found<T: TreeRead>(
+/// Reads bytes of a file as `nl_tree::read_file_into` does, and looks for their pages in the cache.
+fn read_file<T: TreeRead>(
     tree: &T,
-    path: &[u8],
+    cache: &mut Cache,
+    file: &CachedFile,
     offset: u64,
     into: &mut [u8],
-) -> Result<(InodeNumber, usize), VolError>
-    ensures reads { (held : Holding) (shown : Tree)
-        → T.holds tree.now held → HoldingMeans held shown
-        → ShowsAs (λ found. Answer.Bytes (take found.1 into.new)) result
-        (and_then (path_of path.now) (read shown offset (length into.old))) }
-    ensures file { (held : Holding) → T.holds tree.now held
-        → IfOk result (λ found. Ok found.0 ≡ and_then (link_at held path.now) as_file) }
-    ensures end { IfOk result (λ found. offset + found.1 < 2 ^ 64) }
-    ensures rest { IfOk result (λ found. drop found.1 into.new ≡ drop found.1 into.old) }
-    ensures refused { OnErr result (into.new ≡ into.old) }
+) -> usize
+    ensures reads { (held : Holding) → T.holds tree.now held
+        → HasCachedBlocks cache.old file.now.checkpoint held
+        → ArePartOf (held file.now.inode) offset (length into.old) (take result into.new) }
+    ensures rest { drop result into.new ≡ drop result into.old }
+    ensures touched { cache.new ≡ touched file.now.checkpoint file.now.inode (offset / 1024)
+        (block_count offset result) cache.old }
 {
-    let file = find_file(tree, path)?;
-    let count = read_file_into(tree, file, offset, into);
-    Ok((file, count))
+    let left = tree.size(file.inode.get()).saturating_sub(offset);
+    let count = into.len().min(left as usize);
+    FileRead { tree, file, offset }.read(cache, &mut into[..count]);
+    count
 }
 
 /// Reads bytes as `nl_tree::read_into` does, and looks for their pages in the cache. Those that are there come to the front.
@@ -55,15 +54,9 @@ pub(crate) fn read_cached<T: TreeRead>(
         (OfHeldFile (HoldsWith (T.holds tree.now) cache.old checkpoint) checkpoint path.now)
         offset cache.old result cache.new }
 {
-    let through = CachedTree {
-        tree,
-        checkpoint,
-        cache: &*cache,
-    };
-    let (inode, count) = read_found(&through, path, offset, into)?;
+    let inode = find_file(tree, path)?;
     let file = CachedFile { checkpoint, inode };
-    touch(cache, &file, offset, count as u64);
-    Ok(count)
+    Ok(read_file(tree, cache, &file, offset, into))
 }
 
 /// Warms the blocks of so many bytes of a file, as far as there are. Refused by `Memory` alone; what was done before stays.

@@ -3,7 +3,7 @@
 
 mod cache;
 mod cached_reads;
-mod cached_tree;
+mod file_read;
 mod many;
 mod port;
 mod shared;

@@ -7,6 +7,8 @@ mod backup;
 #[cfg(test)]
 mod beside_a_writer;
 #[cfg(test)]
+mod cached_blocks;
+#[cfg(test)]
 mod caches;
 #[cfg(test)]
 mod foreign;
