@@ -173,6 +173,42 @@ const TEN_OVERWRITES: Row = Row {
     image: None,
 };
 
+/// An expiry lets go what isn't protected, and a retirement frees a segment that nothing is needed of.
+const EXPIRED_AND_RETIRED: Row = Row {
+    name: "expired_and_retired",
+    segments: 16,
+    blocks: 8,
+    is_shared: false,
+    steps: &[
+        (Step::Create, Want::Done),
+        (Step::Write(0, b"a"), Want::Written(1)),
+        (PLAIN, Want::Checkpoint(2)),
+        (Step::Write(0, b"b"), Want::Written(1)),
+        (PLAIN, Want::Checkpoint(3)),
+        (Step::Write(0, b"c"), Want::Written(1)),
+        (PLAIN, Want::Checkpoint(4)),
+        (Step::Write(0, b"d"), Want::Written(1)),
+        (PLAIN, Want::Checkpoint(5)),
+        (Step::Expire(0, 1), Want::Expired(&[])),
+        (Step::Retire(2), Want::Refused(VolError::StillNeeded)),
+        (Step::Expire(0, 0), Want::Expired(&[1, 2, 3, 4])),
+        (Step::Retire(0), Want::Refused(VolError::StillNeeded)),
+        (Step::Retire(2), Want::Freed(5)),
+        (Step::Retire(2), Want::Refused(VolError::SegClean)),
+        (Step::Retire(3), Want::Refused(VolError::SegActive)),
+        (ALL, Want::Bytes(b"d")),
+    ],
+    views: &[
+        View::Clean(13),
+        View::Segment(0, SegmentState::Dirty, 8, 2),
+        View::Segment(1, SegmentState::Dirty, 8, 1),
+        View::Segment(3, SegmentState::Active, 5, 4),
+        View::Gone(4),
+        View::Kept(5, Mode::Plain),
+    ],
+    image: None,
+};
+
 /// A checkpoint lacks space until a round has freed some.
 const NO_SPACE: Row = Row {
     name: "no_space",
@@ -379,6 +415,7 @@ const ROWS: &[Row] = &[
     SNAPSHOT_BESIDE_A_WRITE,
     RANGE_WITH_A_SNAPSHOT,
     TEN_OVERWRITES,
+    EXPIRED_AND_RETIRED,
     NO_SPACE,
     FORMATTED,
     CLOSED,
