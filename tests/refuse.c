@@ -1,6 +1,6 @@
 /* Stands before the C library (LD_PRELOAD), and lets one call of a program fail. The environment names it by its number:
    REFUSED=N    the Nth request for memory gets none;
-   FAILED=N     the Nth call that opens, reads, writes, stores or renames fails with EIO;
+   FAILED=N     the Nth call that opens, reads, writes, stores, renames, or asks what stands at a path, fails with EIO;
    SHORTENED=N  the Nth read or write of more than one byte is of one byte alone.
    Descriptor 9 is told which call it was, and of what. The calls of several threads aren't counted apart. */
 #define _GNU_SOURCE
@@ -57,3 +57,11 @@ ssize_t write(int f, const void *p, size_t n) { REAL(write); return FAILS(write,
 int fsync(int f) { REAL(fsync); return FAILS(fsync, of(f)) ? -1 : real(f); }
 int fchmod(int f, mode_t mode) { REAL(fchmod); return FAILS(fchmod, of(f)) ? -1 : real(f, mode); }
 int rename(const char *a, const char *b) { REAL(rename); return FAILS(rename, b) ? -1 : real(a, b); }
+char *realpath(const char *path, char *to) { REAL(realpath); return FAILS(realpath, path) ? 0 : real(path, to); }
+
+/* Asks of a path, or of an open file, whose path is empty then. */
+int statx(int file, const char *path, int flags, unsigned wanted, struct statx *found) {
+    REAL(statx);
+    int fails = *path ? comes(&failed, "stat", path) : comes(&failed, "fstat", of(file));
+    return fails ? -1 : real(file, path, flags, wanted, found);
+}

@@ -158,7 +158,7 @@ module _ (old new : Layout) (mode : Mode) (moment : ℕ) (pen : IsPen old)
     follows = λ w means. record {
       after = w;
       means = means-same w means;
-      step = inr (record { error = error.Fault; reply_is = refl; may_be = (tt, (space-there, fault.store.failures)); unchanged = refl });
+      step = inr (record { error = error.Fault; reply_is = refl; may_be = (tt, (space-there, fault.store.failures, fault.store.writes)); unchanged = refl });
     };
     touches = fault;
     numbers = same-numbers old new ledger-same;

@@ -93,7 +93,7 @@ pub refused-numbers : (checkpoint stamp : ℕ) (numbers : List ℕ) (e : VolErro
     → IsMoveRefused checkpoint stamp numbers old new e → new.numbers ≡ old.numbers
 refused-numbers checkpoint stamp numbers NoSpace old new refused = refused.1.numbers
 refused-numbers checkpoint stamp numbers Memory old new refused = refused.numbers
-refused-numbers checkpoint stamp numbers Fault old new (inl read) = read.1.numbers
+refused-numbers checkpoint stamp numbers Fault old new (inl read) = read.kept.numbers
 refused-numbers checkpoint stamp numbers Fault old new (inr (payload, theirs, fault)) = fault.numbers
 refused-numbers checkpoint stamp numbers e old new refused = absurd refused
 

@@ -1,9 +1,9 @@
 -- What a move and a retirement do to a pen, as events.
-use Rattle.std.proofs.Common.{◌≡◌, ℕ, ◌==◌, ◌≤◌, true, false, cond, List, [], ◌∷◌, length, take, refl, sym, ap, subst, ◌∙◌, inl, inr, true≢false}
-use Rattle.std.specs.Prelude.{IfErr, IsOk, is_ok, slice_get, None, Some, Result, Ok, Err, MatchResult}
+use Rattle.std.proofs.Common.{◌≡◌, ℕ, ◌==◌, ◌≤◌, true, false, cond, List, [], ◌∷◌, ◌++◌, length, take, refl, sym, ap, subst, ◌∙◌, inl, inr, true≢false}
+use Rattle.std.specs.Prelude.{IfErr, IsOk, is_ok, min, slice_get, None, Some, Result, Ok, Err, MatchResult}
 use Rattle.std.proofs.Math.Nat.{suc-ne-zero}
 use Rattle.std.proofs.lemmas.Bool.{eqb-true}
-use Rattle.std.proofs.lemmas.List.{length-take}
+use Rattle.std.proofs.lemmas.List.{length-map, length-take}
 use Rattle.nl_types.specs.declared.error.VolError.{VolError}
 use Rattle.nl_types.specs.declared.error.VolError.TheVariants as error
 use Rattle.nl_types.specs.declared.event.Event.{Event}
@@ -14,15 +14,15 @@ use Rattle.nl_types.specs.declared.segment.SegmentInfo.{SegmentInfo}
 use Rattle.nl_types.specs.declared.segment.SegmentState.TheVariants.{Active, Clean, Dirty, Error}
 use Rattle.nl_types.specs.Calls.{and_then}
 use Rattle.nl_types.specs.Laws.{IsJudged}
-use Rattle.nl_types.specs.Placing.{LacksSpace}
+use Rattle.nl_types.specs.Placing.{LacksSpace, LogsFit}
 use Rattle.nl_types.specs.Segments.{Segments}
 use Rattle.nl_types.specs.Worlds.{Reply}
 use Rattle.nl_vstore.specs.Located.{needed_count, needed_in, numbers_in}
-use Rattle.nl_vstore.specs.Stores.{IsMoveRefused, IsReclaimed, IsStore, Store}
+use Rattle.nl_vstore.specs.Stores.{IsMoveBrokenOff, IsMoveRefused, IsReclaimed, IsStore, Store, payload_under}
 use Rattle.nl_reclaim.specs.Cleaning.{HasMovedFirst, HasMovedNone, freed_by, judged, judged_by, judged_for, judged_info, retired}
 use Rattle.nl_reclaim.specs.declared.moving.MoveCount.{MoveCount}
 use Rattle.nl_core.specs.CleanedPens.{LeavesPen, StaysPen}
-use Rattle.nl_core.specs.CleaningEvents.{cleaned_by, move_count, moved_answer, moved_by, needed_by, retired_by}
+use Rattle.nl_core.specs.CleaningEvents.{LacksSpaceToMove, cleaned_by, move_count, moved_answer, moved_by, needed_by, retired_by}
 use Rattle.nl_core.specs.Layout.{Does, IsPen, IsRetirementRefusal, MeansWorld, layout_of, ledger_of, unshared}
 use Rattle.nl_core.specs.Volume.{Lists}
 use Rattle.nl_core.proofs.CleanedPens.{moves_keep_pens, refused_moves_keep_pens, retirements_keep_pens}
@@ -101,6 +101,18 @@ module _ (l : Lists) (old new : Store) (segment limit moment : ℕ) (pen : IsPen
         failures = counted;
       }
 
+  -- the blocks that were read had a list of logs that fits
+  space-there : IsMoveBrokenOff l.table.latest.number moment (take limit (needed_in old (needed_by l) segment)) old new
+      → LacksSpaceToMove l old segment limit → ⊥
+  space-there (payload, theirs, fault) lacks =
+      let numbers : List ℕ = take limit (needed_in old (needed_by l) segment) in
+      let broken = fault.broken_off in
+      let count : length payload ≡ min limit (needed_count old (needed_by l) segment) =
+      sym (length-map payload Some) ∙ sym (ap length theirs) ∙ length-map numbers (payload_under old)
+      ∙ length-take limit (needed_in old (needed_by l) segment) in
+      lacks (broken.written ++ broken.failed ∷ broken.left)
+      (subst (λ (n : ℕ). LogsFit old.segments false n (broken.written ++ broken.failed ∷ broken.left)) count broken.fits)
+
   -- a refusal that is no judgement has its reason
   allowed : (e : VolError) → IsMoveRefused l.table.latest.number moment (take limit (needed_in old (needed_by l) segment)) old new e
       → unshared (layout_of l old) (layout_of l new) (Move segment limit moment) e
@@ -108,8 +120,8 @@ module _ (l : Lists) (old new : Store) (segment limit moment : ℕ) (pen : IsPen
       (tt, subst (LacksSpace old.segments false) (length-take limit (needed_in old (needed_by l) segment)) refused.0)
   allowed error.Memory refused = tt
   allowed error.Fault refused = elim refused [
-    | inl read ↦ (tt, read.0)
-    | inr written ↦ (tt, written.2.failures)
+    | inl read ↦ (tt, inl read)
+    | inr written ↦ (tt, inr (space-there written, written))
   ]
   allowed _ refused = absurd refused
 

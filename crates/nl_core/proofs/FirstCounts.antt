@@ -9,6 +9,7 @@ use Rattle.nl_types.specs.declared.geometry.Geometry.{Geometry}
 use Rattle.nl_types.specs.NeedLaws.{AreGone}
 use Rattle.nl_types.specs.PartialMaps.{is_one_of}
 use Rattle.nl_types.specs.Trees.{root_alone}
+use Rattle.nl_device.specs.Failures.{Failures}
 use Rattle.nl_device.specs.Pages.{DevicePages}
 use Rattle.nl_vstore.specs.Batches.{Changes}
 use Rattle.nl_vstore.specs.Stores.{IsStore, Store}
@@ -24,7 +25,7 @@ use Rattle.nl_core.proofs.CountedPens.{written-over}
 use Rattle.nl_core.proofs.Checkpoints.{number-next}
 use Rattle.nl_core.proofs.Formats.{none-in-use, sound-before, stands-before}
 
-module _ (geometry : Geometry) (device : DevicePages) (failures : ℕ) (old new : Layout) (now : ℕ) (batch : Changes)
+module _ (geometry : Geometry) (device : DevicePages) (failures : Failures) (old new : Layout) (now : ℕ) (batch : Changes)
     (is-blank : old ≡ blank_layout geometry device failures) (has : HasWrittenBatch Plain now batch old new) where
   -- before it nothing is counted, whatever room is made
   pub blank-counted : UnusedStoresAreCounted → (c d : Counted) → IsStore old.store → c.counts ≡ replicate (length old.store.segments.each) 0 → c.ends ≡ []
@@ -63,7 +64,7 @@ module _ (geometry : Geometry) (device : DevicePages) (failures : ℕ) (old new 
       n = new.lists.table.latest.number
 
 -- a blank volume has as many segments as its geometry says
-pub as-many-segments : (geometry : Geometry) (device : DevicePages) (failures : ℕ) (old : Layout) → old ≡ blank_layout geometry device failures
+pub as-many-segments : (geometry : Geometry) (device : DevicePages) (failures : Failures) (old : Layout) → old ≡ blank_layout geometry device failures
     → (counts : List ℕ) → counts ≡ replicate geometry.segments 0 → counts ≡ replicate (length old.store.segments.each) 0
 as-many-segments geometry device failures old is counts zeros =
     zeros ∙ ap (λ (n : ℕ). replicate n 0)

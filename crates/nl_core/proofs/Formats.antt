@@ -19,6 +19,7 @@ use Rattle.nl_types.specs.Trees.{root_alone}
 use Rattle.nl_types.specs.Worlds.{formatted}
 use Rattle.nl_types.proofs.ExactLifetimes.{ledger_after-IsLedger}
 use Rattle.nl_types.proofs.WorldLaws.{formatted_is_world}
+use Rattle.nl_device.specs.Failures.{Failures}
 use Rattle.nl_device.specs.Pages.{DevicePages}
 use Rattle.nl_layout.specs.Root.{root_of}
 use Rattle.nl_layout.specs.declared.root.Root.{Root}
@@ -73,7 +74,7 @@ none-stands zero k = refl
 none-stands (suc total) zero = refl
 none-stands (suc total) (suc k) = none-stands total k
 
-module _ (geometry : Geometry) (device : DevicePages) (failures : ℕ) where
+module _ (geometry : Geometry) (device : DevicePages) (failures : Failures) where
   abbrev before : Layout
   before = blank_layout geometry device failures
 
@@ -254,19 +255,19 @@ module _ (geometry : Geometry) (device : DevicePages) (failures : ℕ) where
 -- ---- the whole
 
 -- the first checkpoint of a blank volume was written, and the one without files is gone
-pub record IsNew (geometry : Geometry) (device : DevicePages) (failures now : ℕ) (l : Layout) : Type 0 where
+pub record IsNew (geometry : Geometry) (device : DevicePages) (failures : Failures) (now : ℕ) (l : Layout) : Type 0 where
   pub means : MeansWorld l (formatted now)
   pub is_formatted : IsFormatted geometry device failures now l
   pub is_pen : IsPen l
 
 -- such a layout is made of a clean space and of tables that are blank
-pub blank-volume : (geometry : Geometry) (device : DevicePages) (failures : ℕ) (lists : Lists) (store : Store) (space : SpaceContent) (count : ℕ)
+pub blank-volume : (geometry : Geometry) (device : DevicePages) (failures : Failures) (lists : Lists) (store : Store) (space : SpaceContent) (count : Failures)
     → lists ≡ blank_lists → store ≡ new_store space count → space ≡ new_content geometry device → count ≡ failures
     → layout_of lists store ≡ blank_layout geometry device failures
 blank-volume geometry device failures lists store space count blank_then fresh clean same_count i =
     layout_of (blank_then i) ((fresh ∙ (λ j. new_store (clean j) (same_count j))) i)
 
-module _ (geometry : Geometry) (device : DevicePages) (failures : ℕ) (old : Layout) (is-blank : old ≡ blank_layout geometry device failures) where
+module _ (geometry : Geometry) (device : DevicePages) (failures : Failures) (old : Layout) (is-blank : old ≡ blank_layout geometry device failures) where
   pub has_few-names : HasFewNames old.lists
   has_few-names = subst (λ (l : Layout). HasFewNames l.lists) (sym is-blank) (omega arith)
 

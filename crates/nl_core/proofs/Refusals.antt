@@ -30,6 +30,7 @@ keeps-same old new same = record {
   segments = ap (λ (s : Store). s.segments) same;
   device = ap (λ (s : Store). s.device) same;
   payload = ap (λ (s : Store). s.payload) same;
+  writes = ap (λ (s : Store). s.failed.writes) same;
 }
 
 move-kept : (checkpoint stamp : ℕ) (numbers : List ℕ) (e : VolError) (old new : Store) → IsMoveRefused checkpoint stamp numbers old new e

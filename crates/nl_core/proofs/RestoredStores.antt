@@ -5,6 +5,7 @@ use Rattle.std.proofs.lemmas.Bool.{cases_lt}
 use Rattle.std.proofs.lemmas.List.{get_or_past}
 use Rattle.nl_types.specs.Entries.{number_of}
 use Rattle.nl_types.specs.Segments.{Segments, total_blocks}
+use Rattle.nl_device.specs.Failures.{Failures}
 use Rattle.nl_space.specs.Content.{Held, Payload, SpaceContent}
 use Rattle.nl_vstore.specs.Batches.{birth_of_item, number_of_payload}
 use Rattle.nl_vstore.specs.Stores.{Store, device_in, payload_in}
@@ -40,7 +41,7 @@ module _ (segments : Segments) (logs : Restored) (numbers : List (Option DatEntr
           inside same = cc
 
   module _ (pages : length logs.pages ≡ total_blocks segments) (payload : length logs.payload ≡ total_blocks segments)
-      (failures : ℕ) where
+      (failures : Failures) where
     total : total_blocks space.segments ≡ total_blocks segments
     total = ap total_blocks is.segments
 

@@ -1,5 +1,5 @@
 -- What a pen holds, its store and device included, and what an event does to it.
-use Rattle.std.specs.Prelude.{◌≡◌, ℕ, ◌+◌, ◌<◌, ◌≤◌, List, [], ◌∷◌, true, length, max, All, false, Some, Err, MatchResult}
+use Rattle.std.specs.Prelude.{◌≡◌, ◌⊎◌, ℕ, ◌+◌, ◌<◌, ◌≤◌, List, [], ◌∷◌, true, length, max, take, All, false, Some, Err, MatchResult}
 use Rattle.std.specs.Option.{option_map}
 use Rattle.nl_types.specs.declared.error.VolError.{VolError}
 use Rattle.nl_types.specs.declared.error.VolError.TheVariants.{NoSpace, Fault, Memory, NumbersSpent}
@@ -16,12 +16,14 @@ use Rattle.nl_types.specs.Placing.{LacksSpace}
 use Rattle.nl_types.specs.Roots.{Pages, pages_of}
 use Rattle.nl_types.specs.Worlds.{World, Reply}
 use Rattle.nl_types.specs.Runs.{AllowedRefusals, Step, Run, alone}
+use Rattle.nl_device.specs.Failures.{Failures}
 use Rattle.nl_layout.specs.Root.{root_of}
 use Rattle.nl_layout.specs.declared.root.Root.{Root}
 use Rattle.nl_space.specs.Content.{new_content}
 use Rattle.nl_device.specs.Pages.{DevicePages}
 use Rattle.nl_vstore.specs.Batches.{Changes, TakeLowestFree, items_of}
-use Rattle.nl_vstore.specs.Stores.{Store, IsStore, IsWritten, IsFaulted, address_in, content_in, is_inside, new_store}
+use Rattle.nl_vstore.specs.Located.{needed_in}
+use Rattle.nl_vstore.specs.Stores.{Store, IsStore, IsWritten, IsFaulted, IsMoveBrokenOff, IsUnread, address_in, content_in, is_inside, new_store}
 use Rattle.nl_blocktree.specs.Checkpoints.{WritesWhatDiffers, numbers_of}
 use Rattle.nl_blocktree.specs.Numbering.{CanTake}
 use Rattle.nl_tree.specs.Held.{Holding}
@@ -205,12 +207,12 @@ Touches old event reply new =
 -- ---- a new volume
 
 -- before there is a checkpoint: no number is in use, and all segments are clean
-abbrev pub blank_layout : Geometry → DevicePages → ℕ → Layout
+abbrev pub blank_layout : Geometry → DevicePages → Failures → Layout
 blank_layout geometry pages failures = layout_of blank_lists (new_store (new_content geometry pages) failures)
 
 -- From there the first checkpoint was written, of the root alone, and then the blank one went. What is born stands at exactly
 -- the places that the checkpoint has, under the lowest numbers in the order of the payload.
-pub record IsFormatted (geometry : Geometry) (pages : DevicePages) (failures now : ℕ) (l : Layout) : Type 0 where
+pub record IsFormatted (geometry : Geometry) (pages : DevicePages) (failures : Failures) (now : ℕ) (l : Layout) : Type 0 where
   pub settled : Settled (blank_layout geometry pages failures) (latest_root l.lists)
   pub differs : WritesBetween (blank_layout geometry pages failures) l settled.changes
   pub numbers : TakeLowestFree (content_in (blank_layout geometry pages failures).store) [] settled.changes.births
@@ -236,11 +238,18 @@ LacksSpaceFor l (Unmount m) = ⊥
 LacksSpaceFor l (MountRead m ask) = ⊥
 LacksSpaceFor l (Listing options) = ⊥
 
--- The device failed during the event, and at a checkpoint though there was space. Of a move it is not told whether one of its
--- reads failed or one of its writes, so nor whether there was space.
+-- The device failed during the event. A write of it failed though there was space. A move may be ended by a read as well: then
+-- no write failed, and nothing changed but that the read is counted. Where a write of it failed, the segment written to is in
+-- error, none is active, and the logs before that one stand.
 abbrev pub FailsIn : Layout → Layout → Event → Type 0
-FailsIn old new (Move segment limit moment) = old.store.failures < new.store.failures
-FailsIn old new event = (LacksSpaceFor old event → ⊥) × (old.store.failures < new.store.failures)
+FailsIn old new (Move segment limit moment) =
+    IsUnread old.store new.store
+    ⊎ ((LacksSpaceToMove old.lists old.store segment limit → ⊥)
+    × IsMoveBrokenOff old.lists.table.latest.number moment
+    (take limit (needed_in old.store (needed_by old.lists) segment)) old.store new.store)
+FailsIn old new event =
+    (LacksSpaceFor old event → ⊥)
+    × (old.store.failures < new.store.failures) × (old.store.failed.writes < new.store.failed.writes)
 
 -- which refusals are allowed from one layout to the next
 abbrev pub AllowedBetween : Type 1

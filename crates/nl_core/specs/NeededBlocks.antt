@@ -4,6 +4,7 @@ use Rattle.std.specs.List.{AllPairs}
 use Rattle.nl_types.specs.PartialMaps.{is_one_of}
 use Rattle.nl_types.specs.declared.event.Mode.{Mode}
 use Rattle.nl_types.specs.declared.geometry.Geometry.{Geometry}
+use Rattle.nl_device.specs.Failures.{Failures}
 use Rattle.nl_device.specs.Pages.{DevicePages}
 use Rattle.nl_vstore.specs.Batches.{Changes}
 use Rattle.nl_counts.specs.Counted.{Counted, IsCounted}
@@ -23,7 +24,7 @@ pub record IsCountedPen (l : Layout) (counted : Counted) : Type 0 where
 
 -- before there is a checkpoint, on a device of some geometry
 abbrev pub IsBlank : Layout → Type 0
-IsBlank l = (geometry : Geometry) × (pages : DevicePages) × (failures : ℕ) × (l ≡ blank_layout geometry pages failures)
+IsBlank l = (geometry : Geometry) × (pages : DevicePages) × (failures : Failures) × (l ≡ blank_layout geometry pages failures)
 
 -- a checkpoint was written, by this batch
 pub record HasWrittenBatch (mode : Mode) (moment : ℕ) (batch : Changes) (old new : Layout) : Type 0 where

@@ -82,7 +82,7 @@ impl<D: Device> Pen<D> {
     pub fn format(alloc: Global, device: D, geometry: Geometry, now: u64) -> Result<Self, VolError>
         requires shape { D.shape device ≡ geometry }
         ensures means { IfOk result (λ pen. MeansWorld pen (formatted now)) }
-        ensures formatted { IfOk result (IsFormatted geometry (D.pages device) (D.failure_count device) now) }
+        ensures formatted { IfOk result (IsFormatted geometry (D.pages device) (D.failed device) now) }
         ensures pen { IfOk result IsPen }
         ensures refused { IfErr result (λ e. (e ≡ VolError.Memory) ⊎ (e ≡ VolError.Fault)) }
     {

@@ -3,6 +3,7 @@ ghost use Rattle.std.specs.Prelude.{◌≡◌, ◌⊎◌, ◌≤◌, ℕ, List, 
 ghost use Rattle.nl_types.specs.declared.event.Event.TheVariants.{Checkpoint};
 ghost use Rattle.nl_types.specs.declared.geometry.Geometry.{Geometry};
 ghost use Rattle.nl_types.specs.Worlds.{formatted};
+ghost use Rattle.nl_device.specs.Failures.{Failures};
 ghost use Rattle.nl_device.specs.Pages.{DevicePages};
 ghost use Rattle.nl_vstore.specs.Stores.{Store, content_in};
 ghost use Rattle.nl_counts.specs.Counted.{IsCounted};
@@ -80,7 +81,7 @@ pub fn first_checkpoint<V: Vstore>(
     requires blank { IsBlank (layout_of tables.old.lists (V.store store.old)) }
     requires none { needed.old.counts ≡ replicate (length (V.store store.old).segments.each) 0 }
     requires no_ends { needed.old.ends ≡ [] }
-    ensures formatted { (geometry : Geometry) (pages : DevicePages) (failures : ℕ)
+    ensures formatted { (geometry : Geometry) (pages : DevicePages) (failures : Failures)
         → layout_of tables.old.lists (V.store store.old) ≡ blank_layout geometry pages failures
         → OnOk result (IsFormatted geometry pages failures now (layout_of tables.new.lists (V.store store.new))) }
     ensures means { OnOk result (MeansWorld (layout_of tables.new.lists (V.store store.new)) (formatted now)) }

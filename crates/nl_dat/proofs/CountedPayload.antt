@@ -4,6 +4,7 @@ use Rattle.std.specs.Prelude.{slice_get, slice_index_or}
 use Rattle.std.proofs.Math.Nat.{mul-le-mul_right}
 use Rattle.nl_types.specs.Segments.{AreTidy, info_of}
 use Rattle.nl_types.proofs.SegmentChanges.{room_of}
+use Rattle.nl_device.specs.Failures.{Failures}
 use Rattle.nl_space.specs.Content.{Payload, SpaceContent}
 use Rattle.nl_dat.specs.declared.entries.DatEntry.{DatEntry}
 use Rattle.nl_dat.specs.Inside.{store_of}
@@ -32,7 +33,7 @@ some-payload : (b k : ℕ) (o : Option Payload) → is_some (block_if b o) ≡ i
 some-payload b k None = refl
 some-payload b k (Some p) = refl
 
-pub payload-counted : (table : List (Option DatEntry)) (space : SpaceContent) (failures segment : ℕ) (row : List (Option Payload)) → AreTidy space.segments → segment < length space.segments.each → length row ≡ (info_of space.segments.each segment).used
+pub payload-counted : (table : List (Option DatEntry)) (space : SpaceContent) (failures : Failures) (segment : ℕ) (row : List (Option Payload)) → AreTidy space.segments → segment < length space.segments.each → length row ≡ (info_of space.segments.each segment).used
     → ((k : ℕ) → k < length row → slice_get row k ≡ Some (space.held (segment * space.segments.blocks + k))) → length (picked (in_row row) 0 (length row)) ≡ payload_count_in (store_of table space failures) segment
 payload-counted table space failures segment row tidy within size each =
     count-same (in_row row) (payload_block (store_of table space failures)) 0 (segment * space.segments.blocks) (length row) at ∙ ap (λ n. length (picked (payload_block (store_of table space failures)) (segment * space.segments.blocks) n)) size

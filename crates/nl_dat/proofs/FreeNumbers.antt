@@ -9,6 +9,7 @@ use Rattle.nl_types.specs.Placing as placing
 use Rattle.nl_types.specs.PlacingLaws.{WhatFitsHasRoom}
 use Rattle.nl_types.specs.PartialMaps.{Partial}
 use Rattle.nl_types.specs.Entries.{Content}
+use Rattle.nl_device.specs.Failures.{Failures}
 use Rattle.nl_space.specs.Content.{SpaceContent}
 use Rattle.nl_dat.specs.declared.entries.DatEntry.{DatEntry}
 use Rattle.nl_vstore.specs.Batches.{LacksSpaceFrom, Changes, Fits, IsLowestFree, is_born, is_taken, last_number}
@@ -26,7 +27,7 @@ is_some-addresses_of entries v = of_entry (entries v)
     of_entry None = refl
     of_entry (Some e) = refl
 
-module _ (table : List (Option DatEntry)) (lowest : ℕ) (space : SpaceContent) (failures : ℕ) (changes : Changes) (is_table : IsTable table lowest space) (fits : Fits (total_blocks space.segments) (content_in (store_of table space failures)) changes) where
+module _ (table : List (Option DatEntry)) (lowest : ℕ) (space : SpaceContent) (failures : Failures) (changes : Changes) (is_table : IsTable table lowest space) (fits : Fits (total_blocks space.segments) (content_in (store_of table space failures)) changes) where
   abbrev pub content : Content
   content = content_in (store_of table space failures)
 

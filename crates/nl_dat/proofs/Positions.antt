@@ -9,6 +9,7 @@ use Rattle.std.proofs.lemmas.Option.{get_or_from_slice_get}
 use Rattle.nl_types.specs.Segments.{Segments, AreTidy, IsUsed, info_of}
 use Rattle.nl_types.proofs.SegmentChanges.{room_of}
 use Rattle.nl_types.specs.Entries.{number_of}
+use Rattle.nl_device.specs.Failures.{Failures}
 use Rattle.nl_space.specs.Content.{Payload, SpaceContent, HoldsOnlyUsed, payload_tag}
 use Rattle.nl_dat.specs.declared.entries.DatEntry.{DatEntry}
 use Rattle.nl_vstore.specs.Batches.{birth_of_item, number_of_payload}
@@ -53,7 +54,7 @@ tagged-row table lowest space row segment position v tidy is_table count each wi
     ap (option_map number_of_payload) (held-row row space segment position each (omega (arith, used, count)) ∙ tag.1) ∙ ap Some tag.2
 
 -- and what it says of each block
-pub tag-row : (table : List (Option DatEntry)) (space : SpaceContent) (failures : ℕ) (row : List (Option Payload)) (segment position : ℕ) → AreTidy space.segments → HoldsOnlyUsed space → segment < length space.segments.each → position < space.segments.blocks
+pub tag-row : (table : List (Option DatEntry)) (space : SpaceContent) (failures : Failures) (row : List (Option Payload)) (segment position : ℕ) → AreTidy space.segments → HoldsOnlyUsed space → segment < length space.segments.each → position < space.segments.blocks
     → length row ≡ (info_of space.segments.each segment).used → ((k : ℕ) → k < length row → slice_get row k ≡ Some (space.held (segment * space.segments.blocks + k)))
     → option_map payload_tag (slice_index_or row position None) ≡ tag_in (store_of table space failures) (segment * space.segments.blocks + position)
 tag-row table space failures row segment position tidy only within low count each =

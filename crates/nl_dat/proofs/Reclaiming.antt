@@ -9,6 +9,7 @@ use Rattle.nl_types.specs.Segments.{Segments, AreTidy, IsUsed, info_of, clean_in
 use Rattle.nl_types.proofs.SegmentChanges.{room_of}
 use Rattle.nl_types.specs.PartialMaps.{Partial}
 use Rattle.nl_types.specs.Entries.{number_of}
+use Rattle.nl_device.specs.Failures.{Failures}
 use Rattle.nl_space.specs.Content.{SpaceContent, IsFreed, payload_page}
 use Rattle.nl_dat.specs.declared.entries.DatEntry.{DatEntry}
 use Rattle.nl_dat.specs.declared.reclaim.TakenOut.{TakenOut}
@@ -49,7 +50,7 @@ used-elsewhere s segment b tidy (place, at, used) outside = elim (cases_eq place
     true_false : true ≡ false → ⊥
     true_false h = cc
 
-module _ (table new : List (Option DatEntry)) (filled filled' segment : ℕ) (old later : SpaceContent) (before after : ℕ) (taken : TakenOut)
+module _ (table new : List (Option DatEntry)) (filled filled' segment : ℕ) (old later : SpaceContent) (before after : Failures) (taken : TakenOut)
     (is_table : IsTable table (filled + 1) old) (tidy : AreTidy old.segments) (freed : IsFreed segment old later)
     (out : HasTakenOut (segment * old.segments.blocks) (info_of old.segments.each segment).used table new taken)
     (most : filled' ≤ filled) (least : IfSome taken.least (λ l. filled' ≤ l - 1)) where

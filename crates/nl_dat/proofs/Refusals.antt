@@ -7,6 +7,7 @@ use Rattle.nl_types.specs.declared.error.VolError.{VolError}
 use Rattle.nl_types.specs.declared.error.VolError.TheVariants.{NoSpace, Fault, Memory}
 use Rattle.nl_types.specs.Segments.{AreTidy, total_blocks}
 use Rattle.nl_types.specs.Placing.{LacksSpace, with_logs}
+use Rattle.nl_device.specs.Failures.{Failures, failure_count, no_failures}
 use Rattle.nl_space.specs.Content.{Payload, SpaceContent, KeepsUsed}
 use Rattle.nl_space.specs.Appended.{IsAppendError, IsBrokenOff}
 use Rattle.nl_vstore.specs.Batches.{Changes, items_of}
@@ -38,16 +39,17 @@ total-refused old later reserve stamp checkpoint payload e why no_space memory f
 -- and each number is seen as before
 pub numbers-kept : (table : List (Option DatEntry)) (old later : SpaceContent) → KeepsAt (addresses_of (entry_in table)) (births_in old) (births_in later) → map (numbered_of (births_in later)) table ≡ map (numbered_of (births_in old)) table
 numbers-kept table old later keeps = ext_get_or None _ _ (length-map table (numbered_of (births_in later)) ∙ sym (length-map table (numbered_of (births_in old)))) (λ v h.
-    numbered_in-store_of table later 0 v ∙ same v (entry_in table v) refl ∙ sym (numbered_in-store_of table old 0 v))
+    numbered_in-store_of table later no_failures v ∙ same v (entry_in table v) refl ∙ sym (numbered_in-store_of table old no_failures v))
   where
     same : (v : ℕ) (o : Option DatEntry) → entry_in table v ≡ o → numbered_of (births_in later) o ≡ numbered_of (births_in old) o
     same v None is = refl
     same v (Some e) is = ap (option_map (numbered_with e)) (keeps v e.block (ap (option_map block_of) is))
 
-pub is_faulted : (table : List (Option DatEntry)) (lowest : ℕ) (old later : SpaceContent) (before after : ℕ) (reserve : Bool) (stamp checkpoint : ℕ) (payload : List Payload) → AreTidy old.segments → IsTable table lowest old → KeepsUsed old.segments old later → before < after
+pub is_faulted : (table : List (Option DatEntry)) (lowest : ℕ) (old later : SpaceContent) (before after : Failures) (reserve : Bool) (stamp checkpoint : ℕ) (payload : List Payload) → AreTidy old.segments → IsTable table lowest old → KeepsUsed old.segments old later → failure_count before < failure_count after → before.writes < after.writes
     → IsBrokenOff old later reserve stamp checkpoint payload → IsFaulted reserve checkpoint stamp payload (store_of table old before) (store_of table later after)
-is_faulted table lowest old later before after reserve stamp checkpoint payload tidy is_table kept risen broken = record {
+is_faulted table lowest old later before after reserve stamp checkpoint payload tidy is_table kept risen writes broken = record {
   failures = risen;
+  writes = writes;
   numbers = numbers-kept table old later (keeps_at table lowest old later is_table kept);
   broken_off = broken-shown table table old later before after reserve stamp checkpoint payload tidy broken;
   kept = kept-shown table table old later before after (total-broken old later reserve stamp checkpoint payload broken) old.segments kept;

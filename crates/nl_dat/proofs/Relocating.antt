@@ -1,5 +1,5 @@
 -- What a relocation does to the table and to what callers see.
-use Rattle.std.proofs.Common.{◌≡◌, ℕ, ◌+◌, ◌<◌, ◌≤◌, Bool, true, false, eqb, List, [], ◌∷◌, Some, None, Option, inl, inr, sym, refl, ap, subst, ◌∙◌, map, get_or, length, is_some, arith}
+use Rattle.std.proofs.Common.{◌≡◌, ℕ, ◌+◌, Bool, true, false, eqb, List, [], ◌∷◌, Some, None, Option, inl, inr, sym, refl, ap, subst, ◌∙◌, map, get_or, length, is_some, arith}
 use Rattle.std.specs.List.{All, AllByRecursion, range_with_len}
 use Rattle.std.specs.Option.{option_map, option_and_then}
 use Rattle.std.proofs.lemmas.Bool.{cases_Bool}
@@ -11,6 +11,7 @@ use Rattle.nl_types.specs.Placing.{LacksSpace}
 use Rattle.nl_types.specs.Entries.{Birth, Content}
 use Rattle.nl_types.specs.PartialMaps.{Partial, adjust, adjust_each, Stands}
 use Rattle.nl_types.proofs.PartialMaps.{is_one_of-get_or}
+use Rattle.nl_device.specs.Failures.{Failures, CountsReads, FailsToRead, FailsToWrite}
 use Rattle.nl_space.specs.Content.{Payload, SpaceContent, KeepsUsed, payload_page}
 use Rattle.nl_space.specs.Appended.{IsAppended, IsAppendError, IsLoadError, IsBrokenOff}
 use Rattle.nl_dat.specs.declared.entries.DatEntry.{DatEntry}
@@ -71,7 +72,7 @@ none_of None h = refl
 none_of (Some x) h = cc
 
 -- what was read is what the numbers stand for
-pub theirs-of : (table : List (Option DatEntry)) (lowest : ℕ) (space : SpaceContent) (failures : ℕ) (numbers : List ℕ) (items : List Payload) → IsTable table lowest space → map (stored_at (entry_in table) (births_in space)) numbers ≡ map Some (births_of items)
+pub theirs-of : (table : List (Option DatEntry)) (lowest : ℕ) (space : SpaceContent) (failures : Failures) (numbers : List ℕ) (items : List Payload) → IsTable table lowest space → map (stored_at (entry_in table) (births_in space)) numbers ≡ map Some (births_of items)
     → IsPayloadOf (store_of table space failures) numbers items
 theirs-of table lowest space failures numbers items is_table loaded =
     payloads (payload_under (store_of table space failures)) (stored_at (entry_in table) (births_in space)) under numbers (births_of items) loaded ∙ ap (map Some) (sym (items_back items))
@@ -87,7 +88,7 @@ theirs-of table lowest space failures numbers items is_table loaded =
     under : (v : ℕ) → payload_under (store_of table space failures) v ≡ option_map item_of_birth (stored_at (entry_in table) (births_in space) v)
     under v = ap (λ (m : Content). option_map (payload_for v) (m v)) (content_in-store_of table space failures) ∙ of_entry v (entry_in table v) refl
 
-module _ (table new : List (Option DatEntry)) (lowest : ℕ) (old later : SpaceContent) (before after c now segment : ℕ) (numbers at : List ℕ) (items : List Payload)
+module _ (table new : List (Option DatEntry)) (lowest : ℕ) (old later : SpaceContent) (before after : Failures) (c now segment : ℕ) (numbers at : List ℕ) (items : List Payload)
     (is_table : IsTable table lowest old) (loaded : map (stored_at (entry_in table) (births_in old)) numbers ≡ map Some (births_of items))
     (appended : IsAppended old later false now c items at) (kept : KeepsUsed old.segments old later) (stays : StaysUsed old.segments later.segments)
     (is_new : entry_in new ≡ adjust_each moved_entry numbers at (entry_in table)) (size : length new ≡ length table) where
@@ -171,43 +172,56 @@ module _ (table new : List (Option DatEntry)) (lowest : ℕ) (old later : SpaceC
 
 -- ---- a refusal
 
-keeps-stored : (table : List (Option DatEntry)) (old later : SpaceContent) (before after : ℕ) → later ≡ old → KeepsStored (store_of table old before) (store_of table later after)
-keeps-stored table old later before after same = record {
+keeps-stored : (table : List (Option DatEntry)) (old later : SpaceContent) (before after : Failures) → later ≡ old → after.writes ≡ before.writes → KeepsStored (store_of table old before) (store_of table later after)
+keeps-stored table old later before after same writes = record {
   numbers = ap (λ (s : SpaceContent). map (numbered_of (births_in s)) table) same;
   segments = ap (λ (s : SpaceContent). s.segments) same;
   device = ap (λ (s : SpaceContent). map s.stored (range_with_len 0 (total_blocks s.segments))) same;
   payload = ap (λ (s : SpaceContent). map s.held (range_with_len 0 (total_blocks s.segments))) same;
+  writes = writes;
 }
 
 -- what an append says where it is refused
-pub record IsRelocationRefusal (reserve : Bool) (stamp checkpoint : ℕ) (payload : List Payload) (e : VolError) (old later : SpaceContent) (before after : ℕ) : Type 0 where
+pub record IsRelocationRefusal (reserve : Bool) (stamp checkpoint : ℕ) (payload : List Payload) (e : VolError) (old later : SpaceContent) (before after : Failures) : Type 0 where
   pub why : IsAppendError e
-  pub no_space : e ≡ NoSpace → later ≡ old
+  pub no_space : e ≡ NoSpace → (later ≡ old) × (after ≡ before)
   pub lacks : e ≡ NoSpace → LacksSpace old.segments reserve (length payload)
-  pub memory : e ≡ Memory → later ≡ old
-  pub risen : e ≡ Fault → before < after
+  pub memory : e ≡ Memory → (later ≡ old) × (after ≡ before)
+  pub risen : e ≡ Fault → FailsToWrite before after
   pub broken : e ≡ Fault → IsBrokenOff old later reserve stamp checkpoint payload
 
-pub move-refused : (table : List (Option DatEntry)) (lowest : ℕ) (old later : SpaceContent) (before between after checkpoint stamp : ℕ) (numbers : List ℕ) (payload : List Payload) (e : VolError) → AreTidy old.segments → IsTable table lowest old
-    → IsPayloadOf (store_of table old before) numbers payload → KeepsUsed old.segments old later → before ≤ between → IsRelocationRefusal false stamp checkpoint payload e old later between after
+pub move-refused : (table : List (Option DatEntry)) (lowest : ℕ) (old later : SpaceContent) (before between after : Failures) (checkpoint stamp : ℕ) (numbers : List ℕ) (payload : List Payload) (e : VolError) → AreTidy old.segments → IsTable table lowest old
+    → IsPayloadOf (store_of table old before) numbers payload → KeepsUsed old.segments old later → CountsReads before between → IsRelocationRefusal false stamp checkpoint payload e old later between after
     → IsMoveRefused checkpoint stamp numbers (store_of table old before) (store_of table later after) e
 move-refused table lowest old later before between after checkpoint stamp numbers payload e tidy is_table theirs kept more refused = elim refused.why [
   | inl is ↦ subst (IsMoveRefused checkpoint stamp numbers (store_of table old before) (store_of table later after)) (sym is)
-      (subst (LacksSpace old.segments false) count (refused.lacks is), keeps-stored table old later before after (refused.no_space is))
+      (subst (LacksSpace old.segments false) count (refused.lacks is), keeps-stored table old later before after (refused.no_space is).0 (unwritten (refused.no_space is).1))
   | inr or ↦ elim or [
     | inl is ↦ subst (IsMoveRefused checkpoint stamp numbers (store_of table old before) (store_of table later after)) (sym is)
-        (inr (payload, theirs, is_faulted table lowest old later before after false stamp checkpoint payload tidy is_table kept (omega (arith, more, refused.risen is)) (refused.broken is)))
-    | inr is ↦ subst (IsMoveRefused checkpoint stamp numbers (store_of table old before) (store_of table later after)) (sym is) (keeps-stored table old later before after (refused.memory is))
+        (inr (
+          payload,
+          theirs,
+          is_faulted table lowest old later before after false stamp checkpoint payload tidy is_table kept (let fails = refused.risen is in omega (arith, more.0, more.1, fails.0, fails.1))
+              (let fails = refused.risen is in omega (arith, more.1, fails.1)) (refused.broken is),
+        ))
+    | inr is ↦ subst (IsMoveRefused checkpoint stamp numbers (store_of table old before) (store_of table later after)) (sym is) (keeps-stored table old later before after (refused.memory is).0 (unwritten (refused.memory is).1))
   ]
 ]
   where
     count : length payload ≡ length numbers
     count = sym (length-map payload Some) ∙ sym (ap length theirs) ∙ length-map numbers (payload_under (store_of table old before))
 
+    unwritten : after ≡ between → after.writes ≡ before.writes
+    unwritten same = ap (λ (failures : Failures). failures.writes) same ∙ more.1
+
 -- a page was not read
-pub load-refused : (table : List (Option DatEntry)) (old later : SpaceContent) (before after checkpoint stamp : ℕ) (numbers : List ℕ) (e : VolError) → later ≡ old → IsLoadError e → (e ≡ Fault → before < after)
+pub load-refused : (table : List (Option DatEntry)) (old later : SpaceContent) (before after : Failures) (checkpoint stamp : ℕ) (numbers : List ℕ) (e : VolError) → later ≡ old → IsLoadError e → CountsReads before after → (e ≡ Fault → FailsToRead before after)
     → IsMoveRefused checkpoint stamp numbers (store_of table old before) (store_of table later after) e
-load-refused table old later before after checkpoint stamp numbers e same why risen = elim why [
-  | inl is ↦ subst (IsMoveRefused checkpoint stamp numbers (store_of table old before) (store_of table later after)) (sym is) (inl (risen is, keeps-stored table old later before after same))
-  | inr is ↦ subst (IsMoveRefused checkpoint stamp numbers (store_of table old before) (store_of table later after)) (sym is) (keeps-stored table old later before after same)
+load-refused table old later before after checkpoint stamp numbers e same why counted risen = elim why [
+  | inl is ↦ subst (IsMoveRefused checkpoint stamp numbers (store_of table old before) (store_of table later after)) (sym is) (inl (record {
+    failures = let fails = risen is in omega (arith, fails.0, fails.1);
+    reads = (risen is).0;
+    kept = keeps-stored table old later before after same counted.1;
+  }))
+  | inr is ↦ subst (IsMoveRefused checkpoint stamp numbers (store_of table old before) (store_of table later after)) (sym is) (keeps-stored table old later before after same counted.1)
 ]

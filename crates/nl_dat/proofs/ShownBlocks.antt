@@ -3,6 +3,7 @@ use Rattle.std.proofs.Common.{◌≡◌, ℕ, ◌<◌, List, length, Option, Som
 use Rattle.std.specs.Prelude.{slice_get}
 use Rattle.std.proofs.lemmas.Option.{slice_get_within}
 use Rattle.nl_types.specs.Segments.{total_blocks}
+use Rattle.nl_device.specs.Failures.{Failures}
 use Rattle.nl_space.specs.Content.{SpaceContent}
 use Rattle.nl_space.specs.Images.{AreBlocksOf, IsPageOf}
 use Rattle.nl_vstore.specs.Stores.{space_in}
@@ -10,7 +11,7 @@ use Rattle.nl_dat.specs.declared.entries.DatEntry.{DatEntry}
 use Rattle.nl_dat.specs.Inside.{store_of}
 use Rattle.nl_dat.proofs.ShownSpace.{shown}
 
-pub blocks-store_of : (table : List (Option DatEntry)) (space : SpaceContent) (failures : ℕ) (bytes : List ℕ) → AreBlocksOf space bytes → AreBlocksOf (space_in (store_of table space failures)) bytes
+pub blocks-store_of : (table : List (Option DatEntry)) (space : SpaceContent) (failures : Failures) (bytes : List ℕ) → AreBlocksOf space bytes → AreBlocksOf (space_in (store_of table space failures)) bytes
 blocks-store_of table space failures bytes are = record {
   pages = are.pages;
   spelled = are.spelled;

@@ -3,6 +3,7 @@ use Rattle.std.proofs.Common.{◌≡◌, ℕ, ◌+◌, ◌-◌, List, length, dr
 use Rattle.std.specs.Option.{option_map}
 use Rattle.std.proofs.Math.ListN.{get_or-map}
 use Rattle.std.proofs.lemmas.List.{ext_get_or, get_or-drop, length-map}
+use Rattle.nl_device.specs.Failures.{Failures}
 use Rattle.nl_space.specs.Content.{SpaceContent}
 use Rattle.nl_dat.specs.declared.entries.DatEntry.{DatEntry}
 use Rattle.nl_vstore.specs.Stores.{Numbered}
@@ -10,7 +11,7 @@ use Rattle.nl_dat.specs.Inside.{births_in, numbered_of, store_of}
 use Rattle.nl_dat.specs.Table.{HaveOwnPayload, addresses_of, dat_entry_of, entries_shown, entry_in, numbers_shown}
 use Rattle.nl_dat.proofs.StoreOf.{entry-store_of}
 
-pub numbers-store_of : (table : List (Option DatEntry)) (space : SpaceContent) (failures : ℕ) → HaveOwnPayload (addresses_of (entry_in table)) (births_in space)
+pub numbers-store_of : (table : List (Option DatEntry)) (space : SpaceContent) (failures : Failures) → HaveOwnPayload (addresses_of (entry_in table)) (births_in space)
     → drop 1 table ≡ numbers_shown (store_of table space failures)
 numbers-store_of table space failures sound =
     let numbers : List (Option Numbered) = map (numbered_of (births_in space)) table in
@@ -23,7 +24,7 @@ numbers-store_of table space failures sound =
     ∙ (ap (option_map dat_entry_of) (sym (get_or-drop 1 numbers i None)) ∙ sym (get_or-map (option_map dat_entry_of) (drop 1 numbers) i None))))
 
 -- those of all numbers, 0 too
-pub entries-store_of : (table : List (Option DatEntry)) (space : SpaceContent) (failures : ℕ) → HaveOwnPayload (addresses_of (entry_in table)) (births_in space)
+pub entries-store_of : (table : List (Option DatEntry)) (space : SpaceContent) (failures : Failures) → HaveOwnPayload (addresses_of (entry_in table)) (births_in space)
     → entries_shown (store_of table space failures) ≡ table
 entries-store_of table space failures sound =
     let numbers : List (Option Numbered) = map (numbered_of (births_in space)) table in

@@ -6,6 +6,7 @@ use Rattle.std.proofs.lemmas.Option.{same_Some}
 use Rattle.nl_types.specs.Segments.{AreTidy, info_of}
 use Rattle.nl_types.specs.Placing.{row_of}
 use Rattle.nl_types.proofs.SegmentChanges.{room_of}
+use Rattle.nl_device.specs.Failures.{Failures}
 use Rattle.nl_space.specs.Content.{Held, Payload, SpaceContent}
 use Rattle.nl_dat.specs.declared.entries.DatEntry.{DatEntry}
 use Rattle.nl_dat.specs.Inside.{store_of}
@@ -20,7 +21,7 @@ row-is (o ∷ row) held b each =
     let tail : row ≡ map held (row_of (suc b) (length row)) = row-is row held (suc b) (λ k low. each (suc k) (omega (arith, low)) ∙ (let at : b + suc k ≡ suc b + k = omega arith in ap (λ (c : ℕ). Some (held c)) at)) in
     λ i. head i ∷ tail i
 
-pub row-store_of : (table : List (Option DatEntry)) (space : SpaceContent) (failures segment : ℕ) (row : List (Option Payload)) → AreTidy space.segments → segment < length space.segments.each → length row ≡ (info_of space.segments.each segment).used
+pub row-store_of : (table : List (Option DatEntry)) (space : SpaceContent) (failures : Failures) (segment : ℕ) (row : List (Option Payload)) → AreTidy space.segments → segment < length space.segments.each → length row ≡ (info_of space.segments.each segment).used
     → ((k : ℕ) → k < length row → slice_get row k ≡ Some (space.held (segment * space.segments.blocks + k))) → row ≡ payload_row (store_of table space failures) segment
 row-store_of table space failures segment row tidy within size each =
     row-is row (payload_in (store_of table space failures)) (segment * space.segments.blocks) at

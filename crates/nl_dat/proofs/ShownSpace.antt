@@ -10,6 +10,7 @@ use Rattle.nl_types.specs.Segments.{Segments, AreTidy, total_blocks}
 use Rattle.nl_types.specs.Placing.{first_block, with_logs}
 use Rattle.nl_types.proofs.NextLogs.{placed}
 use Rattle.nl_types.proofs.UsedParts.{used_inside}
+use Rattle.nl_device.specs.Failures.{Failures}
 use Rattle.nl_space.specs.Content.{SpaceContent, Payload, StandAt, IsSameAt, IsFreed, KeepsUsed, HoldsOnlyUsed, payload_page}
 use Rattle.nl_space.specs.Logs.{AreWholeLogs}
 use Rattle.nl_space.specs.Appended.{StandInLogs, KeepsOtherBlocks, IsAppended, IsBrokenOff}
@@ -20,7 +21,7 @@ use Rattle.nl_vstore.specs.Stores.{payload_in, device_in, space_in}
 use Rattle.nl_dat.specs.Inside.{store_of}
 use Rattle.nl_dat.proofs.BlockCounts.{total-with_logs, total-with_error}
 
-module _ (table : List (Option DatEntry)) (space : SpaceContent) (failures : ℕ) where
+module _ (table : List (Option DatEntry)) (space : SpaceContent) (failures : Failures) where
   pub shown : (b : ℕ) → b < total_blocks space.segments → IsSameAt space (space_in (store_of table space failures)) b
   shown b low = (
     get_or-map-range_with_len space.held 0 (total_blocks space.segments) b b None low (omega arith),
@@ -76,7 +77,7 @@ module _ (table : List (Option DatEntry)) (space : SpaceContent) (failures : ℕ
 
 -- ---- what changes
 
-module _ (table new : List (Option DatEntry)) (old later : SpaceContent) (before after : ℕ) (total : total_blocks later.segments ≡ total_blocks old.segments) where
+module _ (table new : List (Option DatEntry)) (old later : SpaceContent) (before after : Failures) (total : total_blocks later.segments ≡ total_blocks old.segments) where
   pub same-shown : (b : ℕ) → IsSameAt old later b → IsSameAt (space_in (store_of table old before)) (space_in (store_of new later after)) b
   same-shown b same = elim (cases_lt b (total_blocks old.segments)) [
     | inl low ↦
@@ -124,7 +125,7 @@ module _ (table new : List (Option DatEntry)) (old later : SpaceContent) (before
 
 -- ---- an append
 
-module _ (table new : List (Option DatEntry)) (old later : SpaceContent) (before after : ℕ) (reserve : Bool) (stamp checkpoint : ℕ) (payload : List Payload) (tidy : AreTidy old.segments) where
+module _ (table new : List (Option DatEntry)) (old later : SpaceContent) (before after : Failures) (reserve : Bool) (stamp checkpoint : ℕ) (payload : List Payload) (tidy : AreTidy old.segments) where
   pub appended-shown : (at : List ℕ) → IsAppended old later reserve stamp checkpoint payload at → IsAppended (space_in (store_of table old before)) (space_in (store_of new later after)) reserve stamp checkpoint payload at
   appended-shown at a = record {
     logs = a.logs;

@@ -19,6 +19,7 @@ use Rattle.nl_vstore.specs.Periods.{period_of}
 use Rattle.nl_vstore.specs.Stores.{Numbered, new_store, numbered_in, content_in, address_in, entry_now, block_now, payload_for, IsStore, SoundStore}
 use Rattle.nl_dat.specs.Inside.{births_in, numbered_with, numbered_of, store_of, IsTable}
 use Rattle.nl_types.proofs.UsedParts.{used_inside}
+use Rattle.nl_device.specs.Failures.{Failures, failure_count}
 use Rattle.nl_dat.proofs.SoundTable.{stored_for, HaveOwnPayload-apart}
 use Rattle.nl_dat.proofs.ShownSpace.{shown, whole-shown, only-shown}
 
@@ -26,7 +27,7 @@ use Rattle.nl_dat.proofs.ShownSpace.{shown, whole-shown, only-shown}
 pub same_store : {a b : SoundStore} → a ≡ b → a.store ≡ b.store
 same_store is i = (is i).store
 
-module _ (table : List (Option DatEntry)) (space : SpaceContent) (failures : ℕ) where
+module _ (table : List (Option DatEntry)) (space : SpaceContent) (failures : Failures) where
   pub numbered_in-store_of : (v : ℕ) → numbered_in (store_of table space failures) v ≡ numbered_of (births_in space) (entry_in table v)
   numbered_in-store_of v = get_or-map (numbered_of (births_in space)) table v None
 
@@ -72,7 +73,7 @@ module _ (table : List (Option DatEntry)) (space : SpaceContent) (failures : ℕ
 
 -- ---- what is true of every store
 
-module _ (table : List (Option DatEntry)) (lowest : ℕ) (space : SpaceContent) (failures : ℕ) (is_table : IsTable table lowest space) (limits : IsSegTable space.segments) where
+module _ (table : List (Option DatEntry)) (lowest : ℕ) (space : SpaceContent) (failures : Failures) (is_table : IsTable table lowest space) (limits : IsSegTable space.segments) where
   address_now : (v b : ℕ) → address_in (store_of table space failures) v ≡ Some b → addresses_of (entry_in table) v ≡ Some b
   address_now v b at = sym (ap (λ (m : Partial ℕ). m v) (address_in-store_of table space failures is_table.sound)) ∙ at
 
@@ -132,6 +133,7 @@ module _ (table : List (Option DatEntry)) (lowest : ℕ) (space : SpaceContent) 
     only_used = only-shown table space failures only;
     have_logs = have;
     limits = limits;
+    adds_up = refl;
   }
 
 -- ---- an empty table
@@ -140,9 +142,9 @@ map-empty : (stored : Partial Birth) (n : ℕ) → map (numbered_of stored) (rep
 map-empty stored zero = refl
 map-empty stored (suc n) = ap (λ xs. None ∷ xs) (map-empty stored n)
 
-pub store_of-empty : (table : List (Option DatEntry)) (space : SpaceContent) (failures : ℕ) → table ≡ replicate (total_blocks space.segments + 1) None → store_of table space failures ≡ new_store space failures
+pub store_of-empty : (table : List (Option DatEntry)) (space : SpaceContent) (failures : Failures) → table ≡ replicate (total_blocks space.segments + 1) None → store_of table space failures ≡ new_store space failures
 store_of-empty table space failures is =
-    ap (λ numbers. record { numbers = numbers; segments = space.segments; device = map space.stored (range_with_len 0 (total_blocks space.segments)); payload = map space.held (range_with_len 0 (total_blocks space.segments)); failures = failures })
+    ap (λ numbers. record { numbers = numbers; segments = space.segments; device = map space.stored (range_with_len 0 (total_blocks space.segments)); payload = map space.held (range_with_len 0 (total_blocks space.segments)); failures = failure_count failures; failed = failures })
     (ap (map (numbered_of (births_in space))) is ∙ map-empty (births_in space) (total_blocks space.segments + 1))
 
 get_or-empty : {A : Type 0} (n v : ℕ) → ◌≡◌ {A = Option A} (get_or (replicate n None) v None) None

@@ -10,6 +10,7 @@ use Rattle.nl_types.specs.Segments.{AreTidy, IsUsed, StaysUsed, total_blocks}
 use Rattle.nl_types.specs.PartialMaps.{Partial, put, put_each, put_all, adjust, adjust_all, Stands}
 use Rattle.nl_types.specs.Entries.{Birth, Content, number_of, born_at, ended_at, written}
 use Rattle.nl_types.proofs.PartialMaps.{put-other, put-same}
+use Rattle.nl_device.specs.Failures.{Failures}
 use Rattle.nl_space.specs.Content.{Payload, SpaceContent, KeepsUsed, StandAt, payload_page}
 use Rattle.nl_space.specs.Appended.{IsAppended}
 use Rattle.nl_dat.specs.declared.entries.DatEntry.{DatEntry}
@@ -129,7 +130,7 @@ table-kept table lowest old later is_table kept stays total = record {
 
 -- ---- a batch that is written
 
-module _ (table new : List (Option DatEntry)) (lowest : ℕ) (old later : SpaceContent) (before after c now : ℕ) (changes : Changes) (items : List Payload) (at : List ℕ)
+module _ (table new : List (Option DatEntry)) (lowest : ℕ) (old later : SpaceContent) (before after : Failures) (c now : ℕ) (changes : Changes) (items : List Payload) (at : List ℕ)
     (is_table : IsTable table lowest old) (fits : Fits (total_blocks old.segments) (content_in (store_of table old before)) changes)
     (items_are : births_of items ≡ changes.births) (appended : IsAppended old later true now c items at) (kept : KeepsUsed old.segments old later) (stays : StaysUsed old.segments later.segments)
     (is_new : entry_in new ≡ put_each number_of (new_entry c) changes.births at (adjust_all (ended_entry c) changes.ends (entry_in table))) (size : length new ≡ length table) (low : last_number changes.births ≤ total_blocks old.segments) where
@@ -209,7 +210,7 @@ module _ (table new : List (Option DatEntry)) (lowest : ℕ) (old later : SpaceC
 -- ---- what a write asks of its batch
 
 -- a live number is in the table
-pub live_inside : (table : List (Option DatEntry)) (space : SpaceContent) (failures : ℕ) (v : ℕ) → is_live (content_in (store_of table space failures) v) ≡ true → v < length table
+pub live_inside : (table : List (Option DatEntry)) (space : SpaceContent) (failures : Failures) (v : ℕ) → is_live (content_in (store_of table space failures) v) ≡ true → v < length table
 live_inside table space failures v live = elim (cases_lt v (length table)) [
   | inl h ↦ h
   | inr h ↦

@@ -5,6 +5,7 @@ use Rattle.std.specs.Option.{option_map, option_and_then}
 use Rattle.nl_types.specs.Segments.{IsUsed, total_blocks}
 use Rattle.nl_types.specs.PartialMaps.{Partial}
 use Rattle.nl_types.specs.Entries.{Birth}
+use Rattle.nl_device.specs.Failures.{Failures, failure_count}
 use Rattle.nl_space.specs.Content.{Payload, SpaceContent, payload_page}
 use Rattle.nl_dat.specs.declared.entries.DatEntry.{DatEntry}
 use Rattle.nl_vstore.specs.Batches.{birth_of_item, births_of}
@@ -25,13 +26,14 @@ numbered_at stored entry = option_map (numbered_with entry) (stored entry.block)
 abbrev pub numbered_of : Partial Birth → Option DatEntry → Option Numbered
 numbered_of stored entry = option_and_then (numbered_at stored) entry
 
-abbrev pub store_of : List (Option DatEntry) → SpaceContent → ℕ → Store
-store_of table space failures = record {
+abbrev pub store_of : List (Option DatEntry) → SpaceContent → Failures → Store
+store_of table space failed = record {
   numbers = map (numbered_of (births_in space)) table;
   segments = space.segments;
   device = map space.stored (range_with_len 0 (total_blocks space.segments));
   payload = map space.held (range_with_len 0 (total_blocks space.segments));
-  failures = failures;
+  failures = failure_count failed;
+  failed = failed;
 }
 
 -- the page of the number stands in the segment

@@ -54,6 +54,7 @@ IsStore-prop {s} x y = λ i. record {
   only_used = same_fact x.only_used y.only_used (Prim.hlevel props) i;
   have_logs = same_fact x.have_logs y.have_logs (Prim.hlevel props) i;
   limits = same_fact x.limits y.limits (Prim.hlevel props) i;
+  adds_up = same_fact x.adds_up y.adds_up (Prim.hlevel props) i;
 }
 
 -- and so is a table over tidy segments

@@ -31,7 +31,7 @@ pub struct Dat<S: Space> {
     /// Every number from 1 up to this one is in use, so that a free one is looked for behind it.
     filled: u64,
     space: S,
-    ghost sound: { IsStore (store_of table (S.content space) (S.failure_count space)) } by { IsStore-prop },
+    ghost sound: { IsStore (store_of table (S.content space) (S.failed space)) } by { IsStore-prop },
     ghost tabled: { IsTable table (filled + 1) (S.content space) } by { IsTable-prop sound.limits.tidy },
 }
 
@@ -47,7 +47,7 @@ impl<S: Space> Model for Dat<S> {
     ghost coded = { Prim.hlevel (IsStore-prop, codes) };
 
     ghost view = { λ d. record {
-      store = store_of d.table (S.content d.space) (S.failure_count d.space);
+      store = store_of d.table (S.content d.space) (S.failed d.space);
       sound = d.sound;
     } };
 }
@@ -65,7 +65,7 @@ impl<S: Space> Dat<S> {
 
     /// The table over a space, with no number in use. Refused by `Memory` alone; the space is dropped then.
     pub fn new(alloc: Global, space: S) -> Result<Dat<S>, VolError>
-        ensures new { IfOk result (λ dat. dat.store ≡ new_store (S.content space) (S.failure_count space)) }
+        ensures new { IfOk result (λ dat. dat.store ≡ new_store (S.content space) (S.failed space)) }
         ensures refused { IsOkUnless result VolError.Memory }
     {
         let table = space.table();
@@ -83,7 +83,7 @@ impl<S: Space> Dat<S> {
     pub fn restore(space: S, table: Items<Option<DatEntry>>) -> Result<Dat<S>, VolError>
         requires { IsTableOver table (S.content space).segments }
         ensures restored { IfOk result (λ dat.
-            dat.store ≡ store_of table (S.content space) (S.failure_count space)) }
+            dat.store ≡ store_of table (S.content space) (S.failed space)) }
         ensures shown { IfOk result (λ dat. entries_shown dat.store ≡ table) }
         ensures own { OnOk result
             (HaveOwnPayload (addresses_of (entry_in table)) (births_in (S.content space))) }

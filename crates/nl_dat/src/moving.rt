@@ -1,6 +1,7 @@
 //! Pages read from the device, to be written elsewhere.
-ghost use Rattle.std.specs.Prelude.{◌≡◌, ◌+◌, ◌<◌, ◌≤◌, ◌^◌, [], length, All, IfOk, IfErr, IsErrOf, slice_index_or, None, Some};
+ghost use Rattle.std.specs.Prelude.{◌≡◌, ◌+◌, ◌<◌, ◌^◌, [], length, All, IfOk, IfErr, IsErrOf, slice_index_or, None, Some};
 ghost use Rattle.std.specs.Option.{option_map};
+ghost use Rattle.nl_device.specs.Failures.{CountsReads, FailsToRead};
 ghost use Rattle.nl_space.specs.Content.{payload_tag};
 ghost use Rattle.nl_space.specs.Appended.{IsLoadError};
 ghost use Rattle.nl_vstore.specs.Batches.{birth_of_item};
@@ -59,8 +60,8 @@ fn load_one<S: Space>(
     ensures payload { IfOk result (λ payload.
         birth_under table.now (S.content space.old) number ≡ Some (birth_of_item payload)) }
     ensures same { S.content space.new ≡ S.content space.old }
-    ensures counted { S.failure_count space.old ≤ S.failure_count space.new }
-    ensures fault { IsErrOf result VolError.Fault → S.failure_count space.old < S.failure_count space.new }
+    ensures counted { CountsReads (S.failed space.old) (S.failed space.new) }
+    ensures fault { IsErrOf result VolError.Fault → FailsToRead (S.failed space.old) (S.failed space.new) }
     ensures errors { IfErr result IsLoadError }
 {
     let segments = space.table();
@@ -91,8 +92,8 @@ pub(crate) fn load_all<S: Space>(
     requires inside { All (StandsIn table.now (S.content space.old) segment) numbers.now }
     ensures payload { IfOk result (λ payload. AreRead table.now (S.content space.old) numbers.now payload.items) }
     ensures same { S.content space.new ≡ S.content space.old }
-    ensures counted { S.failure_count space.old ≤ S.failure_count space.new }
-    ensures fault { IsErrOf result VolError.Fault → S.failure_count space.old < S.failure_count space.new }
+    ensures counted { CountsReads (S.failed space.old) (S.failed space.new) }
+    ensures fault { IsErrOf result VolError.Fault → FailsToRead (S.failed space.old) (S.failed space.new) }
     ensures errors { IfErr result IsLoadError }
 {
     let mut payload = Vec::with_capacity(alloc, numbers.len())?;

@@ -1,3 +1,4 @@
 pub mod Pages
+pub mod Failures
 pub mod Memory
-pub mod Faulty
+pub mod Turns

@@ -1,6 +1,7 @@
 //! What the layers above know of a device.
-ghost use Rattle.std.specs.Prelude.{◌≡◌, ℕ, ◌*◌, ◌<◌, ◌≤◌, Some, OnOk, OnErr, IfOk, IsErrOf};
+ghost use Rattle.std.specs.Prelude.{◌≡◌, ◌*◌, ◌<◌, Some, OnOk, OnErr, IfOk, IsErrOf};
 ghost use Rattle.nl_types.specs.declared.geometry.Geometry.{Geometry};
+ghost use Rattle.nl_device.specs.Failures.{Failures, CountsReads, CountsWrites, FailsToRead, FailsToWrite, failure_count};
 ghost use Rattle.nl_device.specs.Pages.{DevicePages, KeepsOthers, ClearsBlocks, SamePages};
 
 use nl_types::{BlockNumber, Page, Segment};
@@ -18,13 +19,14 @@ pub enum DeviceError {
     Memory,
 }
 
-/// Blocks by number. A device gives back what was put, and counts its failures.
+/// Blocks by number. A device gives back what was put, and counts its failures, those of gets apart from those of puts and
+/// clears.
 pub trait Device: Drop {
     /// The page at each block number, if there is one.
     ghost pages: { Self → DevicePages };
 
-    /// How often the device has failed.
-    ghost failure_count: { Self → ℕ };
+    /// How often the device has failed in its reads, and how often in its writes.
+    ghost failed: { Self → Failures };
 
     /// How it is divided. This stays.
     ghost shape: { Self → Geometry };
@@ -34,17 +36,17 @@ pub trait Device: Drop {
         requires { number < (shape self.old).segments * (shape self.old).blocks }
         ensures there { OnOk result (pages self.new number ≡ Some page) }
         ensures others { KeepsOthers number (pages self.old) (pages self.new) }
-        ensures failed { OnErr result (failure_count self.old < failure_count self.new) }
-        ensures counted { failure_count self.old ≤ failure_count self.new }
+        ensures failed { OnErr result (FailsToWrite (failed self.old) (failed self.new)) }
+        ensures counted { CountsWrites (failed self.old) (failed self.new) }
         ensures shape { shape self.new ≡ shape self.old };
 
     /// The page at a number, or none where none was put.
     fn get(&mut self, number: BlockNumber) -> Result<Option<Page>, DeviceError>
         requires { number < (shape self.old).segments * (shape self.old).blocks }
         ensures found { IfOk result (λ page. page ≡ pages self.old number) }
-        ensures failed { IsErrOf result DeviceError.Fault → failure_count self.old < failure_count self.new }
+        ensures failed { IsErrOf result DeviceError.Fault → FailsToRead (failed self.old) (failed self.new) }
         ensures same { SamePages (pages self.old) (pages self.new) }
-        ensures counted { failure_count self.old ≤ failure_count self.new }
+        ensures counted { CountsReads (failed self.old) (failed self.new) }
         ensures shape { shape self.new ≡ shape self.old };
 
     /// Empties a segment.
@@ -52,10 +54,10 @@ pub trait Device: Drop {
         requires { segment < (shape self.old).segments }
         ensures cleared { ClearsBlocks (segment * (shape self.old).blocks) (shape self.old).blocks
             (pages self.old) (pages self.new) }
-        ensures counted { failure_count self.old ≤ failure_count self.new }
+        ensures counted { CountsWrites (failed self.old) (failed self.new) }
         ensures shape { shape self.new ≡ shape self.old };
 
     /// How often the device has failed.
     fn failures(&self) -> u64
-        ensures { result ≡ failure_count self.now };
+        ensures { result ≡ failure_count (failed self.now) };
 }

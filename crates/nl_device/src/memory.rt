@@ -1,6 +1,6 @@
 //! A device in memory, which never fails.
-ghost use Rattle.std.specs.Prelude.{◌≡◌, ℕ, ◌+◌, ◌*◌, ◌<◌, ◌≤◌, None, IfOk, IsOkUnless, replicate, vec_len};
-ghost use Rattle.nl_device.specs.Pages.{IsEmpty};
+ghost use Rattle.std.specs.Prelude.{◌≡◌, ℕ, ◌+◌, ◌*◌, ◌<◌, ◌≤◌, None, Some, IfOk, IsOkUnless, replicate, vec_len};
+ghost use Rattle.nl_device.specs.Pages.{IsEmpty, KeepsOthers};
 
 use crate::device::{Device, DeviceError, Fault};
 use nl_types::{BlockNumber, Geometry, Page, Segment, VolError};
@@ -37,20 +37,31 @@ impl MemDevice {
         let blocks = empty_blocks(alloc, geometry.total() as usize)?;
         Ok(MemDevice { geometry, blocks })
     }
+
+    /// Puts a page at a number.
+    pub(crate) fn set(&mut self, number: BlockNumber, page: Page)
+        requires { number < self.old.geometry.segments * self.old.geometry.blocks }
+        ensures there { memory_pages self.new number ≡ Some page }
+        ensures others { KeepsOthers number (memory_pages self.old) (memory_pages self.new) }
+        ensures shape { self.new.geometry ≡ self.old.geometry }
+    {
+        let at = number.get() as usize;
+        self.blocks[at] = Some(page);
+    }
 }
 
 impl Device for MemDevice {
+    ghost use Rattle.nl_device.specs.Failures.{no_failures};
     ghost use Rattle.nl_device.specs.Memory.{memory_pages};
 
     ghost pages = { memory_pages };
 
-    ghost failure_count = { λ _. 0 };
+    ghost failed = { λ _. no_failures };
 
     ghost shape = { λ d. d.geometry };
 
     fn put(&mut self, number: BlockNumber, page: Page) -> Result<(), Fault> {
-        let at = number.get() as usize;
-        self.blocks[at] = Some(page);
+        self.set(number, page);
         Ok(())
     }
 

@@ -6,6 +6,7 @@ use Rattle.std.proofs.lemmas.List.{get_or_past}
 use Rattle.nl_types.specs.declared.segment.Position.{Position}
 use Rattle.nl_types.specs.declared.segment.SegmentInfo.{SegmentInfo}
 use Rattle.nl_types.specs.Segments.{Segments, IsUsed, clean_info, info_of}
+use Rattle.nl_device.specs.Failures.{no_failures}
 use Rattle.nl_device.specs.Pages.{DevicePages}
 use Rattle.nl_space.specs.Content.{Held, Payload}
 use Rattle.nl_space.specs.Logs.{FillDevice, FillUpTo, WholeLog}
@@ -58,7 +59,7 @@ used_page s device payload logs b (place, at, used) =
 module _ (ones : SummariesAreOne) (s : Segments) (image : DevicePages) (pages : List (Option (List ℕ))) (are : AreUsedPages s image pages) (payload other : List (Option Payload))
     (restored : HoldLogs s (page_in pages) payload) (logs : HoldLogs s image other) where
   store : Store
-  store = record { numbers = []; segments = s; device = pages; payload = []; failures = 0 }
+  store = record { numbers = []; segments = s; device = pages; payload = []; failures = 0; failed = no_failures }
 
   same_in : (i c : ℕ) → first_of s i ≤ c → c < end_of s i → IsHeld s (page_in pages) (held_in payload) i → IsHeld s image (held_in other) i → held_in other c ≡ held_in payload c
   unfolding store

@@ -2,7 +2,7 @@
 use crate::faults::{Row, SOUND};
 use crate::volume::{NO_END, Part, has_all, image_with};
 use nl_core::{Pen, geometry_of, open};
-use nl_device::{Device, Failing, FaultyDevice, MemDevice};
+use nl_device::{Device, FaultDevice, MemDevice};
 use nl_types::{
     Answer, Ask, Change, CheckpointNumber, Event, Items, Mode, MountNumber, Reply, VolError,
 };
@@ -162,10 +162,10 @@ fn opened_volumes_go_on(rt: HostRuntime) -> Result<(), Fail> {
 /// The blocks in use in the image by hand.
 const USED: u64 = 16;
 
-/// The volume of an image, on a device of which one get fails, after so many further ones.
-fn opened_on(alloc: Global, image: &[u8], gets: u64) -> Result<Pen<FaultyDevice>, VolError> {
+/// The volume of an image, on a device of which the get of this number fails.
+fn opened_on(alloc: Global, image: &[u8], get: u64) -> Result<Pen<FaultDevice>, VolError> {
     let geometry = geometry_of(image)?;
-    let device = FaultyDevice::new(MemDevice::new(alloc, geometry)?, Failing::Get, gets);
+    let device = FaultDevice::new(alloc, MemDevice::new(alloc, geometry)?, 0, get, false)?;
     open(alloc, image, device)
 }
 
@@ -179,7 +179,7 @@ fn is_fault(closed: Result<Vec<u8>, VolError>) -> bool {
 #[test]
 fn closes_read_each_used_block_once(rt: HostRuntime) -> Result<(), Fail> {
     let image = image_with(rt.alloc(), &[], &[])?;
-    let mut pen = opened_on(rt.alloc(), image.as_slice(), USED)?;
+    let mut pen = opened_on(rt.alloc(), image.as_slice(), USED + 1)?;
     assert!(rt; closed(rt.alloc(), &mut pen)?.as_slice() == image.as_slice());
     // The get behind these fails.
     assert!(rt; is_fault(closed(rt.alloc(), &mut pen)));
@@ -189,7 +189,7 @@ fn closes_read_each_used_block_once(rt: HostRuntime) -> Result<(), Fail> {
 #[test]
 fn a_close_succeeds_behind_a_fault(rt: HostRuntime) -> Result<(), Fail> {
     let image = image_with(rt.alloc(), &[], &[])?;
-    let mut pen = opened_on(rt.alloc(), image.as_slice(), USED - 1)?;
+    let mut pen = opened_on(rt.alloc(), image.as_slice(), USED)?;
     assert!(rt; is_fault(closed(rt.alloc(), &mut pen)));
     assert!(rt; closed(rt.alloc(), &mut pen)?.as_slice() == image.as_slice());
     Ok(())

@@ -24,7 +24,7 @@ faulted-keep checkpoint stamp j payload old new store fault closed =
 pub refused-moves-keep-closed : RefusedMovesKeepClosed
 refused-moves-keep-closed checkpoint stamp j numbers old new NoSpace store refused closed = stored-keep j old new refused.1
 refused-moves-keep-closed checkpoint stamp j numbers old new Memory store refused closed = stored-keep j old new refused
-refused-moves-keep-closed checkpoint stamp j numbers old new Fault store (inl read) closed = stored-keep j old new read.1
+refused-moves-keep-closed checkpoint stamp j numbers old new Fault store (inl read) closed = stored-keep j old new read.kept
 refused-moves-keep-closed checkpoint stamp j numbers old new Fault store (inr (payload, theirs, fault)) closed = faulted-keep checkpoint stamp j payload old new store fault closed
 refused-moves-keep-closed checkpoint stamp j numbers old new e store refused closed = absurd refused
 

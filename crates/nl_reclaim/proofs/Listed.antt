@@ -40,7 +40,7 @@ refused-moves-are-none needed segment limit checkpoint stamp count listed old ne
     by (Err r) is = cc
 
 stored-same : (s : Store) → KeepsStored s s
-stored-same s = record { numbers = refl; segments = refl; device = refl; payload = refl }
+stored-same s = record { numbers = refl; segments = refl; device = refl; payload = refl; writes = refl }
 
 pub refused-lists-are-none : RefusedListsAreNone
 refused-lists-are-none needed segment limit checkpoint stamp s e refused = by (judged_for s.segments segment limit) refused

@@ -3,7 +3,7 @@ ghost use Rattle.std.specs.Prelude.{◌≡◌, ◌⊎◌, IfErr, IfOk, IfSome};
 ghost use Rattle.nl_script.specs.Files.{IsUnread};
 
 use nl_types::VolError;
-use std::alloc::{AllocError, Global};
+use std::alloc::Global;
 use std::fs::{Metadata, OpenFile};
 use std::io::{ErrorKind, Read, Write};
 use std::path::{Path, PathBuf};
@@ -77,11 +77,28 @@ pub fn read_file<R: AllocGlobal + Files>(rt: &R, path: &[u8]) -> Result<Vec<u8>,
 
 // ---- writing
 
+/// Whether an error says that nothing is there. Any other one leaves it open.
+fn is_absent(error: &io::Error) -> bool {
+    error.kind() == ErrorKind::NotFound
+}
+
 /// The path that a path leads to through links, or itself where nothing is there yet.
-fn behind_links<R: AllocGlobal + Files>(rt: &R, path: &str) -> Result<PathBuf, AllocError> {
+fn behind_links<R: AllocGlobal + Files>(rt: &R, path: &str) -> io::Result<PathBuf> {
     match fs::canonicalize(rt, path) {
-        Ok(real) => Ok(real),
-        Err(_) => PathBuf::from_str(rt.alloc(), path),
+        Err(error) if is_absent(&error) => {
+            let path = PathBuf::from_str(rt.alloc(), path)?;
+            Ok(path)
+        }
+        found => found,
+    }
+}
+
+/// What is told of the file at a path, or none where nothing is there yet.
+fn old_file<R: Files>(files: &R, path: Path<'_>) -> io::Result<Option<Metadata>> {
+    match fs::metadata(files, path) {
+        Ok(old) => Ok(Some(old)),
+        Err(error) if is_absent(&error) => Ok(None),
+        Err(error) => Err(error),
     }
 }
 
@@ -132,7 +149,7 @@ pub fn write_file<R: AllocGlobal + Files>(rt: &R, path: &[u8], bytes: &[u8]) -> 
     let path = str::from_utf8(path).map_err(|_| io::Error::from(ErrorKind::InvalidInput))?;
     let target = behind_links(rt, path)?;
     let target = target.as_path();
-    let old = fs::metadata(rt, target).ok();
+    let old = old_file(rt, target)?;
     if old.as_ref().is_some_and(|old| !old.is_file()) {
         return write_into(rt, target.as_str(), bytes);
     }

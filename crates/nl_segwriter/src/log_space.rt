@@ -4,6 +4,7 @@ ghost use Rattle.std.specs.List.{AllByRecursion};
 ghost use Rattle.nl_types.specs.Segments.{HaveLogs, StaysUsed, active_place, info_of, lowest_clean, total_blocks, with_active, with_error};
 ghost use Rattle.nl_types.specs.Placing.{IsNextLog, AreNextLogs, first_block, with_log, with_logs};
 ghost use Rattle.std.proofs.Props.{props};
+ghost use Rattle.nl_device.specs.Failures.{CountsWrites, FailsToWrite};
 ghost use Rattle.nl_sufile.specs.Table.{IsSegTable};
 ghost use Rattle.nl_space.specs.Content.{HoldsOnlyUsed, KeepsUsed, new_content};
 ghost use Rattle.nl_space.specs.Logs.{AreWholeLogs, StandsFrom};
@@ -44,7 +45,7 @@ impl<D: Device> LogSpace<D> {
         requires { D.shape device ≡ geometry }
         ensures content { IfOk result (λ s.
             ⟦<LogSpace<D> as Space>⟧.content s ≡ new_content geometry (D.pages device)) }
-        ensures failures { IfOk result (λ s. ⟦<LogSpace<D> as Space>⟧.failure_count s ≡ D.failure_count device) }
+        ensures failures { IfOk result (λ s. ⟦<LogSpace<D> as Space>⟧.failed s ≡ D.failed device) }
         ensures refused { IsOkUnless result VolError.Memory }
     {
         let table = SegTable::new(alloc, geometry)?;
@@ -66,8 +67,8 @@ impl<D: Device> LogSpace<D> {
         ensures content { IfOk result (λ s. IsSpaceOf table restored
             (⟦<LogSpace<D> as Space>⟧.content s)) }
         ensures failures { IfOk result (λ s.
-            D.failure_count device ≤ ⟦<LogSpace<D> as Space>⟧.failure_count s) }
-        ensures refused { IfErr result (λ d. D.failure_count device < D.failure_count d) }
+            CountsWrites (D.failed device) (⟦<LogSpace<D> as Space>⟧.failed s)) }
+        ensures refused { IfErr result (λ d. FailsToWrite (D.failed device) (D.failed d)) }
     {
         let Restored { pages, payload } = restored;
         // Tells that the table is within the limits.
@@ -91,8 +92,8 @@ impl<D: Device> LogSpace<D> {
         ensures stands { OnOk result (StagedStands self.old.table.blocks staged
             (⟦<Self as Space>⟧.content self.new)) }
         ensures broken { OnErr result (self.new.table ≡ with_error self.old.table staged.log.segment) }
-        ensures failed { OnErr result (D.failure_count self.old.device < D.failure_count self.new.device) }
-        ensures counted { D.failure_count self.old.device ≤ D.failure_count self.new.device }
+        ensures failed { OnErr result (FailsToWrite (D.failed self.old.device) (D.failed self.new.device)) }
+        ensures counted { CountsWrites (D.failed self.old.device) (D.failed self.new.device) }
         ensures others { SameOutsideLog self.old.table.blocks staged.log
             (⟦<Self as Space>⟧.content self.old) (⟦<Self as Space>⟧.content self.new) }
     {
@@ -132,8 +133,8 @@ impl<D: Device> LogSpace<D> {
             (held_in self.new.payload) (D.pages self.new.device)) }
         ensures broken { OnErr result (BreaksOff now all.items
             (⟦<Self as Space>⟧.content self.old) (⟦<Self as Space>⟧.content self.new)) }
-        ensures failed { OnErr result (D.failure_count self.old.device < D.failure_count self.new.device) }
-        ensures counted { D.failure_count self.old.device ≤ D.failure_count self.new.device }
+        ensures failed { OnErr result (FailsToWrite (D.failed self.old.device) (D.failed self.new.device)) }
+        ensures counted { CountsWrites (D.failed self.old.device) (D.failed self.new.device) }
         ensures others { KeepsOtherBlocks self.old.table.blocks (logs_of all.items)
             (⟦<Self as Space>⟧.content self.old) (⟦<Self as Space>⟧.content self.new) }
         ensures kept { KeepsUsed self.old.table
@@ -172,7 +173,7 @@ pub(crate) fn used_of(table: &SegTable, segment: Segment) -> u32
 impl<D: Device> Space for LogSpace<D> {
     ghost content = { λ s. space_content s.table s.payload (D.pages s.device) };
 
-    ghost failure_count = { λ s. D.failure_count s.device };
+    ghost failed = { λ s. D.failed s.device };
 
     fn append(
         &mut self,

@@ -1,5 +1,6 @@
 //! DevicePages put on the device, one after another.
 ghost use Rattle.std.specs.Prelude.{◌≡◌, ◌+◌, ◌*◌, ◌<◌, ◌≤◌, ℕ, List, Some, length, OnOk, OnErr, IfErr};
+ghost use Rattle.nl_device.specs.Failures.{CountsWrites, FailsToWrite};
 ghost use Rattle.nl_device.specs.Pages.{KeepsOthers};
 ghost use Rattle.nl_segwriter.specs.Images.{page_in};
 ghost use Rattle.nl_segwriter.specs.Writing.{HasPut, HasTried};
@@ -19,8 +20,8 @@ pub fn put_row<D: Device>(device: &mut D, first: u32, pages: Items<Page>) -> Res
     requires { first + length pages ≤ (D.shape device.old).segments * (D.shape device.old).blocks }
     ensures put { OnOk result (HasPut first pages (D.pages device.old) (D.pages device.new)) }
     ensures tried { IfErr result (λ e. HasTried first e.tried pages (D.pages device.old) (D.pages device.new)) }
-    ensures failed { OnErr result (D.failure_count device.old < D.failure_count device.new) }
-    ensures counted { D.failure_count device.old ≤ D.failure_count device.new }
+    ensures failed { OnErr result (FailsToWrite (D.failed device.old) (D.failed device.new)) }
+    ensures counted { CountsWrites (D.failed device.old) (D.failed device.new) }
     ensures shape { D.shape device.new ≡ D.shape device.old }
 {
     let mut tried = 0;
@@ -40,8 +41,8 @@ pub fn put_pages<D: Device>(device: &mut D, pages: Items<Option<Page>>) -> Resul
     requires few { length pages ≤ 262144 }
     ensures put { OnOk result ((b : ℕ) (page : List ℕ) → page_in pages b ≡ Some page
         → D.pages device.new b ≡ Some page) }
-    ensures failed { OnErr result (D.failure_count device.old < D.failure_count device.new) }
-    ensures counted { D.failure_count device.old ≤ D.failure_count device.new }
+    ensures failed { OnErr result (FailsToWrite (D.failed device.old) (D.failed device.new)) }
+    ensures counted { CountsWrites (D.failed device.old) (D.failed device.new) }
     ensures shape { D.shape device.new ≡ D.shape device.old }
 {
     let mut number = 0;
@@ -56,8 +57,8 @@ fn put_page<D: Device>(device: &mut D, number: BlockNumber, page: Option<Page>) 
     requires { number < (D.shape device.old).segments * (D.shape device.old).blocks }
     ensures put { OnOk result ((put : List ℕ) → page ≡ Some put → D.pages device.new number ≡ Some put) }
     ensures others { KeepsOthers number (D.pages device.old) (D.pages device.new) }
-    ensures failed { OnErr result (D.failure_count device.old < D.failure_count device.new) }
-    ensures counted { D.failure_count device.old ≤ D.failure_count device.new }
+    ensures failed { OnErr result (FailsToWrite (D.failed device.old) (D.failed device.new)) }
+    ensures counted { CountsWrites (D.failed device.old) (D.failed device.new) }
     ensures shape { D.shape device.new ≡ D.shape device.old }
 {
     match page {

@@ -5,6 +5,7 @@ use Rattle.nl_types.specs.Worlds.{formatted}
 use Rattle.nl_types.specs.declared.error.VolError.{VolError}
 use Rattle.nl_types.specs.declared.error.VolError.TheVariants.{BadGeometry, BadImage, Fault, Memory}
 use Rattle.nl_types.specs.declared.geometry.Geometry.{Geometry}
+use Rattle.nl_device.specs.Failures.{Failures}
 use Rattle.nl_device.specs.Pages.{DevicePages}
 use Rattle.nl_image.specs.Conditions.{FirstFails}
 use Rattle.nl_core.specs.Layout.{IsFormatted, IsPen, Layout, MeansWorld}
@@ -21,7 +22,7 @@ use Rattle.nl_session.specs.declared.starting.StartFault.TheVariants.{Unread, Re
 -- the pen has this geometry and checkpoint 1 of the root alone, of moment 0
 pub record IsNewPen (geometry : Geometry) (l : Layout) : Type 0 where
   pub pages : DevicePages
-  pub failures : ℕ
+  pub failures : Failures
   pub is_formatted : IsFormatted geometry pages failures 0 l
   pub means : MeansWorld l (formatted 0)
 

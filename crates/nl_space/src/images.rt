@@ -1,6 +1,7 @@
 //! The blocks of an image.
-ghost use Rattle.std.specs.Prelude.{◌≡◌, ◌*◌, ◌<◌, ◌≤◌, ◌↔◌, IfErr, IsErrOf, IsTrue, OnOk, length};
+ghost use Rattle.std.specs.Prelude.{◌≡◌, ◌*◌, ◌<◌, ◌↔◌, IfErr, IsErrOf, IsTrue, OnOk, length};
 ghost use Rattle.nl_types.specs.Segments.{total_blocks};
+ghost use Rattle.nl_device.specs.Failures.{CountsReads, FailsToRead};
 ghost use Rattle.nl_sufile.specs.Table.{IsSegTable};
 ghost use Rattle.nl_space.specs.Appended.{IsLoadError};
 ghost use Rattle.nl_space.specs.Images.{AreBlocksOf, IsPageOf, IsRestAt, IsRestZero, pages_of, zero_page};
@@ -45,8 +46,8 @@ pub fn dump<S: Space>(space: &mut S, out: &mut [u8]) -> Result<(), VolError>
     requires { length out.old ≡ 1024 * total_blocks (S.content space.old).segments }
     ensures blocks { OnOk result (AreBlocksOf (S.content space.old) out.new) }
     ensures same { S.content space.new ≡ S.content space.old }
-    ensures counted { S.failure_count space.old ≤ S.failure_count space.new }
-    ensures fault { IsErrOf result VolError.Fault → S.failure_count space.old < S.failure_count space.new }
+    ensures counted { CountsReads (S.failed space.old) (S.failed space.new) }
+    ensures fault { IsErrOf result VolError.Fault → FailsToRead (S.failed space.old) (S.failed space.new) }
     ensures errors { IfErr result IsLoadError }
 {
     let table = space.table();
@@ -64,8 +65,8 @@ fn dump_block<S: Space>(space: &mut S, number: usize, out: &mut [u8]) -> Result<
     requires inside { number < total_blocks (S.content space.old).segments }
     ensures page { OnOk result (IsPageOf (S.content space.old) number out.new) }
     ensures same { S.content space.new ≡ S.content space.old }
-    ensures counted { S.failure_count space.old ≤ S.failure_count space.new }
-    ensures fault { IsErrOf result VolError.Fault → S.failure_count space.old < S.failure_count space.new }
+    ensures counted { CountsReads (S.failed space.old) (S.failed space.new) }
+    ensures fault { IsErrOf result VolError.Fault → FailsToRead (S.failed space.old) (S.failed space.new) }
     ensures errors { IfErr result IsLoadError }
 {
     let number = BlockNumber::new(number as u32);

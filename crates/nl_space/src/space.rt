@@ -1,8 +1,9 @@
 //! What the layers above know of a space of blocks.
-ghost use Rattle.std.specs.Prelude.{◌≡◌, ℕ, ◌+◌, ◌*◌, ◌<◌, ◌≤◌, length, IfErr, IfOk, IsErrOf, Some, option_copied};
+ghost use Rattle.std.specs.Prelude.{◌≡◌, ◌+◌, ◌*◌, ◌<◌, length, IfErr, IfOk, IsErrOf, Some, option_copied};
 ghost use Rattle.std.specs.Option.{option_map};
 ghost use Rattle.nl_types.specs.Segments.{HaveLogs, IsUsed, StaysUsed, info_of};
 ghost use Rattle.nl_types.specs.Placing.{LacksSpace};
+ghost use Rattle.nl_device.specs.Failures.{Failures, CountsReads, CountsWrites, FailsToRead, FailsToWrite};
 ghost use Rattle.nl_sufile.specs.Table.{IsSegTable};
 ghost use Rattle.nl_space.specs.Content.{SpaceContent, HoldsOnlyUsed, IsRowOf, KeepsUsed, IsFreed, payload_page};
 ghost use Rattle.nl_space.specs.Logs.{AreWholeLogs};
@@ -19,8 +20,8 @@ pub trait Space: Drop {
     /// The segments, the payload in memory, and the pages on the device. Only what lies in used blocks is promised.
     ghost content: { Self → SpaceContent };
 
-    /// How often the device has failed.
-    ghost failure_count: { Self → ℕ };
+    /// How often the device has failed in its reads, and how often in its writes.
+    ghost failed: { Self → Failures };
 
     /// Writes payload in logs and answers the numbers of its blocks, in order. The checkpoint number goes into the
     /// summaries, and `now`, a moment in whole seconds, into them and the segments' stamps. With `reserve`, for a
@@ -43,9 +44,9 @@ pub trait Space: Drop {
         // Whatever comes of it, what is used stays.
         ensures kept { KeepsUsed (content self.old).segments (content self.old) (content self.new) }
         ensures stays { StaysUsed (content self.old).segments (content self.new).segments }
-        ensures counted { failure_count self.old ≤ failure_count self.new }
+        ensures counted { CountsWrites (failed self.old) (failed self.new) }
 
-        ensures fault { IsErrOf result VolError.Fault → failure_count self.old < failure_count self.new }
+        ensures fault { IsErrOf result VolError.Fault → FailsToWrite (failed self.old) (failed self.new) }
         ensures broken_off { IsErrOf result VolError.Fault
             → IsBrokenOff (content self.old) (content self.new) reserve now checkpoint items.now }
         ensures no_space { IsErrOf result VolError.NoSpace
@@ -64,8 +65,8 @@ pub trait Space: Drop {
         requires { IsUsed (content self.old).segments number }
         ensures page { IfOk result (λ page. (content self.old).stored number ≡ Some page) }
         ensures same { content self.new ≡ content self.old }
-        ensures counted { failure_count self.old ≤ failure_count self.new }
-        ensures fault { IsErrOf result VolError.Fault → failure_count self.old < failure_count self.new }
+        ensures counted { CountsReads (failed self.old) (failed self.new) }
+        ensures fault { IsErrOf result VolError.Fault → FailsToRead (failed self.old) (failed self.new) }
         ensures errors { IfErr result IsLoadError };
 
     /// What is known of the segments.
@@ -82,7 +83,7 @@ pub trait Space: Drop {
     fn free(&mut self, segment: Segment)
         requires { segment < length (content self.old).segments.each }
         ensures freed { IsFreed segment (content self.old) (content self.new) }
-        ensures counted { failure_count self.old ≤ failure_count self.new };
+        ensures counted { CountsWrites (failed self.old) (failed self.new) };
 
     /// The segments are within the limits of a volume, and tidy.
     ghost limits: { (s : Self) → IsSegTable (content s).segments };

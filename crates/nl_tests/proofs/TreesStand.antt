@@ -9,6 +9,7 @@ use Rattle.nl_types.specs.Entries.{Content, written}
 use Rattle.nl_types.specs.Lifetimes.{Ledger, blank}
 use Rattle.nl_types.specs.Roots.{Root, pages_of}
 use Rattle.nl_types.specs.Trees.{Tree}
+use Rattle.nl_device.specs.Failures.{Failures}
 use Rattle.nl_space.specs.Content.{SpaceContent}
 use Rattle.nl_vstore.specs.Batches.{Changes, Fits}
 use Rattle.nl_vstore.specs.Stores.{IsWriteRefused, Numbered, Store, content_in, entry_now, new_store}
@@ -43,7 +44,7 @@ none_stands zero k = refl
 none_stands (suc n) zero = refl
 none_stands (suc n) (suc k) = none_stands n k
 
-pub new_content-blank : (store : Store) (space : SpaceContent) (failures : ℕ) → store ≡ new_store space failures → blank.content ≡ content_in store
+pub new_content-blank : (store : Store) (space : SpaceContent) (failures : Failures) → store ≡ new_store space failures → blank.content ≡ content_in store
 new_content-blank store space failures new = λ k. λ v.
     (sym (ap (λ (s : Store). content_in s v) new ∙ ap (option_map entry_now) (none_stands _ v))) k
 

@@ -7,7 +7,7 @@ use crate::logs::{NONE_FAILS, Shape};
 use crate::rows::{Volume, first_unwanted};
 use crate::volumes::{tables, volume};
 use nl_core::{Commit, Pen};
-use nl_device::{Device, FaultyDevice};
+use nl_device::{Device, FaultDevice};
 use nl_files::ReadTree;
 use nl_publish::Tables;
 use nl_tree::answer;
@@ -36,7 +36,7 @@ struct Followed<D: Device> {
     refused: u64,
 }
 
-fn begun_on(alloc: Global, shape: Shape) -> Result<Followed<FaultyDevice>, VolError> {
+fn begun_on(alloc: Global, shape: Shape) -> Result<Followed<FaultDevice>, VolError> {
     let pen = volume(alloc, shape)?;
     let tables = Tables::first(alloc, &pen.whole()?)?;
     Ok(Followed {

@@ -5,7 +5,7 @@
 //! A test asks a function for its constants, and a function has few of them: a check goes over a constant's value at each step
 //! of the function that names it, and its time grows faster than the value.
 //!
-//! But for `streams`, `beside`, `library`, `commits` and `ports`, a step of a row that is refused for
+//! But for `streams`, `beside`, `library`, `commits`, `ports` and `failing_devices`, a step of a row that is refused for
 //! memory has to leave what is seen as it was, and is done again: so with one allocation failing, each row still passes
 //! (`rt try --test --fail-alloc N`).
 #![tactic(auto)]
@@ -22,6 +22,8 @@ mod commits;
 mod directories;
 #[cfg(test)]
 mod events;
+#[cfg(test)]
+mod failing_devices;
 #[cfg(test)]
 mod file_calls;
 #[cfg(test)]

@@ -309,7 +309,7 @@ type Case = (Shape, &'static [Step<'static>]);
 
 const CASES: &[Case] = &[
     ((16, 4, NONE_FAILS), OVERWRITTEN),
-    ((16, 8, 8), DEAD),
+    ((16, 8, 9), DEAD),
     ((16, 8, NONE_FAILS), CLEANED),
 ];
 

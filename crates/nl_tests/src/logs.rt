@@ -1,5 +1,5 @@
 //! Logs in 8 segments, mostly of 4 blocks: where appends go, what they leave when they are refused, and what the device has.
-use nl_device::{Failing, FaultyDevice, MemDevice};
+use nl_device::{FaultDevice, MemDevice};
 use nl_layout::{Level, Summary, Tag};
 use nl_segwriter::LogSpace;
 use nl_space::{Payload, Space};
@@ -229,16 +229,17 @@ fn first_other<S: Space>(
     Ok(None)
 }
 
-/// Segments, blocks of each, and how many puts go before the one that fails.
+/// Segments, blocks of each, and which put fails, counted from 1.
 pub(crate) type Shape = (u32, u32, u64);
 
-pub(crate) const NONE_FAILS: u64 = u64::MAX;
+pub(crate) const NONE_FAILS: u64 = 0;
 
 /// On a new device of this shape.
-pub(crate) fn space(alloc: Global, shape: Shape) -> Result<LogSpace<FaultyDevice>, VolError> {
-    let (segments, blocks, puts) = shape;
+pub(crate) fn space(alloc: Global, shape: Shape) -> Result<LogSpace<FaultDevice>, VolError> {
+    let (segments, blocks, put) = shape;
     let geometry = Geometry::new(segments, blocks)?;
-    let device = FaultyDevice::new(MemDevice::new(alloc, geometry)?, Failing::Put, puts);
+    let memory = MemDevice::new(alloc, geometry)?;
+    let device = FaultDevice::new(alloc, memory, put, NONE_FAILS, false)?;
     LogSpace::new(alloc, device, geometry)
 }
 
@@ -344,7 +345,7 @@ const FILLED: &[Case] = &[
     ((8, 4, NONE_FAILS), &[NINE, THIRTEEN]),
     ((8, 4, NONE_FAILS), &[NINE, FOURTEEN]),
     // Where space lacks nothing is put: the next put would fail.
-    ((8, 4, 13), &[NINE, EIGHT, FOURTEEN, HAS_NINE, FAILS]),
+    ((8, 4, 14), &[NINE, EIGHT, FOURTEEN, HAS_NINE, FAILS]),
     ((8, 64, NONE_FAILS), &[LARGE]),
 ];
 
@@ -396,12 +397,12 @@ const FAILED_IN_5: &[Step<'static>] = &[
 
 /// The 7 pages go to block 15, after a summary at 14, then to 17, 18 and 19, after one at 16, and so on.
 const FAULTS: &[Case] = &[
-    ((8, 4, 13), &[NINE, FAILS, STAYS, FAILED_IN_3]),
     ((8, 4, 14), &[NINE, FAILS, STAYS, FAILED_IN_3]),
-    ((8, 4, 15), &[NINE, FAILS, STAYS, FAILED_IN_4]),
+    ((8, 4, 15), &[NINE, FAILS, STAYS, FAILED_IN_3]),
     ((8, 4, 16), &[NINE, FAILS, STAYS, FAILED_IN_4]),
-    ((8, 4, 18), &[NINE, FAILS, STAYS, FAILED_IN_4]),
-    ((8, 4, 19), &[NINE, FAILS, STAYS, FAILED_IN_5]),
+    ((8, 4, 17), &[NINE, FAILS, STAYS, FAILED_IN_4]),
+    ((8, 4, 19), &[NINE, FAILS, STAYS, FAILED_IN_4]),
+    ((8, 4, 20), &[NINE, FAILS, STAYS, FAILED_IN_5]),
 ];
 
 fn faults() -> &'static [Case] {

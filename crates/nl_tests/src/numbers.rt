@@ -476,8 +476,8 @@ const CASES: &[Case] = &[
     ((8, 4, NONE_FAILS), &[ROW, TAKEN_OUT]),
     ((8, 4, NONE_FAILS), &[FREED]),
     ((8, 4, NONE_FAILS), &[FULL]),
-    ((8, 4, 5), &[FAILED_WRITE]),
-    ((8, 4, 9), &[ROW, FAILED_MOVE]),
+    ((8, 4, 6), &[FAILED_WRITE]),
+    ((8, 4, 10), &[ROW, FAILED_MOVE]),
 ];
 
 fn cases() -> &'static [Case] {

@@ -9,7 +9,7 @@ use crate::logs::{NONE_FAILS, Shape};
 use crate::rows::Volume;
 use crate::volumes::{numbered, on_limits, tables, volume};
 use nl_core::Pen;
-use nl_device::{Device, FaultyDevice};
+use nl_device::{Device, FaultDevice};
 use nl_lib::{get_bdescs, get_cpinfo, get_cpstat, get_suinfo, get_sustat, get_vinfo};
 use nl_mounts::{Port, Shared, share};
 use nl_publish::{Mount, Opened, Volumes};
@@ -151,7 +151,7 @@ fn same_numbers<D: Device>(one: &Pen<D>, other: &Pen<D>, shape: Shape) -> bool {
 // ---- images
 
 /// The image of a pen, empty where something is dirty or mounted.
-fn image_of<D: Device>(alloc: Global, pen: &mut Pen<D>) -> Result<Vec<u8>, VolError> {
+pub(crate) fn image_of<D: Device>(alloc: Global, pen: &mut Pen<D>) -> Result<Vec<u8>, VolError> {
     if pen.is_dirty() || pen.mount_count() > 0 {
         return Ok(Vec::new(alloc));
     }
@@ -215,7 +215,7 @@ fn shared_alone<J: Volumes, R: Wait>(
     alloc: Global,
     opened: Opened,
     shape: Shape,
-) -> Result<(Shared<Pen<FaultyDevice>, J>, Vec<Port<J>>), VolError>
+) -> Result<(Shared<Pen<FaultDevice>, J>, Vec<Port<J>>), VolError>
     requires { opened.seen.book ≡ J.book opened.id }
 {
     match share::<_, J, _>(alloc, rt, volume(alloc, shape)?, 1, opened) {
@@ -247,7 +247,7 @@ fn is_twin<J: Volumes, R: Wait>(
     rt: &R,
     alloc: Global,
     opened: Opened,
-    pen: &mut Pen<FaultyDevice>,
+    pen: &mut Pen<FaultDevice>,
     shape: Shape,
     calls: &[Call<'_>],
 ) -> Result<bool, VolError>

@@ -1,7 +1,7 @@
 //! Rounds with ample memory, and one whose read fails.
 use nl_cleaner::plan;
 use nl_core::Pen;
-use nl_device::{Device, Failing, FaultyDevice, MemDevice};
+use nl_device::{Device, FaultDevice, MemDevice};
 use nl_protect::{Amount, Config};
 use nl_types::{Answer, Change, Event, Geometry, Items, Mode, Reply, VolError};
 use std::alloc::Global;
@@ -50,9 +50,9 @@ fn written(alloc: Global) -> Result<Pen<MemDevice>, VolError> {
 }
 
 /// The same on a device of which the first read fails.
-fn written_on_faulty(alloc: Global) -> Result<Pen<FaultyDevice>, VolError> {
+fn written_on_failing(alloc: Global) -> Result<Pen<FaultDevice>, VolError> {
     let geometry = Geometry::new(16, 8)?;
-    let device = FaultyDevice::new(MemDevice::new(alloc, geometry)?, Failing::Get, 0);
+    let device = FaultDevice::new(alloc, MemDevice::new(alloc, geometry)?, 0, 1, false)?;
     let mut pen = Pen::format(alloc, device, geometry, 0)?;
     write_bytes(alloc, &mut pen)?;
     Ok(pen)
@@ -130,7 +130,7 @@ fn round(alloc: Global, least: u64) -> Result<(Sum, usize), VolError> {
 
 /// What two rounds come to, of which the first one's first read fails.
 fn rounds_with_a_fault(alloc: Global) -> Result<(Sum, Sum), VolError> {
-    let mut pen = written_on_faulty(alloc)?;
+    let mut pen = written_on_failing(alloc)?;
     let broken_off = do_round(alloc, &mut pen, 4)?;
     let whole = do_round(alloc, &mut pen, 4)?;
     Ok((broken_off, whole))

@@ -3,26 +3,22 @@ use crate::events::{ALL, Call, Row, Want};
 use crate::logs::{NONE_FAILS, are_segments};
 use crate::rows::first_unwanted;
 use nl_core::Pen;
-use nl_device::{Failing, FaultyDevice, MemDevice};
+use nl_device::{FaultDevice, MemDevice};
 use nl_types::SegmentState::{Active, Dirty};
 use nl_types::{Geometry, Mode, SegmentState, VolError};
 use std::alloc::Global;
 use std::test::Fail;
 
-/// The device of 16 segments of 4 blocks, and which of its calls fails.
-fn volume(alloc: Global, failing: Failing, calls_left: u64) -> Result<Pen<FaultyDevice>, VolError> {
+/// The device of 16 segments of 4 blocks, and which of its gets fails.
+fn volume(alloc: Global, get: u64) -> Result<Pen<FaultDevice>, VolError> {
     let geometry = Geometry::new(16, 4)?;
-    let device = FaultyDevice::new(MemDevice::new(alloc, geometry)?, failing, calls_left);
+    let memory = MemDevice::new(alloc, geometry)?;
+    let device = FaultDevice::new(alloc, memory, NONE_FAILS, get, false)?;
     Pen::format(alloc, device, geometry, 0)
 }
 
-fn unwanted(
-    alloc: Global,
-    failing: Failing,
-    calls_left: u64,
-    rows: &[Row<'_>],
-) -> Result<Option<usize>, VolError> {
-    let mut pen = volume(alloc, failing, calls_left)?;
+fn unwanted(alloc: Global, rows: &[Row<'_>]) -> Result<Option<usize>, VolError> {
+    let mut pen = volume(alloc, NONE_FAILS)?;
     first_unwanted(alloc, &mut pen, rows)
 }
 
@@ -98,7 +94,7 @@ fn read_again() -> &'static [Row<'static>] {
 
 /// Whether a move is refused for a get that fails, changes no segment, and can be done again.
 fn is_read_again(alloc: Global) -> Result<bool, VolError> {
-    let mut pen = volume(alloc, Failing::Get, 0)?;
+    let mut pen = volume(alloc, 1)?;
     let is_refused = first_unwanted(alloc, &mut pen, unread())?.is_none();
     let is_standing = are_segments(pen.segments(), standing());
     let is_done = first_unwanted(alloc, &mut pen, read_again())?.is_none();
@@ -107,10 +103,7 @@ fn is_read_again(alloc: Global) -> Result<bool, VolError> {
 
 #[test]
 fn segments_are_emptied(rt: HostRuntime) -> Result<(), Fail> {
-    assert_eq!(rt;
-        unwanted(rt.alloc(), Failing::Put, NONE_FAILS, retired())?,
-        None
-    );
+    assert_eq!(rt; unwanted(rt.alloc(), retired())?, None);
     assert!(rt; is_read_again(rt.alloc())?);
     Ok(())
 }

@@ -8,7 +8,7 @@ use crate::logs::{NONE_FAILS, space};
 use crate::rows::{Volume, first_unwanted};
 use nl_blocktree::{WalkError, walk};
 use nl_dat::Dat;
-use nl_device::FaultyDevice;
+use nl_device::FaultDevice;
 use nl_files::{ReadTree, settle};
 use nl_layout::Root;
 use nl_segwriter::LogSpace;
@@ -46,7 +46,7 @@ type Birth = (usize, u64, u8, u64);
 /// current tree.
 #[derive(Drop)]
 struct Trees {
-    store: Dat<LogSpace<FaultyDevice>>,
+    store: Dat<LogSpace<FaultDevice>>,
     root: Root,
     tree: CurrentTree,
     checkpoint: u64,

@@ -7,15 +7,16 @@ use crate::logs::{NONE_FAILS, Shape};
 use crate::rows::first_unwanted;
 use nl_core::Pen;
 use nl_dat::DatEntry;
-use nl_device::{Device, Failing, FaultyDevice, MemDevice};
+use nl_device::{Device, FaultDevice, MemDevice};
 use nl_types::{BlockNumber, CheckpointNumber, Geometry, Stat, VirtualNumber, VolError};
 use std::alloc::Global;
 use std::test::Fail;
 
-pub(crate) fn volume(alloc: Global, shape: Shape) -> Result<Pen<FaultyDevice>, VolError> {
-    let (segments, blocks, puts) = shape;
+pub(crate) fn volume(alloc: Global, shape: Shape) -> Result<Pen<FaultDevice>, VolError> {
+    let (segments, blocks, put) = shape;
     let geometry = Geometry::new(segments, blocks)?;
-    let device = FaultyDevice::new(MemDevice::new(alloc, geometry)?, Failing::Put, puts);
+    let memory = MemDevice::new(alloc, geometry)?;
+    let device = FaultDevice::new(alloc, memory, put, NONE_FAILS, false)?;
     Pen::format(alloc, device, geometry, 0)
 }
 
@@ -200,7 +201,7 @@ const USUAL: Shape = (64, 64, NONE_FAILS);
 const SMALL: Shape = (8, 4, NONE_FAILS);
 
 const TABLES: &[Table] = &[
-    ((16, 8, 4), FAULT),
+    ((16, 8, 5), FAULT),
     (SMALL, FULL),
     (SMALL, TOO_FULL),
     (SMALL, FAR),

@@ -8,6 +8,7 @@ use Rattle.nl_types.specs.Segments.{HaveLogs, IsUsed, Segments, total_blocks}
 use Rattle.nl_types.specs.Placing.{LacksSpace}
 use Rattle.nl_types.specs.PartialMaps.{Partial, put_each, adjust_each, is_one_of, NoneTwice}
 use Rattle.nl_types.specs.Entries.{Birth, Entry, Content, number_of, written}
+use Rattle.nl_device.specs.Failures.{Failures, failure_count}
 use Rattle.nl_layout.specs.declared.tag.Tag.{Tag}
 use Rattle.nl_sufile.specs.BySegment.{lies_in}
 use Rattle.nl_sufile.specs.Table.{IsSegTable}
@@ -31,15 +32,18 @@ pub record Store : Type 0 where
   pub payload : List (Option Payload)
   -- how often the device has failed
   pub failures : ℕ
+  -- and how often of it in a read, and in a write
+  pub failed : Failures
 
 -- a store over a space, with no number in use
-abbrev pub new_store : SpaceContent → ℕ → Store
-new_store space failures = record {
+abbrev pub new_store : SpaceContent → Failures → Store
+new_store space failed = record {
   numbers = replicate (total_blocks space.segments + 1) None;
   segments = space.segments;
   device = map space.stored (range_with_len 0 (total_blocks space.segments));
   payload = map space.held (range_with_len 0 (total_blocks space.segments));
-  failures = failures;
+  failures = failure_count failed;
+  failed = failed;
 }
 
 abbrev pub numbered_in : Store → Partial Numbered
@@ -100,7 +104,8 @@ HasNoneFree s births = (v : ℕ) → 1 ≤ v → v ≤ capacity s → is_taken (
 
 -- There is a place for each number, and for 0, which is never used. Each number in use has a used block of its own, where
 -- the device holds its page, and its log's summary tells its number and place. The used part of each segment is whole
--- logs, and no other block has payload. The segments are tidy, and within the limits of a volume.
+-- logs, and no other block has payload. The segments are tidy, and within the limits of a volume. Each failure of the device
+-- is one of a read or one of a write.
 pub record IsStore (s : Store) : Type 0 where
   pub full : length s.numbers ≡ capacity s + 1
   pub numbers : (v b : ℕ) → address_in s v ≡ Some b → (1 ≤ v) × (v ≤ capacity s)
@@ -112,6 +117,7 @@ pub record IsStore (s : Store) : Type 0 where
   pub only_used : HoldsOnlyUsed (space_in s)
   pub have_logs : HaveLogs s.segments
   pub limits : IsSegTable s.segments
+  pub adds_up : s.failures ≡ failure_count s.failed
 
 -- a store, and that all this is true of it
 pub record SoundStore : Type 0 where
@@ -146,10 +152,11 @@ pub record IsWritten (checkpoint stamp : ℕ) (changes : Changes) (old new : Sto
 abbrev pub moved_to : ℕ → ℕ → ℕ
 moved_to new old = new
 
--- The device failed before all logs with the payload were written. Those before it stand, and what was used stays as it
--- was. No number has changed.
+-- A write of the device failed before all logs with the payload were written. Those before it stand, and what was used
+-- stays as it was. No number has changed.
 pub record IsFaulted (reserve : Bool) (checkpoint stamp : ℕ) (payload : List Payload) (old new : Store) : Type 0 where
   pub failures : old.failures < new.failures
+  pub writes : old.failed.writes < new.failed.writes
   pub numbers : new.numbers ≡ old.numbers
   pub broken_off : IsBrokenOff (space_in old) (space_in new) reserve stamp checkpoint payload
   pub kept : KeepsUsed old.segments (space_in old) (space_in new)
@@ -176,17 +183,29 @@ pub record IsMoved (segment checkpoint stamp : ℕ) (numbers : List ℕ) (old ne
   pub address : address_in new ≡ adjust_each moved_to numbers at (address_in old)
   pub out : All (λ v. is_inside old.segments segment (address_in new v) ≡ false) numbers
 
--- all that is stored is as before; only the device's failures may be more
+-- all that is stored is as before; only the failed reads of the device may be more
 pub record KeepsStored (old new : Store) : Type 0 where
   pub numbers : new.numbers ≡ old.numbers
   pub segments : new.segments ≡ old.segments
   pub device : new.device ≡ old.device
   pub payload : new.payload ≡ old.payload
+  pub writes : new.failed.writes ≡ old.failed.writes
 
--- a fault may come of a read, and then nothing else changes
+-- A read of the device failed, and nothing else changes.
+pub record IsUnread (old new : Store) : Type 0 where
+  pub failures : old.failures < new.failures
+  pub reads : old.failed.reads < new.failed.reads
+  pub kept : KeepsStored old new
+
+-- a write failed while the payload of these numbers was moved
+abbrev pub IsMoveBrokenOff : ℕ → ℕ → List ℕ → Store → Store → Type 0
+IsMoveBrokenOff checkpoint stamp numbers old new =
+    (payload : List Payload) × IsPayloadOf old numbers payload × IsFaulted false checkpoint stamp payload old new
+
+-- a fault comes of a read or of a write: the failed writes tell which
 abbrev pub IsMoveFaulted : ℕ → ℕ → List ℕ → Store → Store → Type 0
 IsMoveFaulted checkpoint stamp numbers old new =
-    ((old.failures < new.failures) × KeepsStored old new) ⊎ ((payload : List Payload) × IsPayloadOf old numbers payload × IsFaulted false checkpoint stamp payload old new)
+    IsUnread old new ⊎ IsMoveBrokenOff checkpoint stamp numbers old new
 
 -- why numbers are not moved, and what is left then
 abbrev pub IsMoveRefused : ℕ → ℕ → List ℕ → Store → Store → VolError → Type 0

@@ -1,4 +1,5 @@
-use Rattle.std.proofs.Common.{◌≡◌, ◌≤◌, map, take, Some}
+use Rattle.std.proofs.Common.{◌≡◌, map, take, Some}
+use Rattle.nl_device.specs.Failures.{CountsReads}
 use Rattle.nl_vstore.specs.Batches.{births_of}
 use Rattle.nl_dat.specs.Table.{entry_in, stored_at}
 use Rattle.nl_dat.specs.Inside.{births_in}
@@ -11,5 +12,5 @@ invariant-loop-number g l =
     record {
       loaded : map (stored_at (entry_in l.table) (births_in (space.content l.fn.space))) (take l.number-index l.numbers) ≡ map Some (births_of l.payload.items);
       same : space.content l.space ≡ space.content l.fn.space;
-      failures : space.failure_count l.fn.space ≤ space.failure_count l.space;
+      failures : CountsReads (space.failed l.fn.space) (space.failed l.space);
     }

@@ -1,5 +1,6 @@
 use Rattle.std.proofs.Common.{◌≡◌, ◌∷◌, length, ap, ◌∙◌, sym, arith}
 use Rattle.std.specs.Vec.Iter.{into_iter_items}
+use Rattle.nl_device.proofs.Counting.{counts-writes}
 use Rattle.nl_segwriter.proofs.PutPages.{all_put, more_put}
 use Rattle.nl_segwriter.proofs.Rows.{rest_behind, value_next}
 use Rattle.nl_segwriter.proofs.put.put_pages.Goals as goal
@@ -15,7 +16,7 @@ loop-page-preserved g c =
       ends = tt;
       long = omega (arith, inv.long, ap length first, c.in-Some.ensures.steps.1);
       count = omega (arith, inv.count, ap length first);
-      counted = omega (arith, inv.counted, done.counted);
+      counted = counts-writes (g.D.Device.failed c.args.device.now) (g.D.Device.failed c.loop-page.device) (g.D.Device.failed c.put_page.new.device) inv.counted done.counted;
       shape = done.shape ∙ inv.shape;
       put = more_put c.args.pages (g.D.Device.pages c.loop-page.device) (g.D.Device.pages c.put_page.new.device) c.loop-page.number c.new.result c.in-Some.page c.new.ensures (sym here) inv.put done.put done.others;
       rest = rest_behind c.args.pages _ _ c.in-Some.page c.loop-page.number first inv.rest;

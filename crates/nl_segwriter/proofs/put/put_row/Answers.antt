@@ -1,6 +1,7 @@
 use Rattle.std.proofs.Common.{◌≡◌, ◌+◌, ◌∷◌, length, ap, ◌∙◌, sym, arith, rules}
 use Rattle.std.specs.Prelude.{Some}
 use Rattle.std.specs.Vec.Iter.{into_iter_items}
+use Rattle.nl_device.proofs.Counting.{counts-writes}
 use Rattle.nl_device.specs.Pages.{KeepsOthers}
 use Rattle.nl_segwriter.proofs.Rows.{keeps_put, stand_put, value_next, rest_behind}
 use Rattle.nl_segwriter.proofs.put.put_row.Goals as goal
@@ -20,7 +21,7 @@ loop-page-preserved g c =
       ends = tt;
       count = omega (arith, inv.count, ap length first);
       others = keeps_put c.args.first c.loop-page.tried _ _ pages inv.others others;
-      counted = omega (arith, inv.counted, put.counted);
+      counted = counts-writes (g.D.Device.failed c.args.device.now) (g.D.Device.failed c.loop-page.device) (g.D.Device.failed c.put.new.self) inv.counted put.counted;
       shape = put.shape ∙ inv.shape;
       stand = stand_put c.args.first c.loop-page.tried _ pages c.args.pages others (ap pages (sym c.new-number.ensures) ∙ put_page ∙ here) inv.stand;
       rest = rest_behind c.args.pages _ _ c.in-Some.page c.loop-page.tried first inv.rest;

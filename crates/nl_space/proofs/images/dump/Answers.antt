@@ -1,4 +1,5 @@
 use Rattle.std.proofs.Common.{◌∙◌, arith, subst}
+use Rattle.nl_device.proofs.Counting.{counts-reads}
 use Rattle.nl_space.specs.Content.{SpaceContent}
 use Rattle.nl_space.specs.Images.{IsPageOf}
 use Rattle.nl_space.proofs.ImageBlocks.{more_dumped}
@@ -11,5 +12,6 @@ loop-number-preserved g c =
     record {
       dumped = more_dumped content c.args.out.now c.loop-number.out c.dump_block.new.out c.loop-number.number _ c.loop-number.invariant.dumped page (omega arith);
       same = c.in_ok-dump_block.ensures.same ∙ c.loop-number.invariant.same;
-      counted = omega (arith, c.in_ok-dump_block.ensures.counted, c.loop-number.invariant.counted);
+      counted = counts-reads (g.S.Space.failed c.args.space.now) (g.S.Space.failed c.loop-number.space) (g.S.Space.failed c.dump_block.new.space)
+          c.loop-number.invariant.counted c.in_ok-dump_block.ensures.counted;
     }

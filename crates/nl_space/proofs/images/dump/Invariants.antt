@@ -1,4 +1,5 @@
-use Rattle.std.proofs.Common.{◌≡◌, ◌≤◌}
+use Rattle.std.proofs.Common.{◌≡◌}
+use Rattle.nl_device.specs.Failures.{CountsReads}
 use Rattle.nl_space.proofs.ImageBlocks.{AreDumped}
 use Rattle.nl_space.proofs.images.dump.Given as goal
 
@@ -6,5 +7,5 @@ abbrev pub invariant-loop-number : goal.invariant-loop-number
 invariant-loop-number g l = record {
   dumped : AreDumped (g.S.Space.content l.fn.space) l.fn.out l.out l.number;
   same : g.S.Space.content l.space ≡ g.S.Space.content l.fn.space;
-  counted : g.S.Space.failure_count l.fn.space ≤ g.S.Space.failure_count l.space;
+  counted : CountsReads (g.S.Space.failed l.fn.space) (g.S.Space.failed l.space);
 }

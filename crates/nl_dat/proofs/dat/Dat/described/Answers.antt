@@ -20,7 +20,7 @@ pub returns : goal.returns
 returns g c =
     let table = c.self.inside.table in
     let space = g.S.Space.content c.self.inside.space in
-    let failures = g.S.Space.failure_count c.self.inside.space in
+    let failures = g.S.Space.failed c.self.inside.space in
     let s : Store = c.args.self.now.store in
     let by : addresses_of (entry_in c.as_slice.result.now) ≡ address_in s =
     ap (λ t. addresses_of (entry_in t)) c.as_slice.ensures ∙ sym (address_in-store_of table space failures c.self.inside.tabled.sound) ∙ ap address_in (same_store c.self.view_is) in

@@ -9,7 +9,7 @@ pub returns : goal.returns
 returns g c =
     let table = c.self.inside.table in
     let space = g.S.Space.content c.self.inside.space in
-    let failures = g.S.Space.failure_count c.self.inside.space in
+    let failures = g.S.Space.failed c.self.inside.space in
     let tidy = (g.met.S.Space.limits c.self.inside.space).tidy in
     let within = subst (λ (s : Store). c.args.position < s.segments.blocks) (sym (same_store c.self.view_is)) c.requires.position in
     subst (λ (s : Store). (v : ℕ) → address_in s v ≡ Some (c.args.segment * s.segments.blocks + c.args.position) → c.number_in.result ≡ Some v) (same_store c.self.view_is)

@@ -20,7 +20,7 @@ returns-clause-there g c =
     let block : c.get.result * c.blocks-2.result + c.args.position ≡ c.args.segment * c.args.self.now.store.segments.blocks + c.args.position =
     ap (λ n. n * c.blocks-2.result + c.args.position) c.get.ensures ∙ ap (λ n. c.args.segment * n + c.args.position) (c.blocks-2.ensures.blocks ∙ ap (λ (s : Segments). s.blocks) (c.table-table.ensures ∙ ap (λ (s : Rattle.nl_vstore.specs.Stores.Store). s.segments) (same_store c.self.view_is))) in
     let same : addresses_of (entry_in c.as_slice.result.now) ≡ address_in c.args.self.now.store =
-    ap (λ t. addresses_of (entry_in t)) c.as_slice.ensures ∙ sym (address_in-store_of table space (g.S.Space.failure_count c.self.inside.space) c.self.inside.tabled.sound) ∙ ap address_in (same_store c.self.view_is) in
+    ap (λ t. addresses_of (entry_in t)) c.as_slice.ensures ∙ sym (address_in-store_of table space (g.S.Space.failed c.self.inside.space) c.self.inside.tabled.sound) ∙ ap address_in (same_store c.self.view_is) in
     found (address_in c.args.self.now.store) (c.args.segment * c.args.self.now.store.segments.blocks + c.args.position) c.tagged-number.result c.number_with.result c.tagged-number.ensures
     (subst (λ (m : Partial ℕ). MatchOption c.number_with.result ((v : ℕ) → c.tagged-number.result ≡ Some v → m v ≢ Some (c.args.segment * c.args.self.now.store.segments.blocks + c.args.position)) (λ v. m v ≡ Some (c.args.segment * c.args.self.now.store.segments.blocks + c.args.position))) same
     (subst (λ (b : ℕ). MatchOption c.number_with.result ((v : ℕ) → c.tagged-number.result ≡ Some v → addresses_of (entry_in c.as_slice.result.now) v ≢ Some b) (λ v. addresses_of (entry_in c.as_slice.result.now) v ≡ Some b)) block c.number_with.ensures))

@@ -31,7 +31,7 @@ returns-clause-lowest g c =
     subst (λ r. IfOk r (IsLowestFree (content_in c.args.self.now.store) changes.births)) (sym c.ok_or.ensures.value)
     (subst (λ s. IfOk (ok_or c.first_free.result NoSpace) (IsLowestFree (content_in s) changes.births)) (same_store c.self.view_is)
     (found_or _ _ _ c.first_free.result NoSpace found
-    (lowest-free table lowest (g.S.Space.content c.self.inside.space) (g.S.Space.failure_count c.self.inside.space) changes c.self.inside.tabled fits)))
+    (lowest-free table lowest (g.S.Space.content c.self.inside.space) (g.S.Space.failed c.self.inside.space) changes c.self.inside.tabled fits)))
 
 pub returns-clause-lacks_space : goal.returns-clause-lacks_space
 returns-clause-lacks_space g c =
@@ -48,7 +48,7 @@ returns-clause-lacks_space g c =
     subst (λ r. OnErr r (LacksSpaceFrom c.args.self.now.store.segments (length changes.births + 1))) (sym c.ok_or.ensures.value)
     (subst (λ (s : Store). OnErr (ok_or c.first_free.result NoSpace) (LacksSpaceFrom s.segments (length changes.births + 1))) (same_store c.self.view_is)
     (none_or _ _ _ c.first_free.result NoSpace found
-    (no_number-no_space table lowest space (g.S.Space.failure_count c.self.inside.space) changes c.self.inside.tabled fits c.payload_goes_to_unused_blocks.ensures.room tidy)))
+    (no_number-no_space table lowest space (g.S.Space.failed c.self.inside.space) changes c.self.inside.tabled fits c.payload_goes_to_unused_blocks.ensures.room tidy)))
 
 pub returns-clause-all_taken : goal.returns-clause-all_taken
 returns-clause-all_taken g c =
@@ -64,4 +64,4 @@ returns-clause-all_taken g c =
     subst (λ r. OnErr r ((v : ℕ) → 1 ≤ v → v ≤ capacity c.args.self.now.store → is_taken (content_in c.args.self.now.store) changes.births v ≡ true)) (sym c.ok_or.ensures.value)
     (subst (λ (s : Store). OnErr (ok_or c.first_free.result NoSpace) ((v : ℕ) → 1 ≤ v → v ≤ capacity s → is_taken (content_in s) changes.births v ≡ true)) (same_store c.self.view_is)
     (none_or _ _ _ c.first_free.result NoSpace found
-    (all-taken table lowest space (g.S.Space.failure_count c.self.inside.space) changes c.self.inside.tabled fits)))
+    (all-taken table lowest space (g.S.Space.failed c.self.inside.space) changes c.self.inside.tabled fits)))

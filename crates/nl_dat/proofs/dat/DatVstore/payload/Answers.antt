@@ -9,7 +9,7 @@ use Rattle.nl_dat.proofs.dat.DatVstore.payload.Goals as goal
 pub returns-clause-row : goal.returns-clause-row
 returns-clause-row g c =
     subst (λ (s : Store). c.summary.result.now ≡ payload_row s c.args.segment) (same_store c.self.view_is)
-    (row-store_of c.self.inside.table (g.S.Space.content c.self.inside.space) (g.S.Space.failure_count c.self.inside.space) c.args.segment c.summary.result.now (g.met.S.Space.limits c.self.inside.space).tidy
+    (row-store_of c.self.inside.table (g.S.Space.content c.self.inside.space) (g.S.Space.failed c.self.inside.space) c.args.segment c.summary.result.now (g.met.S.Space.limits c.self.inside.space).tidy
     (subst (λ (s : Store). c.args.segment < length s.segments.each) (sym (same_store c.self.view_is)) c.requires) c.summary.ensures.count c.summary.ensures.each)
 
 pub returns-clause-logs : goal.returns-clause-logs

@@ -42,9 +42,9 @@ invariant_of-self-inside g c =
     let tidy = (g.met.S.Space.limits c.self.inside.space).tidy in
     let first = first_of old c.table-segments.result.now c.args.segment c.get.result c.blocks-2.result c.get.ensures c.blocks-2.ensures.blocks c.table-segments.ensures in
     let out = taken_from (c.get.result * c.blocks-2.result) (c.args.segment * old.segments.blocks) (length c.summary-row.result.now) (info_of old.segments.each c.args.segment).used c.self.inside.table c.take_out-taken.new.table c.take_out-taken.result first c.summary-row.ensures.count c.take_out-taken.ensures in
-    let tabled = table-reclaimed c.self.inside.table c.take_out-taken.new.table c.self.inside.filled c.filled_after-self-inside.result c.args.segment old later (g.S.Space.failure_count c.self.inside.space) (g.S.Space.failure_count c.free.new.self) c.take_out-taken.result
+    let tabled = table-reclaimed c.self.inside.table c.take_out-taken.new.table c.self.inside.filled c.filled_after-self-inside.result c.args.segment old later (g.S.Space.failed c.self.inside.space) (g.S.Space.failed c.free.new.self) c.take_out-taken.result
     c.self.inside.tabled tidy c.free.ensures.freed out c.filled_after-self-inside.ensures.most c.filled_after-self-inside.ensures.below in
-    (is_store c.take_out-taken.new.table (c.filled_after-self-inside.result + 1) later (g.S.Space.failure_count c.free.new.self) tabled (g.met.S.Space.limits c.free.new.self) (g.met.S.Space.whole_logs c.free.new.self) (g.met.S.Space.holds_only_used c.free.new.self) (g.met.S.Space.have_logs c.free.new.self), (tabled, tt))
+    (is_store c.take_out-taken.new.table (c.filled_after-self-inside.result + 1) later (g.S.Space.failed c.free.new.self) tabled (g.met.S.Space.limits c.free.new.self) (g.met.S.Space.whole_logs c.free.new.self) (g.met.S.Space.holds_only_used c.free.new.self) (g.met.S.Space.have_logs c.free.new.self), (tabled, tt))
 
 pub returns-clause-reclaimed : goal.returns-clause-reclaimed
 returns-clause-reclaimed g c =
@@ -53,6 +53,6 @@ returns-clause-reclaimed g c =
     let tidy = (g.met.S.Space.limits c.self.inside.space).tidy in
     let first = first_of old c.table-segments.result.now c.args.segment c.get.result c.blocks-2.result c.get.ensures c.blocks-2.ensures.blocks c.table-segments.ensures in
     let out = taken_from (c.get.result * c.blocks-2.result) (c.args.segment * old.segments.blocks) (length c.summary-row.result.now) (info_of old.segments.each c.args.segment).used c.self.inside.table c.take_out-taken.new.table c.take_out-taken.result first c.summary-row.ensures.count c.take_out-taken.ensures in
-    subst (λ s. IsReclaimed c.args.segment c.take_out-taken.result.count s (store_of c.take_out-taken.new.table later (g.S.Space.failure_count c.free.new.self))) (same_store c.self.view_is)
-    (is_reclaimed c.self.inside.table c.take_out-taken.new.table c.self.inside.filled c.filled_after-self-inside.result c.args.segment old later (g.S.Space.failure_count c.self.inside.space) (g.S.Space.failure_count c.free.new.self) c.take_out-taken.result
+    subst (λ s. IsReclaimed c.args.segment c.take_out-taken.result.count s (store_of c.take_out-taken.new.table later (g.S.Space.failed c.free.new.self))) (same_store c.self.view_is)
+    (is_reclaimed c.self.inside.table c.take_out-taken.new.table c.self.inside.filled c.filled_after-self-inside.result c.args.segment old later (g.S.Space.failed c.self.inside.space) (g.S.Space.failed c.free.new.self) c.take_out-taken.result
     c.self.inside.tabled tidy c.free.ensures.freed out c.filled_after-self-inside.ensures.most c.filled_after-self-inside.ensures.below)

@@ -7,7 +7,7 @@ use Rattle.nl_dat.proofs.dat.DatVstore.tag.Goals as goal
 pub returns : goal.returns
 returns g c =
     let space = g.S.Space.content c.self.inside.space in
-    let failures = g.S.Space.failure_count c.self.inside.space in
+    let failures = g.S.Space.failed c.self.inside.space in
     let within = subst (λ (s : Store). c.args.segment < length s.segments.each) (sym (same_store c.self.view_is)) c.requires.segment in
     let low = subst (λ (s : Store). c.args.position < s.segments.blocks) (sym (same_store c.self.view_is)) c.requires.position in
     c.row_tag.ensures

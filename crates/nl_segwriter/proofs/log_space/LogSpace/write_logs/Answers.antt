@@ -6,6 +6,7 @@ use Rattle.nl_types.specs.Segments.{Segments, StaysUsed, AreTidy}
 use Rattle.nl_types.specs.Placing.{AreNextLogs, IsNextLog, first_block, with_log, with_logs}
 use Rattle.nl_types.proofs.NextLogs.{tidy_with_log}
 use Rattle.nl_types.proofs.UsedParts.{stays_with_log, stays_with_error}
+use Rattle.nl_device.proofs.Counting.{counts-writes, fails-to-write}
 use Rattle.nl_space.specs.Content.{SpaceContent, KeepsUsed, IsSameAt}
 use Rattle.nl_space.specs.Logs.{StandsFrom}
 use Rattle.nl_space.specs.Appended.{IsOutside}
@@ -62,10 +63,12 @@ returns-clause-stand g c =
 pub returns-in_err-write_log-clause-failed : goal.returns-in_err-write_log-clause-failed
 returns-in_err-write_log-clause-failed g c =
     let p = err_from_is_err_and c.from_residual.result c.from_residual.ensures.1 in
-    rw p.1 (omega (arith, c.loop-staged.invariant.counted, c.in_err-write_log.ensures.failed))
+    rw p.1 (fails-to-write (g.D.Device.failed c.args.self.now.device) (g.D.Device.failed c.loop-staged.self.device) (g.D.Device.failed c.write_log.new.self.device)
+    c.loop-staged.invariant.counted c.in_err-write_log.ensures.failed)
 
 pub returns-in_err-write_log-clause-counted : goal.returns-in_err-write_log-clause-counted
-returns-in_err-write_log-clause-counted g c = omega (arith, c.loop-staged.invariant.counted, c.in_err-write_log.ensures.counted)
+returns-in_err-write_log-clause-counted g c = counts-writes (g.D.Device.failed c.args.self.now.device) (g.D.Device.failed c.loop-staged.self.device) (g.D.Device.failed c.write_log.new.self.device)
+    c.loop-staged.invariant.counted c.in_err-write_log.ensures.counted
 
 pub returns-in_err-write_log-clause-others : goal.returns-in_err-write_log-clause-others
 returns-in_err-write_log-clause-others g c =
@@ -136,7 +139,7 @@ loop-staged-preserved g c =
       table = ap (λ (u : Segments). with_logs u (logs_of rest) stamp) table ∙ tables;
       broken = λ later keeps h. inv.broken later (keeps_on s t then now later kept stays keeps) (subst (λ (r : List Staged). BreaksOff stamp r then later) (sym first)
           (breaks_on stamp x rest then now later next.0 table ready.0.count c.in_ok-write_log.ensures.stands c.in_ok-write_log.ensures.others keeps h));
-      counted = omega (arith, inv.counted, c.in_ok-write_log.ensures.counted);
+      counted = counts-writes (device.failed c.args.self.now.device) (device.failed c.loop-staged.self.device) (device.failed c.write_log.new.self.device) inv.counted c.in_ok-write_log.ensures.counted;
       kept = keeps_on start s before then now inv.kept inv.stays kept;
       stays = stays_on start s t inv.stays stays;
       others = λ b outside.

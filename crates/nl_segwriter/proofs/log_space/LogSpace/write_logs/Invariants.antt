@@ -1,8 +1,9 @@
-use Rattle.std.proofs.Common.{◌≡◌, ◌≤◌, ℕ, length}
+use Rattle.std.proofs.Common.{◌≡◌, ℕ, length}
 use Rattle.std.specs.List.{AllByRecursion}
 use Rattle.std.specs.Vec.Iter.{into_iter_items, into_iter_len}
 use Rattle.nl_types.specs.Segments.{StaysUsed, AreTidy}
 use Rattle.nl_types.specs.Placing.{AreNextLogs, with_logs}
+use Rattle.nl_device.specs.Failures.{CountsWrites}
 use Rattle.nl_space.specs.Content.{SpaceContent, KeepsUsed, IsSameAt}
 use Rattle.nl_space.specs.Appended.{IsOutside}
 use Rattle.nl_segwriter.specs.Staging.{IsReady, logs_of}
@@ -30,7 +31,7 @@ invariant-loop-staged g l =
       stamps : AllByRecursion (λ x. x.stamp ≡ l.now) rest;
       table : with_logs l.self.table (logs_of rest) l.now ≡ with_logs start.table (logs_of all) l.now;
       broken : (later : SpaceContent) → KeepsUsed l.self.table now later → BreaksOff l.now rest now later → BreaksOff l.now all before later;
-      counted : device.failure_count start.device ≤ device.failure_count l.self.device;
+      counted : CountsWrites (device.failed start.device) (device.failed l.self.device);
       kept : KeepsUsed start.table before now;
       stays : StaysUsed start.table l.self.table;
       others : (b : ℕ) → AllByRecursion (IsOutside start.table.blocks b) (logs_of all) → AllByRecursion (IsOutside start.table.blocks b) (logs_of rest) × IsSameAt before now b;
