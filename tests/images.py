@@ -1,6 +1,6 @@
 #!/usr/bin/env python3
-"""Makes the images of tests/data by the formats of docs/SPECIFICATION.md, without the program, and what rows on trees and on
-needed blocks are due.
+"""Makes the images of tests/data by the formats of docs/SPECIFICATION.md, without the program, and what rows on trees, on
+needed blocks and on growing are due.
 
 Each is written from the rules, which tests/volume.py keeps: which blocks a checkpoint writes, under which numbers and where, and
 how an image spells them. So a row that opens or saves one compares the program with the rules, not with itself. Of an image too
@@ -102,6 +102,19 @@ def high():
     return volume
 
 
+def grown():
+    """What the row a_full_volume_grows leaves: 16 segments, where there were 8."""
+    volume = Volume(8, 4)
+    volume.create("/f")
+    for byte in b"A", b"B":
+        volume.write("/f", 0, byte)
+        volume.checkpoint(0)
+    volume.write("/f", 0, b"C")
+    volume.resize(16)
+    volume.checkpoint(0)
+    return volume
+
+
 # ---- images with a fault
 
 
@@ -198,10 +211,12 @@ def images():
         "old.img": keep(CHAIN).image(),
         "old_rewritten.img": rewritten().image(),
         "high.img": high().image(),
+        "grown.img": grown().image(),
     }
     # Sizes and places that the formats give for these volumes.
     assert len(made["formatted.img"]) == 35840
     assert len(made["four.img"]) == 69632
+    assert len(made["grown.img"]) == 69632
     assert len(made["chain300.img"]) == 538624
     # The end of number 5.
     assert made["four.img"][1392] == 3
@@ -214,15 +229,19 @@ def images():
     return made
 
 
-# ---- rows on trees and on needed blocks
+# ---- rows on trees, on needed blocks and on growing
 
 # Rows whose output is made here, with the volume that each begins on.
 ROWS = {
+    "a_full_volume_grows": lambda: Volume(8, 4),
+    "a_grown_volume_goes_on": grown,
+    "a_volume_of_most_segments": lambda: Volume(8, 4),
     "chain_becomes_a_tree": lambda: opened(chain300()),
     "needed_after_each_event": lambda: Volume(16, 8),
     "needed_after_overwrites": lambda: Volume(16, 8),
     "needed_in_a_new_volume": lambda: Volume(16, 8),
     "needed_in_an_opened_volume": four,
+    "shares_are_of_present_segments": lambda: Volume(8, 8),
     "old_files_stay": lambda: opened(keep(CHAIN)),
     "open_a_high_tree": high,
     "saved_tree": lambda: Volume(16, 32),

@@ -1,7 +1,7 @@
 """Scripts on the model of volumes: what their lines print, and the volume that they leave.
 
-It takes the lines that rows on trees and on needed blocks have: file calls that are done, and checkpoints, mounts and rounds,
-refused or not. For developers.
+It takes the lines that rows on trees, on needed blocks and on growing have: file calls that are done, and checkpoints, mounts,
+rounds and resizes, refused or not. For developers.
 """
 
 import shlex
@@ -10,7 +10,7 @@ from cleaning import Configuration, Round
 from volume import ACTIVE, DIRECTORY, FILE, ROOT, Refused
 
 # The numbers of refusals.
-REFUSALS = {"NoCheckpoint": 10, "IsSnapshot": 11, "NotSnapshot": 12, "Mounted": 13, "Latest": 14, "BadRange": 15, "NoSpace": 16, "BadMount": 19}
+REFUSALS = {"NoCheckpoint": 10, "IsSnapshot": 11, "NotSnapshot": 12, "Mounted": 13, "Latest": 14, "BadRange": 15, "NoSpace": 16, "BadMount": 19, "BadGeometry": 26}
 
 
 def line_of(columns, values):
@@ -167,6 +167,9 @@ class Session:
         done = Round(self.volume, self.moment, self.configuration)
         told = [f"expired {done.expired} moved {done.moved} freed {done.freed}"]
         return told + [self.refused(done.refusal)] if done.refusal else told
+
+    def do_resize(self, segments):
+        self.volume.resize(int(segments))
 
     def do_mount(self, number):
         checkpoint = self.volume.kept_at(int(number))

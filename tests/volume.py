@@ -22,6 +22,9 @@ CHAIN_SLOTS = 127
 # Flags of a segment.
 ACTIVE, DIRTY = 1, 2
 
+# As many segments as a volume can have, and as many blocks.
+MOST_SEGMENTS, MOST_BLOCKS = 4096, 262144
+
 
 # ---- the spelling of blocks and entries
 
@@ -420,6 +423,14 @@ class Volume:
             del self.numbers[number], self.pages[number]
         self.device = {block: data for block, data in self.device.items() if block not in blocks}
         self.segments[segment] = Segment()
+
+    def resize(self, segments):
+        """Adds clean segments behind the others."""
+        if segments < len(self.segments):
+            raise Refused("BadRange")
+        if segments > MOST_SEGMENTS or segments * self.segment_blocks > MOST_BLOCKS:
+            raise Refused("BadGeometry")
+        self.segments += [Segment() for _ in range(segments - len(self.segments))]
 
     # -- the image
 

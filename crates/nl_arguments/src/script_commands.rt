@@ -15,6 +15,7 @@ Commands of a script:
   clean                        do one round of cleaning, by the configuration of --conf
   mount N                      mount a snapshot, and print the mount
   umount M                     give a mount back
+  resize S                     make the volume one of S segments, no fewer than it has
   create PATH                  make an empty file
   mkdir PATH                   make an empty directory
   rm PATH                      remove a file

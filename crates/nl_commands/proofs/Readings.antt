@@ -18,6 +18,7 @@ readable name.Lssu word = refl
 readable name.Clean word = refl
 readable name.Mount word = refl
 readable name.Umount word = refl
+readable name.Resize word = refl
 readable name.Create word = refl
 readable name.Mkdir word = refl
 readable name.Rm word = refl

@@ -15,7 +15,7 @@ use Rattle.nl_commands.specs.FileCommands.{create_given, fill_given, mkdir_given
 use Rattle.nl_commands.specs.FileCommands.{rm_given, rmdir_given, truncate_given, write_given}
 use Rattle.nl_commands.specs.Grammars.{grammar, parsed}
 use Rattle.nl_commands.specs.Outcomes.{after}
-use Rattle.nl_commands.specs.SegmentCommands.{lssu_given, lssu_rules, mount_given, mount_rules, umount_given, umount_rules}
+use Rattle.nl_commands.specs.SegmentCommands.{lssu_given, lssu_rules, mount_given, mount_rules, resize_given, resize_rules, umount_given, umount_rules}
 
 abbrev pub asking_name : Text → Option CommandName
 asking_name word =
@@ -40,7 +40,8 @@ segment_name word =
     if bytes_eq word (codes "lssu") then Some name.Lssu else (
     if bytes_eq word (codes "clean") then Some name.Clean else (
     if bytes_eq word (codes "mount") then Some name.Mount else (
-    if bytes_eq word (codes "umount") then Some name.Umount else file_name word)))
+    if bytes_eq word (codes "umount") then Some name.Umount else (
+    if bytes_eq word (codes "resize") then Some name.Resize else file_name word))))
 
 -- the command that a word names
 abbrev pub command_name : Text → Option CommandName
@@ -62,6 +63,7 @@ rules_of name.Lssu = lssu_rules
 rules_of name.Clean = []
 rules_of name.Mount = mount_rules
 rules_of name.Umount = umount_rules
+rules_of name.Resize = resize_rules
 rules_of name.Create = path_rules
 rules_of name.Mkdir = path_rules
 rules_of name.Rm = path_rules
@@ -86,6 +88,7 @@ command_given name.Lssu rows = Ok (lssu_given rows)
 command_given name.Clean rows = Ok Clean
 command_given name.Mount rows = mount_given rows
 command_given name.Umount rows = umount_given rows
+command_given name.Resize rows = resize_given rows
 command_given name.Create rows = create_given rows
 command_given name.Mkdir rows = mkdir_given rows
 command_given name.Rm rows = rm_given rows

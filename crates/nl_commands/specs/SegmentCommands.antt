@@ -2,7 +2,7 @@
 use Rattle.std.specs.Prelude.{List, [], ◌∷◌, codes, Result, Ok}
 use Rattle.clap.specs.Words.{Row, Rule}
 use Rattle.nl_commands.specs.declared.command.Command.{Command}
-use Rattle.nl_commands.specs.declared.command.Command.TheVariants.{Lssu, Mount, Umount}
+use Rattle.nl_commands.specs.declared.command.Command.TheVariants.{Lssu, Mount, Resize, Umount}
 use Rattle.nl_commands.specs.declared.error.LineError.{LineError}
 use Rattle.nl_commands.specs.Grammars.{flag_rule, is_used, operand_rule}
 use Rattle.nl_commands.specs.GivenOperands.{number_at}
@@ -28,3 +28,10 @@ umount_rules = operand_rule (codes "mount") ∷ []
 
 abbrev pub umount_given : List Row → Result Command LineError
 umount_given rows = after (number_at (codes "mount") rows) (λ mount. Ok (Umount mount))
+
+-- resize S
+abbrev pub resize_rules : List Rule
+resize_rules = operand_rule (codes "segments") ∷ []
+
+abbrev pub resize_given : List Row → Result Command LineError
+resize_given rows = after (number_at (codes "segments") rows) (λ segments. Ok (Resize segments))

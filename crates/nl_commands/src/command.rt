@@ -53,6 +53,8 @@ pub enum Command {
     Mount(CheckpointNumber),
     /// Gives a mount back.
     Umount(MountNumber),
+    /// Makes the volume one of so many segments.
+    Resize(u64),
     /// Changes the current tree.
     Change(Change),
     /// Writes so many bytes of one value from an offset on. There are at most 67,108,865.

@@ -1,7 +1,7 @@
 //! Commands on segments and mounts: what they may be given, and what they ask for then. Their error:
 //! `Usage` where a word is not of its kind.
 ghost use Rattle.std.specs.Prelude.{◌≡◌};
-ghost use Rattle.nl_commands.specs.SegmentCommands.{lssu_given, mount_given, umount_given};
+ghost use Rattle.nl_commands.specs.SegmentCommands.{lssu_given, mount_given, resize_given, umount_given};
 
 use crate::command::Command;
 use crate::error::LineError;
@@ -41,4 +41,14 @@ pub fn umount(given: &Given<'_>) -> Result<Command, LineError>
 {
     let mount = number_at(given, "mount")?;
     Ok(Command::Umount(MountNumber::new(mount)))
+}
+
+pub const RESIZE_ARGUMENTS: &[Argument<'static>] = &[Argument::Operand("segments")];
+
+/// `resize SEGMENTS`
+pub fn resize(given: &Given<'_>) -> Result<Command, LineError>
+    ensures { result ≡ resize_given given.now }
+{
+    let segments = number_at(given, "segments")?;
+    Ok(Command::Resize(segments))
 }

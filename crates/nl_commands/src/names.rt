@@ -22,6 +22,7 @@ pub enum CommandName {
     Clean,
     Mount,
     Umount,
+    Resize,
     Create,
     Mkdir,
     Rm,
@@ -72,6 +73,7 @@ fn segment_name(word: &str) -> Option<CommandName>
         "clean" => Some(CommandName::Clean),
         "mount" => Some(CommandName::Mount),
         "umount" => Some(CommandName::Umount),
+        "resize" => Some(CommandName::Resize),
         _ => file_name(word),
     }
 }
@@ -103,6 +105,7 @@ fn arguments_of(name: CommandName) -> &'static [Argument<'static>]
         CommandName::Clean => &[],
         CommandName::Mount => mounts::MOUNT_ARGUMENTS,
         CommandName::Umount => mounts::UMOUNT_ARGUMENTS,
+        CommandName::Resize => mounts::RESIZE_ARGUMENTS,
         CommandName::Create | CommandName::Mkdir | CommandName::Rm | CommandName::Rmdir =>
             files::PATH_ARGUMENTS,
         CommandName::Mv | CommandName::Write | CommandName::Fill | CommandName::Truncate =>
@@ -125,6 +128,7 @@ fn command_given(alloc: Global, name: CommandName, given: &Given<'_>) -> Result<
         CommandName::Clean => Ok(Command::Clean),
         CommandName::Mount => mounts::mount(given),
         CommandName::Umount => mounts::umount(given),
+        CommandName::Resize => mounts::resize(given),
         CommandName::Create => files::create(alloc, given),
         CommandName::Mkdir => files::mkdir(alloc, given),
         CommandName::Rm => files::rm(alloc, given),

@@ -1,13 +1,13 @@
 -- What a move and a retirement do to a pen, as events.
 use Rattle.std.proofs.Common.{◌≡◌, ℕ, ◌==◌, ◌≤◌, true, false, cond, List, [], ◌∷◌, ◌++◌, length, take, refl, sym, ap, subst, ◌∙◌, inl, inr, true≢false}
-use Rattle.std.specs.Prelude.{IfErr, IsOk, is_ok, min, slice_get, None, Some, Result, Ok, Err, MatchResult}
+use Rattle.std.specs.Prelude.{IfErr, IsOk, is_ok, min, slice_get, None, Some, Result, Ok, Err, MatchResult, nat_lt}
 use Rattle.std.proofs.Math.Nat.{suc-ne-zero}
 use Rattle.std.proofs.lemmas.Bool.{eqb-true}
 use Rattle.std.proofs.lemmas.List.{length-map, length-take}
 use Rattle.nl_types.specs.declared.error.VolError.{VolError}
 use Rattle.nl_types.specs.declared.error.VolError.TheVariants as error
 use Rattle.nl_types.specs.declared.event.Event.{Event}
-use Rattle.nl_types.specs.declared.event.Event.TheVariants.{Apply, ChangeMode, Checkpoint, Expire, Listing, Mount, MountRead, Move, Read, Remove, RemoveRange, Retire, Unmount}
+use Rattle.nl_types.specs.declared.event.Event.TheVariants.{Apply, ChangeMode, Checkpoint, Expire, Listing, Mount, MountRead, Move, Read, Remove, RemoveRange, Resize, Retire, Unmount}
 use Rattle.nl_types.specs.declared.reply.Answer.{Answer}
 use Rattle.nl_types.specs.declared.reply.Answer.TheVariants as answer
 use Rattle.nl_types.specs.declared.segment.SegmentInfo.{SegmentInfo}
@@ -15,6 +15,7 @@ use Rattle.nl_types.specs.declared.segment.SegmentState.TheVariants.{Active, Cle
 use Rattle.nl_types.specs.Calls.{and_then}
 use Rattle.nl_types.specs.Laws.{IsJudged}
 use Rattle.nl_types.specs.Placing.{LacksSpace, LogsFit}
+use Rattle.nl_types.specs.Limits.{is_geometry}
 use Rattle.nl_types.specs.Segments.{Segments}
 use Rattle.nl_types.specs.Worlds.{Reply}
 use Rattle.nl_vstore.specs.Located.{needed_count, needed_in, numbers_in}
@@ -22,7 +23,7 @@ use Rattle.nl_vstore.specs.Stores.{IsMoveBrokenOff, IsMoveRefused, IsReclaimed, 
 use Rattle.nl_reclaim.specs.Cleaning.{HasMovedFirst, HasMovedNone, freed_by, judged, judged_by, judged_for, judged_info, retired}
 use Rattle.nl_reclaim.specs.declared.moving.MoveCount.{MoveCount}
 use Rattle.nl_core.specs.CleanedPens.{LeavesPen, StaysPen}
-use Rattle.nl_core.specs.CleaningEvents.{LacksSpaceToMove, cleaned_by, move_count, moved_answer, moved_by, needed_by, retired_by}
+use Rattle.nl_core.specs.CleaningEvents.{LacksSpaceToMove, cleaned_by, move_count, moved_answer, moved_by, needed_by, retired_by, resized_by}
 use Rattle.nl_core.specs.Layout.{Does, IsPen, IsRetirementRefusal, MeansWorld, layout_of, ledger_of, unshared}
 use Rattle.nl_core.specs.Volume.{Lists}
 use Rattle.nl_core.proofs.CleanedPens.{moves_keep_pens, refused_moves_keep_pens, retirements_keep_pens}
@@ -62,9 +63,17 @@ retirement_judges l s segment = after_judges (retired s (needed_by l) segment) _
       | false ↦ tt
     ]
 
+resize_judges : (s : Store) (segments : ℕ) → IfErr (resized_by s segments) IsJudged
+resize_judges s segments = elim (nat_lt segments (length s.segments.each))
+    as (λ b. IfErr (cond b (Err error.BadRange) (cond (is_geometry segments s.segments.blocks) (Ok answer.Done) (Err error.BadGeometry))) IsJudged) [
+      | true ↦ tt
+      | false ↦ elim (is_geometry segments s.segments.blocks) as (λ b. IfErr (cond b (Ok answer.Done) (Err error.BadGeometry)) IsJudged) [ true ↦ tt | false ↦ tt ]
+    ]
+
 pub cleaned_judges : (l : Lists) (s : Store) (event : Event) → IfErr (cleaned_by l s event) IsJudged
 cleaned_judges l s (Move segment limit moment) = move_judges l s segment limit
 cleaned_judges l s (Retire segment) = retirement_judges l s segment
+cleaned_judges l s (Resize segments) = resize_judges s segments
 cleaned_judges l s (Apply change) = tt
 cleaned_judges l s (Read ask) = tt
 cleaned_judges l s (Checkpoint mode moment) = tt

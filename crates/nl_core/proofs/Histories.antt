@@ -86,6 +86,7 @@ stays-mounted x (commit.Mounted mount) m n new apart is = shown-more m n x.mount
 stays-mounted x (commit.GivenBack k) m n new apart is =
     shown-without m n k x.mounts (λ same. apart (ap (λ j. commit.GivenBack j) same)) is
 stays-mounted x (commit.Freed gone) m n new apart is = is
+stays-mounted x (commit.Resized segments blocks) m n new apart is = is
 
 -- ---- along a history
 

@@ -4,7 +4,7 @@ use Rattle.std.specs.Prelude.{Result, Ok, Err, MatchResult, map}
 use Rattle.nl_types.specs.declared.error.VolError.{VolError}
 use Rattle.nl_types.specs.declared.error.VolError.TheVariants as error
 use Rattle.nl_types.specs.declared.event.Event.{Event}
-use Rattle.nl_types.specs.declared.event.Event.TheVariants.{Apply, ChangeMode, Checkpoint, Expire, Listing, Mount, MountRead, Move, Read, RemoveRange, Retire, Unmount}
+use Rattle.nl_types.specs.declared.event.Event.TheVariants.{Apply, ChangeMode, Checkpoint, Expire, Listing, Mount, MountRead, Move, Read, RemoveRange, Resize, Retire, Unmount}
 use Rattle.nl_types.specs.declared.event.Event.TheVariants as event
 use Rattle.nl_types.specs.declared.event.Mode.{Mode}
 use Rattle.nl_types.specs.declared.reply.Answer.{Answer}
@@ -27,6 +27,7 @@ use Rattle.nl_core.proofs.CleaningEvents.{none_needed}
 use Rattle.nl_core.proofs.Ledgers.{stands-latest}
 use Rattle.nl_core.proofs.ModeChanges.{ledger-moded}
 use Rattle.nl_core.proofs.Removals.{each-allowed, ledger-left}
+use Rattle.nl_core.proofs.ResizedPens.{resized-ledger, unresized-ledger}
 
 -- ---- one event
 
@@ -81,6 +82,7 @@ module _ (old new : Layout) (pen : IsPen old) where
       let kept : StaysPen old new =
       moves_keep_pens segment old.lists.table.latest.number moment numbers old new pen done.0 store done.1.moved.moved in
       stays kept.ledger
+  done-goes_on (Resize segments) a done store = stays (resized-ledger old new pen done.0 store done.1.grown)
   done-goes_on (ChangeMode n mode) a done store = stays (ap ledger_of done ∙ ledger-moded old n mode)
   done-goes_on (Apply change) a done store = stays (ap ledger_of done.0)
   done-goes_on (Mount n) a done store = stays (ap ledger_of done)
@@ -108,6 +110,7 @@ module _ (old new : Layout) (pen : IsPen old) where
           kept.ledger
       by (Err f) none = λ i. ledger_of (layout_of (refused.0 i) (none.1 i))
   refused-same (Retire segment) e refused store = same-layout refused.0
+  refused-same (Resize segments) e refused store = unresized-ledger old new segments e pen refused store
   refused-same (Apply change) e refused store = same-layout refused
   refused-same (Read ask) e refused store = same-layout refused
   refused-same (ChangeMode n mode) e refused store = same-layout refused

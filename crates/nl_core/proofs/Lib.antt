@@ -23,6 +23,7 @@ pub mod FirstLogs
 pub mod Formats
 pub mod KeptNumbers
 pub mod CleanedPens
+pub mod ResizedPens
 pub mod Outside
 pub mod KeptLists
 pub mod CountedPens

@@ -1,6 +1,6 @@
 -- Events beside readers, with the commits that they note.
 use Rattle.std.proofs.Common.{◌≡◌, ℕ, ◌<◌, ◌≤◌, List, [], ◌∷◌, ◌++◌, length, refl, ap, sym, ◌∙◌, inl, inr, false, arith}
-use Rattle.std.specs.Prelude.{Ok, Err}
+use Rattle.std.specs.Prelude.{nat_lt, Ok, Err}
 use Rattle.std.proofs.lemmas.List.{append-nil}
 use Rattle.nl_types.specs.declared.error.VolError.{VolError}
 use Rattle.nl_types.specs.declared.error.VolError.TheVariants as error
@@ -10,6 +10,7 @@ use Rattle.nl_types.specs.declared.event.Mode.{Mode}
 use Rattle.nl_types.specs.declared.reply.Answer.{Answer}
 use Rattle.nl_types.specs.declared.reply.Answer.TheVariants as answer
 use Rattle.nl_types.specs.Runs.{Step}
+use Rattle.nl_types.specs.Segments.{Segments}
 use Rattle.nl_types.specs.Worlds.{Reply, World}
 use Rattle.nl_vstore.specs.Batches.{Changes}
 use Rattle.nl_vstore.specs.Located.{numbers_in}
@@ -19,7 +20,7 @@ use Rattle.nl_core.specs.Layout.{Does, HasRefused, IsPen, Layout, Touches, clean
 use Rattle.nl_core.specs.NeededBlocks.{HasWrittenBatch}
 use Rattle.nl_core.specs.Notes.{AreCommitsOf, ChangesLists, DoesNoting, HasNoted, HasNotedWrite, has_other_mode, new_checkpoint, shared, where_any, where_true}
 use Rattle.nl_core.specs.declared.commit.Commit.{Commit}
-use Rattle.nl_core.specs.declared.commit.Commit.TheVariants.{Freed, ModeSet, Written}
+use Rattle.nl_core.specs.declared.commit.Commit.TheVariants.{Freed, ModeSet, Resized, Written}
 use Rattle.nl_core.proofs.Checkpointing.{does-refused, does-written}
 use Rattle.nl_core.proofs.Ledgers.{same-numbers}
 use Rattle.nl_core.proofs.Outside.{retired-inside}
@@ -77,6 +78,7 @@ unlisted l (event.Unmount m) lists = refl
 unlisted l (event.Checkpoint mode moment) lists = absurd lists
 unlisted l (event.Move segment limit moment) lists = absurd lists
 unlisted l (event.Retire segment) lists = absurd lists
+unlisted l (event.Resize segments) lists = absurd lists
 unlisted l (event.Apply change) lists = absurd lists
 unlisted l (event.Read ask) lists = absurd lists
 unlisted l (event.MountRead m ask) lists = absurd lists
@@ -125,6 +127,7 @@ IsUnseen (event.Remove n) = ⊥
 IsUnseen (event.RemoveRange first last) = ⊥
 IsUnseen (event.Expire now period) = ⊥
 IsUnseen (event.Retire segment) = ⊥
+IsUnseen (event.Resize segments) = ⊥
 IsUnseen (event.Mount n) = ⊥
 IsUnseen (event.Unmount m) = ⊥
 
@@ -146,6 +149,7 @@ module _ (old new : Layout) (before : List Commit) (pen : IsPen old) where
   none-noted (event.RemoveRange first last) a unseen = absurd unseen
   none-noted (event.Expire now period) a unseen = absurd unseen
   none-noted (event.Retire segment) a unseen = absurd unseen
+  none-noted (event.Resize segments) a unseen = absurd unseen
   none-noted (event.Mount n) a unseen = absurd unseen
   none-noted (event.Unmount m) a unseen = absurd unseen
 
@@ -204,3 +208,37 @@ pub noting-not_retired : (old new : Layout) (segment : ℕ) (e : VolError) (befo
     → DoesNoting old (event.Retire segment) (Err e) new before after
 noting-not_retired old new segment e before after pen does same =
     noting-refused old (event.Retire segment) new before after pen e (does-shared old new (event.Retire segment) (Err e) does) same
+
+-- ---- resizes
+
+-- memory is refused to one
+pub noting-unreserved : (l : Layout) (segments : ℕ) (before after : List Commit) → IsPen l → after ≡ before
+    → DoesNoting l (event.Resize segments) (Err error.Memory) l before after
+noting-unreserved l segments before after pen same =
+    noting-refused l (event.Resize segments) l before after pen error.Memory
+    (no-memory l (event.Resize segments) pen (refl, record { numbers = refl; segments = refl; device = refl; payload = refl })) same
+
+-- what is noted of segments that are added, told of the store
+pub noted-more : (present segments blocks : ℕ) (s : Segments) (before reserved after : List Commit) → present ≡ length s.each → blocks ≡ s.blocks
+    → reserved ≡ before → after ≡ reserved ++ where_true (nat_lt present segments) (Resized segments blocks)
+    → after ≡ before ++ where_true (nat_lt (length s.each) segments) (Resized segments s.blocks)
+noted-more present segments blocks s before reserved after many size same behind =
+    behind
+    ∙ ap (λ (ns : List Commit). ns ++ where_true (nat_lt present segments) (Resized segments blocks)) same
+    ∙ ap (λ (n : ℕ). before ++ where_true (nat_lt n segments) (Resized segments blocks)) many
+    ∙ ap (λ (b : ℕ). before ++ where_true (nat_lt (length s.each) segments) (Resized segments b)) size
+
+pub noting-resized : (old new : Layout) (segments : ℕ) (a : Answer) (before after : List Commit) → IsPen old
+    → Does unshared old (event.Resize segments) (Ok a) new
+    → after ≡ before ++ where_true (nat_lt (length old.store.segments.each) segments) (Resized segments old.store.segments.blocks)
+    → DoesNoting old (event.Resize segments) (Ok a) new before after
+noting-resized old new segments a before after pen does behind =
+    noting old (event.Resize segments) new before after pen (Ok a)
+    (where_true (nat_lt (length old.store.segments.each) segments) (Resized segments old.store.segments.blocks))
+    (does-shared old new (event.Resize segments) (Ok a) does) behind refl
+
+pub noting-not_resized : (old new : Layout) (segments : ℕ) (e : VolError) (before after : List Commit) → IsPen old
+    → Does unshared old (event.Resize segments) (Err e) new → after ≡ before
+    → DoesNoting old (event.Resize segments) (Err e) new before after
+noting-not_resized old new segments e before after pen does same =
+    noting-refused old (event.Resize segments) new before after pen e (does-shared old new (event.Resize segments) (Err e) does) same

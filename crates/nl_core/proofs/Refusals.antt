@@ -4,7 +4,7 @@ use Rattle.std.specs.Prelude.{true, length, List, ◌++◌, ◌∷◌, Result, O
 use Rattle.nl_types.specs.declared.error.VolError.{VolError}
 use Rattle.nl_types.specs.declared.error.VolError.TheVariants as error
 use Rattle.nl_types.specs.declared.event.Event.{Event}
-use Rattle.nl_types.specs.declared.event.Event.TheVariants.{Apply, Read, Checkpoint, ChangeMode, Expire, Move, Remove, RemoveRange, Retire, Mount, Unmount, MountRead, Listing}
+use Rattle.nl_types.specs.declared.event.Event.TheVariants.{Apply, Read, Checkpoint, ChangeMode, Expire, Move, Remove, RemoveRange, Resize, Retire, Mount, Unmount, MountRead, Listing}
 use Rattle.nl_types.specs.declared.segment.Log.{Log}
 use Rattle.nl_types.specs.Laws.{IsJudged}
 use Rattle.nl_types.specs.Placing.{LogsFit}
@@ -13,9 +13,9 @@ use Rattle.nl_types.proofs.WorldJudgements.{steps_judge}
 use Rattle.nl_types.specs.declared.segment.SegmentInfo.{SegmentInfo}
 use Rattle.nl_vstore.specs.Batches.{items_of}
 use Rattle.nl_vstore.specs.Located.{needed_in}
-use Rattle.nl_vstore.specs.Stores.{IsMoveRefused, KeepsStored, Store}
+use Rattle.nl_vstore.specs.Stores.{IsMoveRefused, KeepsStored, StaysStored, Store}
 use Rattle.nl_reclaim.specs.Cleaning.{judged_for, retired}
-use Rattle.nl_core.specs.CleaningEvents.{needed_by}
+use Rattle.nl_core.specs.CleaningEvents.{HasResizedNone, needed_by}
 use Rattle.nl_core.proofs.CleaningEvents.{cleaned_judges}
 use Rattle.nl_layout.specs.declared.root.Root.{Root}
 use Rattle.nl_core.specs.Laws.{IsAsBefore, MemoryIsTaken, RefusalsKeepPens, RefusalsHaveReasons, NoSpaceIsTrue, NoSpaceIsSaid}
@@ -40,6 +40,20 @@ move-kept checkpoint stamp numbers error.Memory old new refused other = refused
 move-kept checkpoint stamp numbers error.Fault old new refused other = absurd (other refl)
 move-kept checkpoint stamp numbers _ old new refused other = absurd refused
 
+-- a store stays where it is the same
+stays-same : (old new : Store) → new ≡ old → StaysStored old new
+stays-same old new same = record {
+  numbers = ap (λ (s : Store). s.numbers) same;
+  segments = ap (λ (s : Store). s.segments) same;
+  device = ap (λ (s : Store). s.device) same;
+  payload = ap (λ (s : Store). s.payload) same;
+}
+
+resize-kept : (segments : ℕ) (e : VolError) (old new : Store) → HasResizedNone segments old new e → (e ≢ error.Fault) → StaysStored old new
+resize-kept segments error.Fault old new refused other = absurd (other refl)
+resize-kept segments error.Memory old new refused other = refused
+resize-kept segments _ old new refused other = stays-same old new refused.0
+
 -- what is refused but for a fault is as it was
 refused_same : (event : Event) (e : VolError) (old new : Layout) → HasRefused event e old new
     → (e ≢ error.Fault) → IsAsBefore event old new
@@ -52,6 +66,7 @@ refused_same (Remove n) e old new refused other = refused
 refused_same (RemoveRange first last) e old new refused other = refused
 refused_same (Expire now period) e old new refused other = refused
 refused_same (Retire segment) e old new refused other = refused.0
+refused_same (Resize segments) e old new refused other = (refused.0, resize-kept segments e old.store new.store refused.1 other)
 refused_same (Mount n) e old new refused other = refused
 refused_same (Unmount m) e old new refused other = refused
 refused_same (Listing options) e old new refused other = refused

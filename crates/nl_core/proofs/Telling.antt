@@ -1,6 +1,6 @@
 -- What an event does to a pen is told by its commits.
 use Rattle.std.proofs.Common.{◌≡◌, ℕ, ◌+◌, ◌-◌, Bool, true, false, List, [], ◌∷◌, Option, refl, ap, sym, subst, take, ◌∙◌, arith}
-use Rattle.std.specs.Prelude.{Ok, Err, MatchResult, Result, fold, map}
+use Rattle.std.specs.Prelude.{nat_lt, length, Ok, Err, MatchResult, Result, fold, map}
 use Rattle.std.specs.Option.{option_map}
 use Rattle.nl_types.specs.declared.error.VolError.{VolError}
 use Rattle.nl_types.specs.declared.error.VolError.TheVariants as error
@@ -19,14 +19,14 @@ use Rattle.nl_vstore.proofs.NumberAt.{in-numbers}
 use Rattle.nl_reclaim.specs.Cleaning.{judged_for}
 use Rattle.nl_cpfile.specs.Tables.{Table, range_in, with_mode, with_next, without}
 use Rattle.nl_cpfile.specs.declared.checkpoint.Checkpoint.{Checkpoint}
-use Rattle.nl_core.specs.CleaningEvents.{needed_by}
-use Rattle.nl_core.specs.Commits.{AllNext, IsImage, IsNew, KeepsCheckpoints, applied, numbers_written, without_numbers}
+use Rattle.nl_core.specs.CleaningEvents.{HasResized, needed_by}
+use Rattle.nl_core.specs.Commits.{AllNext, IsImage, IsNew, KeepsCheckpoints, applied, numbers_written, with_room, without_numbers}
 use Rattle.nl_core.specs.Layout.{AllowedBetween, Does, HasRefused, HasWritten, IsPen, KeepsNumbers, Layout, layout_of}
 use Rattle.nl_core.specs.Notes.{AreCommitsOf, CommitsTellAll, HasNoted, freed_in, has_other_mode, mounted_as, new_checkpoint, shown_of, shown_page, where_any, where_true}
 use Rattle.nl_core.specs.Shown.{Shown}
 use Rattle.nl_core.specs.Volume.{IsTakenOut, Lists, boundary_in, with_checkpoint_mode}
 use Rattle.nl_core.specs.declared.commit.Commit.{Commit}
-use Rattle.nl_core.specs.declared.commit.Commit.TheVariants.{Freed, GivenBack, ModeSet, Mounted, RangeRemoved, Removed, Written}
+use Rattle.nl_core.specs.declared.commit.Commit.TheVariants.{Freed, GivenBack, ModeSet, Mounted, RangeRemoved, Removed, Resized, Written}
 use Rattle.nl_core.specs.declared.commit.ShownPage.{ShownPage}
 use Rattle.nl_core.specs.declared.mounts.Mounted.{Mounted as Mount}
 use Rattle.nl_core.proofs.Checkpoints.{latest-next, number-next}
@@ -37,6 +37,7 @@ use Rattle.nl_core.proofs.Keeping.{KeepsRoots, keeps-checkpoints, roots-moded, r
 use Rattle.nl_core.proofs.MountEvents.{answers-mount, mounted-before}
 use Rattle.nl_core.proofs.SameModes.{no-other_mode}
 use Rattle.nl_core.proofs.ShownNumbers.{numbers-freed, numbers-moved, numbers-written}
+use Rattle.nl_core.proofs.ResizedPens.{numbers-resized, resized-as-many, room-resized, unresized-numbers}
 
 -- ---- commits that tell what readers see
 
@@ -98,6 +99,8 @@ refused-shown (event.Remove n) e old new refused = ap shown_of refused
 refused-shown (event.RemoveRange first last) e old new refused = ap shown_of refused
 refused-shown (event.Expire now period) e old new refused = ap shown_of refused
 refused-shown (event.Retire segment) e old new refused = ap shown_of refused.0
+refused-shown (event.Resize segments) e old new refused =
+    same-store old new refused.0 (unresized-numbers segments e old.store new.store refused.1)
 refused-shown (event.Mount n) e old new refused = ap shown_of refused
 refused-shown (event.Unmount m) e old new refused = ap shown_of refused
 refused-shown (event.Listing options) e old new refused = ap shown_of refused
@@ -214,6 +217,31 @@ tells-freed old new segment count leads lists reclaimed =
     shown : shown_of new ≡ record (shown_of old) { numbers = without_numbers gone (shown_of old).numbers }
     shown i = shown_with (numbers i) (lists i).table (lists i).mounts (lists i).given
 
+-- ---- a resize
+
+tells-resized : (old new : Layout) (segments : ℕ) (a : Answer) → Leads old new → new.lists ≡ old.lists
+    → HasResized segments a old.store new.store
+    → TellsAll old new (where_true (nat_lt (length old.store.segments.each) segments) (Resized segments old.store.segments.blocks))
+tells-resized old new segments a leads lists resized = by (nat_lt (length old.store.segments.each) segments) refl
+  where
+    blocks : ℕ
+    blocks = old.store.segments.blocks
+
+    numbers : (shown_of new).numbers ≡ with_room segments blocks (shown_of old).numbers
+    numbers = numbers-resized old new segments leads.before.sound.store leads.now.sound.store resized
+
+    shown : shown_of new ≡ record (shown_of old) { numbers = with_room segments blocks (shown_of old).numbers }
+    shown i = shown_with (numbers i) (lists i).table (lists i).mounts (lists i).given
+
+    by : (b : Bool) → nat_lt (length old.store.segments.each) segments ≡ b → TellsAll old new (where_true b (Resized segments blocks))
+    by true more =
+        tells-commit old new (Resized segments blocks) leads
+        (subst (λ (l : Lists). KeepsRoots old.lists.table l.table) (sym lists) (roots-same old.lists.table))
+        shown (room-resized old segments leads.before.sound.store resized.judged)
+    by false fewer =
+        tells-nothing old new
+        (same-store old new lists (ap (λ (s : Store). s.numbers) (resized.same (resized-as-many old.store segments resized.judged fewer))))
+
 -- ---- each event
 
 module _ (allowed : AllowedBetween) (old new : Layout) (pen : IsPen old) where
@@ -261,6 +289,9 @@ module _ (allowed : AllowedBetween) (old new : Layout) (pen : IsPen old) where
       subst (TellsAll old new) (sym noted)
       (tells-freed old new segment does.touches.emptied.count (leads-on (event.Retire segment) (Ok a) does)
       does.touches.lists does.touches.emptied.reclaimed)
+  tells-done (event.Resize segments) a more does noted =
+      subst (TellsAll old new) (sym noted)
+      (tells-resized old new segments a (leads-on (event.Resize segments) (Ok a) does) does.touches.0 does.touches.1)
   tells-done (event.Move segment limit moment) a more does noted =
       tells-nothing-of more noted
       (same-parts old new does.touches.0

@@ -1,16 +1,20 @@
--- What moves out of segments and retirements of segments answer, and what they do to the blocks.
-use Rattle.std.specs.Prelude.{◌≡◌, ℕ, Bool, false, List, Ok, min}
+-- What moves out of segments, retirements of segments and resizes answer, and what they do to the blocks.
+use Rattle.std.specs.Prelude.{◌≡◌, ℕ, Bool, false, if◌then◌else◌, nat_lt, List, length, Ok, Err, min}
+use Rattle.nl_types.specs.declared.error.VolError.{VolError}
+use Rattle.nl_types.specs.declared.error.VolError.TheVariants as error
 use Rattle.nl_types.specs.declared.event.Event.{Event}
 use Rattle.nl_types.specs.declared.event.Event.TheVariants as event
 use Rattle.nl_types.specs.declared.reply.Answer.{Answer}
 use Rattle.nl_types.specs.declared.reply.Answer.TheVariants.{Done, Freed, Moved}
 use Rattle.nl_types.specs.Calls.{and_then}
 use Rattle.nl_types.specs.Entries.{Entry, is_needed}
+use Rattle.nl_types.specs.Limits.{is_geometry}
 use Rattle.nl_types.specs.Placing.{LacksSpace}
+use Rattle.nl_types.specs.Segments.{Segments}
 use Rattle.nl_types.specs.Worlds.{Reply}
 use Rattle.nl_cpfile.specs.Tables as cpfile
 use Rattle.nl_vstore.specs.Located.{needed_count}
-use Rattle.nl_vstore.specs.Stores.{IsReclaimed, Store}
+use Rattle.nl_vstore.specs.Stores.{HasGrown, IsGrowthRefused, IsReclaimed, Store}
 use Rattle.nl_reclaim.specs.Cleaning.{HasMovedFirst, judged_for, retired, split}
 use Rattle.nl_reclaim.specs.declared.moving.MoveCount.{MoveCount}
 use Rattle.nl_core.specs.Volume.{Lists, kept_by}
@@ -40,10 +44,20 @@ moved_by l s segment limit =
 abbrev pub retired_by : Lists → Store → (segment : ℕ) → Reply
 retired_by l s segment = and_then (retired s (needed_by l) segment) (λ count. Ok (Freed count))
 
--- what these two answer; that of other events is not looked at
+-- what a resize answers, where it is not refused for a fault or memory
+abbrev pub resized_in : Segments → (segments : ℕ) → Reply
+resized_in s segments =
+    if nat_lt segments (length s.each) then Err error.BadRange
+    else (if is_geometry segments s.blocks then Ok Done else Err error.BadGeometry)
+
+abbrev pub resized_by : Store → (segments : ℕ) → Reply
+resized_by s segments = resized_in s.segments segments
+
+-- what these three answer; that of other events is not looked at
 abbrev pub cleaned_by : Lists → Store → Event → Reply
 cleaned_by l s (event.Move segment limit now) = moved_by l s segment limit
 cleaned_by l s (event.Retire segment) = retired_by l s segment
+cleaned_by l s (event.Resize segments) = resized_by s segments
 cleaned_by l s (event.Apply change) = Ok Done
 cleaned_by l s (event.Read ask) = Ok Done
 cleaned_by l s (event.Checkpoint mode moment) = Ok Done
@@ -74,3 +88,16 @@ pub record HasEmptied (segment : ℕ) (answer : Answer) (l : Lists) (old new : S
 -- no list of logs fits the blocks that a move takes
 abbrev pub LacksSpaceToMove : Lists → Store → (segment limit : ℕ) → Type 0
 LacksSpaceToMove l s segment limit = LacksSpace s.segments false (min limit (needed_count s (needed_by l) segment))
+
+-- there are so many segments, and where there were as many nothing changed
+pub record HasResized (segments : ℕ) (answer : Answer) (old new : Store) : Type 0 where
+  pub answer_is : answer ≡ Done
+  pub judged : resized_by old segments ≡ Ok Done
+  pub grown : HasGrown segments old new
+  pub same : segments ≡ length old.segments.each → new ≡ old
+
+-- why segments are not added, and what is left then
+abbrev pub HasResizedNone : (segments : ℕ) → Store → Store → VolError → Type 0
+HasResizedNone segments old new error.Fault = IsGrowthRefused old new error.Fault
+HasResizedNone segments old new error.Memory = IsGrowthRefused old new error.Memory
+HasResizedNone segments old new e = (new ≡ old) × (resized_by old segments ≡ Err e)

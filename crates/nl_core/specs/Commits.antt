@@ -1,5 +1,5 @@
 -- How commits change what readers see, and which of them may follow one another.
-use Rattle.std.specs.Prelude.{◌≡◌, ◌≢◌, ℕ, ◌<◌, ◌≤◌, List, [], ◌∷◌, ◌++◌, fold, slice_set, Option, None, Some}
+use Rattle.std.specs.Prelude.{◌≡◌, ◌≢◌, ℕ, ◌+◌, ◌-◌, ◌*◌, ◌<◌, ◌≤◌, List, [], ◌∷◌, ◌++◌, fold, length, replicate, slice_set, Option, None, Some}
 use Rattle.std.specs.List.{AllByRecursion, filter}
 use Rattle.std.specs.Option.{option_map}
 use Rattle.nl_types.specs.declared.event.Mode.TheVariants.{Snapshot}
@@ -16,7 +16,7 @@ use Rattle.nl_core.specs.Layout.{reached_by}
 use Rattle.nl_core.specs.Shown.{Shown, mounted_on, nothing, pages_shown, shown_at, whole_of}
 use Rattle.nl_core.specs.Volume.{is_other_mount}
 use Rattle.nl_core.specs.declared.commit.Commit.{Commit}
-use Rattle.nl_core.specs.declared.commit.Commit.TheVariants.{Freed, GivenBack, ModeSet, Mounted, RangeRemoved, Removed, Whole, Written}
+use Rattle.nl_core.specs.declared.commit.Commit.TheVariants.{Freed, GivenBack, ModeSet, Mounted, RangeRemoved, Removed, Resized, Whole, Written}
 use Rattle.nl_core.specs.declared.commit.NewPage.{NewPage}
 use Rattle.nl_core.specs.declared.commit.ShownPage.{ShownPage}
 use Rattle.nl_core.specs.declared.commit.Written.{Written as NewCheckpoint}
@@ -47,6 +47,10 @@ abbrev pub without_numbers : List ℕ → List (Option ShownPage) → List (Opti
 without_numbers [] numbers = numbers
 without_numbers (v ∷ gone) numbers = without_numbers gone (slice_set numbers v None)
 
+-- there are numbers for so many segments, the new ones out of use
+abbrev pub with_room : (segments blocks : ℕ) → List (Option ShownPage) → List (Option ShownPage)
+with_room segments blocks numbers = numbers ++ replicate (segments * blocks + 1 - length numbers) None
+
 abbrev pub numbers_written : NewCheckpoint → List (Option ShownPage) → List (Option ShownPage)
 numbers_written w numbers =
     with_births w.checkpoint.number w.births (with_ends w.checkpoint.number w.ends numbers)
@@ -63,6 +67,7 @@ applied x (RangeRemoved first last) = record x { table = without (range_in first
 applied x (Mounted mount) = record x { mounts = x.mounts ++ mount ∷ []; given = mount.number }
 applied x (GivenBack m) = record x { mounts = filter (is_other_mount m) x.mounts }
 applied x (Freed gone) = record x { numbers = without_numbers gone x.numbers }
+applied x (Resized segments blocks) = record x { numbers = with_room segments blocks x.numbers }
 
 -- what readers see after these commits
 abbrev pub image_of : List Commit → Shown
@@ -100,7 +105,7 @@ KeepsCheckpoints x y =
     (n : ℕ) (c d : Checkpoint) → kept_at n x.table ≡ Some c → kept_at n y.table ≡ Some d
     → KeepsCheckpoint (pages_shown x) (pages_shown y) c d
 
--- numbers ascend, so none comes twice; a mount that is given back is there; and a history begins once
+-- numbers ascend, so none comes twice; a mount that is given back is there; a volume never shrinks; and a history begins once
 abbrev pub IsNew : Shown → Commit → Type 0
 IsNew x (Whole w) = ⊥
 IsNew x (Written w) = x.table.latest.number < w.checkpoint.number
@@ -110,6 +115,7 @@ IsNew x (ModeSet n mode) = Unit {0}
 IsNew x (Removed n) = Unit {0}
 IsNew x (RangeRemoved first last) = Unit {0}
 IsNew x (Freed gone) = Unit {0}
+IsNew x (Resized segments blocks) = length x.numbers ≤ segments * blocks + 1
 
 pub record IsNext (x : Shown) (c : Commit) : Type 0 where
   pub image : IsImage (applied x c)

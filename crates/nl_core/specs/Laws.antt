@@ -15,7 +15,7 @@ use Rattle.nl_types.specs.Worlds.{World, Reply}
 use Rattle.nl_types.specs.Runs.{Run, TakesMemory}
 use Rattle.nl_core.specs.Volume.{Lists}
 use Rattle.nl_layout.specs.declared.root.Root.{Root}
-use Rattle.nl_vstore.specs.Stores.{KeepsStored}
+use Rattle.nl_vstore.specs.Stores.{KeepsStored, StaysStored}
 use Rattle.nl_core.specs.Means.{Means}
 use Rattle.nl_core.specs.Layout.{AllowedBetween, IsPen, Layout, Does, DoesIn, LacksSpaceFor, MeansWorld, Runs, Settled, ledger_of, unshared}
 
@@ -36,9 +36,10 @@ RunsLeadOn allowed =
     (old new : Layout) (events : List Event) (replies : List Reply)
     → Run (Does allowed) old events replies new → Runs allowed old events replies new
 
--- all is as it was; of a move's reads some may have failed and been tried again, which is counted
+-- all is as it was; failures of a device that a move has read, or that was to grow, may have been counted
 abbrev pub IsAsBefore : Event → Layout → Layout → Type 0
 IsAsBefore (Move segment limit moment) old new = (new.lists ≡ old.lists) × KeepsStored old.store new.store
+IsAsBefore (event.Resize segments) old new = (new.lists ≡ old.lists) × StaysStored old.store new.store
 IsAsBefore (event.Apply change) old new = new ≡ old
 IsAsBefore (event.Read ask) old new = new ≡ old
 IsAsBefore (Checkpoint mode moment) old new = new ≡ old

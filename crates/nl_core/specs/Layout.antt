@@ -6,7 +6,7 @@ use Rattle.nl_types.specs.declared.error.VolError.TheVariants.{NoSpace, Fault, M
 use Rattle.nl_types.specs.declared.event.Event.{Event}
 use Rattle.nl_types.specs.declared.event.Mode.{Mode}
 use Rattle.nl_types.specs.declared.event.Event.TheVariants as variant
-use Rattle.nl_types.specs.declared.event.Event.TheVariants.{Apply, ChangeMode, Checkpoint, Expire, Listing, Mount, MountRead, Move, Read, RemoveRange, Retire, Unmount}
+use Rattle.nl_types.specs.declared.event.Event.TheVariants.{Apply, ChangeMode, Checkpoint, Expire, Listing, Mount, MountRead, Move, Read, RemoveRange, Resize, Retire, Unmount}
 use Rattle.nl_types.specs.declared.geometry.Geometry.{Geometry}
 use Rattle.nl_types.specs.declared.reply.Answer.{Answer}
 use Rattle.nl_types.specs.Lifetimes.{Numbers, Ledger, IsLedger, KeepsCovered, EndsOnce, Write, Remove, ledger_after_all, blank}
@@ -30,7 +30,7 @@ use Rattle.nl_tree.specs.Held.{Holding}
 use Rattle.nl_files.specs.CheckpointRoots.{IsTreeSound, roots_at}
 use Rattle.nl_reclaim.specs.Cleaning.{HasMovedNone, retired}
 use Rattle.nl_core.specs.Changes.{HasChanged}
-use Rattle.nl_core.specs.CleaningEvents.{HasEmptied, HasMovedOut, LacksSpaceToMove, cleaned_by, needed_by}
+use Rattle.nl_core.specs.CleaningEvents.{HasEmptied, HasMovedOut, HasResized, HasResizedNone, LacksSpaceToMove, cleaned_by, needed_by}
 use Rattle.nl_core.specs.Draft.{HasNextNumber, HoldsNow, SettlesNow}
 use Rattle.nl_core.specs.Means.{LeadsOn, Means}
 use Rattle.nl_core.specs.Tables.{blank_lists}
@@ -145,6 +145,8 @@ HasDone old (Expire now period) answer new =
 HasDone old (Move segment limit moment) answer new =
     (new.lists ≡ old.lists) × HasMovedOut segment limit moment answer old.lists old.store new.store
 HasDone old (Retire segment) answer new = HasRetired segment answer old new
+HasDone old (Resize segments) answer new =
+    (new.lists ≡ old.lists) × HasResized segments answer old.store new.store
 HasDone old (Mount n) answer new = new ≡ layout_of (with_mount n old.lists) old.store
 HasDone old (Unmount m) answer new = new ≡ layout_of (without_mount m old.lists) old.store
 HasDone old (Read ask) answer new = new ≡ old
@@ -189,6 +191,8 @@ HasRefused (Move segment limit moment) e old new =
     (new.lists ≡ old.lists)
     × HasMovedNone (needed_by old.lists) segment limit old.lists.table.latest.number moment old.store new.store e
 HasRefused (Retire segment) e old new = (new ≡ old) × IsRetirementRefusal old segment e
+HasRefused (Resize segments) e old new =
+    (new.lists ≡ old.lists) × HasResizedNone segments old.store new.store e
 HasRefused (Apply change) e old new = new ≡ old
 HasRefused (Read ask) e old new = new ≡ old
 HasRefused (ChangeMode n mode) e old new = new ≡ old
@@ -233,6 +237,7 @@ LacksSpaceFor l (variant.Remove n) = ⊥
 LacksSpaceFor l (RemoveRange first last) = ⊥
 LacksSpaceFor l (Expire now period) = ⊥
 LacksSpaceFor l (Retire segment) = ⊥
+LacksSpaceFor l (Resize segments) = ⊥
 LacksSpaceFor l (Mount n) = ⊥
 LacksSpaceFor l (Unmount m) = ⊥
 LacksSpaceFor l (MountRead m ask) = ⊥
@@ -259,7 +264,7 @@ AllowedBetween = Layout → Layout → AllowedRefusals
 abbrev pub unshared : AllowedBetween
 unshared old new = alone (LacksSpaceFor old) (FailsIn old new)
 
--- what a move or a retirement answers, by the layout before it
+-- what a move, a retirement or a resize answers, by the layout before it
 abbrev pub cleaned : Layout → Event → Reply
 cleaned l event = cleaned_by l.lists l.store event
 

@@ -1,5 +1,5 @@
 -- What readers see of a pen, and the commits of its events.
-use Rattle.std.specs.Prelude.{◌≡◌, ℕ, ◌-◌, ◌||◌, Bool, false, true, List, [], ◌∷◌, ◌++◌, fold, map, MatchResult}
+use Rattle.std.specs.Prelude.{◌≡◌, ℕ, ◌-◌, ◌||◌, nat_lt, Bool, false, true, List, [], ◌∷◌, ◌++◌, fold, length, map, MatchResult}
 use Rattle.std.specs.Option.{option_map, option_map_or}
 use Rattle.nl_types.specs.declared.error.VolError.TheVariants as error
 use Rattle.nl_types.specs.declared.event.Event.{Event}
@@ -20,7 +20,7 @@ use Rattle.nl_core.specs.Layout.{AllowedBetween, Does, HasWritten, IsPen, Layout
 use Rattle.nl_core.specs.Shown.{Shown}
 use Rattle.nl_core.specs.Volume.{boundary_in}
 use Rattle.nl_core.specs.declared.commit.Commit.{Commit}
-use Rattle.nl_core.specs.declared.commit.Commit.TheVariants.{Freed, GivenBack, ModeSet, Mounted, RangeRemoved, Removed, Written}
+use Rattle.nl_core.specs.declared.commit.Commit.TheVariants.{Freed, GivenBack, ModeSet, Mounted, RangeRemoved, Removed, Resized, Written}
 use Rattle.nl_core.specs.declared.commit.NewPage.{NewPage}
 use Rattle.nl_core.specs.declared.commit.ShownPage.{ShownPage}
 use Rattle.nl_core.specs.declared.commit.Written.{Written as NewCheckpoint}
@@ -106,6 +106,8 @@ HasNoted old (event.Expire now period) a new more =
     more ≡ where_gone a (RangeRemoved 1 (boundary_in old.lists.table now period - 1))
 HasNoted old (event.Move segment limit moment) a new more = more ≡ moved_as a
 HasNoted old (event.Retire segment) a new more = more ≡ freed_in old.store segment
+HasNoted old (event.Resize segments) a new more =
+    more ≡ where_true (nat_lt (length old.store.segments.each) segments) (Resized segments old.store.segments.blocks)
 HasNoted old (event.Mount n) a new more = more ≡ mounted_as a n
 HasNoted old (event.Unmount m) a new more = more ≡ GivenBack m ∷ []
 HasNoted old (event.Apply change) a new more = more ≡ []
@@ -162,6 +164,7 @@ ChangesLists (event.Unmount m) = Unit {0}
 ChangesLists (event.Checkpoint mode moment) = ⊥
 ChangesLists (event.Move segment limit moment) = ⊥
 ChangesLists (event.Retire segment) = ⊥
+ChangesLists (event.Resize segments) = ⊥
 ChangesLists (event.Apply change) = ⊥
 ChangesLists (event.Read ask) = ⊥
 ChangesLists (event.MountRead m ask) = ⊥

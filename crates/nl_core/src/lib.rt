@@ -13,6 +13,7 @@ mod mounts;
 mod noting;
 mod pen;
 mod removing;
+mod resizing;
 mod tables;
 mod writing;
 

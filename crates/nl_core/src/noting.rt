@@ -1,5 +1,5 @@
 //! Events with the commits that tell readers of them. What a commit takes of memory is taken before anything changes.
-ghost use Rattle.std.specs.Prelude.{◌≡◌, ◌<◌, ◌≤◌, ◌∷◌, ◌++◌, [], ℕ, List, if◌then◌else◌, length, map, vec_capacity, vec_len, IfOk, IfErr, OnErr, OnOk};
+ghost use Rattle.std.specs.Prelude.{◌≡◌, ◌<◌, ◌≤◌, ◌∷◌, ◌++◌, [], ℕ, List, if◌then◌else◌, length, map, nat_lt, vec_capacity, vec_len, IfOk, IfErr, OnErr, OnOk};
 ghost use Rattle.std.specs.Option.{option_map};
 ghost use Rattle.nl_types.specs.declared.event.Event.TheVariants.{Checkpoint, Retire};
 ghost use Rattle.nl_vstore.specs.Batches.{births_of};
@@ -9,8 +9,9 @@ ghost use Rattle.nl_counts.specs.Counted.{IsCounted};
 ghost use Rattle.nl_core.specs.Draft.{CanBeDrafted, HasFewNames};
 ghost use Rattle.nl_core.specs.Layout.{HasRefused, layout_of};
 ghost use Rattle.nl_core.specs.NeededBlocks.{AreNeededCounts, IsCountedPen};
-ghost use Rattle.nl_core.specs.Notes.{DoesNoting, HasNotedWrite, mounted_as, new_checkpoint, new_page, shown_of, shown_page, where_any, where_gone};
+ghost use Rattle.nl_core.specs.Notes.{DoesNoting, HasNotedWrite, mounted_as, new_checkpoint, new_page, shown_of, shown_page, where_any, where_gone, where_true};
 ghost use Rattle.nl_core.specs.Shown.{MountsRise, whole_of};
+ghost use Rattle.nl_core.specs.declared.commit.Commit.TheVariants.{Resized};
 
 use crate::cleaning::empty;
 use crate::commit::{Commit, NewPage, ShownPage, Whole, Written};
@@ -72,6 +73,17 @@ pub fn note_where_gone(notes: &mut Vec<Commit>, answer: &Answer, commit: Commit)
 {
     if is_any_gone(answer) {
         note(notes, commit);
+    }
+}
+
+/// Notes that there are so many segments, where there were fewer.
+pub fn note_resized(notes: &mut Vec<Commit>, present: usize, segments: u32, blocks: u32)
+    requires { vec_len notes.old < vec_capacity notes.old }
+    ensures { notes.new.items ≡ notes.old.items
+        ++ where_true (nat_lt present segments) (Resized segments blocks) }
+{
+    if present < segments as usize {
+        note(notes, Commit::Resized { segments, blocks });
     }
 }
 

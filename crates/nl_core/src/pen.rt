@@ -24,8 +24,11 @@ use crate::cleaning::{empty, move_out};
 use crate::closing::image_of;
 use crate::commit::Commit;
 use crate::laws::opened_images_are_pens;
-use crate::noting::{note, note_checkpoint, note_mounted, note_retirement, note_where_gone, whole};
+use crate::noting::{
+    note, note_checkpoint, note_mounted, note_resized, note_retirement, note_where_gone, whole,
+};
 use crate::removing::{expire, remove, remove_range};
+use crate::resizing::resize;
 use crate::tables::Tables;
 use crate::writing::{checkpoint, first_checkpoint};
 use nl_counts::NeededCounts;
@@ -66,7 +69,7 @@ impl<D: Device> Model for Pen<D> {
 }
 
 ghost use Rattle.nl_core.specs.Layout.{IsPen, Does, MeansWorld, layout_of, unshared};
-ghost use Rattle.nl_types.specs.declared.event.Event.TheVariants.{ChangeMode, Mount};
+ghost use Rattle.nl_types.specs.declared.event.Event.TheVariants.{ChangeMode, Mount, Resize};
 
 impl<D: Device> Pen<D> {
     ghost use Rattle.nl_core.specs.Layout.{IsFormatted, Layout};
@@ -329,6 +332,13 @@ impl<D: Device> Pen<D> {
             Event::Retire(segment) => {
                 empty(&self.tables, &mut self.store, &self.needed, *segment)
             },
+            Event::Resize(segments) => resize(
+                self.alloc,
+                &self.tables,
+                &mut self.store,
+                &mut self.needed,
+                *segments,
+            ),
             Event::Mount(number) => self.tables.mount(*number),
             Event::Unmount(mount) => self.tables.unmount(*mount),
             Event::MountRead(mount, ask) => self
@@ -379,6 +389,7 @@ impl<D: Device> Pen<D> {
                 };
                 self.note_gone(event, commit, notes)
             }
+            Event::Resize(segments) => self.note_resize(event, *segments, notes),
             Event::Apply(_)
             | Event::Read(_)
             | Event::Move { .. }
@@ -451,6 +462,21 @@ impl<D: Device> Pen<D> {
         notes.reserve(1)?;
         let answer = self.apply(event)?;
         note_mounted(notes, &answer, checkpoint);
+        Ok(answer)
+    }
+
+    /// A resize, which is noted where there are more segments then.
+    fn note_resize(&mut self, event: &Event, segments: u32, notes: &mut Vec<Commit>) -> Reply
+        requires { event.now ≡ Resize segments }
+        ensures { DoesNoting self.old event.now result self.new notes.old.items notes.new.items }
+    {
+        self.means_a_world();
+        let table = self.store.table();
+        let present = table.sustat().segments;
+        let blocks = table.blocks();
+        notes.reserve(1)?;
+        let answer = self.apply(event)?;
+        note_resized(notes, present, segments, blocks);
         Ok(answer)
     }
 

@@ -14,3 +14,4 @@ pub mod StayingCounts
 pub mod WalkedCounts
 pub mod FirstNeeded
 pub mod EventSteps
+pub mod GrownNeeded

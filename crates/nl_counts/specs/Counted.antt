@@ -1,8 +1,9 @@
 -- What is kept of a volume: how many needed numbers have their pages in each segment, and which needed numbers have ended.
-use Rattle.std.specs.Prelude.{◌≡◌, ℕ, ◌<◌, ◌≤◌, Bool, true, List, length, Some}
+use Rattle.std.specs.Prelude.{◌≡◌, ℕ, ◌<◌, ◌≤◌, Bool, true, List, length, take, Some}
 use Rattle.std.specs.List.Sorted.{IsNonDecreasingBy}
 use Rattle.nl_types.specs.PartialMaps.{is_one_of}
 use Rattle.nl_types.specs.Entries.{Content, Entry, is_needed}
+use Rattle.nl_sufile.specs.BySegment.{grown_counts}
 use Rattle.nl_vstore.specs.Counts.{needed_counts}
 use Rattle.nl_vstore.specs.Stores.{Store, content_in}
 use Rattle.nl_counts.specs.declared.ends.Ended.{Ended}
@@ -39,3 +40,11 @@ pub record IsCounted (s : Store) (kept : List ℕ) (c : Counted) : Type 0 where
   pub counts : c.counts ≡ needed_counts s (is_needed kept)
   pub ends : AreEnds (content_in s) (is_needed kept) c.ends
   pub below : AreBelow kept c.ends
+
+-- with counts of more segments, in which no needed number stands
+abbrev pub with_segments : ℕ → Counted → Counted
+with_segments segments c = record c { counts = grown_counts segments c.counts }
+
+-- with those of the first segments alone
+abbrev pub with_first : ℕ → Counted → Counted
+with_first segments c = record c { counts = take segments c.counts }

@@ -1,11 +1,11 @@
 -- What events that change no count leave, and what a store begins with.
-use Rattle.std.specs.Prelude.{◌≡◌, ℕ, ◌<◌, Bool, List, [], ◌∷◌, ◌++◌, length, replicate, take, None}
+use Rattle.std.specs.Prelude.{◌≡◌, ℕ, ◌<◌, ◌≤◌, Bool, List, [], ◌∷◌, ◌++◌, length, replicate, take, None}
 use Rattle.nl_types.specs.declared.error.VolError.{VolError}
 use Rattle.nl_types.specs.Entries.{Entry, is_needed}
 use Rattle.nl_vstore.specs.Batches.{Changes}
 use Rattle.nl_vstore.specs.Located.{needed_count, needed_in}
-use Rattle.nl_vstore.specs.Stores.{IsMoveRefused, IsReclaimed, IsStore, IsWriteRefused, KeepsStored, Store, content_in}
-use Rattle.nl_counts.specs.Counted.{Counted, IsCounted}
+use Rattle.nl_vstore.specs.Stores.{HasGrown, IsGrowthRefused, IsMoveRefused, IsReclaimed, IsStore, IsWriteRefused, KeepsStored, Store, content_in}
+use Rattle.nl_counts.specs.Counted.{Counted, IsCounted, with_first, with_segments}
 use Rattle.nl_counts.specs.Events.{AreNeededIn, IsNextWritten}
 
 -- a retirement of a segment without a needed number
@@ -40,6 +40,21 @@ RefusedMovesKeepCounts =
     (checkpoint stamp : ℕ) (numbers : List ℕ) (e : VolError) (kept : List ℕ) (c : Counted) (old new : Store)
     → IsStore old → IsStore new → IsMoveRefused checkpoint stamp numbers old new e
     → IsCounted old kept c → IsCounted new kept c
+
+-- more segments, behind the others
+abbrev pub GrowthKeepsCounts : Type 0
+GrowthKeepsCounts = (segments : ℕ) (kept : List ℕ) (c : Counted) (old new : Store) → IsStore old → IsStore new
+    → length old.segments.each ≤ segments → HasGrown segments old new
+    → IsCounted old kept c → IsCounted new kept (with_segments segments c)
+
+-- which may be taken back
+abbrev pub GrowthIsTakenBack : Type 0
+GrowthIsTakenBack = (segments : ℕ) (c : Counted) → with_first (length c.counts) (with_segments segments c) ≡ c
+
+-- and where they are refused
+abbrev pub RefusedGrowthKeepsCounts : Type 0
+RefusedGrowthKeepsCounts = (e : VolError) (kept : List ℕ) (c : Counted) (old new : Store) → IsStore old → IsStore new
+    → IsGrowthRefused old new e → IsCounted old kept c → IsCounted new kept c
 
 -- of a store without a number in use all counts are 0, whatever is kept
 abbrev pub UnusedStoresAreCounted : Type 0

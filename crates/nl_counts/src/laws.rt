@@ -1,5 +1,5 @@
 //! What the definitions mean, as contracts of functions that change nothing.
-ghost use Rattle.nl_counts.specs.Laws.{EmptyCheckpointsKeepCounts, FirstNeededStandThere, ReadsKeepCounts, RefusedMovesKeepCounts, RefusedWritesKeepCounts, RetirementsKeepCounts, UnusedStoresAreCounted};
+ghost use Rattle.nl_counts.specs.Laws.{EmptyCheckpointsKeepCounts, FirstNeededStandThere, GrowthIsTakenBack, GrowthKeepsCounts, ReadsKeepCounts, RefusedGrowthKeepsCounts, RefusedMovesKeepCounts, RefusedWritesKeepCounts, RetirementsKeepCounts, UnusedStoresAreCounted};
 
 use nl_sufile::laws::counts_follow_blocks;
 use nl_types::laws::{checkpoints_keep_needs, writes_are_by_number};
@@ -23,6 +23,17 @@ pub fn refusals_keep_counts()
     ensures written { RefusedWritesKeepCounts }
     ensures moved { RefusedMovesKeepCounts }
 {
+    needed_numbers_are_counted();
+}
+
+/// In segments that come behind the others no number stands, so their counts may be taken back; and where they are refused no
+/// number changes.
+pub fn growth_keeps_counts()
+    ensures grown { GrowthKeepsCounts }
+    ensures back { GrowthIsTakenBack }
+    ensures refused { RefusedGrowthKeepsCounts }
+{
+    counts_follow_blocks();
     needed_numbers_are_counted();
 }
 

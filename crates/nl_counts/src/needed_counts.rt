@@ -5,7 +5,7 @@ ghost use Rattle.nl_types.specs.Entries.{is_needed};
 ghost use Rattle.nl_types.specs.NeedLaws.{AreGone};
 ghost use Rattle.nl_vstore.specs.Counts.{needed_counts};
 ghost use Rattle.nl_vstore.specs.Stores.{Store};
-ghost use Rattle.nl_counts.specs.Counted.{IsCounted};
+ghost use Rattle.nl_counts.specs.Counted.{IsCounted, with_first, with_segments};
 ghost use Rattle.nl_counts.specs.Events.{HasMovedNeeded, IsLatest, IsNextWritten, TellsNeeds};
 
 use crate::counting::{count_births, count_moves};
@@ -79,6 +79,22 @@ impl NeededCounts {
         ensures same { OnErr result (self.new ≡ self.old) }
     {
         self.ends.reserve(ends)
+    }
+
+    /// Counts more segments, up to so many, in which no needed number stands. Refused for memory alone.
+    pub fn grow(&mut self, alloc: Global, segments: u32) -> Result<(), AllocError>
+        requires { length self.old.counts ≤ segments }
+        ensures grown { OnOk result (self.new ≡ with_segments segments self.old) }
+        ensures same { OnErr result (self.new ≡ self.old) }
+    {
+        self.counts.grow(alloc, segments)
+    }
+
+    /// Counts the first so many segments alone, as before they were to grow. It takes no memory.
+    pub fn shrink(&mut self, segments: u32)
+        ensures { self.new ≡ with_first segments self.old }
+    {
+        self.counts.shrink(segments);
     }
 
     /// The batch of a checkpoint was written: its births are counted, and its ends are noted. It takes no memory.

@@ -7,6 +7,7 @@ pub mod ShownSpace
 pub mod StoreOf
 pub mod FreeNumbers
 pub mod Writing
+pub mod GrownTable
 pub mod Refusals
 pub mod Positions
 pub mod SegmentOf

@@ -7,8 +7,8 @@ ghost use Rattle.nl_dat.specs.OneProof.{IsStore-prop, IsTable-prop};
 
 use crate::bdesc::{Bdesc, describe_row};
 use crate::entries::{
-    DatEntry, empty_places, end_entries, enter_births, entry_at, first_free, move_entries,
-    number_in, number_with, segment_at,
+    DatEntry, add_places, empty_places, end_entries, enter_births, entry_at, first_free,
+    move_entries, number_in, number_with, segment_at,
 };
 use crate::images::{have_own_payload, write_numbers};
 use crate::moving::{count_payload, load_all, row_tag};
@@ -16,14 +16,14 @@ use crate::reclaim::take_out;
 use nl_layout::Tag;
 use nl_space::{Payload, Space};
 use nl_sufile::SegTable;
-use nl_types::laws::payload_goes_to_unused_blocks;
+use nl_types::laws::{growing_keeps_segments, payload_goes_to_unused_blocks};
 use nl_types::{CheckpointNumber, Items, Page, Period, Segment, VirtualNumber, VolError};
 use nl_vstore::{Batch, VRead, Vstore};
 use std::alloc::{AllocError, Global};
 use std::marker::Model;
 
-/// The table of virtual block numbers, over the space that has their pages. Its length never changes, so no call needs
-/// memory but those that append, and those that answer a list.
+/// The table of virtual block numbers, over the space that has their pages. Its length changes where segments are added
+/// alone, so no call needs memory but that one, those that append, and those that answer a list.
 #[derive(Drop)]
 pub struct Dat<S: Space> {
     /// By number; 0 is never used.
@@ -293,5 +293,19 @@ impl<S: Space> Vstore for Dat<S> {
         let filled = self.filled;
         self.filled = taken.filled_after(filled);
         count
+    }
+
+    fn grow(&mut self, alloc: Global, segments: u32) -> Result<(), VolError> {
+        growing_keeps_segments();
+        let count = self.table.len();
+        let blocks = segments * self.space.table().blocks();
+        add_places(&mut self.table, alloc, blocks as usize + 1)?;
+        match self.space.grow(alloc, segments) {
+            Ok(()) => Ok(()),
+            Err(refusal) => {
+                self.table.truncate(count);
+                Err(refusal)
+            }
+        }
     }
 }

@@ -1,5 +1,5 @@
 //! The table of virtual block numbers, as a slice.
-ghost use Rattle.std.specs.Prelude.{◌≡◌, ◌/◌, ◌<◌, length, replicate, slice_index_or, MatchOption, IfOk, None};
+ghost use Rattle.std.specs.Prelude.{◌≡◌, ◌/◌, ◌<◌, ◌≤◌, ◌-◌, ◌++◌, OnErr, OnOk, length, replicate, slice_index_or, MatchOption, IfOk, None};
 ghost use Rattle.std.specs.List.{All};
 ghost use Rattle.nl_types.specs.PartialMaps.{put, put_each, adjust, adjust_all, adjust_each};
 ghost use Rattle.nl_types.specs.Entries.{number_of};
@@ -47,6 +47,21 @@ pub(crate) fn empty_places<T: Drop>(
         places.push(None)?;
     }
     Ok(Items::from_vec(places))
+}
+
+/// Adds places without a value, up to so many. Refused, those there are stay as they are.
+pub(crate) fn add_places<T: Drop>(
+    places: &mut Items<Option<T>>,
+    alloc: Global,
+    count: usize,
+) -> Result<(), AllocError>
+    requires { length places.old ≤ count }
+    ensures added { OnOk result
+        (places.new ≡ places.old ++ replicate (count - length places.old) None) }
+    ensures refused { OnErr result (places.new ≡ places.old) }
+{
+    let more = empty_places(alloc, count - places.len())?;
+    places.append(more.into_vec())
 }
 
 /// What the table has for a number, where it is in use.

@@ -12,6 +12,10 @@ IsEmpty pages = (b : ℕ) → pages b ≡ None
 abbrev pub KeepsOthers : ℕ → DevicePages → DevicePages → Type 0
 KeepsOthers number old new = (b : ℕ) → b ≢ number → new b ≡ old b
 
+-- what is at the numbers below one stays
+abbrev pub KeepsBelow : ℕ → DevicePages → DevicePages → Type 0
+KeepsBelow end old new = (b : ℕ) → b < end → new b ≡ old b
+
 -- so many blocks from a number on are emptied, and all others stay
 pub record ClearsBlocks (from count : ℕ) (old new : DevicePages) : Type 0 where
   pub inside : (k : ℕ) → k < count → new (from + k) ≡ None

@@ -1,5 +1,5 @@
 -- Which calls of a failing device fail, and what is left then.
-use Rattle.std.specs.Prelude.{◌≡◌, ℕ, zero, suc, Bool, true, false, if◌then◌else◌, List, replicate, Option, None, Some}
+use Rattle.std.specs.Prelude.{◌≡◌, ℕ, ◌+◌, zero, suc, Bool, true, false, if◌then◌else◌, List, replicate, Option, None, Some}
 use Rattle.nl_device.specs.Failures.{Failures}
 use Rattle.nl_device.specs.declared.memory.MemDevice.{MemDevice}
 use Rattle.nl_device.specs.declared.fault.FaultDevice.{FaultDevice}
@@ -38,9 +38,10 @@ pub record IsOver (memory : MemDevice) (put get : ℕ) (torn : Bool) (device : F
   pub holds : device.memory ≡ memory
   pub put_fails : device.put ≡ turn_of put
   pub get_fails : device.get ≡ turn_of get
+  pub grows : device.grow ≡ Never
   -- a torn put is to leave zeros
   pub zeros : device.zeros ≡ zeros_if torn
 
--- the get and the put that have failed
+-- the get, the put and the growth that have failed
 abbrev pub failures_of : FaultDevice → Failures
-failures_of device = record { reads = turned device.get; writes = turned device.put }
+failures_of device = record { reads = turned device.get; writes = turned device.put + turned device.grow }

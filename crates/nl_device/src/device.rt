@@ -1,8 +1,9 @@
 //! What the layers above know of a device.
-ghost use Rattle.std.specs.Prelude.{◌≡◌, ◌*◌, ◌<◌, Some, OnOk, OnErr, IfOk, IsErrOf};
+ghost use Rattle.std.specs.Prelude.{◌≡◌, ◌*◌, ◌<◌, ◌≤◌, Some, OnOk, OnErr, IfOk, IsErrOf};
 ghost use Rattle.nl_types.specs.declared.geometry.Geometry.{Geometry};
+ghost use Rattle.nl_types.specs.Limits.{IsGeometry};
 ghost use Rattle.nl_device.specs.Failures.{Failures, CountsReads, CountsWrites, FailsToRead, FailsToWrite, failure_count};
-ghost use Rattle.nl_device.specs.Pages.{DevicePages, KeepsOthers, ClearsBlocks, SamePages};
+ghost use Rattle.nl_device.specs.Pages.{DevicePages, KeepsBelow, KeepsOthers, ClearsBlocks, SamePages};
 
 use nl_types::{BlockNumber, Page, Segment};
 
@@ -10,12 +11,12 @@ use nl_types::{BlockNumber, Page, Segment};
 #[derive(Clone, Copy, Debug, PartialEq, Eq)]
 pub struct Fault;
 
-/// Why a get was refused.
+/// Why a get was refused, or more segments were.
 #[derive(Clone, Copy, Debug, PartialEq, Eq)]
 pub enum DeviceError {
     /// The device failed, and has counted it.
     Fault,
-    /// The page can't be shared for want of memory.
+    /// There is no memory to share the page, or for more blocks.
     Memory,
 }
 
@@ -28,7 +29,7 @@ pub trait Device: Drop {
     /// How often the device has failed in its reads, and how often in its writes.
     ghost failed: { Self → Failures };
 
-    /// How it is divided. This stays.
+    /// How it is divided. Only more segments change it.
     ghost shape: { Self → Geometry };
 
     /// Puts a page at a number. Refused, that block alone may differ.
@@ -56,6 +57,20 @@ pub trait Device: Drop {
             (pages self.old) (pages self.new) }
         ensures counted { CountsWrites (failed self.old) (failed self.new) }
         ensures shape { shape self.new ≡ shape self.old };
+
+    /// Makes it a device of so many segments of the same size, and keeps its pages. Of the new blocks nothing is promised.
+    /// Refused, it stays as it is.
+    fn grow(&mut self, segments: u32) -> Result<(), DeviceError>
+        requires more { (shape self.old).segments ≤ segments }
+        requires limits { IsGeometry segments (shape self.old).blocks }
+        ensures grown { OnOk result ((shape self.new).segments ≡ segments) }
+        ensures stays { OnErr result (shape self.new ≡ shape self.old) }
+        ensures same { OnErr result (SamePages (pages self.old) (pages self.new)) }
+        ensures blocks { (shape self.new).blocks ≡ (shape self.old).blocks }
+        ensures pages { KeepsBelow ((shape self.old).segments * (shape self.old).blocks)
+            (pages self.old) (pages self.new) }
+        ensures failed { IsErrOf result DeviceError.Fault → FailsToWrite (failed self.old) (failed self.new) }
+        ensures counted { CountsWrites (failed self.old) (failed self.new) };
 
     /// How often the device has failed.
     fn failures(&self) -> u64

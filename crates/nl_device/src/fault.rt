@@ -1,6 +1,6 @@
-//! A device in memory of which one put and one get fail, by which tests see what the layers above do then.
+//! A device in memory of which one call of each kind fails, by which tests see what the layers above do then.
 ghost use Rattle.std.specs.Prelude.{◌≡◌, IfOk, IsOkUnless, replicate};
-ghost use Rattle.nl_device.specs.Turns.{IsOver, zeros_if};
+ghost use Rattle.nl_device.specs.Turns.{IsOver, turn_of, zeros_if};
 
 use crate::device::{Device, DeviceError, Fault};
 use crate::memory::MemDevice;
@@ -8,13 +8,14 @@ use crate::turn::Turn;
 use nl_types::{BLOCK_SIZE, Block, BlockNumber, Page, Segment, VolError};
 use std::alloc::{AllocError, Global};
 
-/// A device in memory of which one put and one get fail. A torn put leaves zeros in the place of the old page. It goes on
-/// behind a failure.
+/// A device in memory of which one put, one get and one growth fail. A torn put leaves zeros in the place of the old page. It
+/// goes on behind a failure.
 #[derive(Drop)]
 pub struct FaultDevice {
     memory: MemDevice,
     put: Turn,
     get: Turn,
+    grow: Turn,
     /// What a torn put leaves, until it has.
     zeros: Option<Page>,
 }
@@ -61,8 +62,16 @@ impl FaultDevice {
             memory,
             put: Turn::of(put),
             get: Turn::of(get),
+            grow: Turn::Never,
             zeros,
         })
+    }
+
+    /// The growth of this number fails, counted from now on, and none does for 0.
+    pub fn fail_growth(&mut self, number: u64)
+        ensures { self.new ≡ record self.old { grow = turn_of number } }
+    {
+        self.grow = Turn::of(number);
     }
 
     // Puts a page, where the turn of the put that fails has not come.
@@ -76,6 +85,7 @@ impl FaultDevice {
         ensures failed { OnErr result (turned self.old.put < turned self.new.put) }
         ensures counted { turned self.old.put ≤ turned self.new.put }
         ensures gets { self.new.get ≡ self.old.get }
+        ensures growths { self.new.grow ≡ self.old.grow }
         ensures shape { self.new.memory.geometry ≡ self.old.memory.geometry }
     {
         if self.put.comes() {
@@ -114,7 +124,14 @@ impl Device for FaultDevice {
         self.memory.clear(segment);
     }
 
+    fn grow(&mut self, segments: u32) -> Result<(), DeviceError> {
+        if self.grow.comes() {
+            return Err(DeviceError::Fault);
+        }
+        self.memory.grow(segments)
+    }
+
     fn failures(&self) -> u64 {
-        self.get.failures() + self.put.failures()
+        self.get.failures() + self.put.failures() + self.grow.failures()
     }
 }

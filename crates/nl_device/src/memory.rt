@@ -6,7 +6,7 @@ use crate::device::{Device, DeviceError, Fault};
 use nl_types::{BlockNumber, Geometry, Page, Segment, VolError};
 use std::alloc::{AllocError, Global};
 
-/// A device in memory. Its table has its full length from the start.
+/// A device in memory. Its table has its full length from the start, and from each growth on.
 #[derive(Drop)]
 pub struct MemDevice {
     geometry: Geometry,
@@ -81,6 +81,22 @@ impl Device for MemDevice {
         let from = segment.get() as usize * blocks;
         for at in from..from + blocks {
             self.blocks[at] = None;
+        }
+    }
+
+    fn grow(&mut self, segments: u32) -> Result<(), DeviceError> {
+        let more = (segments - self.geometry.segments) * self.geometry.blocks;
+        let alloc = *self.blocks.allocator();
+        let added = match empty_blocks(alloc, more as usize) {
+            Ok(mut empty) => self.blocks.append(&mut empty),
+            Err(refused) => Err(refused),
+        };
+        match added {
+            Ok(()) => {
+                self.geometry.segments = segments;
+                Ok(())
+            }
+            Err(_) => Err(DeviceError::Memory),
         }
     }
 

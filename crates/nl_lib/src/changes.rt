@@ -1,6 +1,6 @@
-//! Changes of a volume's checkpoints. Each call is one event of the pen, or none.
+//! Changes of a volume's checkpoints and of its size. Each call is one event of the pen, or none.
 ghost use Rattle.std.specs.Prelude.{◌≡◌, ◌≢◌, IfErr, IfOk};
-ghost use Rattle.nl_types.specs.declared.event.Event.TheVariants.{ChangeMode, Checkpoint, Remove};
+ghost use Rattle.nl_types.specs.declared.event.Event.TheVariants.{ChangeMode, Checkpoint, Remove, Resize};
 ghost use Rattle.nl_types.specs.declared.event.Mode.TheVariants.{Plain};
 ghost use Rattle.nl_types.specs.Worlds as worlds;
 ghost use Rattle.nl_types.specs.Worlds.{World};
@@ -69,4 +69,17 @@ pub fn sync<D: Device>(pen: &mut Pen<D>, now: u64) -> Result<CheckpointNumber, V
     } else {
         Ok(pen.latest())
     }
+}
+
+/// Makes the volume one of so many segments, after `nilfs_resize` with a larger size. The new ones are clean. A volume that has
+/// just so many stays as it is.
+///
+/// Refused by `BadRange` where it has more, and by `BadGeometry` where a volume can't have so many; else by `Fault` where the
+/// device failed to grow, and by `Memory`.
+pub fn resize<D: Device>(pen: &mut Pen<D>, segments: u32) -> Result<(), VolError>
+    ensures does { Does unshared pen.old (Resize segments) (done_reply result) pen.new }
+{
+    pen.means_a_world();
+    pen.apply(&Event::Resize(segments))?;
+    Ok(())
 }

@@ -9,7 +9,7 @@ mod changes;
 mod cleaning;
 mod views;
 
-pub use changes::{change_cpmode, delete_checkpoint, sync};
+pub use changes::{change_cpmode, delete_checkpoint, resize, sync};
 pub use cleaning::{Cleaned, clean_segments};
 pub use views::{
     get_bdescs, get_cpinfo, get_cpstat, get_needed, get_suinfo, get_sustat, get_vinfo,

@@ -281,7 +281,7 @@ impl World {
             Event::Remove(n) => self.remove_one(alloc, *n),
             Event::RemoveRange { first, last } => self.remove_between(alloc, *first, *last),
             Event::Expire { now, period } => self.expire(alloc, *now, *period),
-            Event::Move { .. } | Event::Retire(_) => cleaned_by(cleaned),
+            Event::Move { .. } | Event::Retire(_) | Event::Resize(_) => cleaned_by(cleaned),
             Event::Mount(n) => self.add_mount(*n),
             Event::Unmount(m) => self.give_back(alloc, *m),
             Event::MountRead(m, asked) => self.read_mount(alloc, *m, asked),

@@ -4,7 +4,7 @@ ghost use Rattle.std.specs.Prelude.{◌≡◌};
 use crate::volume::{Volume, ends, shared_among};
 use nl_mounts::{Gate, JobAnswer, Port, ReadJob, read_many};
 use nl_publish::{Mount, Opened, Volumes};
-use nl_types::{CheckpointNumber, Event, Items, Segment, VolError};
+use nl_types::{Answer, CheckpointNumber, Event, Items, Segment, VolError};
 use std::alloc::Global;
 use std::marker::Brand;
 use std::sync::Wait;
@@ -12,10 +12,12 @@ use std::sync::atomic::{AtomicBool, Ordering};
 use std::test::Fail;
 use std::thread::{Threads, join};
 
-/// Each of two jobs waits, for some turns, until the other one has begun.
+/// Each of two jobs waits, for some turns, until the other one has begun and the volume has grown. It grows once both have
+/// begun.
 #[derive(Drop)]
 struct Meeting {
     begun: [AtomicBool; 2],
+    grown: AtomicBool,
     met: [AtomicBool; 2],
 }
 
@@ -23,8 +25,22 @@ impl Meeting {
     fn new() -> Meeting {
         Meeting {
             begun: [AtomicBool::new(false), AtomicBool::new(false)],
+            grown: AtomicBool::new(false),
             met: [AtomicBool::new(false), AtomicBool::new(false)],
         }
+    }
+
+    fn have_both_begun(&self) -> bool {
+        self.begun[0].load(Ordering::SeqCst) && self.begun[1].load(Ordering::SeqCst)
+    }
+
+    fn waits_for_both(&self) -> bool {
+        for _ in 0..TURNS {
+            if self.have_both_begun() {
+                return true;
+            }
+        }
+        false
     }
 
     fn took_place(&self) -> bool {
@@ -41,7 +57,7 @@ impl Gate for Meeting {
         }
         self.begun[job].store(true, Ordering::SeqCst);
         for _ in 0..TURNS {
-            if self.begun[1 - job].load(Ordering::SeqCst) {
+            if self.have_both_begun() && self.grown.load(Ordering::SeqCst) {
                 self.met[job].store(true, Ordering::SeqCst);
                 return;
             }
@@ -63,6 +79,15 @@ fn moves_all<J: Volumes, R: Wait>(rt: &R, shared: &Volume<J>) {
         let _moved = shared.apply(rt, &moving);
         let _freed = shared.apply(rt, &Event::Retire(segment));
     }
+}
+
+/// Makes the volume larger once both jobs have begun, and then moves all its blocks.
+fn grows<J: Volumes, R: Wait>(rt: &R, shared: &Volume<J>, meeting: &Meeting) -> bool {
+    let both = meeting.waits_for_both();
+    let grown = shared.apply(rt, &Event::Resize(128));
+    meeting.grown.store(true, Ordering::SeqCst);
+    moves_all(rt, shared);
+    both && matches!(grown, Ok(Answer::Done))
 }
 
 /// A job, with what is due.
@@ -164,7 +189,7 @@ fn any_number_answers<J: Volumes + Send + Sync, R: Threads + Sync>(
     Ok(true)
 }
 
-/// Whether two jobs run at once, on two ports, while their blocks are moved.
+/// Whether two jobs run at once, on two ports, while the volume grows and their blocks are moved.
 fn meet<J: Volumes + Send + Sync, R: Threads + Wait + Sync>(
     rt: &R,
     alloc: Global,
@@ -173,12 +198,12 @@ fn meet<J: Volumes + Send + Sync, R: Threads + Wait + Sync>(
     mount: &Mount<J>,
 ) -> Result<bool, VolError> {
     let meeting = Meeting::new();
-    let (_, answered) = join(
+    let (grown, answered) = join(
         rt,
-        || moves_all(rt, shared),
+        || grows(rt, shared, &meeting),
         || answer_all(rt, alloc, ports, mount, two(), &meeting),
     );
-    Ok(answered? && meeting.took_place())
+    Ok(answered? && grown && meeting.took_place())
 }
 
 /// Whether many reads are answered in the order of their jobs, by any number of ports, and at once by two.

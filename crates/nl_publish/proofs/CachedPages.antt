@@ -21,7 +21,7 @@ use Rattle.nl_cpfile.proofs.Found.{found, found-push}
 use Rattle.nl_core.specs.Commits.{AllNext, IsHistory, IsImage, IsNext, applied, image_of}
 use Rattle.nl_core.specs.Shown.{Shown, nothing, pages_shown}
 use Rattle.nl_core.specs.declared.commit.Commit.{Commit}
-use Rattle.nl_core.specs.declared.commit.Commit.TheVariants.{Freed, GivenBack, ModeSet, Mounted, RangeRemoved, Removed, Whole, Written}
+use Rattle.nl_core.specs.declared.commit.Commit.TheVariants.{Freed, GivenBack, ModeSet, Mounted, RangeRemoved, Removed, Resized, Whole, Written}
 use Rattle.nl_publish.specs.Cached.{CachedPagesStay, IsCachedPage}
 use Rattle.nl_publish.specs.Histories.{IsBegun}
 use Rattle.nl_publish.proofs.Growing.{fold-grows}
@@ -108,6 +108,7 @@ behind x (RangeRemoved first last) n given next = record {
 behind x (Mounted mount) n given next = record { latest = omega arith; kept = λ d is. (d, is) }
 behind x (GivenBack m) n given next = record { latest = omega arith; kept = λ d is. (d, is) }
 behind x (Freed gone) n given next = record { latest = omega arith; kept = λ d is. (d, is) }
+behind x (Resized segments blocks) n given next = record { latest = omega arith; kept = λ d is. (d, is) }
 
 -- ---- one commit
 

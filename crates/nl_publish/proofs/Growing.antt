@@ -32,6 +32,7 @@ history_more (commit.RangeRemoved n m ∷ log) more h next = absurd h
 history_more (commit.Mounted m ∷ log) more h next = absurd h
 history_more (commit.GivenBack m ∷ log) more h next = absurd h
 history_more (commit.Freed w ∷ log) more h next = absurd h
+history_more (commit.Resized segments blocks ∷ log) more h next = absurd h
 
 -- and each beginning of it is one
 pub history_start : (log more : List Commit) → IsHistory (log ++ more) → IsBegun log
@@ -44,6 +45,7 @@ history_start (commit.RangeRemoved n m ∷ log) more h = absurd h
 history_start (commit.Mounted m ∷ log) more h = absurd h
 history_start (commit.GivenBack m ∷ log) more h = absurd h
 history_start (commit.Freed w ∷ log) more h = absurd h
+history_start (commit.Resized segments blocks ∷ log) more h = absurd h
 
 -- a beginning that has a commit is a history
 pub begun_more : (log : List Commit) (c : Commit) → IsBegun (log ++ c ∷ []) → IsHistory (log ++ c ∷ [])

@@ -36,6 +36,7 @@ history_image (commit.RangeRemoved n m ∷ log) h = absurd h
 history_image (commit.Mounted m ∷ log) h = absurd h
 history_image (commit.GivenBack m ∷ log) h = absurd h
 history_image (commit.Freed w ∷ log) h = absurd h
+history_image (commit.Resized segments blocks ∷ log) h = absurd h
 
 -- ---- lists of mounts
 
@@ -134,6 +135,7 @@ mounted_before x (commit.RangeRemoved k l) m n new low is = is
 mounted_before x (commit.Mounted mount) m n new low is = found_before m n x.mounts mount (grind (arith, nat_tests)) is
 mounted_before x (commit.GivenBack k) m n new low is = (found_left m n k x.mounts is).0
 mounted_before x (commit.Freed gone) m n new low is = is
+mounted_before x (commit.Resized segments blocks) m n new low is = is
 
 given_on : (x : Shown) (c : Commit) (m : ℕ) → IsNew x c → m ≤ x.given → m ≤ (applied x c).given
 given_on x (commit.Whole w) m new low = absurd new
@@ -144,6 +146,7 @@ given_on x (commit.RangeRemoved k l) m new low = low
 given_on x (commit.Mounted mount) m new low = omega arith
 given_on x (commit.GivenBack k) m new low = low
 given_on x (commit.Freed gone) m new low = low
+given_on x (commit.Resized segments blocks) m new low = low
 
 -- a mount that is found shows the checkpoint that it named, with the trees that this had
 record ShowsStill (first : Shown) (m k : ℕ) (x : Shown) : Type 0 where
@@ -188,6 +191,7 @@ rest_of (commit.RangeRemoved n m ∷ log) more h begun = absurd h
 rest_of (commit.Mounted m ∷ log) more h begun = absurd h
 rest_of (commit.GivenBack m ∷ log) more h begun = absurd h
 rest_of (commit.Freed w ∷ log) more h begun = absurd h
+rest_of (commit.Resized segments blocks ∷ log) more h begun = absurd h
 
 begun_is : (log : List Commit) (c : Commit) (mount : Mounted) → c ≡ commit.Mounted mount → IsHistory (log ++ c ∷ []) → IsBegun log → IsHistory log
 begun_is [] c mount is h begun = absurd (subst (λ (d : Commit). IsHistory (d ∷ [])) is h)

@@ -1,9 +1,9 @@
 //! What readers see, in memory.
-ghost use Rattle.std.specs.Prelude.{◌≡◌, ◌≤◌, [], ◌∷◌, ◌++◌, None, slice_set, IfOk, IsErrOf, MatchResult};
+ghost use Rattle.std.specs.Prelude.{◌≡◌, ◌≤◌, [], ◌∷◌, ◌++◌, None, replicate, slice_set, IfOk, IsOkUnless, IsErrOf, MatchResult};
 ghost use Rattle.std.specs.Option.{option_copied};
 ghost use Rattle.nl_cpfile.specs.Tables.{ComesNext, kept_at, with_mode, with_next};
 ghost use Rattle.nl_core.specs.Shown.{MountsRise, mounted_on, shown_at};
-ghost use Rattle.nl_core.specs.Commits.{IsHistory, IsNext, applied, image_of, numbers_written, with_births, with_ends, without_numbers};
+ghost use Rattle.nl_core.specs.Commits.{IsHistory, IsNext, applied, image_of, numbers_written, with_births, with_ends, with_room, without_numbers};
 
 use nl_core::{Commit, Mounted, Mounts, NewPage, ShownPage, Written};
 use nl_cpfile::{Checkpoint, Checkpoints};
@@ -101,6 +101,17 @@ fn free_numbers(numbers: &mut [Option<ShownPage>], gone: &[VirtualNumber])
     for number in gone {
         set_number(numbers, *number, None);
     }
+}
+
+/// So many numbers out of use.
+fn unused(alloc: Global, count: usize) -> Result<Vec<Option<ShownPage>>, AllocError>
+    ensures { IfOk result (λ unused. unused.items ≡ replicate count None) }
+{
+    let mut unused = Vec::with_capacity(alloc, count)?;
+    for _ in 0..count {
+        unused.push(None)?;
+    }
+    Ok(unused)
 }
 
 /// The same births, whose pages have another owner.
@@ -262,6 +273,19 @@ impl Tables {
         Ok(())
     }
 
+    /// Makes room for a number for each block of so many segments. Refused by `Memory` alone.
+    fn make_room(&mut self, segments: u32, blocks: u32) -> Result<(), ApplyError>
+        ensures changed { MatchResult result
+            (λ _. self.new ≡ record self.old { numbers = with_room segments blocks self.old.numbers })
+            (λ _. self.new ≡ self.old) }
+        ensures refused { IsOkUnless result ApplyError.Memory }
+    {
+        let count = segments as usize * blocks as usize + 1;
+        let mut more = unused(self.alloc, count.saturating_sub(self.numbers.len()))?;
+        self.numbers.append(&mut more)?;
+        Ok(())
+    }
+
     /// One commit. Its growth comes first, so a refusal leaves all as it was. Refused by `Memory`, and by `NotNext` where no
     /// history goes on by such a commit.
     pub fn apply(&mut self, commit: &Commit) -> Result<(), ApplyError>
@@ -294,6 +318,7 @@ impl Tables {
                 free_numbers(self.numbers.as_mut_slice(), gone.as_slice());
                 Ok(())
             }
+            Commit::Resized { segments, blocks } => self.make_room(*segments, *blocks),
         }
     }
 

@@ -1,5 +1,5 @@
 -- What a command asks of a volume, one event after another.
-use Rattle.std.specs.Prelude.{ℕ, List, [], ◌∷◌, map, replicate, Option, None, Some}
+use Rattle.std.specs.Prelude.{ℕ, ◌-◌, ◌^◌, min, List, [], ◌∷◌, map, replicate, Option, None, Some}
 use Rattle.nl_types.specs.Limits.{file_limit}
 use Rattle.nl_types.specs.declared.event.Ask.{Ask}
 use Rattle.nl_types.specs.declared.event.Ask.TheVariants as ask
@@ -49,6 +49,7 @@ events_of moment latest command.Clean = []
 events_of moment latest (command.Catm mount paths) = map (reading mount) paths
 events_of moment latest (command.Mount number) = event.Mount number ∷ []
 events_of moment latest (command.Umount mount) = event.Unmount mount ∷ []
+events_of moment latest (command.Resize segments) = event.Resize (min segments (2 ^ 32 - 1)) ∷ []
 events_of moment latest (command.Change change) = event.Apply change ∷ []
 events_of moment latest (command.Fill path offset byte count) =
     event.Apply (Write path offset (replicate count byte)) ∷ []

@@ -1,5 +1,5 @@
 //! From a command to the events that it asks for.
-ghost use Rattle.std.specs.Prelude.{◌≡◌, [], ◌∷◌, map, replicate, IfOk};
+ghost use Rattle.std.specs.Prelude.{◌≡◌, ◌-◌, ◌^◌, min, [], ◌∷◌, map, replicate, IfOk};
 ghost use Rattle.nl_types.specs.declared.event.Event.TheVariants.{Apply};
 ghost use Rattle.nl_types.specs.declared.event.Change.TheVariants.{Write};
 ghost use Rattle.nl_script.specs.Events.{asked, asking, events_of, mode_change, reading, removal_event};
@@ -134,6 +134,13 @@ fn asking(mount: Option<MountNumber>, ask: Ask) -> Event
     }
 }
 
+/// The number, or the greatest one that is asked of a volume, which has never so many segments.
+fn at_most_u32(segments: u64) -> u32
+    ensures { result ≡ min segments (2 ^ 32 - 1) }
+{
+    segments.min(u32::MAX as u64) as u32
+}
+
 /// The events that a command asks for at a moment, in whole seconds. A range of checkpoints that is open to the right ends
 /// at the latest one. Refused by want of memory alone.
 pub fn events_of(
@@ -153,6 +160,7 @@ pub fn events_of(
         Command::Rmcp { ranges, .. } => removals(alloc, latest, ranges.as_slice()),
         Command::Mount(number) => one_event(alloc, Event::Mount(number)),
         Command::Umount(mount) => one_event(alloc, Event::Unmount(mount)),
+        Command::Resize(segments) => one_event(alloc, Event::Resize(at_most_u32(segments))),
         Command::Change(change) => one_event(alloc, Event::Apply(change)),
         Command::Fill {
             path,

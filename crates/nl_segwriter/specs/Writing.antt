@@ -3,6 +3,10 @@ use Rattle.std.specs.Prelude.{◌≡◌, ℕ, ◌+◌, ◌<◌, ◌≤◌, List,
 use Rattle.nl_types.specs.declared.segment.Log.{Log}
 use Rattle.nl_types.specs.Segments.{Segments, with_active, with_error}
 use Rattle.nl_types.specs.Placing.{first_block, with_logs}
+use Rattle.nl_types.specs.declared.error.VolError.{VolError}
+use Rattle.nl_types.specs.declared.error.VolError.TheVariants as error
+use Rattle.nl_device.specs.declared.device.DeviceError.{DeviceError}
+use Rattle.nl_device.specs.declared.device.DeviceError.TheVariants as device
 use Rattle.nl_device.specs.Pages.{DevicePages}
 use Rattle.nl_segwriter.specs.declared.staging.Staged.{Staged}
 use Rattle.nl_space.specs.Content.{Payload, Held, SpaceContent, SameOutside, StandInRow}
@@ -61,3 +65,8 @@ pub record BreaksOff (stamp : ℕ) (all : List Staged) (old new : SpaceContent) 
   pub segments : new.segments ≡ with_error (with_logs old.segments (logs_of written) stamp) failed.log.segment
   pub stand : LogsStand old.segments.blocks written new.held new.stored
   pub others : KeepsOtherBlocks old.segments.blocks (logs_of written ++ failed.log ∷ []) old new
+
+-- why a device refused, as a volume says it
+abbrev pub refusal_of : DeviceError → VolError
+refusal_of device.Fault = error.Fault
+refusal_of device.Memory = error.Memory

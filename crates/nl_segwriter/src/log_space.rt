@@ -11,16 +11,17 @@ ghost use Rattle.nl_space.specs.Logs.{AreWholeLogs, StandsFrom};
 ghost use Rattle.nl_space.specs.Appended.{KeepsOtherBlocks};
 ghost use Rattle.nl_segwriter.specs.Images.{HoldLogs, IsShapeOf, IsSpaceOf, page_in};
 ghost use Rattle.nl_segwriter.specs.Staging.{IsReady, logs_of, whole_of};
-ghost use Rattle.nl_segwriter.specs.Writing.{held_in, space_content, SameOutsideLog, MayBeTaken, StagedStands, LogsStand, BreaksOff};
+ghost use Rattle.nl_segwriter.specs.Writing.{held_in, space_content, SameOutsideLog, MayBeTaken, StagedStands, LogsStand, BreaksOff, refusal_of};
 
 use crate::images::Restored;
 use crate::numbers::numbers_of;
-use crate::payload::{drop_row, hold_row, no_payload};
+use crate::payload::{add_blocks, drop_row, hold_row, no_payload};
 use crate::put::{put_pages, put_row};
 use crate::staging::{Staged, stage};
 use nl_device::{Device, DeviceError, Fault};
 use nl_space::{Payload, Space};
 use nl_sufile::SegTable;
+use nl_types::laws::growing_keeps_segments;
 use nl_types::{BlockNumber, CheckpointNumber, Geometry, Items, Page, Position, Segment, VolError};
 use std::alloc::Global;
 
@@ -170,6 +171,16 @@ pub(crate) fn used_of(table: &SegTable, segment: Segment) -> u32
     }
 }
 
+// Why a device refused, as a volume says it.
+fn refusal_of(refusal: DeviceError) -> VolError
+    ensures { result ≡ refusal_of refusal }
+{
+    match refusal {
+        DeviceError::Fault => VolError::Fault,
+        DeviceError::Memory => VolError::Memory,
+    }
+}
+
 impl<D: Device> Space for LogSpace<D> {
     ghost content = { λ s. space_content s.table s.payload (D.pages s.device) };
 
@@ -204,8 +215,7 @@ impl<D: Device> Space for LogSpace<D> {
         match self.device.get(number) {
             Ok(Some(page)) => Ok(page),
             Ok(None) => unreachable!(),
-            Err(DeviceError::Fault) => Err(VolError::Fault),
-            Err(DeviceError::Memory) => Err(VolError::Memory),
+            Err(refusal) => Err(refusal_of(refusal)),
         }
     }
 
@@ -224,6 +234,23 @@ impl<D: Device> Space for LogSpace<D> {
         self.device.clear(segment);
         drop_row(&mut self.payload, segment.get() as usize * blocks, blocks);
         self.table.mark_clean(segment);
+    }
+
+    fn grow(&mut self, alloc: Global, segments: u32) -> Result<(), VolError> {
+        growing_keeps_segments();
+        let table = self.table.grown(alloc, segments)?;
+        let count = self.payload.len();
+        add_blocks(&mut self.payload, alloc, segments * table.blocks())?;
+        match self.device.grow(segments) {
+            Ok(()) => {
+                self.table = table;
+                Ok(())
+            }
+            Err(refusal) => {
+                self.payload.truncate(count);
+                Err(refusal_of(refusal))
+            }
+        }
     }
 
     ghost limits = { λ s. s.limits };

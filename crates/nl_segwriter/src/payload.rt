@@ -1,5 +1,5 @@
 //! Payload in memory, by block number.
-ghost use Rattle.std.specs.Prelude.{◌≡◌, ◌+◌, ◌≤◌, length, vec_len, replicate, IfOk, None};
+ghost use Rattle.std.specs.Prelude.{◌≡◌, ◌+◌, ◌-◌, ◌++◌, ◌≤◌, length, vec_len, replicate, IfOk, None, OnErr, OnOk};
 ghost use Rattle.nl_space.specs.Content.{StandInRow, SameOutside, IsEmptied};
 ghost use Rattle.nl_segwriter.specs.Writing.{held_in};
 
@@ -16,6 +16,21 @@ pub fn no_payload(alloc: Global, total: u32) -> Result<Items<Option<Payload>>, A
         blocks.push(None)?;
     }
     Ok(Items::from_vec(blocks))
+}
+
+/// Adds blocks without payload, up to so many. Refused, the table stays as it is.
+pub fn add_blocks(
+    table: &mut Items<Option<Payload>>,
+    alloc: Global,
+    total: u32,
+) -> Result<(), AllocError>
+    requires { length table.old ≤ total }
+    ensures added { OnOk result (table.new ≡ table.old ++ replicate (total - length table.old) None) }
+    ensures refused { OnErr result (table.new ≡ table.old) }
+{
+    let more = total - table.len() as u32;
+    let blocks = no_payload(alloc, more)?;
+    table.append(blocks.into_vec())
 }
 
 /// Keeps payload in a row, the first at a number.

@@ -22,4 +22,5 @@ others_do old new (event.MountRead m ask) reply no_mount no_unmount no_read ran 
 others_do old new (event.Expire now period) reply no_mount no_unmount no_read ran same = (ran, same)
 others_do old new (event.Move segment limit now) reply no_mount no_unmount no_read ran same = (ran, same)
 others_do old new (event.Retire segment) reply no_mount no_unmount no_read ran same = (ran, same)
+others_do old new (event.Resize segments) reply no_mount no_unmount no_read ran same = (ran, same)
 others_do old new (event.Listing options) reply no_mount no_unmount no_read ran same = (ran, same)

@@ -221,6 +221,7 @@ events_follow laws w old new (event.RemoveRange first last) reply before does = 
 events_follow laws w old new (event.Expire now period) reply before does = other_comes laws w old new reply before (event.Expire now period) (λ n no. no) does
 events_follow laws w old new (event.Move segment limit now) reply before does = other_comes laws w old new reply before (event.Move segment limit now) (λ n no. no) does
 events_follow laws w old new (event.Retire segment) reply before does = other_comes laws w old new reply before (event.Retire segment) (λ n no. no) does
+events_follow laws w old new (event.Resize segments) reply before does = other_comes laws w old new reply before (event.Resize segments) (λ n no. no) does
 events_follow laws w old new (event.Listing options) reply before does = other_comes laws w old new reply before (event.Listing options) (λ n no. no) does
 
 -- ---- steps of rounds: none gives a mount back

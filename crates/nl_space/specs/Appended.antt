@@ -54,6 +54,6 @@ pub record IsBrokenOff (old new : SpaceContent) (reserve : Bool) (stamp checkpoi
 abbrev pub IsAppendError : VolError → Type 0
 IsAppendError e = (e ≡ NoSpace) ⊎ ((e ≡ Fault) ⊎ (e ≡ Memory))
 
--- why a load is refused
+-- why a load is refused, or more segments are
 abbrev pub IsLoadError : VolError → Type 0
 IsLoadError e = (e ≡ Fault) ⊎ (e ≡ Memory)

@@ -1,7 +1,7 @@
 -- What a space of blocks holds, block by block, in memory and on its device.
 use Rattle.std.specs.Prelude.{◌≡◌, ℕ, ◌+◌, ◌*◌, ◌<◌, ◌≤◌, ◌⊎◌, List, [], ◌∷◌, length, slice_get, Option, Some, None}
 use Rattle.nl_types.specs.declared.geometry.Geometry.{Geometry}
-use Rattle.nl_types.specs.Segments.{Segments, IsUsed, with_clean}
+use Rattle.nl_types.specs.Segments.{Segments, IsUsed, grown_to, with_clean}
 use Rattle.nl_sufile.specs.Table.{all_clean}
 use Rattle.nl_device.specs.Pages.{DevicePages}
 use Rattle.nl_layout.specs.declared.tag.Tag.{Tag}
@@ -62,11 +62,17 @@ KeepsUsed s old new = (b : ℕ) → IsUsed s b → IsSameAt old new b
 abbrev pub HoldsOnlyUsed : SpaceContent → Type 0
 HoldsOnlyUsed c = (b : ℕ) → (IsUsed c.segments b → ⊥) → c.held b ≡ None
 
--- ---- a new space, and a segment less
+-- ---- a new space, more segments, and a segment less
 
 -- nothing is in memory, and all segments are clean
 abbrev pub new_content : Geometry → DevicePages → SpaceContent
 new_content g pages = record { segments = all_clean g; held = λ b. None; stored = pages }
+
+-- The segments are grown. Memory and the used blocks of the device have what they had.
+pub record IsGrown (count : ℕ) (old new : SpaceContent) : Type 0 where
+  pub segments : new.segments ≡ grown_to count old.segments
+  pub held : (b : ℕ) → new.held b ≡ old.held b
+  pub kept : KeepsUsed old.segments old new
 
 -- so many blocks from a number on are empty, and all others stay
 pub record IsEmptied {V : Type 0} (first count : ℕ) (old new : ℕ → Option V) : Type 0 where

@@ -1,11 +1,12 @@
 //! What the layers above know of a space of blocks.
-ghost use Rattle.std.specs.Prelude.{◌≡◌, ◌+◌, ◌*◌, ◌<◌, length, IfErr, IfOk, IsErrOf, Some, option_copied};
+ghost use Rattle.std.specs.Prelude.{◌≡◌, ◌+◌, ◌*◌, ◌<◌, ◌≤◌, length, IfErr, OnErr, OnOk, IfOk, IsErrOf, Some, option_copied};
 ghost use Rattle.std.specs.Option.{option_map};
 ghost use Rattle.nl_types.specs.Segments.{HaveLogs, IsUsed, StaysUsed, info_of};
+ghost use Rattle.nl_types.specs.Limits.{IsGeometry};
 ghost use Rattle.nl_types.specs.Placing.{LacksSpace};
 ghost use Rattle.nl_device.specs.Failures.{Failures, CountsReads, CountsWrites, FailsToRead, FailsToWrite};
 ghost use Rattle.nl_sufile.specs.Table.{IsSegTable};
-ghost use Rattle.nl_space.specs.Content.{SpaceContent, HoldsOnlyUsed, IsRowOf, KeepsUsed, IsFreed, payload_page};
+ghost use Rattle.nl_space.specs.Content.{SpaceContent, HoldsOnlyUsed, IsRowOf, KeepsUsed, IsFreed, IsGrown, payload_page};
 ghost use Rattle.nl_space.specs.Logs.{AreWholeLogs};
 ghost use Rattle.nl_space.specs.Appended.{IsAppended, IsBrokenOff, IsAppendError, IsLoadError};
 
@@ -84,6 +85,17 @@ pub trait Space: Drop {
         requires { segment < length (content self.old).segments.each }
         ensures freed { IsFreed segment (content self.old) (content self.new) }
         ensures counted { CountsWrites (failed self.old) (failed self.new) };
+
+    /// Makes it a space of so many segments, the new ones clean. Refused by `Fault` where the device failed, and by `Memory`; it
+    /// stays as it is then.
+    fn grow(&mut self, alloc: Global, segments: u32) -> Result<(), VolError>
+        requires more { length (content self.old).segments.each ≤ segments }
+        requires limits { IsGeometry segments (content self.old).segments.blocks }
+        ensures grown { OnOk result (IsGrown segments (content self.old) (content self.new)) }
+        ensures same { OnErr result (content self.new ≡ content self.old) }
+        ensures counted { CountsWrites (failed self.old) (failed self.new) }
+        ensures fault { IsErrOf result VolError.Fault → FailsToWrite (failed self.old) (failed self.new) }
+        ensures errors { IfErr result IsLoadError };
 
     /// The segments are within the limits of a volume, and tidy.
     ghost limits: { (s : Self) → IsSegTable (content s).segments };

@@ -1,16 +1,17 @@
 -- The active segment of a table.
-use Rattle.std.proofs.Common.{◌≡◌, ℕ, zero, suc, ◌+◌, ◌<◌, ◌≤◌, inl, inr, Bool, true, false, List, [], ◌∷◌, length, set, Option, Some, None, refl, ap, sym, ◌∙◌, arith, subst, length-set}
+use Rattle.std.proofs.Common.{◌≡◌, ℕ, zero, suc, ◌+◌, ◌<◌, ◌≤◌, inl, inr, Bool, true, false, List, [], ◌∷◌, ◌++◌, ◌-◌, length, set, Option, Some, None, refl, ap, sym, ◌∙◌, arith, subst, length-set}
 use Rattle.std.proofs.lemmas.Bool.{cases_eq}
 use Rattle.std.proofs.lemmas.List.{get_or-set_same, get_or-set_other}
 use Rattle.nl_types.specs.declared.segment.Position.{Position}
 use Rattle.nl_types.specs.declared.segment.SegmentInfo.{SegmentInfo}
 use Rattle.nl_types.specs.declared.segment.SegmentState.TheVariants.{Dirty, Active, Error}
+use Rattle.nl_types.specs.GrowingLaws.{InfosStay, TidyStays}
 use Rattle.nl_types.specs.Limits.{IsGeometry}
-use Rattle.nl_types.specs.Segments.{Segments, is_active, clean_from, info_of, clean_info, none_active, active_from, active_place, with_active, with_error, with_clean, IsTidy}
+use Rattle.nl_types.specs.Segments.{Segments, is_active, clean_from, info_of, clean_info, none_active, active_from, active_place, with_active, with_error, with_clean, grown_to, IsTidy}
 use Rattle.nl_types.proofs.SegmentChanges.{length-none_active, info_same, active_alone, tidy_changed, tidy_cleaned, tidy_at, lowest_is_clean}
 use Rattle.nl_types.proofs.NextLogs.{has_active}
 use Rattle.std.proofs.Math.ListN.{replicate}
-use Rattle.std.proofs.lemmas.List.{length-replicate}
+use Rattle.std.proofs.lemmas.List.{length-append, length-replicate}
 use Rattle.std.specs.List.{AllByRecursion}
 use Rattle.std.specs.Option.{IfSome}
 use Rattle.std.specs.Prelude.{slice_get}
@@ -200,3 +201,20 @@ lowest_within each (j ∷ rest) segment e there =
     let at = lowest_is_clean 0 each j rest e in
     let same : j ≡ segment = cc in
     omega (arith, at.at, at.within, same)
+
+-- more segments come behind the others
+pub table_grown : InfosStay → TidyStays → (s : Segments) (n : ℕ) (active : Option ℕ) → IsSegTable s → IsActiveIn s.each active → length s.each ≤ n → IsGeometry n s.blocks
+    → IsSegTable (grown_to n s) × IsActiveIn (s.each ++ replicate (n - length s.each) clean_info) active
+table_grown infos tidy s n active is_table known more limits = (
+  record {
+    geometry = subst (λ k. IsGeometry k s.blocks) (sym size) limits;
+    tidy = tidy n s is_table.tidy;
+  },
+  record {
+    there = λ a is. let at = known.there a is in (omega (arith, at.0, size, more), ap (λ (x : SegmentInfo). is_active x.state) (infos n a s) ∙ at.1);
+    only = λ i there. known.only i (sym (ap (λ (x : SegmentInfo). is_active x.state) (infos n i s)) ∙ there);
+  },
+)
+  where
+    size : length (grown_to n s).each ≡ n
+    size = rw (length-append, length-replicate) (omega (arith, more))

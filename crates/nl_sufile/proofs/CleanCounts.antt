@@ -1,12 +1,15 @@
 -- The clean segments of a table, as one of its segments changes.
-use Rattle.std.proofs.Common.{◌≡◌, ◌≢◌, ℕ, zero, suc, ◌+◌, ◌-◌, ◌<◌, ◌≤◌, Bool, true, false, cond, List, [], ◌∷◌, length, set, take, drop, Option, Some, None, inl, inr, refl, ap, sym, ◌∙◌, arith}
+use Rattle.std.proofs.Common.{◌≡◌, ◌≢◌, ℕ, zero, suc, ◌+◌, ◌-◌, ◌<◌, ◌≤◌, Bool, true, false, cond, List, [], ◌∷◌, ◌++◌, length, set, take, drop, Option, Some, None, inl, inr, refl, ap, sym, subst, ◌∙◌, arith}
 use Rattle.std.specs.Prelude.{MatchOption, replicate, slice_get}
 use Rattle.std.proofs.lemmas.Bool.{cases_eq}
-use Rattle.std.proofs.lemmas.List.{get_or-set_same, get_or-set_other, take_all}
+use Rattle.std.proofs.lemmas.List.{get_or-set_same, get_or-set_other, length-append, take_all}
+use Rattle.std.proofs.lemmas.List.FromFn.{length-range_with_len}
+use Rattle.std.specs.List.{range_with_len}
 use Rattle.nl_types.specs.declared.segment.SegmentInfo.{SegmentInfo}
 use Rattle.nl_types.specs.declared.segment.SegmentState.{SegmentState}
 use Rattle.nl_types.specs.declared.segment.SegmentState.TheVariants.{Clean, Dirty, Active, Error}
-use Rattle.nl_types.specs.Segments.{at_rest, clean_from, clean_info, info_of, is_clean, none_active}
+use Rattle.nl_types.specs.GrowingLaws.{CleanGrow, InfosStay}
+use Rattle.nl_types.specs.Segments.{Segments, at_rest, clean_from, clean_info, info_of, is_clean, none_active}
 use Rattle.nl_sufile.specs.declared.clean.CleanSegments.{CleanSegments}
 use Rattle.nl_sufile.specs.BySegment.{bit}
 use Rattle.nl_sufile.specs.Clean.{TellsClean}
@@ -134,6 +137,24 @@ all-clean i (suc n) = ap suc (all-clean (suc i) n)
 -- all are clean
 pub tells-new : (n : ℕ) → TellsClean (replicate n clean_info) (record { count = n; mark = 0 })
 tells-new n = record { count = sym (all-clean 0 n); none_below = λ i low. absurd (omega (arith, low)) }
+
+-- more clean ones come behind them
+pub tells-more : InfosStay → CleanGrow → (each : List SegmentInfo) (c : CleanSegments) (more : ℕ) → TellsClean each c
+    → TellsClean (each ++ replicate more clean_info) (record { count = c.count + more; mark = c.mark })
+tells-more infos clean each c more tells =
+    subst (λ k. TellsClean (each ++ replicate k clean_info) (record { count = c.count + more; mark = c.mark })) same (record {
+      count = omega (arith, tells.count, same, ap length (clean n s), length-append (clean_from 0 each) (range_with_len (length each) (n - length each)), length-range_with_len (length each) (n - length each));
+      none_below = λ i low. ap (λ (x : SegmentInfo). is_clean x.state) (infos n i s) ∙ tells.none_below i low;
+    })
+  where
+    s : Segments
+    s = record { blocks = 0; each = each }
+
+    n : ℕ
+    n = length each + more
+
+    same : n - length each ≡ more
+    same = omega arith
 
 -- one is not clean now
 module _ (each : List SegmentInfo) (k : ℕ) (info : SegmentInfo) (within : k < length each) (other : is_clean info.state ≡ false) where

@@ -1,5 +1,5 @@
 -- Counts by segment, of numbers that have blocks.
-use Rattle.std.specs.Prelude.{◌≡◌, ◌≢◌, ℕ, zero, suc, ◌+◌, ◌-◌, ◌*◌, ◌<◌, ◌≤◌, ◌&&◌, nat_le, nat_lt, Bool, true, false, if◌then◌else◌, List, length, slice_index_or, slice_set, Option, None, Some}
+use Rattle.std.specs.Prelude.{◌≡◌, ◌≢◌, ℕ, zero, suc, ◌+◌, ◌-◌, ◌*◌, ◌<◌, ◌≤◌, ◌&&◌, nat_le, nat_lt, Bool, true, false, if◌then◌else◌, List, ◌++◌, length, replicate, slice_index_or, slice_set, Option, None, Some}
 use Rattle.nl_types.specs.PartialMaps.{Partial}
 
 -- how many of the numbers 1 to n pass a test
@@ -36,6 +36,10 @@ one_more segment counts = slice_set counts segment (slice_index_or counts segmen
 abbrev pub one_less : ℕ → List ℕ → List ℕ
 one_less segment counts = slice_set counts segment (slice_index_or counts segment 0 - 1)
 
+-- the counts, with zeros behind them up to so many
+abbrev pub grown_counts : ℕ → List ℕ → List ℕ
+grown_counts segments counts = counts ++ replicate (segments - length counts) 0
+
 -- a number has a block that it had not, and no other changes
 pub record HasBlock (v b : ℕ) (old new : Partial ℕ) : Type 0 where
   pub before : old v ≡ None
@@ -64,3 +68,10 @@ abbrev pub TakenWasCounted : Type 0
 TakenWasCounted = (blocks n v b segment : ℕ) (at : Partial ℕ) (counts : List ℕ) → 1 ≤ v → v ≤ n
     → at v ≡ Some b → lies_in blocks segment (Some b) ≡ true → segment < length counts
     → AreCounts blocks n at counts → 0 < slice_index_or counts segment 0
+
+-- where no later number has a block, and none has one in a later segment, more of both change no count
+abbrev pub GrownAreCounted : Type 0
+GrownAreCounted = (blocks n more segments : ℕ) (at : Partial ℕ) (counts : List ℕ)
+    → ((v : ℕ) → n < v → at v ≡ None)
+    → ((v segment : ℕ) → length counts ≤ segment → lies_in blocks segment (at v) ≡ false)
+    → AreCounts blocks n at counts → AreCounts blocks (n + more) at (grown_counts segments counts)

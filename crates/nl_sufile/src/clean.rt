@@ -1,9 +1,10 @@
 //! The clean segments of a table: how many they are, and where the lowest one is.
-ghost use Rattle.std.specs.Prelude.{◌≡◌, ◌+◌, ◌<◌, ◌≤◌, ◌∷◌, [], MatchOption, Some, drop, false, length, slice_get, slice_set, take};
+ghost use Rattle.std.specs.Prelude.{◌≡◌, ◌+◌, ◌<◌, ◌≤◌, ◌∷◌, ◌++◌, [], List, replicate, MatchOption, Some, drop, false, length, slice_get, slice_set, take};
 ghost use Rattle.nl_types.specs.declared.segment.SegmentInfo.{SegmentInfo};
 ghost use Rattle.nl_types.specs.Segments.{clean_from, clean_info, info_of, is_clean, none_active};
 ghost use Rattle.nl_sufile.specs.Clean.{IsNextClean, TellsClean};
 
+use nl_types::laws::growing_keeps_segments;
 use nl_types::{Segment, SegmentInfo, SegmentState};
 use std::marker::Model;
 
@@ -78,6 +79,19 @@ impl CleanSegments {
             }
         } else {
             self
+        }
+    }
+
+    /// What is kept once so many clean segments come behind all others.
+    pub fn with_more(self, more: usize) -> CleanSegments
+        requires few { self.count + more ≤ 4096 }
+        ensures { (each : List SegmentInfo) → TellsClean each self
+            → TellsClean (each ++ replicate more clean_info) result }
+    {
+        growing_keeps_segments();
+        CleanSegments {
+            count: self.count + more,
+            mark: self.mark,
         }
     }
 

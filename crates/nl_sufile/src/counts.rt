@@ -1,13 +1,13 @@
 //! Counts of blocks by segment.
-ghost use Rattle.std.specs.Prelude.{◌≡◌, ◌+◌, ◌-◌, ◌<◌, ◌^◌, length, replicate, slice_get, slice_index_or, slice_set, IfOk, IsOkUnless};
+ghost use Rattle.std.specs.Prelude.{◌≡◌, ◌+◌, ◌-◌, ◌<◌, ◌≤◌, ◌^◌, OnErr, OnOk, length, replicate, slice_get, slice_index_or, slice_set, take, IfOk, IsOkUnless};
 ghost use Rattle.std.specs.Option.{ok_or};
-ghost use Rattle.nl_sufile.specs.BySegment.{one_less, one_more};
+ghost use Rattle.nl_sufile.specs.BySegment.{grown_counts, one_less, one_more};
 
 use nl_types::{Items, Segment, VolError};
 use std::alloc::{AllocError, Global};
 use std::marker::Model;
 
-/// A count of blocks for each segment, as many as there are segments from the start on. Contracts see the list of counts.
+/// A count of blocks for each segment, as many as there are segments. Contracts see the list of counts.
 #[derive(Drop)]
 pub struct SegmentCounts {
     counts: Items<u32>,
@@ -74,6 +74,23 @@ impl SegmentCounts {
         let at = segment.get() as usize;
         let count = self.counts.as_slice()[at];
         self.counts.set(at, count - 1);
+    }
+
+    /// Adds segments without a block, up to so many. Refused for memory alone; the counts stay then.
+    pub fn grow(&mut self, alloc: Global, segments: u32) -> Result<(), AllocError>
+        requires { length self.old ≤ segments }
+        ensures grown { OnOk result (self.new ≡ grown_counts segments self.old) }
+        ensures same { OnErr result (self.new ≡ self.old) }
+    {
+        let more = zeros(alloc, segments - self.counts.len() as u32)?;
+        self.counts.append(more.into_vec())
+    }
+
+    /// Keeps the first so many segments. Takes no memory.
+    pub fn shrink(&mut self, segments: u32)
+        ensures { self.new ≡ take segments self.old }
+    {
+        self.counts.truncate(segments as usize);
     }
 
     /// The same counts once more. Refused by `Memory` alone.

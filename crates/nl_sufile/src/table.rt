@@ -1,13 +1,15 @@
 //! The table of segments.
-ghost use Rattle.std.specs.Prelude.{◌≡◌, ◌↔◌, ◌<◌, ◌≤◌, ◌+◌, length, IfOk, IfErr, IsErrOf, IsTrue, IfSome, IfNone, IsOkUnless, OnOk, slice_get, slice_set, replicate};
+ghost use Rattle.std.specs.Prelude.{◌≡◌, ◌↔◌, ◌<◌, ◌≤◌, ◌+◌, ◌-◌, ◌++◌, length, IfOk, IfErr, IsErrOf, IsTrue, IfSome, IfNone, IsOkUnless, OnOk, slice_get, slice_set, replicate};
 ghost use Rattle.std.specs.Option.{ok_or};
 ghost use Rattle.nl_types.specs.declared.segment.SegmentState.TheVariants.{Active};
-ghost use Rattle.nl_types.specs.Segments.{IsUsed, active_place, clean_segments, clean_info, free_segments, info_of, lowest_clean, none_active, with_active, with_clean, with_error};
+ghost use Rattle.nl_types.specs.Limits.{IsGeometry};
+ghost use Rattle.nl_types.specs.Segments.{IsUsed, active_place, clean_segments, clean_info, free_segments, grown_to, info_of, lowest_clean, none_active, with_active, with_clean, with_error};
 ghost use Rattle.nl_types.specs.Placing.{LogsFit, LacksSpace, end_of, with_log};
 ghost use Rattle.nl_sufile.specs.Table.{IsSegTable, IsActiveIn, IsNoSpaceOrMemory, all_clean};
 
 use crate::clean::{CleanSegments, FreeSegments};
 use crate::placing::place_on;
+use nl_types::laws::growing_keeps_segments;
 use nl_types::{
     BlockNumber, Geometry, Items, Log, Position, Segment, SegmentInfo, SegmentState, VolError,
 };
@@ -198,6 +200,26 @@ impl SegTable {
         Some(segment)
     }
 
+    /// A table of so many segments, the new ones clean. Refused by `Memory` alone.
+    pub fn grown(&self, alloc: Global, segments: u32) -> Result<SegTable, VolError>
+        requires more { length self.now.each ≤ segments }
+        requires limits { IsGeometry segments self.now.blocks }
+        ensures grown { IfOk result (λ table. table ≡ grown_to segments self.now) }
+        ensures limits { IfOk result IsSegTable }
+        ensures refused { IsOkUnless result VolError.Memory }
+    {
+        growing_keeps_segments();
+        let each = grown_rows(alloc, self.each.as_slice(), segments)?;
+        let more = segments as usize - self.each.len();
+        let clean = self.clean.with_more(more);
+        Ok(SegTable {
+            blocks: self.blocks,
+            each,
+            active: self.active,
+            clean,
+        })
+    }
+
     /// A log was written, at a moment: its segment alone is active, and used up to the log's end.
     pub fn add_log(&mut self, log: Log, stamp: u64)
         requires segment { log.segment < length self.old.each }
@@ -257,6 +279,22 @@ fn clean_table(alloc: Global, segments: u32) -> Result<Items<SegmentInfo>, Alloc
     for _ in 0..segments {
         each.push(SegmentInfo::clean())?;
     }
+    Ok(Items::from_vec(each))
+}
+
+// The rows, and those of clean segments behind them up to so many.
+fn grown_rows(
+    alloc: Global,
+    rows: &[SegmentInfo],
+    segments: u32,
+) -> Result<Items<SegmentInfo>, AllocError>
+    requires { length rows.now ≤ segments }
+    ensures { IfOk result (λ each.
+        each ≡ rows.now ++ replicate (segments - length rows.now) clean_info) }
+{
+    let mut each = Vec::with_capacity(alloc, segments as usize)?;
+    each.extend_from_slice(rows)?;
+    each.resize(segments as usize, SegmentInfo::clean())?;
     Ok(Items::from_vec(each))
 }
 

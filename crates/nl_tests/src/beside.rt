@@ -145,6 +145,11 @@ const OF_ALL_KINDS: &[Call<'static>] = &[
     Call::Move(127, 1),
     Call::Retire(127),
     Call::Retire(128),
+    Call::Resize(127),
+    Call::Resize(128),
+    Call::Resize(130),
+    Call::Retire(128),
+    Call::Resize(4097),
     LISTING,
 ];
 

@@ -33,6 +33,8 @@ pub(crate) enum Call<'a> {
     /// A move out of a segment, at moment 0, with its limit.
     Move(u32, u32),
     Retire(u32),
+    /// To so many segments.
+    Resize(u32),
     Listing(Shown),
     Mount(u64),
     Unmount(u64),
@@ -112,7 +114,7 @@ pub(crate) fn path_of<'a>(call: Call<'a>) -> &'a [u8] {
         Call::Checkpoint(_) | Call::CheckpointAt(_, _) | Call::ChangeMode(_, _) => b"/f",
         Call::Remove(_) | Call::RemoveRange(_, _) | Call::Listing(_) => b"/f",
         Call::Expire(_, _) | Call::Mount(_) | Call::Unmount(_) => b"/f",
-        Call::Move(_, _) | Call::Retire(_) => b"/f",
+        Call::Move(_, _) | Call::Retire(_) | Call::Resize(_) => b"/f",
     }
 }
 
@@ -197,6 +199,7 @@ pub(crate) fn event_of(alloc: Global, call: Call<'_>) -> Result<Event, AllocErro
             now: 0,
         },
         Call::Retire(segment) => Event::Retire(Segment::new(segment)),
+        Call::Resize(segments) => Event::Resize(segments),
         Call::Listing(shown) => Event::Listing(options_of(shown)),
         Call::Mount(n) => Event::Mount(CheckpointNumber::new(n)),
         Call::Unmount(m) => Event::Unmount(MountNumber::new(m)),

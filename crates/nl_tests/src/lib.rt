@@ -29,6 +29,8 @@ mod file_calls;
 #[cfg(test)]
 mod formats;
 #[cfg(test)]
+mod growing;
+#[cfg(test)]
 mod library;
 #[cfg(test)]
 mod lines;

@@ -11,7 +11,7 @@ use nl_device::Device;
 use nl_layout::Level;
 use nl_lib::{
     Cleaned, change_cpmode, clean_segments, delete_checkpoint, get_bdescs, get_cpinfo, get_cpstat,
-    get_needed, get_suinfo, get_sustat, get_vinfo, sync,
+    get_needed, get_suinfo, get_sustat, get_vinfo, resize, sync,
 };
 use nl_sufile::Sustat;
 use nl_types::{
@@ -32,6 +32,8 @@ enum Step<'a> {
     Delete(u64, Result<(), VolError>),
     /// A cleaning of two segments at a moment: how many it retires, and the refusal that ends it.
     Clean(u32, u32, u64, usize, Option<VolError>),
+    /// To so many segments.
+    Resize(u32, Result<(), VolError>),
     /// What is told of a checkpoint.
     Checkpoint(u64, Result<Told, VolError>),
     /// The latest number, how many are kept, and how many of them are snapshots.
@@ -137,6 +139,7 @@ fn comes_out<D: Device>(alloc: Global, pen: &mut Pen<D>, step: Step<'_>) -> Resu
             let segments = [Segment::new(first), Segment::new(second)];
             clean_segments(pen, &segments, moment) == Cleaned { retired, refusal }
         }
+        Step::Resize(segments, due) => resize(pen, segments) == due,
         look => finds(alloc, pen, look),
     })
 }
@@ -304,6 +307,38 @@ const CLEANED: &[Step<'static>] = &[
     Step::Does(Call::ReadMount(1, b"/f", 0, ALL), Want::Bytes(b"A")),
 ];
 
+/// On 8 segments of 4 blocks, the same two overwrites: the third checkpoint takes more logs than are left. With 16 segments it
+/// goes through, and there are numbers up to the new last block, 64.
+const GROWN: &[Step<'static>] = &[
+    CREATE,
+    WRITE_A,
+    Step::Sync(10, Ok(2)),
+    WRITE_B,
+    Step::Sync(20, Ok(3)),
+    WRITE_C,
+    Step::Sync(30, Err(VolError::NoSpace)),
+    Step::Segments(8, 3, 5),
+    Step::Number(32, Ok(None)),
+    Step::Number(33, Err(VolError::BadRange)),
+    Step::Resize(16, Ok(())),
+    Step::Segments(16, 11, 5),
+    Step::Segment(4, Ok((Active, 20, 4))),
+    Step::Segment(15, Ok((Clean, 0, 0))),
+    Step::Segment(16, Err(VolError::BadRange)),
+    Step::Needed(15, Ok(0)),
+    Step::Number(13, Ok(Some((19, 3, 0)))),
+    Step::Number(64, Ok(None)),
+    Step::Number(65, Err(VolError::BadRange)),
+    Step::Sync(30, Ok(4)),
+    Step::Segments(16, 9, 7),
+    Step::Segment(6, Ok((Active, 30, 2))),
+    Step::Resize(8, Err(VolError::BadRange)),
+    Step::Resize(4097, Err(VolError::BadGeometry)),
+    Step::Resize(16, Ok(())),
+    Step::Segments(16, 9, 7),
+    Step::Does(Call::Read(b"/f", 0, ALL), Want::Bytes(b"C")),
+];
+
 /// Steps on a new volume of a shape.
 type Case = (Shape, &'static [Step<'static>]);
 
@@ -311,6 +346,7 @@ const CASES: &[Case] = &[
     ((16, 4, NONE_FAILS), OVERWRITTEN),
     ((16, 8, 9), DEAD),
     ((16, 8, NONE_FAILS), CLEANED),
+    ((8, 4, NONE_FAILS), GROWN),
 ];
 
 fn cases() -> &'static [Case] {

@@ -386,6 +386,40 @@ const FULL: &[Call<'static>] = &[
     PLAIN,
 ];
 
+/// A checkpoint that lacks space goes through once the volume has grown, and the mount of before reads on. Then checkpoints take
+/// numbers and segments that there were not, and what a mount needs is moved there.
+const GROWN: &[Call<'static>] = &[
+    Call::Create(b"/f"),
+    Call::Write(b"/f", 0, b"A"),
+    SNAPSHOT,
+    Call::Mount(2),
+    Call::Write(b"/f", 0, b"B"),
+    PLAIN,
+    Call::Write(b"/f", 0, b"C"),
+    PLAIN,
+    Call::Resize(24),
+    Call::ReadMount(1, b"/f", 0, ALL),
+    PLAIN,
+    Call::Fill(b"/f", 0, b'D', 18_432),
+    SNAPSHOT,
+    Call::Mount(5),
+    Call::ReadMount(2, b"/f", 0, ALL),
+    Call::ReadMount(1, b"/f", 0, ALL),
+    Call::Resize(24),
+    Call::Resize(23),
+    Call::Resize(4097),
+    Call::Move(1, 30),
+    Call::Retire(1),
+    Call::ReadMount(1, b"/f", 0, ALL),
+    Call::Resize(32),
+    Call::Write(b"/f", 0, b"E"),
+    SNAPSHOT,
+    Call::Mount(6),
+    Call::ReadMount(3, b"/f", 0, 2),
+    Call::Retire(31),
+    Call::Retire(32),
+];
+
 type Twin = (Shape, &'static [Call<'static>]);
 
 const SMALL: Shape = (16, 8, NONE_FAILS);
@@ -394,6 +428,7 @@ const TWINS: &[Twin] = &[
     (SMALL, CLEANED),
     (SMALL, MOUNTED),
     ((8, 4, NONE_FAILS), FULL),
+    ((8, 4, NONE_FAILS), GROWN),
 ];
 
 fn twins() -> &'static [Twin] {

@@ -58,7 +58,7 @@ after_unmount w m = record w { mounts = mounts_without m w.mounts }
 pub record EachEvent (cleaned : Reply) (P : Event → Outcome → Type 0) (w : World) : Type 0 where
   -- a refusal, or a call that only reads
   pub stays : (asked : Event) (reply : Reply) → IfOk reply IsNoMount → P asked (reply, w)
-  -- an event that only moves or frees blocks
+  -- an event that only moves, frees or adds blocks
   pub cleans : (asked : Event) → P asked (cleaned, w)
   pub changed : (c : Change) (done : Answer × Tree) → change w.tree c ≡ Ok done
       → P (event.Apply c) (Ok done.0, after_change w c done.1)
@@ -112,6 +112,7 @@ module _ (cleaned : Reply) (P : Event → Outcome → Type 0) (w : World) (each 
   step_gives (event.Expire now period) = each.expired now period
   step_gives (event.Move segment limit now) = each.cleans (event.Move segment limit now)
   step_gives (event.Retire segment) = each.cleans (event.Retire segment)
+  step_gives (event.Resize segments) = each.cleans (event.Resize segments)
   step_gives (event.Mount n) =
       either_gives (P (event.Mount n)) w (kept w n) _ (refused (event.Mount n)) (λ copy found.
       refused_if_gives (P (event.Mount n)) (not (is_snapshot copy.mode)) error.NotSnapshot w _ (refused (event.Mount n)) (λ snapshot.

@@ -201,6 +201,7 @@ steps_judge cleaned w (event.RemoveRange first last) judged = either_judges w (r
 steps_judge cleaned w (event.Expire now period) judged = tt
 steps_judge cleaned w (event.Move segment limit now) judged = judged
 steps_judge cleaned w (event.Retire segment) judged = judged
+steps_judge cleaned w (event.Resize segments) judged = judged
 steps_judge cleaned w (event.Mount n) judged = either_judges w (kept w n) _ (ok_or_judges (copy_at w n) error.NoCheckpoint tt) (λ copy.
     refused_if_judges (not (is_snapshot copy.mode)) error.NotSnapshot w _ tt
     (refused_if_judges (nat_le mount_number_limit (w.given + 1)) error.NumbersSpent w _ tt tt))

@@ -4,7 +4,7 @@ use Rattle.std.specs.List.{range_with_len}
 use Rattle.std.specs.Option.{option_map}
 use Rattle.nl_types.specs.declared.error.VolError.{VolError}
 use Rattle.nl_types.specs.declared.error.VolError.TheVariants.{NoSpace, Fault, Memory}
-use Rattle.nl_types.specs.Segments.{HaveLogs, IsUsed, Segments, total_blocks}
+use Rattle.nl_types.specs.Segments.{HaveLogs, IsUsed, Segments, grown_to, total_blocks}
 use Rattle.nl_types.specs.Placing.{LacksSpace}
 use Rattle.nl_types.specs.PartialMaps.{Partial, put_each, adjust_each, is_one_of, NoneTwice}
 use Rattle.nl_types.specs.Entries.{Birth, Entry, Content, number_of, written}
@@ -223,3 +223,24 @@ pub record IsReclaimed (segment count : ℕ) (old new : Store) : Type 0 where
   pub each_once : NoneTwice gone
   pub gone_are : (v : ℕ) → is_one_of gone v ≡ is_inside old.segments segment (address_in old v)
   pub count_is : count ≡ length gone
+
+-- The segments are grown, and there are as many numbers as blocks. Each number stands for what it stood for, at its block;
+-- memory and the used blocks of the device have what they had.
+pub record HasGrown (count : ℕ) (old new : Store) : Type 0 where
+  pub segments : new.segments ≡ grown_to count old.segments
+  pub numbers : (v : ℕ) → numbered_in new v ≡ numbered_in old v
+  pub payload : (b : ℕ) → payload_in new b ≡ payload_in old b
+  pub device : (b : ℕ) → IsUsed old.segments b → device_in new b ≡ device_in old b
+
+-- all that is stored is as before; only the failures of the device may be more
+pub record StaysStored (old new : Store) : Type 0 where
+  pub numbers : new.numbers ≡ old.numbers
+  pub segments : new.segments ≡ old.segments
+  pub device : new.device ≡ old.device
+  pub payload : new.payload ≡ old.payload
+
+-- why a store doesn't grow, and what is left then
+abbrev pub IsGrowthRefused : Store → Store → VolError → Type 0
+IsGrowthRefused old new Fault = (old.failures < new.failures) × (old.failed.writes < new.failed.writes) × StaysStored old new
+IsGrowthRefused old new Memory = StaysStored old new
+IsGrowthRefused old new e = ⊥

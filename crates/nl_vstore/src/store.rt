@@ -1,5 +1,6 @@
 //! What the layers above know of pages under virtual block numbers.
 ghost use Rattle.std.specs.Prelude.{◌≡◌, ◌+◌, ◌<◌, ◌≤◌, ◌^◌, length, max, IfOk, IfErr, OnOk, OnErr, option_copied};
+ghost use Rattle.nl_types.specs.Limits.{IsGeometry};
 ghost use Rattle.nl_types.specs.Segments.{IsClosed};
 ghost use Rattle.nl_types.specs.Roots.{Pages, pages_of};
 ghost use Rattle.nl_vstore.specs.Batches.{Fits, IsLowestFree, LacksSpaceFrom, last_number};
@@ -7,7 +8,7 @@ ghost use Rattle.nl_vstore.specs.Periods.{Periods, periods_of};
 ghost use Rattle.nl_vstore.specs.Located.{IsNumberAt, number_at, payload_count_in};
 ghost use Rattle.nl_vstore.specs.Counts.{IsSegmentOf};
 ghost use Rattle.nl_vstore.specs.Summaries.{IsOfLogs, payload_row};
-ghost use Rattle.nl_vstore.specs.Stores.{Store, IsStore, HasNoneFree, IsWritten, IsWriteRefused, AreInside, IsMoved, IsMoveRefused, IsReclaimed, block_in, capacity, content_in, tag_in};
+ghost use Rattle.nl_vstore.specs.Stores.{Store, IsStore, HasGrown, HasNoneFree, IsGrowthRefused, IsWritten, IsWriteRefused, AreInside, IsMoved, IsMoveRefused, IsReclaimed, block_in, capacity, content_in, tag_in};
 
 use crate::batch::Batch;
 use nl_layout::Tag;
@@ -130,6 +131,16 @@ pub trait Vstore: VRead {
     fn reclaim(&mut self, segment: Segment) -> u32
         requires { segment < length (store self.old).segments.each }
         ensures reclaimed { IsReclaimed segment result (store self.old) (store self.new) }
+        ensures counted { (store self.old).failures ≤ (store self.new).failures };
+
+    /// Makes it a store of so many segments, the new ones clean, and of as many numbers as there are blocks then.
+    ///
+    /// Refused by `Fault` where the device failed to grow, and by `Memory`. What is stored stays then.
+    fn grow(&mut self, alloc: Global, segments: u32) -> Result<(), VolError>
+        requires more { length (store self.old).segments.each ≤ segments }
+        requires limits { IsGeometry segments (store self.old).segments.blocks }
+        ensures grown { OnOk result (HasGrown segments (store self.old) (store self.new)) }
+        ensures refused { IfErr result (IsGrowthRefused (store self.old) (store self.new)) }
         ensures counted { (store self.old).failures ≤ (store self.new).failures };
 
     /// What is true of every store, whole logs and tidy segments among it.

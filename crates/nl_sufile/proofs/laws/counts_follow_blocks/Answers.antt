@@ -1,4 +1,5 @@
 use Rattle.nl_sufile.proofs.FollowedBlocks.{added-is-counted, counts-are-few, counts-change, taken-is-counted, taken-was-counted}
+use Rattle.nl_sufile.proofs.GrownCounts.{grown-are-counted}
 use Rattle.nl_sufile.proofs.laws.counts_follow_blocks.Goals as goal
 
 pub returns-clause-changes : goal.returns-clause-changes
@@ -15,3 +16,6 @@ returns-clause-few c = counts-are-few
 
 pub returns-clause-some : goal.returns-clause-some
 returns-clause-some c = taken-was-counted
+
+pub returns-clause-grown : goal.returns-clause-grown
+returns-clause-grown c = grown-are-counted

@@ -153,6 +153,16 @@ returns-in-Retire g c =
 pub invariant_of-self-in-Retire : goal.invariant_of-self-in-Retire
 invariant_of-self-in-Retire g c = record { pen = c.empty.ensures.does.pen; counts = c.empty.ensures.needed }
 
+pub returns-in-Resize : goal.returns-in-Resize
+returns-in-Resize g c =
+    let l = layout_of c.self.inside.tables.lists c.self.inside.store.store in
+    let new = layout_of c.self.inside.tables.lists c.resize.new.store.store in
+    subst (λ o. Does unshared o c.args.event.now c.resize.result new) c.self.view_is
+    (subst (λ e. Does unshared l e c.resize.result new) (sym c.in-Resize.is) c.resize.ensures.does)
+
+pub invariant_of-self-in-Resize : goal.invariant_of-self-in-Resize
+invariant_of-self-in-Resize g c = record { pen = c.resize.ensures.does.pen; counts = c.resize.ensures.needed }
+
 pub returns-in-Read : goal.returns-in-Read
 returns-in-Read g c =
     let l = c.self.inside.tables.lists in
