@@ -1,6 +1,6 @@
 #!/usr/bin/env python3
-"""Makes the images of tests/data by the formats of docs/SPECIFICATION.md, without the program, and what rows on trees, on
-needed blocks and on growing are due.
+"""Makes the images of tests/data by the formats of docs/SPECIFICATION.md, without the program, and what is due of rows that
+clean, that save or that list what is needed.
 
 Each is written from the rules, which tests/volume.py keeps: which blocks a checkpoint writes, under which numbers and where, and
 how an image spells them. So a row that opens or saves one compares the program with the rules, not with itself. Of an image too
@@ -14,11 +14,24 @@ import struct
 import subprocess
 import sys
 
-from cleaning import Configuration
+from cleaning import Configuration, Round
 from scripts import Session
-from volume import CHAIN, NO_END, TREE, Places, Volume
+from volume import CHAIN, FIRST_MARK, NO_END, TREE, Places, Volume
 
 FOLDER = os.path.dirname(os.path.realpath(__file__))
+
+
+def contents(*path):
+    """The bytes of a file of this folder. None where there is no such file."""
+    path = os.path.join(FOLDER, *path)
+    if not os.path.exists(path):
+        return None
+    with open(path, "rb") as file:
+        return file.read()
+
+
+def configuration(name):
+    return Configuration(contents("data", name).decode())
 
 
 # ---- the volumes
@@ -115,6 +128,34 @@ def grown():
     return volume
 
 
+def minors():
+    """What the row saved_minors leaves: a snapshot, a plain checkpoint, two minor ones of which the first became a snapshot, and
+    a plain one."""
+    volume = Volume(16, 8)
+    volume.create("/f")
+    for byte in b"A", b"B", b"C":
+        volume.write("/f", 0, byte)
+        volume.checkpoint(0, is_snapshot=byte == b"A")
+    Round(volume, 0, configuration("every_segment.conf"))
+    volume.write("/f", 0, b"D")
+    volume.checkpoint(0)
+    volume.kept_at(5).is_snapshot = True
+    return volume
+
+
+def last_number():
+    """A file that is written over, and one number left for checkpoints."""
+    volume = Volume(8, 4)
+    volume.create("/f")
+    for byte in b"A", b"B":
+        volume.write("/f", 0, byte)
+        volume.checkpoint(0)
+    # As if a checkpoint had been made under each number between without a change, and removed again.
+    volume.checkpoint(0)
+    volume.kept[-1].number = NO_END - 2
+    return volume
+
+
 # ---- images with a fault
 
 
@@ -150,8 +191,8 @@ def bad_images():
     # The number of the file's block in checkpoint 2, which ended at checkpoint 3.
     old_page = next(n for n, (block, _, end) in volume.numbers.items() if end == 3 and volume.device[block][:3] == b"old")
     return {
-        # The mark is NLVOL002.
-        "condition1.img": changed(image, 7, b"2"),
+        # The mark is NLVOL003.
+        "condition1.img": changed(image, 7, b"3"),
         # 7 segments.
         "condition2.img": changed(image, 8, b"\x07"),
         # A byte behind the last block.
@@ -171,6 +212,19 @@ def bad_images():
         "condition10.img": changed(image, at.entry_of_number(old_page) + 16, u64(NO_END)),
         # The last byte of the last segment.
         "condition11.img": changed(image, len(image) - 1, b"\x01"),
+    }
+
+
+def bad_flags():
+    """Images that fail condition 5 by the flags of a checkpoint: those of snapshot() with one change."""
+    volume = snapshot()
+    old = volume.image(FIRST_MARK)
+    at = [Places(volume).entry_of_checkpoint(k) + 16 for k in (0, 1)]
+    return {
+        # Of an older version, which has no minor checkpoints: 3 is plain and minor, or 2 is a snapshot and minor.
+        "first_mark_with_flag_2.img": changed(old, at[1], b"\x02"),
+        "first_mark_with_flag_3.img": changed(old, at[0], b"\x03"),
+        "flag_4.img": changed(volume.image(), at[1], b"\x04"),
     }
 
 
@@ -204,14 +258,17 @@ def bad_trees():
 def images():
     made = {
         "formatted.img": formatted().image(),
-        "chain300.img": chain300().image(),
+        "chain300.img": chain300().image(FIRST_MARK),
         "snapshot.img": snapshot().image(),
         "four.img": four().image(),
         "keep.img": keep().image(),
-        "old.img": keep(CHAIN).image(),
+        "old.img": keep(CHAIN).image(FIRST_MARK),
         "old_rewritten.img": rewritten().image(),
         "high.img": high().image(),
         "grown.img": grown().image(),
+        "first_mark.img": snapshot().image(FIRST_MARK),
+        "minors.img": minors().image(),
+        "last_number.img": last_number().image(),
     }
     # Sizes and places that the formats give for these volumes.
     assert len(made["formatted.img"]) == 35840
@@ -220,36 +277,98 @@ def images():
     assert len(made["chain300.img"]) == 538624
     # The end of number 5.
     assert made["four.img"][1392] == 3
+    # The flags of the five checkpoints.
+    assert [made["minors.img"][Places(minors()).entry_of_checkpoint(k) + 16] for k in range(5)] == [1, 0, 3, 2, 0]
     # Number 5 ends a checkpoint later, where nothing meets it.
     made["four_changed.img"] = changed(made["four.img"], 1392, b"\x04")
     # Without the last byte.
     made["cut.img"] = made["formatted.img"][:-1]
     made.update(bad_images())
+    made.update(bad_flags())
     made.update(bad_trees())
     return made
 
 
-# ---- rows on trees, on needed blocks and on growing
+# ---- rows
 
-# Rows whose output is made here, with the volume that each begins on.
-ROWS = {
-    "a_full_volume_grows": lambda: Volume(8, 4),
-    "a_grown_volume_goes_on": grown,
-    "a_volume_of_most_segments": lambda: Volume(8, 4),
-    "chain_becomes_a_tree": lambda: opened(chain300()),
-    "needed_after_each_event": lambda: Volume(16, 8),
-    "needed_after_overwrites": lambda: Volume(16, 8),
-    "needed_in_a_new_volume": lambda: Volume(16, 8),
-    "needed_in_an_opened_volume": four,
-    "shares_are_of_present_segments": lambda: Volume(8, 8),
-    "old_files_stay": lambda: opened(keep(CHAIN)),
-    "open_a_high_tree": high,
-    "saved_tree": lambda: Volume(16, 32),
-    "tree_of_four_nodes": lambda: Volume(16, 32),
-    "trees_about_a_node": lambda: Volume(16, 32),
-    "trees_of_one_block": lambda: Volume(8, 8),
-    "trees_of_three_levels": lambda: Volume(40, 2048),
+# Volumes that rows open.
+OPENED = {
+    "chain300.img": lambda: opened(chain300()),
+    "first_mark.img": snapshot,
+    "formatted.img": formatted,
+    "four.img": four,
+    "grown.img": grown,
+    "high.img": high,
+    "last_number.img": last_number,
+    "minors.img": minors,
+    "old.img": lambda: opened(keep(CHAIN)),
+    "snapshot.img": snapshot,
 }
+
+# Rows whose output and status are made here.
+ROWS = [
+    "a_full_volume_grows",
+    "a_grown_volume_goes_on",
+    "a_volume_of_most_segments",
+    "chain_becomes_a_tree",
+    "cleaning",
+    "configuration_forms",
+    "configuration_of_all_keywords",
+    "configuration_without_lines",
+    "dirty_tree_across_a_round",
+    "expiry_at_the_end_of_a_period",
+    "expiry_before_the_end_of_a_period",
+    "expiry_by_boundary",
+    "expiry_leaves_the_latest",
+    "keep",
+    "longest_period",
+    "minors_beside_a_snapshot",
+    "minors_expire_in_later_rounds",
+    "minors_of_a_round",
+    "most_of_a_round",
+    "moves_of_many_blocks",
+    "needed_after_each_event",
+    "needed_after_overwrites",
+    "needed_by_a_plain_checkpoint",
+    "needed_in_a_new_volume",
+    "needed_in_an_opened_volume",
+    "numbers_end_in_a_round",
+    "old_files_stay",
+    "oldest_segments_first",
+    "open_a_high_tree",
+    "open_and_clean",
+    "open_minors",
+    "room_for_a_checkpoint",
+    "round_after_overwrites",
+    "round_by_the_standard_values",
+    "round_under_a_mount",
+    "rounds_by_the_standard_values",
+    "save_refused",
+    "save_refused_over_an_image",
+    "save_without_a_number",
+    "saved_after_a_refusal",
+    "saved_after_usage",
+    "saved_as_opened",
+    "saved_chain",
+    "saved_dirty",
+    "saved_dirty_behind_a_round",
+    "saved_formatted",
+    "saved_four",
+    "saved_minors",
+    "saved_over_a_longer_file",
+    "saved_snapshot",
+    "saved_tree",
+    "saved_where_it_was_opened",
+    "saved_with_the_second_mark",
+    "shares_are_of_present_segments",
+    "stamps_of_moves",
+    "tree_of_four_nodes",
+    "trees_about_a_node",
+    "trees_of_one_block",
+    "trees_of_three_levels",
+    "two_thousand_overwrites",
+    "usage_clean",
+]
 
 
 def sum_of(image):
@@ -257,64 +376,68 @@ def sum_of(image):
     return subprocess.run(["cksum"], input=image, stdout=subprocess.PIPE, check=True).stdout.decode().strip()
 
 
-def configuration_of(name):
-    """What a row's configuration says, or else the standard values."""
-    with open(os.path.join(FOLDER, "rows", name + ".nlvol.args")) as args:
-        words = args.read().split()
-    if "--conf" not in words:
-        return Configuration()
-    with open(os.path.join(FOLDER, "data", words[words.index("--conf") + 1])) as file:
-        return Configuration(file.read())
+def arguments_of(name):
+    """The values of the options that a row's program is started with."""
+    words = (contents("rows", name + ".nlvol.args") or b"").decode().replace("=", "\n").split()
+    return dict(zip(words[::2], words[1::2]))
 
 
-def row_of(name, start):
-    """What a row prints, and the image that it saves."""
-    session = Session(start(), configuration_of(name))
-    with open(os.path.join(FOLDER, "rows", name + ".nlvol")) as script:
-        printed = session.run(script.read())
-    return printed, session.end()
+def row_of(name):
+    """A row's session, and what it prints."""
+    given = arguments_of(name)
+    if "--open" in given:
+        volume = OPENED[given["--open"]]()
+    else:
+        volume = Volume(int(given.get("--segments", 64)), int(given.get("--blocks", 64)))
+    session = Session(volume, configuration(given["--conf"]) if "--conf" in given else Configuration())
+    return session, session.run(contents("rows", name + ".nlvol"))
 
 
-def rows():
-    """The expected output of rows, and the sum of what they save where no image is kept."""
+def rows(data):
+    """The expected output of rows, with the sum of what they save where no image is kept, or the refusal where they save none;
+    and the file of all statuses."""
     made = {}
-    for name, start in ROWS.items():
-        printed, image = row_of(name, start)
-        made[name + ".nlvol.stdout"] = printed.encode()
-        saved = os.path.join(FOLDER, "rows", name + ".nlvol.saved")
-        if os.path.exists(saved):
-            with open(saved) as line:
-                words = line.read().split()
-            if len(words) == 3:
-                made[name + ".nlvol.saved"] = f"{words[0]} {sum_of(image)}\n".encode()
+    statuses = dict(line.split() for line in contents("statuses").decode().splitlines())
+    for name in ROWS:
+        session, printed = row_of(name)
+        made[f"rows/{name}.nlvol.stdout"] = printed.encode()
+        saved = (contents("rows", name + ".nlvol.saved") or b"").decode().split()
+        if saved:
+            image = session.end()
+            if len(saved) == 2:
+                assert image == data[saved[1]], name
+            else:
+                made[f"rows/{name}.nlvol.saved"] = f"{saved[0]} {sum_of(image)}\n".encode()
+        elif "--save" in arguments_of(name):
+            made[f"errors/{name}"] = f"save: {session.refused_end()}\n".encode()
+        statuses[name] = session.status
+    made["statuses"] = "".join(f"{name} {statuses[name]}\n" for name in sorted(statuses)).encode()
     return made
 
 
-def settle(folder, made, is_check):
+def settle(made, is_check):
     """Writes files, or tells how many differ."""
     differ = 0
     for name, data in made.items():
-        path = os.path.join(FOLDER, folder, name)
-        if not is_check:
-            with open(path, "wb") as file:
-                file.write(data)
+        if contents(name) == data:
             continue
-        there = b""
-        if os.path.exists(path):
-            with open(path, "rb") as file:
-                there = file.read()
-        if there != data:
+        path = os.path.join(FOLDER, name)
+        if is_check:
             differ += 1
             print(f"{path} differs")
+        else:
+            with open(path, "wb") as file:
+                file.write(data)
     return differ
 
 
 def main(words):
     if words not in ([], ["--check"]):
         sys.exit("usage: tests/images.py [--check]")
-    is_check = words == ["--check"]
-    differ = settle("data", images(), is_check) + settle("rows", rows(), is_check)
-    return 1 if differ else 0
+    data = images()
+    made = {f"data/{name}": image for name, image in data.items()}
+    made.update(rows(data))
+    return 1 if settle(made, words == ["--check"]) else 0
 
 
 if __name__ == "__main__":

@@ -1,16 +1,26 @@
-"""Scripts on the model of volumes: what their lines print, and the volume that they leave.
+"""Scripts on the model of volumes: what their lines print, the status that they end with, and the volume that they leave.
 
-It takes the lines that rows on trees, on needed blocks and on growing have: file calls that are done, and checkpoints, mounts,
-rounds and resizes, refused or not. For developers.
+It takes every line, and of the refusals of file calls only that of a name that isn't there. For developers.
 """
 
-import shlex
-
 from cleaning import Configuration, Round
+from lines import Usage, command_of
 from volume import ACTIVE, DIRECTORY, FILE, ROOT, Refused
 
 # The numbers of refusals.
-REFUSALS = {"NoCheckpoint": 10, "IsSnapshot": 11, "NotSnapshot": 12, "Mounted": 13, "Latest": 14, "BadRange": 15, "NoSpace": 16, "BadMount": 19, "BadGeometry": 26}
+REFUSALS = {
+    "NotFound": 1,
+    "NoCheckpoint": 10,
+    "IsSnapshot": 11,
+    "NotSnapshot": 12,
+    "Mounted": 13,
+    "Latest": 14,
+    "BadRange": 15,
+    "NoSpace": 16,
+    "BadMount": 19,
+    "NumbersSpent": 25,
+    "BadGeometry": 26,
+}
 
 
 def line_of(columns, values):
@@ -29,18 +39,25 @@ def segment_lines(volume, with_clean, with_needed):
     return lines
 
 
-def checkpoint_lines(volume):
+def selected(kept, options):
+    """The checkpoints that a listing shows, in its order. A snapshot is shown whatever made it."""
+    first = options.get("i")
+    found = []
+    for c in reversed(kept) if "r" in options else kept:
+        is_behind = first is None or (c.number <= first if "r" in options else c.number >= first)
+        is_hidden = "s" in options or (c.is_minor and "a" not in options)
+        if is_behind and (c.is_snapshot or not is_hidden):
+            found.append(c)
+    return found[: options.get("n")]
+
+
+def checkpoint_lines(kept):
     columns = (8, 12, -4, -3, 8)
     lines = [line_of(columns, ("CNO", "MOMENT", "MODE", "FLG", "ICNT"))]
-    for c in volume.kept:
-        lines.append(line_of(columns, (c.number, c.stamp, "ss" if c.is_snapshot else "cp", "-", c.inodes)))
+    for c in kept:
+        mode, flag = "ss" if c.is_snapshot else "cp", "i" if c.is_minor else "-"
+        lines.append(line_of(columns, (c.number, c.stamp, mode, flag, c.inodes)))
     return lines
-
-
-def range_of(word, latest):
-    """The ends of a range."""
-    first, last = word.split("..")
-    return int(first or 1), int(last or latest)
 
 
 class Session:
@@ -55,87 +72,143 @@ class Session:
         self.mounts = {}
         self.given = 0
         self.is_dirty = False
+        # 2 behind a line that is usage, else 1 behind a refusal.
+        self.status = 0
 
     def run(self, script):
         """Runs a script, and gives what it prints."""
-        for self.line, line in enumerate(script.splitlines(), 1):
-            if line.strip() and not line.startswith("#"):
-                name, *words = shlex.split(line)
-                try:
-                    self.printed += getattr(self, "do_" + name)(*words) or []
-                except Refused as refusal:
-                    self.printed.append(self.refused(refusal))
+        for self.line, line in enumerate(script.split(b"\n"), 1):
+            try:
+                if command := command_of(line):
+                    name, options, operands = command
+                    self.printed += getattr(self, "do_" + name)(options, *operands) or []
+            except Usage:
+                self.printed.append(f"{self.line}: usage")
+                self.status = 2
+            except Refused as refusal:
+                self.printed.append(self.refused(refusal))
         return "".join(line + "\n" for line in self.printed)
+
+    def told(self, refusal):
+        """The number and the name of a refusal, which counts for the status."""
+        name = str(refusal)
+        self.status = max(self.status, 1)
+        return f"error {REFUSALS[name]} {name}"
 
     def refused(self, refusal, checkpoint=""):
         """What tells of a refusal of the line, or of one of its checkpoints."""
-        name = str(refusal)
-        return f"{self.line}: {checkpoint}error {REFUSALS[name]} {name}"
+        return f"{self.line}: {checkpoint}{self.told(refusal)}"
 
     def end(self):
-        """What --save does in the end."""
+        """The image that --save writes in the end."""
         if self.is_dirty:
             self.volume.checkpoint(self.moment)
         return self.volume.image()
 
+    def refused_end(self):
+        """What is told where the end is refused."""
+        try:
+            self.end()
+        except Refused as refusal:
+            return self.told(refusal)
+        raise AssertionError("the end isn't refused")
+
     def changes(self):
         self.is_dirty = True
 
-    def inode_at(self, words):
-        """The inode that a path names, in the current tree or with -m in a mount."""
-        inodes = self.volume.inodes
-        if words[0] == "-m":
-            inodes = self.mounts[words[1]].files
-            words = words[2:]
+    def inodes(self, options):
+        """The inodes of the current tree, or of a mount."""
+        if "m" not in options:
+            return self.volume.inodes
+        return self.mounted(options["m"]).files
+
+    def mounted(self, mount):
+        """The checkpoint that a mount shows."""
+        if mount not in self.mounts:
+            raise Refused("BadMount")
+        return self.mounts[mount]
+
+    def inode_at(self, options, path):
+        """The inode that a path names."""
+        inodes = self.inodes(options)
         inode = inodes[ROOT]
-        for part in words[0].encode().split(b"/")[1:]:
+        for part in path.encode().split(b"/")[1:]:
             if part:
+                if part not in inode.names:
+                    raise Refused("NotFound")
                 inode = inodes[inode.names[part][0]]
         return inode
 
-    def do_create(self, path):
+    # -- file calls
+
+    def do_create(self, _, path):
         self.volume.create(path)
         self.changes()
 
-    def do_mkdir(self, path):
+    def do_mkdir(self, _, path):
         self.volume.mkdir(path)
         self.changes()
 
-    def do_rm(self, path):
+    def do_rm(self, _, path):
         self.volume.drop(path)
         self.changes()
 
     do_rmdir = do_rm
 
-    def do_mv(self, old, new):
+    def do_mv(self, _, old, new):
         if old != new:
             self.volume.rename(old, new)
             self.changes()
 
-    def do_write(self, path, offset, text):
-        self.volume.write(path, int(offset), text.encode())
-        if text:
+    def write(self, path, offset, data):
+        self.volume.write(path, offset, data)
+        if data:
             self.changes()
 
-    def do_fill(self, path, offset, byte, count):
-        self.volume.write(path, int(offset), bytes([int(byte)]) * int(count))
-        if int(count):
-            self.changes()
+    def do_write(self, _, path, offset, text):
+        self.write(path, offset, text.encode())
 
-    def do_truncate(self, path, size):
-        self.inode_at([path]).truncate(int(size))
+    def do_fill(self, _, path, offset, byte, count):
+        self.write(path, offset, bytes([byte]) * count)
+
+    def do_truncate(self, options, path, size):
+        self.inode_at(options, path).truncate(size)
         self.changes()
 
-    def do_at(self, moment):
-        self.moment = int(moment)
+    def do_cat(self, options, path):
+        return [self.inode_at(options, path).read().decode("latin-1")]
 
-    def do_mkcp(self, *options):
-        number = self.volume.checkpoint(self.moment, options == ("-s",))
+    def do_catm(self, _, mount, *paths):
+        self.mounted(mount)
+        return [line for path in paths for line in self.read_of({"m": mount}, path)]
+
+    def read_of(self, options, path):
+        """A file's bytes, or the refusal that stands in its place."""
+        try:
+            return self.do_cat(options, path)
+        except Refused as refusal:
+            return [self.refused(refusal)]
+
+    def do_stat(self, options, path):
+        inode = self.inode_at(options, path)
+        return [f"file {inode.size}" if inode.kind == FILE else f"dir {len(inode.names)}"]
+
+    def do_ls(self, options, path):
+        names = self.inode_at(options, path).names
+        return [name.decode() + "/" * (names[name][1] == DIRECTORY) for name in sorted(names)]
+
+    # -- checkpoints, mounts and rounds
+
+    def do_at(self, _, moment):
+        self.moment = moment
+
+    def do_mkcp(self, options):
+        number = self.volume.checkpoint(self.moment, "s" in options)
         self.is_dirty = False
         return [str(number)]
 
-    def do_chcp(self, mode, *numbers):
-        return [line for number in numbers for line in self.set_mode(int(number), mode == "ss")]
+    def do_chcp(self, _, is_snapshot, *numbers):
+        return [line for number in numbers for line in self.set_mode(number, is_snapshot)]
 
     def set_mode(self, number, is_snapshot):
         try:
@@ -147,57 +220,47 @@ class Session:
             return [self.refused(refusal, f"{number}: ")]
         return []
 
-    def do_rmcp(self, *ranges):
-        latest = self.volume.kept[-1].number
-        return [line for word in ranges for line in self.remove(word, latest)]
+    def do_lscp(self, options):
+        return checkpoint_lines(selected(self.volume.kept, options))
 
-    def remove(self, word, latest):
-        """What is told of the removal of a checkpoint, or of a range."""
-        is_range = ".." in word
+    def do_rmcp(self, options, *ranges):
+        latest = self.volume.kept[-1].number
+        hidden = ("NoCheckpoint", "IsSnapshot") if "f" in options else ()
+        stay = [reason for asked in ranges for reason in self.remove(asked, latest)]
+        return [self.refused(why, checkpoint) for checkpoint, why in stay if why not in hidden]
+
+    def remove(self, asked, latest):
+        """What stays of a checkpoint, or of a range, each with the reason."""
+        is_range = isinstance(asked, tuple)
         try:
             if is_range:
-                stay = self.volume.remove_range(*range_of(word, latest))
-                return [self.refused(why, f"{number}: ") for number, why in stay]
-            self.volume.remove(int(word))
+                first, last = asked
+                stay = self.volume.remove_range(first, latest if last is None else last)
+                return [(f"{number}: ", why) for number, why in stay]
+            self.volume.remove(asked)
         except Refused as refusal:
-            return [self.refused(refusal, "" if is_range else f"{word}: ")]
+            return [("" if is_range else f"{asked}: ", str(refusal))]
         return []
 
-    def do_clean(self):
+    def do_clean(self, _):
         done = Round(self.volume, self.moment, self.configuration)
         told = [f"expired {done.expired} moved {done.moved} freed {done.freed}"]
         return told + [self.refused(done.refusal)] if done.refusal else told
 
-    def do_resize(self, segments):
-        self.volume.resize(int(segments))
+    def do_lssu(self, options):
+        return segment_lines(self.volume, "a" in options, "l" in options)
 
-    def do_mount(self, number):
-        checkpoint = self.volume.kept_at(int(number))
+    def do_resize(self, _, segments):
+        self.volume.resize(segments)
+
+    def do_mount(self, _, number):
+        checkpoint = self.volume.kept_at(number)
         if not checkpoint.is_snapshot:
             raise Refused("NotSnapshot")
         self.given += 1
-        self.mounts[str(self.given)] = checkpoint
+        self.mounts[self.given] = checkpoint
         return [str(self.given)]
 
-    def do_umount(self, mount):
-        if mount not in self.mounts:
-            raise Refused("BadMount")
+    def do_umount(self, _, mount):
+        self.mounted(mount)
         del self.mounts[mount]
-
-    def do_cat(self, *words):
-        return [self.inode_at(words).read().decode("latin-1")]
-
-    def do_stat(self, *words):
-        inode = self.inode_at(words)
-        return [f"file {inode.size}" if inode.kind == FILE else f"dir {len(inode.names)}"]
-
-    def do_ls(self, *words):
-        names = self.inode_at(words).names
-        return [name.decode() + "/" * (names[name][1] == DIRECTORY) for name in sorted(names)]
-
-    def do_lssu(self, *options):
-        letters = "".join(options)
-        return segment_lines(self.volume, "a" in letters, "l" in letters)
-
-    def do_lscp(self):
-        return checkpoint_lines(self.volume)

@@ -7,6 +7,9 @@ BLOCK = 1024
 # An end that hasn't come.
 NO_END = 2**64 - 1
 
+# The marks of images: the first, of versions without minor checkpoints, and the present one.
+FIRST_MARK, SECOND_MARK = b"NLVOL001", b"NLVOL002"
+
 # The kinds of inodes, and those with fixed numbers.
 FILE, DIRECTORY, FILE_OF_INODES = 1, 2, 3
 ROOT, INODES = 2, 6
@@ -168,8 +171,19 @@ class Segment:
 class Checkpoint:
     def __init__(self, number, stamp, is_snapshot, inodes, record, files):
         self.number, self.stamp, self.is_snapshot, self.inodes, self.record = number, stamp, is_snapshot, inodes, record
+        # Whether the volume made it by itself, as it moved blocks.
+        self.is_minor = False
         # The names and the bytes, as a mount shows them.
         self.files = files
+
+    def flags(self):
+        return self.is_snapshot + 2 * self.is_minor
+
+    def minor(self, moment):
+        """The same tree once more, as the volume keeps it by itself under the next number."""
+        made = Checkpoint(self.number + 1, max(moment, self.stamp), False, self.inodes, self.record, self.files)
+        made.is_minor = True
+        return made
 
 
 class Refused(Exception):
@@ -205,6 +219,8 @@ class Volume:
 
     def file_at(self, path):
         parent, name = self.parent_of(path)
+        if name not in parent.names:
+            raise Refused("NotFound")
         return self.inodes[parent.names[name][0]]
 
     def add(self, path, kind):
@@ -224,6 +240,7 @@ class Volume:
 
     def drop(self, path):
         """Takes out a file, or a directory without names."""
+        self.file_at(path)
         parent, name = self.parent_of(path)
         number, _ = parent.names.pop(name)
         assert not self.inodes[number].names
@@ -270,11 +287,17 @@ class Volume:
         self.kept = [c for c in self.kept if c not in inside or self.why_it_stays(c)]
         return stay
 
+    def next_number(self):
+        number = self.kept[-1].number + 1
+        if number == NO_END:
+            raise Refused("NumbersSpent")
+        return number
+
     def checkpoint(self, moment, is_snapshot=False):
         """Writes what differs from the latest checkpoint: inodes ascending, the file of inodes last."""
         number, stamp = 1, moment
         if self.kept:
-            number, stamp = self.kept[-1].number + 1, max(moment, self.kept[-1].stamp)
+            number, stamp = self.next_number(), max(moment, self.kept[-1].stamp)
         births, ended, blocks = [], [], {}
         free = self.free_numbers()
         for inode in sorted(set(self.inodes) | set(self.latest) - {INODES}):
@@ -409,10 +432,13 @@ class Volume:
         return [number for _, number in sorted(found)]
 
     def move(self, numbers, moment):
-        """Writes the pages of numbers elsewhere, into any clean segment."""
+        """Writes the pages of numbers elsewhere, into any clean segment, and keeps the latest checkpoint's tree once more. No
+        number starts or ends there."""
+        checkpoint = self.next_number()
         if not self.fits(len(numbers), reserve=0):
             raise Refused("NoSpace")
-        self.append([self.pages[number] for number in numbers], self.kept[-1].number, moment)
+        self.append([self.pages[number] for number in numbers], checkpoint, moment)
+        self.kept.append(self.kept[-1].minor(moment))
 
     def retire(self, segment):
         """Takes the numbers of a segment out of use, and makes it clean."""
@@ -434,13 +460,13 @@ class Volume:
 
     # -- the image
 
-    def image(self):
+    def image(self, mark=SECOND_MARK):
         blocks = len(self.segments) * self.segment_blocks
-        superblock = struct.pack("<8sIIQ", b"NLVOL001", len(self.segments), self.segment_blocks, len(self.kept))
+        superblock = struct.pack("<8sIIQ", mark, len(self.segments), self.segment_blocks, len(self.kept))
         meta = b"".join(struct.pack("<QII", s.stamp, s.used, s.flags) for s in self.segments)
         meta += b"".join(struct.pack("<QQQ", *self.numbers.get(n, (0, 0, 0))) for n in range(1, blocks + 1))
         for c in self.kept:
-            meta += struct.pack("<QQI4xQ", c.number, c.stamp, c.is_snapshot, c.inodes) + c.record
+            meta += struct.pack("<QQI4xQ", c.number, c.stamp, c.flags(), c.inodes) + c.record
         device = b"".join(self.device.get(b, bytes(BLOCK)) for b in range(blocks))
         return padded(superblock, BLOCK) + whole_blocks(meta) + device
 

@@ -1,5 +1,5 @@
 -- Moves and retirements of a pen, as its store sees them.
-use Rattle.std.proofs.Common.{◌≡◌, ℕ, List, [], ◌∷◌, length, Result, Ok, Err, sym, ap, subst, ◌∙◌, arith}
+use Rattle.std.proofs.Common.{◌≡◌, ℕ, ◌+◌, List, [], ◌∷◌, length, Result, Ok, Err, sym, ap, subst, ◌∙◌, arith}
 use Rattle.std.specs.Prelude.{All, IsOk, map}
 use Rattle.std.proofs.lemmas.Bool.{true≢false}
 use Rattle.std.proofs.lemmas.List.Elements.{All-tail}
@@ -17,6 +17,7 @@ use Rattle.nl_reclaim.proofs.Moves.{full-moves-come-clean}
 use Rattle.nl_core.specs.CleanedPens.{kept_store, number_in}
 use Rattle.nl_core.specs.Layout.{AllowedBetween, Does, IsPen, Layout, unshared}
 use Rattle.nl_core.specs.Volume.{Lists, kept_by}
+use Rattle.nl_core.proofs.MovedNeeds.{moved-needs}
 use Rattle.nl_core.proofs.Refusals.{retirements_are_judged}
 use Rattle.nl_cleaner.specs.Laws.{AreMoves, SegmentsComeClean}
 
@@ -27,32 +28,32 @@ IsDone r = IsOk r
 pub same-needs : (old new : Layout) → new.lists ≡ old.lists → KeepsNeeds (kept_store old) (kept_store new)
 same-needs old new same v e is = ap (λ (l : Lists). is_needed (map number_in (kept_by l)) e) same
 
-pub move-is : {allowed : AllowedBetween} (old new : Layout) (segment limit now : ℕ) (answer : Answer)
+pub move-is : {allowed : AllowedBetween} (old new : Layout) (segment limit now : ℕ) (answer : Answer) → IsPen old
     → Does allowed old (Move segment limit now) (Ok answer) new
-    → HasMoved segment old.lists.table.latest.number now limit (kept_store old) (kept_store new)
-move-is old new segment limit now answer does = record {
-  needs = same-needs old new does.touches.0;
+    → HasMoved segment (old.lists.table.latest.number + 1) now limit (kept_store old) (kept_store new)
+move-is old new segment limit now answer held does = record {
+  needs = moved-needs old new segment limit now answer held does;
   moved = does.touches.1.moved.moved;
   store = does.pen.sound.store;
 }
 
 -- ---- a run of moves
 
-full-moves : (segment limit : ℕ) (old mid : Layout) (events : List Event) (replies : List Reply)
+full-moves : (segment limit : ℕ) (old mid : Layout) (events : List Event) (replies : List Reply) → IsPen old
     → AreMoves segment limit events → Run (Does unshared) old events replies mid → All IsOk replies
     → FullMoves segment limit (length events) (kept_store old) (kept_store mid)
-full-moves segment limit old mid [] [] moves run oks = ap kept_store run
-full-moves segment limit old mid (e ∷ es) (Ok answer ∷ rs) moves run oks =
+full-moves segment limit old mid [] [] held moves run oks = ap kept_store run
+full-moves segment limit old mid (e ∷ es) (Ok answer ∷ rs) held moves run oks =
     let move = moves 0 e (omega arith) in (
-      old.lists.table.latest.number,
+      old.lists.table.latest.number + 1,
       move.0,
       kept_store run.0,
-      move-is old run.0 segment limit move.0 answer (subst (λ (x : Event). Does unshared old x (Ok answer) run.0) move.1 run.1),
-      full-moves segment limit run.0 mid es rs (All-tail (λ x. (now : ℕ) × (x ≡ Move segment limit now)) e es moves) run.2 (All-tail IsDone (Ok answer) rs oks),
+      move-is old run.0 segment limit move.0 answer held (subst (λ (x : Event). Does unshared old x (Ok answer) run.0) move.1 run.1),
+      full-moves segment limit run.0 mid es rs run.1.pen (All-tail (λ x. (now : ℕ) × (x ≡ Move segment limit now)) e es moves) run.2 (All-tail IsDone (Ok answer) rs oks),
     )
-full-moves segment limit old mid (e ∷ es) (Err x ∷ rs) moves run oks = absurd (true≢false (sym (oks 0 (Err x) (omega arith))))
-full-moves segment limit old mid [] (r ∷ rs) moves run oks = absurd run
-full-moves segment limit old mid (e ∷ es) [] moves run oks = absurd run
+full-moves segment limit old mid (e ∷ es) (Err x ∷ rs) held moves run oks = absurd (true≢false (sym (oks 0 (Err x) (omega arith))))
+full-moves segment limit old mid [] (r ∷ rs) held moves run oks = absurd run
+full-moves segment limit old mid (e ∷ es) [] held moves run oks = absurd run
 
 -- ---- and then a retirement
 
@@ -70,7 +71,7 @@ segments-come-clean segment limit old mid new events replies (Ok answer) held di
     let retires : Retires segment (Ok emptied.count) (kept_store mid) (kept_store new) =
     record { answers = sym emptied.judged; reclaimed = emptied.reclaimed } in
     let clean = full-moves-come-clean segment limit (length events) (kept_store old) (kept_store mid) (kept_store new) (Ok emptied.count)
-    held.sound.store dirty enough (full-moves segment limit old mid events replies moves run oks) retires in
+    held.sound.store dirty enough (full-moves segment limit old mid events replies held moves run oks) retires in
     (ap Ok (emptied.answer_is ∙ ap Freed (counts emptied.count clean.0)), ap (λ i. i) clean.1)
   where
     counts : (count : ℕ) → ◌≡◌ {A = Result ℕ VolError} (Ok count) (Ok (length (numbers_in mid.store segment))) → count ≡ length (numbers_in mid.store segment)
@@ -79,7 +80,7 @@ segments-come-clean segment limit old mid new events replies (Err e) held dirty 
     let judged = retirements_are_judged mid new segment e (pen-behind old mid events replies held run) does in
     let retires : Retires segment (Err e) (kept_store mid) (kept_store new) = record { answers = sym judged; reclaimed = tt } in
     let clean = full-moves-come-clean segment limit (length events) (kept_store old) (kept_store mid) (kept_store new) (Err e)
-    held.sound.store dirty enough (full-moves segment limit old mid events replies moves run oks) retires in
+    held.sound.store dirty enough (full-moves segment limit old mid events replies held moves run oks) retires in
     absurd (apart clean.0)
   where
     apart : ◌≡◌ {A = Result ℕ VolError} (Err e) (Ok (length (numbers_in mid.store segment))) → ⊥

@@ -1,5 +1,5 @@
 -- A round of cleaning, as the pen's store sees it.
-use Rattle.std.proofs.Common.{◌≡◌, ℕ, suc, ◌==◌, Bool, true, false, cond, List, [], ◌∷◌, Some, None, Ok, Err, refl, sym, ap, subst, ◌∙◌, inl, inr, arith}
+use Rattle.std.proofs.Common.{◌≡◌, ℕ, suc, ◌+◌, ◌==◌, Bool, true, false, cond, List, [], ◌∷◌, Some, None, Ok, Err, refl, sym, ap, subst, ◌∙◌, inl, inr, arith}
 use Rattle.std.specs.Prelude.{All, Contains, IsOk}
 use Rattle.std.proofs.lemmas.Bool.{true≢false}
 use Rattle.std.proofs.lemmas.List.Elements.{All-tail}
@@ -16,7 +16,7 @@ use Rattle.nl_reclaim.proofs.Rounds.{rounds-leave-nothing-dead}
 use Rattle.nl_core.specs.CleanedPens.{kept_store}
 use Rattle.nl_core.specs.CleanerViews.{cleaning_event}
 use Rattle.nl_core.specs.CleaningEvents.{needed_by}
-use Rattle.nl_core.specs.Layout.{Does, Layout, unshared}
+use Rattle.nl_core.specs.Layout.{Does, IsPen, Layout, unshared}
 use Rattle.nl_cleaner.specs.Job.{Cleaning, Expiring, JobView, Stepped, answered, next_by, next_event, noted, noted_by}
 use Rattle.nl_cleaner.specs.declared.job.Stage.{Stage}
 use Rattle.nl_cleaner.specs.Laws.{RoundsLeaveNothingDead}
@@ -40,13 +40,13 @@ record Cleaned (now period : ℕ) (before : List ℕ) (old : Layout) (new : JobV
   job : new.0 ≡ cleaning now period left
   cleans : IsRoundEvent before (kept_store old) left (kept_store new.1)
 
-module _ (now period segment : ℕ) (rest : List ℕ) (old : Layout) (new : JobView × Layout) (answer : Answer) where
+module _ (now period segment : ℕ) (rest : List ℕ) (old : Layout) (new : JobView × Layout) (answer : Answer) (held : IsPen old) where
   moved : Does unshared old (Move segment 30 now) (Ok answer) new.1 → new.0 ≡ answered answer (cleaning now period (segment ∷ rest))
       → Cleaned now period (segment ∷ rest) old new
   moved does is = record {
     left = segment ∷ rest;
     job = is ∙ ap (λ (a : Answer). answered a (cleaning now period (segment ∷ rest))) does.touches.1.answer_is;
-    cleans = inl (refl, old.lists.table.latest.number, now, 30, move-is old new.1 segment 30 now answer does);
+    cleans = inl (refl, old.lists.table.latest.number + 1, now, 30, move-is old new.1 segment 30 now answer held does);
   }
 
   emptied : Does unshared old (Retire segment) (Ok answer) new.1 → new.0 ≡ answered answer (cleaning now period (segment ∷ rest))
@@ -79,11 +79,11 @@ module _ (now period segment : ℕ) (rest : List ℕ) (old : Layout) (new : JobV
       moved-or : cleaning_event old segment now ≡ Move segment 30 now → Cleaned now period (segment ∷ rest) old new
       moved-or e = moved (subst (λ (x : Event). Does unshared old x (Ok answer) new.1) (some-is (cleaning_event old segment now) event next ∙ e) does) is
 
-one-event : (now period : ℕ) (left : List ℕ) (old : Layout) (new : JobView × Layout) (event : Event) (answer : Answer)
+one-event : (now period : ℕ) (left : List ℕ) (old : Layout) (new : JobView × Layout) (event : Event) (answer : Answer) → IsPen old
     → Stepped (cleaning now period left, old) event (Ok answer) new → Cleaned now period left old new
-one-event now period [] old new event answer step = absurd (none-some event step.next)
-one-event now period (segment ∷ rest) old new event answer step =
-    by-count now period segment rest old new answer (needed_count old.store (needed_by old.lists) segment == 0) refl event step.next step.does step.job
+one-event now period [] old new event answer held step = absurd (none-some event step.next)
+one-event now period (segment ∷ rest) old new event answer held step =
+    by-count now period segment rest old new answer held (needed_count old.store (needed_by old.lists) segment == 0) refl event step.next step.does step.job
 
 -- ---- to the end of a round
 
@@ -92,18 +92,18 @@ none-left now period [] l h = refl
 none-left now period (segment ∷ rest) l h = absurd (none-some (cleaning_event l segment now) (sym h))
 
 all-events : (now period : ℕ) (left : List ℕ) (old new : Layout) (job end : JobView) (events : List Event) (replies : List Reply)
-    → job ≡ cleaning now period left → Run Stepped (job, old) events replies (end, new) → All IsOk replies → next_event end new ≡ None
+    → IsPen old → job ≡ cleaning now period left → Run Stepped (job, old) events replies (end, new) → All IsOk replies → next_event end new ≡ None
     → (n : ℕ) × AreRoundEvents n left (kept_store old) [] (kept_store new)
-all-events now period left old new job end [] [] is run oks over =
+all-events now period left old new job end [] [] held is run oks over =
     let same : end ≡ cleaning now period left = ap (λ (s : JobView × Layout). s.0) run ∙ is in
     (0, (none-left now period left new (ap (λ (j : JobView). next_event j new) (sym same) ∙ over), ap (λ (s : JobView × Layout). kept_store s.1) run))
-all-events now period left old new job end (e ∷ es) (Ok answer ∷ rs) is run oks over =
-    let first = one-event now period left old run.0 e answer (subst (λ (j : JobView). Stepped (j, old) e (Ok answer) run.0) is run.1) in
-    let rest = all-events now period first.left run.0.1 new run.0.0 end es rs first.job run.2 (All-tail IsDone (Ok answer) rs oks) over in
+all-events now period left old new job end (e ∷ es) (Ok answer ∷ rs) held is run oks over =
+    let first = one-event now period left old run.0 e answer held (subst (λ (j : JobView). Stepped (j, old) e (Ok answer) run.0) is run.1) in
+    let rest = all-events now period first.left run.0.1 new run.0.0 end es rs run.1.does.pen first.job run.2 (All-tail IsDone (Ok answer) rs oks) over in
     (suc rest.0, (first.left, kept_store run.0.1, first.cleans, rest.1))
-all-events now period left old new job end (e ∷ es) (Err x ∷ rs) is run oks over = absurd (true≢false (sym (oks 0 (Err x) (omega arith))))
-all-events now period left old new job end [] (r ∷ rs) is run oks over = absurd run
-all-events now period left old new job end (e ∷ es) [] is run oks over = absurd run
+all-events now period left old new job end (e ∷ es) (Err x ∷ rs) held is run oks over = absurd (true≢false (sym (oks 0 (Err x) (omega arith))))
+all-events now period left old new job end [] (r ∷ rs) held is run oks over = absurd run
+all-events now period left old new job end (e ∷ es) [] held is run oks over = absurd run
 
 among : (left : List ℕ) (i : ℕ) → Contains left i → is_one_of left i ≡ true
 among left i (k, within, is) = subst (λ (n : ℕ). is_one_of left n ≡ true) is (is_one_of-get_or left k i within)
@@ -123,7 +123,7 @@ rounds-leave-nothing job end old new [] [] held stage dirty run oks over =
 rounds-leave-nothing job end old new (e ∷ es) (Ok answer ∷ rs) held stage dirty run oks over =
     let expire : e ≡ Expire job.moment job.period = some-is (Expire job.moment job.period) e (sym (expiring-next job old stage) ∙ run.1.next) in
     let does : Does unshared old (Expire job.moment job.period) (Ok answer) run.0.1 = subst (λ (x : Event). Does unshared old x (Ok answer) run.0.1) expire run.1.does in
-    let all = all-events job.moment job.period job.left run.0.1 new run.0.0 end es rs (run.1.job ∙ expired-job job answer stage) run.2 (All-tail IsDone (Ok answer) rs oks) over in
+    let all = all-events job.moment job.period job.left run.0.1 new run.0.0 end es rs does.pen (run.1.job ∙ expired-job job answer stage) run.2 (All-tail IsDone (Ok answer) rs oks) over in
     rounds-leave-nothing-dead all.0 (kept_store old) (kept_store run.0.1) (kept_store new) job.left held.sound.store
     (λ i is. among job.left i (dirty i is)) does.touches.1 all.1
 rounds-leave-nothing job end old new (e ∷ es) (Err x ∷ rs) held stage dirty run oks over = absurd (true≢false (sym (oks 0 (Err x) (omega arith))))

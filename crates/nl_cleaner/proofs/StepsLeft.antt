@@ -1,5 +1,5 @@
 -- Each step of a round leaves fewer.
-use Rattle.std.proofs.Common.{◌≡◌, ◌≢◌, ℕ, ◌*◌, ◌-◌, ◌<◌, ◌≤◌, ◌==◌, Bool, true, false, cond, List, [], ◌∷◌, length, Option, Some, None, Ok, Err, refl, sym, ap, subst, ◌∙◌, true≢false, arith}
+use Rattle.std.proofs.Common.{◌≡◌, ◌≢◌, ℕ, ◌+◌, ◌*◌, ◌-◌, ◌<◌, ◌≤◌, ◌==◌, Bool, true, false, cond, List, [], ◌∷◌, length, Option, Some, None, Ok, Err, refl, sym, ap, subst, ◌∙◌, true≢false, arith}
 use Rattle.std.specs.Prelude.{IsOk, slice_get}
 use Rattle.std.proofs.lemmas.List.{length-drop}
 use Rattle.std.proofs.lemmas.Bool.{eq-eqb}
@@ -66,8 +66,8 @@ closed s segment ok = by (slice_get s.each segment) refl ok
 after-move : {allowed : AllowedBetween} (old new : Layout) (segment now : ℕ) (answer : Answer) → IsPen old
     → Does allowed old (Move segment 30 now) (Ok answer) new → needed_of new segment ≡ needed_of old segment - 30
 after-move old new segment now answer held does =
-    let first = move-takes-first segment old.lists.table.latest.number now 30 (kept_store old) (kept_store new)
-    held.sound.store (closed old.store.segments segment does.touches.1.moved.judged) (move-is old new segment 30 now answer does) in
+    let first = move-takes-first segment (old.lists.table.latest.number + 1) now 30 (kept_store old) (kept_store new)
+    held.sound.store (closed old.store.segments segment does.touches.1.moved.judged) (move-is old new segment 30 now answer held does) in
     ap (λ (vs : List ℕ). length vs) first.needed ∙ length-drop 30 (needed_now (kept_store old) segment)
 
 -- ---- a step at the first segment that is left

@@ -84,7 +84,7 @@ impl Job {
     }
 
     /// Takes note of the reply to the event that came next. A refused expiry ends the round, and so does want of
-    /// space or of memory or a fault; a retirement and any other refusal bring the next segment.
+    /// numbers, of space or of memory, or a fault; a retirement and any other refusal bring the next segment.
     pub fn note(&mut self, reply: &Reply)
         ensures { self.new ≡ noted self.old reply.now }
     {
@@ -105,7 +105,8 @@ impl Job {
     }
 
     /// Does the next event of the round, and answers the pen's reply to it; None where the round is over. A refusal for want
-    /// of space or of memory or for a fault ends the round; where a segment can't be cleaned, it goes on to the next one.
+    /// of numbers, of space or of memory, or for a fault ends the round; where a segment can't be cleaned, it goes on to the
+    /// next one.
     pub fn step<D: Device>(&mut self, pen: &mut Pen<D>) -> Option<Reply>
         ensures stepped { MatchOption result (IsOver (self.old, pen.old) (self.new, pen.new))
             (λ reply. (event : Event) × Stepped (self.old, pen.old) event reply (self.new, pen.new)) }

@@ -97,7 +97,7 @@ module _ (pages : Pages) where
   HasTree c = StandsForTree pages (root_of (root_in c)) c.inodes
 
   pub copy_of : (c : Checkpoint) → HasTree c → Copy
-  copy_of c t = record { tree = t.tree; mode = c.mode; stamp = c.stamp }
+  copy_of c t = record { tree = t.tree; mode = c.mode; minor = c.minor; stamp = c.stamp }
 
   pub copy_of-tree : (c : Checkpoint) (t : HasTree c) → (copy_of c t).tree ≡ t.tree
   unfolding copy_of
@@ -112,6 +112,7 @@ module _ (pages : Pages) where
   copy-means c t = record {
     number = refl;
     mode = refl;
+    minor = refl;
     stamp = refl;
     inodes = sym t.means.count;
     tree = record { held = t.holding; holds = t.holds; means = record { sound = t.holds.sound; means = t.means.means } };

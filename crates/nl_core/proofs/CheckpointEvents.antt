@@ -47,7 +47,7 @@ rows-told pages (c ∷ kept) (copy ∷ copies) means =
       number = sym means.0.number i;
       stamp = sym means.0.stamp i;
       mode = sym means.0.mode i;
-      minor = false;
+      minor = sym means.0.minor i;
       inodes = means.0.inodes i;
     } in
     let rest = rows-told pages kept copies means.1 in
@@ -84,6 +84,7 @@ one-moded pages n mode c copy means =
     by true = record {
       number = means.number;
       mode = refl;
+      minor = means.minor;
       stamp = means.stamp;
       inodes = means.inodes;
       tree = means.tree;

@@ -1,8 +1,9 @@
 -- The counts of a pen's needed blocks behind each event.
-use Rattle.std.proofs.Common.{◌≡◌, ℕ, ◌+◌, ◌<◌, ◌≤◌, Bool, true, List, [], ◌∷◌, ◌++◌, length, slice_get, take, Option, Result, Ok, Err, inl, inr, refl, ap, sym, subst, ◌∙◌, arith}
-use Rattle.std.specs.Prelude.{IfOk, OnErr, map, max}
+use Rattle.std.proofs.Common.{◌≡◌, ℕ, ◌+◌, ◌<◌, ◌≤◌, Bool, true, List, [], ◌∷◌, ◌++◌, length, slice_get, take, Option, Result, Ok, Err, inl, inr, refl, ap, sym, subst, ◌∙◌, arith, true≢false}
+use Rattle.std.specs.Prelude.{IfOk, IsOk, MatchResult, OnErr, map, max, min}
 use Rattle.std.specs.List.{AllPairs}
 use Rattle.std.specs.Option.{ok_or, option_map}
+use Rattle.std.proofs.lemmas.List.{length-take}
 use Rattle.std.proofs.lemmas.List.FromFn.{get_or-map-range_with_len, length-map-range_with_len}
 use Rattle.std.proofs.lemmas.Option.{slice_get_cases}
 use Rattle.nl_types.specs.declared.error.VolError.{VolError}
@@ -23,13 +24,13 @@ use Rattle.nl_types.specs.Worlds.{Reply}
 use Rattle.nl_vstore.specs.Batches.{Changes}
 use Rattle.nl_vstore.specs.Counts.{needed_counts}
 use Rattle.nl_vstore.specs.Located.{by_period, needed_count, needed_in}
-use Rattle.nl_vstore.specs.Stores.{IsMoveRefused, IsMoved, IsReclaimed, IsStore, Store}
-use Rattle.nl_reclaim.specs.Cleaning.{CanBeMoved, HasListedFirst, HasListedNone, HasMovedFirst, HasMovedNone, freed_by, judged_info, retired, retired_with, split}
-use Rattle.nl_reclaim.specs.Moves.{ListedMovesAreFirst, RefusedListsAreNone, RefusedMovesAreNone}
+use Rattle.nl_vstore.specs.Stores.{IsMoveRefused, IsMoved, IsReclaimed, IsStore, Store, capacity, content_in}
+use Rattle.nl_reclaim.specs.Cleaning.{CanBeMoved, HasListedFirst, HasListedNone, HasMovedFirst, freed_by, judged_for, judged_info, retired, retired_with, split}
+use Rattle.nl_reclaim.specs.Moves.{ListedMovesAreFirst}
 use Rattle.nl_reclaim.specs.declared.moving.MoveCount.{MoveCount}
 use Rattle.nl_counts.specs.Counted.{Counted, IsCounted}
 use Rattle.nl_counts.specs.Events.{AreNeededIn, HasMovedNeeded, IsLatest, IsNextWritten, TellsNeeds}
-use Rattle.nl_counts.specs.Laws.{FirstNeededStandThere, RefusedWritesKeepCounts, RetirementsKeepCounts}
+use Rattle.nl_counts.specs.Laws.{EmptyCheckpointsKeepCounts, FirstNeededStandThere, RefusedWritesKeepCounts, RetirementsKeepCounts}
 use Rattle.nl_cpfile.specs.Searching.{IsLeastAbove}
 use Rattle.nl_cpfile.specs.Tables.{all, moded, rows}
 use Rattle.nl_cpfile.specs.Tables as cpfile
@@ -38,11 +39,12 @@ use Rattle.nl_cpfile.proofs.Rising.{map-push}
 use Rattle.nl_layout.specs.Root.{root_of}
 use Rattle.nl_tree.specs.Held.{Holding}
 use Rattle.nl_files.specs.TreeLaws.{StandsOverLatest}
-use Rattle.nl_core.specs.CleaningEvents.{kept_numbers, needed_by}
+use Rattle.nl_core.specs.CleaningEvents.{HasMovedNothing, IsMoveRefusal, kept_numbers, needed_by}
+use Rattle.nl_core.specs.Draft.{HasNextNumber, IsDraftRefusal}
 use Rattle.nl_core.specs.Layout.{HasRefused, IsPen, IsSoundPen, Layout, layout_of, ledger_of, pages_in, reached_by}
 use Rattle.nl_core.specs.NeededBlocks.{AreNeededCounts, HasLostBetween, HasWrittenBatch, IsSpanOf}
 use Rattle.nl_core.specs.LedgerEvents.{taken_out}
-use Rattle.nl_core.specs.Volume.{IsExpired, IsTakenOut, IsTakenOutRange, Lists, kept_by, latest_root, with_checkpoint_mode, without_checkpoints}
+use Rattle.nl_core.specs.Volume.{IsExpired, IsTakenOut, IsTakenOutRange, Lists, kept_by, latest_root, minor_checkpoint, with_checkpoint_mode, with_minor, without_checkpoints}
 use Rattle.nl_core.proofs.Checkpoints.{differs-behind, kept-next, number-next}
 use Rattle.nl_core.proofs.CleaningEvents.{none_needed}
 use Rattle.nl_core.proofs.ExpiredNumbers.{without-none}
@@ -50,6 +52,7 @@ use Rattle.nl_core.proofs.KeptLists.{among-found, in-span, left-or-gone, left-wa
 use Rattle.nl_core.proofs.KeptNumbers.{found-among}
 use Rattle.nl_core.proofs.Ledgers.{stands-latest}
 use Rattle.nl_core.proofs.NeededNumbers.{needs-same, staying-all}
+use Rattle.nl_core.proofs.NothingChanged.{keeps-same, nothing-fits, nothing-written}
 use Rattle.nl_core.proofs.Outside.{retired-inside}
 use Rattle.nl_core.proofs.TableChanges.{all-with_mode, all-without, left, moded-same}
 
@@ -188,33 +191,90 @@ abbrev needed-there : Lists → Entry → Bool
 needed-there l = by_period (is_period_needed (staying 0 (rows l.table)))
 
 -- what a pen's tables list is what its kept checkpoints need
-listed-first : (l : Lists) (s : Store) (segment limit count : ℕ) (listed : List ℕ) → HasListedFirst (needed-there l) segment limit s listed count
+pub listed-first : (l : Lists) (s : Store) (segment limit count : ℕ) (listed : List ℕ) → HasListedFirst (needed-there l) segment limit s listed count
     → HasListedFirst (needed_by l) segment limit s listed count
 listed-first l s segment limit count listed has =
     subst (λ (needed : Entry → Bool). HasListedFirst needed segment limit s listed count) (needs-same l) has
 
-pub listed-needed : (l : Lists) (s : Store) (segment limit : ℕ) (listed : List ℕ) (count : ℕ) → HasListedFirst (needed-there l) segment limit s listed count
-    → listed ≡ take limit (needed_in s (needed_by l) segment)
-listed-needed l s segment limit listed count has = (listed-first l s segment limit count listed has).first
+pub not-listed : (l : Lists) (s : Store) (segment limit moment : ℕ) (e : VolError) → HasListedNone segment limit s e
+    → HasMovedNothing segment limit moment l s s e
+not-listed l s segment limit moment e has = by (judged_for s.segments segment limit) has
+  where
+    by : (r : Result SegmentInfo VolError) → MatchResult r (λ _. e ≡ error.Memory) (λ refusal. e ≡ refusal)
+        → MatchResult r (λ _. IsMoveRefusal segment limit moment l s s e) (λ refusal. (e ≡ refusal) × (s ≡ s))
+    by (Ok i) is = subst (IsMoveRefusal segment limit moment l s s) (sym is) (keeps-same s s refl)
+    by (Err f) is = (is, refl)
 
-pub not-listed : RefusedListsAreNone → (l : Lists) (s : Store) (segment limit moment : ℕ) (e : VolError) → HasListedNone segment limit s e
-    → HasMovedNone (needed_by l) segment limit l.table.latest.number moment s s e
-not-listed none l s segment limit moment e has = none (needed_by l) segment limit l.table.latest.number moment s e has
+-- of a segment that may be cleaned
+module _ (l : Lists) (old new : Store) (segment limit moment count : ℕ) (listed : List ℕ)
+    (has : HasListedFirst (needed_by l) segment limit old listed count) where
+  refused-there : (e : VolError) → IsMoveRefusal segment limit moment l old new e → HasMovedNothing segment limit moment l old new e
+  refused-there e refused = by (judged_for old.segments segment limit) has.judged
+    where
+      by : (r : Result SegmentInfo VolError) → IsOk r
+          → MatchResult r (λ _. IsMoveRefusal segment limit moment l old new e) (λ refusal. (e ≡ refusal) × (new ≡ old))
+      by (Ok i) ok = refused
+      by (Err f) ok = absurd (true≢false (sym ok))
 
-pub not-moved : RefusedMovesAreNone → (l : Lists) (old new : Store) (segment limit checkpoint moment count : ℕ) (listed : List ℕ) (e : VolError)
-    → HasListedFirst (needed-there l) segment limit old listed count → checkpoint ≡ l.table.latest.number → IsMoveRefused checkpoint moment listed old new e
-    → HasMovedNone (needed_by l) segment limit l.table.latest.number moment old new e
-not-moved none l old new segment limit checkpoint moment count listed e has latest refused =
-    subst (λ (n : ℕ). HasMovedNone (needed_by l) segment limit n moment old new e) latest
-    (none (needed_by l) segment limit checkpoint moment count listed old new e (listed-first l old segment limit count listed has) refused)
+  -- where numbers are spent, or memory is refused
+  pub not-drafted : (e : VolError) → 0 < length listed → new ≡ old → IsDraftRefusal l e → HasMovedNothing segment limit moment l old new e
+  not-drafted error.NumbersSpent some same refused =
+      let most : length listed ≡ min limit (needed_count old (needed_by l) segment) =
+      ap length has.first ∙ length-take limit (needed_in old (needed_by l) segment) in
+      refused-there error.NumbersSpent (same, omega (arith, some, most), refused)
+  not-drafted error.Memory some same refused = refused-there error.Memory (keeps-same old new same)
+  not-drafted _ some same refused = absurd refused
 
-pub moved-listed : ListedMovesAreFirst → (l : Lists) (old new : Store) (segment limit checkpoint moment count : ℕ) (listed : List ℕ) (m : MoveCount)
-    → HasListedFirst (needed-there l) segment limit old listed count → checkpoint ≡ l.table.latest.number → m ≡ split (length listed) count
-    → IsMoved segment checkpoint moment listed old new → HasMovedFirst (needed_by l) segment limit l.table.latest.number moment old new m
-moved-listed first l old new segment limit checkpoint moment count listed m has latest is moved =
-    subst (λ (n : ℕ). HasMovedFirst (needed_by l) segment limit n moment old new m) latest
-    (subst (HasMovedFirst (needed_by l) segment limit checkpoint moment old new) (sym is)
-    (first (needed_by l) segment limit checkpoint moment count listed old new (listed-first l old segment limit count listed has) moved))
+  -- where the blocks are not moved
+  pub not-moved : (checkpoint : ℕ) (e : VolError) → HasNextNumber l → checkpoint ≡ l.table.latest.number + 1
+      → IsMoveRefused checkpoint moment listed old new e → HasMovedNothing segment limit moment l old new e
+  not-moved checkpoint e left next refused = refused-there e (of e there)
+    where
+      there : IsMoveRefused (l.table.latest.number + 1) moment (take limit (needed_in old (needed_by l) segment)) old new e
+      there = subst (λ (n : ℕ). IsMoveRefused n moment (take limit (needed_in old (needed_by l) segment)) old new e) next
+          (subst (λ (vs : List ℕ). IsMoveRefused checkpoint moment vs old new e) has.first refused)
+
+      of : (e : VolError) → IsMoveRefused (l.table.latest.number + 1) moment (take limit (needed_in old (needed_by l) segment)) old new e
+          → IsMoveRefusal segment limit moment l old new e
+      of error.NumbersSpent refused = absurd refused
+      of error.NoSpace refused = (left, refused)
+      of error.Fault refused = (left, refused)
+      of e refused = refused
+
+  pub moved-listed : ListedMovesAreFirst → (checkpoint : ℕ) (m : MoveCount) → checkpoint ≡ l.table.latest.number + 1 → m ≡ split (length listed) count
+      → IsMoved segment checkpoint moment listed old new → HasMovedFirst (needed_by l) segment limit (l.table.latest.number + 1) moment old new m
+  moved-listed first checkpoint m next is moved =
+      subst (λ (n : ℕ). HasMovedFirst (needed_by l) segment limit n moment old new m) next
+      (subst (HasMovedFirst (needed_by l) segment limit checkpoint moment old new) (sym is)
+      (first (needed_by l) segment limit checkpoint moment count listed old new has moved))
+
+  -- as many as are listed
+  pub moved-some : (m : MoveCount) → m ≡ split (length listed) count → 0 < length listed → 0 < m.moved
+  moved-some m is some =
+      let most : length listed ≡ min limit (needed_count old (needed_by l) segment) =
+      ap length has.first ∙ length-take limit (needed_in old (needed_by l) segment) in
+      let all = has.total in
+      let moved : m.moved ≡ min (length listed) count = ap (λ (m : MoveCount). m.moved) is in
+      omega (arith, some, most, all, moved)
+
+pub kept-minor : (moment : ℕ) (l : Lists) → kept_numbers (with_minor moment l) ≡ kept_numbers l ++ (l.table.latest.number + 1) ∷ []
+kept-minor moment l = map-push (λ (c : Checkpoint). c.number) (kept_by l) (minor_checkpoint moment l)
+
+-- one checkpoint more, at which no number starts or ends
+pub minor-counted : EmptyCheckpointsKeepCounts → (moment : ℕ) (l : Layout) (c : Counted) → IsPen l → AreNeededCounts l c
+    → AreNeededCounts (layout_of (with_minor moment l.lists) l.store) c
+minor-counted keep moment l c pen counted =
+    subst (λ (kept : List ℕ). IsCounted l.store kept c) (sym (kept-minor moment l.lists))
+    (keep (l.lists.table.latest.number + 1) (kept_numbers l.lists) c l.store l.store pen.sound.store (record {
+      sound = pen.sound.store;
+      latest = l.lists.table.latest.number;
+      is_latest = latest-of l pen.sound;
+      next = refl;
+      fits = nothing-fits (capacity l.store) (content_in l.store);
+      ends_once = λ i j d before within. absurd (omega (arith, within));
+      stamp = moment;
+      written = nothing-written (l.lists.table.latest.number + 1) moment l.store;
+    }) counted)
 
 pub moved-needed : FirstNeededStandThere → (l : Lists) (old new : Store) (segment limit checkpoint stamp : ℕ) (listed numbers : List ℕ) → IsStore old
     → numbers ≡ listed → listed ≡ take limit (needed_in old (needed_by l) segment) → CanBeMoved segment listed old

@@ -50,7 +50,7 @@ same_number pages n c copy m = ap (eq_by_cmp nat_cmp n) m.number
 
 found_by : (pages : Pages) (b : Bool) (c : Checkpoint) (copy : ℕ × Copy) (o : Option Checkpoint) (p : Option Copy)
     → CopyMeans pages c copy → HasCopy pages o p → HasCopy pages (cond b (Some c) o) (cond b (Some copy.1) p)
-found_by pages true c copy o p m rest = (copy.1, refl, record { number = refl; mode = m.mode; stamp = m.stamp; inodes = m.inodes; tree = m.tree })
+found_by pages true c copy o p m rest = (copy.1, refl, record { number = refl; mode = m.mode; minor = m.minor; stamp = m.stamp; inodes = m.inodes; tree = m.tree })
 found_by pages false c copy o p m rest = rest
 
 find_copy : (pages : Pages) (kept : List Checkpoint) (copies : List (ℕ × Copy)) (n : ℕ) → AllZip (CopyMeans pages) kept copies

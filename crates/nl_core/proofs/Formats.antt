@@ -171,6 +171,9 @@ module _ (geometry : Geometry) (device : DevicePages) (failures : Failures) wher
     mode : latest.mode ≡ Plain
     mode = ap (λ (l : Lists). l.table.latest.mode) writes.lists
 
+    minor : latest.minor ≡ false
+    minor = ap (λ (l : Lists). l.table.latest.minor) writes.lists
+
     stamp : latest.stamp ≡ now
     stamp = ap (λ (l : Lists). l.table.latest.stamp) writes.lists ∙ (let most : max now 0 ≡ now = omega arith in most)
 
@@ -244,7 +247,7 @@ module _ (geometry : Geometry) (device : DevicePages) (failures : Failures) wher
       world = formatted_is_world now;
       tree = current-means new first_holding root_alone stands;
       dirty = sym (ap (λ (l : Lists). l.dirty) writes.lists);
-      copies = (record { number = sym number; mode = sym mode; stamp = sym stamp; inodes = inodes; tree = copy-after }, tt);
+      copies = (record { number = sym number; mode = sym mode; minor = sym minor; stamp = sym stamp; inodes = inodes; tree = copy-after }, tt);
       mounts = sym (ap (λ (l : Lists). map mount_of l.mounts) writes.lists);
       given = sym (ap (λ (l : Lists). l.given) writes.lists);
     }

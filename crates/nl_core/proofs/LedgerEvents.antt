@@ -1,6 +1,7 @@
 -- Each event of a pen is events of its ledger.
-use Rattle.std.proofs.Common.{◌≡◌, ℕ, List, [], ◌∷◌, ◌++◌, take, refl, ap, sym, subst, ◌∙◌}
-use Rattle.std.specs.Prelude.{Result, Ok, Err, MatchResult, map}
+use Rattle.std.proofs.Common.{◌≡◌, ℕ, zero, suc, ◌+◌, ◌==◌, ◌<◌, Bool, true, false, cond, not, List, [], ◌∷◌, ◌++◌, take, refl, ap, sym, subst, ◌∙◌, arith, true≢false}
+use Rattle.std.specs.Prelude.{if◌then◌else◌, Result, Ok, Err, MatchResult, map}
+use Rattle.std.proofs.lemmas.Bool.{cond-false, cond-true}
 use Rattle.nl_types.specs.declared.error.VolError.{VolError}
 use Rattle.nl_types.specs.declared.error.VolError.TheVariants as error
 use Rattle.nl_types.specs.declared.event.Event.{Event}
@@ -11,20 +12,23 @@ use Rattle.nl_types.specs.declared.reply.Answer.{Answer}
 use Rattle.nl_types.specs.declared.reply.Answer.TheVariants as answer
 use Rattle.nl_types.specs.declared.segment.SegmentInfo.{SegmentInfo}
 use Rattle.nl_types.specs.Lifetimes.{CoveredNumbersStay, EachAllowed, EndsOnceSince, KeepsCovered, Ledger, LedgerEvent, NumbersEndOnce, Reclaim, Remove, Write, ledger_after, ledger_after_all}
+use Rattle.nl_types.specs.Worlds.{is_moving}
 use Rattle.nl_vstore.specs.Located.{needed_in}
 use Rattle.nl_vstore.specs.Stores.{IsMoveRefused, IsStore}
 use Rattle.nl_reclaim.specs.Cleaning.{judged_for}
 use Rattle.nl_reclaim.specs.Reclaims.{stood_in}
-use Rattle.nl_core.specs.CleanedPens.{LeavesPen, StaysPen}
-use Rattle.nl_core.specs.CleaningEvents.{needed_by}
+use Rattle.nl_core.specs.CleanedPens.{AddsMinor, LeavesPen, StaysPen}
+use Rattle.nl_core.specs.CleaningEvents.{HasMovedOut, IsMoveRefusal, needed_by}
+use Rattle.nl_core.specs.Draft.{HasNextNumber}
 use Rattle.nl_core.specs.LedgerEvents.{EventsAreLedgerEvents, LedgerGoesOn, RunsAreLedgerEvents, RunsKeepNumbers, done_events}
 use Rattle.nl_core.specs.Layout.{AllowedBetween, HasDone, HasPublished, HasRefused, HasRetired, IsPen, Layout, layout_of, ledger_of}
-use Rattle.nl_core.specs.Volume.{IsTakenOut}
+use Rattle.nl_core.specs.Volume.{IsTakenOut, Lists, moved_lists, with_minor}
 use Rattle.nl_core.proofs.Checkpointing.{ledger-same}
 use Rattle.nl_core.proofs.Checkpoints.{allowed-behind, ledger-behind}
 use Rattle.nl_core.proofs.CleanedPens.{moves_keep_pens, refused_moves_keep_pens, retirements_keep_pens}
 use Rattle.nl_core.proofs.CleaningEvents.{none_needed}
 use Rattle.nl_core.proofs.Ledgers.{stands-latest}
+use Rattle.nl_core.proofs.MinorPens.{minors_keep_pens, nothing-allowed}
 use Rattle.nl_core.proofs.ModeChanges.{ledger-moded}
 use Rattle.nl_core.proofs.Removals.{each-allowed, ledger-left}
 use Rattle.nl_core.proofs.ResizedPens.{resized-ledger, unresized-ledger}
@@ -69,6 +73,42 @@ module _ (old new : Layout) (pen : IsPen old) where
       (none_needed old.lists old.store segment emptied.count emptied.judged) emptied.reclaimed in
       record { each = (leaves.allowed, tt); after = leaves.ledger }
 
+  -- where blocks were moved, a checkpoint without births and ends was written
+  moved-segment : (segment limit moment : ℕ) (a : Answer) → new.lists ≡ moved_lists moment a old.lists
+      → HasMovedOut segment limit moment a old.lists old.store new.store → IsStore new.store
+      → GoesOn (if is_moving (Ok a) then Write [] [] ∷ [] else [])
+  moved-segment segment limit moment a lists moved store = by (is_moving (Ok a)) refl
+    where
+      mid : Layout
+      mid = layout_of old.lists new.store
+
+      kept : StaysPen old mid
+      kept = moves_keep_pens segment (old.lists.table.latest.number + 1) moment (take limit (needed_in old.store (needed_by old.lists) segment))
+          old mid pen refl store moved.moved.moved
+
+      some : (m : ℕ) → not (m == 0) ≡ true → 0 < m
+      some zero is = absurd (true≢false (sym is))
+      some (suc m) is = omega arith
+
+      by : (b : Bool) → is_moving (Ok a) ≡ b → GoesOn (cond b (Write [] [] ∷ []) [])
+      by false idle = stays (ap (λ (l : Lists). ledger_of (layout_of l new.store)) same ∙ kept.ledger)
+        where
+          same : new.lists ≡ old.lists
+          same = lists ∙ cond-false (is_moving (Ok a)) (with_minor moment old.lists) old.lists idle
+      by true moving = record {
+        each = (nothing-allowed (ledger_of old), tt);
+        after = ap (λ (l : Lists). ledger_of (layout_of l new.store)) more ∙ minor.ledger ∙ ap (ledger_after (Write [] [])) kept.ledger;
+      }
+        where
+          more : new.lists ≡ with_minor moment old.lists
+          more = lists ∙ cond-true (is_moving (Ok a)) (with_minor moment old.lists) old.lists moving
+
+          left : HasNextNumber old.lists
+          left = moved.left (some moved.count.moved (sym (ap (λ (b : Answer). is_moving (Ok b)) moved.answer_is) ∙ moving))
+
+          minor : AddsMinor moment mid (layout_of (with_minor moment old.lists) new.store)
+          minor = minors_keep_pens moment mid kept.pen left
+
   done-goes_on : (e : Event) (a : Answer) (done : HasDone old e a new) → IsStore new.store → GoesOn (done_events old new e a done)
   done-goes_on (Checkpoint mode moment) a done store = checkpointed mode moment done
   done-goes_on (event.Remove n) a done store = removed (n ∷ []) done.0 done.1
@@ -77,11 +117,7 @@ module _ (old new : Layout) (pen : IsPen old) where
   done-goes_on (Expire now period) (answer.Expired gone) done store = removed gone done.0.taken done.1
   done-goes_on (Expire now period) a done store = absurd done.0
   done-goes_on (Retire segment) a done store = retired-segment segment a done store
-  done-goes_on (Move segment limit moment) a done store =
-      let numbers : List ℕ = take limit (needed_in old.store (needed_by old.lists) segment) in
-      let kept : StaysPen old new =
-      moves_keep_pens segment old.lists.table.latest.number moment numbers old new pen done.0 store done.1.moved.moved in
-      stays kept.ledger
+  done-goes_on (Move segment limit moment) a done store = moved-segment segment limit moment a done.0 done.1 store
   done-goes_on (Resize segments) a done store = stays (resized-ledger old new pen done.0 store done.1.grown)
   done-goes_on (ChangeMode n mode) a done store = stays (ap ledger_of done ∙ ledger-moded old n mode)
   done-goes_on (Apply change) a done store = stays (ap ledger_of done.0)
@@ -100,15 +136,27 @@ module _ (old new : Layout) (pen : IsPen old) where
       numbers : List ℕ
       numbers = take limit (needed_in old.store (needed_by old.lists) segment)
 
+      same : new.store ≡ old.store → ledger_of new ≡ ledger_of old
+      same is = λ i. ledger_of (layout_of (refused.0 i) (is i))
+
+      moved-none : (e : VolError) → IsMoveRefused (old.lists.table.latest.number + 1) moment numbers old.store new.store e → ledger_of new ≡ ledger_of old
+      moved-none e none =
+          let kept : StaysPen old new =
+          refused_moves_keep_pens (old.lists.table.latest.number + 1) moment numbers e old new pen refused.0 store none in
+          kept.ledger
+
+      of : (e : VolError) → IsMoveRefusal segment limit moment old.lists old.store new.store e → ledger_of new ≡ ledger_of old
+      of error.NumbersSpent none = same none.0
+      of error.NoSpace none = moved-none error.NoSpace none.1
+      of error.Fault none = moved-none error.Fault none.1
+      of e none = moved-none e none
+
       by : (r : Result SegmentInfo VolError)
-          → MatchResult r (λ _. IsMoveRefused old.lists.table.latest.number moment numbers old.store new.store e)
+          → MatchResult r (λ _. IsMoveRefusal segment limit moment old.lists old.store new.store e)
           (λ refusal. (e ≡ refusal) × (new.store ≡ old.store))
           → ledger_of new ≡ ledger_of old
-      by (Ok i) none =
-          let kept : StaysPen old new =
-          refused_moves_keep_pens old.lists.table.latest.number moment numbers e old new pen refused.0 store none in
-          kept.ledger
-      by (Err f) none = λ i. ledger_of (layout_of (refused.0 i) (none.1 i))
+      by (Ok i) none = of e none
+      by (Err f) none = same none.1
   refused-same (Retire segment) e refused store = same-layout refused.0
   refused-same (Resize segments) e refused store = unresized-ledger old new segments e pen refused store
   refused-same (Apply change) e refused store = same-layout refused

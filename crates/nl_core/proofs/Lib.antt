@@ -15,6 +15,9 @@ pub mod CheckpointEvents
 pub mod Views
 pub mod Drafted
 pub mod Checkpointing
+pub mod NothingChanged
+pub mod CleanedPens
+pub mod MinorPens
 pub mod CleaningEvents
 pub mod NeededNumbers
 pub mod ExpiredNumbers
@@ -22,11 +25,11 @@ pub mod Refusals
 pub mod FirstLogs
 pub mod Formats
 pub mod KeptNumbers
-pub mod CleanedPens
 pub mod ResizedPens
 pub mod Outside
 pub mod KeptLists
 pub mod CountedPens
+pub mod MovedNeeds
 pub mod FirstCounts
 pub mod NextCleaning
 pub mod LedgerEvents

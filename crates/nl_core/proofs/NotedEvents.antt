@@ -18,7 +18,7 @@ use Rattle.nl_vstore.specs.Stores.{IsStore}
 use Rattle.nl_core.specs.CleaningEvents.{needed_by}
 use Rattle.nl_core.specs.Layout.{Does, HasRefused, IsPen, Layout, Touches, cleaned, unshared}
 use Rattle.nl_core.specs.NeededBlocks.{HasWrittenBatch}
-use Rattle.nl_core.specs.Notes.{AreCommitsOf, ChangesLists, DoesNoting, HasNoted, HasNotedWrite, has_other_mode, new_checkpoint, shared, where_any, where_true}
+use Rattle.nl_core.specs.Notes.{AreCommitsOf, ChangesLists, DoesNoting, HasNoted, HasNotedWrite, has_other_mode, moved_as, new_checkpoint, shared, where_any, where_true}
 use Rattle.nl_core.specs.declared.commit.Commit.{Commit}
 use Rattle.nl_core.specs.declared.commit.Commit.TheVariants.{Freed, ModeSet, Resized, Written}
 use Rattle.nl_core.proofs.Checkpointing.{does-refused, does-written}
@@ -118,7 +118,7 @@ noting-unretired l segment before after pen same =
 abbrev pub IsUnseen : Event → Type 0
 IsUnseen (event.Apply c) = Unit {0}
 IsUnseen (event.Read a) = Unit {0}
-IsUnseen (event.Move segment limit now) = Unit {0}
+IsUnseen (event.Move segment limit now) = ⊥
 IsUnseen (event.MountRead m a) = Unit {0}
 IsUnseen (event.Listing options) = Unit {0}
 IsUnseen (event.Checkpoint mode moment) = ⊥
@@ -140,7 +140,7 @@ module _ (old new : Layout) (before : List Commit) (pen : IsPen old) where
   none-noted : (event : Event) (a : Answer) → IsUnseen event → HasNoted old event a new []
   none-noted (event.Apply c) a unseen = refl
   none-noted (event.Read ask) a unseen = refl
-  none-noted (event.Move segment limit now) a unseen = refl
+  none-noted (event.Move segment limit now) a unseen = absurd unseen
   none-noted (event.MountRead m ask) a unseen = refl
   none-noted (event.Listing options) a unseen = refl
   none-noted (event.Checkpoint mode moment) a unseen = absurd unseen
@@ -208,6 +208,22 @@ pub noting-not_retired : (old new : Layout) (segment : ℕ) (e : VolError) (befo
     → DoesNoting old (event.Retire segment) (Err e) new before after
 noting-not_retired old new segment e before after pen does same =
     noting-refused old (event.Retire segment) new before after pen e (does-shared old new (event.Retire segment) (Err e) does) same
+
+-- ---- moves
+
+module _ (old new : Layout) (segment limit moment : ℕ) (before after : List Commit) (pen : IsPen old) where
+  pub noting-moved : (a : Answer) → Does unshared old (event.Move segment limit moment) (Ok a) new
+      → after ≡ before ++ moved_as a new.lists.table.latest
+      → DoesNoting old (event.Move segment limit moment) (Ok a) new before after
+  noting-moved a does behind =
+      noting old (event.Move segment limit moment) new before after pen (Ok a) (moved_as a new.lists.table.latest)
+      (does-shared old new (event.Move segment limit moment) (Ok a) does) behind refl
+
+  pub noting-not_moved : (e : VolError) → Does unshared old (event.Move segment limit moment) (Err e) new → after ≡ before
+      → DoesNoting old (event.Move segment limit moment) (Err e) new before after
+  noting-not_moved e does same =
+      noting-refused old (event.Move segment limit moment) new before after pen e
+      (does-shared old new (event.Move segment limit moment) (Err e) does) same
 
 -- ---- resizes
 

@@ -52,10 +52,11 @@ checkpoint-one : (c d : Checkpoint) (e : CheckpointEntry) → IsEntryOf c e → 
 checkpoint-one c d e a b =
     let number = sym a.number ∙ b.number in
     let mode = sym a.mode ∙ b.mode in
+    let minor = sym a.minor ∙ b.minor in
     let stamp = sym a.stamp ∙ b.stamp in
     let root = fields-one c.root d.root (sym a.root ∙ b.root) in
     let inodes = sym a.inodes ∙ b.inodes in
-    λ i. record { number = number i; mode = mode i; stamp = stamp i; root = root i; inodes = inodes i }
+    λ i. record { number = number i; mode = mode i; minor = minor i; stamp = stamp i; root = root i; inodes = inodes i }
 
 kept-one : (kept others : List Checkpoint) (entries : List CheckpointEntry) → AllZip IsEntryOf kept entries
     → AllZip IsEntryOf others entries → kept ≡ others

@@ -46,8 +46,9 @@ copy-one pages c copy other m n =
     let number = m.number ∙ sym n.number in
     let tree = root-one pages (root_in c) copy.1.tree other.1.tree m.tree n.tree in
     let mode = m.mode ∙ sym n.mode in
+    let minor = m.minor ∙ sym n.minor in
     let stamp = m.stamp ∙ sym n.stamp in
-    λ i. (number i, record { tree = tree i; mode = mode i; stamp = stamp i })
+    λ i. (number i, record { tree = tree i; mode = mode i; minor = minor i; stamp = stamp i })
 
 -- and a list of them one list of copies
 pub copies-one : (pages : Pages) (kept : List Checkpoint) (copies others : List (ℕ × Copy))

@@ -16,7 +16,7 @@ use Rattle.nl_types.specs.declared.reply.Answer.TheVariants as answer
 use Rattle.nl_types.specs.Limits.{checkpoint_number_limit}
 use Rattle.nl_types.specs.Roots.{Pages}
 use Rattle.nl_types.specs.Trees.{Tree}
-use Rattle.nl_types.specs.Worlds.{IsWorld, World, Reply, Copy, greatest, numbers, latest, latest_stamp, step}
+use Rattle.nl_types.specs.Worlds.{IsWorld, World, Reply, Copy, copy_at, greatest, numbers, latest, latest_stamp, step}
 use Rattle.nl_layout.specs.Root.{root_of}
 use Rattle.nl_tree.specs.Became.{Current, holding_over}
 use Rattle.nl_tree.specs.Held.{Holding}
@@ -55,7 +55,7 @@ tied : (n : ℕ) → eq_by_cmp nat_cmp n n ≡ true
 tied n = grind (arith, nat_tests)
 
 -- and the last copy is found at its number
-find-push : (front : List (ℕ × Copy)) (last : ℕ × Copy) → IsTrue (is_sorted nat_cmp (front ++ last ∷ []))
+pub find-push : (front : List (ℕ × Copy)) (last : ℕ × Copy) → IsTrue (is_sorted nat_cmp (front ++ last ∷ []))
     → find nat_cmp last.0 (front ++ last ∷ []) ≡ Some last.1
 find-push [] last sorted = cond-true (eq_by_cmp nat_cmp last.0 last.0) (Some last.1) None (tied last.0)
 find-push (copy ∷ front) last sorted =
@@ -64,14 +64,14 @@ find-push (copy ∷ front) last sorted =
     ∙ find-push front last parts.1
 
 -- the last copy stands for the last checkpoint
-record EndsIn (pages : Pages) (c : Checkpoint) (copies : List (ℕ × Copy)) : Type 0 where
+pub record EndsIn (pages : Pages) (c : Checkpoint) (copies : List (ℕ × Copy)) : Type 0 where
   pub front : List (ℕ × Copy)
   pub last : ℕ × Copy
   pub is : copies ≡ front ++ last ∷ []
   pub means : CopyMeans pages c last
 
 -- where copies stand for checkpoints, so does the last one
-ends-in : (pages : Pages) (kept : List Checkpoint) (c : Checkpoint) (copies : List (ℕ × Copy))
+pub ends-in : (pages : Pages) (kept : List Checkpoint) (c : Checkpoint) (copies : List (ℕ × Copy))
     → AllZip (CopyMeans pages) (kept ++ c ∷ []) copies → EndsIn pages c copies
 ends-in pages [] c [] means = absurd means
 ends-in pages [] c (copy ∷ []) means = record { front = []; last = copy; is = refl; means = means.0 }
@@ -83,12 +83,19 @@ ends-in pages (k ∷ kept) c (copy ∷ copies) means =
 
 module _ (pages : Pages) (l : Lists) (w : World) (means : Means pages l w) where
   -- how the copies end
-  ends : EndsIn pages l.table.latest w.copies
+  pub ends : EndsIn pages l.table.latest w.copies
   ends = ends-in pages l.table.earlier l.table.latest w.copies means.copies
 
   -- they ascend
   sorted : IsTrue (is_sorted nat_cmp (ends.front ++ ends.last ∷ []))
   sorted = subst (λ (copies : List (ℕ × Copy)). IsTrue (is_sorted nat_cmp copies)) ends.is means.world.numbers_rise
+
+  -- the latest copy is the last one
+  pub latest-copy : copy_at w (latest w) ≡ Some ends.last.1
+  latest-copy =
+      ap (λ copies. find nat_cmp (greatest (numbers copies)) copies) ends.is
+      ∙ ap (λ n. find nat_cmp n (ends.front ++ ends.last ∷ [])) (greatest-push ends.front ends.last sorted)
+      ∙ find-push ends.front ends.last sorted
 
   -- the latest number of a world is the latest checkpoint's
   pub latest-means : latest w ≡ l.table.latest.number
@@ -105,7 +112,7 @@ module _ (pages : Pages) (l : Lists) (w : World) (means : Means pages l w) where
 -- ---- copies
 
 -- one more checkpoint and its copy
-copies-push : (pages : Pages) (kept : List Checkpoint) (copies : List (ℕ × Copy)) (c : Checkpoint) (copy : ℕ × Copy)
+pub copies-push : (pages : Pages) (kept : List Checkpoint) (copies : List (ℕ × Copy)) (c : Checkpoint) (copy : ℕ × Copy)
     → AllZip (CopyMeans pages) kept copies → CopyMeans pages c copy
     → AllZip (CopyMeans pages) (kept ++ c ∷ []) (copies ++ copy ∷ [])
 copies-push pages [] [] c copy means here = (here, means)
@@ -119,6 +126,7 @@ copy-stays : (pages more : Pages) (c : Checkpoint) (copy : ℕ × Copy)
 copy-stays pages more c copy stays means = record {
   number = means.number;
   mode = means.mode;
+  minor = means.minor;
   stamp = means.stamp;
   inodes = means.inodes;
   tree = record {
@@ -164,7 +172,7 @@ root-means l now base tree stands = record {
 
 -- the copy that it makes
 abbrev copy_behind : World → Mode → ℕ → Copy
-copy_behind w mode moment = record { tree = w.tree; mode = mode; stamp = max moment (latest_stamp w) }
+copy_behind w mode moment = record { tree = w.tree; mode = mode; minor = false; stamp = max moment (latest_stamp w) }
 
 -- the world behind it
 abbrev world_behind : World → Mode → ℕ → World
@@ -197,6 +205,7 @@ module _ (old new : Layout) (mode : Mode) (moment : ℕ) (sound : IsSoundPen old
   copied = record {
     number = ap (λ n. n + 1) (latest-means (pages_in old) old.lists w means) ∙ sym (number-next old new mode moment writes);
     mode = sym (ap (λ (c : Checkpoint). c.mode) (latest-next old new mode moment writes));
+    minor = sym (ap (λ (c : Checkpoint). c.minor) (latest-next old new mode moment writes));
     stamp = ap (max moment) (latest_stamp-means (pages_in old) old.lists w means)
         ∙ sym (ap (λ (c : Checkpoint). c.stamp) (latest-next old new mode moment writes));
     inodes = ap (λ (c : Checkpoint). c.inodes) (latest-next old new mode moment writes) ∙ sym means.tree.stands.stands.count;

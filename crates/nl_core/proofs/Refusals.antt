@@ -1,5 +1,5 @@
 -- What a refused event leaves, and when space is the reason.
-use Rattle.std.proofs.Common.{◌≡◌, ◌≢◌, ℕ, refl, subst, inl, inr, sym, ap, take, ◌∙◌}
+use Rattle.std.proofs.Common.{◌≡◌, ◌≢◌, ℕ, ◌+◌, refl, subst, inl, inr, sym, ap, take, ◌∙◌}
 use Rattle.std.specs.Prelude.{true, length, List, ◌++◌, ◌∷◌, Result, Ok, Err, IfErr, MatchResult}
 use Rattle.nl_types.specs.declared.error.VolError.{VolError}
 use Rattle.nl_types.specs.declared.error.VolError.TheVariants as error
@@ -15,23 +15,14 @@ use Rattle.nl_vstore.specs.Batches.{items_of}
 use Rattle.nl_vstore.specs.Located.{needed_in}
 use Rattle.nl_vstore.specs.Stores.{IsMoveRefused, KeepsStored, StaysStored, Store}
 use Rattle.nl_reclaim.specs.Cleaning.{judged_for, retired}
-use Rattle.nl_core.specs.CleaningEvents.{HasResizedNone, needed_by}
+use Rattle.nl_core.specs.CleaningEvents.{HasResizedNone, IsMoveRefusal, needed_by}
 use Rattle.nl_core.proofs.CleaningEvents.{cleaned_judges}
 use Rattle.nl_layout.specs.declared.root.Root.{Root}
 use Rattle.nl_core.specs.Laws.{IsAsBefore, MemoryIsTaken, RefusalsKeepPens, RefusalsHaveReasons, NoSpaceIsTrue, NoSpaceIsSaid}
 use Rattle.nl_core.specs.Volume.{latest_root}
 use Rattle.nl_core.specs.Layout.{AllowedBetween, Does, HasRefused, IsPen, LacksSpaceToSettle, Layout, Settled, cleaned, unshared}
+use Rattle.nl_core.proofs.NothingChanged.{keeps-same}
 use Rattle.nl_core.proofs.Settlings.{births-alike, count-items}
-
--- a store keeps what it stores where it is the same
-keeps-same : (old new : Store) → new ≡ old → KeepsStored old new
-keeps-same old new same = record {
-  numbers = ap (λ (s : Store). s.numbers) same;
-  segments = ap (λ (s : Store). s.segments) same;
-  device = ap (λ (s : Store). s.device) same;
-  payload = ap (λ (s : Store). s.payload) same;
-  writes = ap (λ (s : Store). s.failed.writes) same;
-}
 
 move-kept : (checkpoint stamp : ℕ) (numbers : List ℕ) (e : VolError) (old new : Store) → IsMoveRefused checkpoint stamp numbers old new e
     → (e ≢ error.Fault) → KeepsStored old new
@@ -76,10 +67,16 @@ refused_same (Move segment limit moment) e old new refused other = (refused.0, b
     numbers : List ℕ
     numbers = take limit (needed_in old.store (needed_by old.lists) segment)
 
+    of : (e : VolError) → IsMoveRefusal segment limit moment old.lists old.store new.store e → (e ≢ error.Fault) → KeepsStored old.store new.store
+    of error.NumbersSpent none other = keeps-same old.store new.store none.0
+    of error.NoSpace none other = move-kept (old.lists.table.latest.number + 1) moment numbers error.NoSpace old.store new.store none.1 other
+    of error.Fault none other = absurd (other refl)
+    of e none other = move-kept (old.lists.table.latest.number + 1) moment numbers e old.store new.store none other
+
     by : (r : Result SegmentInfo VolError)
-        → MatchResult r (λ _. IsMoveRefused old.lists.table.latest.number moment numbers old.store new.store e) (λ refusal. (e ≡ refusal) × (new.store ≡ old.store))
+        → MatchResult r (λ _. IsMoveRefusal segment limit moment old.lists old.store new.store e) (λ refusal. (e ≡ refusal) × (new.store ≡ old.store))
         → KeepsStored old.store new.store
-    by (Ok i) none = move-kept old.lists.table.latest.number moment numbers e old.store new.store none other
+    by (Ok i) none = of e none other
     by (Err f) none = keeps-same old.store new.store none.1
 
 pub refusals_keep_pens : (allowed : AllowedBetween) → RefusalsKeepPens allowed

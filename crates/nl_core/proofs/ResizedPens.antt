@@ -1,6 +1,6 @@
 -- What a resize does to a pen, as an event.
-use Rattle.std.proofs.Common.{◌≡◌, ℕ, zero, suc, ◌+◌, ◌-◌, ◌*◌, ◌<◌, ◌≤◌, Bool, true, false, cond, List, [], ◌∷◌, ◌++◌, length, map, Option, None, refl, sym, ap, subst, ◌∙◌, inl, inr, arith, true≢false}
-use Rattle.std.specs.Prelude.{is_ok, nat_lt, replicate, slice_index_or, Result, Ok, Err}
+use Rattle.std.proofs.Common.{◌≡◌, ℕ, zero, suc, ◌+◌, ◌-◌, ◌*◌, ◌<◌, ◌≤◌, Bool, true, false, cond, List, [], ◌∷◌, ◌++◌, length, Option, None, refl, sym, ap, ◌∙◌, inl, inr, arith, true≢false}
+use Rattle.std.specs.Prelude.{is_ok, nat_lt, replicate, slice_index_or, Ok, Err}
 use Rattle.std.specs.Option.{option_map}
 use Rattle.std.proofs.Math.Nat.{mul-le-mul_right}
 use Rattle.std.proofs.Math.ListN.{get_or-map}
@@ -18,18 +18,17 @@ use Rattle.nl_types.specs.Segments.{Segments}
 use Rattle.nl_types.specs.Runs.{Step}
 use Rattle.nl_types.specs.Worlds.{Reply, World}
 use Rattle.nl_vstore.specs.Located.{needed_count}
-use Rattle.nl_vstore.specs.Stores.{HasGrown, IsGrowthRefused, IsStore, Numbered, Store, capacity, content_in, entry_now, numbered_in}
+use Rattle.nl_vstore.specs.Stores.{HasGrown, IsGrowthRefused, IsStore, Store, capacity, content_in, entry_now}
 use Rattle.nl_counts.specs.Counted.{Counted}
 use Rattle.nl_core.specs.CleanedPens.{StaysPen}
 use Rattle.nl_core.specs.CleaningEvents.{HasResized, HasResizedNone, kept_numbers, resized_by}
 use Rattle.nl_core.specs.Commits.{with_room}
-use Rattle.nl_core.specs.Layout.{Does, HasRefused, IsPen, Layout, MeansWorld, layout_of, ledger_of, unshared}
+use Rattle.nl_core.specs.Layout.{Does, HasRefused, IsPen, Layout, layout_of, ledger_of, unshared}
 use Rattle.nl_core.specs.NeededBlocks.{AreNeededCounts}
 use Rattle.nl_core.specs.Notes.{shown_of, shown_page}
 use Rattle.nl_core.specs.Volume.{Lists}
 use Rattle.nl_core.specs.declared.commit.ShownPage.{ShownPage}
 use Rattle.nl_core.proofs.CleanedPens.{content-of, same-content}
-use Rattle.nl_core.proofs.Ledgers.{same-numbers}
 
 -- ---- what numbers stand for stays
 

@@ -23,7 +23,10 @@ use Rattle.nl_cpfile.proofs.ImageEntries.{count_told}
 use Rattle.nl_image.specs.declared.reading.ReadImage.{ReadImage}
 use Rattle.nl_image.specs.Conditions.{HasCheckpoints, HasNumbers, HasSegments, HasTrees, HasZeros, IsDivided}
 use Rattle.nl_image.specs.Laws.{ImagesAreSpelled}
-use Rattle.nl_image.specs.Parts.{Parts, blocks_in, blocks_start, cpfile_in, cpfile_start, image_bytes, image_length, padding_of, total_of}
+use Rattle.nl_layout.specs.declared.superblock.Mark.{Mark}
+use Rattle.nl_layout.specs.declared.superblock.Mark.TheVariants.{First, Second}
+use Rattle.nl_layout.specs.declared.superblock.Superblock.{Superblock}
+use Rattle.nl_image.specs.Parts.{Parts, blocks_in, blocks_start, cpfile_in, cpfile_start, image_bytes, image_length, padding_of, total_of, with_present_mark}
 use Rattle.nl_image.specs.Reading.{IsReadImage}
 use Rattle.nl_image.specs.StoreImages.{AreOf, HaveSpelling, IsImageOf, IsShapeOfStore, IsSizedEntry, parts_of}
 use Rattle.nl_image.proofs.ReadParts.{part-length}
@@ -112,16 +115,24 @@ module _ (bytes : List ℕ) (r : ReadImage) (is : IsReadImage bytes r) where
         sym (drop-map (option_map dat_entry_of) 1 store.numbers)
         ∙ ap (λ (table : List (Option DatEntry)). drop 1 table) (numbers-shown bytes r is store made sound)
 
-    abbrev parts_with : Segments → List (Option DatEntry) → Parts
-    parts_with segments numbers = record { shape = p.shape; segments = segments; numbers = numbers; kept = p.kept }
+    -- the superblock under the present mark
+    abbrev shape : Superblock
+    shape = record p.shape { mark = Second }
 
-    parts-are : parts_of p.shape store p.kept ≡ p
+    abbrev present : Parts
+    present = record p { shape = shape }
+
+    abbrev parts_with : Segments → List (Option DatEntry) → Parts
+    parts_with segments numbers = record { shape = shape; segments = segments; numbers = numbers; kept = p.kept }
+
+    parts-are : parts_of shape store p.kept ≡ present
     parts-are =
         ap (λ (s : Segments). parts_with s (numbers_shown store)) segments-are
         ∙ ap (λ (numbers : List (Option DatEntry)). parts_with p.segments numbers) numbers-are
 
-    shape-of-store : IsShapeOfStore store p.shape
+    shape-of-store : IsShapeOfStore store shape
     shape-of-store = record {
+      mark = refl;
       segments = sym (ap (λ (s : Segments). length s.each) segments-are ∙ (sufile.told.count ∙ sufile.shape.segments));
       blocks = sym (ap (λ (s : Segments). s.blocks) segments-are ∙ (sufile.told.blocks ∙ sufile.shape.blocks));
     }
@@ -163,7 +174,7 @@ module _ (bytes : List ℕ) (r : ReadImage) (is : IsReadImage bytes r) where
       entries-are : AllZip IsEntryOf kept p.kept
       entries-are = subst (AllZip IsEntryOf kept) is.kept are
 
-      are-of : AreOf store kept p.shape p.kept
+      are-of : AreOf store kept shape p.kept
       are-of = record {
         shape = shape-of-store;
         count = kept-count ∙ sym (same-count kept p.kept entries-are);
@@ -171,20 +182,34 @@ module _ (bytes : List ℕ) (r : ReadImage) (is : IsReadImage bytes r) where
             (subst (λ (pages : Pages). AreTrees pages (map told p.kept)) (pages-are bytes r is store made sound) trees);
       }
 
-      image-restored : ImagesAreSpelled → IsImageOf store kept bytes
+      image-restored : ImagesAreSpelled → IsImageOf store kept (with_present_mark bytes)
       image-restored spell = record {
-        shape = p.shape;
+        shape = shape;
         entries = p.kept;
         blocks = blocks_all;
         are = are-of;
         blocks_are = are-blocks;
-        fit = subst HaveSpelling (sym parts-are) have-spelling;
-        spelled = spell bytes p is.image ∙ ap (λ (q : Parts). image_bytes q blocks_all) (sym parts-are);
+        fit = subst HaveSpelling (sym parts-are) (record {
+          shape = record {
+            segments = have-spelling.shape.segments;
+            blocks = have-spelling.shape.blocks;
+            checkpoints = have-spelling.shape.checkpoints;
+          };
+          segments = have-spelling.segments;
+          numbers = have-spelling.numbers;
+          kept = have-spelling.kept;
+        });
+        spelled = ap with_present_mark (spell bytes p is.image) ∙ present-spelled p.shape.mark ∙ ap (λ (q : Parts). image_bytes q blocks_all) (sym parts-are);
       }
+        where
+          present-spelled : (m : Mark)
+              → with_present_mark (image_bytes (record p { shape = record p.shape { mark = m } }) blocks_all) ≡ image_bytes present blocks_all
+          present-spelled First = refl
+          present-spelled Second = refl
 
     -- it is that of the volume that is opened
     pub image-opened : ImagesAreSpelled → (t : Table) → AllZip IsEntryOf (all t) r.kept → (lists : Lists) → lists ≡ opened_lists t
-        → (l : Layout) → l ≡ layout_of lists store → IsImageOf l.store (kept_by l.lists) bytes
+        → (l : Layout) → l ≡ layout_of lists store → IsImageOf l.store (kept_by l.lists) (with_present_mark bytes)
     image-opened spell t are lists same l is_layout =
-        subst (λ (m : Layout). IsImageOf m.store (kept_by m.lists) bytes) (sym is_layout)
-        (subst (λ (ls : Lists). IsImageOf store (kept_by ls) bytes) (sym same) (image-restored (all t) are spell))
+        subst (λ (m : Layout). IsImageOf m.store (kept_by m.lists) (with_present_mark bytes)) (sym is_layout)
+        (subst (λ (ls : Lists). IsImageOf store (kept_by ls) (with_present_mark bytes)) (sym same) (image-restored (all t) are spell))

@@ -2,6 +2,7 @@
 use Rattle.std.proofs.Common.{◌≡◌, ℕ, ◌+◌, ◌-◌, Bool, true, false, List, [], ◌∷◌, Option, refl, ap, sym, subst, take, ◌∙◌, arith}
 use Rattle.std.specs.Prelude.{nat_lt, length, Ok, Err, MatchResult, Result, fold, map}
 use Rattle.std.specs.Option.{option_map}
+use Rattle.std.proofs.lemmas.Bool.{cond-false, cond-true}
 use Rattle.nl_types.specs.declared.error.VolError.{VolError}
 use Rattle.nl_types.specs.declared.error.VolError.TheVariants as error
 use Rattle.nl_types.specs.declared.event.Event.{Event}
@@ -11,20 +12,20 @@ use Rattle.nl_types.specs.declared.reply.Answer.{Answer}
 use Rattle.nl_types.specs.declared.reply.Answer.TheVariants as answer
 use Rattle.nl_types.specs.declared.segment.SegmentInfo.{SegmentInfo}
 use Rattle.nl_types.specs.CheckpointLaws.{removed_by}
-use Rattle.nl_types.specs.Worlds.{Reply}
+use Rattle.nl_types.specs.Worlds.{Reply, is_moving}
 use Rattle.nl_vstore.specs.Batches.{Changes}
 use Rattle.nl_vstore.specs.Located.{needed_in, numbers_in}
-use Rattle.nl_vstore.specs.Stores.{IsMoveRefused, IsReclaimed, Numbered, Store}
+use Rattle.nl_vstore.specs.Stores.{IsReclaimed, Numbered, Store}
 use Rattle.nl_vstore.proofs.NumberAt.{in-numbers}
 use Rattle.nl_reclaim.specs.Cleaning.{judged_for}
 use Rattle.nl_cpfile.specs.Tables.{Table, range_in, with_mode, with_next, without}
 use Rattle.nl_cpfile.specs.declared.checkpoint.Checkpoint.{Checkpoint}
-use Rattle.nl_core.specs.CleaningEvents.{HasResized, needed_by}
+use Rattle.nl_core.specs.CleaningEvents.{HasMovedOut, HasResized, IsMoveRefusal, needed_by}
 use Rattle.nl_core.specs.Commits.{AllNext, IsImage, IsNew, KeepsCheckpoints, applied, numbers_written, with_room, without_numbers}
 use Rattle.nl_core.specs.Layout.{AllowedBetween, Does, HasRefused, HasWritten, IsPen, KeepsNumbers, Layout, layout_of}
-use Rattle.nl_core.specs.Notes.{AreCommitsOf, CommitsTellAll, HasNoted, freed_in, has_other_mode, mounted_as, new_checkpoint, shown_of, shown_page, where_any, where_true}
+use Rattle.nl_core.specs.Notes.{AreCommitsOf, CommitsTellAll, HasNoted, freed_in, has_other_mode, mounted_as, moved_as, new_checkpoint, shown_of, shown_page, where_any, where_true, without_changes}
 use Rattle.nl_core.specs.Shown.{Shown}
-use Rattle.nl_core.specs.Volume.{IsTakenOut, Lists, boundary_in, with_checkpoint_mode}
+use Rattle.nl_core.specs.Volume.{IsTakenOut, Lists, boundary_in, minor_checkpoint, moved_lists, with_checkpoint_mode, with_minor}
 use Rattle.nl_core.specs.declared.commit.Commit.{Commit}
 use Rattle.nl_core.specs.declared.commit.Commit.TheVariants.{Freed, GivenBack, ModeSet, Mounted, RangeRemoved, Removed, Resized, Written}
 use Rattle.nl_core.specs.declared.commit.ShownPage.{ShownPage}
@@ -111,10 +112,16 @@ refused-shown (event.Move segment limit moment) e old new refused =
     vs : List ℕ
     vs = take limit (needed_in old.store (needed_by old.lists) segment)
 
+    of : (e : VolError) → IsMoveRefusal segment limit moment old.lists old.store new.store e → new.store.numbers ≡ old.store.numbers
+    of error.NumbersSpent none = ap (λ (s : Store). s.numbers) none.0
+    of error.NoSpace none = refused-numbers (old.lists.table.latest.number + 1) moment vs error.NoSpace old.store new.store none.1
+    of error.Fault none = refused-numbers (old.lists.table.latest.number + 1) moment vs error.Fault old.store new.store none.1
+    of e none = refused-numbers (old.lists.table.latest.number + 1) moment vs e old.store new.store none
+
     by : (r : Result SegmentInfo VolError)
-        → MatchResult r (λ _. IsMoveRefused old.lists.table.latest.number moment vs old.store new.store e) (λ refusal. (e ≡ refusal) × (new.store ≡ old.store))
+        → MatchResult r (λ _. IsMoveRefusal segment limit moment old.lists old.store new.store e) (λ refusal. (e ≡ refusal) × (new.store ≡ old.store))
         → new.store.numbers ≡ old.store.numbers
-    by (Ok i) none = refused-numbers old.lists.table.latest.number moment vs e old.store new.store none
+    by (Ok i) none = of e none
     by (Err f) none = ap (λ (s : Store). s.numbers) none.1
 
 -- ---- done ones
@@ -217,6 +224,30 @@ tells-freed old new segment count leads lists reclaimed =
     shown : shown_of new ≡ record (shown_of old) { numbers = without_numbers gone (shown_of old).numbers }
     shown i = shown_with (numbers i) (lists i).table (lists i).mounts (lists i).given
 
+-- ---- a move
+
+-- where blocks were moved there is one checkpoint more, and of where a page stands nothing is seen
+tells-moved : (old new : Layout) (segment limit moment : ℕ) (a : Answer) → Leads old new → new.lists ≡ moved_lists moment a old.lists
+    → HasMovedOut segment limit moment a old.lists old.store new.store → TellsAll old new (moved_as a new.lists.table.latest)
+tells-moved old new segment limit moment a leads lists moved = by (is_moving (Ok a)) refl
+  where
+    numbers : (shown_of new).numbers ≡ (shown_of old).numbers
+    numbers = numbers-moved old new leads.before.sound.store leads.now.sound.store segment (old.lists.table.latest.number + 1) moment
+        (take limit (needed_in old.store (needed_by old.lists) segment)) moved.moved.moved
+
+    by : (b : Bool) → is_moving (Ok a) ≡ b → TellsAll old new (where_true b (without_changes new.lists.table.latest))
+    by false idle = tells-nothing old new (same-parts old new (lists ∙ cond-false (is_moving (Ok a)) (with_minor moment old.lists) old.lists idle) numbers)
+    by true moving =
+        let more : new.lists ≡ with_minor moment old.lists = lists ∙ cond-true (is_moving (Ok a)) (with_minor moment old.lists) old.lists moving in
+        let latest : new.lists.table.latest ≡ minor_checkpoint moment old.lists = ap (λ (l : Lists). l.table.latest) more in
+        let table : new.lists.table ≡ with_next new.lists.table.latest old.lists.table =
+        ap (λ (l : Lists). l.table) more ∙ ap (λ (c : Checkpoint). with_next c old.lists.table) (sym latest) in
+        let next : new.lists.table.latest.number ≡ old.lists.table.latest.number + 1 = ap (λ (c : Checkpoint). c.number) latest in
+        tells-commit old new (without_changes new.lists.table.latest) leads
+        (subst (KeepsRoots old.lists.table) (sym table) (roots-next new.lists.table.latest old.lists.table))
+        (λ i. shown_with (numbers i) (table i) (more i).mounts (more i).given)
+        (omega (arith, next))
+
 -- ---- a resize
 
 tells-resized : (old new : Layout) (segments : ℕ) (a : Answer) → Leads old new → new.lists ≡ old.lists
@@ -293,10 +324,8 @@ module _ (allowed : AllowedBetween) (old new : Layout) (pen : IsPen old) where
       subst (TellsAll old new) (sym noted)
       (tells-resized old new segments a (leads-on (event.Resize segments) (Ok a) does) does.touches.0 does.touches.1)
   tells-done (event.Move segment limit moment) a more does noted =
-      tells-nothing-of more noted
-      (same-parts old new does.touches.0
-      (numbers-moved old new pen.sound.store does.pen.sound.store segment old.lists.table.latest.number moment
-      (take limit (needed_in old.store (needed_by old.lists) segment)) does.touches.1.moved.moved))
+      subst (TellsAll old new) (sym noted)
+      (tells-moved old new segment limit moment a (leads-on (event.Move segment limit moment) (Ok a) does) does.touches.0 does.touches.1)
   tells-done (event.Apply change) a more does noted = tells-nothing-of more noted (ap shown_of does.touches.0)
   tells-done (event.Read ask) a more does noted = tells-nothing-of more noted (ap shown_of does.touches)
   tells-done (event.MountRead m ask) a more does noted = tells-nothing-of more noted (ap shown_of does.touches)

@@ -2,14 +2,16 @@
 use Rattle.std.specs.Prelude.{◌≡◌, ℕ, List, [], Some, map, false}
 use Rattle.nl_types.specs.declared.error.VolError.{VolError}
 use Rattle.nl_types.specs.Entries.{Place}
-use Rattle.nl_types.specs.Lifetimes.{Allowed, Numbers, Reclaim, ledger_after}
+use Rattle.nl_types.specs.Lifetimes.{Allowed, Numbers, Reclaim, Write, ledger_after}
+use Rattle.nl_types.specs.Worlds as worlds
 use Rattle.nl_types.specs.Worlds.{World}
 use Rattle.nl_cpfile.specs.declared.checkpoint.Checkpoint.{Checkpoint}
 use Rattle.nl_vstore.specs.Stores.{IsMoved, IsMoveRefused, IsReclaimed, IsStore, address_in, is_inside}
 use Rattle.nl_reclaim.specs.Moves.{KeptStore, needed_now}
 use Rattle.nl_reclaim.specs.Reclaims.{stood_in}
-use Rattle.nl_core.specs.Layout.{IsPen, KeepsNumbers, Layout, MeansWorld, ledger_of}
-use Rattle.nl_core.specs.Volume.{kept_by}
+use Rattle.nl_core.specs.Draft.{HasNextNumber}
+use Rattle.nl_core.specs.Layout.{IsPen, KeepsNumbers, Layout, MeansWorld, layout_of, ledger_of}
+use Rattle.nl_core.specs.Volume.{kept_by, with_minor}
 
 abbrev pub number_in : Checkpoint → ℕ
 number_in c = c.number
@@ -38,6 +40,21 @@ abbrev pub RefusedMovesKeepPens : Type 0
 RefusedMovesKeepPens = (checkpoint stamp : ℕ) (numbers : List ℕ) (e : VolError) (old new : Layout)
     → IsPen old → new.lists ≡ old.lists → IsStore new.store
     → IsMoveRefused checkpoint stamp numbers old.store new.store e → StaysPen old new
+
+-- ---- minor checkpoints
+
+-- No number starts or ends at it: the ledger has one checkpoint more, which reaches what the latest one does, and each world
+-- that was meant has one copy more.
+pub record AddsMinor (moment : ℕ) (old new : Layout) : Type 0 where
+  pub pen : IsPen new
+  pub ledger : ledger_of new ≡ ledger_after (Write [] []) (ledger_of old)
+  pub numbers : KeepsNumbers old new
+  pub means : (w : World) → MeansWorld old w → MeansWorld new (worlds.with_minor w moment)
+
+-- so a minor checkpoint leaves a pen, where there is a number for it
+abbrev pub MinorsKeepPens : Type 0
+MinorsKeepPens = (moment : ℕ) (old : Layout) → IsPen old → HasNextNumber old.lists
+    → AddsMinor moment old (layout_of (with_minor moment old.lists) old.store)
 
 -- ---- retirements
 

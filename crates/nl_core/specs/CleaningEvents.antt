@@ -1,5 +1,5 @@
 -- What moves out of segments, retirements of segments and resizes answer, and what they do to the blocks.
-use Rattle.std.specs.Prelude.{◌≡◌, ℕ, Bool, false, if◌then◌else◌, nat_lt, List, length, Ok, Err, min}
+use Rattle.std.specs.Prelude.{◌≡◌, ℕ, ◌+◌, ◌<◌, ◌≤◌, Bool, false, if◌then◌else◌, nat_lt, List, length, take, MatchResult, Ok, Err, min}
 use Rattle.nl_types.specs.declared.error.VolError.{VolError}
 use Rattle.nl_types.specs.declared.error.VolError.TheVariants as error
 use Rattle.nl_types.specs.declared.event.Event.{Event}
@@ -8,15 +8,16 @@ use Rattle.nl_types.specs.declared.reply.Answer.{Answer}
 use Rattle.nl_types.specs.declared.reply.Answer.TheVariants.{Done, Freed, Moved}
 use Rattle.nl_types.specs.Calls.{and_then}
 use Rattle.nl_types.specs.Entries.{Entry, is_needed}
-use Rattle.nl_types.specs.Limits.{is_geometry}
+use Rattle.nl_types.specs.Limits.{checkpoint_number_limit, is_geometry}
 use Rattle.nl_types.specs.Placing.{LacksSpace}
 use Rattle.nl_types.specs.Segments.{Segments}
 use Rattle.nl_types.specs.Worlds.{Reply}
 use Rattle.nl_cpfile.specs.Tables as cpfile
-use Rattle.nl_vstore.specs.Located.{needed_count}
-use Rattle.nl_vstore.specs.Stores.{HasGrown, IsGrowthRefused, IsReclaimed, Store}
+use Rattle.nl_vstore.specs.Located.{needed_count, needed_in}
+use Rattle.nl_vstore.specs.Stores.{HasGrown, IsGrowthRefused, IsMoveRefused, IsReclaimed, Store}
 use Rattle.nl_reclaim.specs.Cleaning.{HasMovedFirst, judged_for, retired, split}
 use Rattle.nl_reclaim.specs.declared.moving.MoveCount.{MoveCount}
+use Rattle.nl_core.specs.Draft.{HasNextNumber}
 use Rattle.nl_core.specs.Volume.{Lists, kept_by}
 
 -- the numbers of the kept checkpoints
@@ -36,7 +37,7 @@ moved_answer m = Moved m.moved m.left
 abbrev pub move_count : Lists → Store → (segment limit : ℕ) → MoveCount
 move_count l s segment limit = split limit (needed_count s (needed_by l) segment)
 
--- what a move answers, where it is not refused for space, a fault or memory
+-- what a move answers, where it is not refused for numbers, space, a fault or memory
 abbrev pub moved_by : Lists → Store → (segment limit : ℕ) → Reply
 moved_by l s segment limit =
     and_then (judged_for s.segments segment limit) (λ _. Ok (moved_answer (move_count l s segment limit)))
@@ -72,11 +73,36 @@ cleaned_by l s (event.Listing options) = Ok Done
 
 -- ---- what they do
 
--- the first needed blocks of the segment were moved, as the answer says
+-- the first needed blocks of the segment were moved, as the answer says, in logs of the next checkpoint
 pub record HasMovedOut (segment limit moment : ℕ) (answer : Answer) (l : Lists) (old new : Store) : Type 0 where
   pub count : MoveCount
   pub answer_is : answer ≡ moved_answer count
-  pub moved : HasMovedFirst (needed_by l) segment limit l.table.latest.number moment old new count
+  pub moved : HasMovedFirst (needed_by l) segment limit (l.table.latest.number + 1) moment old new count
+  pub left : 0 < count.moved → HasNextNumber l
+
+-- the first needed blocks of the segment are not moved into logs of the next checkpoint
+abbrev pub AreNotMoved : (segment limit moment : ℕ) → Lists → Store → Store → VolError → Type 0
+AreNotMoved segment limit moment l old new e =
+    IsMoveRefused (l.table.latest.number + 1) moment
+    (take limit (needed_in old (needed_by l) segment)) old new e
+
+-- Why blocks of a segment that may be cleaned are not moved, and what is left then: numbers are judged before anything is read
+-- or written, and only where there are blocks to move.
+abbrev pub IsMoveRefusal : (segment limit moment : ℕ) → Lists → Store → Store → VolError → Type 0
+IsMoveRefusal segment limit moment l old new error.NumbersSpent =
+    (new ≡ old) × (0 < needed_count old (needed_by l) segment)
+    × (checkpoint_number_limit ≤ l.table.latest.number + 1)
+IsMoveRefusal segment limit moment l old new error.NoSpace =
+    HasNextNumber l × AreNotMoved segment limit moment l old new error.NoSpace
+IsMoveRefusal segment limit moment l old new error.Fault =
+    HasNextNumber l × AreNotMoved segment limit moment l old new error.Fault
+IsMoveRefusal segment limit moment l old new e = AreNotMoved segment limit moment l old new e
+
+-- the segment is judged first
+abbrev pub HasMovedNothing : (segment limit moment : ℕ) → Lists → Store → Store → VolError → Type 0
+HasMovedNothing segment limit moment l old new e =
+    MatchResult (judged_for old.segments segment limit) (λ _. IsMoveRefusal segment limit moment l old new e)
+    (λ refusal. (e ≡ refusal) × (new ≡ old))
 
 -- the segment had no needed block, and is clean
 pub record HasEmptied (segment : ℕ) (answer : Answer) (l : Lists) (old new : Store) : Type 0 where

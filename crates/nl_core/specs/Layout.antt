@@ -28,13 +28,13 @@ use Rattle.nl_blocktree.specs.Checkpoints.{WritesWhatDiffers, numbers_of}
 use Rattle.nl_blocktree.specs.Numbering.{CanTake}
 use Rattle.nl_tree.specs.Held.{Holding}
 use Rattle.nl_files.specs.CheckpointRoots.{IsTreeSound, roots_at}
-use Rattle.nl_reclaim.specs.Cleaning.{HasMovedNone, retired}
+use Rattle.nl_reclaim.specs.Cleaning.{retired}
 use Rattle.nl_core.specs.Changes.{HasChanged}
-use Rattle.nl_core.specs.CleaningEvents.{HasEmptied, HasMovedOut, HasResized, HasResizedNone, LacksSpaceToMove, cleaned_by, needed_by}
+use Rattle.nl_core.specs.CleaningEvents.{HasEmptied, HasMovedNothing, HasMovedOut, HasResized, HasResizedNone, LacksSpaceToMove, cleaned_by, needed_by}
 use Rattle.nl_core.specs.Draft.{HasNextNumber, HoldsNow, SettlesNow}
 use Rattle.nl_core.specs.Means.{LeadsOn, Means}
 use Rattle.nl_core.specs.Tables.{blank_lists}
-use Rattle.nl_core.specs.Volume.{IsExpired, IsTakenOut, IsTakenOutRange, Lists, kept_by, latest_root, next_checkpoint, published, with_change, with_checkpoint_mode, with_mount, without_mount}
+use Rattle.nl_core.specs.Volume.{IsExpired, IsTakenOut, IsTakenOutRange, Lists, kept_by, latest_root, moved_lists, next_checkpoint, published, with_change, with_checkpoint_mode, with_mount, without_mount}
 use Rattle.nl_cpfile.specs.Tables.{kept_at, root_in}
 use Rattle.nl_cpfile.specs.declared.checkpoint.Checkpoint.{Checkpoint as Kept}
 
@@ -143,7 +143,8 @@ HasDone old (RemoveRange first last) answer new =
 HasDone old (Expire now period) answer new =
     IsExpired now period answer old.lists new.lists × (new.store ≡ old.store)
 HasDone old (Move segment limit moment) answer new =
-    (new.lists ≡ old.lists) × HasMovedOut segment limit moment answer old.lists old.store new.store
+    (new.lists ≡ moved_lists moment answer old.lists)
+    × HasMovedOut segment limit moment answer old.lists old.store new.store
 HasDone old (Retire segment) answer new = HasRetired segment answer old new
 HasDone old (Resize segments) answer new =
     (new.lists ≡ old.lists) × HasResized segments answer old.store new.store
@@ -188,8 +189,7 @@ HasRefused (Checkpoint mode moment) Fault old new =
     HasFaulted (max moment old.lists.table.latest.stamp) old new
 HasRefused (Checkpoint mode moment) e old new = (new ≡ old) × IsCheckpointRefusal old e
 HasRefused (Move segment limit moment) e old new =
-    (new.lists ≡ old.lists)
-    × HasMovedNone (needed_by old.lists) segment limit old.lists.table.latest.number moment old.store new.store e
+    (new.lists ≡ old.lists) × HasMovedNothing segment limit moment old.lists old.store new.store e
 HasRefused (Retire segment) e old new = (new ≡ old) × IsRetirementRefusal old segment e
 HasRefused (Resize segments) e old new =
     (new.lists ≡ old.lists) × HasResizedNone segments old.store new.store e
@@ -250,7 +250,7 @@ abbrev pub FailsIn : Layout → Layout → Event → Type 0
 FailsIn old new (Move segment limit moment) =
     IsUnread old.store new.store
     ⊎ ((LacksSpaceToMove old.lists old.store segment limit → ⊥)
-    × IsMoveBrokenOff old.lists.table.latest.number moment
+    × IsMoveBrokenOff (old.lists.table.latest.number + 1) moment
     (take limit (needed_in old.store (needed_by old.lists) segment)) old.store new.store)
 FailsIn old new event =
     (LacksSpaceFor old event → ⊥)

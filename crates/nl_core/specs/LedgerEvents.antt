@@ -1,12 +1,12 @@
 -- Events of a pen as events of its ledger, and what becomes of numbers over whole lists of them.
-use Rattle.std.specs.Prelude.{◌≡◌, ℕ, List, [], ◌∷◌, Ok, Err, map}
+use Rattle.std.specs.Prelude.{◌≡◌, ℕ, if◌then◌else◌, List, [], ◌∷◌, Ok, Err, map}
 use Rattle.nl_types.specs.declared.event.Event.{Event}
 use Rattle.nl_types.specs.declared.event.Event.TheVariants as event
 use Rattle.nl_types.specs.declared.reply.Answer.{Answer}
 use Rattle.nl_types.specs.declared.reply.Answer.TheVariants.{Expired, Removed}
 use Rattle.nl_types.specs.Lifetimes.{EachAllowed, EndsOnceSince, KeepsCovered, Ledger, LedgerEvent, Reclaim, Remove, Write, ledger_after_all}
 use Rattle.nl_types.specs.Runs.{Run}
-use Rattle.nl_types.specs.Worlds.{Reply}
+use Rattle.nl_types.specs.Worlds.{Reply, is_moving}
 use Rattle.nl_reclaim.specs.Reclaims.{stood_in}
 use Rattle.nl_core.specs.Layout.{AllowedBetween, Does, HasDone, IsPen, Layout, Touches, ledger_of}
 
@@ -18,7 +18,8 @@ taken_out (Removed range) = range.removed
 taken_out (Expired gone) = gone
 taken_out answer = []
 
--- A checkpoint is a write of the births and ends that it has. A removal is that of its checkpoint, and the removal of a range
+-- A checkpoint is a write of the births and ends that it has, and a move of blocks one of none: at the minor checkpoint that it
+-- makes no number starts or ends. A removal is that of its checkpoint, and the removal of a range
 -- and an expiry are those of the answered ones, one after another. A retirement takes out the numbers whose pages stood in
 -- its segment. No other event is one of the ledger.
 abbrev pub done_events : (old new : Layout) (event : Event) (answer : Answer) → HasDone old event answer new → List LedgerEvent
@@ -31,7 +32,8 @@ done_events old new (event.Retire segment) answer done = Reclaim (stood_in old.s
 done_events old new (event.Apply change) answer done = []
 done_events old new (event.Read ask) answer done = []
 done_events old new (event.ChangeMode n mode) answer done = []
-done_events old new (event.Move segment limit moment) answer done = []
+done_events old new (event.Move segment limit moment) answer done =
+    if is_moving (Ok answer) then Write [] [] ∷ [] else []
 done_events old new (event.Resize segments) answer done = []
 done_events old new (event.Mount n) answer done = []
 done_events old new (event.Unmount m) answer done = []

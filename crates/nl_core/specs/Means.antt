@@ -32,6 +32,7 @@ pub record CurrentMeans (pages : Pages) (root : Root) (current : Current) (tree 
 pub record CopyMeans (pages : Pages) (c : Checkpoint) (copy : ℕ × Copy) : Type 0 where
   pub number : copy.0 ≡ c.number
   pub mode : copy.1.mode ≡ c.mode
+  pub minor : copy.1.minor ≡ c.minor
   pub stamp : copy.1.stamp ≡ c.stamp
   pub inodes : c.inodes ≡ length copy.1.tree
   pub tree : RootMeans pages (root_in c) copy.1.tree

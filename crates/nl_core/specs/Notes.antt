@@ -1,5 +1,5 @@
 -- What readers see of a pen, and the commits of its events.
-use Rattle.std.specs.Prelude.{◌≡◌, ℕ, ◌-◌, ◌||◌, nat_lt, Bool, false, true, List, [], ◌∷◌, ◌++◌, fold, length, map, MatchResult}
+use Rattle.std.specs.Prelude.{◌≡◌, ℕ, ◌-◌, ◌||◌, nat_lt, Bool, false, true, List, [], ◌∷◌, ◌++◌, fold, length, map, Ok, MatchResult}
 use Rattle.std.specs.Option.{option_map, option_map_or}
 use Rattle.nl_types.specs.declared.error.VolError.TheVariants as error
 use Rattle.nl_types.specs.declared.event.Event.{Event}
@@ -8,7 +8,7 @@ use Rattle.nl_types.specs.declared.event.Mode.{Mode}
 use Rattle.nl_types.specs.declared.reply.Answer.{Answer}
 use Rattle.nl_types.specs.declared.reply.Answer.TheVariants as answer
 use Rattle.nl_types.specs.Entries.{Birth}
-use Rattle.nl_types.specs.Worlds.{Reply, is_given_up}
+use Rattle.nl_types.specs.Worlds.{Reply, is_given_up, is_moving}
 use Rattle.nl_cpfile.specs.Tables.{Table, kept_at}
 use Rattle.nl_cpfile.specs.declared.checkpoint.Checkpoint.{Checkpoint}
 use Rattle.nl_vstore.specs.Batches.{Changes}
@@ -85,9 +85,13 @@ abbrev pub mounted_as : Answer → ℕ → List Commit
 mounted_as (answer.Mount m) n = Mounted (record { number = m; checkpoint = n }) ∷ []
 mounted_as a n = []
 
--- that of a move, by its answer: nothing is seen of where a page stands
-abbrev pub moved_as : Answer → List Commit
-moved_as a = []
+-- a checkpoint at which no number starts or ends
+abbrev pub without_changes : Checkpoint → Commit
+without_changes checkpoint = Written (record { births = []; ends = []; checkpoint = checkpoint })
+
+-- that of a move: nothing is seen of where a page stands, but where blocks were moved there is a checkpoint more
+abbrev pub moved_as : Answer → (latest : Checkpoint) → List Commit
+moved_as a latest = where_true (is_moving (Ok a)) (without_changes latest)
 
 -- that of a retirement: the numbers whose pages stand in the segment, by block
 abbrev pub freed_in : Store → (segment : ℕ) → List Commit
@@ -104,7 +108,7 @@ HasNoted old (event.Remove n) a new more = more ≡ Removed n ∷ []
 HasNoted old (event.RemoveRange first last) a new more = more ≡ where_gone a (RangeRemoved first last)
 HasNoted old (event.Expire now period) a new more =
     more ≡ where_gone a (RangeRemoved 1 (boundary_in old.lists.table now period - 1))
-HasNoted old (event.Move segment limit moment) a new more = more ≡ moved_as a
+HasNoted old (event.Move segment limit moment) a new more = more ≡ moved_as a new.lists.table.latest
 HasNoted old (event.Retire segment) a new more = more ≡ freed_in old.store segment
 HasNoted old (event.Resize segments) a new more =
     more ≡ where_true (nat_lt (length old.store.segments.each) segments) (Resized segments old.store.segments.blocks)

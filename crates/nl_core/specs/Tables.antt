@@ -13,7 +13,7 @@ pub record Roomy : Type 0 where
 
 -- a checkpoint 0, without files
 abbrev pub blank_checkpoint : Checkpoint
-blank_checkpoint = record { number = 0; mode = Plain; stamp = 0; root = Empty; inodes = 0 }
+blank_checkpoint = record { number = 0; mode = Plain; minor = false; stamp = 0; root = Empty; inodes = 0 }
 
 -- before a volume is formatted: the root alone, over that checkpoint
 abbrev pub blank_lists : Lists

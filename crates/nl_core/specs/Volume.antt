@@ -1,11 +1,12 @@
 -- What a pen holds in memory.
-use Rattle.std.specs.Prelude.{◌≡◌, ℕ, ◌+◌, ◌-◌, ◌||◌, ◌&&◌, ◌==◌, max, not, Bool, false, true, List, [], ◌∷◌, ◌++◌, map, Result, Ok, Err}
+use Rattle.std.specs.Prelude.{◌≡◌, ℕ, ◌+◌, ◌-◌, ◌||◌, ◌&&◌, ◌==◌, max, not, if◌then◌else◌, Bool, false, true, List, [], ◌∷◌, ◌++◌, map, Result, Ok, Err}
 use Rattle.std.specs.List.{filter}
 use Rattle.nl_types.specs.Calls.{is_dirtying}
 use Rattle.nl_types.specs.declared.error.VolError.{VolError}
 use Rattle.nl_types.specs.declared.error.VolError.TheVariants.{Memory}
 use Rattle.nl_types.specs.declared.event.Change.{Change}
 use Rattle.nl_types.specs.declared.event.Mode.{Mode}
+use Rattle.nl_types.specs.declared.event.Mode.TheVariants.{Plain}
 use Rattle.nl_types.specs.declared.reply.Answer.{Answer}
 use Rattle.nl_types.specs.declared.reply.Answer.TheVariants.{Expired, Removed}
 use Rattle.nl_types.specs.declared.row.Range.{Range}
@@ -13,7 +14,7 @@ use Rattle.nl_types.specs.declared.row.Row.{Row}
 use Rattle.nl_types.specs.CheckpointLaws.{removed_by}
 use Rattle.nl_types.specs.Protection.{boundary}
 use Rattle.nl_types.specs.Rows.{is_among, kept_row, range_removal}
-use Rattle.nl_types.specs.Worlds.{is_given_up, is_mounted}
+use Rattle.nl_types.specs.Worlds.{is_given_up, is_mounted, is_moving}
 use Rattle.nl_layout.specs.declared.root.Root.{Root}
 use Rattle.nl_cpfile.specs.Tables.{Table, all, root_in, rows, with_latest_alone, with_mode, with_next, without}
 use Rattle.nl_cpfile.specs.declared.checkpoint.Checkpoint.{Checkpoint}
@@ -130,6 +131,7 @@ abbrev pub next_checkpoint : Mode → ℕ → Root → Lists → Checkpoint
 next_checkpoint mode moment root l = record {
   number = l.table.latest.number + 1;
   mode = mode;
+  minor = false;
   stamp = max moment l.table.latest.stamp;
   root = root;
   inodes = l.current.names + 1;
@@ -142,6 +144,26 @@ published checkpoint l = record l {
   dirty = false;
   table = with_next checkpoint l.table;
 }
+
+-- ---- a minor checkpoint
+
+-- the latest checkpoint once more, as the volume makes it by itself: plain, under the next number, and with a stamp that does
+-- not fall
+abbrev pub minor_checkpoint : (moment : ℕ) → Lists → Checkpoint
+minor_checkpoint moment l = record l.table.latest {
+  number = l.table.latest.number + 1;
+  mode = Plain;
+  minor = true;
+  stamp = max moment l.table.latest.stamp;
+}
+
+-- the lists behind it: the current tree and the dirty mark stay
+abbrev pub with_minor : (moment : ℕ) → Lists → Lists
+with_minor moment l = record l { table = with_next (minor_checkpoint moment l) l.table }
+
+-- the lists behind a move, which makes one where it moved blocks
+abbrev pub moved_lists : (moment : ℕ) → Answer → Lists → Lists
+moved_lists moment answer l = if is_moving (Ok answer) then with_minor moment l else l
 
 -- the lists with the latest checkpoint alone
 abbrev pub latest_alone : Lists → Lists

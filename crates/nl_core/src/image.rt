@@ -6,7 +6,7 @@ ghost use Rattle.nl_segwriter.specs.Images as spaces;
 ghost use Rattle.nl_segwriter.specs.Writing.{held_in};
 ghost use Rattle.nl_dat.specs.Images.{IsTableOver};
 ghost use Rattle.nl_image.specs.Conditions.{IsShapeOf, MeetsFirst};
-ghost use Rattle.nl_image.specs.Parts.{Parts};
+ghost use Rattle.nl_image.specs.Parts.{Parts, with_present_mark};
 ghost use Rattle.nl_image.specs.Reading.{CanBeRestored, HaveOwn, IsReadImage};
 ghost use Rattle.nl_core.specs.Layout.{IsPen};
 ghost use Rattle.nl_core.specs.Opened.{IsAtRest, IsOpenRefusal, IsRestoredStore};
@@ -26,14 +26,15 @@ use nl_sufile::SegTable;
 use nl_types::{Items, VolError};
 use std::alloc::Global;
 
-/// The volume whose image these bytes are, on a device of its geometry. What the device holds is no part of it, and nothing is
+/// The volume whose image these bytes are, on a device of its geometry. It is closed to the same bytes, but for the mark where
+/// that is the first one. What the device holds is no part of it, and nothing is
 /// put there before all conditions were met. Refused by `BadImage` with the number of the first condition that the bytes fail,
 /// by `Memory`, and by `Fault` where the device failed; the device is dropped then.
 pub fn open<D: Device>(alloc: Global, bytes: &[u8], device: D) -> Result<Pen<D>, VolError>
     requires shape { (p : Parts) → MeetsFirst 2 bytes.now p → IsShapeOf (D.shape device) p.shape }
     ensures rest { IfOk result (λ pen. IsAtRest pen.lists) }
     ensures pen { IfOk result IsPen }
-    ensures image { IfOk result (λ pen. IsPenImage pen bytes.now) }
+    ensures image { IfOk result (λ pen. IsPenImage pen (with_present_mark bytes.now)) }
     ensures refused { IfErr result (IsOpenRefusal bytes.now) }
 {
     let read = read_image(alloc, bytes)?;
@@ -49,7 +50,7 @@ fn open_read<D: Device>(alloc: Global, read: ReadImage, device: D) -> Result<Pen
     ensures rest { IfOk result (λ pen. IsAtRest pen.lists) }
     ensures pen { IfOk result IsPen }
     ensures image { (bytes : List ℕ) → IsReadImage bytes read
-        → IfOk result (λ pen. IsPenImage pen bytes) }
+        → IfOk result (λ pen. IsPenImage pen (with_present_mark bytes)) }
     ensures refused { IfErr result (λ e. (e ≡ VolError.Fault) ⊎ (e ≡ VolError.Memory)) }
 {
     // Of the latest one's inodes one is the root's.

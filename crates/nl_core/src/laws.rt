@@ -1,5 +1,5 @@
 //! What the pen's definitions mean, as contracts of functions that do nothing.
-ghost use Rattle.nl_core.specs.CleanedPens.{MovesKeepPens, RefusedMovesKeepPens, RetirementsKeepPens};
+ghost use Rattle.nl_core.specs.CleanedPens.{MinorsKeepPens, MovesKeepPens, RefusedMovesKeepPens, RetirementsKeepPens};
 ghost use Rattle.nl_core.specs.Commits.{MountsStillShow};
 ghost use Rattle.nl_core.specs.Layout.{unshared};
 ghost use Rattle.nl_core.specs.LedgerEvents.{EventsAreLedgerEvents, RunsAreLedgerEvents, RunsKeepNumbers};
@@ -71,6 +71,12 @@ pub fn moves_keep_pens()
     ensures refused { RefusedMovesKeepPens }
 {}
 
+/// A minor checkpoint leaves a pen: no number starts or ends at it, and each world that was meant goes on with one copy more, the
+/// latest one under the next number.
+pub fn minors_keep_pens()
+    ensures { MinorsKeepPens }
+{}
+
 /// A retirement of a segment in which no number is needed takes out numbers that no kept checkpoint reaches, and leaves a pen
 /// that means the same.
 pub fn retirements_keep_pens()
@@ -78,9 +84,9 @@ pub fn retirements_keep_pens()
 {}
 
 /// What an event does to the numbers and the kept checkpoints, events of the ledger do, each allowed where it comes. A
-/// checkpoint is a write of its births and ends, a removal, a range or an expiry removes one checkpoint after another, a
-/// retirement takes out the numbers of its segment, and nothing else is one. So all laws about lists of ledger events hold of
-/// lists of a pen's events.
+/// checkpoint is a write of its births and ends, a move of blocks one of none, a removal, a range or an expiry removes one
+/// checkpoint after another, a retirement takes out the numbers of its segment, and nothing else is one. So all laws about
+/// lists of ledger events hold of lists of a pen's events.
 pub fn events_are_ledger_events()
     ensures event { EventsAreLedgerEvents unshared }
     ensures events { RunsAreLedgerEvents unshared }

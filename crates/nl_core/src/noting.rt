@@ -1,7 +1,7 @@
 //! Events with the commits that tell readers of them. What a commit takes of memory is taken before anything changes.
 ghost use Rattle.std.specs.Prelude.{◌≡◌, ◌<◌, ◌≤◌, ◌∷◌, ◌++◌, [], ℕ, List, if◌then◌else◌, length, map, nat_lt, vec_capacity, vec_len, IfOk, IfErr, OnErr, OnOk};
 ghost use Rattle.std.specs.Option.{option_map};
-ghost use Rattle.nl_types.specs.declared.event.Event.TheVariants.{Checkpoint, Retire};
+ghost use Rattle.nl_types.specs.declared.event.Event.TheVariants.{Checkpoint, Move, Retire};
 ghost use Rattle.nl_vstore.specs.Batches.{births_of};
 ghost use Rattle.nl_vstore.specs.Located.{numbers_in, onto};
 ghost use Rattle.nl_vstore.specs.Stores.{Store, content_in, numbered_in};
@@ -9,11 +9,11 @@ ghost use Rattle.nl_counts.specs.Counted.{IsCounted};
 ghost use Rattle.nl_core.specs.Draft.{CanBeDrafted, HasFewNames};
 ghost use Rattle.nl_core.specs.Layout.{HasRefused, layout_of};
 ghost use Rattle.nl_core.specs.NeededBlocks.{AreNeededCounts, IsCountedPen};
-ghost use Rattle.nl_core.specs.Notes.{DoesNoting, HasNotedWrite, mounted_as, new_checkpoint, new_page, shown_of, shown_page, where_any, where_gone, where_true};
+ghost use Rattle.nl_core.specs.Notes.{DoesNoting, HasNotedWrite, mounted_as, new_checkpoint, new_page, shown_of, shown_page, where_any, where_gone, where_true, without_changes};
 ghost use Rattle.nl_core.specs.Shown.{MountsRise, whole_of};
 ghost use Rattle.nl_core.specs.declared.commit.Commit.TheVariants.{Resized};
 
-use crate::cleaning::empty;
+use crate::cleaning::{empty, move_with_minor};
 use crate::commit::{Commit, NewPage, ShownPage, Whole, Written};
 use crate::draft::{Draft, draft_next, write_draft};
 use crate::mounts::Mounted;
@@ -22,6 +22,7 @@ use nl_counts::NeededCounts;
 use nl_counts::laws::refusals_keep_counts;
 use nl_cpfile::Checkpoint as Kept;
 use nl_files::laws::settled_numbers_are_lowest;
+use nl_reclaim::list_needed;
 use nl_space::Payload;
 use nl_types::{Answer, CheckpointNumber, Items, Mode, Reply, Segment, VirtualNumber, VolError};
 use nl_vstore::{Batch, Vstore};
@@ -257,6 +258,48 @@ pub fn note_retirement<V: Vstore>(
     notes.reserve(1)?;
     let answer = empty(tables, store, needed, segment)?;
     note_freed(notes, gone);
+    Ok(answer)
+}
+
+// ---- a move
+
+/// The commit of a checkpoint without births and ends. It takes no memory.
+fn written_minor(alloc: Global, minor: &Kept) -> Commit
+    ensures { result ≡ without_changes minor.now }
+{
+    Commit::Written(Written {
+        births: Items::new(alloc),
+        ends: Items::new(alloc),
+        checkpoint: *minor,
+    })
+}
+
+/// Moves the first needed blocks of a segment elsewhere, and notes the checkpoint that this makes, where there are some.
+pub fn note_move<V: Vstore>(
+    alloc: Global,
+    tables: &mut Tables,
+    store: &mut V,
+    needed: &mut NeededCounts,
+    segment: Segment,
+    limit: u32,
+    now: u64,
+    notes: &mut Vec<Commit>,
+) -> Reply
+    requires { IsCountedPen (layout_of tables.old.lists (V.store store.old)) needed.old }
+    ensures does { DoesNoting (layout_of tables.old.lists (V.store store.old)) (Move segment limit now) result
+        (layout_of tables.new.lists (V.store store.new)) notes.old.items notes.new.items }
+    ensures needed { AreNeededCounts (layout_of tables.new.lists (V.store store.new)) needed.new }
+{
+    let listed = list_needed(alloc, &*store, &*tables, segment, limit)?;
+    if listed.first.as_slice().is_empty() {
+        return Ok(Answer::Moved { moved: 0, left: 0 });
+    }
+    let minor = tables.draft_minor(now)?;
+    notes.reserve(1)?;
+    let answer = move_with_minor(
+        alloc, tables, store, needed, &listed, &minor, segment, limit, now,
+    )?;
+    note(notes, written_minor(alloc, &minor));
     Ok(answer)
 }
 

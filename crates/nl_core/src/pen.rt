@@ -25,7 +25,8 @@ use crate::closing::image_of;
 use crate::commit::Commit;
 use crate::laws::opened_images_are_pens;
 use crate::noting::{
-    note, note_checkpoint, note_mounted, note_resized, note_retirement, note_where_gone, whole,
+    note, note_checkpoint, note_mounted, note_move, note_resized, note_retirement, note_where_gone,
+    whole,
 };
 use crate::removing::{expire, remove, remove_range};
 use crate::resizing::resize;
@@ -322,7 +323,7 @@ impl<D: Device> Pen<D> {
                 now,
             } => move_out(
                 self.alloc,
-                &self.tables,
+                &mut self.tables,
                 &mut self.store,
                 &mut self.needed,
                 *segment,
@@ -363,6 +364,20 @@ impl<D: Device> Pen<D> {
                 *moment,
                 notes,
             ),
+            Event::Move {
+                segment,
+                limit,
+                now,
+            } => note_move(
+                self.alloc,
+                &mut self.tables,
+                &mut self.store,
+                &mut self.needed,
+                *segment,
+                *limit,
+                *now,
+                notes,
+            ),
             Event::Retire(segment) => note_retirement(
                 self.alloc,
                 &self.tables,
@@ -390,11 +405,7 @@ impl<D: Device> Pen<D> {
                 self.note_gone(event, commit, notes)
             }
             Event::Resize(segments) => self.note_resize(event, *segments, notes),
-            Event::Apply(_)
-            | Event::Read(_)
-            | Event::Move { .. }
-            | Event::MountRead(..)
-            | Event::Listing(_) => {
+            Event::Apply(_) | Event::Read(_) | Event::MountRead(..) | Event::Listing(_) => {
                 self.means_a_world();
                 self.apply(event)
             }

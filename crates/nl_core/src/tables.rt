@@ -53,15 +53,15 @@ impl Model for Tables {
 impl Tables {
     ghost use Rattle.nl_types.specs.declared.event.Event.TheVariants.{Apply, Read, ChangeMode, Remove, RemoveRange, Expire, Mount, Unmount, MountRead, Listing};
     ghost use Rattle.nl_cpfile.specs.Searching.{IsLeastAbove};
-    ghost use Rattle.nl_cpfile.specs.Tables.{ComesNext, IsTable};
+    ghost use Rattle.nl_cpfile.specs.Tables.{ComesNext, IsTable, with_next};
     ghost use Rattle.nl_core.specs.CleaningEvents.{kept_numbers};
     ghost use Rattle.nl_core.specs.LedgerEvents.{taken_out};
     ghost use Rattle.nl_core.specs.NeededBlocks.{AreEarlier};
     ghost use Rattle.nl_core.specs.Changes.{HasChanged};
-    ghost use Rattle.nl_core.specs.Draft.{CanBeDrafted, HasFewNames, IsDraftRefusal, IsNextDraft};
+    ghost use Rattle.nl_core.specs.Draft.{CanBeDrafted, HasFewNames, HasNextNumber, IsDraftRefusal, IsNextDraft};
     ghost use Rattle.nl_core.specs.Means.{FollowsOver, Means};
     ghost use Rattle.nl_core.specs.Tables.{blank_lists};
-    ghost use Rattle.nl_core.specs.Volume.{IsTakenOut, IsExpired, IsTakenOutRange, is_held_at, latest_alone, latest_root, published, with_change, with_checkpoint_mode, with_mount, without_mount, without_mounts};
+    ghost use Rattle.nl_core.specs.Volume.{IsTakenOut, IsExpired, IsTakenOutRange, is_held_at, latest_alone, latest_root, minor_checkpoint, published, with_change, with_checkpoint_mode, with_mount, without_mount, without_mounts};
     ghost use Rattle.nl_core.specs.Notes.{has_other_mode};
     ghost use Rattle.nl_core.specs.Opened.{IsAtRest, opened_lists};
     ghost use Rattle.nl_core.specs.Shown.{MountsRise, whole_of};
@@ -74,6 +74,7 @@ impl Tables {
         let blank = Checkpoint {
             number: CheckpointNumber::new(0),
             mode: Mode::Plain,
+            minor: false,
             stamp: 0,
             root: Root::Empty,
             inodes: 0,
@@ -367,6 +368,23 @@ impl Tables {
         Ok(Answer::Rows(rows))
     }
 
+    /// The latest checkpoint, where there is a number for one more, and room for that one. Refused by `NumbersSpent` and
+    /// `Memory`.
+    fn latest_with_room(&mut self) -> Result<Checkpoint, VolError>
+        ensures same { self.new.lists ≡ self.old.lists }
+        ensures latest { IfOk result (λ latest. latest ≡ self.old.lists.table.latest) }
+        ensures left { OnOk result (HasNextNumber self.old.lists) }
+        ensures refused { IfErr result (IsDraftRefusal self.old.lists) }
+        ensures room { OnOk result (0 < self.new.room) }
+    {
+        let latest = *self.checkpoints.latest();
+        if latest.number.get() >= LAST_CHECKPOINT {
+            return Err(VolError::NumbersSpent);
+        }
+        self.checkpoints.reserve()?;
+        Ok(latest)
+    }
+
     /// The next checkpoint, with all the memory that it takes. Refused by `NumbersSpent` and `Memory`.
     pub fn draft<V: Vstore>(
         &mut self,
@@ -382,17 +400,14 @@ impl Tables {
         ensures refused { IfErr result (IsDraftRefusal self.old.lists) }
         ensures room { OnOk result (0 < self.new.room) }
     {
-        let latest = *self.checkpoints.latest();
-        if latest.number.get() >= LAST_CHECKPOINT {
-            return Err(VolError::NumbersSpent);
-        }
-        self.checkpoints.reserve()?;
+        let latest = self.latest_with_room()?;
         let mut batch = Batch::new(alloc);
         let root = settle(alloc, store, &mut batch, latest.root, &self.current)?;
         Ok(Draft {
             checkpoint: Checkpoint {
                 number: CheckpointNumber::new(latest.number.get() + 1),
                 mode,
+                minor: false,
                 stamp: moment.max(latest.stamp),
                 root,
                 inodes: self.current.names() + 1,
@@ -413,6 +428,35 @@ impl Tables {
         self.current.settled();
         self.dirty = false;
         number
+    }
+
+    /// The latest checkpoint once more, as the volume keeps it by itself under the next number, and room for it. Refused by
+    /// `NumbersSpent` and `Memory`.
+    pub fn draft_minor(&mut self, moment: u64) -> Result<Checkpoint, VolError>
+        ensures same { self.new.lists ≡ self.old.lists }
+        ensures left { OnOk result (HasNextNumber self.old.lists) }
+        ensures drafted { IfOk result (λ minor. minor ≡ minor_checkpoint moment self.old.lists) }
+        ensures refused { IfErr result (IsDraftRefusal self.old.lists) }
+        ensures room { OnOk result (0 < self.new.room) }
+    {
+        let latest = self.latest_with_room()?;
+        Ok(Checkpoint {
+            number: CheckpointNumber::new(latest.number.get() + 1),
+            mode: Mode::Plain,
+            minor: true,
+            stamp: latest.stamp.max(moment),
+            ..latest
+        })
+    }
+
+    /// Keeps a checkpoint that the volume made by itself: the current tree and whether it is dirty stay.
+    pub fn publish_minor(&mut self, minor: Checkpoint)
+        requires room { 0 < self.old.room }
+        requires next { ComesNext minor self.old.lists.table }
+        ensures { self.new.lists
+            ≡ record self.old.lists { table = with_next minor self.old.lists.table } }
+    {
+        self.checkpoints.add(minor);
     }
 
     /// Forgets all checkpoints but the latest one.

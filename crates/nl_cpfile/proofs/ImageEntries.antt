@@ -1,5 +1,5 @@
 -- The entries of the checkpoints in an image.
-use Rattle.std.proofs.Common.{◌≡◌, ℕ, zero, suc, ◌+◌, ◌-◌, ◌*◌, ◌<◌, List, [], ◌∷◌, ◌++◌, length, get_or, take, drop, Some, refl, ap, sym, ◌∙◌, subst, arith}
+use Rattle.std.proofs.Common.{◌≡◌, ℕ, false, zero, suc, ◌+◌, ◌-◌, ◌*◌, ◌<◌, List, [], ◌∷◌, ◌++◌, length, get_or, take, drop, Some, refl, ap, sym, ◌∙◌, subst, arith}
 use Rattle.std.specs.List.{All, AllAdjacentBelow, AllByRecursion, AllPairs, AllZip, flat_map}
 use Rattle.std.proofs.lemmas.List.{take_more}
 use Rattle.nl_types.specs.declared.event.Mode.TheVariants.{Plain}
@@ -20,7 +20,7 @@ count_told bytes kept spelled = ap length spelled ∙ length-pieces checkpoint_b
 
 -- an entry for places where there is none
 abbrev pub blank : CheckpointEntry
-blank = record { number = 0; mode = Plain; stamp = 0; inodes = 0; root = record { kind = 0; height = 0; number = 0 }; size = 0 }
+blank = record { number = 0; mode = Plain; minor = false; stamp = 0; inodes = 0; root = record { kind = 0; height = 0; number = 0 }; size = 0 }
 
 -- each entry stands in its place
 pub entry_in_place : (bytes : List ℕ) (kept : List CheckpointEntry) (i : ℕ) (d : CheckpointEntry) → bytes ≡ flat_map checkpoint_bytes kept → All Fits kept → i < length kept

@@ -1,7 +1,10 @@
 -- The entries of the kept checkpoints in an image.
-use Rattle.std.specs.Prelude.{◌≡◌, ℕ, ◌<◌, ◌≤◌, List, flat_map, All, AllPairs, IsSome}
+use Rattle.std.specs.Prelude.{◌≡◌, ℕ, Bool, true, not, ◌<◌, ◌≤◌, List, flat_map, All, AllPairs, IsSome}
+use Rattle.std.specs.List.{list_all}
 use Rattle.nl_types.specs.Limits.{checkpoint_number_limit}
 use Rattle.nl_layout.specs.declared.checkpoint_entry.CheckpointEntry.{CheckpointEntry}
+use Rattle.nl_layout.specs.declared.superblock.Mark.{Mark}
+use Rattle.nl_layout.specs.declared.superblock.Mark.TheVariants.{First, Second}
 use Rattle.nl_layout.specs.Checkpoints.{Fits, checkpoint_bytes}
 use Rattle.nl_layout.specs.Root.{fields_of, root_told}
 use Rattle.nl_cpfile.specs.declared.checkpoint.Checkpoint.{Checkpoint}
@@ -25,11 +28,17 @@ pub record AreRising (kept : List CheckpointEntry) : Type 0 where
   pub rising : AllPairs Precedes kept
   pub numbers : All HasNumber kept
 
--- the bytes are the entries of these checkpoints, which rise
-pub record IsCpfileOf (bytes : List ℕ) (kept : List CheckpointEntry) : Type 0 where
+-- images of the first mark know no minor checkpoints
+abbrev pub are_known_to : Mark → List CheckpointEntry → Bool
+are_known_to First kept = list_all (λ (e : CheckpointEntry). not e.minor) kept
+are_known_to Second kept = true
+
+-- under the mark the bytes are the entries of these checkpoints, which rise
+pub record IsCpfileOf (mark : Mark) (bytes : List ℕ) (kept : List CheckpointEntry) : Type 0 where
   pub spelled : bytes ≡ cpfile_bytes kept
   pub fit : All Fits kept
   pub rise : AreRising kept
+  pub known : are_known_to mark kept ≡ true
 
 -- ---- an entry, and the checkpoint of it
 
@@ -41,6 +50,7 @@ HasRoot e = IsSome (root_told e.root)
 pub record IsEntryOf (c : Checkpoint) (e : CheckpointEntry) : Type 0 where
   pub number : e.number ≡ c.number
   pub mode : e.mode ≡ c.mode
+  pub minor : e.minor ≡ c.minor
   pub stamp : e.stamp ≡ c.stamp
   pub inodes : e.inodes ≡ c.inodes
   pub root : e.root ≡ fields_of c.root

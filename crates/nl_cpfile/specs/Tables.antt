@@ -1,5 +1,5 @@
 -- The kept checkpoints.
-use Rattle.std.specs.Prelude.{ℕ, ◌<◌, ◌≤◌, ◌==◌, Bool, false, not, if◌then◌else◌, List, [], ◌∷◌, ◌++◌, map, length, Option}
+use Rattle.std.specs.Prelude.{ℕ, ◌<◌, ◌≤◌, ◌==◌, Bool, not, if◌then◌else◌, List, [], ◌∷◌, ◌++◌, map, length, Option}
 use Rattle.std.specs.List.{AllByRecursion, filter}
 use Rattle.std.specs.FinMap.{find}
 use Rattle.std.specs.Ordering.{nat_cmp}
@@ -33,7 +33,7 @@ abbrev pub kept_at : ℕ → Table → Option Checkpoint
 kept_at n t = find nat_cmp n (map by_number (all t))
 
 abbrev pub row_of : Checkpoint → Row
-row_of c = record { number = c.number; stamp = c.stamp; mode = c.mode; minor = false; inodes = c.inodes }
+row_of c = record { number = c.number; stamp = c.stamp; mode = c.mode; minor = c.minor; inodes = c.inodes }
 
 abbrev pub rows_of : List Checkpoint → List Row
 rows_of kept = map row_of kept

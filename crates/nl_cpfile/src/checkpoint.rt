@@ -11,6 +11,8 @@ use nl_types::{CheckpointNumber, Mode, Row, VolError};
 pub struct Checkpoint {
     pub number: CheckpointNumber,
     pub mode: Mode,
+    /// Whether the volume made it by itself, as it moved blocks.
+    pub minor: bool,
     /// The moment at which it was made, in whole seconds. Stamps never fall.
     pub stamp: u64,
     /// The root of its file of inodes.
@@ -28,7 +30,7 @@ impl Checkpoint {
             number: self.number,
             stamp: self.stamp,
             mode: self.mode,
-            minor: false,
+            minor: self.minor,
             inodes: self.inodes,
         }
     }

@@ -1,33 +1,37 @@
 //! The kept checkpoints in an image.
-ghost use Rattle.std.specs.Prelude.{◌≡◌, ◌*◌, ◌+◌, ◌<◌, ◌≤◌, ◌⊎◌, ◌↔◌, ℕ, IsTrue, IfOk, IfErr, IfSome, MatchResult, length, take, drop, List, Some, All};
-ghost use Rattle.std.specs.List.{AllZip};
+ghost use Rattle.std.specs.Prelude.{◌≡◌, ◌*◌, ◌+◌, ◌<◌, ◌≤◌, ◌⊎◌, ◌↔◌, ℕ, not, IsTrue, IfOk, IfErr, IfSome, MatchResult, length, take, drop, List, Some, All};
+ghost use Rattle.std.specs.List.{AllZip, list_all};
 ghost use Rattle.nl_layout.specs.declared.checkpoint_entry.CheckpointEntry.{CheckpointEntry};
 ghost use Rattle.nl_layout.specs.Checkpoints.{Fits, Spells};
-ghost use Rattle.nl_cpfile.specs.Images.{AreRising, HasNumber, HasRoot, IsCpfileOf, IsEntryOf, Precedes, cpfile_bytes};
+ghost use Rattle.nl_cpfile.specs.Images.{AreRising, are_known_to, HasNumber, HasRoot, IsCpfileOf, IsEntryOf, Precedes, cpfile_bytes};
 ghost use Rattle.nl_cpfile.specs.Tables.{all};
 
 use crate::checkpoint::Checkpoint;
 use crate::table::Checkpoints;
-use nl_layout::{CHECKPOINT_SIZE, CheckpointEntry};
+use nl_layout::{CHECKPOINT_SIZE, CheckpointEntry, Mark};
 use nl_types::{Items, VolError};
 use std::alloc::{AllocError, Global};
 
 /// What refuses an image for its entries of checkpoints.
 const BAD_ENTRIES: VolError = VolError::BadImage(5);
 
-/// The entries of checkpoints that the bytes spell, 160 bytes for each. Refused by `BadImage(5)` where they spell none: the
-/// numbers rise from 1 at least and stay below the limit, and no stamp falls; and by `Memory`. The root of an entry and the
-/// size of its file of inodes are judged by the blocks that they lead to.
-pub fn read_checkpoints(alloc: Global, bytes: &[u8]) -> Result<Items<CheckpointEntry>, VolError>
+/// The entries of checkpoints that the bytes of an image of a mark spell, 160 bytes for each. Refused by `BadImage(5)` where
+/// they spell none: the numbers rise from 1 at least and stay below the limit, no stamp falls, and under the first mark none is
+/// minor; and by `Memory`. The root of an entry and the size of its file of inodes are judged by the blocks that they lead to.
+pub fn read_checkpoints(
+    alloc: Global,
+    mark: Mark,
+    bytes: &[u8],
+) -> Result<Items<CheckpointEntry>, VolError>
     requires { (n : ℕ) × (length bytes.now ≡ 160 * n) }
-    ensures found { IfOk result (IsCpfileOf bytes.now) }
+    ensures found { IfOk result (IsCpfileOf mark bytes.now) }
     ensures count { IfOk result (λ kept. length bytes.now ≡ 160 * length kept) }
-    ensures only { (kept : List CheckpointEntry) → IsCpfileOf bytes.now kept
+    ensures only { (kept : List CheckpointEntry) → IsCpfileOf mark bytes.now kept
         → MatchResult result (λ found. found ≡ kept) (λ e. e ≡ VolError.Memory) }
     ensures refused { IfErr result (λ e. (e ≡ VolError.BadImage 5) ⊎ (e ≡ VolError.Memory)) }
 {
     let kept = read_entries(alloc, bytes)?;
-    if are_rising(kept.as_slice()) {
+    if are_rising(kept.as_slice()) && are_known_to(mark, kept.as_slice()) {
         Ok(kept)
     } else {
         Err(BAD_ENTRIES)
@@ -74,6 +78,7 @@ impl Checkpoint {
         CheckpointEntry {
             number: self.number,
             mode: self.mode,
+            minor: self.minor,
             stamp: self.stamp,
             inodes: self.inodes,
             root: self.root.fields(),
@@ -91,6 +96,7 @@ impl Checkpoint {
         Checkpoint {
             number: entry.number,
             mode: entry.mode,
+            minor: entry.minor,
             stamp: entry.stamp,
             root,
             inodes: entry.inodes,
@@ -141,6 +147,22 @@ fn are_rising(kept: &[CheckpointEntry]) -> bool
         }
     }
     true
+}
+
+/// Whether images of the mark know such checkpoints.
+fn are_known_to(mark: Mark, kept: &[CheckpointEntry]) -> bool
+    ensures { result ≡ are_known_to mark kept.now }
+{
+    match mark {
+        Mark::First => none_is_minor(kept),
+        Mark::Second => true,
+    }
+}
+
+fn none_is_minor(kept: &[CheckpointEntry]) -> bool
+    ensures { result ≡ list_all (λ (entry : CheckpointEntry). not entry.minor) kept.now }
+{
+    kept.iter().all(|entry| !entry.minor)
 }
 
 fn has_number(entry: &CheckpointEntry) -> bool

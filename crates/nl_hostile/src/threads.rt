@@ -7,7 +7,7 @@ use nl_device::MemDevice;
 use nl_mounts::{Gate, JobAnswer, Port, ReadJob, Shared, read_many, share};
 use nl_protect::{Amount, Config};
 use nl_publish::{Mount, Opened, Volumes};
-use nl_types::{Answer, CheckpointNumber, Items, Mode, Reply, VolError};
+use nl_types::{Answer, CheckpointNumber, Event, Items, Mode, Reply, VolError};
 use std::alloc::Global;
 use std::marker::Brand;
 use std::sync::Wait;
@@ -77,23 +77,30 @@ impl Gate for Progress {
 
 // ---- the writer
 
-fn is_checkpoint(reply: &Reply, number: u64) -> bool {
-    matches!(reply, Ok(Answer::Checkpoint(made)) if made.get() == number)
+/// The number of the checkpoint that was made, 0 where none was.
+fn number_made(reply: &Reply) -> u64 {
+    match reply {
+        Ok(Answer::Checkpoint(made)) => made.get(),
+        _ => 0,
+    }
 }
 
-/// Writes one byte after another, with a checkpoint behind each. Their numbers ascend from 3 on.
+/// Writes one byte after another, with a checkpoint behind each. Their numbers ascend from 3 on, with
+/// those of minor ones between.
 fn writes<J: Volumes, R: Wait>(
     rt: &R,
     alloc: Global,
     shared: &Volume<J>,
     progress: &Progress,
 ) -> Result<bool, VolError> {
+    let mut last = 2;
     for turn in 0..CHECKPOINTS {
         shared.apply(rt, &write(alloc, turn as u8)?)?;
-        let made = shared.apply(rt, &checkpoint(Mode::Plain, 0));
-        if !is_checkpoint(&made, turn + 3) {
+        let made = number_made(&shared.apply(rt, &checkpoint(Mode::Plain, 0)));
+        if made <= last {
             return Ok(false);
         }
+        last = made;
         progress.answered.store(turn + 1, Ordering::SeqCst);
     }
     Ok(true)
@@ -143,7 +150,8 @@ fn cleans<J: Volumes, R: Wait>(
     Ok(false)
 }
 
-/// Does one round after another, and the last one behind the writer's end. So only what stays then is kept.
+/// Does one round after another, and the last one behind the writer's end. So only what stays then is
+/// kept, and the minor checkpoints of that round.
 fn cleans_to_the_end<J: Volumes, R: Wait>(
     rt: &R,
     alloc: Global,
@@ -264,10 +272,15 @@ fn shared<J: Volumes, R: Wait>(
     }
 }
 
-/// Whether the snapshot and the writer's last checkpoint are kept, and no other.
-fn keeps_two(pen: &Pen<MemDevice>) -> bool {
+/// Whether the snapshot and the latest checkpoint stay where the others expire. The latest one is the
+/// writer's last, or a minor one behind it.
+fn keeps_two(pen: &mut Pen<MemDevice>) -> bool {
+    let expired = pen.apply(&Event::Expire { now: 0, period: 0 });
     let kept = pen.cpstat();
-    kept.count == 2 && kept.snapshots == 1 && kept.latest.get() == CHECKPOINTS + 2
+    matches!(&expired, Ok(Answer::Expired(_)))
+        && kept.count == 2
+        && kept.snapshots == 1
+        && kept.latest.get() >= CHECKPOINTS + 2
 }
 
 /// Whether all go as is due, and the volume that they leave is closed, opened, and closed again to the same
@@ -283,7 +296,7 @@ fn reads_stand<J: Volumes + Send + Sync, R: Threads + Wait + Sync>(
     let good = go_beside_a_mount(rt, alloc, &volume, &mut ports);
     let mut pen = volume.end(rt, Vec::new(alloc));
     let image = closed(alloc, &mut pen)?;
-    Ok(good? && keeps_two(&pen) && closes_again(alloc, image.as_slice())?)
+    Ok(good? && keeps_two(&mut pen) && closes_again(alloc, image.as_slice())?)
 }
 
 #[test]

@@ -2,6 +2,7 @@
 use Rattle.std.proofs.Common.{◌≡◌, ℕ, [], List, take, length, ap, refl, sym, ◌∙◌, subst, arith}
 use Rattle.nl_types.specs.declared.geometry.Geometry.{Geometry}
 use Rattle.nl_layout.specs.Superblock.{HasMark}
+use Rattle.nl_layout.specs.declared.superblock.Mark.TheVariants.{Second}
 use Rattle.nl_layout.specs.declared.superblock.Superblock.{Superblock}
 use Rattle.nl_image.specs.Conditions.{FirstFails, IsDividedBy, IsShapeOf, MeetsFirst}
 use Rattle.nl_image.specs.Parts.{Parts, image_length}
@@ -12,7 +13,7 @@ abbrev pub parts-of : Superblock → Parts
 parts-of s = record { shape = s; segments = record { blocks = 0; each = [] }; numbers = []; kept = [] }
 
 blank : Parts
-blank = parts-of (record { segments = 0; blocks = 0; checkpoints = 0 })
+blank = parts-of (record { mark = Second; segments = 0; blocks = 0; checkpoints = 0 })
 
 module _ (bytes : List ℕ) where
   pub no-mark : (HasMark bytes → ⊥) → FirstFails 1 bytes

@@ -13,4 +13,5 @@ pub mod StoreLogs
 pub mod StoreConditions
 pub mod StoreBlocks
 pub mod OneParts
+pub mod PresentMark
 pub mod OneImage

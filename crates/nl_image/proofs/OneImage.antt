@@ -104,6 +104,7 @@ one-entry : (pages : Pages) (c : Checkpoint) (e f : CheckpointEntry)
 one-entry pages c e f one other shape = λ i. record {
   number = (one.entry.number ∙ sym other.entry.number) i;
   mode = (one.entry.mode ∙ sym other.entry.mode) i;
+  minor = (one.entry.minor ∙ sym other.entry.minor) i;
   stamp = (one.entry.stamp ∙ sym other.entry.stamp) i;
   inodes = (one.entry.inodes ∙ sym other.entry.inodes) i;
   root = (one.entry.root ∙ sym other.entry.root) i;
@@ -138,6 +139,7 @@ one-image store kept a b image shaped other =
   where
     shape : image.shape ≡ other.shape
     shape = λ i. record {
+      mark = (image.are.shape.mark ∙ sym other.are.shape.mark) i;
       segments = (image.are.shape.segments ∙ sym other.are.shape.segments) i;
       blocks = (image.are.shape.blocks ∙ sym other.are.shape.blocks) i;
       checkpoints = (image.are.count ∙ sym other.are.count) i;

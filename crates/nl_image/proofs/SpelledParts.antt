@@ -6,6 +6,8 @@ use Rattle.nl_types.proofs.EqualPieces.{length-pieces}
 use Rattle.nl_layout.specs.Checkpoints.{checkpoint_bytes}
 use Rattle.nl_layout.specs.Segment.{segment_bytes}
 use Rattle.nl_layout.specs.Superblock.{superblock_bytes}
+use Rattle.nl_layout.specs.declared.superblock.Mark.{Mark}
+use Rattle.nl_layout.specs.declared.superblock.Mark.TheVariants.{First, Second}
 use Rattle.nl_layout.specs.declared.superblock.Superblock.{Superblock}
 use Rattle.nl_sufile.specs.Images.{sufile_bytes}
 use Rattle.nl_sufile.proofs.ImageEntries as segments
@@ -36,7 +38,11 @@ part_last bytes front part first count is before long =
 -- ---- how long the parts are
 
 pub superblock-length : (s : Superblock) → length (superblock_bytes s) ≡ 1024
-superblock-length s = refl
+superblock-length s = by s.mark
+  where
+    by : (m : Mark) → length (superblock_bytes (record s { mark = m })) ≡ 1024
+    by First = refl
+    by Second = refl
 
 -- there are as many segments, numbers, checkpoints and blocks as the superblock says
 pub record HaveCounts (p : Parts) (data_bytes : List ℕ) : Type 0 where
@@ -77,7 +83,7 @@ module _ (p : Parts) (blocks bytes : List ℕ) (counts : HaveCounts p blocks) (s
   zeros-long = length-replicate (padding_of p.shape) 0
 
   pub head-told : take 1024 bytes ≡ head
-  head-told = part_behind bytes [] head _ 0 1024 spelled refl head-long
+  head-told = part_behind bytes [] head (segment_part ++ (number_part ++ (kept_part ++ (zero_part ++ blocks)))) 0 1024 (spelled ∙ simp append_assoc) refl head-long
 
   pub segments-told : sufile_in p.shape bytes ≡ segment_part
   segments-told = part_behind bytes head segment_part (number_part ++ (kept_part ++ (zero_part ++ blocks))) sufile_start (16 * p.shape.segments) (spelled ∙ simp append_assoc) head-long segments-long

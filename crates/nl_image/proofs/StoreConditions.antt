@@ -8,12 +8,15 @@ use Rattle.nl_types.specs.Roots as roots
 use Rattle.nl_types.specs.Roots.{Pages}
 use Rattle.nl_types.specs.Segments.{IsUsed, total_blocks}
 use Rattle.nl_device.specs.Pages.{DevicePages}
-use Rattle.nl_layout.specs.Superblock.{HasMark, superblock_bytes}
+use Rattle.nl_layout.specs.Superblock.{HasMark, mark_bytes, superblock_bytes}
+use Rattle.nl_layout.specs.declared.superblock.Mark.{Mark}
+use Rattle.nl_layout.specs.declared.superblock.Mark.TheVariants.{First, Second}
 use Rattle.nl_layout.specs.declared.superblock.Superblock.{Superblock}
 use Rattle.nl_space.specs.Images.{IsRestZero, pages_of}
 use Rattle.nl_vstore.specs.Periods.{Periods, periods_of}
 use Rattle.nl_vstore.specs.Stores.{IsStore, Store, content_in, device_in, space_in}
 use Rattle.nl_cpfile.specs.declared.checkpoint.Checkpoint.{Checkpoint}
+use Rattle.nl_cpfile.specs.Images.{are_known_to}
 use Rattle.nl_check.specs.Conditions.{AreExact, AreShaped, AreTrees}
 use Rattle.nl_check.specs.Judging.{told}
 use Rattle.nl_image.specs.Conditions.{HasCheckpoints, HasItsLength, HasLogs, HasNumbers, HasPeriods, HasSegments, HasShapes, HasTrees, HasZeros, IsDivided, IsImage, blocks_told, pages_told, periods_told}
@@ -29,8 +32,12 @@ use Rattle.nl_image.proofs.StoreNumbers.{are-own, are-used, numbers-long, own-bl
 marked : (bytes : List ℕ) (s : Superblock) → 1024 ≤ length bytes → take 1024 bytes ≡ superblock_bytes s → HasMark bytes
 marked bytes s long is = record {
   long = long;
-  mark = sym (take-take 8 1024 bytes (omega arith)) ∙ ap (take 8) is;
+  mark = (s.mark, sym (take-take 8 1024 bytes (omega arith)) ∙ ap (take 8) is ∙ beginning s.mark);
 }
+  where
+    beginning : (m : Mark) → take 8 (superblock_bytes (record s { mark = m })) ≡ mark_bytes m
+    beginning First = refl
+    beginning Second = refl
 
 module _ (store : Store) (kept : List Checkpoint) (bytes : List ℕ) (is : IsStore store) (image : IsImageOf store kept bytes) where
   abbrev parts : Parts
@@ -128,6 +135,7 @@ module _ (store : Store) (kept : List Checkpoint) (bytes : List ℕ) (is : IsSto
       spelled = kept-told parts image.blocks bytes counts image.spelled;
       fit = image.fit.kept;
       rise = over.rise;
+      known = ap (λ (m : Mark). are_known_to m image.entries) image.are.shape.mark;
     }
 
     has-numbers : HasNumbers bytes parts

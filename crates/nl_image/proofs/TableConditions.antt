@@ -97,19 +97,21 @@ module _ (x : Sections) (is : IsSectioned x) where
 
   -- ---- condition 5
 
-  cpfile-told : (p : Parts) → MeetsFirst 5 bytes p → IsCpfileOf x.checkpoints.now p.kept
+  cpfile-told : (p : Parts) → MeetsFirst 5 bytes p → IsCpfileOf x.superblock.mark x.checkpoints.now p.kept
   cpfile-told p m =
       let e = shape-told p (hold-fewer 4 5 conditions bytes p (omega arith) m) in
-      subst (λ xs. IsCpfileOf xs p.kept) (ap (λ (s : Superblock). cpfile_in s bytes) e ∙ sym is.checkpoints) m.1.1.1.1.0
+      subst (λ xs. IsCpfileOf x.superblock.mark xs p.kept) (sym is.checkpoints)
+      (subst (λ (s : Superblock). IsCpfileOf s.mark (cpfile_in s bytes) p.kept) e m.1.1.1.1.0)
 
-  meets-five : (s : Segments) (kept : List CheckpointEntry) → HaveSegments x s → IsCpfileOf x.checkpoints.now kept → (p : Parts) → AreTold x s kept p → MeetsFirst 5 bytes p
+  meets-five : (s : Segments) (kept : List CheckpointEntry) → HaveSegments x s → IsCpfileOf x.superblock.mark x.checkpoints.now kept → (p : Parts) → AreTold x s kept p → MeetsFirst 5 bytes p
   meets-five s kept have told p t =
       let m = have.meets p t.shape t.segments_are in
-      let spelled = is.checkpoints ∙ ap (λ (z : Superblock). cpfile_in z bytes) (sym t.shape) in
-      (m.0, (m.1.0, (m.1.1.0, (m.1.1.1.0, (subst (λ k. IsCpfileOf (cpfile_in p.shape bytes) k) (sym t.kept_are) (subst (λ xs. IsCpfileOf xs kept) spelled told), tt)))))
+      let spelled = subst (λ (s : Superblock). IsCpfileOf s.mark (cpfile_in s bytes) kept) (sym t.shape)
+      (subst (λ xs. IsCpfileOf x.superblock.mark xs kept) is.checkpoints told) in
+      (m.0, (m.1.0, (m.1.1.0, (m.1.1.1.0, (subst (λ k. IsCpfileOf p.shape.mark (cpfile_in p.shape bytes) k) (sym t.kept_are) spelled, tt)))))
 
   module _ (s : Segments) (have : HaveSegments x s) where
-    pub have_checkpoints : (r : Result (List CheckpointEntry) VolError) → IfOk r (IsCpfileOf x.checkpoints.now) → FindsAll r (IsCpfileOf x.checkpoints.now) (λ kept. kept) → IfOk r (HaveCheckpoints x s)
+    pub have_checkpoints : (r : Result (List CheckpointEntry) VolError) → IfOk r (IsCpfileOf x.superblock.mark x.checkpoints.now) → FindsAll r (IsCpfileOf x.superblock.mark x.checkpoints.now) (λ kept. kept) → IfOk r (HaveCheckpoints x s)
     have_checkpoints (Ok kept) found only = record {
       meets = λ p t. meets-five s kept have found p t;
       only = λ p m.
@@ -118,7 +120,7 @@ module _ (x : Sections) (is : IsSectioned x) where
     }
     have_checkpoints (Err e) found only = tt
 
-    pub checkpoints-refused : (r : Result (List CheckpointEntry) VolError) → FindsAll r (IsCpfileOf x.checkpoints.now) (λ kept. kept) → IfErr r (λ e. (e ≡ BadImage 5) ⊎ (e ≡ Memory)) → IfErr r (IsRefusal bytes)
+    pub checkpoints-refused : (r : Result (List CheckpointEntry) VolError) → FindsAll r (IsCpfileOf x.superblock.mark x.checkpoints.now) (λ kept. kept) → IfErr r (λ e. (e ≡ BadImage 5) ⊎ (e ≡ Memory)) → IfErr r (IsRefusal bytes)
     checkpoints-refused r only why =
         let p : Parts = parts_with x s [] [] in
         refused-by r 5 bytes (omega arith) p (have.meets p refl refl) (λ q m. memory-alone (λ t. t ≡ q.kept) r (only q.kept (cpfile-told q m))) why

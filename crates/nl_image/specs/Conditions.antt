@@ -46,7 +46,7 @@ periods_told p v = option_map period_of_entry (entry_told p.numbers v)
 
 -- ---- the conditions, of bytes and the parts that they spell
 
--- 1: there are as many bytes as a superblock has, and the first ones are the mark
+-- 1: there are as many bytes as a superblock has, and the first ones are a mark
 abbrev pub IsMarked : List ℕ → Parts → Type 0
 IsMarked bytes p = HasMark bytes
 
@@ -75,9 +75,9 @@ pub record HasSegments (bytes : List ℕ) (p : Parts) : Type 0 where
   pub shape : IsShapeOf geometry p.shape
   pub told : IsSufileOf geometry (sufile_in p.shape bytes) p.segments
 
--- 5: checkpoints rise
+-- 5: checkpoints rise, and under the first mark none is minor
 abbrev pub HasCheckpoints : List ℕ → Parts → Type 0
-HasCheckpoints bytes p = IsCpfileOf (cpfile_in p.shape bytes) p.kept
+HasCheckpoints bytes p = IsCpfileOf p.shape.mark (cpfile_in p.shape bytes) p.kept
 
 -- 6: each number in use has a period up to the latest checkpoint, and a used block of its own
 abbrev pub HasNumbers : List ℕ → Parts → Type 0

@@ -12,7 +12,7 @@ use Rattle.nl_cpfile.specs.Images.{AreRising}
 use Rattle.nl_check.specs.Conditions.{AreExact, AreShaped, AreTrees}
 use Rattle.nl_check.specs.Judging.{told}
 use Rattle.nl_image.specs.Conditions.{FirstFails, IsImage, condition_count, number_of_last, pages_told}
-use Rattle.nl_image.specs.Parts.{Parts, blocks_in, image_bytes}
+use Rattle.nl_image.specs.Parts.{Parts, blocks_in, image_bytes, with_present_mark}
 use Rattle.nl_image.specs.StoreImages.{IsImageOf, parts_of}
 
 -- no condition of an image is the first that fails
@@ -40,7 +40,13 @@ StoresHaveOneImage =
     (store : Store) (kept : List Checkpoint) (a b : List ℕ) → (image : IsImageOf store kept a)
     → AreShaped (pages_of (content_in store)) (map told image.entries) → IsImageOf store kept b → a ≡ b
 
--- which tells the pages under its numbers
+-- which has the present mark
+abbrev pub PresentMarkStays : Type 0
+PresentMarkStays =
+    (store : Store) (kept : List Checkpoint) (bytes : List ℕ) → IsImageOf store kept bytes
+    → with_present_mark bytes ≡ bytes
+
+-- and tells the pages under its numbers
 abbrev pub StoreImagesTellPages : Type 0
 StoreImagesTellPages =
     (store : Store) (kept : List Checkpoint) (bytes : List ℕ) → IsStore store → (image : IsImageOf store kept bytes)

@@ -3,7 +3,8 @@ use Rattle.std.specs.Prelude.{ℕ, ◌+◌, ◌-◌, ◌*◌, ◌%◌, List, ◌
 use Rattle.nl_types.specs.Segments.{Segments}
 use Rattle.nl_layout.specs.declared.checkpoint_entry.CheckpointEntry.{CheckpointEntry}
 use Rattle.nl_layout.specs.declared.superblock.Superblock.{Superblock}
-use Rattle.nl_layout.specs.Superblock.{superblock_bytes}
+use Rattle.nl_layout.specs.Superblock.{mark_bytes, superblock_bytes}
+use Rattle.nl_layout.specs.declared.superblock.Mark.TheVariants.{Second}
 use Rattle.nl_sufile.specs.Images.{sufile_bytes}
 use Rattle.nl_dat.specs.declared.entries.DatEntry.{DatEntry}
 use Rattle.nl_dat.specs.EntryBytes.{dat_bytes}
@@ -75,3 +76,7 @@ entry_bytes p = sufile_bytes p.segments ++ dat_bytes p.numbers ++ cpfile_bytes p
 -- the superblock, the entries, zeros up to a whole block, and all blocks
 abbrev pub image_bytes : Parts → List ℕ → List ℕ
 image_bytes p blocks = superblock_bytes p.shape ++ entry_bytes p ++ replicate (padding_of p.shape) 0 ++ blocks
+
+-- bytes that begin with a mark, under the present one: that is how a volume is closed that was opened under the first
+abbrev pub with_present_mark : List ℕ → List ℕ
+with_present_mark bytes = mark_bytes Second ++ drop 8 bytes

@@ -3,6 +3,7 @@ use Rattle.std.specs.Prelude.{◌≡◌, List, ℕ, length, All}
 use Rattle.std.specs.List.{AllZip}
 use Rattle.nl_types.specs.Roots.{Pages, pages_of}
 use Rattle.nl_layout.specs.declared.checkpoint_entry.CheckpointEntry.{CheckpointEntry}
+use Rattle.nl_layout.specs.declared.superblock.Mark.TheVariants.{Second}
 use Rattle.nl_layout.specs.declared.superblock.Superblock.{Superblock}
 use Rattle.nl_layout.specs.Checkpoints as checkpoints
 use Rattle.nl_layout.specs.Root.{root_of}
@@ -22,8 +23,9 @@ pub record IsSizedEntry (pages : Pages) (c : Checkpoint) (e : CheckpointEntry) :
   pub entry : IsEntryOf c e
   pub size : IsSizeOf pages (root_of c.root) e.size
 
--- the superblock divides the volume as the store is divided
+-- the superblock divides the volume as the store is divided, under the present mark
 pub record IsShapeOfStore (store : Store) (s : Superblock) : Type 0 where
+  pub mark : s.mark ≡ Second
   pub segments : s.segments ≡ length store.segments.each
   pub blocks : s.blocks ≡ store.segments.blocks
 

@@ -1,5 +1,5 @@
 //! What the definitions of images mean, as contracts of functions that do nothing.
-ghost use Rattle.nl_image.specs.Laws.{ImagesAreSpelled, ImagesHaveNoFault, ImagesHaveOneParts, OneFailsFirst, StoreImagesAreImages, StoreImagesTellPages, StoresHaveOneImage};
+ghost use Rattle.nl_image.specs.Laws.{ImagesAreSpelled, ImagesHaveNoFault, ImagesHaveOneParts, OneFailsFirst, PresentMarkStays, StoreImagesAreImages, StoreImagesTellPages, StoresHaveOneImage};
 
 use nl_dat::laws::bytes_spell_one_entry;
 use nl_layout::laws::bytes_spell_one_value;
@@ -27,6 +27,11 @@ pub fn images_have_one_list_of_parts()
 pub fn store_images_tell_the_store()
     ensures one { StoresHaveOneImage }
     ensures pages { StoreImagesTellPages }
+{}
+
+/// The image of a store has the present mark.
+pub fn store_images_have_the_present_mark()
+    ensures { PresentMarkStays }
 {}
 
 /// The image of a store, and of checkpoints kept over it, is one.

@@ -58,7 +58,7 @@ fn read_kept(
     ensures found { IfOk result (HaveCheckpoints sections.now segments.now) }
     ensures refused { IfErr result (IsRefusal sections.now.image.now) }
 {
-    read_checkpoints(alloc, sections.checkpoints)
+    read_checkpoints(alloc, sections.superblock.mark, sections.checkpoints)
 }
 
 /// The number of the last entry, 0 where there is none.

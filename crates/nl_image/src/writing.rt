@@ -17,7 +17,7 @@ ghost use Rattle.nl_image.specs.StoreImages.{IsImageOf, IsShapeOfStore, IsSizedE
 
 use nl_cpfile::write_checkpoints;
 use nl_dat::Dat;
-use nl_layout::{CheckpointEntry, Superblock};
+use nl_layout::{CheckpointEntry, Mark, Superblock};
 use nl_space::Space;
 use nl_types::{BLOCK_SIZE, VolError};
 use nl_vstore::Vstore;
@@ -51,13 +51,14 @@ pub fn write_image<S: Space>(
     Ok(image)
 }
 
-/// How the store's volume is divided, and how many checkpoints are kept.
+/// How the store's volume is divided, and how many checkpoints are kept, under the present mark.
 fn superblock_over<S: Space>(store: &Dat<S>, kept: &[CheckpointEntry]) -> Superblock
     ensures shape { IsShapeOfStore store.now.store result }
     ensures kept { result.checkpoints ≡ length kept.now }
 {
     let table = store.table();
     Superblock {
+        mark: Mark::Second,
         segments: table.sustat().segments as u32,
         blocks: table.blocks(),
         checkpoints: kept.len() as u64,

@@ -1,5 +1,6 @@
-//! Images that are changed at random: each has to be refused, or to open and close to just its bytes. And
-//! tests of images with chosen changes, with each of their first bytes raised, and of other lengths.
+//! Images that are changed at random: each has to be refused, or to open and close to just its bytes, but
+//! for the first mark. And tests of images with chosen changes, with each of their first bytes raised, and
+//! of other lengths.
 #![tactic(auto)]
 
 use crate::origins::{image_of, origins};

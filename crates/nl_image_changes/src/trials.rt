@@ -1,5 +1,5 @@
 //! Trials: images with a random change, of which each has to be refused, or opened and closed to just its
-//! bytes.
+//! bytes, under the present mark.
 use crate::changes::{any, change};
 use crate::parts::{Parts, parts_of};
 use crate::verdicts::{Verdict, verdict_on};
@@ -44,7 +44,7 @@ const CONDITIONS: usize = 12;
 pub(crate) struct Tally {
     /// How many changes left the bytes as they were.
     pub(crate) unchanged: u64,
-    /// How many changed images were opened, and closed to their bytes.
+    /// How many changed images were opened, and closed to their bytes, under the present mark.
     pub(crate) kept: u64,
     /// How many failed each condition first. The conditions count from 1.
     pub(crate) refused: [u64; CONDITIONS],

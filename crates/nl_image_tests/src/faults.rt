@@ -21,13 +21,16 @@ fn fails(
 
 // ---- what meets all conditions
 
-/// Nothing; a dirty segment in place of the active one; a segment in error; a snapshot fewer; other data; records of live
-/// blocks with another inode, offset or level; a file with a hole of 64 MiB behind its blocks; trees in the place of chains.
+/// Nothing; a dirty segment in place of the active one; a segment in error; a snapshot fewer; a minor
+/// checkpoint in its place, plain and a snapshot; other data; records of live blocks with another inode,
+/// offset or level; a file with a hole of 64 MiB behind its blocks; trees in the place of chains.
 pub(crate) const SOUND: &[Row] = &[
     &[],
     &[(Part::Segment(0), 12, &[2])],
     &[(Part::Segment(1), 0, &[9]), (Part::Segment(1), 12, &[6])],
     &[(Part::Checkpoint(1), 16, &[0])],
+    &[(Part::Checkpoint(1), 16, &[2])],
+    &[(Part::Checkpoint(1), 16, &[3])],
     &[(Part::Block(12), 0, b"other")],
     &[
         (Part::Block(0), 72, &[9]),
@@ -42,7 +45,7 @@ pub(crate) const SOUND: &[Row] = &[
 // ---- conditions 1 to 3
 
 /// Another mark.
-const MARK: &[Row] = &[&[(Part::Superblock, 7, b"2")]];
+const MARK: &[Row] = &[&[(Part::Superblock, 7, b"3")]];
 
 /// 7 segments; 3 blocks in each; no checkpoint; a byte behind the fields.
 const DIVISION: &[Row] = &[
@@ -75,14 +78,17 @@ const SEGMENTS: &[Row] = &[
 
 // ---- condition 5: checkpoints
 
-/// Equal numbers; number 0; the number that none has; a stamp that falls; flags 2; a byte behind the flags; a file in place of
-/// the file of inodes; a byte outside the fields of its inode.
+/// Equal numbers; number 0; the number that none has; a stamp that falls; flags 4; flags 2 and 3 under
+/// the first mark; a byte behind the flags; a file in place of the file of inodes; a byte outside the
+/// fields of its inode.
 const CHECKPOINTS: &[Row] = &[
     &[(Part::Checkpoint(1), 0, &[1])],
     &[(Part::Checkpoint(0), 0, &[0])],
     &[(Part::Checkpoint(1), 0, NO_END)],
     &[(Part::Checkpoint(1), 8, &[9])],
-    &[(Part::Checkpoint(1), 16, &[2])],
+    &[(Part::Checkpoint(1), 16, &[4])],
+    &[(Part::Superblock, 7, b"1"), (Part::Checkpoint(1), 16, &[2])],
+    &[(Part::Superblock, 7, b"1"), (Part::Checkpoint(1), 16, &[3])],
     &[(Part::Checkpoint(1), 20, &[1])],
     &[(Part::Checkpoint(1), 32, &[1])],
     &[(Part::Checkpoint(1), 56, &[1])],

@@ -24,19 +24,30 @@ fn closed<D: Device>(alloc: Global, pen: &mut Pen<D>) -> Result<Vec<u8>, VolErro
     pen.close()
 }
 
-/// Whether an image is opened, and closed to the same bytes.
-fn closes_again(alloc: Global, image: &[u8]) -> Result<bool, VolError> {
+/// Whether an image is opened, and closed to these bytes.
+fn closes_to(alloc: Global, image: &[u8], due: &[u8]) -> Result<bool, VolError> {
     let mut pen = opened(alloc, image)?;
     let again = closed(alloc, &mut pen)?;
-    Ok(again.as_slice() == image)
+    Ok(again.as_slice() == due)
 }
 
 #[test]
 fn images_are_opened_and_closed(rt: HostRuntime) -> Result<(), Fail> {
     for row in SOUND {
         let image = image_with(rt.alloc(), &[], row)?;
-        assert!(rt; closes_again(rt.alloc(), image.as_slice())?);
+        assert!(rt; closes_to(rt.alloc(), image.as_slice(), image.as_slice())?);
     }
+    Ok(())
+}
+
+/// The first mark, of versions without minor checkpoints.
+const FIRST_MARK: Row = &[(Part::Superblock, 7, b"1")];
+
+#[test]
+fn images_of_the_first_mark_close_under_the_present_one(rt: HostRuntime) -> Result<(), Fail> {
+    let first = image_with(rt.alloc(), &[], FIRST_MARK)?;
+    let present = image_with(rt.alloc(), &[], &[])?;
+    assert!(rt; closes_to(rt.alloc(), first.as_slice(), present.as_slice())?);
     Ok(())
 }
 

@@ -6,7 +6,7 @@ ghost use Rattle.nl_segwriter.specs.Images.{IsShapeOf};
 use crate::bytes::{CHECKPOINTS, NUMBERS, SEGMENTS, Spelling, spelled};
 use nl_cpfile::{Checkpoint, Checkpoints, read_checkpoints, write_checkpoints};
 use nl_dat::read_numbers;
-use nl_layout::{Root, Superblock};
+use nl_layout::{Mark, Root, Superblock};
 use nl_sufile::SegTable;
 use nl_types::{CheckpointNumber, Geometry, Mode, VolError};
 use std::alloc::Global;
@@ -20,8 +20,13 @@ type Row = (&'static [Spelling], bool);
 /// 8 segments of 4 blocks, and 2 checkpoints.
 const SUPERBLOCK: &[Spelling] = &[(0, b"NLVOL001"), (8, &[8]), (12, &[4]), (16, &[2])];
 
-/// Nothing; another version; a byte behind the fields.
-const SUPERBLOCK_ROWS: &[Row] = &[(&[], true), (&[(7, b"2")], false), (&[(24, &[1])], false)];
+/// Nothing; the later mark; another one; a byte behind the fields.
+const SUPERBLOCK_ROWS: &[Row] = &[
+    (&[], true),
+    (&[(7, b"2")], true),
+    (&[(7, b"3")], false),
+    (&[(24, &[1])], false),
+];
 
 fn superblock_rows() -> &'static [Row] {
     SUPERBLOCK_ROWS
@@ -112,28 +117,36 @@ fn segments_are_judged_entry_by_entry(rt: HostRuntime) -> Result<(), Fail> {
 
 // ---- checkpoints
 
-/// Nothing; number 0; equal numbers; a falling stamp; flags 2; a byte behind the flags; a file in place of the file of inodes;
-/// the number that no checkpoint has.
-const CHECKPOINT_ROWS: &[Row] = &[
-    (&[], true),
-    (&[(0, &[0])], false),
-    (&[(0, &[3])], false),
-    (&[(168, &[9])], false),
-    (&[(176, &[2])], false),
-    (&[(180, &[1])], false),
-    (&[(32, &[1])], false),
+/// Changes of the base, and whether the bytes are accepted then under the first mark, and under the
+/// second one.
+type MarkedRow = (&'static [Spelling], bool, bool);
+
+/// Nothing; number 0; equal numbers; a falling stamp; flags 0, 2, 3 and 4; a byte behind the flags; a
+/// file in place of the file of inodes; the number that no checkpoint has.
+const CHECKPOINT_ROWS: &[MarkedRow] = &[
+    (&[], true, true),
+    (&[(0, &[0])], false, false),
+    (&[(0, &[3])], false, false),
+    (&[(168, &[9])], false, false),
+    (&[(176, &[0])], true, true),
+    (&[(176, &[2])], false, true),
+    (&[(176, &[3])], false, true),
+    (&[(176, &[4])], false, false),
+    (&[(180, &[1])], false, false),
+    (&[(32, &[1])], false, false),
     (
         &[(160, &[0xff, 0xff, 0xff, 0xff, 0xff, 0xff, 0xff, 0xff])],
+        false,
         false,
     ),
 ];
 
-fn checkpoint_rows() -> &'static [Row] {
+fn checkpoint_rows() -> &'static [MarkedRow] {
     CHECKPOINT_ROWS
 }
 
-fn are_checkpoints(alloc: Global, bytes: &[u8; 320]) -> Result<bool, VolError> {
-    match read_checkpoints(alloc, bytes.as_slice()) {
+fn are_checkpoints(alloc: Global, mark: Mark, bytes: &[u8; 320]) -> Result<bool, VolError> {
+    match read_checkpoints(alloc, mark, bytes.as_slice()) {
         Ok(kept) => {
             let mut again = [0xaa; 320];
             write_checkpoints(kept.as_slice(), &mut again);
@@ -150,6 +163,7 @@ fn first_checkpoint() -> Checkpoint
     Checkpoint {
         number: CheckpointNumber::new(1),
         mode: Mode::Plain,
+        minor: false,
         stamp: 10,
         root: Root::Empty,
         inodes: 1,
@@ -165,8 +179,10 @@ fn is_kept(alloc: Global) -> Result<bool, VolError> {
 
 #[test]
 fn checkpoints_are_judged_entry_by_entry(rt: HostRuntime) -> Result<(), Fail> {
-    for (changes, due) in checkpoint_rows() {
-        assert!(rt; are_checkpoints(rt.alloc(), &spelled(CHECKPOINTS, changes))? == *due);
+    for (changes, first, second) in checkpoint_rows() {
+        let bytes = spelled(CHECKPOINTS, changes);
+        assert!(rt; are_checkpoints(rt.alloc(), Mark::First, &bytes)? == *first);
+        assert!(rt; are_checkpoints(rt.alloc(), Mark::Second, &bytes)? == *second);
     }
     assert!(rt; is_kept(rt.alloc())?);
     Ok(())

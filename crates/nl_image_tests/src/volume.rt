@@ -51,7 +51,7 @@ pub(crate) const NO_END: &[u8] = &[0xff, 0xff, 0xff, 0xff, 0xff, 0xff, 0xff, 0xf
 
 /// 8 segments of 20 blocks, of which the first is active since moment 6 and has 16 blocks in use.
 const TABLES: &[Change] = &[
-    (Part::Superblock, 0, b"NLVOL001\x08\0\0\0\x14\0\0\0\x02"),
+    (Part::Superblock, 0, b"NLVOL002\x08\0\0\0\x14\0\0\0\x02"),
     (Part::Segment(0), 0, &[6]),
     (Part::Segment(0), 8, &[16]),
     (Part::Segment(0), 12, &[3]),

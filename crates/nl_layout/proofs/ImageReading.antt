@@ -7,22 +7,35 @@ use Rattle.byteorder.specs.Numbers.{little_number-reads_back}
 use Rattle.nl_types.specs.declared.segment.SegmentInfo.{SegmentInfo}
 use Rattle.nl_types.specs.declared.segment.SegmentState.{SegmentState}
 use Rattle.nl_types.specs.declared.segment.SegmentState.TheVariants.{Clean, Dirty, Active, Error}
+use Rattle.nl_layout.specs.declared.superblock.Mark.{Mark}
+use Rattle.nl_layout.specs.declared.superblock.Mark.TheVariants.{First, Second}
 use Rattle.nl_layout.specs.declared.superblock.Superblock.{Superblock}
 use Rattle.nl_layout.specs.Superblock as superblock
 use Rattle.nl_layout.specs.Superblock.{superblock_at, superblock_bytes}
 use Rattle.nl_layout.specs.Segment as segment
 use Rattle.nl_layout.specs.Segment.{info_with, segment_at, segment_bytes, segment_flags, segment_state_at}
 
-same_superblock : (s : Superblock) (n b c : ℕ) → n ≡ s.segments → b ≡ s.blocks → c ≡ s.checkpoints → (let t : Superblock = record { segments = n; blocks = b; checkpoints = c } in t) ≡ s
-same_superblock s n b c p q r = rw (p, q, r) refl
+same_superblock : (s : Superblock) (m : Mark) (n b c : ℕ) → m ≡ s.mark → n ≡ s.segments → b ≡ s.blocks → c ≡ s.checkpoints
+    → (let t : Superblock = record { mark = m; segments = n; blocks = b; checkpoints = c } in t) ≡ s
+same_superblock s m n b c o p q r = rw (o, p, q, r) refl
+
+-- by either mark, since bytes are dropped only where they are known
+module _ (n b c : ℕ) (segments : n < 2 ^ 32) (blocks : b < 2 ^ 32) (checkpoints : c < 2 ^ 64) where
+  abbrev of : Mark → Superblock
+  of mark = record { mark = mark; segments = n; blocks = b; checkpoints = c }
+
+  written : (mark : Mark) → superblock_at (superblock_bytes (of mark)) ≡ of mark
+  written First =
+      let bytes : List ℕ = superblock_bytes (of First) in
+      same_superblock (of First) _ _ _ _ refl (little_number-reads_back 4 n (drop 12 bytes) segments)
+      (little_number-reads_back 4 b (drop 16 bytes) blocks) (little_number-reads_back 8 c (replicate 1000 0) checkpoints)
+  written Second =
+      let bytes : List ℕ = superblock_bytes (of Second) in
+      same_superblock (of Second) _ _ _ _ refl (little_number-reads_back 4 n (drop 12 bytes) segments)
+      (little_number-reads_back 4 b (drop 16 bytes) blocks) (little_number-reads_back 8 c (replicate 1000 0) checkpoints)
 
 superblock_at-written : (s : Superblock) → superblock.Fits s → superblock_at (superblock_bytes s) ≡ s
-superblock_at-written s fits =
-    let bytes : List ℕ = superblock_bytes s in
-    same_superblock s _ _ _
-    (little_number-reads_back 4 s.segments (drop 12 bytes) fits.segments)
-    (little_number-reads_back 4 s.blocks (drop 16 bytes) fits.blocks)
-    (little_number-reads_back 8 s.checkpoints (replicate 1000 0) fits.checkpoints)
+superblock_at-written s fits = written s.segments s.blocks s.checkpoints fits.segments fits.blocks fits.checkpoints s.mark
 
 -- the fields are those of the superblock that is spelled
 pub superblock_at-Spells : (bytes : List ℕ) (s : Superblock) → superblock.Spells bytes s → superblock_at bytes ≡ s

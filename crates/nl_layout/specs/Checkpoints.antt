@@ -1,5 +1,5 @@
 -- The bytes of an entry of the checkpoint file: 160 of them, numbers in little endian.
-use Rattle.std.specs.Prelude.{◌≡◌, ℕ, zero, suc, ◌<◌, ◌^◌, List, ◌∷◌, ◌++◌, replicate, drop, slice_index, Option, None, Some}
+use Rattle.std.specs.Prelude.{◌≡◌, ℕ, zero, suc, ◌<◌, ◌^◌, Bool, true, false, List, ◌∷◌, ◌++◌, replicate, drop, slice_index, Option, None, Some}
 use Rattle.std.specs.Option.{option_map}
 use Rattle.byteorder.specs.Endian.{little_bytes, little_number}
 use Rattle.nl_types.specs.declared.event.Mode.{Mode}
@@ -9,9 +9,12 @@ use Rattle.nl_layout.specs.declared.checkpoint_entry.CheckpointEntry.{Checkpoint
 
 -- ---- writing
 
-abbrev pub flags_of : Mode → ℕ
-flags_of Plain = 0
-flags_of Snapshot = 1
+-- 1 is a snapshot's, and 2 that of one which the volume made by itself
+abbrev pub flags_of : Mode → (minor : Bool) → ℕ
+flags_of Plain false = 0
+flags_of Snapshot false = 1
+flags_of Plain true = 2
+flags_of Snapshot true = 3
 
 -- the inode of a file of inodes: its kind, what is told of its root, 5 zeros, the size and the root's number, and 104 zeros
 abbrev pub inode_file_bytes : RootFields → ℕ → List ℕ
@@ -21,8 +24,8 @@ inode_file_bytes root size =
 -- the number, the stamp, the flags and 4 zeros, how many inodes are in use, and the inode of the file of inodes
 abbrev pub checkpoint_bytes : CheckpointEntry → List ℕ
 checkpoint_bytes c =
-    little_bytes 8 c.number ++ little_bytes 8 c.stamp ++ little_bytes 4 (flags_of c.mode) ++ replicate 4 0
-    ++ little_bytes 8 c.inodes ++ inode_file_bytes c.root c.size
+    little_bytes 8 c.number ++ little_bytes 8 c.stamp
+    ++ little_bytes 4 (flags_of c.mode c.minor) ++ replicate 4 0 ++ little_bytes 8 c.inodes ++ inode_file_bytes c.root c.size
 
 -- what has a spelling
 pub record Fits (c : CheckpointEntry) : Type 0 where
@@ -39,10 +42,13 @@ pub record Spells (bytes : List ℕ) (entry : CheckpointEntry) : Type 0 where
 
 -- ---- reading: what stands in the fields of an entry, whether the bytes spell one or not
 
-abbrev pub mode_at : ℕ → Option Mode
-mode_at zero = Some Plain
-mode_at (suc zero) = Some Snapshot
-mode_at (suc (suc flags)) = None
+-- the mode that flags tell, and whether the checkpoint is minor
+abbrev pub flags_told : ℕ → Option (Mode × Bool)
+flags_told zero = Some (Plain, false)
+flags_told (suc zero) = Some (Snapshot, false)
+flags_told (suc (suc zero)) = Some (Plain, true)
+flags_told (suc (suc (suc zero))) = Some (Snapshot, true)
+flags_told (suc (suc (suc (suc flags)))) = None
 
 abbrev pub root_fields_at : List ℕ → RootFields
 root_fields_at bytes = record {
@@ -51,10 +57,11 @@ root_fields_at bytes = record {
   number = little_number 8 (drop 48 bytes);
 }
 
-abbrev pub fields_with : List ℕ → Mode → CheckpointEntry
-fields_with bytes mode = record {
+abbrev pub fields_with : List ℕ → Mode × Bool → CheckpointEntry
+fields_with bytes told = record {
   number = little_number 8 bytes;
-  mode = mode;
+  mode = told.0;
+  minor = told.1;
   stamp = little_number 8 (drop 8 bytes);
   inodes = little_number 8 (drop 24 bytes);
   root = root_fields_at bytes;
@@ -62,4 +69,4 @@ fields_with bytes mode = record {
 }
 
 abbrev pub checkpoint_at : List ℕ → Option CheckpointEntry
-checkpoint_at bytes = option_map (fields_with bytes) (mode_at (little_number 4 (drop 16 bytes)))
+checkpoint_at bytes = option_map (fields_with bytes) (flags_told (little_number 4 (drop 16 bytes)))

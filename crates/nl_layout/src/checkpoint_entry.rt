@@ -1,6 +1,6 @@
 //! Entries of the checkpoint file.
 ghost use Rattle.std.specs.Prelude.{◌≡◌, length, IfSome, Some};
-ghost use Rattle.nl_layout.specs.Checkpoints.{Spells, checkpoint_at, fields_with, flags_of, mode_at, root_fields_at};
+ghost use Rattle.nl_layout.specs.Checkpoints.{Spells, checkpoint_at, fields_with, flags_of, flags_told, root_fields_at};
 
 use crate::root::RootFields;
 use byteorder::{ByteOrder, LittleEndian};
@@ -15,14 +15,16 @@ const INODE_FILE: u8 = 3;
 /// A kept checkpoint, as an entry of the cpfile of nilfs2.rst.
 ///
 /// It has 160 bytes, with numbers in little endian: the checkpoint's number in 8 bytes at 0, its stamp in 8 bytes at 8, its
-/// flags in 4 bytes at 16 (1 for a snapshot, 0 for a plain one), how many inodes are in use in 8 bytes at 24, and at 32 the
-/// inode of its file of inodes: its kind, which is 3, the root's kind at 33 and height at 34, the size in 8 bytes at 40, and
-/// the root's number in 8 bytes at 48. All other bytes are zero. Whether a root may be so, and the size too, is judged by the
-/// blocks that it leads to, so an entry may have any.
+/// flags in 4 bytes at 16 (1 for a snapshot, 2 for one that the volume made by itself, 3 for both), how many inodes are in use
+/// in 8 bytes at 24, and at 32 the inode of its file of inodes: its kind, which is 3, the root's kind at 33 and height at 34,
+/// the size in 8 bytes at 40, and the root's number in 8 bytes at 48. All other bytes are zero. Whether a root may be so, and
+/// the size too, is judged by the blocks that it leads to, so an entry may have any.
 #[derive(Clone, Copy, Debug, PartialEq, Eq)]
 pub struct CheckpointEntry {
     pub number: CheckpointNumber,
     pub mode: Mode,
+    /// Whether the volume made it by itself.
+    pub minor: bool,
     pub stamp: u64,
     /// How many inodes are in use.
     pub inodes: u64,
@@ -33,7 +35,7 @@ pub struct CheckpointEntry {
 }
 
 impl CheckpointEntry {
-    /// The entry that the bytes spell. None where they spell none: not 160 of them, flags other than 0 and 1, an inode of
+    /// The entry that the bytes spell. None where they spell none: not 160 of them, flags above 3, an inode of
     /// another kind, or a byte that isn't zero outside all fields.
     pub fn read(bytes: &[u8]) -> Option<Self>
         ensures found { IfSome result (Spells bytes.now) }
@@ -67,7 +69,7 @@ impl CheckpointEntry {
         let mut bytes = [0; CHECKPOINT_SIZE];
         LittleEndian::write_u64(&mut bytes, self.number.get());
         LittleEndian::write_u64(&mut bytes[8..], self.stamp);
-        LittleEndian::write_u32(&mut bytes[16..], flags(self.mode));
+        LittleEndian::write_u32(&mut bytes[16..], flags(self.mode, self.minor));
         LittleEndian::write_u64(&mut bytes[24..], self.inodes);
         bytes[32] = INODE_FILE;
         bytes[33] = self.root.kind;
@@ -83,18 +85,19 @@ fn from_bytes(bytes: &[u8]) -> Option<CheckpointEntry>
     requires { length bytes.now ≡ 160 }
     ensures { result ≡ checkpoint_at bytes.now }
 {
-    let mode = mode_of(LittleEndian::read_u32(&bytes[16..]))?;
-    Some(of_mode(bytes, mode))
+    let told = flags_told(LittleEndian::read_u32(&bytes[16..]))?;
+    Some(with_flags(bytes, told))
 }
 
 /// What stands in the fields but the flags.
-fn of_mode(bytes: &[u8], mode: Mode) -> CheckpointEntry
+fn with_flags(bytes: &[u8], told: (Mode, bool)) -> CheckpointEntry
     requires { length bytes.now ≡ 160 }
-    ensures { result ≡ fields_with bytes.now mode }
+    ensures { result ≡ fields_with bytes.now told }
 {
     CheckpointEntry {
         number: CheckpointNumber::new(LittleEndian::read_u64(bytes)),
-        mode,
+        mode: told.0,
+        minor: told.1,
         stamp: LittleEndian::read_u64(&bytes[8..]),
         inodes: LittleEndian::read_u64(&bytes[24..]),
         root: root_fields(bytes),
@@ -113,21 +116,26 @@ fn root_fields(bytes: &[u8]) -> RootFields
     }
 }
 
-fn flags(mode: Mode) -> u32
-    ensures { result ≡ flags_of mode }
+fn flags(mode: Mode, minor: bool) -> u32
+    ensures { result ≡ flags_of mode minor }
 {
-    match mode {
-        Mode::Plain => 0,
-        Mode::Snapshot => 1,
+    match (mode, minor) {
+        (Mode::Plain, false) => 0,
+        (Mode::Snapshot, false) => 1,
+        (Mode::Plain, true) => 2,
+        (Mode::Snapshot, true) => 3,
     }
 }
 
-fn mode_of(flags: u32) -> Option<Mode>
-    ensures { result ≡ mode_at flags }
+/// The mode that flags tell, and whether the checkpoint is minor.
+fn flags_told(flags: u32) -> Option<(Mode, bool)>
+    ensures { result ≡ flags_told flags }
 {
     match flags {
-        0 => Some(Mode::Plain),
-        1 => Some(Mode::Snapshot),
+        0 => Some((Mode::Plain, false)),
+        1 => Some((Mode::Snapshot, false)),
+        2 => Some((Mode::Plain, true)),
+        3 => Some((Mode::Snapshot, true)),
         _ => None,
     }
 }

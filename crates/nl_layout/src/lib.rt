@@ -20,5 +20,5 @@ pub use node::{NEXT, Node, SLOTS};
 pub use root::{Root, RootFields};
 pub use segment_entry::{SEGMENT_SIZE, read_segment, write_segment};
 pub use summary::Summary;
-pub use superblock::Superblock;
+pub use superblock::{Mark, Superblock};
 pub use tag::Tag;

@@ -1,6 +1,6 @@
 -- A move that is done leaves fewer needed numbers in its segment.
-use Rattle.std.proofs.Common.{◌≡◌, ◌≢◌, ℕ, ◌-◌, ◌<◌, ◌==◌, Bool, true, false, cond, List, length, Option, Some, None, Ok, Err, refl, sym, ap, subst, ◌∙◌, true≢false, arith}
-use Rattle.std.specs.Prelude.{IsOk, map, slice_get}
+use Rattle.std.proofs.Common.{◌≡◌, ◌≢◌, ℕ, ◌+◌, ◌-◌, ◌<◌, ◌==◌, Bool, true, false, cond, List, length, Option, Some, None, Ok, Err, refl, sym, ap, subst, ◌∙◌, true≢false, arith}
+use Rattle.std.specs.Prelude.{IsOk, slice_get}
 use Rattle.std.proofs.lemmas.List.{length-drop}
 use Rattle.std.proofs.lemmas.Bool.{eq-eqb}
 use Rattle.std.proofs.lemmas.Option.{get_or_from_slice_get}
@@ -9,17 +9,16 @@ use Rattle.nl_types.specs.declared.event.Event.TheVariants.{Move, Retire}
 use Rattle.nl_types.specs.declared.reply.Answer.{Answer}
 use Rattle.nl_types.specs.declared.segment.SegmentInfo.{SegmentInfo}
 use Rattle.nl_types.specs.declared.segment.SegmentState.TheVariants.{Active, Clean, Dirty, Error}
-use Rattle.nl_types.specs.Entries.{is_needed}
 use Rattle.nl_types.specs.Segments.{IsClosed, Segments, clean_info, is_closed}
 use Rattle.nl_types.specs.Worlds.{Reply}
 use Rattle.nl_vstore.specs.Located.{needed_count}
 use Rattle.nl_reclaim.specs.Cleaning.{judged, judged_by, judged_info}
 use Rattle.nl_reclaim.specs.Moves.{HasMoved, needed_now}
 use Rattle.nl_reclaim.proofs.Moves.{move-takes-first}
-use Rattle.nl_core.specs.CleanedPens.{kept_store, number_in}
+use Rattle.nl_core.specs.CleanedPens.{kept_store}
 use Rattle.nl_core.specs.CleaningEvents.{needed_by}
 use Rattle.nl_core.specs.Layout.{Does, IsPen, Layout, unshared}
-use Rattle.nl_core.specs.Volume.{Lists, kept_by}
+use Rattle.nl_core.proofs.MovedNeeds.{moved-needs}
 use Rattle.nl_lib.specs.CleanedSegments.{Cleans, is_moved}
 
 -- a segment that may be cleaned takes no more logs
@@ -46,17 +45,14 @@ needed_of l segment = needed_count l.store (needed_by l.lists) segment
 after-move : (old new : Layout) (segment now : ℕ) (answer : Answer) → IsPen old
     → Does unshared old (Move segment 30 now) (Ok answer) new → needed_of new segment ≡ needed_of old segment - 30
 after-move old new segment now answer held does =
-    let has : HasMoved segment old.lists.table.latest.number now 30 (kept_store old) (kept_store new) = record {
-      needs = λ v e is. ap (λ (l : Lists). is_needed (map-numbers l) e) does.touches.0;
+    let has : HasMoved segment (old.lists.table.latest.number + 1) now 30 (kept_store old) (kept_store new) = record {
+      needs = moved-needs old new segment 30 now answer held does;
       moved = does.touches.1.moved.moved;
       store = does.pen.sound.store;
     } in
-    let first = move-takes-first segment old.lists.table.latest.number now 30 (kept_store old) (kept_store new)
+    let first = move-takes-first segment (old.lists.table.latest.number + 1) now 30 (kept_store old) (kept_store new)
     held.sound.store (closed old.store.segments segment does.touches.1.moved.judged) has in
     ap (λ (vs : List ℕ). length vs) first.needed ∙ length-drop 30 (needed_now (kept_store old) segment)
-  where
-    map-numbers : Lists → List ℕ
-    map-numbers l = map number_in (kept_by l)
 
 pub fewer : (old new : Layout) (segment now : ℕ) (event : Event) (reply : Reply) → IsPen old
     → Cleans segment now old event reply new → is_moved event reply ≡ true → needed_of new segment < needed_of old segment

@@ -30,7 +30,7 @@ with_mode w n mode = record w { copies = copies_with_mode n mode w.copies }
 
 abbrev with_next : World → Mode → ℕ → World
 with_next w mode now =
-    let copy : Copy = record { tree = w.tree; mode = mode; stamp = max now (latest_stamp w) } in
+    let copy : Copy = record { tree = w.tree; mode = mode; minor = false; stamp = max now (latest_stamp w) } in
     record w { dirty = false; copies = w.copies ++ (latest w + 1, copy) ∷ [] }
 
 module _ (w after : World) (found : Answer) where

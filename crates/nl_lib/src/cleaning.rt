@@ -43,7 +43,8 @@ fn clean_segment<D: Device>(pen: &mut Pen<D>, segment: Segment, now: u64) -> Rep
 /// at a time as a log takes, and retires it. The moment is in whole seconds, and goes into the logs of the moves.
 ///
 /// It ends at the first refusal, and tells it: `BadRange` where there is no such segment, `SegClean`, `SegActive` or
-/// `SegError` by the segment's state, and `NoSpace`, `Memory` or `Fault` of a move. What was moved and retired before stays so.
+/// `SegError` by the segment's state, and `NumbersSpent`, `NoSpace`, `Memory` or `Fault` of a move. What was moved and retired
+/// before stays so. Each move makes a minor checkpoint.
 pub fn clean_segments<D: Device>(pen: &mut Pen<D>, segments: &[Segment], now: u64) -> Cleaned
     ensures { CleansSegments now segments.now pen.old result pen.new }
 {

@@ -1,10 +1,11 @@
 //! Lists of kept checkpoints.
-ghost use Rattle.std.specs.Prelude.{◌≡◌, IfOk};
-ghost use Rattle.std.specs.Option.{option_copied};
+ghost use Rattle.std.specs.Prelude.{◌≡◌, true, IfOk};
+ghost use Rattle.std.specs.Option.{option_copied, option_map};
 ghost use Rattle.std.specs.Ordering.{nat_cmp};
 ghost use Rattle.std.specs.FinMap.{find};
+ghost use Rattle.nl_types.specs.declared.event.Mode.TheVariants.{Plain};
 ghost use Rattle.nl_types.specs.Rows.{is_among};
-ghost use Rattle.nl_types.specs.Worlds.{greatest, greatest_stamp, numbers, copies_with_mode, copies_without};
+ghost use Rattle.nl_types.specs.Worlds.{Copy, greatest, greatest_stamp, numbers, copies_with_mode, copies_without};
 
 use crate::tree::{self, Tree};
 use nl_types::{CheckpointNumber, Items, Mode};
@@ -20,6 +21,8 @@ pub struct Kept {
     /// The whole tree as it was.
     pub tree: Tree,
     pub mode: Mode,
+    /// Whether the volume made it by itself.
+    pub minor: bool,
     /// In whole seconds. It never falls from one checkpoint to the next.
     pub stamp: u64,
 }
@@ -29,7 +32,7 @@ impl Model for Kept {
 
     ghost Value = { Copy };
 
-    ghost view = { λ k. record { tree = k.tree; mode = k.mode; stamp = k.stamp } };
+    ghost view = { λ k. record { tree = k.tree; mode = k.mode; minor = k.minor; stamp = k.stamp } };
 }
 
 /// The latest checkpoint's number, or 0 where none is kept.
@@ -73,8 +76,30 @@ fn copy_kept(alloc: Global, kept: &Kept) -> Result<Kept, AllocError>
     Ok(Kept {
         tree: tree::copy(alloc, kept.tree.as_slice())?,
         mode: kept.mode,
+        minor: kept.minor,
         stamp: kept.stamp,
     })
+}
+
+/// The copy of a number once more, as the volume makes it by itself, with a stamp, if it is kept.
+pub fn minor_copy(
+    alloc: Global,
+    copies: &[(CheckpointNumber, Kept)],
+    n: CheckpointNumber,
+    stamp: u64,
+) -> Result<Option<Kept>, AllocError>
+    ensures { IfOk result (λ made. made ≡ option_map
+        (λ (c : Copy). record c { mode = Plain; minor = true; stamp = stamp }) (find nat_cmp n copies.now)) }
+{
+    match find_copy(copies, n) {
+        None => Ok(None),
+        Some(kept) => Ok(Some(Kept {
+            tree: tree::copy(alloc, kept.tree.as_slice())?,
+            mode: Mode::Plain,
+            minor: true,
+            stamp,
+        })),
+    }
 }
 
 /// The copies, with this mode at a number.

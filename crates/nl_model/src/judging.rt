@@ -16,7 +16,7 @@ fn row_of(number: CheckpointNumber, kept: &Kept) -> Row
         number,
         stamp: kept.stamp,
         mode: kept.mode,
-        minor: false,
+        minor: kept.minor,
         inodes: kept.tree.as_slice().len() as u64,
     }
 }

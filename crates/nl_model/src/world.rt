@@ -1,13 +1,14 @@
 //! The volume: a current tree, whole copies of earlier trees, and mounts of these.
-ghost use Rattle.std.specs.Prelude.{◌≡◌, IfOk, Ok, OnOk, OnErr};
+ghost use Rattle.std.specs.Prelude.{◌≡◌, ◌≢◌, ◌+◌, nat_le, true, false, IfErr, IfOk, Ok, OnOk, OnErr};
+ghost use Rattle.nl_types.specs.Limits.{checkpoint_number_limit};
 ghost use Rattle.nl_types.specs.declared.reply.Answer.TheVariants.{Rows};
 ghost use Rattle.nl_types.specs.Calls.{IsUnlessMemory};
 ghost use Rattle.nl_types.specs.Rows.{listing};
-ghost use Rattle.nl_types.specs.Worlds.{formatted, rows, apply_change, checkpoint, change_mode, take_out, remove, remove_range, expire, mount, unmount, mount_read, IsDoneUnlessMemory};
+ghost use Rattle.nl_types.specs.Worlds.{formatted, rows, apply_change, checkpoint, is_moving, latest, move_blocks, with_minor, change_mode, take_out, remove, remove_range, expire, mount, unmount, mount_read, IsDoneUnlessMemory};
 ghost use Rattle.nl_model.specs.Model.{ModelStep, cleaned_by};
 
 use crate::copies::{
-    Copies, Kept, find_copy, greatest_number, stamp_of_latest, with_mode, without,
+    Copies, Kept, find_copy, greatest_number, minor_copy, stamp_of_latest, with_mode, without,
 };
 use crate::dispatch::{make, marks_dirty, reply};
 use crate::expiry::{boundary, expired};
@@ -48,7 +49,14 @@ impl Model for World {
     } };
 }
 
-/// What a volume may answer to a move or a retirement.
+/// Whether a volume moved blocks.
+fn is_moving(reply: &Reply) -> bool
+    ensures { result ≡ is_moving (cleaned_by reply.now) }
+{
+    matches!(reply, Ok(Answer::Moved { moved, .. }) if *moved != 0)
+}
+
+/// What a volume may answer to a move, a retirement or a resize.
 fn cleaned_by(reply: &Reply) -> Reply
     ensures { result ≡ cleaned_by reply.now }
 {
@@ -74,6 +82,7 @@ impl World {
         let first = Kept {
             tree: root_alone_tree(alloc)?,
             mode: Mode::Plain,
+            minor: false,
             stamp: moment,
         };
         copies.push((CheckpointNumber::new(1), first))?;
@@ -106,11 +115,43 @@ impl World {
         let kept = Kept {
             tree: tree::copy(alloc, self.tree.as_slice())?,
             mode,
+            minor: false,
             stamp: moment.max(stamp_of_latest(self.copies.as_slice())),
         };
         self.copies.push((n, kept))?;
         self.dirty = false;
         Ok(Answer::Checkpoint(n))
+    }
+
+    /// Keeps the latest copy once more, as the volume does by itself where it moves blocks.
+    fn add_minor(&mut self, alloc: Global, moment: u64) -> Result<(), VolError>
+        ensures added { OnOk result (self.new ≡ with_minor self.old moment) }
+        ensures left { OnOk result (nat_le checkpoint_number_limit (latest self.old + 1) ≡ false) }
+        ensures same { OnErr result (self.new ≡ self.old) }
+        ensures spent { IfErr result (λ e. e ≢ VolError.Memory
+            → (e ≡ VolError.NumbersSpent) × (nat_le checkpoint_number_limit (latest self.old + 1) ≡ true)) }
+    {
+        let last = greatest_number(self.copies.as_slice());
+        if last >= u64::MAX - 1 {
+            return Err(VolError::NumbersSpent);
+        }
+        let stamp = moment.max(stamp_of_latest(self.copies.as_slice()));
+        let latest = CheckpointNumber::new(last);
+        if let Some(kept) = minor_copy(alloc, self.copies.as_slice(), latest, stamp)? {
+            self.copies.push((CheckpointNumber::new(last + 1), kept))?;
+        }
+        Ok(())
+    }
+
+    /// What a volume answered to a move; where it took blocks, it keeps the latest copy once more.
+    fn move_blocks(&mut self, alloc: Global, cleaned: &Reply, moment: u64) -> Reply
+        ensures { IsDoneUnlessMemory result self.new self.old
+            (move_blocks (cleaned_by cleaned.now) self.old moment) }
+    {
+        if is_moving(cleaned) {
+            self.add_minor(alloc, moment)?;
+        }
+        cleaned_by(cleaned)
     }
 
     fn set_mode(&mut self, alloc: Global, n: CheckpointNumber, mode: Mode) -> Reply
@@ -262,7 +303,9 @@ impl World {
     ///   where no kept number lies between.
     /// - An expiry removes each plain checkpoint below the boundary but the latest one: the least
     ///   number that the period protects by nilfs_cleanerd.conf(5), or else the latest number.
-    /// - A move and a retirement change nothing, and answer what is handed in.
+    /// - A retirement and a resize change nothing, and answer what is handed in. So does a move, but
+    ///   that one which moved blocks keeps the latest copy once more, as a minor checkpoint:
+    ///   `NumbersSpent` where no number is left.
     /// - A mount goes by nilfs2.rst: it is read-only, and of a snapshot alone. `NoCheckpoint` where
     ///   the checkpoint is not kept, `NotSnapshot` where it is plain, `NumbersSpent` where the
     ///   numbers have run out.
@@ -281,7 +324,8 @@ impl World {
             Event::Remove(n) => self.remove_one(alloc, *n),
             Event::RemoveRange { first, last } => self.remove_between(alloc, *first, *last),
             Event::Expire { now, period } => self.expire(alloc, *now, *period),
-            Event::Move { .. } | Event::Retire(_) | Event::Resize(_) => cleaned_by(cleaned),
+            Event::Move { now, .. } => self.move_blocks(alloc, cleaned, *now),
+            Event::Retire(_) | Event::Resize(_) => cleaned_by(cleaned),
             Event::Mount(n) => self.add_mount(*n),
             Event::Unmount(m) => self.give_back(alloc, *m),
             Event::MountRead(m, asked) => self.read_mount(alloc, *m, asked),

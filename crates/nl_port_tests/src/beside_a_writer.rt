@@ -2,13 +2,11 @@
 //! is written, removed and moved meanwhile.
 ghost use Rattle.std.specs.Prelude.{◌≡◌};
 
-use crate::volume::{
-    File, Volume, checkpoint, cleans, ends, files, fill, is_checkpoint, shared_among,
-};
+use crate::volume::{File, Volume, checkpoint, cleans, ends, files, fill, shared_among};
 use nl_mounts::Port;
 use nl_protect::{Amount, Config};
 use nl_publish::{Mount, Opened, Volumes};
-use nl_types::{CheckpointNumber, Mode, Stat, VolError};
+use nl_types::{Answer, CheckpointNumber, Mode, Reply, Stat, VolError};
 use std::alloc::Global;
 use std::marker::Brand;
 use std::sync::Wait;
@@ -79,19 +77,30 @@ fn small_file(turn: u64) -> File {
     }
 }
 
-/// Writes the files again and again, with a checkpoint behind each write, and a round of cleaning behind ten of them.
+/// The number of the checkpoint that was made, 0 where none was.
+fn number_made(reply: &Reply) -> u64 {
+    match reply {
+        Ok(Answer::Checkpoint(made)) => made.get(),
+        _ => 0,
+    }
+}
+
+/// Writes the files again and again, with a checkpoint behind each write, and a round of cleaning behind
+/// ten of them. The numbers of these checkpoints ascend from 3 on, with those of minor ones between.
 fn writes<J: Volumes, R: Wait>(
     rt: &R,
     alloc: Global,
     shared: &Volume<J>,
 ) -> Result<bool, VolError> {
+    let mut last = 2;
     for turn in 0..CHECKPOINTS {
         let (path, _, size) = small_file(turn);
         shared.apply(rt, &fill(alloc, path, (turn % 100) as u8, size)?)?;
-        let made = shared.apply(rt, &checkpoint(Mode::Plain, turn));
-        if !is_checkpoint(&made, turn + 3) {
+        let made = number_made(&shared.apply(rt, &checkpoint(Mode::Plain, turn)));
+        if made <= last {
             return Ok(false);
         }
+        last = made;
         if turn % 10 == 9 {
             cleans(rt, alloc, shared, &config(), turn)?;
         }

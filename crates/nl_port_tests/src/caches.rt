@@ -13,8 +13,8 @@ use std::marker::Brand;
 use std::sync::Wait;
 use std::test::Fail;
 
-/// The number of the checkpoint that has the last text.
-const LAST: u64 = 5;
+/// The number of the checkpoint that has the last text. The two before it are minor.
+const LAST: u64 = 7;
 
 /// Nothing is protected, and all segments are cleaned.
 fn config() -> Config {

@@ -9,7 +9,7 @@ pub fn ends_round(refusal: VolError) -> bool
     ensures { result ≡ ends_round refusal }
 {
     match refusal {
-        VolError::NoSpace | VolError::Fault | VolError::Memory => true,
+        VolError::NumbersSpent | VolError::NoSpace | VolError::Fault | VolError::Memory => true,
         _ => false,
     }
 }

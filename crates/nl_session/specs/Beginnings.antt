@@ -8,6 +8,7 @@ use Rattle.nl_types.specs.declared.geometry.Geometry.{Geometry}
 use Rattle.nl_device.specs.Failures.{Failures}
 use Rattle.nl_device.specs.Pages.{DevicePages}
 use Rattle.nl_image.specs.Conditions.{FirstFails}
+use Rattle.nl_image.specs.Parts.{with_present_mark}
 use Rattle.nl_core.specs.Layout.{IsFormatted, IsPen, Layout, MeansWorld}
 use Rattle.nl_core.specs.Opened.{IsAtRest}
 use Rattle.nl_core.specs.PenImages.{IsPenImage}
@@ -26,9 +27,9 @@ pub record IsNewPen (geometry : Geometry) (l : Layout) : Type 0 where
   pub is_formatted : IsFormatted geometry pages failures 0 l
   pub means : MeansWorld l (formatted 0)
 
--- the pen has this image, nothing differs from its latest checkpoint, and nothing was mounted
+-- the pen has this image under the present mark, nothing differs from its latest checkpoint, and nothing was mounted
 pub record IsOpenedPen (image : List ℕ) (l : Layout) : Type 0 where
-  pub image_is : IsPenImage l image
+  pub image_is : IsPenImage l (with_present_mark image)
   pub pen : IsPen l
   pub rest : IsAtRest l.lists
 

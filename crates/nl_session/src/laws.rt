@@ -3,6 +3,7 @@ ghost use Rattle.nl_session.specs.Laws.{SavedVolumesComeBack, VolumesTellOfSegme
 ghost use Rattle.nl_session.specs.SharedLaws.{KeptVolumesAreBeside, NewVolumesAreBeside, SharedEventsFollowWorlds, SharedStepsFollowWorlds};
 
 use nl_core::laws::pens_of_one_image_mean_one_world;
+use nl_image::laws::store_images_have_the_present_mark;
 use nl_publish::laws::locked_runs_lead_on;
 use nl_types::laws::{copies_stay, mounts_stay};
 
@@ -29,5 +30,6 @@ pub fn shared_volumes_follow_worlds()
 pub fn saved_volumes_come_back()
     ensures { SavedVolumesComeBack }
 {
+    store_images_have_the_present_mark();
     pens_of_one_image_mean_one_world();
 }

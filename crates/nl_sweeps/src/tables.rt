@@ -24,8 +24,10 @@ pub(crate) enum View {
     Segment(u32, SegmentState, u32, u32),
     /// The first checkpoint of a virtual number, the one that has it no longer, and its block.
     Number(u64, u64, Option<u64>, u32),
-    /// A checkpoint that is kept, and its mode.
+    /// A checkpoint that is kept and isn't minor, and its mode.
     Kept(u64, Mode),
+    /// A checkpoint that is kept, minor and plain.
+    Minor(u64),
     /// A checkpoint that isn't kept.
     Gone(u64),
 }
@@ -126,7 +128,7 @@ const RANGE_WITH_A_SNAPSHOT: Row = Row {
     image: None,
 };
 
-/// A round frees what ten overwrites left.
+/// A round frees what ten overwrites left. Each of its three moves makes a minor checkpoint.
 const TEN_OVERWRITES: Row = Row {
     name: "ten_overwrites",
     segments: 16,
@@ -169,6 +171,9 @@ const TEN_OVERWRITES: Row = Row {
         View::Segment(8, SegmentState::Dirty, 8, 5),
         View::Gone(11),
         View::Kept(12, Mode::Plain),
+        View::Minor(13),
+        View::Minor(14),
+        View::Minor(15),
     ],
     image: None,
 };
@@ -225,7 +230,7 @@ const NO_SPACE: Row = Row {
         (PLAIN, Want::Refused(VolError::NoSpace)),
         (ALL, Want::Bytes(b"C")),
         (Step::Round, Want::Round(2, 4, 4)),
-        (PLAIN, Want::Checkpoint(4)),
+        (PLAIN, Want::Checkpoint(7)),
         (ALL, Want::Bytes(b"C")),
     ],
     views: &[
@@ -234,7 +239,8 @@ const NO_SPACE: Row = Row {
         View::Segment(3, SegmentState::Active, 2, 1),
         View::Gone(2),
         View::Kept(3, Mode::Plain),
-        View::Kept(4, Mode::Plain),
+        View::Minor(6),
+        View::Kept(7, Mode::Plain),
     ],
     image: None,
 };
@@ -308,7 +314,7 @@ const ROUND_UNDER_A_MOUNT: Row = Row {
         (Step::Round, Want::Round(2, 7, 2)),
         (MOUNTED, Want::Bytes(b"A")),
         (Step::Write(0, b"D"), Want::Written(1)),
-        (PLAIN, Want::Checkpoint(5)),
+        (PLAIN, Want::Checkpoint(7)),
         (MOUNTED, Want::Bytes(b"A")),
         (ALL, Want::Bytes(b"D")),
         (
@@ -323,18 +329,20 @@ const ROUND_UNDER_A_MOUNT: Row = Row {
         View::Segment(0, SegmentState::Active, 7, 5),
         View::Segment(2, SegmentState::Dirty, 7, 4),
         View::Segment(3, SegmentState::Dirty, 8, 6),
-        View::Number(1, 5, None, 3),
-        View::Number(2, 5, None, 4),
+        View::Number(1, 7, None, 3),
+        View::Number(2, 7, None, 4),
         View::Number(5, 2, Some(3), 27),
-        View::Number(10, 5, None, 5),
-        View::Number(11, 5, None, 6),
+        View::Number(10, 7, None, 5),
+        View::Number(11, 7, None, 6),
         View::Kept(2, Mode::Snapshot),
         View::Gone(3),
         View::Kept(4, Mode::Plain),
-        View::Kept(5, Mode::Plain),
+        View::Minor(5),
+        View::Minor(6),
+        View::Kept(7, Mode::Plain),
     ],
     image: Some(Image {
-        size: 136_192,
+        size: 137_216,
         damage: Damage::Cut,
         condition: 3,
     }),
@@ -361,9 +369,9 @@ const KEPT_PAGES_UNDER_A_ROUND: Row = Row {
         (Step::Round, Want::Round(2, 7, 2)),
         (MOUNTED, Want::Bytes(b"A")),
         (Step::Write(0, b"D"), Want::Written(1)),
-        (PLAIN, Want::Checkpoint(5)),
-        (Step::ChangeMode(5, Mode::Snapshot), Want::Done),
-        (Step::Mount(5), Want::Mount(2)),
+        (PLAIN, Want::Checkpoint(7)),
+        (Step::ChangeMode(7, Mode::Snapshot), Want::Done),
+        (Step::Mount(7), Want::Mount(2)),
         (MOUNTED_SECOND, Want::Bytes(b"D")),
         (Step::Cache(Caching::Warm(2, 1)), Want::Pages(1)),
         (MOUNTED_SECOND, Want::Bytes(b"D")),
@@ -372,9 +380,9 @@ const KEPT_PAGES_UNDER_A_ROUND: Row = Row {
     ],
     views: &[
         View::Clean(13),
-        View::Number(1, 5, None, 3),
+        View::Number(1, 7, None, 3),
         View::Number(5, 2, Some(3), 27),
-        View::Kept(5, Mode::Snapshot),
+        View::Kept(7, Mode::Snapshot),
     ],
     image: None,
 };

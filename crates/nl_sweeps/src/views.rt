@@ -32,9 +32,9 @@ fn has_number(pen: &Pen<MemDevice>, number: u64, start: u64, end: Option<u64>, b
     }
 }
 
-fn keeps(pen: &Pen<MemDevice>, number: u64, mode: Mode) -> bool {
+fn keeps(pen: &Pen<MemDevice>, number: u64, mode: Mode, minor: bool) -> bool {
     match get_cpinfo(pen, CheckpointNumber::new(number)) {
-        Ok(row) => row.mode == mode,
+        Ok(row) => row.mode == mode && row.minor == minor,
         Err(_) => false,
     }
 }
@@ -46,7 +46,8 @@ fn is_told(pen: &Pen<MemDevice>, view: View) -> bool {
             has_segment(pen, segment, state, used, needed)
         }
         View::Number(number, start, end, block) => has_number(pen, number, start, end, block),
-        View::Kept(number, mode) => keeps(pen, number, mode),
+        View::Kept(number, mode) => keeps(pen, number, mode, false),
+        View::Minor(number) => keeps(pen, number, Mode::Plain, true),
         View::Gone(number) => {
             get_cpinfo(pen, CheckpointNumber::new(number)) == Err(VolError::NoCheckpoint)
         }

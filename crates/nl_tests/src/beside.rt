@@ -2,7 +2,9 @@
 //! checkpoints and looks between them.
 ghost use Rattle.std.specs.Prelude.{◌<◌};
 
-use crate::events::{ALL, Call, LISTING, PLAIN, SNAPSHOT, Shown, event_of, same_reply};
+use crate::events::{
+    ALL, Call, LISTING, PLAIN, SNAPSHOT, Shown, WITHOUT_MINOR, event_of, same_reply,
+};
 use crate::logs::NONE_FAILS;
 use crate::volumes::volume;
 use nl_core::{Pen, run};
@@ -19,6 +21,7 @@ const LONG: &[u8] = &[b'l'; 1500];
 const DOWNWARDS: Shown = Shown {
     reverse: true,
     snapshots_only: true,
+    with_minor: false,
     from: Some(8),
     count: Some(3),
 };
@@ -196,6 +199,11 @@ fn random_number(seed: &mut u64) -> u64
     next(seed, 220)
 }
 
+/// One of the first segments: most of the others stay clean, so that nothing could be moved out of them.
+fn random_segment(seed: &mut u64) -> u32 {
+    next(seed, 12) as u32
+}
+
 fn random_call(seed: &mut u64) -> Call<'static> {
     let path = random_path(seed);
     let number = random_number(seed);
@@ -213,13 +221,13 @@ fn random_call(seed: &mut u64) -> Call<'static> {
         11 | 12 => Call::Mount(number),
         13 => Call::Unmount(next(seed, 20)),
         14 => Call::Expire(number, next(seed, 100)),
-        15 => Call::Move(next(seed, 130) as u32, next(seed, 40) as u32),
-        16 => Call::Retire(next(seed, 130) as u32),
+        15 => Call::Move(random_segment(seed), next(seed, 40) as u32),
+        16 => Call::Retire(random_segment(seed)),
         _ => Call::Rename(path, random_path(seed)),
     }
 }
 
-/// Looks at what stands at each path.
+/// Looks at what stands at each path, and at the checkpoints, with the plain minor ones and without.
 const LOOKS: &[Call<'static>] = &[
     Call::Stat(b"/a"),
     Call::Read(b"/a", 0, ALL),
@@ -250,6 +258,7 @@ const LOOKS: &[Call<'static>] = &[
     Call::Stat(b"/d"),
     Call::Read(b"/d", 0, ALL),
     LISTING,
+    Call::Listing(WITHOUT_MINOR),
 ];
 
 /// Adds the events of calls.

@@ -32,7 +32,7 @@ fn write_bytes<D: Device, J: Volumes, W: Press, R: Wait>(
     Ok(())
 }
 
-/// Plans a round and does its steps.
+/// Plans a round and does its steps. Its two moves make minor checkpoints.
 fn do_round<D: Device, J: Volumes, W: Press, R: Wait>(
     rt: &R,
     alloc: Global,
@@ -146,13 +146,13 @@ fn each_call_answers(rt: HostRuntime) -> Result<(), Fail> {
         last_segment: Ok(SegmentInfo::clean()),
         behind_it: Err(VolError::BadRange),
         cpstat: Cpstat {
-            latest: CheckpointNumber::new(4),
-            count: 1,
+            latest: CheckpointNumber::new(6),
+            count: 3,
             snapshots: 1,
         },
         given_back: 1,
         kept: 2,
-        published: 11,
+        published: 13,
     };
     assert_eq!(rt; answers, wanted);
     assert_eq!(rt; seats, 2);

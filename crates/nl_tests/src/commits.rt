@@ -5,6 +5,7 @@ use crate::events::Row;
 use crate::file_calls::{on_directories, on_files};
 use crate::logs::{NONE_FAILS, Shape};
 use crate::rows::{Volume, first_unwanted};
+use crate::segments::minors;
 use crate::volumes::{tables, volume};
 use nl_core::{Commit, Pen};
 use nl_device::{Device, FaultDevice};
@@ -88,5 +89,7 @@ fn readers_follow_by_commits(rt: HostRuntime) -> Result<(), Fail> {
     for (shape, rows) in tables() {
         assert_eq!(rt; are_followed(rt.alloc(), *shape, rows)?, true);
     }
+    let (shape, rows) = minors();
+    assert_eq!(rt; are_followed(rt.alloc(), shape, rows)?, true);
     Ok(())
 }

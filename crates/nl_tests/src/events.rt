@@ -48,11 +48,13 @@ pub(crate) enum Call<'a> {
 pub(crate) struct Shown {
     pub(crate) reverse: bool,
     pub(crate) snapshots_only: bool,
+    /// Plain minor checkpoints, too.
+    pub(crate) with_minor: bool,
     pub(crate) from: Option<u64>,
     pub(crate) count: Option<u64>,
 }
 
-/// A checkpoint that is told of: its number, stamp, mode and inodes. None is minor.
+/// A checkpoint that is told of: its number, stamp, mode and inodes. It isn't minor.
 pub(crate) type Told = (u64, u64, Mode, u64);
 
 /// A reply, as a row writes it.
@@ -76,6 +78,8 @@ pub(crate) enum Want<'a> {
     Moved(u32, u32),
     Freed(u32),
     Rows(&'a [Told]),
+    /// The numbers of rows, and whether each is of a minor checkpoint.
+    Minors(&'a [(u64, bool)]),
     Refused(VolError),
 }
 
@@ -91,8 +95,15 @@ pub(crate) const SNAPSHOT: Call<'static> = Call::Checkpoint(Mode::Snapshot);
 pub(crate) const WHOLE: Shown = Shown {
     reverse: false,
     snapshots_only: false,
+    with_minor: true,
     from: None,
     count: None,
+};
+
+/// All but those that are minor and plain.
+pub(crate) const WITHOUT_MINOR: Shown = Shown {
+    with_minor: false,
+    ..WHOLE
 };
 
 pub(crate) const LISTING: Call<'static> = Call::Listing(WHOLE);
@@ -142,7 +153,7 @@ fn options_of(shown: Shown) -> ListOptions {
     ListOptions {
         reverse: shown.reverse,
         snapshots_only: shown.snapshots_only,
-        with_minor: false,
+        with_minor: shown.with_minor,
         from: shown.from.map(CheckpointNumber::new),
         count: shown.count,
     }
@@ -261,6 +272,7 @@ fn is_parted(range: &Range, removed: &[u64], stayed: &[(u64, VolError)]) -> bool
     are_numbered(range.removed.as_slice(), removed) && range.stayed.len() == stayed.len()
 }
 
+/// The row of a checkpoint that isn't minor.
 pub(crate) fn row_of(told: Told) -> nl_types::Row {
     let (number, stamp, mode, inodes) = told;
     nl_types::Row {
@@ -275,6 +287,15 @@ pub(crate) fn row_of(told: Told) -> nl_types::Row {
 fn are_told(rows: &[nl_types::Row], due: &[Told]) -> bool {
     for (found, told) in rows.iter().zip(due) {
         if *found != row_of(*told) {
+            return false;
+        }
+    }
+    rows.len() == due.len()
+}
+
+fn are_minor(rows: &[nl_types::Row], due: &[(u64, bool)]) -> bool {
+    for (found, (number, minor)) in rows.iter().zip(due) {
+        if found.number.get() != *number || found.minor != *minor {
             return false;
         }
     }
@@ -305,6 +326,7 @@ pub(crate) fn is_wanted(reply: &Reply, want: Want<'_>) -> bool {
         }
         (Ok(Answer::Freed(count)), Want::Freed(want)) => *count == want,
         (Ok(Answer::Rows(rows)), Want::Rows(want)) => are_told(rows.as_slice(), want),
+        (Ok(Answer::Rows(rows)), Want::Minors(want)) => are_minor(rows.as_slice(), want),
         (Err(e), Want::Refused(want)) => *e == want,
         _ => false,
     }

@@ -15,7 +15,7 @@ use nl_lib::{
 };
 use nl_sufile::Sustat;
 use nl_types::{
-    BlockNumber, CheckpointNumber, InodeNumber, Mode, Segment, SegmentInfo, SegmentState,
+    BlockNumber, CheckpointNumber, InodeNumber, Mode, Row, Segment, SegmentInfo, SegmentState,
     VirtualNumber, VolError,
 };
 use std::alloc::Global;
@@ -34,8 +34,10 @@ enum Step<'a> {
     Clean(u32, u32, u64, usize, Option<VolError>),
     /// To so many segments.
     Resize(u32, Result<(), VolError>),
-    /// What is told of a checkpoint.
+    /// What is told of a checkpoint that isn't minor.
     Checkpoint(u64, Result<Told, VolError>),
+    /// What is told of a minor one.
+    Minor(u64, Told),
     /// The latest number, how many are kept, and how many of them are snapshots.
     Checkpoints(u64, usize, usize),
     /// State, stamp and used blocks of a segment.
@@ -92,11 +94,22 @@ fn describes<D: Device>(
     }
 }
 
+/// The row of a minor checkpoint.
+fn minor_row_of(told: Told) -> Row {
+    Row {
+        minor: true,
+        ..row_of(told)
+    }
+}
+
 /// Whether a step that only looks finds what is due. Other steps find nothing.
 fn finds<D: Device>(alloc: Global, pen: &Pen<D>, step: Step<'_>) -> bool {
     match step {
         Step::Checkpoint(number, due) => {
             get_cpinfo(pen, CheckpointNumber::new(number)) == due.map(row_of)
+        }
+        Step::Minor(number, due) => {
+            get_cpinfo(pen, CheckpointNumber::new(number)) == Ok(minor_row_of(due))
         }
         Step::Checkpoints(latest, count, snapshots) => {
             let latest = CheckpointNumber::new(latest);
@@ -274,9 +287,11 @@ const DEAD: &[Step<'static>] = &[
     ),
 ];
 
-/// On 16 segments of 8 blocks. A byte is written over another twice, and the first content is kept by a snapshot. What is
-/// needed is moved out of the first two segments, in the order of the blocks, to segment 3 and then to segment 0, which is
-/// clean by then. The next checkpoint has numbers 1, 2, 10 and 11, which are free again, behind the last one moved.
+/// On 16 segments of 8 blocks. A byte is written over another twice, and the first content is kept by a
+/// snapshot. What is needed is moved out of the first two segments, in the order of the blocks, to
+/// segment 3 and then to segment 0, which is clean by then. These moves make the minor checkpoints 5 and
+/// 6. The next one has numbers 1, 2, 10 and 11, which are free again, behind the last one moved. A
+/// cleaning that ends in a refusal has made minor checkpoint 8 before that.
 const CLEANED: &[Step<'static>] = &[
     CREATE,
     WRITE_A,
@@ -288,22 +303,29 @@ const CLEANED: &[Step<'static>] = &[
     Step::Sync(30, Ok(4)),
     Step::Does(Call::Expire(40, 0), Want::Expired(&[1, 3])),
     Step::Clean(0, 1, 40, 2, None),
+    Step::Checkpoints(6, 4, 1),
+    Step::Checkpoint(4, Ok((4, 30, Plain, 2))),
+    Step::Minor(5, (5, 40, Plain, 2)),
+    Step::Minor(6, (6, 40, Plain, 2)),
     Step::Segment(0, Ok((Active, 40, 2))),
     Step::Segment(1, Ok((Clean, 0, 0))),
     Step::Segment(2, Ok((Dirty, 30, 7))),
     Step::Segment(3, Ok((Dirty, 40, 8))),
     WRITE_D,
-    Step::Sync(50, Ok(5)),
-    Step::Number(1, Ok(Some((3, 5, 0)))),
-    Step::Number(2, Ok(Some((4, 5, 0)))),
+    Step::Sync(50, Ok(7)),
+    Step::Checkpoint(7, Ok((7, 50, Plain, 2))),
+    Step::Number(1, Ok(Some((3, 7, 0)))),
+    Step::Number(2, Ok(Some((4, 7, 0)))),
     Step::Number(5, Ok(Some((27, 2, 3)))),
-    Step::Number(10, Ok(Some((5, 5, 0)))),
-    Step::Number(11, Ok(Some((6, 5, 0)))),
+    Step::Number(10, Ok(Some((5, 7, 0)))),
+    Step::Number(11, Ok(Some((6, 7, 0)))),
     Step::Does(Call::ReadMount(1, b"/f", 0, ALL), Want::Bytes(b"A")),
     Step::Does(Call::Read(b"/f", 0, ALL), Want::Bytes(b"D")),
     Step::Clean(16, 3, 60, 0, Some(VolError::BadRange)),
     Step::Clean(3, 4, 60, 1, Some(VolError::SegClean)),
     Step::Number(5, Ok(Some((11, 2, 3)))),
+    Step::Sync(70, Ok(8)),
+    Step::Minor(8, (8, 60, Plain, 2)),
     Step::Does(Call::ReadMount(1, b"/f", 0, ALL), Want::Bytes(b"A")),
 ];
 

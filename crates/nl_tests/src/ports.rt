@@ -7,6 +7,7 @@ use crate::events::{ALL, Call, PLAIN, Row, SNAPSHOT, event_of, same_reply};
 use crate::file_calls::{on_directories, on_files};
 use crate::logs::{NONE_FAILS, Shape};
 use crate::rows::Volume;
+use crate::segments::minors;
 use crate::volumes::{numbered, on_limits, tables, volume};
 use nl_core::Pen;
 use nl_device::{Device, FaultDevice};
@@ -414,7 +415,7 @@ const GROWN: &[Call<'static>] = &[
     Call::Resize(32),
     Call::Write(b"/f", 0, b"E"),
     SNAPSHOT,
-    Call::Mount(6),
+    Call::Mount(7),
     Call::ReadMount(3, b"/f", 0, 2),
     Call::Retire(31),
     Call::Retire(32),
@@ -463,6 +464,8 @@ fn shared_volumes_reply_as_pens_do(rt: HostRuntime) -> Result<(), Fail> {
     for (shape, rows) in tables() {
         assert!(rt; are_twins_on::<Brand, _>(&rt, rt.alloc(), Opened::new(1), *shape, rows)?);
     }
+    let (shape, rows) = minors();
+    assert!(rt; are_twins_on::<Brand, _>(&rt, rt.alloc(), Opened::new(1), shape, rows)?);
     for (rows, _, _) in numbered() {
         assert!(rt; are_twins_on::<Brand, _>(&rt, rt.alloc(), Opened::new(1), SMALL, rows)?);
     }

@@ -1,5 +1,5 @@
 //! Odd configuration texts, and checkpoints that expire. What becomes of each is told by the rules, and not by the program.
-ghost use Rattle.std.specs.Prelude.{◌≡◌};
+ghost use Rattle.std.specs.Prelude.{◌≡◌, false};
 ghost use Rattle.nl_layout.specs.declared.root.Root.TheVariants as root;
 
 use nl_cpfile::{Checkpoint, Checkpoints};
@@ -192,11 +192,19 @@ fn other_values_are_set(rt: HostRuntime) {
 }
 
 fn checkpoint(number: u64, mode: Mode) -> Checkpoint
-    ensures { result ≡ record { number = number; mode = mode; stamp = 0; root = root.Empty; inodes = 1 } }
+    ensures { result ≡ record {
+      number = number;
+      mode = mode;
+      minor = false;
+      stamp = 0;
+      root = root.Empty;
+      inodes = 1;
+    } }
 {
     Checkpoint {
         number: CheckpointNumber::new(number),
         mode,
+        minor: false,
         stamp: 0,
         root: Root::Empty,
         inodes: 1,

@@ -1,6 +1,7 @@
-//! Moves out of segments and retirements on a pen, with the replies that are due.
-use crate::events::{ALL, Call, Row, Want};
-use crate::logs::{NONE_FAILS, are_segments};
+//! Moves out of segments and retirements on a pen, with the replies that are due, and what becomes of the
+//! minor checkpoints that moves make.
+use crate::events::{ALL, Call, LISTING, PLAIN, Row, WITHOUT_MINOR, Want};
+use crate::logs::{NONE_FAILS, Shape, are_segments};
 use crate::rows::first_unwanted;
 use nl_core::Pen;
 use nl_device::{FaultDevice, MemDevice};
@@ -76,6 +77,54 @@ const READ_AGAIN: &[Row<'static>] = &[
     (Call::Read(b"/f", 0, ALL), Want::Bytes(b"B")),
 ];
 
+/// What a move keeps once more is the latest checkpoint, with its stamp, and not what is dirty. It
+/// becomes a snapshot, is mounted and read while its blocks are moved, and is removed as any other is.
+/// The checkpoint before a minor one can be removed too. A move of no block makes none.
+const MINORS: &[Row<'static>] = &[
+    (Call::Create(b"/f"), Want::Done),
+    (Call::Write(b"/f", 0, b"A"), Want::Written(1)),
+    (Call::CheckpointAt(Mode::Plain, 10), Want::Checkpoint(2)),
+    (Call::Write(b"/f", 0, b"B"), Want::Written(1)),
+    (Call::Move(1, 2), Want::Moved(2, 1)),
+    (LISTING, Want::Minors(&[(1, false), (2, false), (3, true)])),
+    (
+        Call::Listing(WITHOUT_MINOR),
+        Want::Rows(&[(1, 0, Mode::Plain, 1), (2, 10, Mode::Plain, 2)]),
+    ),
+    (Call::Mount(3), Want::Refused(VolError::NotSnapshot)),
+    (Call::ChangeMode(3, Mode::Snapshot), Want::Done),
+    (Call::Mount(3), Want::Mount(1)),
+    (Call::ReadMount(1, b"/f", 0, ALL), Want::Bytes(b"A")),
+    (Call::Read(b"/f", 0, ALL), Want::Bytes(b"B")),
+    (PLAIN, Want::Checkpoint(4)),
+    (Call::Move(1, 30), Want::Moved(1, 0)),
+    (Call::Retire(1), Want::Freed(0)),
+    (Call::RemoveRange(1, 2), Want::Removed(&[1, 2], &[])),
+    (Call::Move(0, 30), Want::Moved(0, 0)),
+    (Call::Retire(0), Want::Freed(2)),
+    (Call::ReadMount(1, b"/f", 0, ALL), Want::Bytes(b"A")),
+    (LISTING, Want::Minors(&[(3, true), (4, false), (5, true)])),
+    (
+        Call::Listing(WITHOUT_MINOR),
+        Want::Minors(&[(3, true), (4, false)]),
+    ),
+    (Call::Remove(4), Want::Done),
+    (Call::Remove(5), Want::Refused(VolError::Latest)),
+    (Call::Unmount(1), Want::Done),
+    (Call::Remove(3), Want::Refused(VolError::IsSnapshot)),
+    (Call::ChangeMode(3, Mode::Plain), Want::Done),
+    (Call::Remove(3), Want::Done),
+    (PLAIN, Want::Checkpoint(6)),
+    (Call::Remove(5), Want::Done),
+    (LISTING, Want::Rows(&[(6, 10, Mode::Plain, 2)])),
+    (Call::Read(b"/f", 0, ALL), Want::Bytes(b"B")),
+];
+
+/// The shape of a new volume for these, and the rows.
+pub(crate) fn minors() -> (Shape, &'static [Row<'static>]) {
+    ((16, 4, NONE_FAILS), MINORS)
+}
+
 fn retired() -> &'static [Row<'static>] {
     RETIRED
 }
@@ -104,6 +153,8 @@ fn is_read_again(alloc: Global) -> Result<bool, VolError> {
 #[test]
 fn segments_are_emptied(rt: HostRuntime) -> Result<(), Fail> {
     assert_eq!(rt; unwanted(rt.alloc(), retired())?, None);
+    let (_, rows) = minors();
+    assert_eq!(rt; unwanted(rt.alloc(), rows)?, None);
     assert!(rt; is_read_again(rt.alloc())?);
     Ok(())
 }

@@ -10,14 +10,14 @@ use Rattle.nl_types.specs.declared.event.Event.TheVariants as event
 use Rattle.nl_types.specs.declared.event.Mode.{Mode}
 use Rattle.nl_types.specs.declared.reply.Answer.TheVariants as answer
 use Rattle.nl_types.specs.Rows.{is_among}
-use Rattle.nl_types.specs.Worlds.{World, Copy, Reply, Outcome, copy_at, expiry_of, latest, moded, take_out}
+use Rattle.nl_types.specs.Worlds.{World, Copy, Reply, Outcome, copy_at, expiry_of, latest, minor_copies, moded, take_out}
 use Rattle.nl_types.specs.Laws.{TakesOut, ChangesMode, GivesBack, CopiesStay, ModesStay, CopiesAreKept, MountsStay, MountNumbersAreNew, GivenNeverFalls}
 use Rattle.nl_types.proofs.ChangeLaws.{IsNoMount, change_gives_no_mount}
 use Rattle.nl_types.proofs.NumberedLists.{find_stays}
 use Rattle.nl_types.proofs.NumberedParts.{find-kept, find-valued}
 use Rattle.nl_types.proofs.ToldCopies.{range_of}
 use Rattle.nl_types.proofs.TakenOut.{among_one, copy_at-take_out}
-use Rattle.nl_types.proofs.WorldLaws.{tree-moded, stamp-moded}
+use Rattle.nl_types.proofs.WorldLaws.{tree-moded, stamp-moded, minor-moded}
 use Rattle.nl_types.proofs.EventCases.{EachEvent, step_gives, after_change, new_copy, after_mode, after_unmount}
 
 -- ---- copies
@@ -30,6 +30,9 @@ module _ (cleaned : Reply) (w : World) (n : ℕ) (before : Copy) (was : copy_at 
   found-copied : (mode : Mode) (now : ℕ) → find nat_cmp n (w.copies ++ (latest w + 1, new_copy w mode now) ∷ []) ≡ Some before
   found-copied mode now = find_stays w.copies ((latest w + 1, new_copy w mode now) ∷ []) n before was
 
+  found-minored : (now : ℕ) → find nat_cmp n (w.copies ++ minor_copies w now) ≡ Some before
+  found-minored now = find_stays w.copies (minor_copies w now) n before was
+
   -- what stays once some are taken out
   found-left : (gone : List ℕ) (now : Copy) → copy_at (take_out gone w) n ≡ Some now → now ≡ before
   found-left gone now is =
@@ -38,27 +41,38 @@ module _ (cleaned : Reply) (w : World) (n : ℕ) (before : Copy) (was : copy_at 
         | false ↦ λ there. same_Some now before (sym there ∙ was)
       ] (sym (copy_at-take_out w gone n) ∙ is)
 
-  -- ---- trees and stamps
+  -- ---- trees, stamps and flags
 
   abbrev IsAlike : Event → Outcome → Type 0
-  IsAlike asked done = (now : Copy) → copy_at done.1 n ≡ Some now → (now.tree ≡ before.tree) × (now.stamp ≡ before.stamp)
+  IsAlike asked done =
+      (now : Copy) → copy_at done.1 n ≡ Some now
+      → (now.tree ≡ before.tree) × (now.stamp ≡ before.stamp) × (now.minor ≡ before.minor)
 
-  alike : (now copy : Copy) → now ≡ copy → copy.tree ≡ before.tree → copy.stamp ≡ before.stamp → (now.tree ≡ before.tree) × (now.stamp ≡ before.stamp)
-  alike now copy same tree stamp = (ap (λ (c : Copy). c.tree) same ∙ tree, ap (λ (c : Copy). c.stamp) same ∙ stamp)
+  alike : (now : Copy) → now ≡ before → (now.tree ≡ before.tree) × (now.stamp ≡ before.stamp) × (now.minor ≡ before.minor)
+  alike now same = (ap (λ (c : Copy). c.tree) same, ap (λ (c : Copy). c.stamp) same, ap (λ (c : Copy). c.minor) same)
+
+  alike-moded : (k : ℕ) (mode : Mode) (now : Copy) → now ≡ moded k mode n before
+      → (now.tree ≡ before.tree) × (now.stamp ≡ before.stamp) × (now.minor ≡ before.minor)
+  alike-moded k mode now same = (
+    ap (λ (c : Copy). c.tree) same ∙ tree-moded k mode n before,
+    ap (λ (c : Copy). c.stamp) same ∙ stamp-moded k mode n before,
+    ap (λ (c : Copy). c.minor) same ∙ minor-moded k mode n before,
+  )
 
   pub each_is_alike : EachEvent cleaned IsAlike w
   each_is_alike = record {
-    stays = λ _ _ _ now is. alike now before (same_Some now before (sym is ∙ was)) refl refl;
-    cleans = λ _ now is. alike now before (same_Some now before (sym is ∙ was)) refl refl;
-    changed = λ _ _ _ now is. alike now before (same_Some now before (sym is ∙ was)) refl refl;
-    copied = λ mode moment _ now is. alike now before (same_Some now before (sym is ∙ found-copied mode moment)) refl refl;
+    stays = λ _ _ _ now is. alike now (same_Some now before (sym is ∙ was));
+    cleans = λ _ now is. alike now (same_Some now before (sym is ∙ was));
+    changed = λ _ _ _ now is. alike now (same_Some now before (sym is ∙ was));
+    copied = λ mode moment _ now is. alike now (same_Some now before (sym is ∙ found-copied mode moment));
+    minored = λ _ _ moment _ now is. alike now (same_Some now before (sym is ∙ found-minored moment));
     moded = λ k mode _ now is.
-        alike now (moded k mode n before) (same_Some now (moded k mode n before) (sym is ∙ found-moded k mode)) (tree-moded k mode n before) (stamp-moded k mode n before);
-    removed = λ k _ now is. alike now before (found-left (k ∷ []) now is) refl refl;
-    ranged = λ first last now is. alike now before (found-left (range_of w first last).removed now is) refl refl;
-    expired = λ moment period now is. alike now before (found-left (expiry_of w moment period) now is) refl refl;
-    mounted = λ _ _ _ _ _ now is. alike now before (same_Some now before (sym is ∙ was)) refl refl;
-    unmounted = λ _ now is. alike now before (same_Some now before (sym is ∙ was)) refl refl;
+        alike-moded k mode now (same_Some now (moded k mode n before) (sym is ∙ found-moded k mode));
+    removed = λ k _ now is. alike now (found-left (k ∷ []) now is);
+    ranged = λ first last now is. alike now (found-left (range_of w first last).removed now is);
+    expired = λ moment period now is. alike now (found-left (expiry_of w moment period) now is);
+    mounted = λ _ _ _ _ _ now is. alike now (same_Some now before (sym is ∙ was));
+    unmounted = λ _ now is. alike now (same_Some now before (sym is ∙ was));
   }
 
   -- ---- modes
@@ -82,6 +96,8 @@ module _ (cleaned : Reply) (w : World) (n : ℕ) (before : Copy) (was : copy_at 
     cleans = λ asked now is. same_mode asked now (same_Some now before (sym is ∙ was));
     changed = λ c _ _ now is. same_mode (event.Apply c) now (same_Some now before (sym is ∙ was));
     copied = λ mode moment _ now is. same_mode (event.Checkpoint mode moment) now (same_Some now before (sym is ∙ found-copied mode moment));
+    minored = λ segment limit moment _ now is.
+        same_mode (event.Move segment limit moment) now (same_Some now before (sym is ∙ found-minored moment));
     moded = λ k mode _ now is. mode-moded k mode now is;
     removed = λ k _ now is. same_mode (event.Remove k) now (found-left (k ∷ []) now is);
     ranged = λ first last now is. same_mode (event.RemoveRange first last) now (found-left (range_of w first last).removed now is);
@@ -115,6 +131,7 @@ module _ (cleaned : Reply) (w : World) (n : ℕ) (before : Copy) (was : copy_at 
     cleans = λ _. inl (ap is_some was);
     changed = λ _ _ _. inl (ap is_some was);
     copied = λ mode now _. inl (ap is_some (found-copied mode now));
+    minored = λ _ _ now _. inl (ap is_some (found-minored now));
     moded = λ k mode _. inl (ap is_some (found-moded k mode));
     removed = λ k _. removed_or_kept k;
     ranged = λ first last. kept-unless (range_of w first last).removed;
@@ -123,7 +140,7 @@ module _ (cleaned : Reply) (w : World) (n : ℕ) (before : Copy) (was : copy_at 
     unmounted = λ _. inl (ap is_some was);
   }
 
--- a copy kept before and after has the same tree and stamp
+-- a copy kept before and after has the same tree and stamp, and is minor if it was
 pub copies_stay : CopiesStay
 copies_stay cleaned reply old new asked n before now is was kept =
     subst (IsAlike cleaned old n before was asked) is (step_gives cleaned (IsAlike cleaned old n before was) old (each_is_alike cleaned old n before was) asked) now kept
@@ -156,6 +173,7 @@ module _ (cleaned : Reply) (w : World) (m n : ℕ) (was : find nat_cmp m w.mount
   each_is_mounted = record {
     stays = λ _ _ _. inl was;
     cleans = λ _. inl was;
+    minored = λ _ _ _ _. inl was;
     changed = λ _ _ _. inl was;
     copied = λ _ _ _. inl was;
     moded = λ _ _ _. inl was;
@@ -183,6 +201,7 @@ each_is_new : (cleaned : Reply) (m : ℕ) → (cleaned ≢ Ok (answer.Mount m)) 
 each_is_new cleaned m other w = record {
   stays = λ asked reply none. no_mount_is_new m w asked reply w none;
   cleans = λ _ is. absurd (other is);
+  minored = λ _ _ _ _ is. absurd (other is);
   changed = λ c done is.
       no_mount_is_new m w (event.Apply c) (Ok done.0) (after_change w c done.1) (subst (λ r. IfOk r (λ d. IsNoMount d.0)) is (change_gives_no_mount w.tree c));
   copied = λ _ _ _ is. absurd (subst (λ r. IfOk r IsNoMount) is tt);
@@ -203,6 +222,7 @@ each_gives_no_less : (cleaned : Reply) (w : World) → EachEvent cleaned (λ _ d
 each_gives_no_less cleaned w = record {
   stays = λ _ _ _. omega arith;
   cleans = λ _. omega arith;
+  minored = λ _ _ _ _. omega arith;
   changed = λ _ _ _. omega arith;
   copied = λ _ _ _. omega arith;
   moded = λ _ _ _. omega arith;

@@ -1,5 +1,5 @@
 -- What holds of the outcome of each event, case by case, holds of every step.
-use Rattle.std.proofs.Common.{◌≡◌, ℕ, ◌+◌, max, Bool, true, false, not, ◌&&◌, ◌||◌, [], ◌∷◌, ◌++◌, Some, Result, Ok, Err, refl, sym, subst, leb}
+use Rattle.std.proofs.Common.{◌≡◌, ℕ, ◌+◌, max, Bool, true, false, cond, not, ◌&&◌, ◌||◌, [], ◌∷◌, ◌++◌, Some, Result, Ok, Err, refl, sym, subst, leb}
 use Rattle.std.specs.Prelude.{IfOk}
 use Rattle.nl_types.specs.declared.error.VolError.{VolError}
 use Rattle.nl_types.specs.declared.error.VolError.TheVariants as error
@@ -15,7 +15,7 @@ use Rattle.nl_types.specs.Limits.{checkpoint_number_limit, mount_number_limit}
 use Rattle.nl_types.specs.Trees.{Tree}
 use Rattle.nl_types.specs.Calls.{change, is_dirtying, reply_to}
 use Rattle.nl_types.specs.Rows.{is_snapshot, kept_row, removal, range_removal, listing}
-use Rattle.nl_types.specs.Worlds.{World, Copy, Reply, Outcome, copy_at, latest, latest_stamp, rows, copies_with_mode, mounts_without, is_given_up, is_mounted, take_out, either, refused_if, expiry_of, kept, mounted, mounted_copy, mount_read, step}
+use Rattle.nl_types.specs.Worlds.{World, Copy, Reply, Outcome, copy_at, latest, latest_stamp, rows, copies_with_mode, mounts_without, is_given_up, is_mounted, take_out, either, refused_if, is_moving, with_minor, expiry_of, kept, mounted, mounted_copy, mount_read, step}
 use Rattle.nl_types.proofs.Judgements.{and_then_any, ok_or_is}
 use Rattle.nl_types.proofs.ChangeLaws.{IsNoMount, reply_gives_no_mount}
 use Rattle.nl_types.proofs.ToldCopies.{IsTold, kept_row-told, MayBecome, MayGo, removal-may_go, range_of, range_removal-is}
@@ -39,7 +39,7 @@ after_change w c tree = record w { tree = tree; dirty = w.dirty || is_dirtying c
 
 -- the copy that a checkpoint makes
 abbrev pub new_copy : World → Mode → ℕ → Copy
-new_copy w mode now = record { tree = w.tree; mode = mode; stamp = max now (latest_stamp w) }
+new_copy w mode now = record { tree = w.tree; mode = mode; minor = false; stamp = max now (latest_stamp w) }
 
 abbrev pub after_checkpoint : World → Copy → World
 after_checkpoint w copy = record w { dirty = false; copies = w.copies ++ (latest w + 1, copy) ∷ [] }
@@ -58,12 +58,14 @@ after_unmount w m = record w { mounts = mounts_without m w.mounts }
 pub record EachEvent (cleaned : Reply) (P : Event → Outcome → Type 0) (w : World) : Type 0 where
   -- a refusal, or a call that only reads
   pub stays : (asked : Event) (reply : Reply) → IfOk reply IsNoMount → P asked (reply, w)
-  -- an event that only moves, frees or adds blocks
+  -- an event that only moves, frees or adds blocks, and of which a world tells nothing
   pub cleans : (asked : Event) → P asked (cleaned, w)
   pub changed : (c : Change) (done : Answer × Tree) → change w.tree c ≡ Ok done
       → P (event.Apply c) (Ok done.0, after_change w c done.1)
   pub copied : (mode : Mode) (now : ℕ) → leb checkpoint_number_limit (latest w + 1) ≡ false
       → P (event.Checkpoint mode now) (Ok (answer.Checkpoint (latest w + 1)), after_checkpoint w (new_copy w mode now))
+  pub minored : (segment limit now : ℕ) → leb checkpoint_number_limit (latest w + 1) ≡ false
+      → P (event.Move segment limit now) (cleaned, with_minor w now)
   pub moded : (n : ℕ) (mode : Mode) → MayBecome w n mode
       → P (event.ChangeMode n mode) (Ok answer.Done, after_mode w n mode)
   pub removed : (n : ℕ) → MayGo w n → P (event.Remove n) (Ok answer.Done, take_out (n ∷ []) w)
@@ -96,6 +98,14 @@ module _ (cleaned : Reply) (P : Event → Outcome → Type 0) (w : World) (each 
       let same : range ≡ range_of w first last = subst (λ r. IfOk r (λ g. g ≡ range_of w first last)) is (range_removal-is w first last) in
       subst (λ (g : Range). P (event.RemoveRange first last) (Ok (answer.Removed g), take_out g.removed w)) (sym same) (each.ranged first last)
 
+  move_gives : (segment limit now : ℕ) (b : Bool)
+      → P (event.Move segment limit now)
+      (cond b (refused_if (leb checkpoint_number_limit (latest w + 1)) error.NumbersSpent w (cleaned, with_minor w now)) (cleaned, w))
+  move_gives segment limit now true =
+      refused_if_gives (P (event.Move segment limit now)) (leb checkpoint_number_limit (latest w + 1)) error.NumbersSpent w _
+      (refused (event.Move segment limit now)) (each.minored segment limit now)
+  move_gives segment limit now false = each.cleans (event.Move segment limit now)
+
   pub step_gives : (asked : Event) → P asked (step cleaned w asked)
   step_gives (event.Apply c) = either_gives (P (event.Apply c)) w (change w.tree c) _ (refused (event.Apply c)) (each.changed c)
   step_gives (event.Read a) = each.stays (event.Read a) (reply_to w.tree a) (reply_gives_no_mount w.tree a)
@@ -110,7 +120,7 @@ module _ (cleaned : Reply) (P : Event → Outcome → Type 0) (w : World) (each 
   step_gives (event.RemoveRange first last) =
       either_gives (P (event.RemoveRange first last)) w (range_removal first last (latest w) (rows w)) _ (refused (event.RemoveRange first last)) (range_judged first last)
   step_gives (event.Expire now period) = each.expired now period
-  step_gives (event.Move segment limit now) = each.cleans (event.Move segment limit now)
+  step_gives (event.Move segment limit now) = move_gives segment limit now (is_moving cleaned)
   step_gives (event.Retire segment) = each.cleans (event.Retire segment)
   step_gives (event.Resize segments) = each.cleans (event.Resize segments)
   step_gives (event.Mount n) =

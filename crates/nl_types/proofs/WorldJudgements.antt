@@ -22,7 +22,7 @@ use Rattle.nl_types.specs.Calls.{Changed, and_then, refuse_if, ok_unless, stops_
 use Rattle.nl_types.specs.declared.row.Range.{Range}
 use Rattle.nl_types.specs.declared.row.Row.{Row}
 use Rattle.nl_types.specs.Rows.{is_snapshot, find_row, kept_row, reason_to_stay, removal, is_between, between, judged, is_no_range, range_removal}
-use Rattle.nl_types.specs.Worlds.{World, Outcome, copy_at, latest, rows, is_given_up, is_mounted, either, refused_if, kept, mounted, mounted_copy}
+use Rattle.nl_types.specs.Worlds.{World, Outcome, copy_at, latest, rows, is_given_up, is_mounted, is_moving, with_minor, either, refused_if, kept, mounted, mounted_copy}
 use Rattle.nl_types.specs.Laws.{IsJudged, StepsJudge}
 
 -- ---- judgements, one after another
@@ -199,7 +199,12 @@ steps_judge cleaned w (event.ChangeMode n mode) judged = either_judges w (kept_r
 steps_judge cleaned w (event.Remove n) judged = either_judges w (removal n (latest w) (rows w)) _ (removal_judges n (latest w) (rows w)) (λ _. tt)
 steps_judge cleaned w (event.RemoveRange first last) judged = either_judges w (range_removal first last (latest w) (rows w)) _ (range_judges first last (latest w) (rows w)) (λ _. tt)
 steps_judge cleaned w (event.Expire now period) judged = tt
-steps_judge cleaned w (event.Move segment limit now) judged = judged
+steps_judge cleaned w (event.Move segment limit now) judged =
+    let spent : Outcome = refused_if (nat_le checkpoint_number_limit (latest w + 1)) error.NumbersSpent w (cleaned, with_minor w now) in
+    elim (is_moving cleaned) as (λ b. (let o : Outcome = cond b spent (cleaned, w) in IfErr o.0 IsJudged)) [
+      | true ↦ refused_if_judges (nat_le checkpoint_number_limit (latest w + 1)) error.NumbersSpent w (cleaned, with_minor w now) tt judged
+      | false ↦ judged
+    ]
 steps_judge cleaned w (event.Retire segment) judged = judged
 steps_judge cleaned w (event.Resize segments) judged = judged
 steps_judge cleaned w (event.Mount n) judged = either_judges w (kept w n) _ (ok_or_judges (copy_at w n) error.NoCheckpoint tt) (λ copy.

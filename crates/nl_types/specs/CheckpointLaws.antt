@@ -1,11 +1,11 @@
--- What changes of modes, removals, expiries, unmounts and listings do, in words that do not speak of how copies are listed.
-use Rattle.std.specs.Prelude.{◌≡◌, ℕ, ◌+◌, ◌-◌, ◌≤◌, ◌==◌, Bool, true, false, ◌&&◌, ◌||◌, not, if◌then◌else◌, nat_le, nat_lt, IsTrue, List, [], ◌∷◌, map, take, Option, None, Some, Result, Ok, Err}
+-- What moves, changes of modes, removals, expiries, unmounts and listings do, in words that do not speak of how copies are listed.
+use Rattle.std.specs.Prelude.{◌≡◌, ◌≢◌, ℕ, ◌+◌, ◌-◌, ◌≤◌, ◌==◌, Bool, true, false, ◌&&◌, ◌||◌, not, if◌then◌else◌, nat_le, nat_lt, IsTrue, List, [], ◌∷◌, map, take, Option, None, Some, Result, Ok, Err}
 use Rattle.nl_types.specs.declared.error.VolError.{VolError}
 use Rattle.std.specs.Option.{option_map, option_map_or}
 use Rattle.std.specs.List.{list_all}
 use Rattle.std.specs.Ordering.{nat_cmp}
 use Rattle.std.specs.FinMap.{find}
-use Rattle.nl_types.specs.declared.event.Event.TheVariants.{ChangeMode, Expire, Remove, RemoveRange, Unmount}
+use Rattle.nl_types.specs.declared.event.Event.TheVariants.{ChangeMode, Expire, Move, Remove, RemoveRange, Unmount}
 use Rattle.nl_types.specs.declared.event.Mode.{Mode}
 use Rattle.nl_types.specs.declared.reply.Answer.{Answer}
 use Rattle.nl_types.specs.declared.reply.Answer.TheVariants.{Done, Expired, Removed}
@@ -13,13 +13,37 @@ use Rattle.nl_types.specs.declared.row.ListOptions.{ListOptions}
 use Rattle.nl_types.specs.declared.row.Range.{Range}
 use Rattle.nl_types.specs.declared.row.Row.{Row}
 use Rattle.nl_types.specs.Rows.{is_snapshot, is_among, find_row, is_shown, in_direction, listing, range_removal, with_mode, without}
-use Rattle.nl_types.specs.Worlds.{World, Copy, IsWorld, Reply, step, boundary_of, copy_at, expiry_of, latest, row_of, rows, take_out, copies_with_mode}
+use Rattle.nl_types.specs.Worlds.{World, Copy, IsWorld, Reply, step, boundary_of, copy_at, expiry_of, is_moving, latest, minor_copy, row_of, rows, take_out, copies_with_mode}
 use Rattle.nl_types.specs.Runs.{Run}
 
 -- what there is, if it passes the test
 abbrev pub where_passes : {X : Type 0} → (X → Bool) → Option X → Option X
 where_passes test None = None
 where_passes test (Some x) = if test x then Some x else None
+
+-- ---- minor copies
+
+-- there is one copy more, under the next number: the latest one once more, plain and minor, with the raised stamp
+pub record MakesMinor (now : ℕ) (old new : World) : Type 0 where
+  pub made : copy_at new (latest old + 1) ≡ option_map (minor_copy old now) (copy_at old (latest old))
+  pub others : (n : ℕ) → n ≢ latest old + 1 → copy_at new n ≡ copy_at old n
+  pub tree : new.tree ≡ old.tree
+  pub dirty : new.dirty ≡ old.dirty
+  pub mounts : new.mounts ≡ old.mounts
+  pub given : new.given ≡ old.given
+
+-- a move that is not refused and took blocks makes one
+abbrev pub MovesMakeMinors : Type 0
+MovesMakeMinors =
+    (cleaned : Reply) (old new : World) (segment limit now : ℕ) (answer : Answer) → IsWorld old
+    → is_moving cleaned ≡ true → step cleaned old (Move segment limit now) ≡ (Ok answer, new)
+    → MakesMinor now old new
+
+-- and one that took none changes nothing
+abbrev pub IdleMovesStay : Type 0
+IdleMovesStay =
+    (cleaned reply : Reply) (old new : World) (segment limit now : ℕ)
+    → is_moving cleaned ≡ false → step cleaned old (Move segment limit now) ≡ (reply, new) → new ≡ old
 
 -- ---- modes
 

@@ -1,66 +1,55 @@
-use Rattle.std.proofs.Common.{arith}
+use Rattle.std.proofs.Common.{◌≡◌, ◌≢◌, ◌<◌, length, refl, sym, ap, subst, ◌∙◌, arith}
+use Rattle.std.specs.Prelude.{Err}
+use Rattle.std.proofs.lemmas.Bool.{eqb-false, eqb-true}
 use Rattle.std.proofs.lemmas.Result.{err_from_is_err_and}
-use Rattle.nl_core.specs.CleaningEvents.{kept_numbers}
-use Rattle.nl_core.proofs.CleaningEvents.{does-moved, does-not-moved}
-use Rattle.nl_core.proofs.CountedPens.{listed-needed, moved-listed, moved-needed, not-listed, not-moved}
+use Rattle.nl_types.specs.declared.event.Event.TheVariants.{Move}
+use Rattle.nl_reclaim.specs.Cleaning.{HasListedFirst}
+use Rattle.nl_core.specs.CleaningEvents.{needed_by}
+use Rattle.nl_core.specs.Layout.{Does, layout_of, unshared}
+use Rattle.nl_core.specs.Volume.{Lists}
+use Rattle.nl_core.proofs.CleaningEvents.{does-idle, does-not-moved}
+use Rattle.nl_core.proofs.CountedPens.{listed-first, not-drafted, not-listed}
 use Rattle.nl_core.proofs.cleaning.move_out.Goals as goal
 
 pub returns-in_err-listed-clause-does : goal.returns-in_err-listed-clause-does
 returns-in_err-listed-clause-does g c =
     let p = err_from_is_err_and c.from_residual.result c.from_residual.ensures.1 in
     let l = c.args.tables.now.lists in
-    let old = g.V.Vstore.store c.args.store.now in
+    let s = g.V.Vstore.store c.args.store.now in
     rw (p.1, p.2)
-    (does-not-moved l old old c.args.segment c.args.limit c.args.now c.requires.pen c.requires.pen.sound.store (omega arith) c.in_err-listed.field-0.0
-    (not-listed c.listed_moves_are_moves.ensures.unlisted l old c.args.segment c.args.limit c.args.now c.in_err-listed.field-0.0 c.in_err-listed.ensures.refused))
+    (does-not-moved l s s c.args.segment c.args.limit c.args.now c.requires.pen c.requires.pen.sound.store (omega arith) c.in_err-listed.field-0.0
+    (not-listed l s c.args.segment c.args.limit c.args.now c.in_err-listed.field-0.0 c.in_err-listed.ensures.refused))
 
-pub returns-in_err-count-clause-does : goal.returns-in_err-count-clause-does
-returns-in_err-count-clause-does g c =
-    let p = err_from_is_err_and c.from_residual-in_err-count.result c.from_residual-in_err-count.ensures.1 in
+pub returns-then-is_empty-clause-does : goal.returns-then-is_empty-clause-does
+returns-then-is_empty-clause-does g c =
     let l = c.args.tables.now.lists in
-    let old = g.V.Vstore.store c.args.store.now in
-    let new = g.V.Vstore.store c.move_listed.new.store in
+    let s = g.V.Vstore.store c.args.store.now in
+    let listed = c.in_ok-listed.listed in
+    let none = eqb-true (length c.as_slice.result.now) 0 (sym c.is_empty.ensures ∙ c.if-is_empty.true) in
+    does-idle l s c.args.segment c.args.limit c.args.now listed.count listed.first.items c.requires.pen
+    (listed-first l s c.args.segment c.args.limit listed.count listed.first.items c.in_ok-listed.ensures.listed)
+    (sym (ap length c.as_slice.ensures.value) ∙ none)
+
+pub returns-in_err-minor-clause-does : goal.returns-in_err-minor-clause-does
+returns-in_err-minor-clause-does g c =
+    let p = err_from_is_err_and c.from_residual-in_err-minor.result c.from_residual-in_err-minor.ensures.1 in
+    let l = c.args.tables.now.lists in
+    let s = g.V.Vstore.store c.args.store.now in
+    let listed = c.in_ok-listed.listed in
+    let e = c.in_err-minor.field-0.0 in
+    let other : length c.as_slice.result.now ≢ 0 = eqb-false (length c.as_slice.result.now) 0 (sym c.is_empty.ensures ∙ c.if-is_empty.false) in
+    let same : length c.as_slice.result.now ≡ length listed.first.items = ap length c.as_slice.ensures.value in
+    let some : 0 < length listed.first.items = omega (arith, other, same) in
     rw (p.1, p.2)
-    (does-not-moved l old new c.args.segment c.args.limit c.args.now c.requires.pen (g.met.V.Vstore.is_store c.move_listed.new.store) c.move_listed.ensures.counted
-    c.in_err-count.field-0.0
-    (not-moved c.listed_moves_are_moves.ensures.refused l old new c.args.segment c.args.limit c.latest.result c.args.now c.in_ok-listed.listed.count
-    c.in_ok-listed.listed.first.items c.in_err-count.field-0.0 c.in_ok-listed.ensures.listed c.latest.ensures c.in_err-count.ensures.refused))
+    (subst (λ (after : Lists). Does unshared (layout_of l s) (Move c.args.segment c.args.limit c.args.now) (Err e) (layout_of after s)) (sym c.draft_minor.ensures.same)
+    (does-not-moved l s s c.args.segment c.args.limit c.args.now c.requires.pen c.requires.pen.sound.store (omega arith) e
+    (not-drafted l s s c.args.segment c.args.limit c.args.now listed.count listed.first.items
+    (listed-first l s c.args.segment c.args.limit listed.count listed.first.items c.in_ok-listed.ensures.listed) e some refl c.in_err-minor.ensures.refused)))
 
-pub returns-in_err-count-clause-needed : goal.returns-in_err-count-clause-needed
-returns-in_err-count-clause-needed g c =
-    c.refusals_keep_counts.ensures.moved c.latest.result c.args.now c.in_ok-listed.listed.first.items c.in_err-count.field-0.0
-    (kept_numbers c.args.tables.now.lists) c.args.needed.now (g.V.Vstore.store c.args.store.now) (g.V.Vstore.store c.move_listed.new.store)
-    c.requires.pen.sound.store (g.met.V.Vstore.is_store c.move_listed.new.store) c.in_err-count.ensures.refused c.requires.counts
-
-pub moved-requires : goal.moved-requires
-moved-requires g c =
+pub move_with_minor-requires-clause-listed : goal.move_with_minor-requires-clause-listed
+move_with_minor-requires-clause-listed g c =
     let l = c.args.tables.now.lists in
-    let old = g.V.Vstore.store c.args.store.now in (
-      old,
-      kept_numbers l,
-      c.requires.counts,
-      moved-needed c.first_needed_stand_there.ensures l old (g.V.Vstore.store c.move_listed.new.store)
-          c.args.segment c.args.limit c.latest.result c.args.now c.in_ok-listed.listed.first.items c.as_slice.result.now c.requires.pen.sound.store
-          c.as_slice.ensures.value (listed-needed l old c.args.segment c.args.limit c.in_ok-listed.listed.first.items c.in_ok-listed.listed.count c.in_ok-listed.ensures.listed)
-          c.in_ok-listed.ensures.movable c.in_ok-count.ensures.moved,
-    )
-
-pub returns-clause-does : goal.returns-clause-does
-returns-clause-does g c =
-    let l = c.args.tables.now.lists in
-    let old = g.V.Vstore.store c.args.store.now in
-    let new = g.V.Vstore.store c.move_listed.new.store in
-    does-moved l old new c.args.segment c.args.limit c.args.now c.requires.pen (g.met.V.Vstore.is_store c.move_listed.new.store) c.move_listed.ensures.counted
-    c.in_ok-count.count
-    (moved-listed c.listed_moves_are_moves.ensures.moved l old new c.args.segment c.args.limit c.latest.result c.args.now c.in_ok-listed.listed.count
-    c.in_ok-listed.listed.first.items c.in_ok-count.count c.in_ok-listed.ensures.listed c.latest.ensures c.in_ok-count.ensures.count c.in_ok-count.ensures.moved)
-
-pub returns-clause-needed : goal.returns-clause-needed
-returns-clause-needed g c =
-    let l = c.args.tables.now.lists in
-    let old = g.V.Vstore.store c.args.store.now in
-    c.moved.ensures old (kept_numbers l) c.requires.counts
-    (moved-needed c.first_needed_stand_there.ensures l old (g.V.Vstore.store c.move_listed.new.store)
-    c.args.segment c.args.limit c.latest.result c.args.now c.in_ok-listed.listed.first.items c.as_slice.result.now c.requires.pen.sound.store
-    c.as_slice.ensures.value (listed-needed l old c.args.segment c.args.limit c.in_ok-listed.listed.first.items c.in_ok-listed.listed.count c.in_ok-listed.ensures.listed)
-    c.in_ok-listed.ensures.movable c.in_ok-count.ensures.moved)
+    let s = g.V.Vstore.store c.args.store.now in
+    let listed = c.in_ok-listed.listed in
+    subst (λ (after : Lists). HasListedFirst (needed_by after) c.args.segment c.args.limit s listed.first.items listed.count) (sym c.draft_minor.ensures.same)
+    (listed-first l s c.args.segment c.args.limit listed.count listed.first.items c.in_ok-listed.ensures.listed)

@@ -1,4 +1,4 @@
-use Rattle.std.proofs.Common.{ℕ, ◌∙◌, sym, ap, leb, rules, subst}
+use Rattle.std.proofs.Common.{ℕ, false, ◌∙◌, sym, ap, leb, rules, subst}
 use Rattle.std.specs.Prelude.{MatchOption, Option}
 use Rattle.std.specs.Option.{is_some}
 use Rattle.std.proofs.lemmas.Bool.{ltb-false, ltb-true}
@@ -26,4 +26,4 @@ returns-in_err-checkpoint c =
     let place : IsPlaceAbove kept c.args.number c.partition_point-index.result = IsPartitionPoint-from_clause (λ p. leb p.number c.args.number) kept _ c.partition_point-index.ensures.partitioned (IsPartitionedBy-leb (λ p. p.number) kept c.args.number (IsRising-numbers kept c.requires)) (λ a r q k. search rules) in
     let past = ltb-false _ _ (sym c.get.ensures.lookup.0 ∙ ap is_some c.in_err-checkpoint.was) in
     subst (λ (o : Option ℕ). MatchOption o (NoneAbove c.args.number (kept_numbers kept)) (IsLeastAbove c.args.number (kept_numbers kept))) (sym c.from_residual.ensures)
-    (none_above kept c.args.number _ place (record { number = 0; mode = Plain; stamp = 0; root = Empty; inodes = 0 }) past)
+    (none_above kept c.args.number _ place (record { number = 0; mode = Plain; minor = false; stamp = 0; root = Empty; inodes = 0 }) past)

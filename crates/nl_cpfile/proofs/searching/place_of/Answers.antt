@@ -1,4 +1,4 @@
-use Rattle.std.proofs.Common.{◌∙◌, sym, ap, ltb, rules, subst, arith}
+use Rattle.std.proofs.Common.{false, ◌∙◌, sym, ap, ltb, rules, subst, arith}
 use Rattle.std.specs.Option.{is_some}
 use Rattle.std.proofs.lemmas.Bool.{ltb-false, eqb-false}
 use Rattle.std.proofs.lemmas.List.Sorted.{IsPartitionPoint-from_clause, IsPartitionedBy-ltb}
@@ -23,5 +23,5 @@ returns-in_err-checkpoint c =
     let kept = c.args.kept.now in
     let place : IsPlace kept c.args.number c.partition_point-index.result = IsPartitionPoint-from_clause (λ p. ltb p.number c.args.number) kept _ c.partition_point-index.ensures.partitioned (IsPartitionedBy-ltb (λ p. p.number) kept c.args.number (IsRising-numbers kept c.requires)) (λ a r q k. search rules) in
     subst (IsPlaceOf kept c.args.number) (sym c.from_residual.ensures)
-    (found-not_here kept c.args.number _ (record { number = 0; mode = Plain; stamp = 0; root = Empty; inodes = 0 }) c.requires place
+    (found-not_here kept c.args.number _ (record { number = 0; mode = Plain; minor = false; stamp = 0; root = Empty; inodes = 0 }) c.requires place
     (λ lt e. let past = ltb-false _ _ (sym c.get.ensures.lookup.0 ∙ ap is_some c.in_err-checkpoint.was) in absurd (omega (arith, past, lt))))

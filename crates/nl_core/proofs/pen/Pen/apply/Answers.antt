@@ -136,7 +136,7 @@ invariant_of-self-in-Checkpoint g c = record { pen = c.checkpoint.ensures.does.p
 pub returns-in-Move : goal.returns-in-Move
 returns-in-Move g c =
     let l = layout_of c.self.inside.tables.lists c.self.inside.store.store in
-    let new = layout_of c.self.inside.tables.lists c.move_out.new.store.store in
+    let new = layout_of c.move_out.new.tables.lists c.move_out.new.store.store in
     subst (λ o. Does unshared o c.args.event.now c.move_out.result new) c.self.view_is
     (subst (λ e. Does unshared l e c.move_out.result new) (sym c.in-Move.is) c.move_out.ensures.does)
 

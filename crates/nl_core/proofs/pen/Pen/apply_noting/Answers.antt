@@ -9,11 +9,8 @@ returns-in-Apply g c =
       | inr others ↦ elim others [
         | inl read ↦ subst IsUnseen (sym read.1) tt
         | inr others ↦ elim others [
-          | inl move ↦ subst IsUnseen (sym move.3) tt
-          | inr others ↦ elim others [
-            | inl mount_read ↦ subst IsUnseen (sym mount_read.2) tt
-            | inr listing ↦ subst IsUnseen (sym listing.1) tt
-          ]
+          | inl mount_read ↦ subst IsUnseen (sym mount_read.2) tt
+          | inr listing ↦ subst IsUnseen (sym listing.1) tt
         ]
       ]
     ] in
