@@ -30,8 +30,8 @@ abbrev pub meaning_of : Result Asked ArgumentsFault → Option Meaning
 meaning_of (Ok a) = Some (request_of a)
 meaning_of (Err f) = fault_meaning f
 
-abbrev pub IsUnlessMemory : Result Asked ArgumentsFault → Option Meaning → Type 0
-IsUnlessMemory result meaning = (meaning_of result ≢ None) → meaning_of result ≡ meaning
+abbrev pub MeansUnlessMemory : Result Asked ArgumentsFault → Option Meaning → Type 0
+MeansUnlessMemory result meaning = (meaning_of result ≢ None) → meaning_of result ≡ meaning
 
 -- a part of the arguments is what is given, or that is none and the words are misread; nothing is
 -- said where memory was refused
@@ -49,9 +49,7 @@ kind_meant _ = misread
 -- an error of the library
 abbrev pub error_meaning : ErrorKind → Option Meaning
 error_meaning OutOfMemory = None
-error_meaning DisplayHelp = Some help
-error_meaning DisplayVersion = Some version
-error_meaning _ = Some misread
+error_meaning kind = Some (kind_meant kind)
 
 abbrev pub given_meant : Option Arguments → Meaning
 given_meant None = misread
@@ -69,7 +67,7 @@ abbrev pub meant : List Text → Meaning
 meant words = unless_fault (fault_of program words) (given (matches_of program words))
 
 abbrev pub Asks : List Text → Result Asked ArgumentsFault → Type 0
-Asks words result = IsUnlessMemory result (Some (meant words))
+Asks words result = MeansUnlessMemory result (Some (meant words))
 
 -- a word that asks for a text, where it comes first: whatever stands behind it
 abbrev pub AsksFor : Text → Meaning → Type 0

@@ -35,7 +35,8 @@ number_given id rows = number_or_64 (first_of id rows)
 -- segments, and blocks in each
 abbrev pub geometry_given : List Row → Option (ℕ × ℕ)
 geometry_given rows =
-    option_and_then (λ segments. option_map (λ blocks. (segments, blocks)) (number_given (codes "blocks") rows))
+    option_and_then
+    (λ segments. option_map (λ blocks. (segments, blocks)) (number_given (codes "blocks") rows))
     (number_given (codes "segments") rows)
 
 abbrev pub divided : ℕ → ℕ → (configuration opened saved : Option Text) → Arguments
@@ -49,5 +50,6 @@ divided segments blocks configuration opened saved = record {
 
 abbrev pub arguments_given : List Row → Option Arguments
 arguments_given rows =
-    option_map (λ g. divided g.0 g.1 (first_of (codes "conf") rows) (first_of (codes "open") rows) (first_of (codes "save") rows))
+    option_map (λ g. divided g.0 g.1 (first_of (codes "conf") rows) (first_of (codes "open") rows)
+    (first_of (codes "save") rows))
     (geometry_given rows)

@@ -3,8 +3,8 @@ ghost use Rattle.std.specs.Prelude.{◌≡◌, ◌↔◌, IfOk, IsOk, OnErr};
 
 use nl_types::{Geometry, Items, VolError};
 
-/// How the device of a new volume is to be divided, and where the cleaner's configuration and the volume's images stand.
-/// Nothing is judged yet.
+/// How the device of a new volume is to be divided, and where the cleaner's configuration and the volume's
+/// images stand. Nothing is judged yet.
 #[derive(Drop)]
 pub struct Arguments {
     /// Unused where `open` is given, as `blocks` is; both are read as numbers even so.

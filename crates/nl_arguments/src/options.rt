@@ -3,7 +3,7 @@ ghost use Rattle.std.specs.Prelude.{◌≡◌, IfOk, Some, map};
 ghost use Rattle.clap.specs.Words.{FailsBy, app_of, fault_of, first_of, found_of, kind_of, matches_of, rows_of, with_rule};
 ghost use Rattle.nl_arguments.specs.NumberWords.{number_in};
 ghost use Rattle.nl_arguments.specs.Options.{arguments_given, bare, geometry_given, number_given, program, value_rule};
-ghost use Rattle.nl_arguments.specs.Meanings.{Asks, IsRead, IsUnlessMemory, error_meaning, fault_meaning, given, misread};
+ghost use Rattle.nl_arguments.specs.Meanings.{Asks, IsRead, MeansUnlessMemory, error_meaning, fault_meaning, given, misread};
 
 use crate::arguments::Arguments;
 use crate::asked::{ArgumentsFault, Asked};
@@ -172,14 +172,14 @@ fn arguments_given(alloc: Global, matches: &ArgMatches<'_>) -> Result<Arguments,
 }
 
 fn run(alloc: Global, matches: &ArgMatches<'_>) -> Result<Asked, ArgumentsFault>
-    ensures { IsUnlessMemory result (Some (given (rows_of (found_of matches.now)))) }
+    ensures { MeansUnlessMemory result (Some (given (rows_of (found_of matches.now)))) }
 {
     Ok(Asked::Run(arguments_given(alloc, matches)?))
 }
 
 /// What an error of the library means, with its text.
 fn told(alloc: Global, error: &clap::Error) -> Result<Asked, ArgumentsFault>
-    ensures { IsUnlessMemory result (error_meaning (kind_of error.now)) }
+    ensures { MeansUnlessMemory result (error_meaning (kind_of error.now)) }
 {
     let text = format!(in alloc; "{error}")?;
     match error.kind() {

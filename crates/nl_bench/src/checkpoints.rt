@@ -1,4 +1,5 @@
-//! Checkpoints of one changed block on a pen, by the call for events alone or by the one for events beside readers.
+//! Checkpoints of one changed block on a pen, by the call for events alone or by the one for events beside
+//! readers.
 use crate::volume::{checkpoint, new_pen, small_creation, small_write};
 use nl_core::{Commit, Pen};
 use nl_device::MemDevice;

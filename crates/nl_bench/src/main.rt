@@ -1,5 +1,6 @@
-//! Does what `bin/bench` measures and no script can ask for: checkpoints by the pen's call for events alone or by the one for
-//! events beside readers, which print nothing, and reads of a mount, on a pen or by ports, which print their nanoseconds.
+//! Does what `bin/bench` measures and no script can ask for: checkpoints by the pen's call for events alone
+//! or by the one for events beside readers, which print nothing, and reads of a mount, on a pen or by ports,
+//! which print their nanoseconds.
 #![tactic(auto)]
 
 ghost use Rattle.std.specs.Prelude.{◌≡◌};

@@ -39,7 +39,8 @@ pub(crate) enum Case {
     CheckpointsBesidePorts,
 }
 
-/// A case, how many ports read so many bytes at a time, and how many reads of each of them or file calls are measured.
+/// A case, how many ports read so many bytes at a time, and how many reads of each of them or file calls are
+/// measured.
 #[derive(Clone, Copy)]
 pub(crate) struct Task {
     pub case: Case,

@@ -1,17 +1,7 @@
-pub mod Chains
 pub mod Places
-pub mod Reading
-pub mod Numbers
 pub mod Kept
-pub mod Pairwise
-pub mod Ended
-pub mod HeldPages
 pub mod Renewal
-pub mod Staying
-pub mod Frames
-pub mod RootByRoot
 pub mod WalkedBlocks
-pub mod TreeLevels
 pub mod TreeEdits
 pub mod TreeAbove
 mod TreeClimbs
@@ -24,7 +14,6 @@ pub mod TreeGroups
 pub mod TreeWhole
 pub mod TreeEnds
 pub mod TreeSlots
-pub mod TreeData
 pub mod TreeKept
 pub mod TreeSteps
 pub mod TreeClimbing

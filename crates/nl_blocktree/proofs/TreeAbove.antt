@@ -9,14 +9,14 @@ use Rattle.nl_types.specs.Roots.{Chain, Empty, OfChain, Pages, Root, Tree, below
 use Rattle.nl_layout.specs.declared.root.Root.{Root as CodeRoot}
 use Rattle.nl_layout.specs.declared.root.Root.TheVariants as code
 use Rattle.nl_layout.specs.Root.{root_of}
-use Rattle.nl_blocktree.specs.Chains.{raw, top_of}
-use Rattle.nl_blocktree.specs.Edits.{KnowAbove, TellsAbove, edit_alone, edit_of, top_edits}
-use Rattle.nl_blocktree.specs.TreeLevels.{IsNodeOf, Levels, kept_levels, nodes_above}
+use Rattle.nl_blocktree.specs.Private.Chains.{raw, top_of}
+use Rattle.nl_blocktree.specs.Private.Edits.{KnowAbove, TellsAbove, edit_alone, edit_of, top_edits}
+use Rattle.nl_blocktree.specs.Private.TreeLevels.{IsNodeOf, Levels, kept_levels, nodes_above}
 use Rattle.nl_blocktree.specs.declared.tree.Edit.{Edit}
-use Rattle.nl_blocktree.proofs.Frames.{raw-numbered, raw-slot}
+use Rattle.nl_blocktree.specs.Facts.Frames.{raw-numbered, raw-slot}
 use Rattle.nl_blocktree.proofs.TreeClimbing.{front_cases}
 use Rattle.nl_blocktree.proofs.TreeKept.{none_over}
-use Rattle.nl_blocktree.proofs.TreeLevels.{div-pow-suc, tree_above, tree_place}
+use Rattle.nl_blocktree.specs.Facts.TreeLevels.{div-pow-suc, tree_above, tree_place}
 
 -- ---- by powers
 

@@ -3,20 +3,20 @@ use Rattle.std.proofs.Common.{◌≡◌, ℕ, zero, suc, ◌+◌, ◌*◌, ◌-�
 use Rattle.std.specs.List.{All, AllPairs, Contains}
 use Rattle.std.proofs.Math.Nat.{one-le-pow, pow-suc}
 use Rattle.std.proofs.lemmas.Bool.{both_ways, cases_eq, eq-eqb, eqb-true, ltb-true, lt-ltb}
-use Rattle.nl_types.proofs.Births.{uncons}
+use Rattle.nl_types.specs.Facts.Births.{uncons}
 use Rattle.nl_types.specs.Entries.{Birth, Content}
 use Rattle.nl_types.specs.RootChanges.{IsSound, with_births}
 use Rattle.nl_types.specs.Roots.{Chain, Empty, Pages, Root, Tree, numbered, pages_of, place_at}
-use Rattle.nl_blocktree.specs.Edits.{ComesBefore, IsEdited, IsTold, begins_low, edit_alone, top_edits, with_front}
-use Rattle.nl_blocktree.specs.Renewing.{Climbs, IsClimbed}
-use Rattle.nl_blocktree.specs.TreeLevels.{kept_levels, tree_height}
-use Rattle.nl_blocktree.specs.Writing.{PutsLevel}
+use Rattle.nl_blocktree.specs.Private.Edits.{ComesBefore, IsEdited, IsTold, begins_low, edit_alone, top_edits, with_front}
+use Rattle.nl_blocktree.specs.Private.Renewing.{Climbs, IsClimbed}
+use Rattle.nl_blocktree.specs.Private.TreeLevels.{kept_levels, tree_height}
+use Rattle.nl_blocktree.specs.Private.Writing.{PutsLevel}
 use Rattle.nl_blocktree.specs.declared.tree.Edit.{Edit}
 use Rattle.nl_blocktree.proofs.TreeClimbs.{climbed, climbed_places, climbs_more, climbs_told, spine_same}
 use Rattle.nl_blocktree.proofs.TreeEnds.{full_places}
 use Rattle.nl_blocktree.proofs.TreeKept.{kept_old, none_over, one_top}
 use Rattle.nl_blocktree.proofs.TreeSteps.{any_default}
-use Rattle.nl_blocktree.proofs.TreeLevels.{only_zero, pow_rises, tree_above, tree_top}
+use Rattle.nl_blocktree.specs.Facts.TreeLevels.{only_zero, pow_rises, tree_above, tree_top}
 
 -- ---- edits
 

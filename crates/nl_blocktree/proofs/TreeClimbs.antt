@@ -5,23 +5,23 @@ use Rattle.std.specs.Option.{IsSome}
 use Rattle.std.proofs.lemmas.Bool.{cases_eq, cases_lt, eq-eqb, ne_eqb}
 use Rattle.std.proofs.lemmas.List.Elements.{Contains-append_cases, Contains-append_left, Contains-append_right}
 use Rattle.nl_types.specs.Entries.{Birth, Content}
-use Rattle.nl_types.specs.RootChanges.{InPayloadOrder, Includes, IsAt, Precedes, born, with_births}
+use Rattle.nl_types.specs.RootChanges.{InPayloadOrder, Includes, IsAt, PrecedesInPayload, born, with_births}
 use Rattle.nl_types.specs.Roots.{Tree, child, numbered, pages_of, place_at}
 use Rattle.nl_vstore.specs.Batches.{TakeLowestFree}
 use Rattle.nl_blocktree.specs.Numbering.{IsUnused}
-use Rattle.nl_blocktree.specs.Edits.{ComesBefore, IsEdited, edit_alone, edited}
-use Rattle.nl_blocktree.specs.Renewing.{Climbs, IsRenewed}
-use Rattle.nl_blocktree.specs.TreeLevels.{AreLevels, AreOldLevels, Levels, only}
-use Rattle.nl_blocktree.specs.Writing.{NodeBecomes, PlaceBecomes, PutsLevel, stays}
+use Rattle.nl_blocktree.specs.Private.Edits.{ComesBefore, IsEdited, edit_alone, edited}
+use Rattle.nl_blocktree.specs.Private.Renewing.{Climbs, IsRenewed}
+use Rattle.nl_blocktree.specs.Private.TreeLevels.{AreLevels, AreOldLevels, Levels, only}
+use Rattle.nl_blocktree.specs.Private.Writing.{NodeBecomes, PlaceBecomes, PutsLevel, stays}
 use Rattle.nl_blocktree.specs.declared.tree.Edit.{Edit}
-use Rattle.nl_blocktree.specs.Writing as shapes
-use Rattle.nl_blocktree.proofs.Frames.{births-keep, cases-Option, more-keep}
-use Rattle.nl_blocktree.proofs.Staying.{some-is, some-of}
-use Rattle.nl_blocktree.proofs.HeldPages.{unused_page}
-use Rattle.nl_blocktree.proofs.Numbers.{born-append, born_in, numbered-append, numbered_unused}
-use Rattle.nl_blocktree.proofs.Pairwise.{pairs-append}
+use Rattle.nl_blocktree.specs.Private.Writing as shapes
+use Rattle.nl_blocktree.specs.Facts.Frames.{births-keep, cases-Option, more-keep}
+use Rattle.nl_blocktree.specs.Facts.Staying.{some-is, some-of}
+use Rattle.nl_blocktree.specs.Facts.HeldPages.{unused_page}
+use Rattle.nl_blocktree.specs.Facts.Numbers.{born-append, born_in, numbered-append, numbered_unused}
+use Rattle.nl_blocktree.specs.Facts.Pairwise.{pairs-append}
 use Rattle.nl_blocktree.proofs.TreeEdits.{at_birth, at_up, birth_page, child_kept, level_becomes, edited_at, edited_cases, level_children, level_full}
-use Rattle.nl_blocktree.proofs.TreeLevels.{div-pow-suc, levels_are, tree_above}
+use Rattle.nl_blocktree.specs.Facts.TreeLevels.{div-pow-suc, levels_are, tree_above}
 
 some_none : {X : Type 0} (o : Option X) → IsSome o → o ≡ None → ⊥
 some_none None s e = cc
@@ -56,7 +56,7 @@ module _ {content : Content} {inode height level : ℕ} {old : Levels} {asked ed
 
   numbers : TakeLowestFree content births added
   unfolding added
-  numbers = numbered-append content births h.added n.added h.numbers (subst (λ (t : List Birth). TakeLowestFree content t n.added) h.births_are n.numbers)
+  numbers = numbered-append content births h.added n.added h.lowest_free (subst (λ (t : List Birth). TakeLowestFree content t n.added) h.births_are n.lowest_free)
 
   unused_of : (xs ys : List Birth) → IsUnused content xs → TakeLowestFree content xs ys → IsUnused content (xs ++ ys)
   unused_of xs ys u t v k = elim (Contains-append_cases (born xs) (born ys) v (subst (λ (ns : List ℕ). Contains ns v) (born-append xs ys) k)) [
@@ -65,17 +65,17 @@ module _ {content : Content} {inode height level : ℕ} {old : Levels} {asked ed
   ]
 
   unused_mid : IsUnused content mid
-  unused_mid = subst (λ (xs : List Birth). IsUnused content xs) (sym h.births_are) (unused_of births h.added fresh h.numbers)
+  unused_mid = subst (λ (xs : List Birth). IsUnused content xs) (sym h.births_are) (unused_of births h.added fresh h.lowest_free)
 
   unused_all : IsUnused content all
-  unused_all = subst (λ (xs : List Birth). IsUnused content xs) (sym n.births_are) (unused_of mid n.added unused_mid n.numbers)
+  unused_all = subst (λ (xs : List Birth). IsUnused content xs) (sym n.births_are) (unused_of mid n.added unused_mid n.lowest_free)
 
   old_kept : Includes (pages_of content) (with_births all (pages_of content))
   old_kept = births-keep content all unused_all
 
   mid_kept : Includes (with_births mid (pages_of content)) (with_births all (pages_of content))
   mid_kept = subst (λ (xs : List Birth). Includes (with_births mid (pages_of content)) (with_births xs (pages_of content))) (sym n.births_are)
-      (more-keep content mid n.added (λ v k. numbered_unused content mid n.added v n.numbers k))
+      (more-keep content mid n.added (λ v k. numbered_unused content mid n.added v n.lowest_free k))
 
   mid_stored : (l offset v : ℕ) → l ≤ level → h.levels l offset ≡ Some v → IsSome (with_births mid (pages_of content) v)
   mid_stored l offset v low e = elim (h.becomes l offset low) [
@@ -85,7 +85,7 @@ module _ {content : Content} {inode height level : ℕ} {old : Levels} {asked ed
     | shapes.comes b k at s g ↦
         let same : Some b.number ≡ Some v = sym s ∙ e in
         let number : b.number ≡ v = cc in
-        let page = ap (λ (bs : List Birth). with_births bs (pages_of content) b.number) h.births_are ∙ birth_page content births h.added b h.numbers k in
+        let page = ap (λ (bs : List Birth). with_births bs (pages_of content) b.number) h.births_are ∙ birth_page content births h.added b h.lowest_free k in
         some-is (with_births mid (pages_of content) v) b.page (subst (λ (m : ℕ). with_births mid (pages_of content) m ≡ Some b.page) number page)
     | shapes.goes s g ↦ let no : None ≡ Some v = sym s ∙ e in cc
   ]
@@ -94,7 +94,7 @@ module _ {content : Content} {inode height level : ℕ} {old : Levels} {asked ed
   not_born : (l offset v : ℕ) → old l offset ≡ Some v → (b : Birth) → Contains n.added b → b.number ≡ v → ⊥
   not_born l offset v p b k e =
       some_none (pages_of content v) (o.stored l offset v p)
-      (unused_page content v (numbered_unused content mid n.added v n.numbers (subst (λ (m : ℕ). Contains (born n.added) m) e (born_in n.added b k))))
+      (unused_page content v (numbered_unused content mid n.added v n.lowest_free (subst (λ (m : ℕ). Contains (born n.added) m) e (born_in n.added b k))))
 
   -- the level below
   rest : (offset : ℕ) → ((u : Edit) → Contains ups u → u.offset ≡ offset / 128 → ⊥) →
@@ -197,7 +197,7 @@ module _ {content : Content} {inode height level : ℕ} {old : Levels} {asked ed
 
   in_order : InPayloadOrder added
   unfolding added
-  in_order = pairs-append Precedes h.added n.added h.in_order n.in_order
+  in_order = pairs-append PrecedesInPayload h.added n.added h.in_order n.in_order
       (λ x y k l. let p = (h.tags x k).1 in let q = (n.tags y l).1 in inl (omega arith))
 
   new_lost : (v : ℕ) → Contains n.gone v → (u : Edit) × (old (suc level) u.offset ≡ Some v) × (edited ups (old (suc level)) u.offset ≢ Some v)
@@ -293,7 +293,7 @@ module _ {content : Content} {inode height level : ℕ} {old : Levels} {asked ed
     gone = gone;
     births_are = births_are;
     ends_are = n.ends_are ∙ (ap (λ (xs : List ℕ). xs ++ n.gone) h.ends_are ∙ append_assoc zs h.gone n.gone);
-    numbers = numbers;
+    lowest_free = numbers;
     in_order = in_order;
     tags = tags;
     placed = placed;
@@ -323,7 +323,7 @@ climbs_told told h none same all = record {
   gone = h.gone;
   births_are = h.births_are;
   ends_are = h.ends_are;
-  numbers = h.numbers;
+  lowest_free = h.lowest_free;
   in_order = h.in_order;
   tags = h.tags;
   placed = h.placed;
@@ -386,7 +386,7 @@ module _ {content : Content} {inode level top : ℕ} {old : Levels} {asked edits
     gone = h.gone;
     births_are = h.births_are;
     ends_are = h.ends_are;
-    numbers = h.numbers;
+    lowest_free = h.lowest_free;
     in_order = h.in_order;
     of_inode = λ b k. (h.tags b k).0;
     placed = λ b k. climbed_places b.place.level b.place.offset (h.tags b k).1 ∙ h.placed b k;

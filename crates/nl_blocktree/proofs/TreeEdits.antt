@@ -4,17 +4,17 @@ use Rattle.std.specs.List.{AllPairs, Contains}
 use Rattle.std.specs.Option.{option_and_then, IsSome}
 use Rattle.std.proofs.lemmas.Bool.{cases_eq, eq-eqb, ne_eqb}
 use Rattle.std.proofs.lemmas.List.Elements.{Contains-get_or}
-use Rattle.nl_types.proofs.Births.{uncons}
+use Rattle.nl_types.specs.Facts.Births.{uncons}
 use Rattle.nl_types.specs.Entries.{Birth, Content}
 use Rattle.nl_types.specs.RootChanges.{Includes, born, with_births}
 use Rattle.nl_types.specs.Roots.{Pages, child, numbered, pages_of, slot}
 use Rattle.nl_vstore.specs.Batches.{TakeLowestFree}
-use Rattle.nl_blocktree.specs.Edits.{ComesBefore, edited}
-use Rattle.nl_blocktree.specs.Writing.{NodeBecomes, PlaceBecomes, PutsLevel, stays}
+use Rattle.nl_blocktree.specs.Private.Edits.{ComesBefore, edited}
+use Rattle.nl_blocktree.specs.Private.Writing.{NodeBecomes, PlaceBecomes, PutsLevel, stays}
 use Rattle.nl_blocktree.specs.declared.tree.Edit.{Edit}
-use Rattle.nl_blocktree.specs.Writing as shapes
-use Rattle.nl_blocktree.proofs.Frames.{block-kept}
-use Rattle.nl_blocktree.proofs.Numbers.{born_in, free-some, numbered_later, numbered_untaken}
+use Rattle.nl_blocktree.specs.Private.Writing as shapes
+use Rattle.nl_blocktree.specs.Facts.Frames.{block-kept}
+use Rattle.nl_blocktree.specs.Facts.Numbers.{born_in, free-some, numbered_later, numbered_untaken}
 
 -- ---- members
 
@@ -96,13 +96,13 @@ module _ {content : Content} {inode level : ℕ} {above below : ℕ → Option �
   pages = with_births all (pages_of content)
 
   page_of : (b : Birth) → Contains h.added b → with_births all (pages_of content) b.number ≡ Some b.page
-  page_of b c = ap (λ (bs : List Birth). with_births bs (pages_of content) b.number) h.births_are ∙ birth_page content old h.added b h.numbers c
+  page_of b c = ap (λ (bs : List Birth). with_births bs (pages_of content) b.number) h.births_are ∙ birth_page content old h.added b h.lowest_free c
 
   pub at_up : (u : Edit) → Contains ups u → edited ups above u.offset ≡ numbered u.number
   at_up u c = edited_at ups above u h.ascending c
 
   pub at_birth : (u : Edit) (b : Birth) → Contains ups u → Contains h.added b → b.number ≡ u.number → edited ups above u.offset ≡ Some b.number
-  at_birth u b c k e = at_up u c ∙ (ap numbered (sym e) ∙ birth_named content old h.added b h.numbers k)
+  at_birth u b c k e = at_up u c ∙ (ap numbered (sym e) ∙ birth_named content old h.added b h.lowest_free k)
 
   -- the level below is what the nodes of this one name
   pub level_children : ((offset : ℕ) → ((u : Edit) → Contains ups u → u.offset ≡ offset / 128 → ⊥) → below offset ≡ child (with_births all (pages_of content)) (offset % 128) (above (offset / 128))) →

@@ -5,10 +5,10 @@ use Rattle.std.proofs.lemmas.Bool.{cases_eq, cases_lt, ne_eqb, eq-eqb}
 use Rattle.nl_types.specs.Entries.{Birth, Content}
 use Rattle.nl_types.specs.RootChanges.{with_births}
 use Rattle.nl_types.specs.Roots.{Empty, Pages, Tree, numbered, pages_of, place_at}
-use Rattle.nl_blocktree.specs.Renewing.{IsRenewed}
-use Rattle.nl_blocktree.specs.TreeLevels.{AreLevels, IsFull, Levels, only}
+use Rattle.nl_blocktree.specs.Private.Renewing.{IsRenewed}
+use Rattle.nl_blocktree.specs.Private.TreeLevels.{AreLevels, IsFull, Levels, only}
 use Rattle.nl_blocktree.specs.declared.tree.Edit.{Edit}
-use Rattle.nl_blocktree.proofs.TreeLevels.{levels_are, tree_above}
+use Rattle.nl_blocktree.specs.Facts.TreeLevels.{levels_are, tree_above}
 
 -- ---- no blocks
 

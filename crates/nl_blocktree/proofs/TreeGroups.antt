@@ -7,18 +7,18 @@ use Rattle.std.proofs.lemmas.List.{append-nil}
 use Rattle.std.proofs.lemmas.List.Elements.{Contains-append_cases, Contains-append_left, Contains-append_right, Contains-push}
 use Rattle.smallvec.specs.SmallVec.{SmallVec}
 use Rattle.nl_types.specs.Entries.{Birth, Content}
-use Rattle.nl_types.specs.RootChanges.{InPayloadOrder, IsSound, Precedes}
+use Rattle.nl_types.specs.RootChanges.{InPayloadOrder, IsSound, PrecedesInPayload}
 use Rattle.nl_types.specs.Roots.{Tree, pages_of, place_at}
 use Rattle.nl_vstore.specs.Batches.{IsLowestFree, TakeLowestFree}
-use Rattle.nl_blocktree.specs.Edits.{ComesBefore, edited}
-use Rattle.nl_blocktree.specs.TreeLevels.{AreOldLevels}
-use Rattle.nl_blocktree.specs.Writing.{NodeBecomes, PutsLevel, PutsNode, ended_of}
+use Rattle.nl_blocktree.specs.Private.Edits.{ComesBefore, edited}
+use Rattle.nl_blocktree.specs.Private.TreeLevels.{AreOldLevels}
+use Rattle.nl_blocktree.specs.Private.Writing.{NodeBecomes, PutsLevel, PutsNode, ended_of}
 use Rattle.nl_blocktree.specs.declared.tree.Edit.{Edit}
-use Rattle.nl_blocktree.specs.Writing as shapes
-use Rattle.nl_blocktree.proofs.Ended.{ended_once, ended_stood, stood_ends}
-use Rattle.nl_blocktree.proofs.Numbers.{numbered-push}
-use Rattle.nl_blocktree.proofs.Pairwise.{in_lone, pairs-append}
-use Rattle.nl_blocktree.proofs.TreeLevels.{tree_above, tree_child}
+use Rattle.nl_blocktree.specs.Private.Writing as shapes
+use Rattle.nl_blocktree.specs.Facts.Ended.{ended_once, ended_stood, stood_ends}
+use Rattle.nl_blocktree.specs.Facts.Numbers.{numbered-push}
+use Rattle.nl_blocktree.specs.Facts.Pairwise.{in_lone, pairs-append}
+use Rattle.nl_blocktree.specs.Facts.TreeLevels.{tree_above, tree_child}
 use Rattle.nl_blocktree.proofs.TreeShape.{full_of}
 
 -- ---- edits of two parts
@@ -80,8 +80,8 @@ module _ (offset number : ℕ) (over : SmallVec ℕ) {content : Content} {inode 
     gone = h.gone ++ ended_of (above offset);
     births_are = bs ∙ (ap (λ (xs : List Birth). xs ++ added) h.births_are ∙ append_assoc old h.added added);
     ends_are = es ∙ (ap (λ (xs : List ℕ). xs ++ ended_of (above offset)) h.ends_are ∙ append_assoc zs h.gone (ended_of (above offset)));
-    numbers = numbers;
-    in_order = pairs-append Precedes h.added added h.in_order order (λ x y k l.
+    lowest_free = numbers;
+    in_order = pairs-append PrecedesInPayload h.added added h.in_order order (λ x y k l.
         let u = h.born_up x k in
         let t = tag y l in
         let a = (h.tags x k).1 in
@@ -130,12 +130,12 @@ module _ (offset number : ℕ) (over : SmallVec ℕ) {content : Content} {inode 
   unfolding up
   level_more = elim n [
     | shapes.comes b i l o m free at s low some bs es ↦ together (b ∷ []) bs es
-        (numbered-push content old h.added b h.numbers (subst (λ (xs : List Birth). IsLowestFree content xs b.number) h.births_are free))
+        (numbered-push content old h.added b h.lowest_free (subst (λ (xs : List Birth). IsLowestFree content xs b.number) h.births_are free))
         (λ p q d r t. absurd (omega arith))
         (λ x k. let e = in_lone b x k in (ap (λ (y : Birth). y.place.inode) e ∙ i, ap (λ (y : Birth). y.place.level) e ∙ l, ap (λ (y : Birth). y.place.offset) e ∙ o, ap (λ (y : Birth). y.number) e ∙ m))
         (shapes.comes b (Contains-push h.added b) o m (λ t r. at t r ∙ sym (here t r)) s low (subst (λ (x : Option ℕ). IsSome x) (sym (here s low)) some))
     | shapes.goes z none bs es ↦ together [] (bs ∙ sym (append-nil mid)) es
-        (subst (λ (xs : List Birth). TakeLowestFree content old xs) (sym (append-nil h.added)) h.numbers)
+        (subst (λ (xs : List Birth). TakeLowestFree content old xs) (sym (append-nil h.added)) h.lowest_free)
         (λ p q d r t. absurd (omega arith))
         (λ x k. absurd (let l = k.1 in omega arith))
         (shapes.goes z (λ t r. here t r ∙ none t r))

@@ -6,22 +6,22 @@ use Rattle.std.specs.Option.{option_and_then, option_map_or, IsSome}
 use Rattle.std.proofs.lemmas.Bool.{both_ways, cases_eq, cases_lt, ne_eqb, or_cases}
 use Rattle.std.proofs.lemmas.List.{append-nil, get_or_append_left, get_or_push, length_push}
 use Rattle.std.proofs.lemmas.List.Elements.{Contains-append_cases, Contains-append_left, Contains-push}
-use Rattle.nl_types.proofs.Births.{uncons}
+use Rattle.nl_types.specs.Facts.Births.{uncons}
 use Rattle.nl_types.specs.Entries.{Birth, Content, number_of}
-use Rattle.nl_types.specs.RootChanges.{InPayloadOrder, IsAt, Precedes, born, with_births}
+use Rattle.nl_types.specs.RootChanges.{InPayloadOrder, IsAt, PrecedesInPayload, born, with_births}
 use Rattle.nl_types.specs.Roots.{Pages, Root, Tree, child, numbered, pages_of, place_at, slot}
-use Rattle.nl_vstore.proofs.BatchLaws.{Fits-birth, Fits-end}
-use Rattle.nl_vstore.specs.Batches.{Changes, Fits, IsLowestFree, TakeLowestFree, is_born, last_number}
+use Rattle.nl_vstore.specs.Facts.BatchLaws.{Fits-birth, Fits-end}
+use Rattle.nl_vstore.specs.Batches.{Changes, CanBeTaken, IsLowestFree, TakeLowestFree, is_born, last_number}
 use Rattle.nl_blocktree.specs.Numbering.{IsUnused}
-use Rattle.nl_blocktree.specs.Renewing.{HasBegun, IsLowered, IsNewTree, IsRenewed, TopDropped, TopPage}
-use Rattle.nl_blocktree.specs.TreeLevels.{IsFull, Levels, only}
+use Rattle.nl_blocktree.specs.Private.Renewing.{HasBegun, IsLowered, IsNewTree, IsRenewed, TopDropped, TopPage}
+use Rattle.nl_blocktree.specs.Private.TreeLevels.{IsFull, Levels, only}
 use Rattle.nl_blocktree.specs.declared.tree.Edit.{Edit}
-use Rattle.nl_blocktree.specs.Writing as shapes
-use Rattle.nl_blocktree.proofs.Frames.{births-keep}
-use Rattle.nl_blocktree.proofs.Numbers.{born-append, born_in, free_unused, free_untaken, born-is_born, numbered-nonzero, unused_of_fits}
-use Rattle.nl_blocktree.proofs.Staying.{some-is, some-of}
+use Rattle.nl_blocktree.specs.Private.Writing as shapes
+use Rattle.nl_blocktree.specs.Facts.Frames.{births-keep}
+use Rattle.nl_blocktree.specs.Facts.Numbers.{born-append, born_in, free_unused, free_untaken, born-is_born, numbered-nonzero, unused_of_fits}
+use Rattle.nl_blocktree.specs.Facts.Staying.{some-is, some-of}
 use Rattle.nl_blocktree.proofs.TreeEdits.{birth_page}
-use Rattle.nl_blocktree.proofs.TreeLevels.{only_zero, tree_above, tree_child, tree_top}
+use Rattle.nl_blocktree.specs.Facts.TreeLevels.{only_zero, tree_above, tree_child, tree_top}
 use Rattle.nl_blocktree.proofs.TreeLowered.{ended_full, top_ended, top_untaken, untaken_full}
 use Rattle.nl_blocktree.proofs.TreeShape.{beyond, one_level}
 use Rattle.nl_blocktree.proofs.TreeWhole.{new_tree}
@@ -72,20 +72,20 @@ far_below content before (y ∷ ys) x b n =
     let r = far_below content (before ++ x ∷ []) ys y b n.1 in
     omega (arith, l, r)
 
-fits_front : (room : ℕ) (content : Content) (first xs : List Birth) (b : Birth) (ends : List ℕ) → Fits room content (record { births = first; ends = ends }) → TakeLowestFree content first (xs ++ b ∷ []) →
-    b.number ≤ room + length (first ++ xs) + 1 → Fits room content (record { births = first ++ xs; ends = ends })
-fits_front room content first [] b ends f n l = subst (λ (bs : List Birth). Fits room content (record { births = bs; ends = ends })) (sym (append-nil first)) f
+fits_front : (room : ℕ) (content : Content) (first xs : List Birth) (b : Birth) (ends : List ℕ) → CanBeTaken room content (record { births = first; ends = ends }) → TakeLowestFree content first (xs ++ b ∷ []) →
+    b.number ≤ room + length (first ++ xs) + 1 → CanBeTaken room content (record { births = first ++ xs; ends = ends })
+fits_front room content first [] b ends f n l = subst (λ (bs : List Birth). CanBeTaken room content (record { births = bs; ends = ends })) (sym (append-nil first)) f
 fits_front room content first (x ∷ xs) b ends f n l =
     let long = length-append first (x ∷ xs) in
     let far = far_below content first xs x b n in
     let next = Fits-birth room content (record { births = first; ends = ends }) x f n.0 (omega (arith, l, long, far)) in
     let again : (first ++ x ∷ []) ++ xs ≡ first ++ x ∷ xs = append_assoc first (x ∷ []) xs in
-    subst (λ (bs : List Birth). Fits room content (record { births = bs; ends = ends })) again
+    subst (λ (bs : List Birth). CanBeTaken room content (record { births = bs; ends = ends })) again
     (fits_front room content (first ++ x ∷ []) xs b ends next n.1 (let e = ap (λ (bs : List Birth). length bs) again in omega (arith, l, e)))
 
 -- a batch that fits without its last birth fits
-pub fits_back : (room : ℕ) (content : Content) (first init : List Birth) (b : Birth) (zs ends : List ℕ) → Fits room content (record { births = first; ends = zs }) → TakeLowestFree content first (init ++ b ∷ []) →
-    Fits room content (record { births = (first ++ init) ++ b ∷ []; ends = ends }) → Fits room content (record { births = first ++ init; ends = ends })
+pub fits_back : (room : ℕ) (content : Content) (first init : List Birth) (b : Birth) (zs ends : List ℕ) → CanBeTaken room content (record { births = first; ends = zs }) → TakeLowestFree content first (init ++ b ∷ []) →
+    CanBeTaken room content (record { births = (first ++ init) ++ b ∷ []; ends = ends }) → CanBeTaken room content (record { births = first ++ init; ends = ends })
 fits_back room content first init b zs ends f n g =
     let last = last_number-push (first ++ init) b in
     let in_room = g.inside in
@@ -162,15 +162,15 @@ module _ (height top begun : ℕ) {content : Content} {inode : ℕ} {prior old :
           (sym (tree_top (with_births all (pages_of content)) (suc height) top r.1.place.offset)
           ∙ subst (λ (l : ℕ). place_at (with_births all (pages_of content)) (Tree (suc height) top) l r.1.place.offset ≡ Some r.1.number) e (h.placed r.1 last_in))
 
-      before : Contains r.0 x → Precedes x r.1
+      before : Contains r.0 x → PrecedesInPayload x r.1
       before c =
           let len = length_push r.0 r.1 in
           let l = c.1 in
-          let pair : Precedes (get_or (r.0 ++ r.1 ∷ []) c.0 x) (get_or (r.0 ++ r.1 ∷ []) (length r.0) x) =
+          let pair : PrecedesInPayload (get_or (r.0 ++ r.1 ∷ []) c.0 x) (get_or (r.0 ++ r.1 ∷ []) (length r.0) x) =
           subst (λ (xs : List Birth). InPayloadOrder xs) r.2 h.in_order c.0 (length r.0) x c.1 (omega arith) in
           let left : get_or (r.0 ++ r.1 ∷ []) c.0 x ≡ x = get_or_append_left r.0 (r.1 ∷ []) x c.0 c.1 ∙ c.2 in
           let right : get_or (r.0 ++ r.1 ∷ []) (length r.0) x ≡ r.1 = get_or_push r.0 r.1 x (length r.0) refl in
-          subst (λ (y : Birth). Precedes y r.1) left (subst (λ (y : Birth). Precedes (get_or (r.0 ++ r.1 ∷ []) c.0 x) y) right pair)
+          subst (λ (y : Birth). PrecedesInPayload y r.1) left (subst (λ (y : Birth). PrecedesInPayload (get_or (r.0 ++ r.1 ∷ []) c.0 x) y) right pair)
 
       same : (Contains r.0 x) ⊎ (Contains (r.1 ∷ []) x) → r.1 ≡ x
       same (inl c) = elim (before c) [
@@ -213,7 +213,7 @@ page_of_top height top begun {content} {first = first} {all = all} named begins 
       let r = last_born height top begun begins h named p.0 in
       let last_in : Contains h.added r.1 = subst (λ (bs : List Birth). Contains bs r.1) (sym r.2) (Contains-push r.0 r.1) in
       let number : r.1.number ≡ top = sym r.4 ∙ p.1 in
-      let page : with_births all (pages_of content) r.1.number ≡ Some r.1.page = ap (λ (bs : List Birth). with_births bs (pages_of content) r.1.number) h.births_are ∙ birth_page content first h.added r.1 h.numbers last_in in
+      let page : with_births all (pages_of content) r.1.number ≡ Some r.1.page = ap (λ (bs : List Birth). with_births bs (pages_of content) r.1.number) h.births_are ∙ birth_page content first h.added r.1 h.lowest_free last_in in
       (r.1.page, inl (first ++ r.0, r.1, r.3, p.0, number, refl), subst (λ (n : ℕ). with_births all (pages_of content) n ≡ Some r.1.page) number page)
   | inr n ↦
       let x = some-of (pages_of content top) (stored (suc height) 0 top (top_old height top begun begins h named n)) in
@@ -284,17 +284,17 @@ lowered_more {room} {content} {begun} {top} {new} height below before mid after 
 
     by : TopDropped begun top before mid →
         IsRenewed content inode prior old (place_at (with_births after.births (pages_of content)) new) asked first after.births zs after.ends
-        × IsNewTree (with_births after.births (pages_of content)) new × Fits room content after
+        × IsNewTree (with_births after.births (pages_of content)) new × CanBeTaken room content after
     by (inl d) =
         let r = last_born height top begun begins h named d.0 in
         let number : r.1.number ≡ top = sym r.4 ∙ d.1 in
         let births : mid.births ≡ first ++ r.0 = d.2 ∙ (ap (λ (bs : List Birth). take (length bs - 1) bs) r.3 ∙ take_front (first ++ r.0) r.1) in
         let renewed = top_untaken height top below stored h slots r.0 r.1 r.2 number (numbered-nonzero top named) in
         let low = untaken_full height top below stored h slots r.0 r.1 r.2 number (numbered-nonzero top named) full in
-        let back = fits_back room content first r.0 r.1 zs before.ends fits (subst (λ (bs : List Birth). TakeLowestFree content first bs) r.2 h.numbers)
-        (subst (λ (bs : List Birth). Fits room content (record { births = bs; ends = before.ends })) r.3 now) in
+        let back = fits_back room content first r.0 r.1 zs before.ends fits (subst (λ (bs : List Birth). TakeLowestFree content first bs) r.2 h.lowest_free)
+        (subst (λ (bs : List Birth). CanBeTaken room content (record { births = bs; ends = before.ends })) r.3 now) in
         on inode prior old asked first leaves zs (record { count = begins.count; stand_first = (let l = d.0 in ap (take begun) d.2 ∙ (take_take begun (length before.births - 1) before.births (omega (arith, l)) ∙ begins.stand_first)); of_data = begins.of_data }) fits stored live once
-        (subst (λ (bs : List Birth). Fits room content (record { births = bs; ends = mid.ends })) (sym births) (subst (λ (es : List ℕ). Fits room content (record { births = first ++ r.0; ends = es })) (sym d.3) back))
+        (subst (λ (bs : List Birth). CanBeTaken room content (record { births = bs; ends = mid.ends })) (sym births) (subst (λ (es : List ℕ). CanBeTaken room content (record { births = first ++ r.0; ends = es })) (sym d.3) back))
         (subst (λ (bs : List Birth). IsRenewed content inode prior old (place_at (with_births bs (pages_of content)) (Tree height below)) asked first bs zs mid.ends) (sym births)
         (subst (λ (es : List ℕ). IsRenewed content inode prior old (place_at (with_births (first ++ r.0) (pages_of content)) (Tree height below)) asked first (first ++ r.0) zs es) (sym d.3) renewed))
         (subst (λ (bs : List Birth). IsFull (with_births bs (pages_of content)) height below) (sym births) low)
@@ -303,7 +303,7 @@ lowered_more {room} {content} {begun} {top} {new} height below before mid after 
         let ended = top_ended height top below stored h slots once there (numbered-nonzero top named) in
         let low = ended_full height top below stored h slots once there (numbered-nonzero top named) full in
         on inode prior old asked first leaves zs (subst (λ (m : Changes). HasBegun begun first leaves m.births) (sym d.1) begins) fits stored live once
-        (subst (λ (m : Changes). Fits room content m) (sym d.1) (Fits-end room content before top now (live (suc height) 0 top there)))
+        (subst (λ (m : Changes). CanBeTaken room content m) (sym d.1) (Fits-end room content before top now (live (suc height) 0 top there)))
         (subst (λ (m : Changes). IsRenewed content inode prior old (place_at (with_births m.births (pages_of content)) (Tree height below)) asked first m.births zs m.ends) (sym d.1) ended)
         (subst (λ (m : Changes). IsFull (with_births m.births (pages_of content)) height below) (sym d.1) low)
 

@@ -7,9 +7,9 @@ use Rattle.nl_types.specs.RootChanges.{IsSound}
 use Rattle.nl_types.specs.Roots.{Chain, Empty, Pages, Root, Tree, pages_of, place_at}
 use Rattle.nl_vstore.specs.Batches.{is_live}
 use Rattle.nl_blocktree.specs.Numbering.{IsLive}
-use Rattle.nl_blocktree.specs.TreeLevels.{AreOldLevels, kept_levels, tree_height}
+use Rattle.nl_blocktree.specs.Private.TreeLevels.{AreOldLevels, kept_levels, tree_height}
 use Rattle.nl_blocktree.proofs.TreeGroups.{old_levels}
-use Rattle.nl_blocktree.proofs.TreeLevels.{tree_above, tree_top}
+use Rattle.nl_blocktree.specs.Facts.TreeLevels.{tree_above, tree_top}
 
 -- what is kept stands there
 pub kept_place : (pages : Pages) (root : Root) (l offset v : ℕ) → kept_levels pages root l offset ≡ Some v → place_at pages root l offset ≡ Some v

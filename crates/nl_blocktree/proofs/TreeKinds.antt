@@ -6,15 +6,15 @@ use Rattle.std.proofs.lemmas.List.Elements.{Contains-append_cases, Contains-appe
 use Rattle.nl_types.specs.Entries.{Birth, Content}
 use Rattle.nl_types.specs.RootChanges.{NodeWritten, born, of_tree, was_absent}
 use Rattle.nl_types.specs.Roots.{Chain, Empty, OfChain, OfTree, Pages, Root, Tree, kind_of, page_at, pages_of, place_at}
-use Rattle.nl_blocktree.specs.Edits.{IsEdited}
-use Rattle.nl_blocktree.specs.Renewing.{IsRenewed}
-use Rattle.nl_blocktree.specs.TreeLevels.{Levels, data_alone}
-use Rattle.nl_blocktree.specs.Writing.{PlaceBecomes}
+use Rattle.nl_blocktree.specs.Private.Edits.{IsEdited}
+use Rattle.nl_blocktree.specs.Private.Renewing.{IsRenewed}
+use Rattle.nl_blocktree.specs.Private.TreeLevels.{Levels, data_alone}
+use Rattle.nl_blocktree.specs.Private.Writing.{PlaceBecomes}
 use Rattle.nl_blocktree.specs.declared.tree.Edit.{Edit}
-use Rattle.nl_blocktree.specs.Writing as shapes
-use Rattle.nl_blocktree.proofs.HeldPages.{unused_page}
-use Rattle.nl_blocktree.proofs.Numbers.{born_in, numbered_unused}
-use Rattle.nl_blocktree.proofs.Pairwise.{pairs-append}
+use Rattle.nl_blocktree.specs.Private.Writing as shapes
+use Rattle.nl_blocktree.specs.Facts.HeldPages.{unused_page}
+use Rattle.nl_blocktree.specs.Facts.Numbers.{born_in, numbered_unused}
+use Rattle.nl_blocktree.specs.Facts.Pairwise.{pairs-append}
 
 some_none : {X : Type 0} (o : Option X) → IsSome o → o ≡ None → ⊥
 some_none None s e = cc
@@ -52,7 +52,7 @@ module _ {content : Content} {inode : ℕ} {old new : Levels} {asked : List Edit
   not_born : (l offset v : ℕ) → old l offset ≡ Some v → (b : Birth) → Contains h.added b → b.number ≡ v → ⊥
   not_born l offset v p b k e =
       some_none (pages_of content v) (stored l offset v p)
-      (unused_page content v (numbered_unused content births h.added v h.numbers (subst (λ (m : ℕ). Contains (born h.added) m) e (born_in h.added b k))))
+      (unused_page content v (numbered_unused content births h.added v h.lowest_free (subst (λ (m : ℕ). Contains (born h.added) m) e (born_in h.added b k))))
 
   left : (v : ℕ) → Contains h.gone v → Contains (h.gone ++ nodes) v
   left v k = Contains-append_left h.gone nodes v k
@@ -92,7 +92,7 @@ module _ {content : Content} {inode : ℕ} {old new : Levels} {asked : List Edit
     gone = h.gone ++ nodes;
     births_are = h.births_are;
     ends_are = ap (λ (xs : List ℕ). xs ++ nodes) h.ends_are ∙ append_assoc zs h.gone nodes;
-    numbers = h.numbers;
+    lowest_free = h.lowest_free;
     in_order = h.in_order;
     of_inode = h.of_inode;
     placed = h.placed;
@@ -123,6 +123,6 @@ chain_moves {content} {inode} {old} {new} {asked} {births} {all} stored h l offs
       let same : Some b.number ≡ Some v = sym s ∙ now in
       let number : b.number ≡ v = cc in
       some_none (pages_of content v) (stored (suc l) offset v e)
-      (unused_page content v (numbered_unused content births h.added v h.numbers (subst (λ (m : ℕ). Contains (born h.added) m) number (born_in h.added b k))))
+      (unused_page content v (numbered_unused content births h.added v h.lowest_free (subst (λ (m : ℕ). Contains (born h.added) m) number (born_in h.added b k))))
   | shapes.goes s g ↦ let no : None ≡ Some v = sym s ∙ now in cc
 ]

@@ -5,21 +5,21 @@ use Rattle.std.specs.Option.{option_and_then, IsSome}
 use Rattle.std.proofs.lemmas.Bool.{cases_eq, cases_lt, eq-eqb, ne_eqb}
 use Rattle.std.proofs.lemmas.List.{get_or_append_left, get_or_push, length_push}
 use Rattle.std.proofs.lemmas.List.Elements.{Contains-append_cases, Contains-append_left, Contains-push}
-use Rattle.nl_types.proofs.Births.{uncons}
+use Rattle.nl_types.specs.Facts.Births.{uncons}
 use Rattle.nl_types.specs.Entries.{Birth, Content}
-use Rattle.nl_types.specs.RootChanges.{InPayloadOrder, IsAt, Precedes, born, with_births}
+use Rattle.nl_types.specs.RootChanges.{InPayloadOrder, IsAt, PrecedesInPayload, born, with_births}
 use Rattle.nl_types.specs.Roots.{Pages, Tree, child, numbered, pages_of, place_at, slot}
 use Rattle.nl_vstore.specs.Batches.{TakeLowestFree}
-use Rattle.nl_blocktree.specs.Renewing.{IsRenewed}
-use Rattle.nl_blocktree.specs.TreeLevels.{AreLevels, IsFull, Levels, only}
-use Rattle.nl_blocktree.specs.Writing.{PlaceBecomes}
+use Rattle.nl_blocktree.specs.Private.Renewing.{IsRenewed}
+use Rattle.nl_blocktree.specs.Private.TreeLevels.{AreLevels, IsFull, Levels, only}
+use Rattle.nl_blocktree.specs.Private.Writing.{PlaceBecomes}
 use Rattle.nl_blocktree.specs.declared.tree.Edit.{Edit}
-use Rattle.nl_blocktree.specs.Writing as shapes
-use Rattle.nl_blocktree.proofs.HeldPages.{unused_page}
-use Rattle.nl_blocktree.proofs.Numbers.{born_in, numbered_once, numbered_unused}
-use Rattle.nl_blocktree.proofs.Pairwise.{pairs-append}
+use Rattle.nl_blocktree.specs.Private.Writing as shapes
+use Rattle.nl_blocktree.specs.Facts.HeldPages.{unused_page}
+use Rattle.nl_blocktree.specs.Facts.Numbers.{born_in, numbered_once, numbered_unused}
+use Rattle.nl_blocktree.specs.Facts.Pairwise.{pairs-append}
 use Rattle.nl_blocktree.proofs.TreeEnds.{full_places}
-use Rattle.nl_blocktree.proofs.TreeLevels.{levels_are, lower_levels, lowered, only_zero, tree_above, tree_child, tree_top}
+use Rattle.nl_blocktree.specs.Facts.TreeLevels.{levels_are, lower_levels, lowered, only_zero, tree_above, tree_child, tree_top}
 
 some_none : {X : Type 0} (o : Option X) → IsSome o → o ≡ None → ⊥
 some_none None s e = cc
@@ -75,7 +75,7 @@ module _ (height top below : ℕ) {content : Content} {inode : ℕ} {prior old :
   not_born : (l offset v : ℕ) → old l offset ≡ Some v → (b : Birth) → Contains h.added b → b.number ≡ v → ⊥
   not_born l offset v p b k e =
       some_none (pages_of content v) (stored l offset v p)
-      (unused_page content v (numbered_unused content births h.added v h.numbers (subst (λ (m : ℕ). Contains (born h.added) m) e (born_in h.added b k))))
+      (unused_page content v (numbered_unused content births h.added v h.lowest_free (subst (λ (m : ℕ). Contains (born h.added) m) e (born_in h.added b k))))
 
   -- ---- the top was born, last of all
 
@@ -104,7 +104,7 @@ module _ (height top below : ℕ) {content : Content} {inode : ℕ} {prior old :
       | shapes.comes x k at s g ↦
           let q : Some x.number ≡ Some top = sym s ∙ at_top in
           let n : x.number ≡ b.number = (let e : x.number ≡ top = cc in e ∙ sym named) in
-          let same : x ≡ b = numbered_once content births h.added x b h.numbers k last_in n in
+          let same : x ≡ b = numbered_once content births h.added x b h.lowest_free k last_in n in
           subst (λ (y : Birth). IsAt y (suc height) 0) same at
       | shapes.goes s g ↦ let no : None ≡ Some top = sym s ∙ at_top in cc
     ]
@@ -114,7 +114,7 @@ module _ (height top below : ℕ) {content : Content} {inode : ℕ} {prior old :
       | shapes.stays s ↦ not_born l offset b.number (sym s ∙ e) b last_in refl
       | shapes.comes x k at s g ↦
           let q : Some x.number ≡ Some b.number = sym s ∙ e in
-          let same : x ≡ b = numbered_once content births h.added x b h.numbers k last_in cc in
+          let same : x ≡ b = numbered_once content births h.added x b h.lowest_free k last_in cc in
           let l_is : b.place.level ≡ l = subst (λ (y : Birth). y.place.level ≡ l) same at.0 in
           let top_is = last_at.0 in
           absurd (omega arith)
@@ -127,11 +127,11 @@ module _ (height top below : ℕ) {content : Content} {inode : ℕ} {prior old :
         let z = a.0 in
         let w = a.1 in
         let len = length_push init b in
-        let pair : Precedes (get_or (init ++ b ∷ []) k.0 x) (get_or (init ++ b ∷ []) (length init) x) =
+        let pair : PrecedesInPayload (get_or (init ++ b ∷ []) k.0 x) (get_or (init ++ b ∷ []) (length init) x) =
         subst (λ (xs : List Birth). InPayloadOrder xs) is h.in_order k.0 (length init) x k.1 (omega arith) in
         let left : get_or (init ++ b ∷ []) k.0 x ≡ x = get_or_append_left init (b ∷ []) x k.0 k.1 ∙ k.2 in
         let right : get_or (init ++ b ∷ []) (length init) x ≡ b = get_or_push init b x (length init) refl in
-        let p : Precedes x b = subst (λ (y : Birth). Precedes y b) left (subst (λ (y : Birth). Precedes (get_or (init ++ b ∷ []) k.0 x) y) right pair) in
+        let p : PrecedesInPayload x b = subst (λ (y : Birth). PrecedesInPayload y b) left (subst (λ (y : Birth). PrecedesInPayload (get_or (init ++ b ∷ []) k.0 x) y) right pair) in
         elim p [ inl l ↦ omega arith | inr l ↦ let r = l.1 in absurd (omega arith) ]
 
     all_is : all ≡ (births ++ init) ++ b ∷ []
@@ -160,8 +160,8 @@ module _ (height top below : ℕ) {content : Content} {inode : ℕ} {prior old :
       gone = h.gone;
       births_are = refl;
       ends_are = h.ends_are;
-      numbers = numbered_front content births init (b ∷ []) (subst (λ (xs : List Birth). TakeLowestFree content births xs) is h.numbers);
-      in_order = pairs_front Precedes init (b ∷ []) (subst (λ (xs : List Birth). InPayloadOrder xs) is h.in_order);
+      lowest_free = numbered_front content births init (b ∷ []) (subst (λ (xs : List Birth). TakeLowestFree content births xs) is h.lowest_free);
+      in_order = pairs_front PrecedesInPayload init (b ∷ []) (subst (λ (xs : List Birth). InPayloadOrder xs) is h.in_order);
       of_inode = λ x k. h.of_inode x (init_in x k);
       data_is = λ i. now_is 0 i (omega arith) ∙ h.data_is i;
       data_asked = λ x k z. h.data_asked x (init_in x k) z;
@@ -240,7 +240,7 @@ module _ (height top below : ℕ) {content : Content} {inode : ℕ} {prior old :
       gone = h.gone ++ top ∷ [];
       births_are = h.births_are;
       ends_are = ap (λ (xs : List ℕ). xs ++ top ∷ []) h.ends_are ∙ append_assoc zs h.gone (top ∷ []);
-      numbers = h.numbers;
+      lowest_free = h.lowest_free;
       in_order = h.in_order;
       of_inode = h.of_inode;
       data_is = λ i. low_is 0 i (omega arith) ∙ h.data_is i;

@@ -10,16 +10,16 @@ use Rattle.nl_types.specs.Roots.{NoBlocks, OfChain, OfTree, Pages, Root, height_
 use Rattle.nl_blocktree.specs.Changed.{blocks_with, indexes}
 use Rattle.nl_blocktree.specs.Numbering.{IsUnused}
 use Rattle.nl_blocktree.specs.declared.change.BlockChange.{BlockChange}
-use Rattle.nl_blocktree.specs.Edits.{IsEdited, edited}
-use Rattle.nl_blocktree.specs.Renewing.{Climbs, IsRenewed}
-use Rattle.nl_blocktree.specs.TreeLevels.{Levels}
-use Rattle.nl_blocktree.specs.Writing.{DataBecomes, PlaceBecomes, PutsData}
+use Rattle.nl_blocktree.specs.Private.Edits.{IsEdited, edited}
+use Rattle.nl_blocktree.specs.Private.Renewing.{Climbs, IsRenewed}
+use Rattle.nl_blocktree.specs.Private.TreeLevels.{Levels}
+use Rattle.nl_blocktree.specs.Private.Writing.{DataBecomes, PlaceBecomes, PutsData}
 use Rattle.nl_blocktree.specs.declared.tree.Edit.{Edit}
-use Rattle.nl_blocktree.specs.Writing as shapes
-use Rattle.nl_blocktree.proofs.Frames.{births-keep, block-kept}
-use Rattle.nl_blocktree.proofs.Staying.{some-of}
-use Rattle.nl_blocktree.proofs.HeldPages.{unused_page}
-use Rattle.nl_blocktree.proofs.Numbers.{born-append, born_in, numbered_unused}
+use Rattle.nl_blocktree.specs.Private.Writing as shapes
+use Rattle.nl_blocktree.specs.Facts.Frames.{births-keep, block-kept}
+use Rattle.nl_blocktree.specs.Facts.Staying.{some-of}
+use Rattle.nl_blocktree.specs.Facts.HeldPages.{unused_page}
+use Rattle.nl_blocktree.specs.Facts.Numbers.{born-append, born_in, numbered_unused}
 use Rattle.nl_blocktree.proofs.TreeEdits.{birth_named, birth_page, edited_at, edited_cases}
 use Rattle.nl_blocktree.proofs.TreeRewrites.{once_now, rewrites, stored_after}
 
@@ -35,13 +35,13 @@ module _ {content : Content} {inode : ℕ} {changes : List BlockChange} (old : L
   not_born : (offset v : ℕ) → old 0 offset ≡ Some v → (b : Birth) → Contains d.added b → b.number ≡ v → ⊥
   not_born offset v p b k e =
       some_none (pages_of content v) (stored offset v p)
-      (unused_page content v (numbered_unused content births d.added v d.numbers (subst (λ (m : ℕ). Contains (born d.added) m) e (born_in d.added b k))))
+      (unused_page content v (numbered_unused content births d.added v d.lowest_free (subst (λ (m : ℕ). Contains (born d.added) m) e (born_in d.added b k))))
 
   at_asked : (e : Edit) → Contains asked e → edited asked (old 0) e.offset ≡ numbered e.number
   at_asked e k = edited_at asked (old 0) e d.ascending k
 
   at_birth : (e : Edit) (b : Birth) → Contains asked e → Contains d.added b → b.number ≡ e.number → edited asked (old 0) e.offset ≡ Some b.number
-  at_birth e b k c q = at_asked e k ∙ (ap numbered (sym q) ∙ birth_named content births d.added b d.numbers c)
+  at_birth e b k c q = at_asked e k ∙ (ap numbered (sym q) ∙ birth_named content births d.added b d.lowest_free c)
 
   levels : Levels
   levels zero offset = edited asked (old 0) offset
@@ -78,7 +78,7 @@ module _ {content : Content} {inode : ℕ} {changes : List BlockChange} (old : L
     gone = d.gone;
     births_are = d.births_are;
     ends_are = d.ends_are;
-    numbers = d.numbers;
+    lowest_free = d.lowest_free;
     in_order = d.in_order;
     tags = λ b k. let t = d.tags b k in (t.0, (let l = t.1 in omega arith));
     placed = λ b k.
@@ -114,7 +114,7 @@ module _ (new : Root) {content : Content} {inode : ℕ} {root : Root} {changes :
   free : IsUnused content all
   free v k = elim (Contains-append_cases (born births) (born h.added) v (subst (λ (ns : List ℕ). Contains ns v) (ap born h.births_are ∙ born-append births h.added) k)) [
     | inl q ↦ fresh v q
-    | inr q ↦ numbered_unused content births h.added v h.numbers q
+    | inr q ↦ numbered_unused content births h.added v h.lowest_free q
   ]
 
   same_page : (i : ℕ) → place_at after new 0 i ≡ place_at before root 0 i → page_at after new i ≡ page_at before root i
@@ -125,7 +125,7 @@ module _ (new : Root) {content : Content} {inode : ℕ} {root : Root} {changes :
 
   birth_there : (b : Birth) → Contains d.added b → after b.number ≡ Some b.page
   unfolding after
-  birth_there b k = more b.number b.page (ap (λ (bs : List Birth). with_births bs (pages_of content) b.number) d.births_are ∙ birth_page content births d.added b d.numbers k)
+  birth_there b k = more b.number b.page (ap (λ (bs : List Birth). with_births bs (pages_of content) b.number) d.births_are ∙ birth_page content births d.added b d.lowest_free k)
 
   -- the new file is the old one with the changes
   pub blocks : (i : ℕ) → page_at (with_births all (pages_of content)) new i ≡ blocks_with changes (page_at (pages_of content) root) i
@@ -133,7 +133,7 @@ module _ (new : Root) {content : Content} {inode : ℕ} {root : Root} {changes :
   blocks i = elim (edited_cases asked (place_at (pages_of content) root 0) i) [
     | inl r ↦ elim (d.becomes r.0 r.1) [
       | shapes.comes b k at number page ↦
-          let now : place_at (with_births all (pages_of content)) new 0 i ≡ Some b.number = h.data_is i ∙ (r.3 ∙ (ap numbered (sym number) ∙ birth_named content births d.added b d.numbers k)) in
+          let now : place_at (with_births all (pages_of content)) new 0 i ≡ Some b.number = h.data_is i ∙ (r.3 ∙ (ap numbered (sym number) ∙ birth_named content births d.added b d.lowest_free k)) in
           ap (option_and_then (with_births all (pages_of content))) now ∙ (birth_there b k ∙ sym (ap (blocks_with changes (page_at (pages_of content) root)) (sym r.2) ∙ page))
       | shapes.goes z none ↦
           let now : place_at (with_births all (pages_of content)) new 0 i ≡ None = h.data_is i ∙ (r.3 ∙ ap numbered z) in

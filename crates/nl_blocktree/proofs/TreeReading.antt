@@ -3,8 +3,8 @@ use Rattle.std.proofs.Common.{◌≡◌, ℕ, ◌-◌, ◌/◌, ◌%◌, ◌<◌
 use Rattle.std.proofs.lemmas.Bool.{cases_eq}
 use Rattle.nl_types.specs.Roots as roots
 use Rattle.nl_types.specs.Roots.{Pages, below_top, chain_node, child, numbered, place_at}
-use Rattle.nl_blocktree.specs.Chains.{slots_below}
-use Rattle.nl_blocktree.proofs.TreeLevels.{tree_above, tree_child, tree_place}
+use Rattle.nl_blocktree.specs.Private.Chains.{slots_below}
+use Rattle.nl_blocktree.specs.Facts.TreeLevels.{tree_above, tree_child, tree_place}
 
 pub place-tree_low : (pages : Pages) (height top level offset : ℕ) → level ≤ height → place_at pages (roots.Tree height top) level offset ≡ below_top pages top (height - level) offset
 place-tree_low pages height top level offset l = tree_place pages height top level offset l

@@ -7,16 +7,16 @@ use Rattle.nl_types.specs.Entries.{Birth, Content}
 use Rattle.nl_types.specs.RootChanges.{Includes, IsAt, IsWrittenPlace, NodeWritten, Reaches, RewritesFile, born, new_kind, of_chain, of_tree, places, was_absent, with_births}
 use Rattle.nl_types.specs.Roots.{OfChain, Pages, Root, kind_of, page_at, pages_of, place_at}
 use Rattle.nl_blocktree.specs.Numbering.{IsUnused}
-use Rattle.nl_blocktree.specs.Edits.{IsEdited}
-use Rattle.nl_blocktree.specs.Renewing.{IsRenewed}
-use Rattle.nl_blocktree.specs.TreeLevels.{Levels}
-use Rattle.nl_blocktree.specs.Writing.{PlaceBecomes}
+use Rattle.nl_blocktree.specs.Private.Edits.{IsEdited}
+use Rattle.nl_blocktree.specs.Private.Renewing.{IsRenewed}
+use Rattle.nl_blocktree.specs.Private.TreeLevels.{Levels}
+use Rattle.nl_blocktree.specs.Private.Writing.{PlaceBecomes}
 use Rattle.nl_blocktree.specs.declared.tree.Edit.{Edit}
-use Rattle.nl_blocktree.specs.Writing as shapes
-use Rattle.nl_blocktree.proofs.Frames.{births-keep, block-kept, with-some}
-use Rattle.nl_blocktree.proofs.Staying.{some-is, some-of}
-use Rattle.nl_blocktree.proofs.HeldPages.{unused_page}
-use Rattle.nl_blocktree.proofs.Numbers.{born-append, born_in, numbered_unused}
+use Rattle.nl_blocktree.specs.Private.Writing as shapes
+use Rattle.nl_blocktree.specs.Facts.Frames.{births-keep, block-kept, with-some}
+use Rattle.nl_blocktree.specs.Facts.Staying.{some-is, some-of}
+use Rattle.nl_blocktree.specs.Facts.HeldPages.{unused_page}
+use Rattle.nl_blocktree.specs.Facts.Numbers.{born-append, born_in, numbered_unused}
 use Rattle.nl_blocktree.proofs.Renewal.{once_after, rewrites_renews}
 
 module _ {content : Content} {inode : ℕ} {root new : Root} {prior : Levels} {asked : List Edit} {old all : List Birth} {zs ends : List ℕ}
@@ -43,7 +43,7 @@ module _ {content : Content} {inode : ℕ} {root new : Root} {prior : Levels} {a
   free : IsUnused content all
   free v k = elim (Contains-append_cases (born old) (born h.added) v (subst (λ (ns : List ℕ). Contains ns v) (ap born h.births_are ∙ born-append old h.added) k)) [
     | inl q ↦ fresh v q
-    | inr q ↦ numbered_unused content old h.added v h.numbers q
+    | inr q ↦ numbered_unused content old h.added v h.lowest_free q
   ]
 
   kept : Includes before after
@@ -131,7 +131,7 @@ module _ {content : Content} {inode : ℕ} {root new : Root} {prior : Levels} {a
   unfolding before
   not_born a v p x k e =
       used v (stored a.0 a.1 v p)
-      (numbered_unused content old h.added v h.numbers (subst (λ (m : ℕ). Contains (born h.added) m) e (born_in h.added x k)))
+      (numbered_unused content old h.added v h.lowest_free (subst (λ (m : ℕ). Contains (born h.added) m) e (born_in h.added x k)))
 
   stays_there : (v : ℕ) (a b : ℕ × ℕ) → places before root a ≡ Some v → places after new b ≡ Some v → a ≡ b
   unfolding before
@@ -178,5 +178,5 @@ module _ {content : Content} {inode : ℕ} {root new : Root} {prior : Levels} {a
 
   pub once_now : (p q : ℕ × ℕ) (v : ℕ) → places (with_births all (pages_of content)) new p ≡ Some v → places (with_births all (pages_of content)) new q ≡ Some v → p ≡ q
   unfolding before
-  once_now p q v a b = once_after (rewrites_renews content old (with_births all (pages_of content)) inode root new h.added h.gone rewrites h.numbers (λ w r e. used w (stored r.0.0 r.0.1 w r.1) e)) once
-      (λ w k r. used w (stored r.0.0 r.0.1 w r.1) (numbered_unused content old h.added w h.numbers k)) p q v a b
+  once_now p q v a b = once_after (rewrites_renews content old (with_births all (pages_of content)) inode root new h.added h.gone rewrites h.lowest_free (λ w r e. used w (stored r.0.0 r.0.1 w r.1) e)) once
+      (λ w k r. used w (stored r.0.0 r.0.1 w r.1) (numbered_unused content old h.added w h.lowest_free k)) p q v a b

@@ -9,20 +9,20 @@ use Rattle.std.proofs.lemmas.Option.{slice_get-get_or, slice_get_past}
 use Rattle.nl_types.specs.Entries.{Birth, Content}
 use Rattle.nl_types.specs.RootChanges.{Includes, IsSound, KeepsFile, born, with_births}
 use Rattle.nl_types.specs.Roots.{Chain, Empty, NoBlocks, OfChain, OfTree, Pages, Root, Tree, chain_node, kind_of, numbered, pages_of, place_at, slot}
-use Rattle.nl_vstore.specs.Batches.{Changes, Fits}
-use Rattle.nl_blocktree.specs.Chains.{Lists, raw}
+use Rattle.nl_vstore.specs.Batches.{Changes, CanBeTaken}
+use Rattle.nl_blocktree.specs.Private.Chains.{ChainAsLists, raw}
 use Rattle.nl_blocktree.specs.Changed.{indexes}
 use Rattle.nl_blocktree.specs.Putting.{IsWrittenKind, PutsAll}
 use Rattle.nl_blocktree.specs.declared.change.BlockChange.{BlockChange}
 use Rattle.nl_blocktree.specs.declared.tree.Edit.{Edit}
-use Rattle.nl_blocktree.specs.Edits.{IsToldFrom, TellsAll}
-use Rattle.nl_blocktree.specs.Renewing.{AreOfData, HasBegun, IsChainRenewed, IsClimbed, IsFileRenewed, IsLowered, IsNewTree, IsRenewed, IsRootRenewed}
-use Rattle.nl_blocktree.specs.TreeLevels.{HasKept, data_alone, kept_levels}
-use Rattle.nl_blocktree.specs.Writing.{PutsData}
-use Rattle.nl_blocktree.proofs.Frames.{births-keep, cases-Option, keeps-file, more-keep, raw-numbered}
-use Rattle.nl_blocktree.proofs.Numbers.{born-append, unused_of_fits}
+use Rattle.nl_blocktree.specs.Private.Edits.{IsToldFrom, TellsAll}
+use Rattle.nl_blocktree.specs.Private.Renewing.{AreOfData, HasBegun, IsChainRenewed, IsClimbed, IsFileRenewed, IsLowered, IsNewTree, IsRenewed, IsRootRenewed}
+use Rattle.nl_blocktree.specs.Private.TreeLevels.{HasKept, data_alone, kept_levels}
+use Rattle.nl_blocktree.specs.Private.Writing.{PutsData}
+use Rattle.nl_blocktree.specs.Facts.Frames.{births-keep, cases-Option, keeps-file, more-keep, raw-numbered}
+use Rattle.nl_blocktree.specs.Facts.Numbers.{born-append, unused_of_fits}
 use Rattle.nl_blocktree.proofs.Places.{above}
-use Rattle.nl_blocktree.proofs.Staying.{unwritten}
+use Rattle.nl_blocktree.specs.Facts.Staying.{unwritten}
 use Rattle.nl_blocktree.proofs.TreeClimbs.{climbs_told}
 use Rattle.nl_blocktree.proofs.TreeEnds.{renewed_empty}
 use Rattle.nl_blocktree.proofs.TreeKept.{kept_data, kept_live, kept_once, kept_stored, none_over}
@@ -34,7 +34,7 @@ use Rattle.nl_blocktree.proofs.TreeWhole.{new_empty, tree_of_chain, tree_of_tree
 -- ---- a tree
 
 -- nothing is left
-pub root_gone : {room : ℕ} {content : Content} {inode : ℕ} (root : Root) {edits : List Edit} (height top : ℕ) (before after : Changes) → top ≡ 0 → Fits room content after →
+pub root_gone : {room : ℕ} {content : Content} {inode : ℕ} (root : Root) {edits : List Edit} (height top : ℕ) (before after : Changes) → top ≡ 0 → CanBeTaken room content after →
     IsClimbed content inode root 0 edits height top before.births after.births before.ends after.ends → IsRootRenewed room content inode root edits Empty before after
 root_gone {room} {content} root height top before after z fits climbed asked first leaves zs begins began h =
     let r = climbed asked first zs (unused_of_fits room content (record { births = first; ends = zs }) began) h in
@@ -49,7 +49,7 @@ begun_here begun first leaves births births' n d t = record {
 
 -- a tree is left, as low as can be
 pub root_lowered : {room : ℕ} {content : Content} {inode : ℕ} (root : Root) {edits : List Edit} {new : Root} (begun height top : ℕ) (before mid after : Changes) → HasKept content root → begun ≡ length before.births →
-    take (length before.births) mid.births ≡ before.births → Fits room content mid →
+    take (length before.births) mid.births ≡ before.births → CanBeTaken room content mid →
     IsClimbed content inode root 0 edits height top before.births mid.births before.ends mid.ends → IsLowered room content begun height top new mid after → IsRootRenewed room content inode root edits new before after
 root_lowered {room} {content} {inode} root begun height top before mid after kept n t fits climbed lowered asked first leaves zs begins began h =
     let r = climbed asked first zs (unused_of_fits room content (record { births = first; ends = zs }) began) h in
@@ -73,7 +73,7 @@ module _ {room : ℕ} {content : Content} {inode : ℕ} (top : ℕ) {edits told 
     (tells : TellsAll slots edits told)
     (renewed : IsRootRenewed room content inode (Chain top) told new before mid)
     (births : after.births ≡ mid.births) (ends : after.ends ≡ mid.ends ++ nodes)
-    (fits : Fits room content mid → Fits room content after) where
+    (fits : CanBeTaken room content mid → CanBeTaken room content after) where
   listed : (l offset v : ℕ) → place_at (pages_of content) (Chain top) (suc l) offset ≡ Some v → Contains nodes v
   listed zero offset v e = in_list nodes offset v (sym (nodes_at offset) ∙ e)
   listed (suc l) offset v e = let no : None ≡ Some v = sym (above (pages_of content) (Chain top) l offset (λ k. cc)) ∙ e in cc
@@ -117,11 +117,11 @@ empty_chain e = cc
 tree_chain : OfTree ≡ OfChain → ⊥
 tree_chain e = cc
 
-chain_named_slots : (pages : Pages) (top : ℕ) (nodes slots : List ℕ) → Lists pages (Chain top) nodes slots → (i : ℕ) → place_at pages (Chain top) 0 i ≡ numbered (get_or slots i 0)
+chain_named_slots : (pages : Pages) (top : ℕ) (nodes slots : List ℕ) → ChainAsLists pages (Chain top) nodes slots → (i : ℕ) → place_at pages (Chain top) 0 i ≡ numbered (get_or slots i 0)
 chain_named_slots pages top nodes slots lists i = chain_slot pages top i ∙ ap numbered (lists.slots_at i)
 
 pub chain_root : {room : ℕ} {content : Content} {inode : ℕ} (root : Root) {edits told : List Edit} {new : Root} (slots nodes : List ℕ) (before mid after : Changes) → kind_of root ≡ OfChain → HasKept content root →
-    Lists (pages_of content) root nodes slots → TellsAll slots edits told → IsRootRenewed room content inode root told new before mid → after.births ≡ mid.births → after.ends ≡ mid.ends ++ nodes → (Fits room content mid → Fits room content after) →
+    ChainAsLists (pages_of content) root nodes slots → TellsAll slots edits told → IsRootRenewed room content inode root told new before mid → after.births ≡ mid.births → after.ends ≡ mid.ends ++ nodes → (CanBeTaken room content mid → CanBeTaken room content after) →
     IsChainRenewed room content inode root edits new before after
 chain_root Empty slots nodes before mid after k kept lists tells renewed bs es fits = absurd (empty_chain k)
 chain_root (Tree height top) slots nodes before mid after k kept lists tells renewed bs es fits = absurd (tree_chain k)
@@ -143,13 +143,13 @@ chain_named pages (Tree height top) k i v e z = cc
 chain_named pages (Chain top) k i v e z = child_named (option_and_then pages (chain_node pages top (i / 127))) (i % 127) v e z
 
 -- what stands in a slot of a chain stands in the file
-pub slot_near : (pages : Pages) (root : Root) (nodes slots : List ℕ) → IsSound pages root → Lists pages root nodes slots → (i : ℕ) → get_or slots i 0 ≢ 0 → i < 262144
+pub slot_near : (pages : Pages) (root : Root) (nodes slots : List ℕ) → IsSound pages root → ChainAsLists pages root nodes slots → (i : ℕ) → get_or slots i 0 ≢ 0 → i < 262144
 slot_near pages root nodes slots sound lists i n = elim (cases-Option (place_at pages root 0 i)) [
   | inl e ↦ absurd (n (sym (lists.slots_at i) ∙ ap raw e))
   | inr e ↦ sound.in_range 0 i e.0 e.1
 ]
 
-pub told_from : (pages : Pages) (root : Root) (nodes slots : List ℕ) (edits told : List Edit) → Lists pages root nodes slots → TellsAll slots edits told → kind_of root ≡ OfChain → IsToldFrom pages root told
+pub told_from : (pages : Pages) (root : Root) (nodes slots : List ℕ) (edits told : List Edit) → ChainAsLists pages root nodes slots → TellsAll slots edits told → kind_of root ≡ OfChain → IsToldFrom pages root told
 told_from pages root nodes slots edits told lists tells k z i v e =
     let there : place_at pages root 0 i ≡ Some v = sym (kept_data pages root i) ∙ e in
     tells.slots_told i (λ n. chain_named pages root k i v there (sym (ap raw there) ∙ (lists.slots_at i ∙ n)))
@@ -157,7 +157,7 @@ told_from pages root nodes slots edits told lists tells k z i v e =
 -- ---- the file
 
 -- later births keep the pages of earlier ones
-later_keep : (room : ℕ) (content : Content) (before after : Changes) → take (length before.births) after.births ≡ before.births → Fits room content after → Includes (with_births before.births (pages_of content)) (with_births after.births (pages_of content))
+later_keep : (room : ℕ) (content : Content) (before after : Changes) → take (length before.births) after.births ≡ before.births → CanBeTaken room content after → Includes (with_births before.births (pages_of content)) (with_births after.births (pages_of content))
 later_keep room content before after t fits = subst (λ (bs : List Birth). Includes (with_births before.births (pages_of content)) (with_births bs (pages_of content))) (sym (split before.births after.births t))
     (more-keep content before.births (rest before.births after.births) (λ v c. unused_of_fits room content after fits v (subst (λ (bs : List Birth). Contains (born bs) v) (sym (split before.births after.births t)) (later v c))))
   where
@@ -186,7 +186,7 @@ of_start : {content : Content} {inode : ℕ} {changes : List BlockChange} {old :
 of_start d = record { are = d.births_are; of_data = λ b c. (d.tags b c).1 }
 
 module _ (room : ℕ) {content : Content} {inode : ℕ} {changes : List BlockChange} {asked : List Edit} {new : Root} (before mid after : Changes)
-    (fits : Fits room content before) (range : (o : ℕ) → Contains (indexes changes) o → o < 262144) (first : (e : Edit) × Contains asked e)
+    (fits : CanBeTaken room content before) (range : (o : ℕ) → Contains (indexes changes) o → o < 262144) (first : (e : Edit) × Contains asked e)
     (t : take (length mid.births) after.births ≡ mid.births) where
   -- from no blocks, or a tree
   pub puts_on_tree : (root : Root) → kind_of root ≢ OfChain → HasKept content root → PutsData content inode changes (place_at (pages_of content) root 0) asked before.births mid.births before.ends mid.ends →
@@ -208,8 +208,8 @@ module _ (room : ℕ) {content : Content} {inode : ℕ} {changes : List BlockCha
       let r = renewed before.births d.added before.ends (of_start d) fits (climbs_start (data_alone (place_at (pages_of content) (Chain top))) (λ offset v e. kept.sound.stored 0 offset v e) d) in
       tree_of_chain new n kept.sound (unused_of_fits room content before fits) range d first r.1 r.2 (later_keep room content mid after t r.4) r.3 (written_kind new r.3.no_chain)
 
-fits_after : (room : ℕ) {content : Content} {inode : ℕ} {changes : List BlockChange} {asked : List Edit} {new : Root} (before mid after : Changes) → Fits room content before → (root : Root) → HasKept content root →
-    PutsData content inode changes (place_at (pages_of content) root 0) asked before.births mid.births before.ends mid.ends → IsFileRenewed room content inode root asked new mid after → Fits room content after
+fits_after : (room : ℕ) {content : Content} {inode : ℕ} {changes : List BlockChange} {asked : List Edit} {new : Root} (before mid after : Changes) → CanBeTaken room content before → (root : Root) → HasKept content root →
+    PutsData content inode changes (place_at (pages_of content) root 0) asked before.births mid.births before.ends mid.ends → IsFileRenewed room content inode root asked new mid after → CanBeTaken room content after
 fits_after room {content} before mid after fits Empty kept d (inr r) = (r.1 _ before.births d.added before.ends (of_start d) fits (climbs_start (place_at (pages_of content) Empty) (λ offset v e. kept.sound.stored 0 offset v e) d)).2
 fits_after room {content} before mid after fits (Tree height top) kept d (inr r) = (r.1 _ before.births d.added before.ends (of_start d) fits (climbs_start (place_at (pages_of content) (Tree height top)) (λ offset v e. kept.sound.stored 0 offset v e) d)).2
 fits_after room {content} before mid after fits (Chain top) kept d (inl r) = (r.1 before.births d.added before.ends (of_start d) fits (climbs_start (data_alone (place_at (pages_of content) (Chain top))) (λ offset v e. kept.sound.stored 0 offset v e) d)).4
@@ -217,22 +217,22 @@ fits_after room before mid after fits Empty kept d (inl r) = absurd (empty_chain
 fits_after room before mid after fits (Tree height top) kept d (inl r) = absurd (tree_chain r.0)
 fits_after room before mid after fits (Chain top) kept d (inr r) = absurd (r.0 refl)
 
-pub puts_renewed : (room : ℕ) {content : Content} {inode : ℕ} {changes : List BlockChange} {asked : List Edit} {new : Root} (before mid after : Changes) → Fits room content before → ((o : ℕ) → Contains (indexes changes) o → o < 262144) →
+pub puts_renewed : (room : ℕ) {content : Content} {inode : ℕ} {changes : List BlockChange} {asked : List Edit} {new : Root} (before mid after : Changes) → CanBeTaken room content before → ((o : ℕ) → Contains (indexes changes) o → o < 262144) →
     (e : Edit) × Contains asked e → take (length mid.births) after.births ≡ mid.births → (root : Root) → HasKept content root →
     PutsData content inode changes (place_at (pages_of content) root 0) asked before.births mid.births before.ends mid.ends → IsFileRenewed room content inode root asked new mid after →
-    PutsAll content inode root new changes before after × Fits room content after
+    PutsAll content inode root new changes before after × CanBeTaken room content after
 puts_renewed room before mid after fits range first t root kept d (inl r) = (puts_on_chain room before mid after fits range first t root r.0 kept d r.1, fits_after room before mid after fits root kept d (inl r))
 puts_renewed room before mid after fits range first t root kept d (inr r) = (puts_on_tree room before mid after fits range first t root r.0 kept d r.1, fits_after room before mid after fits root kept d (inr r))
 
 -- where no data differs
-pub puts_same : (room : ℕ) {content : Content} {inode : ℕ} {root : Root} {changes : List BlockChange} (before after : Changes) → IsSound (pages_of content) root → Fits room content after →
+pub puts_same : (room : ℕ) {content : Content} {inode : ℕ} {root : Root} {changes : List BlockChange} (before after : Changes) → IsSound (pages_of content) root → CanBeTaken room content after →
     PutsData content inode changes (place_at (pages_of content) root 0) [] before.births after.births before.ends after.ends → PutsAll content inode root root changes before after
 puts_same room {content} {inode} {root} {changes} before after sound fits d = record {
   births = [];
   ends = [];
   births_are = d.births_are ∙ ap (λ (bs : List Birth). before.births ++ bs) (no_births d.added (λ b c. none_in (d.born_asked b c).0 (d.born_asked b c).1));
   ends_are = d.ends_are ∙ ap (λ (es : List ℕ). before.ends ++ es) (no_ends d.gone (λ v c. none_in (d.gone_asked v c).0 (d.gone_asked v c).1));
-  numbers = tt;
+  lowest_free = tt;
   unused = unused_of_fits room content after fits;
   rewrites = record {
     in_order = λ i j x l m. absurd (omega arith);
@@ -248,7 +248,7 @@ puts_same room {content} {inode} {root} {changes} before after sound fits d = re
   };
   blocks = λ i. keeps.blocks i ∙ d.rest i (λ k. none_in k.0 k.1);
   sound = keeps.sound;
-  kept = λ h. refl;
+  same_root = λ h. refl;
   kind = inl refl;
 }
   where
@@ -266,7 +266,7 @@ puts_same room {content} {inode} {root} {changes} before after sound fits d = re
     no_ends [] h = refl
     no_ends (n ∷ ns) h = absurd (h n (0, omega arith, refl))
 
-pub puts_nothing : (room : ℕ) {content : Content} {inode : ℕ} {root : Root} {changes : List BlockChange} (edits : List Edit) (before after : Changes) → length edits ≡ 0 → IsSound (pages_of content) root → Fits room content after →
+pub puts_nothing : (room : ℕ) {content : Content} {inode : ℕ} {root : Root} {changes : List BlockChange} (edits : List Edit) (before after : Changes) → length edits ≡ 0 → IsSound (pages_of content) root → CanBeTaken room content after →
     PutsData content inode changes (place_at (pages_of content) root 0) edits before.births after.births before.ends after.ends → PutsAll content inode root root changes before after
 puts_nothing room [] before after z sound fits d = puts_same room before after sound fits d
 puts_nothing room (e ∷ edits) before after z sound fits d = absurd (omega (arith, z))

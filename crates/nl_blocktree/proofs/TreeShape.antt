@@ -5,8 +5,8 @@ use Rattle.std.proofs.Math.Nat.{div-mul-le_self, div-one}
 use Rattle.std.proofs.lemmas.Bool.{cases_lt}
 use Rattle.nl_types.specs.Roots.{Pages, Tree, place_at}
 use Rattle.nl_types.specs.RootChanges.{HasTreeShape}
-use Rattle.nl_blocktree.proofs.Staying.{some-is, some-of}
-use Rattle.nl_blocktree.proofs.TreeLevels.{div-pow-suc, least_by, node_above, tree_above}
+use Rattle.nl_blocktree.specs.Facts.Staying.{some-is, some-of}
+use Rattle.nl_blocktree.specs.Facts.TreeLevels.{div-pow-suc, least_by, node_above, tree_above}
 
 -- the top of a tree that is as low as can be
 pub data NeedsHeight (pages : Pages) (top : ℕ) : ℕ → Type 0 where

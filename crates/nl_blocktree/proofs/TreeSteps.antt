@@ -8,12 +8,12 @@ use Rattle.smallvec.specs.SmallVec.{SmallVec}
 use Rattle.nl_types.specs.Entries.{Birth, Content}
 use Rattle.nl_types.specs.RootChanges.{IsSound}
 use Rattle.nl_types.specs.Roots.{Root, child, pages_of}
-use Rattle.nl_blocktree.specs.Edits.{ComesBefore, IsEdited, edited}
-use Rattle.nl_blocktree.specs.TreeLevels.{kept_levels, tree_height}
-use Rattle.nl_blocktree.specs.Writing.{PutsLevel, PutsNode, slots_with}
+use Rattle.nl_blocktree.specs.Private.Edits.{ComesBefore, IsEdited, edited}
+use Rattle.nl_blocktree.specs.Private.TreeLevels.{kept_levels, tree_height}
+use Rattle.nl_blocktree.specs.Private.Writing.{PutsLevel, PutsNode, slots_with}
 use Rattle.nl_blocktree.specs.declared.tree.Edit.{Edit}
-use Rattle.nl_blocktree.specs.Writing as shapes
-use Rattle.nl_blocktree.proofs.Frames.{cases-Option}
+use Rattle.nl_blocktree.specs.Private.Writing as shapes
+use Rattle.nl_blocktree.specs.Facts.Frames.{cases-Option}
 use Rattle.nl_blocktree.proofs.TreeEdits.{edited_at, edited_cases}
 use Rattle.nl_blocktree.proofs.TreeGroups.{level_more}
 use Rattle.nl_blocktree.proofs.TreeKept.{kept_old, kept_once, none_over}
@@ -187,7 +187,7 @@ groups_none content inode level above below births ends = record {
   gone = [];
   births_are = sym (append-nil births);
   ends_are = sym (append-nil ends);
-  numbers = tt;
+  lowest_free = tt;
   in_order = λ i j d l m. absurd (omega arith);
   tags = λ b c. absurd (let l = c.1 in omega arith);
   ascending = λ i j d l m. absurd (omega arith);

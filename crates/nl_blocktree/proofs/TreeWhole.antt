@@ -10,15 +10,15 @@ use Rattle.nl_blocktree.specs.Changed.{indexes}
 use Rattle.nl_blocktree.specs.Numbering.{IsUnused}
 use Rattle.nl_blocktree.specs.Putting.{IsWrittenKind, PutsAll}
 use Rattle.nl_blocktree.specs.declared.change.BlockChange.{BlockChange}
-use Rattle.nl_blocktree.specs.Edits.{IsEdited}
-use Rattle.nl_blocktree.specs.Renewing.{IsNewTree, IsRenewed}
-use Rattle.nl_blocktree.specs.TreeLevels.{Levels, data_alone}
-use Rattle.nl_blocktree.specs.Writing.{PutsData}
+use Rattle.nl_blocktree.specs.Private.Edits.{IsEdited}
+use Rattle.nl_blocktree.specs.Private.Renewing.{IsNewTree, IsRenewed}
+use Rattle.nl_blocktree.specs.Private.TreeLevels.{Levels, data_alone}
+use Rattle.nl_blocktree.specs.Private.Writing.{PutsData}
 use Rattle.nl_blocktree.specs.declared.tree.Edit.{Edit}
-use Rattle.nl_blocktree.proofs.Staying.{some-is}
-use Rattle.nl_blocktree.proofs.Numbers.{born-append, numbered_unused}
+use Rattle.nl_blocktree.specs.Facts.Staying.{some-is}
+use Rattle.nl_blocktree.specs.Facts.Numbers.{born-append, numbered_unused}
 use Rattle.nl_blocktree.proofs.TreeKinds.{chain_moves, tree_moves, tree_why}
-use Rattle.nl_blocktree.proofs.TreeLevels.{tree_top}
+use Rattle.nl_blocktree.specs.Facts.TreeLevels.{tree_top}
 use Rattle.nl_blocktree.proofs.TreePuts.{blocks, data_differs, kept, tree_sound}
 use Rattle.nl_blocktree.proofs.TreeShape.{NeedsHeight, above_data, tree_shape}
 
@@ -51,7 +51,7 @@ module _ (new : Root) {content : Content} {inode : ℕ} {root : Root} {changes :
   free : IsUnused content all
   free v k = elim (Contains-append_cases (born births) (born h.added) v (subst (λ (ns : List ℕ). Contains ns v) (ap born h.births_are ∙ born-append births h.added) k)) [
     | inl q ↦ fresh v q
-    | inr q ↦ numbered_unused content births h.added v h.numbers q
+    | inr q ↦ numbered_unused content births h.added v h.lowest_free q
   ]
 
   pub puts_tree : PutsAll content inode root new changes (record { births = births; ends = zs }) (record { births = all; ends = ends })
@@ -62,12 +62,12 @@ module _ (new : Root) {content : Content} {inode : ℕ} {root : Root} {changes :
         ends = h.gone;
         births_are = h.births_are;
         ends_are = h.ends_are;
-        numbers = h.numbers;
+        lowest_free = h.lowest_free;
         unused = free;
         rewrites = both.1;
         blocks = blocks new sound fresh d h more;
         sound = both.0;
-        kept = kept new sound fresh d h more first.0 first.1;
+        same_root = kept new sound fresh d h more first.0 first.1;
         kind = inr kind;
       }
 

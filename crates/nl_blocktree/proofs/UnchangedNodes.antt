@@ -7,8 +7,8 @@ use Rattle.nl_types.specs.Roots.{Chain, Empty, OfChain, OfTree, Root, Tree, kind
 use Rattle.nl_vstore.specs.Batches.{Changes}
 use Rattle.nl_blocktree.specs.Putting.{NodesKeepNumbers, NodesStay, PutsAll}
 use Rattle.nl_blocktree.specs.declared.change.BlockChange.{BlockChange}
-use Rattle.nl_blocktree.proofs.Staying.{some-is, some-of}
-use Rattle.nl_blocktree.proofs.TreeLevels.{node_above}
+use Rattle.nl_blocktree.specs.Facts.Staying.{some-is, some-of}
+use Rattle.nl_blocktree.specs.Facts.TreeLevels.{node_above}
 
 pub node_same : {content : Content} {inode : ℕ} {root new : Root} {changes : List BlockChange} {before after : Changes} → PutsAll content inode root new changes before after → kind_of root ≡ OfTree → kind_of new ≡ OfTree →
     (level offset v w : ℕ) → place_at (pages_of content) root (suc level) offset ≡ Some v → place_at (with_births after.births (pages_of content)) new (suc level) offset ≡ Some w →

@@ -13,10 +13,10 @@ use Rattle.nl_blocktree.specs.Walked.{AddsSlots, AreAllBlocks, AreBlocksUpTo, Ar
 use Rattle.nl_blocktree.specs.declared.walking.PlacedBlock.{PlacedBlock}
 use Rattle.nl_blocktree.specs.declared.walking.WalkError.{WalkError}
 use Rattle.nl_blocktree.specs.declared.walking.WalkError.TheVariants.{EmptyNode, Memory, OutOfRange, TooHigh}
-use Rattle.nl_blocktree.proofs.Numbers.{numbered-nonzero}
-use Rattle.nl_blocktree.proofs.Pairwise.{pairs-append}
-use Rattle.nl_blocktree.proofs.Staying.{some-is, some-of}
-use Rattle.nl_blocktree.proofs.TreeLevels.{tree_above, tree_child, tree_top}
+use Rattle.nl_blocktree.specs.Facts.Numbers.{numbered-nonzero}
+use Rattle.nl_blocktree.specs.Facts.Pairwise.{pairs-append}
+use Rattle.nl_blocktree.specs.Facts.Staying.{some-is, some-of}
+use Rattle.nl_blocktree.specs.Facts.TreeLevels.{tree_above, tree_child, tree_top}
 use Rattle.nl_blocktree.proofs.TreeShape.{NeedsHeight, above_data, beyond, one_level, tree_shape}
 use Rattle.nl_blocktree.proofs.WalkedBlocks.{IsOfLevel, level-all, level-in, level-ordered}
 
@@ -264,7 +264,7 @@ pub added_slots : (pages : Pages) (node : ℕ) (old : Option ℕ) (slots read mo
     (node ≢ 0 → (s : ℕ) × (s < length read) × (get_or read s 0 ≢ 0)) → more ≡ slots ++ read → AddsSlots pages node slots more
 added_slots pages node old slots read more is count at some e = record {
   count = (let l = ap (λ (xs : List ℕ). length xs) e in let m = length-append slots read in omega (arith, l, m, count));
-  kept = λ i l. ap (λ (xs : List ℕ). get_or xs i 0) e ∙ get_or_append_left slots read 0 i l;
+  slots_stay = λ i l. ap (λ (xs : List ℕ). get_or xs i 0) e ∙ get_or_append_left slots read 0 i l;
   added = λ s l. ap numbered (ap (λ (xs : List ℕ). get_or xs (length slots + s) 0) e ∙ get_or-append-add slots read s 0) ∙ (at s l ∙ ap (child pages s) is);
   full = full_node pages node old read is count at some;
 }

@@ -1,10 +1,7 @@
 pub mod Changed
 pub mod Numbering
-pub mod Chains
 pub mod Putting
 pub mod Checkpoints
 pub mod Walked
-pub mod TreeLevels
-pub mod Edits
-pub mod Writing
-pub mod Renewing
+pub mod Facts
+pub mod Private

@@ -2,15 +2,15 @@
 ghost use Rattle.std.specs.Prelude.{◌≡◌, ◌≢◌, ◌/◌, ℕ, false, option_copied};
 ghost use Rattle.nl_types.specs.Roots.{Tree, page_at, place_at};
 ghost use Rattle.nl_layout.specs.Root.{root_of};
-ghost use Rattle.nl_blocktree.specs.Chains.{slots_below};
+ghost use Rattle.nl_blocktree.specs.Private.Chains.{slots_below};
 
 use crate::read::{DATA_SLOTS, child_of, data_at, node_at, node_behind, page_under};
 use nl_layout::{Root, SLOTS};
 use nl_types::{Page, VirtualNumber};
 use nl_vstore::VRead;
 
-/// Reads the blocks of a file: for indices that ascend it goes to each node above data once, of a chain from the one before
-/// it, and of a tree from the top.
+/// Reads the blocks of a file: for indices that ascend it goes to each node above data once, of a chain from
+/// the one before it, and of a tree from the top.
 #[derive(Drop)]
 pub struct Cursor<'a, V: VRead> {
     /// What it reads.

@@ -7,16 +7,16 @@ ghost use Rattle.nl_layout.specs.Root.{root_of};
 ghost use Rattle.nl_vstore.specs.Batches.{Changes, last_number};
 ghost use Rattle.nl_vstore.specs.Stores.{capacity, content_in};
 ghost use Rattle.nl_blocktree.specs.Putting.{GoesOn};
-ghost use Rattle.nl_blocktree.specs.Renewing.{IsLowered, TopDropped, TopPage};
-ghost use Rattle.nl_blocktree.specs.TreeLevels.{only};
+ghost use Rattle.nl_blocktree.specs.Private.Renewing.{IsLowered, TopDropped, TopPage};
+ghost use Rattle.nl_blocktree.specs.Private.TreeLevels.{only};
 
 use crate::read::slot_of;
 use nl_layout::{Level, Root, SLOTS};
 use nl_types::{Page, VirtualNumber, VolError};
 use nl_vstore::{Batch, VRead, Vstore};
 
-/// The root of a tree that was written anew, where `begun` births were there before. While the top names one node alone, at
-/// its first slot, that node becomes the top.
+/// The root of a tree that was written anew, where `begun` births were there before. While the top names one
+/// node alone, at its first slot, that node becomes the top.
 pub(crate) fn lower<V: Vstore>(
     store: &V,
     batch: &mut Batch,

@@ -1,15 +1,16 @@
 //! The levels of a tree that is written anew, from the lowest one up.
 ghost use Rattle.std.specs.Prelude.{◌≡◌, ◌≢◌, ◌≤◌, ◌<◌, ◌+◌, ◌/◌, ◌-◌, ◌^◌, ◌++◌, ℕ, Some, not, length, slice_index, slice_index_or, IfOk, IfErr, All};
 ghost use Rattle.std.specs.List.{AllPairs};
+ghost use Rattle.nl_types.specs.Limits as limits;
 ghost use Rattle.nl_types.specs.Roots.{numbered, pages_of};
 ghost use Rattle.nl_layout.specs.Root.{root_of};
 ghost use Rattle.nl_vstore.specs.Stores.{content_in};
-ghost use Rattle.nl_blocktree.specs.Edits.{Above, ComesBefore, IsEdited, IsTold, KnowAbove, begins_low, edit_of, top_edits, with_front};
+ghost use Rattle.nl_blocktree.specs.Private.Edits.{Above, ComesBefore, IsEdited, IsTold, KnowAbove, begins_low, edit_of, top_edits, with_front};
 ghost use Rattle.nl_blocktree.specs.Numbering.{CanTake};
 ghost use Rattle.nl_blocktree.specs.Putting.{GoesOn};
-ghost use Rattle.nl_blocktree.specs.Renewing.{IsClimbed};
-ghost use Rattle.nl_blocktree.specs.TreeLevels.{HasKept, kept_in, tree_height};
-ghost use Rattle.nl_blocktree.specs.Writing.{PutsUp};
+ghost use Rattle.nl_blocktree.specs.Private.Renewing.{IsClimbed};
+ghost use Rattle.nl_blocktree.specs.Private.TreeLevels.{HasKept, kept_in, tree_height};
+ghost use Rattle.nl_blocktree.specs.Private.Writing.{PutsUp};
 
 use crate::read::named;
 use crate::tree::{Edit, edit_alone, put_node};
@@ -56,7 +57,8 @@ pub(crate) fn climb<V: Vstore>(
     climb(alloc, store, batch, inode, root, below + 1, height, &told)
 }
 
-/// The edits of a level, with the top of a tree that grows in front of them, if it stands there: its number stays.
+/// The edits of a level, with the top of a tree that grows in front of them, if it stands there: its number
+/// stays.
 fn with_top(
     alloc: Global,
     root: &Root,
@@ -87,8 +89,8 @@ fn with_front(alloc: Global, top: VirtualNumber, ups: Vec<Edit>) -> Result<Vec<E
     Ok(told)
 }
 
-/// Writes the nodes above some edits of a level: one for each group of 128, in the place of the old one. Answers the
-/// edits of the next level.
+/// Writes the nodes above some edits of a level: one for each group of 128, in the place of the old one.
+/// Answers the edits of the next level.
 fn put_level<V: Vstore>(
     alloc: Global,
     store: &V,
@@ -104,7 +106,7 @@ fn put_level<V: Vstore>(
     requires low { below ≤ 2 }
     requires some { 0 < length edits.now }
     requires ascending { AllPairs ComesBefore edits.now }
-    requires small { All (λ e. e.offset < 2097152) edits.now }
+    requires small { All (λ e. e.offset < limits.tree_limit) edits.now }
     requires above { KnowAbove (kept_in (V.store store.now) (root_of root.now)) below edits.now }
     requires told { tree_height (root_of root.now) ≤ below → (i v : ℕ) →
         kept_in (V.store store.now) (root_of root.now) below i ≡ Some v → IsEdited edits.now i }

@@ -3,9 +3,9 @@ ghost use Rattle.std.specs.Prelude.{◌≡◌, ◌≤◌, ◌/◌, [], ◌∷◌
 ghost use Rattle.smallvec.specs.SmallVec.{HasRoomFor, small_vec_len};
 ghost use Rattle.nl_types.specs.Roots.{OfChain, below_top, kind_of, place_at};
 ghost use Rattle.nl_layout.specs.Root.{root_of};
-ghost use Rattle.nl_blocktree.specs.Chains.{raw};
-ghost use Rattle.nl_blocktree.specs.Edits.{TellsAbove};
-ghost use Rattle.nl_blocktree.specs.TreeLevels.{IsNodeOf, kept_levels, nodes_above};
+ghost use Rattle.nl_blocktree.specs.Private.Chains.{raw};
+ghost use Rattle.nl_blocktree.specs.Private.Edits.{TellsAbove};
+ghost use Rattle.nl_blocktree.specs.Private.TreeLevels.{IsNodeOf, kept_levels, nodes_above};
 
 use crate::cursor::node_from;
 use crate::read::{DATA_SLOTS, child_of, named, number_in};
@@ -25,8 +25,8 @@ pub(crate) struct Path {
     pub above: SmallVec<u64, 3>,
 }
 
-/// The way to the data at an index, where of a chain the node above some index is known. Of a tree it reads each node above
-/// the index, and of a chain those behind the known one. It takes no memory.
+/// The way to the data at an index, where of a chain the node above some index is known. Of a tree it reads
+/// each node above the index, and of a chain those behind the known one. It takes no memory.
 pub(crate) fn path_to<V: VRead>(
     alloc: Global,
     store: &V,
@@ -38,7 +38,8 @@ pub(crate) fn path_to<V: VRead>(
     requires { IsNodeOf (V.pages store.now) (root_of root.now) known node }
     ensures node { IsNodeOf (V.pages store.now) (root_of root.now) index result.node }
     ensures number { result.number ≡ place_at (V.pages store.now) (root_of root.now) 0 index }
-    ensures above { TellsAbove (kept_levels (V.pages store.now) (root_of root.now)) 0 index result.above.items }
+    ensures above { TellsAbove
+        (kept_levels (V.pages store.now) (root_of root.now)) 0 index result.above.items }
 {
     match root {
         Root::Empty => bare_path(alloc, None, None),

@@ -1,8 +1,9 @@
 //! The slots of nodes as lists, one node after the other.
 ghost use Rattle.std.specs.Prelude.{◌≡◌, ◌≢◌, ◌≤◌, ◌<◌, ◌+◌, ℕ, length, slice_index, IfOk, IfErr, All};
 ghost use Rattle.std.specs.List.{AllPairs};
+ghost use Rattle.nl_types.specs.Limits as limits;
 ghost use Rattle.nl_types.specs.Roots.{numbered};
-ghost use Rattle.nl_blocktree.specs.Edits.{ComesBefore, TellsAll, edited, edits_from};
+ghost use Rattle.nl_blocktree.specs.Private.Edits.{ComesBefore, TellsAll, edited, edits_from};
 
 use crate::tree::{Edit, edit_alone};
 use nl_types::{VirtualNumber, VolError};
@@ -16,8 +17,8 @@ pub(crate) fn told_edits(
 ) -> Result<Vec<Edit>, VolError>
     requires some { 0 < length edits.now }
     requires ascending { AllPairs ComesBefore edits.now }
-    requires small { All (λ e. e.offset < 262144) edits.now }
-    requires near { (i : ℕ) → slice_index slots.items i ≢ 0 → i < 262144 }
+    requires small { All (λ e. e.offset < limits.index_limit) edits.now }
+    requires near { (i : ℕ) → slice_index slots.items i ≢ 0 → i < limits.index_limit }
     ensures ok { IfOk result (λ told. TellsAll slots.items edits.now told.items) }
     ensures errors { IfErr result (λ e. e ≡ VolError.Memory) }
 {

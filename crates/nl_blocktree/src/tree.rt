@@ -1,13 +1,14 @@
 //! The nodes of a tree that is written anew, one by one.
 ghost use Rattle.std.specs.Prelude.{◌≡◌, ◌≢◌, ◌<◌, ◌+◌, ◌++◌, ◌*◌, ◌/◌, ◌%◌, ℕ, Some, None, length, slice_index, true, false, take, IfOk, IfErr, IsTrue, All};
 ghost use Rattle.std.specs.List.{AllPairs};
+ghost use Rattle.nl_types.specs.Limits as limits;
 ghost use Rattle.nl_types.specs.Entries.{Content};
 ghost use Rattle.nl_types.specs.Roots.{child, numbered, pages_of, slot};
-ghost use Rattle.nl_vstore.specs.Batches.{Fits, is_live};
+ghost use Rattle.nl_vstore.specs.Batches.{CanBeTaken, is_live};
 ghost use Rattle.nl_vstore.specs.Stores.{content_in};
-ghost use Rattle.nl_blocktree.specs.Edits.{ComesBefore, edit_alone, edited};
+ghost use Rattle.nl_blocktree.specs.Private.Edits.{ComesBefore, edit_alone, edited};
 ghost use Rattle.nl_blocktree.specs.Numbering.{CanTake};
-ghost use Rattle.nl_blocktree.specs.Writing.{BearsNode, PutsNode, ended_of, slots_with};
+ghost use Rattle.nl_blocktree.specs.Private.Writing.{BearsNode, PutsNode, ended_of, slots_with};
 
 use crate::read::{number_in, page_under, slot_of};
 use nl_layout::{Level, Node, SLOTS, Tag};
@@ -21,7 +22,8 @@ use std::alloc::{AllocError, Global};
 pub(crate) struct Edit {
     pub offset: u64,
     pub number: VirtualNumber,
-    /// The numbers of the old nodes above it, from level 1 on, 0 for none: a tree has at most three levels of nodes.
+    /// The numbers of the old nodes above it, from level 1 on, 0 for none: a tree has at most three levels of
+    /// nodes.
     pub above: SmallVec<u64, 3>,
 }
 
@@ -52,7 +54,7 @@ pub(crate) fn old_slots<V: VRead>(store: &V, old: Option<VirtualNumber>) -> [Vir
 /// Makes the edits of the blocks below a node in its slots.
 fn put_edits(slots: &mut [VirtualNumber], offset: u64, group: &[Edit])
     requires count { length slots.old ≡ 128 }
-    requires small { offset < 2097152 }
+    requires small { offset < limits.tree_limit }
     requires ascending { AllPairs ComesBefore group.now }
     requires grouped { All (λ e. e.offset / 128 ≡ offset) group.now }
     ensures slots { (s : ℕ) → s < 128 → numbered (slice_index slots.new s)
@@ -120,8 +122,9 @@ fn node_page(alloc: Global, node: &Node) -> Result<Page, AllocError>
 /// Ends the number of a node that there may be.
 pub(crate) fn end_old(batch: &mut Batch, old: Option<VirtualNumber>) -> Result<(), VolError>
     ensures ok { IfOk result (λ _. batch.new ≡ record batch.old { ends = batch.old.ends ++ ended_of old }) }
-    ensures fits { IfOk result (λ _. (capacity : ℕ) (content : Content) → Fits capacity content batch.old →
-        ((v : ℕ) → old ≡ Some v → is_live (content v) ≡ true) → Fits capacity content batch.new) }
+    ensures fits { IfOk result
+        (λ _. (capacity : ℕ) (content : Content) → CanBeTaken capacity content batch.old →
+        ((v : ℕ) → old ≡ Some v → is_live (content v) ≡ true) → CanBeTaken capacity content batch.new) }
     ensures err { IfErr result (λ e. e ≡ VolError.Memory) }
     ensures births_kept { batch.new.births ≡ batch.old.births }
     ensures ends_kept { take (length batch.old.ends) batch.new.ends ≡ batch.old.ends }
@@ -135,8 +138,9 @@ pub(crate) fn end_old(batch: &mut Batch, old: Option<VirtualNumber>) -> Result<(
     }
 }
 
-/// Puts a node in the place of one that there may be: its slots with some edits of the blocks below it. It is gone where no
-/// slot names anything. Answers the node's number, and the one that names nothing where it is gone.
+/// Puts a node in the place of one that there may be: its slots with some edits of the blocks below it. It is
+/// gone where no slot names anything. Answers the node's number, and the one that names nothing where it is
+/// gone.
 pub(crate) fn put_node<V: Vstore>(
     alloc: Global,
     store: &V,
@@ -149,7 +153,7 @@ pub(crate) fn put_node<V: Vstore>(
 ) -> Result<VirtualNumber, VolError>
     requires fits { CanTake (V.store store.now) batch.old }
     requires live { (v : ℕ) → old ≡ Some v → is_live (content_in (V.store store.now) v) ≡ true }
-    requires small { offset < 2097152 }
+    requires small { offset < limits.tree_limit }
     requires ascending { AllPairs ComesBefore group.now }
     requires grouped { All (λ e. e.offset / 128 ≡ offset) group.now }
     ensures ok { IfOk result (λ n. PutsNode (content_in (V.store store.now)) inode level offset old
@@ -183,7 +187,7 @@ fn edited_node<V: VRead>(
     offset: u64,
     group: &[Edit],
 ) -> Node
-    requires small { offset < 2097152 }
+    requires small { offset < limits.tree_limit }
     requires ascending { AllPairs ComesBefore group.now }
     requires grouped { All (λ e. e.offset / 128 ≡ offset) group.now }
     ensures slots { (s : ℕ) → s < 128 →
@@ -200,7 +204,7 @@ fn edited_slots<V: VRead>(
     offset: u64,
     group: &[Edit],
 ) -> [VirtualNumber; SLOTS]
-    requires small { offset < 2097152 }
+    requires small { offset < limits.tree_limit }
     requires ascending { AllPairs ComesBefore group.now }
     requires grouped { All (λ e. e.offset / 128 ≡ offset) group.now }
     ensures slots { (s : ℕ) → s < 128 →

@@ -1,7 +1,7 @@
 -- Where the nodes and the data of a chain stand.
 use Rattle.std.proofs.Common.{◌≡◌, ◌≢◌, ℕ, zero, suc, ◌+◌, ◌-◌, ◌/◌, ◌%◌, ◌≤◌, Option, None, refl, ap, subst, arith}
 use Rattle.nl_types.specs.Roots.{Chain, Empty, OfTree, Pages, Root, Tree, chain_node, child, kind_of, place_at}
-use Rattle.nl_blocktree.specs.Chains.{top_of}
+use Rattle.nl_blocktree.specs.Private.Chains.{top_of}
 
 pub above : (pages : Pages) (root : Root) (level offset : ℕ) → kind_of root ≢ OfTree → place_at pages root (suc (suc level)) offset ≡ None
 unfolding place_at

@@ -12,10 +12,10 @@ use Rattle.std.proofs.lemmas.Option.{get_or_from_slice_get, slice_get_past, slic
 use Rattle.nl_types.specs.Paths.{name_cmp}
 use Rattle.nl_types.specs.Roots.{Blocks}
 use Rattle.nl_dirs.specs.declared.record.Record.{Record}
-use Rattle.nl_dirs.specs.Records.{AllFit, IsPageOf, NamesAscend, RecordFits, packed_block, size_of, sizes}
+use Rattle.nl_dirs.specs.Records.{AllHaveSpelling, IsPageOf, NamesAscend, RecordHasSpelling, packed_block, size_of, sizes}
 use Rattle.nl_dirs.specs.Packing.{IsPacked, no_blocks, last_block, full_block}
 use Rattle.nl_dirs.specs.Listings.{HoldsRecords}
-use Rattle.nl_check.specs.DirectoryBlocks.{Follows, IsAdded}
+use Rattle.nl_check.specs.Private.DirectoryBlocks.{BeginsNextBlock, IsAdded}
 use Rattle.nl_check.proofs.Ascending.{IsBehind, behind_last}
 use Rattle.nl_check.proofs.PackedBlocks.{all_of, all_of-packed, pages_of_packed}
 use Rattle.nl_check.proofs.RecordOrder.{ascending-head, ascending-tail, before_first}
@@ -101,7 +101,7 @@ behind-all all r ascending h = by (slice_get all (length all - 1)) refl
 pub record AreRead (blocks : Blocks) (n : ℕ) (all : List Record) (used : ℕ) : Type 0 where
   pub packed : List Block
   pub is_packed : IsPacked all packed
-  pub fit : AllFit all
+  pub fit : AllHaveSpelling all
   pub ascending : NamesAscend all
   pub count : length packed ≡ n
   pub stored : (i : ℕ) → i < n → blocks i ≡ option_map packed_block (slice_get packed i)
@@ -112,7 +112,7 @@ unfolding used_by
 read-none blocks all is = subst (λ (xs : List Record). AreRead blocks 0 xs 1024) (sym is) (record {
   packed = [];
   is_packed = no_blocks;
-  fit = All-nil RecordFits;
+  fit = All-nil RecordHasSpelling;
   ascending = λ i j d lt within. absurd (omega (arith, within));
   count = refl;
   stored = λ i low. absurd (omega (arith, low));
@@ -120,12 +120,12 @@ read-none blocks all is = subst (λ (xs : List Record). AreRead blocks 0 xs 1024
 })
 
 pub read-more : (blocks : Blocks) (n used : ℕ) (all block new : List Record) (page : List ℕ) → AreRead blocks n all used → Some page ≡ blocks n → IsPageOf page block
-    → Follows all used block → new ≡ all ++ block → AreRead blocks (n + 1) new (sizes block)
+    → BeginsNextBlock all used block → new ≡ all ++ block → AreRead blocks (n + 1) new (sizes block)
 read-more blocks n used all [] new page so_far at is follows added = absurd (is.some refl)
 read-more blocks n used all (r ∷ rs) new page so_far at is follows added = subst (λ (xs : List Record). AreRead blocks (n + 1) xs (sizes (r ∷ rs))) (sym added) (record {
   packed = so_far.packed ++ (r ∷ rs) ∷ [];
   is_packed = packed-snoc all so_far.packed r rs so_far.is_packed is.room (let full = follows.full in let u = so_far.used_is in omega (arith, full, u, ap size_of first));
-  fit = All-append RecordFits all (r ∷ rs) so_far.fit is.fit;
+  fit = All-append RecordHasSpelling all (r ∷ rs) so_far.fit is.fit;
   ascending = ascending-append all r rs so_far.ascending is.ascending
       (behind-all all r so_far.ascending (λ last e. ap (λ (f : Record). name_cmp last.name f.name) first ∙ follows.behind last e));
   count = length-append so_far.packed ((r ∷ rs) ∷ []) ∙ ap (λ (k : ℕ). k + 1) so_far.count;
@@ -229,7 +229,7 @@ module _ (blocks : Blocks) (count : ℕ) where
 
   -- the page there is that of a block which follows what is read
   pub next-block : (n used : ℕ) (all : List Record) (page : List ℕ) → n < count → AreReadOfAny blocks (1024 * count) n all used → Some page ≡ blocks n
-      → (records : List Record) → HoldsRecords blocks (1024 * count) records → (b : Block) × IsPageOf page b × Follows all used b
+      → (records : List Record) → HoldsRecords blocks (1024 * count) records → (b : Block) × IsPageOf page b × BeginsNextBlock all used b
   next-block n used all page low so_far at records h =
       let b = block-at records h n low in
       let e : Some page ≡ Some (packed_block b.0) = at ∙ sym b.2 in

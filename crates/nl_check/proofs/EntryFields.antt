@@ -12,7 +12,7 @@ use Rattle.nl_layout.specs.declared.inode.InodeKind.{InodeKind}
 use Rattle.nl_layout.specs.declared.inode.InodeKind.TheVariants.{File, Directory, InodeFile}
 use Rattle.nl_layout.specs.declared.inode.InodeEntry.{InodeEntry}
 use Rattle.nl_layout.specs.declared.inode.InodeEntry.TheVariants.{Free, InUse}
-use Rattle.nl_layout.specs.Inode.{Spells, EntryFits, entry_bytes, entry_at, used_entry_at, inode_bytes}
+use Rattle.nl_layout.specs.Inode.{Spells, EntryHasSpelling, entry_bytes, entry_at, used_entry_at, inode_bytes}
 use Rattle.nl_layout.specs.Root.{fields_of, root_told_by}
 
 root_told-written : (root : Root) (number : ℕ) → (fields_of root).height ≤ 3 → number ≡ (fields_of root).number
@@ -39,7 +39,7 @@ entry_with-written File root size low most lower = inode_at-written File root si
 entry_with-written Directory root size low most lower = inode_at-written Directory root size low most lower
 entry_with-written InodeFile root size low most lower = inode_at-written InodeFile root size low most lower
 
-entry_at-written : (entry : InodeEntry) → EntryFits entry → entry_at (entry_bytes entry) ≡ Some entry
+entry_at-written : (entry : InodeEntry) → EntryHasSpelling entry → entry_at (entry_bytes entry) ≡ Some entry
 unfolding inode
 entry_at-written Free fits = refl
 entry_at-written (InUse i) fits = entry_with-written i.kind i.root i.size fits.size fits.height fits.number

@@ -7,12 +7,12 @@ use Rattle.std.proofs.lemmas.List.{take_at, take-append-drop, length-drop}
 use Rattle.nl_layout.specs.declared.inode.Inode.{Inode}
 use Rattle.nl_layout.specs.declared.inode.InodeEntry.{InodeEntry}
 use Rattle.nl_layout.specs.declared.inode.InodeEntry.TheVariants.{Free, InUse}
-use Rattle.nl_layout.specs.Inode.{EntryFits, entry_at, entry_bytes}
+use Rattle.nl_layout.specs.Inode.{EntryHasSpelling, entry_at, entry_bytes}
 use Rattle.nl_ifile.specs.Inodes.{block_bytes, block_for, entry_for, in_use, inode_in, block_places}
 use Rattle.nl_check.proofs.InodeSpelling.{inode_spelled-Spells, inode_spelled-fits, spelled-none}
 use borrow.Rule.Slice.PartMut.{mid_of}
 use Rattle.nl_layout.specs.Inode.{Spells}
-use Rattle.nl_check.specs.InodeBlocks.{HasInode, IsEntryIn, IsSpelled, none, spelled}
+use Rattle.nl_check.specs.Private.InodeBlocks.{HasInode, IsEntryIn, IsSpelled, none, spelled}
 
 -- ---- entries one after the other
 
@@ -82,7 +82,7 @@ in_use-entry_for None = refl
 in_use-entry_for (Some i) = refl
 
 -- each inode of a block is read again
-pub inode_in-block : (f : ℕ → Option Inode) (p : ℕ) → p < 8 → EntryFits (entry_for (f p)) → inode_in (block_bytes f) p ≡ f p
+pub inode_in-block : (f : ℕ → Option Inode) (p : ℕ) → p < 8 → EntryHasSpelling (entry_for (f p)) → inode_in (block_bytes f) p ≡ f p
 inode_in-block f p low fits = inode_spelled-Spells _ (entry_for (f p)) (record { fits = fits; spelling = block-piece f p low }) ∙ in_use-entry_for (f p)
 
 -- ---- reading a block
@@ -177,7 +177,7 @@ block-spelled page is p low =
     by true e = cc
     by false e = cc
 
-    fit : (o : Option Inode) → inode_in page p ≡ o → EntryFits (entry_for o)
+    fit : (o : Option Inode) → inode_in page p ≡ o → EntryHasSpelling (entry_for o)
     fit None e = tt
     fit (Some i) e = inode_spelled-fits (take 128 (drop (128 * p) page)) i e
 

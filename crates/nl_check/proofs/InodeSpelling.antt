@@ -16,7 +16,7 @@ use Rattle.nl_layout.specs.declared.inode.InodeKind.{InodeKind}
 use Rattle.nl_layout.specs.declared.inode.InodeKind.TheVariants.{File, Directory, InodeFile}
 use Rattle.nl_layout.specs.declared.inode.InodeEntry.{InodeEntry}
 use Rattle.nl_layout.specs.declared.inode.InodeEntry.TheVariants.{Free, InUse}
-use Rattle.nl_layout.specs.Inode.{Spells, InodeFits, EntryFits, entry_bytes, entry_at, entry_with, inode_bytes}
+use Rattle.nl_layout.specs.Inode.{Spells, InodeHasSpelling, EntryHasSpelling, entry_bytes, entry_at, entry_with, inode_bytes}
 use Rattle.nl_layout.specs.Root.{fields_of, root_told_by}
 use Rattle.nl_layout.specs.Inode as layout
 use Rattle.nl_check.proofs.EntryFields.{entry_at-Spells}
@@ -62,7 +62,7 @@ inode-option_map kind size (Some r) i e =
     let same : made ≡ i = cc in
     (ap (λ (x : Inode). x.size) (sym same), ap (λ (x : Inode). Some x.root) same)
 
-inode_at-fits : (kind : InodeKind) (bytes : List ℕ) (i : Inode) → layout.used_entry_at kind bytes ≡ Some (InUse i) → inode_bytes i ≡ bytes → InodeFits i
+inode_at-fits : (kind : InodeKind) (bytes : List ℕ) (i : Inode) → layout.used_entry_at kind bytes ≡ Some (InUse i) → inode_bytes i ≡ bytes → InodeHasSpelling i
 inode_at-fits kind bytes i e spelling =
     let parts = inode-option_map kind (little_number 8 (drop 8 bytes)) (root_told_by (slice_index bytes 1) (slice_index bytes 2) (little_number 8 (drop 16 bytes))) i e in
     let size : little_number 8 (drop 8 (inode_bytes i)) < 2 ^ 64 = number_fits i.size (little_bytes 8 ((fields_of i.root).number) ++ replicate 104 0) in
@@ -72,7 +72,7 @@ inode_at-fits kind bytes i e spelling =
     let fits = root-fits (slice_index bytes 1) (slice_index bytes 2) (little_number 8 (drop 16 bytes)) i.root parts.1 in
     record { size = omega (arith, parts.0, size, size_is); height = fits.1; number = omega (arith, fits.0, number, number_is) }
 
-entry_with-fits : (code : ℕ) (bytes : List ℕ) (entry : InodeEntry) → entry_with code bytes ≡ Some entry → entry_bytes entry ≡ bytes → EntryFits entry
+entry_with-fits : (code : ℕ) (bytes : List ℕ) (entry : InodeEntry) → entry_with code bytes ≡ Some entry → entry_bytes entry ≡ bytes → EntryHasSpelling entry
 entry_with-fits code bytes Free e spelling = tt
 entry_with-fits zero bytes (InUse i) e spelling = cc
 entry_with-fits (suc zero) bytes (InUse i) e spelling = inode_at-fits File bytes i e spelling
@@ -107,18 +107,18 @@ inode_spelled-read bytes None found only = spelled-none bytes (entry_at bytes) r
 inode_spelled-read bytes (Some entry) found only = inode_spelled-Spells bytes entry found
 
 -- an inode that is read has a spelling
-pub inode_spelled-fits : (bytes : List ℕ) (i : Inode) → inode_spelled bytes ≡ Some i → InodeFits i
+pub inode_spelled-fits : (bytes : List ℕ) (i : Inode) → inode_spelled bytes ≡ Some i → InodeHasSpelling i
 inode_spelled-fits bytes i is = of (entry_at bytes) refl is
   where
-    same : (b : Bool) (entry : InodeEntry) → bytes_eq (entry_bytes entry) bytes ≡ b → entry_at bytes ≡ Some entry → cond b (in_use entry) None ≡ Some i → InodeFits i
+    same : (b : Bool) (entry : InodeEntry) → bytes_eq (entry_bytes entry) bytes ≡ b → entry_at bytes ≡ Some entry → cond b (in_use entry) None ≡ Some i → InodeHasSpelling i
     same false entry k e h = cc
     same true Free k e h = cc
     same true (InUse j) k e h =
-        let here : InodeFits j = entry_with-fits (slice_index bytes 0) bytes (InUse j) e ((bytes_eq-Decides (entry_bytes (InUse j)) bytes).0 k) in
+        let here : InodeHasSpelling j = entry_with-fits (slice_index bytes 0) bytes (InUse j) e ((bytes_eq-Decides (entry_bytes (InUse j)) bytes).0 k) in
         let equal : j ≡ i = cc in
-        subst InodeFits equal here
+        subst InodeHasSpelling equal here
 
-    of : (o : Option InodeEntry) → entry_at bytes ≡ o → option_and_then (λ entry. cond (bytes_eq (entry_bytes entry) bytes) (in_use entry) None) o ≡ Some i → InodeFits i
+    of : (o : Option InodeEntry) → entry_at bytes ≡ o → option_and_then (λ entry. cond (bytes_eq (entry_bytes entry) bytes) (in_use entry) None) o ≡ Some i → InodeHasSpelling i
     of None e h = cc
     of (Some entry) e h = same (bytes_eq (entry_bytes entry) bytes) entry refl e h
 

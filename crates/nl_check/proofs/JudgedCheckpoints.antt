@@ -22,15 +22,15 @@ use Rattle.nl_tree.specs.Held.{Held, Holding, IsHolding, inode_content, inodes_o
 use Rattle.nl_check.specs.Conditions.{AreExact, AreShaped, AreTrees, FirstFault, HasExactPeriods, IsSoundShape, IsSoundTree, MeetsItsNumbers, all_met, periods_fail, shapes_fail, trees_fail}
 use Rattle.nl_check.specs.InodeTrees.{FormTree, used_below}
 use Rattle.nl_check.specs.Judging.{IsJudged, IsTold, fault_told, told}
-use Rattle.nl_check.specs.Naming.{TellsKinds, awaited_count, kind_held}
+use Rattle.nl_check.specs.Private.Naming.{TellsKinds, awaited_count, kind_held}
 use Rattle.nl_check.specs.Periods.{AreOfPeriods}
 use Rattle.nl_check.specs.Shapes.{HasShape, Itself}
-use Rattle.nl_check.specs.SoundInodes.{kind_for, kind_in, kind_told}
+use Rattle.nl_check.specs.Private.SoundInodes.{kind_for, kind_in, kind_told}
 use Rattle.nl_check.specs.Trees.{IsSizeOf, IsTreeOf}
-use Rattle.nl_check.specs.Walks.{IsWalk}
+use Rattle.nl_check.specs.Private.Walks.{IsWalk}
 use Rattle.nl_check.specs.declared.checks.Judged.{Judged}
 use Rattle.nl_check.specs.declared.shape.Walk.{Walk}
-use Rattle.nl_check.proofs.Below.{not-none, some-by}
+use Rattle.nl_check.specs.Facts.Below.{not-none, some-by}
 use Rattle.nl_check.proofs.MetNumbers.{tell-periods}
 
 -- ---- how many are in use
@@ -105,14 +105,8 @@ module _ (pages : Pages) (root : Root) (numbers : List Bool) (kinds : List (Opti
     pub limits-of : IsHolding holding-of
     unfolding holding-of
     limits-of = record {
-      numbers = λ i held is. (w.told.all sound i).limits.numbers i held is;
-      sizes = λ i size blocks is. (w.told.all sound i).limits.sizes i size blocks is;
-      none_past = λ i size blocks b is high. (w.told.all sound i).limits.none_past i size blocks b is high;
-      zeros = λ i size blocks k is low. (w.told.all sound i).limits.zeros i size blocks k is low;
-      whole = λ i size blocks b page is at. (w.told.all sound i).limits.whole i size blocks b page is at;
-      ascending = λ i records is. (w.told.all sound i).limits.ascending i records is;
-      names = λ i records is. (w.told.all sound i).limits.names i records is;
-      count = λ i records is. (w.told.all sound i).limits.count i records is;
+      inode_numbers = λ i held is. (w.told.all sound i).limits.inode_numbers i held is;
+      each = λ i held is. (w.told.all sound i).limits.each i held is;
     }
 
     pub holds-of : HoldsTree pages root holding-of

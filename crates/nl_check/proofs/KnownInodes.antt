@@ -7,14 +7,14 @@ use Rattle.nl_types.specs.declared.kind.Kind.{Kind}
 use Rattle.nl_types.specs.Roots.{Empty, Pages, Root, page_at, place_at}
 use Rattle.nl_layout.specs.Root.{root_of}
 use Rattle.nl_layout.specs.declared.inode.Inode.{Inode}
-use Rattle.nl_files.specs.CheckpointRoots.{root_in}
+use Rattle.nl_files.specs.CheckpointRoots.{inode_root}
 use Rattle.nl_ifile.specs.Inodes.{IsInodeFile, block_for, in_block, inode_at, inode_in}
 use Rattle.nl_check.specs.MetFiles.{CanBeMet, IsWalked, is_met}
 use Rattle.nl_check.specs.Shapes.{IsShaped}
-use Rattle.nl_check.specs.SoundInodes.{IsMeasured, IsSoundInode, TellsInodes, kind_for, kind_in}
-use Rattle.nl_check.specs.Walks.{AreKnown, IsBlockOf, IsWalk}
+use Rattle.nl_check.specs.Private.SoundInodes.{IsMeasured, IsSoundInode, TellsInodes, kind_for, kind_in}
+use Rattle.nl_check.specs.Private.Walks.{AreKnown, IsBlockOf, IsWalk}
 use Rattle.nl_check.specs.declared.shape.Walk.{Walk}
-use Rattle.nl_check.proofs.Below.{some-by}
+use Rattle.nl_check.specs.Facts.Below.{some-by}
 use Rattle.nl_check.proofs.InodeBlocks.{block_for-cong, block_for-none}
 use Rattle.nl_check.proofs.MetPlaces.{walked-empty}
 use Rattle.nl_check.proofs.ToldInodes.{told-all, told-hole, told-more, told-none}
@@ -43,7 +43,7 @@ module _ (pages : Pages) (root : Root) where
       → (sound ≡ true → IsSoundInode pages n (Some inode)) → (sound ≡ false → IsSoundInode pages n (Some inode) → ⊥)
       → inode_at pages root n ≡ o → AreKnown pages root n old kinds before → AreKnown pages root (n + 1) new kinds_new (before && sound)
   known-more n count inode o old new kinds kinds_new before sound is w len here others when unless at k = record {
-    walked = walked-more pages root n (root_of inode.root) old new count (ap root_in (at ∙ is)) k.walked w;
+    walked = walked-more pages root n (root_of inode.root) old new count (ap inode_root (at ∙ is)) k.walked w;
     told = told-more pages root n inode kinds kinds_new before sound (at ∙ is) k.told len here others when unless;
   }
 
@@ -51,13 +51,13 @@ module _ (pages : Pages) (root : Root) where
   pub known-none : (n : ℕ) (o : Option Inode) (old : List Bool) (kinds : List (Option Kind)) (sound : Bool) → o ≡ None → inode_at pages root n ≡ o
       → AreKnown pages root n old kinds sound → AreKnown pages root (n + 1) old kinds sound
   known-none n o old kinds sound is at k = record {
-    walked = walked-more pages root n Empty old old 0 (ap root_in (at ∙ is)) k.walked (walked-empty pages old);
+    walked = walked-more pages root n Empty old old 0 (ap inode_root (at ∙ is)) k.walked (walked-empty pages old);
     told = told-none pages root n kinds sound (at ∙ is) k.told;
   }
 
   pub known-can : (n : ℕ) (inode : Inode) (o : Option Inode) (old : List Bool) (kinds : List (Option Kind)) (sound : Bool) → o ≡ Some inode → inode_at pages root n ≡ o
       → AreKnown pages root n old kinds sound → IsShaped pages root → CanBeMet pages (root_of inode.root) old
-  known-can n inode o old kinds sound is at k s = next-can pages root n (root_of inode.root) old (ap root_in (at ∙ is)) k.walked s
+  known-can n inode o old kinds sound is at k s = next-can pages root n (root_of inode.root) old (ap inode_root (at ∙ is)) k.walked s
 
   -- a block that isn't there
   pub known-hole : (b : ℕ) (old : List Bool) (kinds : List (Option Kind)) (sound : Bool) → None ≡ page_at pages root b

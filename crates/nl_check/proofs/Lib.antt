@@ -1,7 +1,4 @@
-pub mod Forming
-pub mod Packed
 pub mod ChainPlaces
-pub mod Checkpoints
 pub mod MetPlaces
 pub mod TreePlaces
 pub mod MetRanges
@@ -10,7 +7,6 @@ pub mod MetNumbers
 pub mod EntryFields
 pub mod InodeSpelling
 pub mod InodeBlocks
-pub mod Below
 pub mod WalkedFiles
 pub mod SoundFiles
 pub mod RecordOrder

@@ -56,7 +56,7 @@ module _ (pages : Pages) (root : Root) (old : List Bool) (Visited Next : ℕ × 
       | inr e ↦ absurd (clash a v e is)
     ];
     added = λ b v n is. elim (step b n) [ inl u ↦ m.added b v u is | inr e ↦ absurd (clash b v e is) ];
-    kept = m.kept;
+    met_stay = m.met_stay;
     only = λ v is. elim (m.only v is) [ inl o ↦ inl o | inr w ↦ inr (w.0, more w.0 w.1, w.2) ];
   }
     where
@@ -65,7 +65,7 @@ module _ (pages : Pages) (root : Root) (old : List Bool) (Visited Next : ℕ × 
 
   module _ (now new : List Bool) (v : ℕ) (stands : places pages root at ≡ Some v) (m : HasMet pages root Visited old now) (meets : Meets pages v now new) where
     before : (w : ℕ) → is_met old w ≡ true → w ≡ v → ⊥
-    before w is e = let now_met = m.kept w is in let not_met : is_met now w ≡ false = ap (is_met now) e ∙ meets.fresh in cc
+    before w is e = let now_met = m.met_stay w is in let not_met : is_met now w ≡ false = ap (is_met now) e ∙ meets.fresh in cc
 
     new-at : (w : ℕ) → is_met new w ≡ is_met (set now v true) w
     new-at w = ap (λ (met : List Bool). is_met met w) meets.now
@@ -123,7 +123,7 @@ module _ (pages : Pages) (root : Root) (old : List Bool) (Visited Next : ℕ × 
         | inl u ↦ still w (m.added b w u is)
         | inr e ↦ ap (is_met new) (same b w e is) ∙ met-here
       ];
-      kept = λ w is. still w (m.kept w is);
+      met_stay = λ w is. still w (m.met_stay w is);
       only = λ w is. elim (cases_eq w v) [
         | inl e ↦ inr (at, here, stands ∙ ap (λ (n : ℕ). Some n) (sym e))
         | inr other ↦ elim (m.only w (sym (met-other now v w other) ∙ (sym (new-at w) ∙ is))) [ inl o ↦ inl o | inr x ↦ inr (x.0, more x.0 x.1, x.2) ]
@@ -240,7 +240,7 @@ all-met pages root old new Visited each m = record {
     | inr none ↦ absurd (clash a v none is)
   ];
   added = λ at v n is. elim (each at) [ inl u ↦ m.added at v u is | inr none ↦ absurd (clash at v none is) ];
-  kept = m.kept;
+  met_stay = m.met_stay;
   only = λ v is. elim (m.only v is) [ inl o ↦ inl o | inr w ↦ inr (w.0, tt, w.2) ];
 }
   where
@@ -366,7 +366,7 @@ walked-empty pages old = record {
       fresh = λ at v n is. absurd (nowhere at.0 at.1 v is);
       once = λ a b v n k is other. absurd (nowhere a.0 a.1 v is);
       added = λ at v n is. absurd (nowhere at.0 at.1 v is);
-      kept = λ v is. is;
+      met_stay = λ v is. is;
       only = λ v is. inl is;
     }
 
@@ -398,7 +398,7 @@ met-none pages root old = record {
   fresh = λ at v n is. absurd (none at n);
   once = λ a b v n k is other. absurd (none a n);
   added = λ at v n is. absurd (none at n);
-  kept = λ v is. is;
+  met_stay = λ v is. is;
   only = λ v is. inl is;
 }
   where

@@ -4,7 +4,7 @@ use Rattle.std.proofs.lemmas.Bool.{cases_eq, cases_lt}
 use Rattle.nl_types.specs.RootChanges.{places}
 use Rattle.nl_types.specs.Roots.{Pages, Root, Tree, place_at}
 use Rattle.nl_check.specs.MetFiles.{CanNotMeet, HasMet, Meets, is_met}
-use Rattle.nl_check.specs.TreePlaces.{CanMeet, EndsAt, IsEnd, IsUnder}
+use Rattle.nl_check.specs.Private.TreePlaces.{CanMeet, EndsAt, IsEnd, IsUnder}
 use Rattle.nl_check.proofs.MetPlaces.{no-some, pair, step-some}
 use Rattle.nl_check.proofs.TreePlaces.{above-next, above-same, none-under}
 
@@ -20,7 +20,7 @@ met-nowhere pages root Visited now none = record {
   fresh = λ b v n is. absurd (nothing b v n is);
   once = λ a b v n k is other. absurd (nothing a v n is);
   added = λ b v n is. absurd (nothing b v n is);
-  kept = λ v is. is;
+  met_stay = λ v is. is;
   only = λ v is. inl is;
 }
   where
@@ -36,7 +36,7 @@ module _ (pages : Pages) (root : Root) (First Second All : ℕ × ℕ → Type 0
     not-old v e = by (is_met old v) refl
       where
         by : (b : Bool) → is_met old v ≡ b → is_met old v ≡ false
-        by true is = absurd (let still = m.kept v is in cc)
+        by true is = absurd (let still = m.met_stay v is in cc)
         by false is = is
 
     apart : (x y : ℕ × ℕ) (v : ℕ) → First x → Second y → places pages root x ≡ Some v → places pages root y ≡ Some v → ⊥
@@ -52,8 +52,8 @@ module _ (pages : Pages) (root : Root) (First Second All : ℕ × ℕ → Type 0
         | inl h ↦ elim (step b o) [ inl g ↦ m.once a b v h g is other | inr g ↦ absurd (apart a b v h g is other) ]
         | inr h ↦ elim (step b o) [ inl g ↦ absurd (apart b a v g h other is) | inr g ↦ k.once a b v h g is other ]
       ];
-      added = λ b v n is. elim (step b n) [ inl h ↦ k.kept v (m.added b v h is) | inr h ↦ k.added b v h is ];
-      kept = λ v is. k.kept v (m.kept v is);
+      added = λ b v n is. elim (step b n) [ inl h ↦ k.met_stay v (m.added b v h is) | inr h ↦ k.added b v h is ];
+      met_stay = λ v is. k.met_stay v (m.met_stay v is);
       only = λ v is. elim (k.only v is) [
         | inl o ↦ elim (m.only v o) [ inl p ↦ inl p | inr w ↦ inr (w.0, left w.0 w.1, w.2) ]
         | inr w ↦ inr (w.0, right w.0 w.1, w.2)

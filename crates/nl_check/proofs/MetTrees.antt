@@ -7,7 +7,7 @@ use Rattle.nl_types.specs.RootChanges.{HasData, places}
 use Rattle.nl_types.specs.Roots.{Pages, Root, Tree, numbered, place_at, slot}
 use Rattle.nl_check.specs.MetFiles.{CanBeMet, CanNotMeet, HasMet, IsAny, IsWalked, Meets}
 use Rattle.nl_check.specs.Shapes.{HasShape}
-use Rattle.nl_check.specs.TreePlaces.{CanMeet, IsMetUnder, IsUnder}
+use Rattle.nl_check.specs.Private.TreePlaces.{CanMeet, IsMetUnder, IsUnder}
 use Rattle.nl_check.proofs.MetPlaces.{all-met, can-met, no-block, no-some, numbered-some, pair}
 use Rattle.nl_check.proofs.TreePlaces.{above-next, above-rises, above-same, beyond-lower, none-beside, slot-child, tree-above, tree-top}
 use Rattle.nl_check.proofs.MetRanges.{Slots, Whole, can-not-meet, ends-none, ends-past, joined, met-nowhere, met-one, narrowed, node-apart, node-whole, one-under, range-apart, range-left, range-none, range-right, range-step, slots-whole, whole-step}

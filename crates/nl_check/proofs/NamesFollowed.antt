@@ -14,8 +14,8 @@ use Rattle.nl_dirs.specs.declared.record.Record.{Record}
 use Rattle.nl_dirs.specs.Records.{entry_of}
 use Rattle.nl_tree.specs.Held.{Held, Holding, IsHolding, Listed, Stored, inode_content, inodes_of_holding}
 use Rattle.nl_check.specs.InodeTrees.{FormTree}
-use Rattle.nl_check.specs.Naming.{IsFollowed, IsNamed, IsNaming, IsQueued, IsTaken, TellsKinds, awaited_count, kind_held, record_at, records_in}
-use Rattle.nl_check.specs.SoundInodes.{kind_in}
+use Rattle.nl_check.specs.Private.Naming.{IsFollowed, IsNamed, IsNaming, IsQueued, IsTaken, TellsKinds, awaited_count, kind_held, record_at, records_in}
+use Rattle.nl_check.specs.Private.SoundInodes.{kind_in}
 use Rattle.nl_check.proofs.RecordNames.{at-root, kind-there, kind-used, last-step, listed-there, names-record, one-position, record-names, used-as, used-below, walk-on}
 
 -- ---- the table

@@ -18,7 +18,7 @@ use Rattle.nl_dirs.specs.declared.record.Record.{Record}
 use Rattle.nl_dirs.specs.Records.{NamesAscend, entry_of}
 use Rattle.nl_tree.specs.Held.{Held, Holding, IsHolding, Listed, Stored, inode_content, inodes_of_holding}
 use Rattle.nl_check.specs.InodeTrees.{IsUsedAs, Names}
-use Rattle.nl_check.specs.Naming.{kind_held, record_at, records_in}
+use Rattle.nl_check.specs.Private.Naming.{kind_held, record_at, records_in}
 use Rattle.nl_check.proofs.RecordOrder.{ascending-head, ascending-tail, entry_of-first, not_before_itself}
 
 -- ---- in one list
@@ -94,7 +94,7 @@ module _ (held : Holding) (limits : IsHolding held) where
       by : (o : Option Held) → held d ≡ o → NamesAscend (records_in o)
       by None e = λ i j x lt within. absurd (omega (arith, within))
       by (Some (Stored size blocks)) e = λ i j x lt within. absurd (omega (arith, within))
-      by (Some (Listed records)) e = limits.ascending d records e
+      by (Some (Listed records)) e = (limits.each d (Listed records) e).ascending
 
   pub one-position : (d j k : ℕ) (r s : Record) → record_at held d j ≡ Some r → record_at held d k ≡ Some s → r.name ≡ s.name → j ≡ k
   one-position d j k r s at there same = one-place (records_in (held d)) j k r s (ascending-in d) at there same
@@ -109,7 +109,7 @@ module _ (held : Holding) (limits : IsHolding held) where
       by (Some (Listed records)) e at = record {
         records = λ name. entry_of name records;
         directory = ap (option_map inode_content) e;
-        listed = entry_of-at records j r (limits.ascending d records e) at;
+        listed = entry_of-at records j r (limits.each d (Listed records) e).ascending at;
       }
 
   pub record IsNamingRecord (d : ℕ) (name : Name) (link : Link) : Type 0 where
@@ -181,7 +181,7 @@ module _ (held : Holding) (limits : IsHolding held) where
     where
       by : (o : Option Held) → held i ≡ o → kind_held o ≡ Some k → i < 524288
       by None e is = cc
-      by (Some h) e is = elim (limits.numbers i h e) [ inl two ↦ omega (arith, two) | inr r ↦ let high = r.1 in omega (arith, high) ]
+      by (Some h) e is = elim (limits.inode_numbers i h e) [ inl two ↦ omega (arith, two) | inr r ↦ let high = r.1 in omega (arith, high) ]
 
   -- ---- walks
 

@@ -4,9 +4,9 @@ use Rattle.std.proofs.lemmas.Bool.{cases_lt}
 use Rattle.nl_types.specs.Roots.{Blocks, Pages, Root, page_at}
 use Rattle.nl_tree.specs.Contents.{byte_in}
 use Rattle.nl_tree.specs.Held.{byte_stored}
-use Rattle.nl_check.specs.SoundFiles.{IsSoundFile}
-use Rattle.nl_check.specs.SoundInodes.{IsMeasured}
-use Rattle.nl_check.proofs.Below.{not-none}
+use Rattle.nl_check.specs.Private.SoundFiles.{IsSoundFile}
+use Rattle.nl_check.specs.Private.SoundInodes.{IsMeasured}
+use Rattle.nl_check.specs.Facts.Below.{not-none}
 
 -- the bytes behind the end are zero, in the block of the end
 abbrev pub HasZerosBehind : Blocks → ℕ → Type 0

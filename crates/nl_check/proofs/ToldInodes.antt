@@ -7,7 +7,7 @@ use Rattle.nl_types.specs.declared.kind.Kind.{Kind}
 use Rattle.nl_types.specs.Roots.{Pages, Root, page_at}
 use Rattle.nl_layout.specs.declared.inode.Inode.{Inode}
 use Rattle.nl_ifile.specs.Inodes.{inode_at, inode_in}
-use Rattle.nl_check.specs.SoundInodes.{IsSoundInode, TellsAll, TellsInodes, kind_for, kind_in, kind_told}
+use Rattle.nl_check.specs.Private.SoundInodes.{IsSoundInode, TellsAll, TellsInodes, kind_for, kind_in, kind_told}
 use Rattle.nl_check.proofs.SoundOnes.{none-sound}
 
 module _ (pages : Pages) (root : Root) where

@@ -4,12 +4,12 @@ use Rattle.std.specs.Option.{option_and_then}
 use Rattle.std.proofs.lemmas.Bool.{cases_lt}
 use Rattle.nl_types.specs.RootChanges.{places}
 use Rattle.nl_types.specs.Roots.{Empty, Pages, Root, page_at, place_at}
-use Rattle.nl_files.specs.CheckpointRoots.{root_in}
+use Rattle.nl_files.specs.CheckpointRoots.{inode_root}
 use Rattle.nl_ifile.specs.Inodes.{IsInodeFile, inode_at, inode_in}
 use Rattle.nl_check.specs.MetFiles.{CanBeMet, IsWalked, is_met}
 use Rattle.nl_check.specs.Periods.{AreMetIn}
 use Rattle.nl_check.specs.Shapes.{At, HasShape, IsShaped, Itself, Of, Owner, met, root_for}
-use Rattle.nl_check.specs.Walks.{AreWalked, IsBelow}
+use Rattle.nl_check.specs.Private.Walks.{AreWalked, IsBelow}
 use Rattle.nl_check.proofs.MetPlaces.{walked-empty}
 
 same-at : (p q : At) → p.owner ≡ q.owner → p.level ≡ q.level → p.offset ≡ q.offset → p ≡ q
@@ -75,7 +75,7 @@ module _ (pages : Pages) (root : Root) where
       there at v low h = sym (met-by at Itself root (below-zero at.owner low) refl) ∙ h
 
   -- the file of one inode more
-  pub walked-more : (n : ℕ) (r : Root) (old new : List Bool) (count : ℕ) → root_in (inode_at pages root n) ≡ r → AreWalked pages root n old → IsWalked pages r old new count → AreWalked pages root (n + 1) new
+  pub walked-more : (n : ℕ) (r : Root) (old new : List Bool) (count : ℕ) → inode_root (inode_at pages root n) ≡ r → AreWalked pages root n old → IsWalked pages r old new count → AreWalked pages root (n + 1) new
   walked-more n r old new count root_is m w = record {
     files = λ owner low. elim (below-split n owner low) [
       | inl before ↦ m.files owner before
@@ -92,7 +92,7 @@ module _ (pages : Pages) (root : Root) where
       ]
     ];
     all = λ at v a h. elim (below-split n at.owner a) [
-      | inl before ↦ w.met.kept v (m.all at v before h)
+      | inl before ↦ w.met.met_stay v (m.all at v before h)
       | inr own ↦ w.met.added (at.level, at.offset) v tt (there at v own h)
     ];
     only = λ v is. elim (w.met.only v is) [
@@ -113,7 +113,7 @@ module _ (pages : Pages) (root : Root) where
   walked-nones n (suc m) now free w =
       let e : (n + m) + 1 ≡ n + suc m = omega arith in
       subst (λ (k : ℕ). AreWalked pages root k now) e
-      (walked-more (n + m) Empty now now 0 (ap root_in (free (n + m) (omega arith) (omega arith)))
+      (walked-more (n + m) Empty now now 0 (ap inode_root (free (n + m) (omega arith) (omega arith)))
       (walked-nones n m now (λ i low high. free i low (omega (arith, high))) w) (walked-empty pages now))
 
   pub none-in : (b i : ℕ) → page_at pages root b ≡ None → i / 8 ≡ b → inode_at pages root i ≡ None
@@ -164,7 +164,7 @@ module _ (pages : Pages) (root : Root) where
     once = λ a b v h k. let e = s.once (record { owner = Itself; level = a.0; offset = a.1 }) (record { owner = Itself; level = b.0; offset = b.1 }) v h k in ap (λ (x : At). (x.level, x.offset)) e;
   }
 
-  pub next-can : (n : ℕ) (r : Root) (now : List Bool) → root_in (inode_at pages root n) ≡ r → AreWalked pages root n now → IsShaped pages root → CanBeMet pages r now
+  pub next-can : (n : ℕ) (r : Root) (now : List Bool) → inode_root (inode_at pages root n) ≡ r → AreWalked pages root n now → IsShaped pages root → CanBeMet pages r now
   next-can n r now root_is w s = subst (λ (x : Root). CanBeMet pages x now) root_is (record {
     shape = s.files (Of n);
     fresh = λ at v is. by at v is (is_met now v) refl;
@@ -174,7 +174,7 @@ module _ (pages : Pages) (root : Root) where
       not-own : (o : Owner) → Of n ≡ o → IsBelow n o → ⊥
       not-own o is low = let itself : n < n = subst (IsBelow n) (sym is) low in omega (arith, itself)
 
-      by : (at : ℕ × ℕ) (v : ℕ) → places pages (root_in (inode_at pages root n)) at ≡ Some v → (b : Bool) → is_met now v ≡ b → is_met now v ≡ false
+      by : (at : ℕ × ℕ) (v : ℕ) → places pages (inode_root (inode_at pages root n)) at ≡ Some v → (b : Bool) → is_met now v ≡ b → is_met now v ≡ false
       by at v is false e = e
       by at v is true e =
           let o = w.only v e in

@@ -8,8 +8,8 @@ use Rattle.nl_vstore.specs.Periods.{Periods}
 use Rattle.nl_check.specs.Shapes.{At, IsShaped, met}
 use Rattle.nl_check.specs.Trees.{IsTreeOf}
 
--- a checkpoint as an entry tells of it: the root of its file of inodes, where the fields spell one, that file's size, and how
--- many inodes are in use
+-- a checkpoint as an entry tells of it: the root of its file of inodes, where the fields spell one, that
+-- file's size, and how many inodes are in use
 pub record Told : Type 0 where
   pub number : ℕ
   pub root : Option Root
@@ -57,4 +57,5 @@ pub data FirstFault (pages : Pages) (periods : Periods) (kept : List Told) : Opt
   trees_fail : AreShaped pages kept → (AreTrees pages kept → ⊥) → FirstFault pages periods kept (Some 9)
   periods_fail : AreShaped pages kept → AreTrees pages kept → (AreExact pages periods kept → ⊥)
       → FirstFault pages periods kept (Some 10)
-  all_met : AreShaped pages kept → AreTrees pages kept → AreExact pages periods kept → FirstFault pages periods kept None
+  all_met : AreShaped pages kept → AreTrees pages kept → AreExact pages periods kept
+      → FirstFault pages periods kept None

@@ -20,15 +20,16 @@ pub record IsUsedAs (inodes : Inodes) (i : ℕ) (kind : Kind) : Type 0 where
   pub used : inodes i ≡ Some content
   pub kind_is : node_kind (node_of content) ≡ kind
 
--- The root's inode is a directory. Each record names another inode in use by its kind, and no other record names that. Each
--- inode in use is found by a walk from the root.
+-- The root's inode is a directory. Each record names another inode in use by its kind, and no other record
+-- names that. Each inode in use is found by a walk from the root.
 pub record FormTree (inodes : Inodes) : Type 0 where
   pub root : (records : Name → Option Link) × (inodes root_inode ≡ Some (Records records))
   pub used : (d : ℕ) (name : Name) (link : Link) → Names inodes d name link → IsUsedAs inodes link.0 link.1
   pub not_root : (d : ℕ) (name : Name) (link : Link) → Names inodes d name link → link.0 ≢ root_inode
   pub once : (d e : ℕ) (name other : Name) (one two : Link)
       → Names inodes d name one → Names inodes e other two → one.0 ≡ two.0 → (d ≡ e) × (name ≡ other)
-  pub found : (i : ℕ) (content : InodeContent) → inodes i ≡ Some content → (p : Path) × (reached inodes p ≡ Some i)
+  pub found : (i : ℕ) (content : InodeContent) → inodes i ≡ Some content
+      → (p : Path) × (reached inodes p ≡ Some i)
 
 -- how many of the inodes below a number are in use
 abbrev pub used_below : Inodes → ℕ → ℕ

@@ -7,13 +7,19 @@ use Rattle.nl_layout.specs.Root.{root_of, root_told}
 use Rattle.nl_layout.specs.declared.checkpoint_entry.CheckpointEntry.{CheckpointEntry}
 use Rattle.nl_vstore.specs.Periods.{Periods}
 use Rattle.nl_check.specs.Conditions.{HasExactPeriods, IsSoundShape, IsSoundTree, Told}
-use Rattle.nl_check.specs.Naming.{awaited_count}
+use Rattle.nl_check.specs.Private.Naming.{awaited_count}
 use Rattle.nl_check.specs.declared.checks.Judged.{Judged}
 use Rattle.nl_check.specs.declared.shape.Walk.{Walk}
 
 -- what an entry of the checkpoint file tells of its checkpoint
 abbrev pub told : CheckpointEntry → Told
-told c = record { number = c.number; root = option_map root_of (root_told c.root); size = c.size; inodes = c.inodes }
+told c =
+    record {
+      number = c.number;
+      root = option_map root_of (root_told c.root);
+      size = c.size;
+      inodes = c.inodes;
+    }
 
 -- all inodes are sound, and the entry tells the size of the file of inodes and how many inodes are in use
 pub record IsTold (kinds : List (Option Kind)) (walk : Walk) (entry : CheckpointEntry) : Type 0 where

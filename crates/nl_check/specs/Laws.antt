@@ -23,7 +23,8 @@ pub record StandsForTree (pages : Pages) (root : Root) (inodes : ℕ) : Type 0 w
 
 -- what has the shape and holds a tree is sound, and stands for that tree
 abbrev pub SoundTreesAreMeant : Type 0
-SoundTreesAreMeant = (pages : Pages) (root : Root) (size inodes : ℕ) → IsShaped pages root → IsTreeOf pages root size inodes
+SoundTreesAreMeant =
+    (pages : Pages) (root : Root) (size inodes : ℕ) → IsShaped pages root → IsTreeOf pages root size inodes
     → IsTreeSound pages root × StandsForTree pages root inodes
 
 -- and reaches exactly the numbers that cover it, each at one place, where its periods are exact
@@ -40,7 +41,8 @@ pub record MeetsAll (content : Content) (c : ℕ) (root : Root) (size inodes : �
   pub exact : MeetsItsNumbers (pages_of content) (periods_of content) c root
 
 abbrev pub SoundCheckpointsMeetAll : Type 0
-SoundCheckpointsMeetAll = (content : Content) (c : ℕ) (root : Root) (size : ℕ) (holding : Holding) (tree : Tree) (inodes : ℕ)
+SoundCheckpointsMeetAll =
+    (content : Content) (c : ℕ) (root : Root) (size : ℕ) (holding : Holding) (tree : Tree) (inodes : ℕ)
     → IsTreeSound (pages_of content) root → HoldsTree (pages_of content) root holding
     → MeansPaths (inodes_of_holding holding) tree inodes → IsSizeOf (pages_of content) root size
     → IsExact content c (numbers_of (pages_of content) (roots_at (pages_of content) root))

@@ -3,13 +3,8 @@ pub mod Shapes
 pub mod Trees
 pub mod Conditions
 pub mod MetFiles
-pub mod TreePlaces
 pub mod Laws
 pub mod Periods
-pub mod SoundInodes
-pub mod SoundFiles
-pub mod DirectoryBlocks
-pub mod InodeBlocks
-pub mod Walks
-pub mod Naming
 pub mod Judging
+pub mod Facts
+pub mod Private

@@ -21,17 +21,20 @@ IsVisited nodes data_count at = ((at.0 ≡ 1) × (at.1 < nodes)) ⊎ ((at.0 ≡ 
 abbrev pub IsAny : ℕ × ℕ → Type 0
 IsAny at = Unit {0}
 
--- The numbers at the visited places of a root have whole pages, each stands at one of them, and none was met before. Now these
--- are met, and what was before.
-pub record HasMet (pages : Pages) (root : Root) (Visited : ℕ × ℕ → Type 0) (old new : List Bool) : Type 0 where
+-- The numbers at the visited places of a root have whole pages, each stands at one of them, and none was met
+-- before. Now these are met, and what was before.
+pub record HasMet (pages : Pages) (root : Root) (Visited : ℕ × ℕ → Type 0)
+    (old new : List Bool) : Type 0 where
   pub count : length new ≡ length old
   pub stored : (at : ℕ × ℕ) (v : ℕ) → Visited at → places pages root at ≡ Some v → IsSome (pages v)
-  pub whole : (at : ℕ × ℕ) (v : ℕ) (page : List ℕ) → Visited at → places pages root at ≡ Some v → pages v ≡ Some page
+  pub whole : (at : ℕ × ℕ) (v : ℕ) (page : List ℕ) → Visited at → places pages root at ≡ Some v
+      → pages v ≡ Some page
       → length page ≡ 1024
   pub fresh : (at : ℕ × ℕ) (v : ℕ) → Visited at → places pages root at ≡ Some v → is_met old v ≡ false
-  pub once : (a b : ℕ × ℕ) (v : ℕ) → Visited a → Visited b → places pages root a ≡ Some v → places pages root b ≡ Some v → a ≡ b
+  pub once : (a b : ℕ × ℕ) (v : ℕ) → Visited a → Visited b → places pages root a ≡ Some v
+      → places pages root b ≡ Some v → a ≡ b
   pub added : (at : ℕ × ℕ) (v : ℕ) → Visited at → places pages root at ≡ Some v → is_met new v ≡ true
-  pub kept : (v : ℕ) → is_met old v ≡ true → is_met new v ≡ true
+  pub met_stay : (v : ℕ) → is_met old v ≡ true → is_met new v ≡ true
   pub only : (v : ℕ) → is_met new v ≡ true
       → (is_met old v ≡ true) ⊎ ((at : ℕ × ℕ) × Visited at × (places pages root at ≡ Some v))
 
@@ -61,7 +64,8 @@ CanNotMeet pages v old = (pages v ≡ None) ⊎ (is_met old v ≡ true)
 
 -- a slot of a page names nothing, or its number is met
 abbrev pub MeetsSlot : Pages → ℕ → List ℕ → List Bool → List Bool → Type 0
-MeetsSlot pages s page old new = ((slot s page ≡ None) × (new ≡ old)) ⊎ ((v : ℕ) × (slot s page ≡ Some v) × Meets pages v old new)
+MeetsSlot pages s page old new =
+    ((slot s page ≡ None) × (new ≡ old)) ⊎ ((v : ℕ) × (slot s page ≡ Some v) × Meets pages v old new)
 
 -- so far a slot of data names something, or none does
 pub record IsLastNamed (page : List ℕ) (last : ℕ) : Type 0 where

@@ -23,7 +23,9 @@ pub record AreMetIn (pages : Pages) (root : Root) (numbers : List Bool) : Type 0
 
 -- they are of their periods exactly where the checkpoint meets its numbers
 pub record TellPeriods : Type 0 where
-  pub yes : (pages : Pages) (periods : Periods) (c : ℕ) (root : Root) (numbers : List Bool) → AreMetIn pages root numbers
+  pub yes : (pages : Pages) (periods : Periods) (c : ℕ) (root : Root) (numbers : List Bool)
+      → AreMetIn pages root numbers
       → AreOfPeriods periods c numbers → MeetsItsNumbers pages periods c root
-  pub no : (pages : Pages) (periods : Periods) (c : ℕ) (root : Root) (numbers : List Bool) → AreMetIn pages root numbers
+  pub no : (pages : Pages) (periods : Periods) (c : ℕ) (root : Root) (numbers : List Bool)
+      → AreMetIn pages root numbers
       → MeetsItsNumbers pages periods c root → AreOfPeriods periods c numbers

@@ -2,7 +2,7 @@
 use Rattle.std.specs.Prelude.{◌≡◌, ◌≢◌, ℕ, ◌/◌, ◌≤◌, IsSome, Option, Some}
 use Rattle.nl_types.specs.Roots.{NoBlocks, OfChain, OfTree, Pages, Root, height_of, kind_of, place_at}
 use Rattle.nl_types.specs.RootChanges.{HasData, HasTreeShape, places}
-use Rattle.nl_files.specs.CheckpointRoots.{root_in}
+use Rattle.nl_files.specs.CheckpointRoots.{inode_root}
 use Rattle.nl_ifile.specs.Inodes.{IsInodeFile, inode_at}
 
 -- whose a block is: the file of inodes has some itself, and each inode may have some
@@ -13,7 +13,7 @@ pub data Owner : Type 0 where
 -- the root of an owner's blocks, where this is the root of the file of inodes
 abbrev pub root_for : Pages → Root → Owner → Root
 root_for pages root Itself = root
-root_for pages root (Of i) = root_in (inode_at pages root i)
+root_for pages root (Of i) = inode_root (inode_at pages root i)
 
 -- a place of a block
 pub record At : Type 0 where
@@ -25,8 +25,8 @@ pub record At : Type 0 where
 abbrev pub met : Pages → Root → At → Option ℕ
 met pages root at = place_at pages (root_for pages root at.owner) at.level at.offset
 
--- Each number has a page. A root that isn't empty has its first or topmost node. No node of a chain is past its last block;
--- a tree has its shape.
+-- Each number has a page. A root that isn't empty has its first or topmost node. No node of a chain is past
+-- its last block; a tree has its shape.
 pub record HasShape (pages : Pages) (root : Root) : Type 0 where
   pub stored : (level offset v : ℕ) → place_at pages root level offset ≡ Some v → IsSome (pages v)
   pub has_top : kind_of root ≢ NoBlocks → IsSome (place_at pages root (height_of root) 0)
@@ -39,8 +39,8 @@ pub record StandsAlone (pages : Pages) (root : Root) : Type 0 where
   pub shape : HasShape pages root
   pub once : (a b : ℕ × ℕ) (v : ℕ) → places pages root a ≡ Some v → places pages root b ≡ Some v → a ≡ b
 
--- All files have their shape, each block of the file of inodes is one of inodes and has one in use, and no number is met at
--- two places.
+-- All files have their shape, each block of the file of inodes is one of inodes and has one in use, and no
+-- number is met at two places.
 pub record IsShaped (pages : Pages) (root : Root) : Type 0 where
   pub files : (owner : Owner) → HasShape pages (root_for pages root owner)
   pub inodes : IsInodeFile pages root

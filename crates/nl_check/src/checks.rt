@@ -1,14 +1,15 @@
 //! The first of the conditions of checkpoints that fails.
 ghost use Rattle.std.specs.Prelude.{◌≡◌, ◌↔◌, ◌<◌, ◌≤◌, ◌*◌, ◌^◌, ◌&&◌, ℕ, List, Bool, length, map, is_some, false, true, IsTrue, IsSome, IfOk, IfErr, IfSome, IsOkUnless, None, Ok};
+ghost use Rattle.nl_types.specs.Limits as limits;
 ghost use Rattle.nl_types.specs.declared.error.VolError;
 ghost use Rattle.nl_types.specs.Roots.{Pages, Root as AnyRoot};
 ghost use Rattle.nl_layout.specs.Root.{root_of};
 ghost use Rattle.nl_check.specs.Conditions.{FirstFault, IsSoundShape};
 ghost use Rattle.nl_check.specs.Judging.{IsJudged, IsTold, fault_told, told};
 ghost use Rattle.nl_check.specs.MetFiles.{is_met};
-ghost use Rattle.nl_check.specs.SoundInodes.{TellsInodes};
+ghost use Rattle.nl_check.specs.Private.SoundInodes.{TellsInodes};
 ghost use Rattle.nl_check.specs.Trees.{IsTreeOf};
-ghost use Rattle.nl_check.specs.Walks.{IsWalk};
+ghost use Rattle.nl_check.specs.Private.Walks.{IsWalk};
 
 use crate::inodes::{INODE_LIMIT, count_of};
 use crate::periods::are_of_periods;
@@ -36,16 +37,17 @@ fn has_size(size: u64, count: u64) -> bool
     size % BLOCK_SIZE as u64 == 0 && size / BLOCK_SIZE as u64 == count
 }
 
-/// Whether all inodes of a walked checkpoint are sound, and its entry tells the size of the file of inodes and how many inodes
-/// are in use.
+/// Whether all inodes of a walked checkpoint are sound, and its entry tells the size of the file of inodes
+/// and how many inodes are in use.
 fn is_told(kinds: &[Option<Kind>], walk: &Walk, entry: &CheckpointEntry) -> bool
-    requires { length kinds.now ≡ 524288 }
+    requires { length kinds.now ≡ limits.inode_limit }
     ensures { IsTrue result ↔ IsTold kinds.now walk.now entry.now }
 {
     walk.sound && has_size(entry.size, walk.count) && count_of(kinds) == entry.inodes
 }
 
-/// Whether the inodes of a walked checkpoint hold a tree, and as many inodes as are told. Refused by `Memory` alone.
+/// Whether the inodes of a walked checkpoint hold a tree, and as many inodes as are told. Refused by `Memory`
+/// alone.
 fn holds_tree<V: VRead>(
     alloc: Global,
     store: &V,
@@ -79,8 +81,8 @@ fn clear_met(met: &mut [bool])
 
 /// Forgets the kinds of all inodes.
 fn clear_kinds(kinds: &mut [Option<Kind>])
-    requires { length kinds.old ≡ 524288 }
-    ensures count { length kinds.new ≡ 524288 }
+    requires { length kinds.old ≡ limits.inode_limit }
+    ensures count { length kinds.new ≡ limits.inode_limit }
     ensures none { (pages : Pages) (root : AnyRoot) → TellsInodes pages root 0 kinds.new true }
 {
     kinds.fill(None);
@@ -97,13 +99,13 @@ fn judge<V: VRead>(
     requires within { (v : ℕ) → IsSome (V.pages store.now v) → v < length met.old }
     requires each { (v : ℕ) → is_some (V.pages store.now v) ≡ is_some (V.periods store.now v) }
     requires few { length met.old < 2 ^ 40 }
-    requires kinds { length kinds.old ≡ 524288 }
+    requires kinds { length kinds.old ≡ limits.inode_limit }
     ensures yes { IfOk result (λ found. IfSome found
         (IsJudged (V.pages store.now) (V.periods store.now) (told entry.now))) }
     ensures no { result ≡ Ok None → IsSoundShape (V.pages store.now) (told entry.now) → ⊥ }
     ensures refused { IfErr result (λ e. e ≡ VolError.Memory) }
     ensures count { length met.new ≡ length met.old }
-    ensures kinds { length kinds.new ≡ 524288 }
+    ensures kinds { length kinds.new ≡ limits.inode_limit }
 {
     let Some(root) = entry.root.root() else {
         return Ok(None);
@@ -138,8 +140,8 @@ fn fault_of(trees: bool, periods: bool) -> Option<u8>
     }
 }
 
-/// Judges checkpoints one after another, as `first_fault` does. The tables have a place for each number of a block, and for
-/// each of an inode.
+/// Judges checkpoints one after another, as `first_fault` does. The tables have a place for each number of a
+/// block, and for each of an inode.
 fn judge_all<V: VRead>(
     alloc: Global,
     store: &V,
@@ -150,7 +152,7 @@ fn judge_all<V: VRead>(
     requires within { (v : ℕ) → IsSome (V.pages store.now v) → v < length met.old }
     requires each { (v : ℕ) → is_some (V.pages store.now v) ≡ is_some (V.periods store.now v) }
     requires few { length met.old < 2 ^ 40 }
-    requires kinds { length kinds.old ≡ 524288 }
+    requires kinds { length kinds.old ≡ limits.inode_limit }
     ensures fault { IfOk result (λ fault. FirstFault (V.pages store.now) (V.periods store.now)
         (map told kept.now) fault) }
     ensures refused { IfErr result (λ e. e ≡ VolError.Memory) }
@@ -167,9 +169,10 @@ fn judge_all<V: VRead>(
     Ok(fault_of(trees, periods))
 }
 
-/// Which of the conditions 8 to 10 of an image is the first that a kept checkpoint doesn't meet: the shape of its files (8),
-/// the tree that its inodes hold (9), or that it meets just the numbers whose periods have it (10). None where all meet them.
-/// The pages are any. A number in use has both a page and a period, and is at most the count of blocks.
+/// Which of the conditions 8 to 10 of an image is the first that a kept checkpoint doesn't meet: the shape of
+/// its files (8), the tree that its inodes hold (9), or that it meets just the numbers whose periods have it
+/// (10). None where all meet them. The pages are any. A number in use has both a page and a period, and is at
+/// most the count of blocks.
 ///
 /// Refused by `Memory` alone.
 pub fn first_fault<V: VRead>(

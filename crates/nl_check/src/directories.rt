@@ -1,52 +1,28 @@
 //! What is judged of a directory by its inode and its blocks.
 ghost use Rattle.std.specs.Prelude.{◌≡◌, ◌↔◌, ◌<◌, ◌≤◌, ◌*◌, ◌==◌, ◌&&◌, not, [], ◌∷◌, ℕ, List, length, IsTrue, IfOk, IfErr, Ok, None, Some, IfSome, MatchOption, All};
 ghost use Rattle.nl_types.specs.declared.error.VolError;
-ghost use Rattle.nl_types.specs.Paths.{is_name, same_name};
-ghost use Rattle.std.specs.List.{list_any};
 ghost use Rattle.nl_types.specs.Roots.{page_at};
 ghost use Rattle.nl_layout.specs.Root.{root_of};
 ghost use Rattle.nl_dirs.specs.declared.record.Record.{Record};
 ghost use Rattle.nl_dirs.specs.Listings.{HoldsRecords};
-ghost use Rattle.nl_dirs.specs.Records.{AllFit, IsPageOf, sizes};
-ghost use Rattle.nl_check.specs.DirectoryBlocks.{Follows, IsAdded};
-ghost use Rattle.nl_check.specs.SoundInodes.{IsMeasured};
-ghost use Rattle.nl_check.specs.SoundFiles.{AreSoundRecords, IsSoundDirectory, IsSoundRecord};
+ghost use Rattle.nl_dirs.specs.Records.{AllHaveSpelling, IsPageOf, sizes};
+ghost use Rattle.nl_check.specs.Private.DirectoryBlocks.{BeginsNextBlock, IsAdded};
+ghost use Rattle.nl_check.specs.Private.SoundInodes.{IsMeasured};
+ghost use Rattle.nl_check.specs.Private.SoundFiles.{AreSoundRecords, IsSoundDirectory, IsSoundRecord};
 
 use crate::inodes::is_inode_number;
 use nl_blocktree::Cursor;
 use nl_dirs::{Record, records};
 use nl_layout::{Inode, Root};
-use nl_types::{BLOCK_SIZE, Page, VolError};
+use nl_types::{BLOCK_SIZE, Page, VolError, is_name};
 use nl_vstore::VRead;
 use std::alloc::Global;
 
-/// The most names of a directory.
-const NAME_LIMIT: usize = 524_277;
+/// The most paths beside the root: a directory has no more names than these.
+const PATH_LIMIT: usize = 524_277;
 
 /// The bytes of a record in front of its name.
 const HEAD_SIZE: usize = 6;
-
-/// Whether a name is neither `.` nor `..`.
-fn is_not_dots(name: &[u8]) -> bool
-    ensures { result
-        ≡ (not (same_name name.now (46 ∷ [])) && not (same_name name.now (46 ∷ 46 ∷ []))) }
-{
-    name != b".".as_slice() && name != b"..".as_slice()
-}
-
-fn has_byte(name: &[u8], byte: u8) -> bool
-    ensures { result ≡ list_any (λ b. b == byte) name.now }
-{
-    name.contains(&byte)
-}
-
-/// Whether a name may stand in a path.
-fn is_name(name: &[u8]) -> bool
-    ensures { result ≡ is_name name.now }
-{
-    let has_others = has_byte(name, 0) || has_byte(name, b'/');
-    !name.is_empty() && name.len() <= 255 && !has_others && is_not_dots(name)
-}
 
 /// Whether a record's name may stand in a path, and its number be an inode's.
 fn is_sound_record(record: &Record) -> bool
@@ -59,7 +35,7 @@ fn is_sound_record(record: &Record) -> bool
 fn are_sound_records(records: &[Record]) -> bool
     ensures { IsTrue result ↔ AreSoundRecords records.now }
 {
-    if records.len() > NAME_LIMIT {
+    if records.len() > PATH_LIMIT {
         return false;
     }
     for record in records {
@@ -82,12 +58,12 @@ fn size_of_all(records: &[Record]) -> usize
     size
 }
 
-/// Whether the records of a block may follow others, the last block of which has so many bytes in use: the first one's name is
-/// behind all of theirs, and its record has no room there.
+/// Whether the records of a block may follow others, the last block of which has so many bytes in use: the
+/// first one's name is behind all of theirs, and its record has no room there.
 fn follows(all: &[Record], used: usize, block: &[Record]) -> bool
     requires used { used ≤ 1024 }
-    requires fit { AllFit block.now }
-    ensures { IsTrue result ↔ Follows all.now used block.now }
+    requires fit { AllHaveSpelling block.now }
+    ensures { IsTrue result ↔ BeginsNextBlock all.now used block.now }
 {
     let Some(first) = block.first() else {
         return false;
@@ -101,8 +77,9 @@ fn follows(all: &[Record], used: usize, block: &[Record]) -> bool
     }
 }
 
-/// Adds the records of a block to others, the last block of which has so many bytes in use. It answers how many the block has
-/// in use, or none where it isn't a block of records, or may not follow. Refused by `Memory` alone.
+/// Adds the records of a block to others, the last block of which has so many bytes in use. It answers how
+/// many the block has in use, or none where it isn't a block of records, or may not follow. Refused by
+/// `Memory` alone.
 fn add_block(
     alloc: Global,
     page: &Page,
@@ -113,7 +90,7 @@ fn add_block(
     ensures added { IfOk result (λ found. IfSome found (λ size. (size ≤ 1024)
         × IsAdded page.now used all.old.items all.new.items size)) }
     ensures only { result ≡ Ok None → (block : List Record) → IsPageOf page.now block
-        → Follows all.old.items used block → ⊥ }
+        → BeginsNextBlock all.old.items used block → ⊥ }
     ensures kept { result ≡ Ok None → all.new.items ≡ all.old.items }
     ensures refused { IfErr result (λ e. e ≡ VolError.Memory) }
 {
@@ -128,8 +105,8 @@ fn add_block(
     Ok(Some(size))
 }
 
-/// The records in the blocks of a directory, in the order of their names. None where they aren't the blocks of records, each
-/// with as many as fit. Refused by `Memory` alone.
+/// The records in the blocks of a directory, in the order of their names. None where they aren't the blocks
+/// of records, each with as many as fit. Refused by `Memory` alone.
 fn records_of<V: VRead>(
     alloc: Global,
     store: &V,
@@ -160,8 +137,8 @@ fn records_of<V: VRead>(
     Ok(Some(all))
 }
 
-/// Whether the blocks of a directory are those of sound records and its size is theirs, where so many indices lead up to its
-/// last block. Refused by `Memory` alone.
+/// Whether the blocks of a directory are those of sound records and its size is theirs, where so many indices
+/// lead up to its last block. Refused by `Memory` alone.
 pub(crate) fn is_sound_directory<V: VRead>(
     alloc: Global,
     store: &V,

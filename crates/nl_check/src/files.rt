@@ -3,8 +3,8 @@ ghost use Rattle.std.specs.Prelude.{◌≡◌, ◌↔◌, ◌+◌, ◌*◌, ◌/
 ghost use Rattle.nl_types.specs.Roots.{page_at};
 ghost use Rattle.nl_layout.specs.Root.{root_of};
 ghost use Rattle.nl_tree.specs.Held.{byte_stored};
-ghost use Rattle.nl_check.specs.SoundInodes.{IsMeasured};
-ghost use Rattle.nl_check.specs.SoundFiles.{IsSoundFile};
+ghost use Rattle.nl_check.specs.Private.SoundInodes.{IsMeasured};
+ghost use Rattle.nl_check.specs.Private.SoundFiles.{IsSoundFile};
 
 use nl_blocktree::get;
 use nl_layout::Inode;
@@ -49,8 +49,8 @@ fn block_count(size: u64) -> u64
     size.div_ceil(BLOCK_SIZE as u64)
 }
 
-/// Whether a file has at most 64 MiB, no block past its end, and zeros behind it, where so many indices lead up to its last
-/// block.
+/// Whether a file has at most 64 MiB, no block past its end, and zeros behind it, where so many indices lead
+/// up to its last block.
 pub(crate) fn is_sound_file<V: VRead>(store: &V, inode: &Inode, count: u64) -> bool
     requires { IsMeasured (V.pages store.now) (root_of inode.now.root) count }
     ensures { IsTrue result

@@ -1,11 +1,12 @@
 //! What is judged of an inode by itself, and what is known of the kinds of all.
 ghost use Rattle.std.specs.Prelude.{◌≡◌, ◌↔◌, ◌<◌, ◌≤◌, ℕ, length, false, IsTrue, IfOk, IfErr, Some, cond, is_some};
+ghost use Rattle.nl_types.specs.Limits as limits;
 ghost use Rattle.nl_types.specs.declared.error.VolError;
 ghost use Rattle.nl_types.specs.declared.kind.Kind.{Kind};
 ghost use Rattle.nl_layout.specs.Root.{root_of};
 ghost use Rattle.nl_tree.specs.Held.{IsInodeNumber};
-ghost use Rattle.nl_check.specs.SoundInodes.{IsMeasured, IsSoundInode, kind_for, kind_in};
-ghost use Rattle.nl_check.specs.Naming.{awaited_count};
+ghost use Rattle.nl_check.specs.Private.SoundInodes.{IsMeasured, IsSoundInode, kind_for, kind_in};
+ghost use Rattle.nl_check.specs.Private.Naming.{awaited_count};
 
 use crate::directories::is_sound_directory;
 use crate::files::is_sound_file;
@@ -41,8 +42,8 @@ pub(crate) fn kind_of(kind: InodeKind) -> Option<Kind>
     }
 }
 
-/// Whether an inode with a number is as such an inode has to be, where so many indices lead up to its last block. Refused by
-/// `Memory` alone.
+/// Whether an inode with a number is as such an inode has to be, where so many indices lead up to its last
+/// block. Refused by `Memory` alone.
 pub(crate) fn is_sound_inode<V: VRead>(
     alloc: Global,
     store: &V,
@@ -69,9 +70,9 @@ pub(crate) fn is_sound_inode<V: VRead>(
 
 /// Notes the kind of an inode, where its number may be one.
 pub(crate) fn note_kind(kinds: &mut [Option<Kind>], number: u64, kind: Option<Kind>)
-    requires { length kinds.old ≡ 524288 }
-    ensures count { length kinds.new ≡ 524288 }
-    ensures here { number < 524288 → kind_in kinds.new number ≡ kind }
+    requires { length kinds.old ≡ limits.inode_limit }
+    ensures count { length kinds.new ≡ limits.inode_limit }
+    ensures here { number < limits.inode_limit → kind_in kinds.new number ≡ kind }
     ensures others { (i : ℕ) → (i ≡ number → ⊥) → kind_in kinds.new i ≡ kind_in kinds.old i }
 {
     if number < INODE_LIMIT as u64 {
@@ -81,7 +82,7 @@ pub(crate) fn note_kind(kinds: &mut [Option<Kind>], number: u64, kind: Option<Ki
 
 /// How many inodes are in use.
 pub(crate) fn count_of(kinds: &[Option<Kind>]) -> u64
-    requires { length kinds.now ≡ 524288 }
+    requires { length kinds.now ≡ limits.inode_limit }
     ensures { result ≡ awaited_count kinds.now }
 {
     let mut count: u64 = 0;

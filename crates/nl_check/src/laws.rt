@@ -3,15 +3,15 @@ ghost use Rattle.nl_check.specs.InodeTrees.{FormedTreesAreMeant, MeantTreesAreFo
 ghost use Rattle.nl_check.specs.Laws.{ExactPeriodsAreExact, SoundCheckpointsAreShaped, SoundCheckpointsMeetAll, SoundTreesAreMeant};
 ghost use Rattle.nl_check.specs.Periods.{TellPeriods};
 
-/// Inodes stand for a tree exactly where they form one: each but the root's is named by one record, by its kind, and is
-/// found from the root. The tree has as many paths as there are inodes in use.
+/// Inodes stand for a tree exactly where they form one: each but the root's is named by one record, by its
+/// kind, and is found from the root. The tree has as many paths as there are inodes in use.
 pub fn inodes_form_trees()
     ensures meant { FormedTreesAreMeant }
     ensures formed { MeantTreesAreFormed }
 {}
 
-/// A checkpoint that has the shape and holds a tree is sound and stands for that tree. Where its periods are exact it reaches
-/// exactly the numbers that cover it, each at one place.
+/// A checkpoint that has the shape and holds a tree is sound and stands for that tree. Where its periods are
+/// exact it reaches exactly the numbers that cover it, each at one place.
 pub fn checked_checkpoints_are_sound()
     ensures trees { SoundTreesAreMeant }
     ensures exact { ExactPeriodsAreExact }

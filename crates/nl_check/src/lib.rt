@@ -1,5 +1,5 @@
-//! Checks of the checkpoints of an image: the shape of their blocks, the trees that their inodes hold, and the periods of
-//! their numbers.
+//! Checks of the checkpoints of an image: the shape of their blocks, the trees that their inodes hold, and
+//! the periods of their numbers.
 #![tactic(auto)]
 
 mod checks;

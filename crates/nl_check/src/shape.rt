@@ -1,14 +1,15 @@
 //! The walk over all blocks of a checkpoint.
 ghost use Rattle.std.specs.Prelude.{◌≡◌, ◌↔◌, ◌<◌, ◌+◌, ◌*◌, ◌^◌, ℕ, length, false, true, IsTrue, IsSome, IfOk, IfErr, IfSome, Some, None, Ok, option_copied};
+ghost use Rattle.nl_types.specs.Limits as limits;
 ghost use Rattle.nl_types.specs.declared.error.VolError;
 ghost use Rattle.nl_types.specs.Roots.{Root as AnyRoot, page_at};
 ghost use Rattle.nl_layout.specs.Root.{root_of};
 ghost use Rattle.nl_ifile.specs.Inodes.{block_for, inode_at, inode_in};
-ghost use Rattle.nl_check.specs.InodeBlocks.{HasInode, IsEntryIn, IsSpelled};
+ghost use Rattle.nl_check.specs.Private.InodeBlocks.{HasInode, IsEntryIn, IsSpelled};
 ghost use Rattle.nl_check.specs.MetFiles.{is_met};
 ghost use Rattle.nl_check.specs.Shapes.{IsShaped};
-ghost use Rattle.nl_check.specs.SoundInodes.{TellsInodes};
-ghost use Rattle.nl_check.specs.Walks.{AreKnown, IsBlockOf, IsWalk};
+ghost use Rattle.nl_check.specs.Private.SoundInodes.{TellsInodes};
+ghost use Rattle.nl_check.specs.Private.Walks.{AreKnown, IsBlockOf, IsWalk};
 
 use crate::inodes::{is_sound_inode, kind_of, note_kind};
 use crate::walking::walk_file;
@@ -84,8 +85,8 @@ fn is_inode_block(page: &Page) -> bool
     are_entries(page) && has_inode(page)
 }
 
-/// Walks the file of an inode that a number may have, and tells of the inode. It answers whether it and those before it are
-/// sound, or none where its file can't be met. Refused by `Memory` alone.
+/// Walks the file of an inode that a number may have, and tells of the inode. It answers whether it and those
+/// before it are sound, or none where its file can't be met. Refused by `Memory` alone.
 fn walk_inode<V: VRead>(
     alloc: Global,
     store: &V,
@@ -97,7 +98,7 @@ fn walk_inode<V: VRead>(
 ) -> Result<Option<bool>, VolError>
     requires within { (v : ℕ) → IsSome (V.pages store.now v) → v < length met.old }
     requires few { length met.old < 2 ^ 40 }
-    requires kinds { length kinds.old ≡ 524288 }
+    requires kinds { length kinds.old ≡ limits.inode_limit }
     ensures yes { IfOk result (λ found. IfSome found (λ now. (root : AnyRoot)
         → inode_at (V.pages store.now) root number ≡ inode
         → AreKnown (V.pages store.now) root number met.old kinds.old sound
@@ -108,7 +109,7 @@ fn walk_inode<V: VRead>(
         → IsShaped (V.pages store.now) root → ⊥ }
     ensures refused { IfErr result (λ e. e ≡ VolError.Memory) }
     ensures count { length met.new ≡ length met.old }
-    ensures kinds { length kinds.new ≡ 524288 }
+    ensures kinds { length kinds.new ≡ limits.inode_limit }
 {
     let Some(inode) = inode else {
         return Ok(Some(sound));
@@ -133,7 +134,7 @@ fn walk_block<V: VRead>(
 ) -> Result<Option<bool>, VolError>
     requires within { (v : ℕ) → IsSome (V.pages store.now v) → v < length met.old }
     requires few { length met.old < 2 ^ 40 }
-    requires kinds { length kinds.old ≡ 524288 }
+    requires kinds { length kinds.old ≡ limits.inode_limit }
     requires index { index < 2 ^ 60 }
     ensures block { IfOk result (λ found. IfSome found
         (λ now. Some page.now ≡ block_for (inode_in page.now))) }
@@ -147,7 +148,7 @@ fn walk_block<V: VRead>(
         → IsShaped (V.pages store.now) root → ⊥ }
     ensures refused { IfErr result (λ e. e ≡ VolError.Memory) }
     ensures count { length met.new ≡ length met.old }
-    ensures kinds { length kinds.new ≡ 524288 }
+    ensures kinds { length kinds.new ≡ limits.inode_limit }
 {
     if !is_inode_block(page) {
         return Ok(None);
@@ -176,7 +177,7 @@ fn walk_index<V: VRead>(
 ) -> Result<Option<bool>, VolError>
     requires within { (v : ℕ) → IsSome (V.pages store.now v) → v < length met.old }
     requires few { length met.old < 2 ^ 40 }
-    requires kinds { length kinds.old ≡ 524288 }
+    requires kinds { length kinds.old ≡ limits.inode_limit }
     requires index { index < 2 ^ 60 }
     ensures yes { IfOk result (λ found. IfSome found (λ now. (root : AnyRoot)
         → option_copied page.entry ≡ page_at (V.pages store.now) root index
@@ -189,7 +190,7 @@ fn walk_index<V: VRead>(
         → IsShaped (V.pages store.now) root → ⊥ }
     ensures refused { IfErr result (λ e. e ≡ VolError.Memory) }
     ensures count { length met.new ≡ length met.old }
-    ensures kinds { length kinds.new ≡ 524288 }
+    ensures kinds { length kinds.new ≡ limits.inode_limit }
 {
     match page {
         Some(page) => {
@@ -200,8 +201,9 @@ fn walk_index<V: VRead>(
     }
 }
 
-/// Walks the files of all inodes, where the file of inodes is walked and so many indices lead up to its last block. It answers
-/// whether all inodes are sound, or none where the checkpoint has not its shape. Refused by `Memory` alone.
+/// Walks the files of all inodes, where the file of inodes is walked and so many indices lead up to its last
+/// block. It answers whether all inodes are sound, or none where the checkpoint has not its shape. Refused by
+/// `Memory` alone.
 fn walk_inodes<V: VRead>(
     alloc: Global,
     store: &V,
@@ -220,7 +222,7 @@ fn walk_inodes<V: VRead>(
     ensures no { result ≡ Ok None → IsShaped (V.pages store.now) (root_of root.now) → ⊥ }
     ensures refused { IfErr result (λ e. e ≡ VolError.Memory) }
     ensures count { length met.new ≡ length met.old }
-    ensures kinds { length kinds.new ≡ 524288 }
+    ensures kinds { length kinds.new ≡ limits.inode_limit }
 {
     let mut cursor = Cursor::new(store, *root);
     let mut sound = true;
@@ -234,8 +236,8 @@ fn walk_inodes<V: VRead>(
     Ok(Some(sound))
 }
 
-/// Walks all files of a checkpoint, given the root of its file of inodes: meets their numbers, and notes the kinds of the
-/// inodes. None where the checkpoint has not its shape. Refused by `Memory` alone.
+/// Walks all files of a checkpoint, given the root of its file of inodes: meets their numbers, and notes the
+/// kinds of the inodes. None where the checkpoint has not its shape. Refused by `Memory` alone.
 pub(crate) fn walk_checkpoint<V: VRead>(
     alloc: Global,
     store: &V,
@@ -252,7 +254,7 @@ pub(crate) fn walk_checkpoint<V: VRead>(
     ensures no { result ≡ Ok None → IsShaped (V.pages store.now) (root_of root.now) → ⊥ }
     ensures refused { IfErr result (λ e. e ≡ VolError.Memory) }
     ensures count { length met.new ≡ length met.old }
-    ensures kinds { length kinds.new ≡ 524288 }
+    ensures kinds { length kinds.new ≡ limits.inode_limit }
 {
     let Some(count) = walk_file(store, met, *root) else {
         return Ok(None);

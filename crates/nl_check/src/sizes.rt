@@ -12,7 +12,8 @@ use nl_types::{BLOCK_SIZE, VolError};
 use nl_vstore::VRead;
 use std::alloc::Global;
 
-/// The size of a file, where no number was met. None where the file has not its shape, or a number stands at two places of it.
+/// The size of a file, where no number was met. None where the file has not its shape, or a number stands at
+/// two places of it.
 fn size_met<V: VRead>(store: &V, met: &mut [bool], root: Root) -> Option<u64>
     requires within { (v : ℕ) → IsSome (V.pages store.now v) → v < length met.old }
     requires few { length met.old < 2 ^ 40 }
@@ -35,8 +36,9 @@ fn none_met(alloc: Global, last: u64) -> Result<Vec<bool>, VolError>
     Ok(met)
 }
 
-/// The size that the blocks of a file have: 1,024 bytes for each index up to the last one. None where the file has not its
-/// shape, or a number stands at two places of it. The numbers in use are at most the last one. Refused by `Memory` alone.
+/// The size that the blocks of a file have: 1,024 bytes for each index up to the last one. None where the
+/// file has not its shape, or a number stands at two places of it. The numbers in use are at most the last
+/// one. Refused by `Memory` alone.
 pub fn size_of_blocks<V: VRead>(
     alloc: Global,
     store: &V,

@@ -2,15 +2,15 @@
 ghost use Rattle.std.specs.Prelude.{◌≡◌, ◌<◌, ◌≤◌, ◌-◌, ◌*◌, ◌^◌, ℕ, suc, length, IsSome, IfSome, IfNone, Some};
 ghost use Rattle.nl_types.specs.Roots.{Tree as AnyTree, place_at};
 ghost use Rattle.nl_check.specs.MetFiles.{CanBeMet, IsWalked};
-ghost use Rattle.nl_check.specs.TreePlaces.{CanMeet, IsMetUnder, IsUnder};
+ghost use Rattle.nl_check.specs.Private.TreePlaces.{CanMeet, IsMetUnder, IsUnder};
 
 use crate::meeting::meet;
 use nl_layout::{Level, Node, SLOTS};
 use nl_types::VirtualNumber;
 use nl_vstore::VRead;
 
-/// Meets a block of a tree, and all that stands below it. It answers how many indices lead up to the last data there, or none
-/// where a node names nothing, or a number has no page or was met.
+/// Meets a block of a tree, and all that stands below it. It answers how many indices lead up to the last
+/// data there, or none where a node names nothing, or a number has no page or was met.
 fn walk_below<V: VRead>(
     store: &V,
     met: &mut [bool],
@@ -23,7 +23,8 @@ fn walk_below<V: VRead>(
     requires offset { offset < 128 ^ (3 - level) }
     ensures yes { IfSome result (λ count. (height top : ℕ) → level ≤ height
         → place_at (V.pages store.now) (AnyTree height top) level offset ≡ Some number
-        → IsMetUnder (V.pages store.now) (AnyTree height top) level offset (suc offset) met.old met.new (Some count)) }
+        → IsMetUnder (V.pages store.now) (AnyTree height top) level offset (suc offset) met.old met.new
+        (Some count)) }
     ensures no { IfNone result ((height top : ℕ) → level ≤ height
         → place_at (V.pages store.now) (AnyTree height top) level offset ≡ Some number
         → CanMeet (V.pages store.now) (AnyTree height top) (IsUnder level offset (suc offset)) met.old → ⊥) }
@@ -60,8 +61,8 @@ fn indexes_below(height: u8) -> u64
     }
 }
 
-/// Walks a tree from its topmost node down. It answers how many indices lead up to its last data, or none where it has not its
-/// shape, or has a number that was met, or one at two places.
+/// Walks a tree from its topmost node down. It answers how many indices lead up to its last data, or none
+/// where it has not its shape, or has a number that was met, or one at two places.
 pub(crate) fn walk_tree<V: VRead>(
     store: &V,
     met: &mut [bool],

@@ -1,10 +1,11 @@
 //! Whether the names of a checkpoint form a tree.
 ghost use Rattle.std.specs.Prelude.{◌≡◌, ◌↔◌, ◌<◌, ◌≤◌, ◌+◌, ℕ, List, [], ◌∷◌, length, slice_get, false, IsTrue, IfOk, IfErr, OnOk, Some, None};
+ghost use Rattle.nl_types.specs.Limits as limits;
 ghost use Rattle.nl_types.specs.declared.error.VolError;
 ghost use Rattle.nl_tree.specs.Held.{Holding, IsHolding, inodes_of_holding};
 ghost use Rattle.nl_check.specs.InodeTrees.{FormTree};
-ghost use Rattle.nl_check.specs.Naming.{IsNaming, IsQueued, IsTaken, TellsKinds, awaited_count, records_in};
-ghost use Rattle.nl_check.specs.SoundInodes.{kind_in};
+ghost use Rattle.nl_check.specs.Private.Naming.{IsNaming, IsQueued, IsTaken, TellsKinds, awaited_count, records_in};
+ghost use Rattle.nl_check.specs.Private.SoundInodes.{kind_in};
 
 use crate::inodes::ROOT_INODE;
 use nl_dirs::Record;
@@ -61,8 +62,8 @@ fn follow_record(
     Ok(true)
 }
 
-/// Follows the records of the next directory of the queue: each has to name an awaited number by its kind, and directories
-/// among these go to the end of the queue. Refused by `Memory` alone.
+/// Follows the records of the next directory of the queue: each has to name an awaited number by its kind,
+/// and directories among these go to the end of the queue. Refused by `Memory` alone.
 fn follow_records(
     awaited: &mut [Option<Kind>],
     queue: &mut Vec<InodeNumber>,
@@ -115,18 +116,19 @@ fn follow_directory<T: TreeRead>(
     follow_records(awaited, queue, records.as_slice())
 }
 
-/// Follows the names of a tree from the root on, directory by directory. It answers whether each record names an awaited
-/// number by its kind. Refused by `Memory` alone.
+/// Follows the names of a tree from the root on, directory by directory. It answers whether each record names
+/// an awaited number by its kind. Refused by `Memory` alone.
 fn follow_names<T: TreeRead>(
     alloc: Global,
     tree: &T,
     awaited: &mut [Option<Kind>],
 ) -> Result<bool, VolError>
     ensures yes { IfOk result (λ all. IsTrue all → (held : Holding)
-        → T.holds tree.now held → IsHolding held → IsNaming held (2 ∷ []) 0 0 awaited.old
+        → T.holds tree.now held → IsHolding held → IsNaming held (limits.root_inode ∷ []) 0 0 awaited.old
         → (queue : List ℕ) × IsNaming held queue (length queue) 0 awaited.new) }
     ensures no { IfOk result (λ all. all ≡ false → (held : Holding)
-        → T.holds tree.now held → IsHolding held → IsNaming held (2 ∷ []) 0 0 awaited.old → FormTree (inodes_of_holding held) → ⊥) }
+        → T.holds tree.now held → IsHolding held → IsNaming held (limits.root_inode ∷ []) 0 0 awaited.old
+        → FormTree (inodes_of_holding held) → ⊥) }
     ensures refused { IfErr result (λ e. e ≡ VolError.Memory) }
 {
     let mut queue = Vec::new(alloc);
@@ -153,8 +155,9 @@ fn is_none_awaited(awaited: &[Option<Kind>]) -> bool
     true
 }
 
-/// Whether the inodes of a tree but the root's are named by one record each, by their kinds, and found from the root. The kinds
-/// of all inodes in use are given, and taken out one after another. Refused by `Memory` alone.
+/// Whether the inodes of a tree but the root's are named by one record each, by their kinds, and found from
+/// the root. The kinds of all inodes in use are given, and taken out one after another. Refused by `Memory`
+/// alone.
 pub(crate) fn forms_tree<T: TreeRead>(
     alloc: Global,
     tree: &T,

@@ -78,11 +78,13 @@ fn meet_node<'a, V: VRead>(
     }
 }
 
-/// How many indices lead up to the last data of a chain that ends with the node of a page. None where that names no data.
+/// How many indices lead up to the last data of a chain that ends with the node of a page. None where that
+/// names no data.
 fn end_of(page: &Page, position: u64) -> Option<u64>
     requires { position < 2 ^ 40 }
     ensures some { IfSome result (λ count. (last : ℕ) × (s : ℕ)
-        × IsLastNamed page.now last × (last ≡ suc s) × IsSome (slot s page.now) × (count ≡ 127 * position + last)) }
+        × IsLastNamed page.now last × (last ≡ suc s) × IsSome (slot s page.now)
+        × (count ≡ 127 * position + last)) }
     ensures none { IfNone result ((last : ℕ) × IsLastNamed page.now last × (last ≡ 0)) }
     ensures small { IfSome result (λ count. count < 2 ^ 50) }
 {
@@ -94,8 +96,8 @@ fn end_of(page: &Page, position: u64) -> Option<u64>
     }
 }
 
-/// Walks a chain from its first node on. It answers how many indices lead up to its last data, or none where it has not its
-/// shape, or has a number that was met, or one at two places.
+/// Walks a chain from its first node on. It answers how many indices lead up to its last data, or none where
+/// it has not its shape, or has a number that was met, or one at two places.
 fn walk_chain<V: VRead>(store: &V, met: &mut [bool], first: VirtualNumber) -> Option<u64>
     requires within { (v : ℕ) → IsSome (V.pages store.now v) → v < length met.old }
     requires few { length met.old < 2 ^ 40 }
@@ -121,8 +123,8 @@ fn walk_chain<V: VRead>(store: &V, met: &mut [bool], first: VirtualNumber) -> Op
     }
 }
 
-/// Walks the blocks of a file. It answers how many indices lead up to its last block, or none where it has not its shape, or
-/// has a number that was met, or one at two places.
+/// Walks the blocks of a file. It answers how many indices lead up to its last block, or none where it has
+/// not its shape, or has a number that was met, or one at two places.
 pub(crate) fn walk_file<V: VRead>(store: &V, met: &mut [bool], root: Root) -> Option<u64>
     requires within { (v : ℕ) → IsSome (V.pages store.now v) → v < length met.old }
     requires few { length met.old < 2 ^ 40 }

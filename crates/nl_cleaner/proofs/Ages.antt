@@ -11,7 +11,7 @@ use Rattle.std.proofs.lemmas.List.{length-map, get_or-map, get_or-take, get_or_d
 use Rattle.std.proofs.lemmas.List.Sorted.{IsPermutation-map, IsPermutation-sym, Contains-permutation, ties_still_rise}
 use Rattle.std.proofs.lemmas.Map.Keys.{IsDistinct-IsPermutation}
 use Rattle.std.proofs.lemmas.Map.Made.{AllPairs-from_IsDistinct, IsDistinct-from_AllPairs}
-use Rattle.nl_cleaner.specs.Choice.{AreFirst, Ascend, IsOlderCandidate, InOrder, segment_of, stamp_of}
+use Rattle.nl_cleaner.specs.Private.Choice.{AreFirst, Ascend, IsOlderCandidate, InOrder, segment_of, stamp_of}
 use Rattle.nl_cleaner.specs.declared.choice.Candidate.{Candidate}
 
 -- ---- the order

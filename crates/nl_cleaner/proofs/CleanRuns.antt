@@ -12,13 +12,13 @@ use Rattle.nl_types.specs.Entries.{is_needed}
 use Rattle.nl_types.specs.Runs.{Run}
 use Rattle.nl_types.specs.Worlds.{Reply}
 use Rattle.nl_vstore.specs.Located.{numbers_in}
-use Rattle.nl_reclaim.specs.Moves.{FullMoves, HasMoved, KeepsNeeds, Retires}
-use Rattle.nl_reclaim.proofs.Moves.{full-moves-come-clean}
-use Rattle.nl_core.specs.CleanedPens.{kept_store, number_in}
+use Rattle.nl_reclaim.specs.Moves.{FullMoves, HasMovedPages, KeepsNeeds, Retires}
+use Rattle.nl_reclaim.specs.Facts.Moves.{full-moves-come-clean}
+use Rattle.nl_core.specs.CleanedPens.{kept_store, kept_number}
 use Rattle.nl_core.specs.Layout.{AllowedBetween, Does, IsPen, Layout, unshared}
 use Rattle.nl_core.specs.Volume.{Lists, kept_by}
-use Rattle.nl_core.proofs.MovedNeeds.{moved-needs}
-use Rattle.nl_core.proofs.Refusals.{retirements_are_judged}
+use Rattle.nl_core.specs.Facts.MovedNeeds.{moved-needs}
+use Rattle.nl_core.specs.Facts.Refusals.{retirements_are_judged}
 use Rattle.nl_cleaner.specs.Laws.{AreMoves, SegmentsComeClean}
 
 abbrev pub IsDone : Reply → Type 0
@@ -26,14 +26,14 @@ IsDone r = IsOk r
 
 -- the needs of a pen whose lists stay
 pub same-needs : (old new : Layout) → new.lists ≡ old.lists → KeepsNeeds (kept_store old) (kept_store new)
-same-needs old new same v e is = ap (λ (l : Lists). is_needed (map number_in (kept_by l)) e) same
+same-needs old new same v e is = ap (λ (l : Lists). is_needed (map kept_number (kept_by l)) e) same
 
 pub move-is : {allowed : AllowedBetween} (old new : Layout) (segment limit now : ℕ) (answer : Answer) → IsPen old
     → Does allowed old (Move segment limit now) (Ok answer) new
-    → HasMoved segment (old.lists.table.latest.number + 1) now limit (kept_store old) (kept_store new)
+    → HasMovedPages segment (old.lists.table.latest.number + 1) now limit (kept_store old) (kept_store new)
 move-is old new segment limit now answer held does = record {
   needs = moved-needs old new segment limit now answer held does;
-  moved = does.touches.1.moved.moved;
+  moved = does.becomes.1.moved.moved;
   store = does.pen.sound.store;
 }
 
@@ -67,7 +67,7 @@ pen-behind old new (e ∷ es) [] held run = absurd run
 
 pub segments-come-clean : SegmentsComeClean
 segments-come-clean segment limit old mid new events replies (Ok answer) held dirty moves enough run oks does =
-    let emptied = does.touches.emptied in
+    let emptied = does.becomes.emptied in
     let retires : Retires segment (Ok emptied.count) (kept_store mid) (kept_store new) =
     record { answers = sym emptied.judged; reclaimed = emptied.reclaimed } in
     let clean = full-moves-come-clean segment limit (length events) (kept_store old) (kept_store mid) (kept_store new) (Ok emptied.count)

@@ -1,6 +1,6 @@
 -- Steps of a round and of its plan.
 use Rattle.std.proofs.Common.{◌≡◌, ℕ, zero, suc, ◌+◌, List, [], ◌∷◌, drop, Option, refl, sym, ap, ◌∙◌, add-one}
-use Rattle.nl_cleaner.specs.Choice.{behind, candidates_in}
+use Rattle.nl_cleaner.specs.Private.Choice.{with_candidate, candidates_in}
 use Rattle.nl_cleaner.specs.declared.choice.Candidate.{Candidate}
 use Rattle.nl_cleaner.specs.declared.job.Stage.{Stage}
 use Rattle.nl_cleaner.specs.Job.{JobView, first_done}
@@ -22,7 +22,7 @@ advanced stage moment period victims done =
 
 -- one segment more was looked at
 pub found-next : (f : ℕ → Option Candidate) (n : ℕ) (old new : List Candidate) (o : Option Candidate)
-    → old ≡ candidates_in f n → o ≡ f n → new ≡ behind old o → new ≡ candidates_in f (n + 1)
+    → old ≡ candidates_in f n → o ≡ f n → new ≡ with_candidate old o → new ≡ candidates_in f (n + 1)
 found-next f n old new o before given after =
-    after ∙ ap (λ (cs : List Candidate). behind cs o) before ∙ ap (behind (candidates_in f n)) given
+    after ∙ ap (λ (cs : List Candidate). with_candidate cs o) before ∙ ap (with_candidate (candidates_in f n)) given
     ∙ sym (ap (candidates_in f) (add-one n))

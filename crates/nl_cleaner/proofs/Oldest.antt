@@ -15,7 +15,7 @@ use Rattle.nl_core.specs.CleanerViews.{cleaning_event}
 use Rattle.nl_core.specs.CleaningEvents.{needed_by}
 use Rattle.nl_core.specs.Layout.{Layout}
 use Rattle.nl_cleaner.specs.declared.job.Stage.{Stage}
-use Rattle.nl_cleaner.specs.Job.{Cleaning, Ended, Expiring, JobView, answered, at_stage, first_done, next_by, next_cleaning, next_event, noted, noted_by}
+use Rattle.nl_cleaner.specs.Job.{Cleaning, Ended, Expiring, JobView, job_after_answer, at_stage, first_done, next_by, next_cleaning, next_event, job_after_reply, noted_by}
 use Rattle.nl_cleaner.specs.Laws.{TheOldestComesNext}
 use Rattle.nl_cleaner.specs.Plan.{AreTaken, Cleans, CleansOldest, IsOlder, IsPlanned, TakesOldest, clean_count, segments_by}
 use Rattle.nl_cleaner.proofs.Rounds.{none-some, some-is}
@@ -40,7 +40,7 @@ module _ (planned : Layout) where
 
   -- ---- a reply keeps the order
 
-  answered-in-order : (answer : Answer) (job : JobView) → InOrder job.left → InOrder (answered answer job).left
+  answered-in-order : (answer : Answer) (job : JobView) → InOrder job.left → InOrder (job_after_answer answer job).left
   answered-in-order (Freed count) job before = rest-in-order job.left before
   answered-in-order answer job before = before
 
@@ -56,10 +56,10 @@ module _ (planned : Layout) where
   noted-in-order Cleaning job (Err e) before = refused-in-order (ends_round e) job before
   noted-in-order Ended job reply before = before
 
-  all-in-order : (replies : List Reply) (job : JobView) → InOrder job.left → InOrder (fold noted job replies).left
+  all-in-order : (replies : List Reply) (job : JobView) → InOrder job.left → InOrder (fold job_after_reply job replies).left
   all-in-order [] job before = before
   all-in-order (reply ∷ replies) job before =
-      all-in-order replies (noted job reply) (noted-in-order job.stage job reply before)
+      all-in-order replies (job_after_reply job reply) (noted-in-order job.stage job reply before)
 
   in-order : (job : JobView) → IsPlanned planned job → InOrder job.left
   in-order job is =

@@ -8,16 +8,16 @@ use Rattle.nl_types.specs.declared.event.Event.TheVariants.{Expire, Move, Retire
 use Rattle.nl_types.specs.declared.reply.Answer.{Answer}
 use Rattle.nl_types.specs.Runs.{Run}
 use Rattle.nl_types.specs.Worlds.{Reply}
-use Rattle.nl_types.specs.PartialMaps.{is_one_of}
-use Rattle.nl_types.proofs.PartialMaps.{is_one_of-get_or}
+use Rattle.nl_types.specs.NumberLists.{is_one_of}
+use Rattle.nl_types.specs.Facts.PartialMaps.{is_one_of-get_or}
 use Rattle.nl_vstore.specs.Located.{needed_count}
 use Rattle.nl_reclaim.specs.Rounds.{IsRoundEvent, AreRoundEvents}
-use Rattle.nl_reclaim.proofs.Rounds.{rounds-leave-nothing-dead}
+use Rattle.nl_reclaim.specs.Facts.Rounds.{rounds-leave-nothing-dead}
 use Rattle.nl_core.specs.CleanedPens.{kept_store}
 use Rattle.nl_core.specs.CleanerViews.{cleaning_event}
 use Rattle.nl_core.specs.CleaningEvents.{needed_by}
 use Rattle.nl_core.specs.Layout.{Does, IsPen, Layout, unshared}
-use Rattle.nl_cleaner.specs.Job.{Cleaning, Expiring, JobView, Stepped, answered, next_by, next_event, noted, noted_by}
+use Rattle.nl_cleaner.specs.Job.{Cleaning, Expiring, JobView, Stepped, job_after_answer, next_by, next_event, job_after_reply, noted_by}
 use Rattle.nl_cleaner.specs.declared.job.Stage.{Stage}
 use Rattle.nl_cleaner.specs.Laws.{RoundsLeaveNothingDead}
 use Rattle.nl_cleaner.proofs.CleanRuns.{IsDone, move-is, same-needs}
@@ -41,32 +41,32 @@ record Cleaned (now period : ℕ) (before : List ℕ) (old : Layout) (new : JobV
   cleans : IsRoundEvent before (kept_store old) left (kept_store new.1)
 
 module _ (now period segment : ℕ) (rest : List ℕ) (old : Layout) (new : JobView × Layout) (answer : Answer) (held : IsPen old) where
-  moved : Does unshared old (Move segment 30 now) (Ok answer) new.1 → new.0 ≡ answered answer (cleaning now period (segment ∷ rest))
+  moved : Does unshared old (Move segment 30 now) (Ok answer) new.1 → new.0 ≡ job_after_answer answer (cleaning now period (segment ∷ rest))
       → Cleaned now period (segment ∷ rest) old new
   moved does is = record {
     left = segment ∷ rest;
-    job = is ∙ ap (λ (a : Answer). answered a (cleaning now period (segment ∷ rest))) does.touches.1.answer_is;
+    job = is ∙ ap (λ (a : Answer). job_after_answer a (cleaning now period (segment ∷ rest))) does.becomes.1.answer_is;
     cleans = inl (refl, old.lists.table.latest.number + 1, now, 30, move-is old new.1 segment 30 now answer held does);
   }
 
-  emptied : Does unshared old (Retire segment) (Ok answer) new.1 → new.0 ≡ answered answer (cleaning now period (segment ∷ rest))
+  emptied : Does unshared old (Retire segment) (Ok answer) new.1 → new.0 ≡ job_after_answer answer (cleaning now period (segment ∷ rest))
       → Cleaned now period (segment ∷ rest) old new
   emptied does is = record {
     left = rest;
-    job = is ∙ ap (λ (a : Answer). answered a (cleaning now period (segment ∷ rest))) does.touches.emptied.answer_is;
+    job = is ∙ ap (λ (a : Answer). job_after_answer a (cleaning now period (segment ∷ rest))) does.becomes.emptied.answer_is;
     cleans = inr (
       refl,
-      does.touches.emptied.count,
+      does.becomes.emptied.count,
       record {
-        needs = same-needs old new.1 does.touches.lists;
-        reclaimed = does.touches.emptied.reclaimed;
+        needs = same-needs old new.1 does.becomes.lists;
+        reclaimed = does.becomes.emptied.reclaimed;
         store = does.pen.sound.store;
       },
     );
   }
 
   by-count : (t : Bool) → (needed_count old.store (needed_by old.lists) segment == 0) ≡ t → (event : Event) → Some (cleaning_event old segment now) ≡ Some event
-      → Does unshared old event (Ok answer) new.1 → new.0 ≡ answered answer (cleaning now period (segment ∷ rest))
+      → Does unshared old event (Ok answer) new.1 → new.0 ≡ job_after_answer answer (cleaning now period (segment ∷ rest))
       → Cleaned now period (segment ∷ rest) old new
   by-count true h event next does is =
       moved-or (ap (λ (b : Bool). cond {A = Event} b (Retire segment) (Move segment 30 now)) h)
@@ -113,7 +113,7 @@ among left i (k, within, is) = subst (λ (n : ℕ). is_one_of left n ≡ true) i
 expiring-next : (job : JobView) (l : Layout) → job.stage ≡ Expiring → next_event job l ≡ Some (Expire job.moment job.period)
 expiring-next job l is = ap (λ (s : Stage). next_by s job l) is
 
-expired-job : (job : JobView) (answer : Answer) → job.stage ≡ Expiring → noted job (Ok answer) ≡ cleaning job.moment job.period job.left
+expired-job : (job : JobView) (answer : Answer) → job.stage ≡ Expiring → job_after_reply job (Ok answer) ≡ cleaning job.moment job.period job.left
 expired-job job answer is = ap (λ (s : Stage). noted_by s job (Ok answer)) is
 
 pub rounds-leave-nothing : RoundsLeaveNothingDead
@@ -125,7 +125,7 @@ rounds-leave-nothing job end old new (e ∷ es) (Ok answer ∷ rs) held stage di
     let does : Does unshared old (Expire job.moment job.period) (Ok answer) run.0.1 = subst (λ (x : Event). Does unshared old x (Ok answer) run.0.1) expire run.1.does in
     let all = all-events job.moment job.period job.left run.0.1 new run.0.0 end es rs does.pen (run.1.job ∙ expired-job job answer stage) run.2 (All-tail IsDone (Ok answer) rs oks) over in
     rounds-leave-nothing-dead all.0 (kept_store old) (kept_store run.0.1) (kept_store new) job.left held.sound.store
-    (λ i is. among job.left i (dirty i is)) does.touches.1 all.1
+    (λ i is. among job.left i (dirty i is)) does.becomes.1 all.1
 rounds-leave-nothing job end old new (e ∷ es) (Err x ∷ rs) held stage dirty run oks over = absurd (true≢false (sym (oks 0 (Err x) (omega arith))))
 rounds-leave-nothing job end old new [] (r ∷ rs) held stage dirty run oks over = absurd run
 rounds-leave-nothing job end old new (e ∷ es) [] held stage dirty run oks over = absurd run

@@ -13,16 +13,16 @@ use Rattle.nl_types.specs.declared.segment.SegmentState.TheVariants.{Active, Cle
 use Rattle.nl_types.specs.Segments.{IsClosed, Segments, clean_info, is_closed}
 use Rattle.nl_types.specs.Worlds.{Reply}
 use Rattle.nl_vstore.specs.Located.{needed_at, needed_count}
-use Rattle.nl_reclaim.specs.Cleaning.{judged, judged_by, judged_info}
+use Rattle.nl_reclaim.specs.Cleaning.{judged_segment, judged_by, judged_info}
 use Rattle.nl_reclaim.specs.Moves.{needed_now}
-use Rattle.nl_reclaim.proofs.Moves.{move-takes-first}
+use Rattle.nl_reclaim.specs.Facts.Moves.{move-takes-first}
 use Rattle.nl_core.specs.CleanedPens.{kept_store}
 use Rattle.nl_core.specs.CleanerViews.{cleaning_event}
 use Rattle.nl_core.specs.CleaningEvents.{needed_by}
 use Rattle.nl_core.specs.Layout.{AllowedBetween, Does, IsPen, Layout, layout_of}
 use Rattle.nl_core.specs.Volume.{without_mount}
 use Rattle.nl_protect.specs.Rounds.{ends_round}
-use Rattle.nl_cleaner.specs.Job.{Cleaning, Ended, Expiring, JobView, Stepped, answered, at_stage, cleaning_left, first_done, left_by, next_by, next_cleaning, next_event, noted, noted_by, steps_left}
+use Rattle.nl_cleaner.specs.Job.{Cleaning, Ended, Expiring, JobView, Stepped, job_after_answer, at_stage, cleaning_left, first_done, left_by, next_by, next_cleaning, next_event, job_after_reply, noted_by, steps_left}
 use Rattle.nl_cleaner.specs.declared.job.Stage.{Stage}
 use Rattle.nl_cleaner.specs.Laws.{StepsEndRounds, UnmountsLeaveRounds}
 use Rattle.nl_cleaner.proofs.ByCounts.{picked-few}
@@ -55,7 +55,7 @@ closed-by-state i = elim i.state as (λ s. IsOk (judged_by s i) → is_closed s 
   | Error ↦ λ h. absurd (true≢false (sym h))
 ]
 
-closed : (s : Segments) (segment : ℕ) → IsOk (judged s segment) → IsClosed s segment
+closed : (s : Segments) (segment : ℕ) → IsOk (judged_segment s segment) → IsClosed s segment
 closed s segment ok = by (slice_get s.each segment) refl ok
   where
     by : (o : Option SegmentInfo) → slice_get s.each segment ≡ o → IsOk (judged_info o) → IsClosed s segment
@@ -67,7 +67,7 @@ after-move : {allowed : AllowedBetween} (old new : Layout) (segment now : ℕ) (
     → Does allowed old (Move segment 30 now) (Ok answer) new → needed_of new segment ≡ needed_of old segment - 30
 after-move old new segment now answer held does =
     let first = move-takes-first segment (old.lists.table.latest.number + 1) now 30 (kept_store old) (kept_store new)
-    held.sound.store (closed old.store.segments segment does.touches.1.moved.judged) (move-is old new segment 30 now answer held does) in
+    held.sound.store (closed old.store.segments segment does.becomes.1.moved.judged) (move-is old new segment 30 now answer held does) in
     ap (λ (vs : List ℕ). length vs) first.needed ∙ length-drop 30 (needed_now (kept_store old) segment)
 
 -- ---- a step at the first segment that is left
@@ -96,21 +96,21 @@ module _ (allowed : AllowedBetween) (now period segment : ℕ) (rest : List ℕ)
           (sym (is ∙ ap (λ (b : Bool). cond {A = JobView} b (at_stage Ended here) (first_done here)) h)) (next-segment does.pen)
 
   moved : (answer : Answer) (job : JobView) → needed_of old segment ≢ 0 → Does allowed old (Move segment 30 now) (Ok answer) new
-      → job ≡ answered answer here → Fewer job new (cleaning_left (segment ∷ rest) old)
+      → job ≡ job_after_answer answer here → Fewer job new (cleaning_left (segment ∷ rest) old)
   moved answer job some does is =
-      let same : job ≡ here = is ∙ ap (λ (a : Answer). answered a here) does.touches.1.answer_is in
+      let same : job ≡ here = is ∙ ap (λ (a : Answer). job_after_answer a here) does.becomes.1.answer_is in
       let fewer : needed_of new segment ≡ needed_of old segment - 30 = after-move old new segment now answer held does in
       let there : Fewer here new (cleaning_left (segment ∷ rest) old) = omega (arith, fewer, some) in
       subst (λ (j : JobView). Fewer j new (cleaning_left (segment ∷ rest) old)) (sym same) there
 
   retired : (answer : Answer) (job : JobView) → Does allowed old (Retire segment) (Ok answer) new
-      → job ≡ answered answer here → Fewer job new (cleaning_left (segment ∷ rest) old)
+      → job ≡ job_after_answer answer here → Fewer job new (cleaning_left (segment ∷ rest) old)
   retired answer job does is =
-      let same : job ≡ cleaning now period rest = is ∙ ap (λ (a : Answer). answered a here) does.touches.emptied.answer_is in
+      let same : job ≡ cleaning now period rest = is ∙ ap (λ (a : Answer). job_after_answer a here) does.becomes.emptied.answer_is in
       subst (λ (j : JobView). Fewer j new (cleaning_left (segment ∷ rest) old)) (sym same) (next-segment does.pen)
 
   done : (event : Event) (answer : Answer) (job : JobView) → cleaning_event old segment now ≡ event → Does allowed old event (Ok answer) new
-      → job ≡ answered answer here → Fewer job new (cleaning_left (segment ∷ rest) old)
+      → job ≡ job_after_answer answer here → Fewer job new (cleaning_left (segment ∷ rest) old)
   done event answer job next does is = by (needed_of old segment == 0) refl
     where
       by : (t : Bool) → (needed_of old segment == 0) ≡ t → Fewer job new (cleaning_left (segment ∷ rest) old)
@@ -153,7 +153,7 @@ by-stage Cleaning before job old new event reply at held next does is =
 by-stage Ended before job old new event reply at held next does is = absurd (none-some event next)
 
 pub each-fewer : {allowed : AllowedBetween} (old new : JobView × Layout) (event : Event) (reply : Reply) → IsPen old.1
-    → next_event old.0 old.1 ≡ Some event → Does allowed old.1 event reply new.1 → new.0 ≡ noted old.0 reply
+    → next_event old.0 old.1 ≡ Some event → Does allowed old.1 event reply new.1 → new.0 ≡ job_after_reply old.0 reply
     → steps_left new.0 new.1 < steps_left old.0 old.1
 each-fewer old new event reply held next does is =
     by-stage old.0.stage old.0 new.0 old.1 new.1 event reply refl held next does is
@@ -180,5 +180,5 @@ given-back Ended job m l = refl
 
 pub unmounts-leave-rounds : UnmountsLeaveRounds
 unmounts-leave-rounds old new job m (Ok answer) held does =
-    ap (λ (l : Layout). steps_left job l) does.touches ∙ given-back job.stage job m old
-unmounts-leave-rounds old new job m (Err e) held does = ap (λ (l : Layout). steps_left job l) does.touches
+    ap (λ (l : Layout). steps_left job l) does.becomes ∙ given-back job.stage job m old
+unmounts-leave-rounds old new job m (Err e) held does = ap (λ (l : Layout). steps_left job l) does.becomes

@@ -11,7 +11,7 @@ use Rattle.nl_types.specs.declared.segment.SegmentState.{SegmentState}
 use Rattle.nl_types.specs.declared.segment.SegmentState.TheVariants.{Active, Clean, Dirty, Error}
 use Rattle.nl_types.specs.Segments.{clean_info, info_of}
 use Rattle.nl_core.specs.Layout.{Layout}
-use Rattle.nl_cleaner.specs.Choice.{AreChosen, AreFirst, Ascend, IsOlderCandidate, behind, candidates_in, segment_of}
+use Rattle.nl_cleaner.specs.Private.Choice.{AreChosen, AreFirst, Ascend, IsOlderCandidate, with_candidate, candidates_in, segment_of}
 use Rattle.nl_cleaner.specs.declared.choice.Candidate.{Candidate}
 use Rattle.nl_cleaner.specs.Plan.{AreVictims, IsOlder, Qualifies, candidate_by, candidate_in, is_dirty, reclaimable, stamp_in}
 
@@ -39,7 +39,7 @@ module _ (f : ℕ → Option Candidate) (own : (s : ℕ) (c : Candidate) → f s
       before : FoundAt n c → FoundAt (suc n) c
       before e = record { low = omega (arith, e.low); given = e.given }
 
-      by_given : (o : Option Candidate) → f n ≡ o → Contains (behind (candidates_in f n) o) c → (Contains (candidates_in f n) c → FoundAt n c) → FoundAt (suc n) c
+      by_given : (o : Option Candidate) → f n ≡ o → Contains (with_candidate (candidates_in f n) o) c → (Contains (candidates_in f n) c → FoundAt n c) → FoundAt (suc n) c
       by_given None is h earlier = before (earlier h)
       by_given (Some d) is h earlier = elim (Contains-append_cases (candidates_in f n) (d ∷ []) c h) [
         | inl left ↦ before (earlier left)
@@ -49,12 +49,12 @@ module _ (f : ℕ → Option Candidate) (own : (s : ℕ) (c : Candidate) → f s
   pub found-has : (n s : ℕ) (c : Candidate) → s < n → f s ≡ Some c → Contains (candidates_in f n) c
   found-has zero s c low is = absurd (omega arith)
   found-has (suc n) s c low is = elim (cases_eq s n) [
-    | inl same ↦ subst (λ (o : Option Candidate). Contains (behind (candidates_in f n) o) c) (sym (ap f (sym same) ∙ is))
+    | inl same ↦ subst (λ (o : Option Candidate). Contains (with_candidate (candidates_in f n) o) c) (sym (ap f (sym same) ∙ is))
         (Contains-append_right (candidates_in f n) (c ∷ []) c (0, omega arith, refl))
     | inr other ↦ later (f n) (found-has n s c (omega arith) is)
   ]
     where
-      later : (o : Option Candidate) → Contains (candidates_in f n) c → Contains (behind (candidates_in f n) o) c
+      later : (o : Option Candidate) → Contains (candidates_in f n) c → Contains (with_candidate (candidates_in f n) o) c
       later None h = h
       later (Some d) h = Contains-append_left (candidates_in f n) (d ∷ []) c h
 
@@ -72,7 +72,7 @@ module _ (f : ℕ → Option Candidate) (own : (s : ℕ) (c : Candidate) → f s
           let last : d.segment ≡ n = own n d is in
           omega (arith, there.low)
 
-      by_given : (o : Option Candidate) → f n ≡ o → Ascend (candidates_in f n) → Ascend (behind (candidates_in f n) o)
+      by_given : (o : Option Candidate) → f n ≡ o → Ascend (candidates_in f n) → Ascend (with_candidate (candidates_in f n) o)
       by_given None is up = up
       by_given (Some d) is up = all_pairs_push (λ a b. a.segment < b.segment) (candidates_in f n) d up (lower d is)
 

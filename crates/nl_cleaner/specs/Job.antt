@@ -46,28 +46,30 @@ at_stage stage job = record job { stage = stage }
 abbrev pub first_done : JobView → JobView
 first_done job = record job { left = drop 1 job.left }
 
-abbrev pub answered : Answer → JobView → JobView
-answered (Freed count) job = first_done job
-answered answer job = job
+abbrev pub job_after_answer : Answer → JobView → JobView
+job_after_answer (Freed count) job = first_done job
+job_after_answer answer job = job
 
 abbrev pub noted_by : Stage → JobView → Reply → JobView
 noted_by Expiring job (Ok answer) = at_stage Cleaning job
 noted_by Expiring job (Err e) = at_stage Ended job
-noted_by Cleaning job (Ok answer) = answered answer job
+noted_by Cleaning job (Ok answer) = job_after_answer answer job
 noted_by Cleaning job (Err e) = if ends_round e then at_stage Ended job else first_done job
 noted_by Ended job reply = job
 
--- A segment is done when it is retired, or when it can't be cleaned. Want of space or of memory and faults end the round.
-abbrev pub noted : JobView → Reply → JobView
-noted job reply = noted_by job.stage job reply
+-- A segment is done when it is retired, or when it can't be cleaned. Want of space or of memory and faults
+-- end the round.
+abbrev pub job_after_reply : JobView → Reply → JobView
+job_after_reply job reply = noted_by job.stage job reply
 
 -- ---- steps
 
 -- the next event was done or refused, and noted
-pub record Stepped (old : JobView × Layout) (event : Event) (reply : Reply) (new : JobView × Layout) : Type 0 where
+pub record Stepped (old : JobView × Layout) (event : Event) (reply : Reply)
+    (new : JobView × Layout) : Type 0 where
   pub next : next_event old.0 old.1 ≡ Some event
   pub does : Does unshared old.1 event reply new.1
-  pub job : new.0 ≡ noted old.0 reply
+  pub job : new.0 ≡ job_after_reply old.0 reply
 
 -- nothing is left of the round
 pub record IsOver (old new : JobView × Layout) : Type 0 where
@@ -76,15 +78,19 @@ pub record IsOver (old new : JobView × Layout) : Type 0 where
 
 -- ---- how many steps are left
 
--- One for each segment and one for each of its needed numbers, since a move that is done takes one out at least. A segment
--- that isn't begun counts as full: none has more than 2048 blocks.
+-- the most steps that a round has for a segment: a move for each of its 2,048 blocks, and its retirement
+abbrev pub segment_steps : ℕ
+segment_steps = 2049
+
+-- One for each segment and one for each of its needed numbers, since a move that is done takes one out at
+-- least. A segment that isn't begun counts as full.
 abbrev pub cleaning_left : List ℕ → Layout → ℕ
 cleaning_left [] l = 0
 cleaning_left (segment ∷ rest) l =
-    1 + needed_count l.store (needed_by l.lists) segment + length rest * 2049
+    1 + needed_count l.store (needed_by l.lists) segment + length rest * segment_steps
 
 abbrev pub left_by : Stage → JobView → Layout → ℕ
-left_by Expiring job l = 1 + length job.left * 2049
+left_by Expiring job l = 1 + length job.left * segment_steps
 left_by Cleaning job l = cleaning_left job.left l
 left_by Ended job l = 0
 

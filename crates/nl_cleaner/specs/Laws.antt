@@ -14,13 +14,13 @@ use Rattle.nl_core.specs.CleanedPens.{kept_store}
 use Rattle.nl_core.specs.CleaningEvents.{needed_by}
 use Rattle.nl_core.specs.Layout.{Does, IsPen, Layout, unshared}
 use Rattle.nl_core.specs.Notes.{shared}
-use Rattle.nl_cleaner.specs.Job.{Expiring, JobView, Stepped, next_event, noted, steps_left}
+use Rattle.nl_cleaner.specs.Job.{Expiring, JobView, Stepped, next_event, job_after_reply, steps_left}
 use Rattle.nl_cleaner.specs.Plan.{IsPlanned, TakesOldest}
 
 -- ---- the oldest comes next
 
--- Whatever was replied since a round was planned, and whatever was done on the pen beside it, what comes next is its expiry, or
--- cleans the oldest of the segments that are left.
+-- Whatever was replied since a round was planned, and whatever was done on the pen beside it, what comes next
+-- is its expiry, or cleans the oldest of the segments that are left.
 abbrev pub TheOldestComesNext : Type 0
 TheOldestComesNext =
     (planned now : Layout) (job : JobView) → IsPlanned planned job
@@ -32,7 +32,8 @@ TheOldestComesNext =
 abbrev pub AreMoves : (segment limit : ℕ) → List Event → Type 0
 AreMoves segment limit events = All (λ e. (now : ℕ) × (e ≡ Move segment limit now)) events
 
--- Where that many moves are done as the needed numbers of a dirty segment ask for, the segment can be retired, and is clean.
+-- Where that many moves are done as the needed numbers of a dirty segment ask for, the segment can be
+-- retired, and is clean.
 abbrev pub SegmentsComeClean : Type 0
 SegmentsComeClean =
     (segment limit : ℕ) (old mid new : Layout) (events : List Event) (replies : List Reply) (reply : Reply)
@@ -46,8 +47,8 @@ SegmentsComeClean =
 
 -- ---- nothing dead is left
 
--- A round that takes every dirty segment and is refused nothing leaves no number in use that isn't needed, but where its
--- page stands in a segment that was active or in error when the round began.
+-- A round that takes every dirty segment and is refused nothing leaves no number in use that isn't needed,
+-- but where its page stands in a segment that was active or in error when the round began.
 abbrev pub RoundsLeaveNothingDead : Type 0
 RoundsLeaveNothingDead =
     (job end : JobView) (old new : Layout) (events : List Event) (replies : List Reply)
@@ -59,12 +60,13 @@ RoundsLeaveNothingDead =
 
 -- ---- rounds end beside readers
 
--- Beside readers too, where memory may be refused to any event, each step of a round lowers the number of those that are left.
+-- Beside readers too, where memory may be refused to any event, each step of a round lowers the number of
+-- those that are left.
 abbrev pub StepsEndRounds : Type 0
 StepsEndRounds =
     (old new : JobView × Layout) (event : Event) (reply : Reply)
     → IsPen old.1 → next_event old.0 old.1 ≡ Some event
-    → Does shared old.1 event reply new.1 → new.0 ≡ noted old.0 reply
+    → Does shared old.1 event reply new.1 → new.0 ≡ job_after_reply old.0 reply
     → steps_left new.0 new.1 < steps_left old.0 old.1
 
 -- A mount that is given back between two steps, or whose give-back is refused, leaves as many.

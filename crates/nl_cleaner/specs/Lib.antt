@@ -1,4 +1,4 @@
-pub mod Choice
 pub mod Job
 pub mod Plan
 pub mod Laws
+pub mod Private

@@ -16,7 +16,7 @@ use Rattle.nl_core.specs.CleanerViews.{needed_after}
 use Rattle.nl_core.specs.Layout.{Layout}
 use Rattle.nl_core.specs.Volume.{boundary_in}
 use Rattle.nl_cleaner.specs.declared.choice.Candidate.{Candidate}
-use Rattle.nl_cleaner.specs.Job.{JobView, Expiring, noted}
+use Rattle.nl_cleaner.specs.Job.{JobView, Expiring, job_after_reply}
 
 -- ---- what a configuration asks of a pen
 
@@ -46,7 +46,8 @@ most_taken l config = if is_urgent l config then config.mc_nsegments_per_clean e
 -- how many blocks of a segment are to be freed at least
 abbrev pub least_freed : Layout → Config → ℕ
 least_freed l config =
-    if is_urgent l config then blocks_by config.mc_min_reclaimable_blocks l else blocks_by config.min_reclaimable_blocks l
+    if is_urgent l config then blocks_by config.mc_min_reclaimable_blocks l
+    else blocks_by config.min_reclaimable_blocks l
 
 -- ---- segments
 
@@ -94,8 +95,8 @@ pub record AreVictims (l : Layout) (below least most : ℕ) (victims : List ℕ)
   pub rest : (segment : ℕ) → Qualifies l below least segment
       → Contains victims segment ⊎ ((length victims ≡ most) × All (λ v. IsOlder l v segment) victims)
 
--- Where enough segments are clean none is taken, and else the oldest of those that qualify. What the expiry of this moment
--- will remove is taken as gone.
+-- Where enough segments are clean none is taken, and else the oldest of those that qualify. What the expiry
+-- of this moment will remove is taken as gone.
 pub record AreTaken (l : Layout) (config : Config) (now : ℕ) (segments : List ℕ) : Type 0 where
   pub none : segments_by config.max_clean_segments l ≤ clean_count l → segments ≡ []
   pub some : clean_count l < segments_by config.max_clean_segments l
@@ -118,7 +119,7 @@ pub record IsPlanned (planned : Layout) (job : JobView) : Type 0 where
   pub begun : JobView
   pub replies : List Reply
   pub plan : IsPlan planned config now begun
-  pub since : job ≡ fold noted begun replies
+  pub since : job ≡ fold job_after_reply begun replies
 
 -- it moves pages out of the segment, or retires it
 abbrev pub Cleans : ℕ → Event → Type 0

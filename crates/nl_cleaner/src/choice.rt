@@ -1,7 +1,7 @@
 //! Which of the segments that may be cleaned are chosen.
 ghost use Rattle.std.specs.Prelude.{◌≡◌, IfOk, map};
 ghost use Rattle.std.specs.List.Sorted.{IsPermutation};
-ghost use Rattle.nl_cleaner.specs.Choice.{AreFirst, AreChosen, Ascend, InOrder, behind, segment_of};
+ghost use Rattle.nl_cleaner.specs.Private.Choice.{AreFirst, AreChosen, Ascend, InOrder, with_candidate, segment_of};
 
 use nl_types::Segment;
 use std::alloc::{AllocError, Global};
@@ -18,7 +18,7 @@ pub fn push_found(
     found: &mut Vec<Candidate>,
     candidate: Option<Candidate>,
 ) -> Result<(), AllocError>
-    ensures { IfOk result (λ _. found.new.items ≡ behind found.old.items candidate) }
+    ensures { IfOk result (λ _. found.new.items ≡ with_candidate found.old.items candidate) }
 {
     match candidate {
         Some(candidate) => {
@@ -29,7 +29,8 @@ pub fn push_found(
     }
 }
 
-/// The candidates by age, the oldest first. They come by their numbers, which rise, and those of one age keep that order.
+/// The candidates by age, the oldest first. They come by their numbers, which rise, and those of one age keep
+/// that order.
 fn by_age(mut found: Vec<Candidate>) -> Result<Vec<Candidate>, AllocError>
     requires { Ascend found.items }
     ensures order { IfOk result (λ sorted. InOrder sorted.items) }

@@ -1,7 +1,7 @@
 //! A round of cleaning as a machine: one event of the pen at a time.
 ghost use Rattle.std.specs.Prelude.{◌≡◌, ◌<◌, MatchOption, OnSome};
 ghost use Rattle.nl_types.specs.declared.event.Event.{Event};
-ghost use Rattle.nl_cleaner.specs.Job.{IsOver, Stepped, next_event, noted, steps_left};
+ghost use Rattle.nl_cleaner.specs.Job.{IsOver, Stepped, next_event, job_after_reply, steps_left};
 
 use nl_core::Pen;
 use nl_device::Device;
@@ -19,8 +19,8 @@ pub enum Stage {
     Ended,
 }
 
-/// A round of cleaning, as `plan` makes it: the expiry of a moment, and then moves out of each of some segments and its
-/// retirement.
+/// A round of cleaning, as `plan` makes it: the expiry of a moment, and then moves out of each of some
+/// segments and its retirement.
 #[derive(Drop)]
 pub struct Job {
     stage: Stage,
@@ -36,7 +36,8 @@ impl Model for Job {
 
     ghost Value = { JobView };
 
-    ghost view = { λ j. record { stage = j.stage; moment = j.moment; period = j.period; left = drop j.done j.victims.items } };
+    ghost view = { λ j. record
+        { stage = j.stage; moment = j.moment; period = j.period; left = drop j.done j.victims.items } };
 }
 
 impl Job {
@@ -55,9 +56,9 @@ impl Job {
         }
     }
 
-    /// The event that comes next on this pen: the expiry, and then moves out of the oldest of the segments that are left and its
-    /// retirement. None where the round is over. It only looks: whoever does the event hands the reply to `note`, and no other
-    /// event's, before asking again; `step` does both on a pen alone.
+    /// The event that comes next on this pen: the expiry, and then moves out of the oldest of the segments
+    /// that are left and its retirement. None where the round is over. It only looks: whoever does the event
+    /// hands the reply to `note`, and no other event's, before asking again; `step` does both on a pen alone.
     pub fn next<D: Device>(&self, pen: &Pen<D>) -> Option<Event>
         ensures { result ≡ next_event self.now pen.now }
     {
@@ -83,10 +84,11 @@ impl Job {
         }
     }
 
-    /// Takes note of the reply to the event that came next. A refused expiry ends the round, and so does want of
-    /// numbers, of space or of memory, or a fault; a retirement and any other refusal bring the next segment.
+    /// Takes note of the reply to the event that came next. A refused expiry ends the round, and so does want
+    /// of numbers, of space or of memory, or a fault; a retirement and any other refusal bring the next
+    /// segment.
     pub fn note(&mut self, reply: &Reply)
-        ensures { self.new ≡ noted self.old reply.now }
+        ensures { self.new ≡ job_after_reply self.old reply.now }
     {
         match (self.stage, reply) {
             (Stage::Expiring, Ok(_)) => self.stage = Stage::Cleaning,
@@ -104,9 +106,9 @@ impl Job {
         }
     }
 
-    /// Does the next event of the round, and answers the pen's reply to it; None where the round is over. A refusal for want
-    /// of numbers, of space or of memory, or for a fault ends the round; where a segment can't be cleaned, it goes on to the
-    /// next one.
+    /// Does the next event of the round, and answers the pen's reply to it; None where the round is over. A
+    /// refusal for want of numbers, of space or of memory, or for a fault ends the round; where a segment
+    /// can't be cleaned, it goes on to the next one.
     pub fn step<D: Device>(&mut self, pen: &mut Pen<D>) -> Option<Reply>
         ensures stepped { MatchOption result (IsOver (self.old, pen.old) (self.new, pen.new))
             (λ reply. (event : Event) × Stepped (self.old, pen.old) event reply (self.new, pen.new)) }

@@ -1,4 +1,5 @@
-//! The cleaner, after nilfs_cleanerd: it plans rounds of cleaning by a configuration, and takes a round event by event.
+//! The cleaner, after nilfs_cleanerd: it plans rounds of cleaning by a configuration, and takes a round event
+//! by event.
 #![tactic(auto)]
 
 mod choice;

@@ -3,7 +3,7 @@ ghost use Rattle.std.specs.Prelude.{◌≡◌, ℕ, ◌-◌, ◌<◌, ◌&&◌, 
 ghost use Rattle.nl_types.specs.Segments.{info_of};
 ghost use Rattle.nl_core.specs.CleanerViews.{counts_after};
 ghost use Rattle.nl_core.specs.Volume.{boundary_in};
-ghost use Rattle.nl_cleaner.specs.Choice.{candidates_in};
+ghost use Rattle.nl_cleaner.specs.Private.Choice.{candidates_in};
 ghost use Rattle.nl_cleaner.specs.Plan as asked;
 ghost use Rattle.nl_cleaner.specs.Plan.{AreTaken, AreVictims, IsPlan, candidate_by, candidate_in, is_dirty};
 
@@ -96,7 +96,8 @@ fn if_enough(segment: Segment, info: SegmentInfo, least: u64, reclaimable: u64) 
     }
 }
 
-/// Whether a segment is dirty, and has enough used blocks over the needed ones. No other one qualifies: what has payload is used.
+/// Whether a segment is dirty, and has enough used blocks over the needed ones. No other one qualifies: what
+/// has payload is used.
 fn may_qualify(info: SegmentInfo, needed: u32, least: u64) -> bool
     ensures { result ≡ (is_dirty info.state && nat_le least (info.used - needed)) }
 {
@@ -176,8 +177,8 @@ fn victims<D: Device>(
     choose(alloc, found, most)
 }
 
-/// The oldest segments that qualify by a configuration, with what expires at this moment taken as gone. Refused by `Memory`
-/// alone.
+/// The oldest segments that qualify by a configuration, with what expires at this moment taken as gone.
+/// Refused by `Memory` alone.
 fn oldest_asked<D: Device>(
     alloc: Global,
     pen: &Pen<D>,
@@ -211,9 +212,9 @@ fn taken<D: Device>(
     oldest_asked(alloc, pen, config, now)
 }
 
-/// The round of cleaning that a configuration asks for at a moment: the expiry, and the segments to clean after it. It changes
-/// nothing, and looks at each block of those dirty segments alone of which enough used blocks are not needed. Refused by
-/// `Memory` alone.
+/// The round of cleaning that a configuration asks for at a moment: the expiry, and the segments to clean
+/// after it. It changes nothing, and looks at each block of those dirty segments alone of which enough used
+/// blocks are not needed. Refused by `Memory` alone.
 pub fn plan<D: Device>(
     alloc: Global,
     pen: &Pen<D>,

@@ -1,6 +1,7 @@
 -- A text is parted into words in one way.
-use Rattle.std.proofs.Common.{arith, ℕ, suc, ◌≡◌, ◌≢◌, ◌⊎◌, true, false, true≢false, List, [], ◌∷◌, ◌++◌, drop, map, slice_index, All, Bor, inl, inr, ap, refl, sym, subst, ◌∙◌}
-use Rattle.nl_commands.specs.Splitting.{is_blank, IsOpen, IsQuotedWord, IsFirstWord, IsTrimmed, BeginsWith}
+use Rattle.std.proofs.Common.{arith, ℕ, suc, ◌≡◌, ◌≢◌, ◌⊎◌, true, false, true≢false, List, [], ◌∷◌, ◌++◌, drop, slice_index, All, inl, inr, ap, refl, sym, subst, ◌∙◌}
+use Rattle.nl_types.specs.Characters.{is_blank}
+use Rattle.nl_commands.specs.Splitting.{IsOpen, IsQuotedWord, IsFirstWord, IsTrimmed, BeginsWith}
 
 -- ---- a list that is cut at the first element that is not inside
 
@@ -99,18 +100,18 @@ one_trimmed text rest end is also =
 -- ---- words one after another
 
 abbrev Words : Type 0
-Words = List (Bor (List ℕ))
+Words = List (List ℕ)
 
 pub one_list : (words others : Words) (text rest end : List ℕ) → BeginsWith text words rest → IsTrimmed rest [] → BeginsWith text others end → IsTrimmed end []
-    → map (λ word. word.now) words ≡ map (λ word. word.now) others
+    → words ≡ others
 one_list [] [] text rest end begins ends also stops = refl
 one_list [] (o ∷ os) text rest end begins ends also stops = absurd (also.3 (one_trimmed text also.0 [] also.2 (subst (λ t. IsTrimmed t []) begins ends)))
 one_list (w ∷ ws) [] text rest end begins ends also stops = absurd (begins.3 (one_trimmed text begins.0 [] begins.2 (subst (λ t. IsTrimmed t []) also stops)))
 one_list (w ∷ ws) (o ∷ os) text rest end begins ends also stops =
     let start : begins.0 ≡ also.0 = one_trimmed text begins.0 also.0 begins.2 also.2 in
-    let first = one_first also.0 w.now begins.1 o.now also.1 (subst (λ t. IsFirstWord t w.now begins.1) start begins.4) also.4 in
+    let first = one_first also.0 w begins.1 o also.1 (subst (λ t. IsFirstWord t w begins.1) start begins.4) also.4 in
     let more = one_list ws os also.1 rest end (subst (λ t. BeginsWith t ws rest) first.1 begins.5) ends also.5 stops in
-    ap (λ x. x ∷ map (λ word. word.now) ws) first.0 ∙ ap (λ xs. o.now ∷ xs) more
+    ap (λ x. x ∷ ws) first.0 ∙ ap (λ xs. o ∷ xs) more
 
 no_word_opens : (text start : List ℕ) → IsTrimmed text [] → IsTrimmed text start → IsOpen start → ⊥
 no_word_opens text start empty trimmed opens =
@@ -125,8 +126,8 @@ open_has_none [] (o ∷ os) text rest left start begins ends also trimmed opens 
     also.3 (one_trimmed text also.0 [] also.2 (subst (λ t. IsTrimmed t []) begins ends))
 open_has_none (w ∷ ws) [] text rest left start begins ends also trimmed opens =
     let equal : begins.0 ≡ start = one_trimmed text begins.0 start begins.2 (subst (λ t. IsTrimmed t start) also trimmed) in
-    open_has_no_first start w.now begins.1 opens (subst (λ t. IsFirstWord t w.now begins.1) equal begins.4)
+    open_has_no_first start w begins.1 opens (subst (λ t. IsFirstWord t w begins.1) equal begins.4)
 open_has_none (w ∷ ws) (o ∷ os) text rest left start begins ends also trimmed opens =
     let equal : begins.0 ≡ also.0 = one_trimmed text begins.0 also.0 begins.2 also.2 in
-    let first = one_first also.0 w.now begins.1 o.now also.1 (subst (λ t. IsFirstWord t w.now begins.1) equal begins.4) also.4 in
+    let first = one_first also.0 w begins.1 o also.1 (subst (λ t. IsFirstWord t w begins.1) equal begins.4) also.4 in
     open_has_none ws os also.1 rest left start (subst (λ t. BeginsWith t ws rest) first.1 begins.5) ends also.5 trimmed opens

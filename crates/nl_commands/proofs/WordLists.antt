@@ -1,29 +1,29 @@
 -- Words that are read one after another.
 use Rattle.std.proofs.Common.{◌≡◌, ◌∙◌, ◌++◌, ◌+◌, ◌<◌, ℕ, ap, refl, sym, append_assoc, add-one, drop-cons, List, [], ◌∷◌, length, map, drop, get_or, Bor, Result, Ok, Err}
 use Rattle.clap.specs.Words.{Text}
+use Rattle.nl_types.specs.Calls.{and_then}
 use Rattle.nl_commands.specs.declared.error.LineError.{LineError}
 use Rattle.nl_commands.specs.GivenOperands.{each_in}
-use Rattle.nl_commands.specs.Outcomes.{after}
 
 -- what the items so far and those of the words that are left come to
 abbrev pub behind : {A : Type 0} → List A → Result (List A) LineError → Result (List A) LineError
 behind before (Ok items) = Ok (before ++ items)
 behind before (Err e) = Err e
 
-moved : {A : Type 0} (before : List A) (item : A) (rest : Result (List A) LineError) → behind before (after rest (λ items. Ok (item ∷ items))) ≡ behind (before ++ item ∷ []) rest
+moved : {A : Type 0} (before : List A) (item : A) (rest : Result (List A) LineError) → behind before (and_then rest (λ items. Ok (item ∷ items))) ≡ behind (before ++ item ∷ []) rest
 moved before item (Ok items) = ap (λ xs. Ok xs) (sym (append_assoc before (item ∷ []) items))
 moved before item (Err e) = refl
 
 pub one_more : {A : Type 0} (read : Text → Result A LineError) (word : Text) (words : List Text) (before : List A) (item : A) → read word ≡ Ok item
     → behind before (each_in read (word ∷ words)) ≡ behind (before ++ item ∷ []) (each_in read words)
 one_more {A} read word words before item is =
-    ap (λ (r : Result A LineError). behind before (after r (λ x. after (each_in read words) (λ xs. Ok (x ∷ xs))))) is
+    ap (λ (r : Result A LineError). behind before (and_then r (λ x. and_then (each_in read words) (λ xs. Ok (x ∷ xs))))) is
     ∙ moved before item (each_in read words)
 
 pub none_more : {A : Type 0} (read : Text → Result A LineError) (word : Text) (words : List Text) (before : List A) (e : LineError) → read word ≡ Err e
     → behind before (each_in read (word ∷ words)) ≡ Err e
 none_more {A} read word words before e is =
-    ap (λ (r : Result A LineError). behind before (after r (λ x. after (each_in read words) (λ xs. Ok (x ∷ xs))))) is
+    ap (λ (r : Result A LineError). behind before (and_then r (λ x. and_then (each_in read words) (λ xs. Ok (x ∷ xs))))) is
 
 -- what `get_or` reads past the end of a list of words
 abbrev pub no_word : Bor Text

@@ -8,7 +8,8 @@ use Rattle.std.proofs.lemmas.Bool.Decides.{nat_tests, leb_tells}
 use Rattle.std.specs.Str.{NoCharPasses}
 use Rattle.std.specs.Char.{char_set_contains, encode_utf8, IsScalar}
 use Rattle.std.specs.Str.Pattern.{FindsBy, FindsPrefixBy, SplitsAroundMatch, CutsPrefixes, IsTrimStartMatches}
-use Rattle.nl_commands.specs.Splitting.{is_blank, IsQuotedWord, IsOpen, IsPlainWord, IsFirstWord, IsTrimmed, BeginsWith}
+use Rattle.nl_types.specs.Characters.{is_blank}
+use Rattle.nl_commands.specs.Splitting.{IsQuotedWord, IsOpen, IsPlainWord, IsFirstWord, IsTrimmed, BeginsWith}
 
 -- ---- a quoted word
 
@@ -39,6 +40,10 @@ quoted_result text quoted (Some p) e h =
 
 -- ---- a plain word
 
+-- std's pattern of the two blanks is of these bytes
+blank_set : (c : ℕ) → char_set_contains (32 ∷ 9 ∷ []) c ≡ is_blank c
+blank_set c = grind (arith, nat_tests)
+
 low_blank : (c : ℕ) → is_blank c ≡ true → c < 128
 low_blank c e = grind (arith, nat_tests)
 
@@ -61,7 +66,7 @@ FindsBlank text r = (k : ℕ → Bool) → ((c : ℕ) → char_set_contains (32 
 
 before_blank : (text word rest : List ℕ) → SplitsAroundMatch FindsBlank text word rest → IsPlainWord text word rest
 before_blank text word rest h =
-    let found : FindsBy is_blank text (Some (h.0, h.1)) = h.2 is_blank (λ c. refl) in
+    let found : FindsBy is_blank text (Some (h.0, h.1)) = h.2 is_blank blank_set in
     let cut : drop h.0 text ≡ found.1.0 ∷ drop h.1 text = drop_at_char found.1.0 text h.0 h.1 found.1.2 (low_blank found.1.0 found.1.1) in
     let joined : take h.0 text ++ drop h.0 text ≡ text = take-append-drop h.0 text in
     record {
@@ -74,7 +79,7 @@ pub plain_result : (text : List ℕ) (r : Option (Bor (List ℕ) × Bor (List �
     → MatchOption r (FindsBlank text None) (λ x. SplitsAroundMatch FindsBlank text x.0.now x.1.now)
     → IsPlainWord text (unwrap_or r (all, none)).0.now (unwrap_or r (all, none)).1.now
 plain_result text None all none e f h =
-    subst (λ w. IsPlainWord text w none.now) (sym e) (subst (λ t. IsPlainWord text text t) (sym f) (all_plain text (h is_blank (λ c. refl))))
+    subst (λ w. IsPlainWord text w none.now) (sym e) (subst (λ t. IsPlainWord text text t) (sym f) (all_plain text (h is_blank blank_set)))
 plain_result text (Some x) all none e f h = before_blank text x.0.now x.1.now h
 
 -- ---- a plain word that no tab ends
@@ -105,7 +110,7 @@ BlankAtHead text r = (k : ℕ → Bool) → ((c : ℕ) → char_set_contains (32
 
 -- a text without the blank that begins it
 blank_first : (text : List ℕ) (n : ℕ) → BlankAtHead text (Some n) → (blank : ℕ) × (is_blank blank ≡ true) × (text ≡ blank ∷ drop n text)
-blank_first text n h = let found = h is_blank (λ c. refl) in (found.0, found.1, drop_at_char found.0 text 0 n found.2 (low_blank found.0 found.1))
+blank_first text n h = let found = h is_blank blank_set in (found.0, found.1, drop_at_char found.0 text 0 n found.2 (low_blank found.0 found.1))
 
 cut_blanks : (text : List ℕ) (ns : List ℕ) (rest : List ℕ) → CutsPrefixes BlankAtHead text ns rest → (blanks : List ℕ) × (text ≡ blanks ++ rest) × All (λ byte. is_blank byte ≡ true) blanks
 cut_blanks text [] rest h = ([], sym h, All-nil (λ byte. is_blank byte ≡ true))
@@ -128,7 +133,7 @@ no_blank_first : (text : List ℕ) → BlankAtHead text None → is_blank (slice
 unfolding encode_utf8
 no_blank_first [] h = refl
 no_blank_first (b ∷ bs) h =
-    let at : (c : ℕ) → IsScalar c → b ∷ bs ≡ encode_utf8 c ++ bs → is_blank c ≡ false = λ c. h is_blank (λ d. refl) c bs in
+    let at : (c : ℕ) → IsScalar c → b ∷ bs ≡ encode_utf8 c ++ bs → is_blank c ≡ false = λ c. h is_blank blank_set c bs in
     not_true (is_blank b) (λ yes. ⊎_elim (λ e. ap is_blank e ∙ at 32 refl (ap (λ x. x ∷ bs) e)) (λ e. ap is_blank e ∙ at 9 refl (ap (λ x. x ∷ bs) e)) (blank_is b yes))
 
 trimmed_ends : (rest : List ℕ) (o : Option ℕ) → BlankAtHead rest o → IfSome o (λ n. n ≡ 0) → is_blank (slice_index rest 0) ≡ false
@@ -143,7 +148,7 @@ trimmed_result text rest h =
 
 -- ---- words one after another
 
-pub BeginsWith-push : (text : List ℕ) (words : List (Bor (List ℕ))) (rest start behind : List ℕ) (word : Bor (List ℕ)) → BeginsWith text words rest → IsTrimmed rest start → start ≢ [] → IsFirstWord start word.now behind
+pub BeginsWith-push : (text : List ℕ) (words : List (List ℕ)) (rest start behind word : List ℕ) → BeginsWith text words rest → IsTrimmed rest start → start ≢ [] → IsFirstWord start word behind
     → BeginsWith text (words ++ word ∷ []) behind
 BeginsWith-push text [] rest start behind word begins trimmed some first = (start, behind, subst (λ t. IsTrimmed t start) begins trimmed, some, first, refl)
 BeginsWith-push text (w ∷ words) rest start behind word begins trimmed some first =

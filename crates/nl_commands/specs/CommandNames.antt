@@ -1,7 +1,9 @@
 -- The names of the commands, and what each asks for with the words behind it.
 use Rattle.std.specs.Prelude.{if◌then◌else◌, List, [], ◌∷◌, codes, Option, None, Some, Result, Ok, Err}
+use Rattle.std.specs.Option.{option_or}
 use Rattle.std.specs.Str.{bytes_eq}
 use Rattle.clap.specs.Words.{Row, Rule, Text}
+use Rattle.nl_types.specs.Calls.{and_then}
 use Rattle.nl_commands.specs.declared.command.Command.{Command}
 use Rattle.nl_commands.specs.declared.command.Command.TheVariants.{Clean}
 use Rattle.nl_commands.specs.declared.command.Shown.TheVariants.{Content, Names, Kind}
@@ -14,15 +16,25 @@ use Rattle.nl_commands.specs.CheckpointCommands.{at_given, at_rules, chcp_given,
 use Rattle.nl_commands.specs.FileCommands.{create_given, fill_given, mkdir_given, mv_given, operands_rules, path_rules}
 use Rattle.nl_commands.specs.FileCommands.{rm_given, rmdir_given, truncate_given, write_given}
 use Rattle.nl_commands.specs.Grammars.{grammar, parsed}
-use Rattle.nl_commands.specs.Outcomes.{after}
 use Rattle.nl_commands.specs.SegmentCommands.{lssu_given, lssu_rules, mount_given, mount_rules, resize_given, resize_rules, umount_given, umount_rules}
 
-abbrev pub asking_name : Text → Option CommandName
-asking_name word =
-    if bytes_eq word (codes "cat") then Some name.Cat else (
-    if bytes_eq word (codes "catm") then Some name.Catm else (
-    if bytes_eq word (codes "ls") then Some name.Ls else (
-    if bytes_eq word (codes "stat") then Some name.Stat else None)))
+-- ---- names, by what the commands are on
+
+abbrev pub checkpoint_name : Text → Option CommandName
+checkpoint_name word =
+    if bytes_eq word (codes "at") then Some name.At else (
+    if bytes_eq word (codes "mkcp") then Some name.Mkcp else (
+    if bytes_eq word (codes "chcp") then Some name.Chcp else (
+    if bytes_eq word (codes "lscp") then Some name.Lscp else (
+    if bytes_eq word (codes "rmcp") then Some name.Rmcp else None))))
+
+abbrev pub segment_name : Text → Option CommandName
+segment_name word =
+    if bytes_eq word (codes "lssu") then Some name.Lssu else (
+    if bytes_eq word (codes "clean") then Some name.Clean else (
+    if bytes_eq word (codes "mount") then Some name.Mount else (
+    if bytes_eq word (codes "umount") then Some name.Umount else (
+    if bytes_eq word (codes "resize") then Some name.Resize else None))))
 
 abbrev pub file_name : Text → Option CommandName
 file_name word =
@@ -33,24 +45,20 @@ file_name word =
     if bytes_eq word (codes "mv") then Some name.Mv else (
     if bytes_eq word (codes "write") then Some name.Write else (
     if bytes_eq word (codes "fill") then Some name.Fill else (
-    if bytes_eq word (codes "truncate") then Some name.Truncate else asking_name word)))))))
+    if bytes_eq word (codes "truncate") then Some name.Truncate else None)))))))
 
-abbrev pub segment_name : Text → Option CommandName
-segment_name word =
-    if bytes_eq word (codes "lssu") then Some name.Lssu else (
-    if bytes_eq word (codes "clean") then Some name.Clean else (
-    if bytes_eq word (codes "mount") then Some name.Mount else (
-    if bytes_eq word (codes "umount") then Some name.Umount else (
-    if bytes_eq word (codes "resize") then Some name.Resize else file_name word))))
+abbrev pub asking_name : Text → Option CommandName
+asking_name word =
+    if bytes_eq word (codes "cat") then Some name.Cat else (
+    if bytes_eq word (codes "catm") then Some name.Catm else (
+    if bytes_eq word (codes "ls") then Some name.Ls else (
+    if bytes_eq word (codes "stat") then Some name.Stat else None)))
 
 -- the command that a word names
 abbrev pub command_name : Text → Option CommandName
 command_name word =
-    if bytes_eq word (codes "at") then Some name.At else (
-    if bytes_eq word (codes "mkcp") then Some name.Mkcp else (
-    if bytes_eq word (codes "chcp") then Some name.Chcp else (
-    if bytes_eq word (codes "lscp") then Some name.Lscp else (
-    if bytes_eq word (codes "rmcp") then Some name.Rmcp else segment_name word))))
+    option_or (checkpoint_name word)
+    (option_or (segment_name word) (option_or (file_name word) (asking_name word)))
 
 -- what a command may be given
 abbrev pub rules_of : CommandName → List Rule
@@ -104,7 +112,7 @@ command_given name.Stat rows = show_given Kind rows
 
 -- what it asks for with the words behind the one that names it
 abbrev pub named_meant : CommandName → Text → List Text → Result Command LineError
-named_meant name word words = after (parsed (grammar word (rules_of name)) words) (command_given name)
+named_meant name word words = and_then (parsed (grammar word (rules_of name)) words) (command_given name)
 
 abbrev pub meant_if_named : Option CommandName → Text → List Text → Result Command LineError
 meant_if_named None word words = Err Usage

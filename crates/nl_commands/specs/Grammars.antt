@@ -7,15 +7,20 @@ use Rattle.clap.specs.declared.builder.action.ArgAction.{ArgAction}
 use Rattle.clap.specs.declared.builder.action.ArgAction.TheVariants.{Set, Append, SetTrue}
 use Rattle.clap.specs.declared.parser.matches.ValueSource.{ValueSource}
 use Rattle.clap.specs.declared.parser.matches.ValueSource.TheVariants.{DefaultValue, CommandLine}
+use Rattle.nl_types.specs.Calls.{IsUnless}
 use Rattle.nl_commands.specs.declared.error.LineError.{LineError}
-use Rattle.nl_commands.specs.declared.error.LineError.TheVariants.{Usage}
+use Rattle.nl_commands.specs.declared.error.LineError.TheVariants.{Usage, Memory}
 use Rattle.nl_commands.specs.declared.grammar.Argument.{Argument}
 use Rattle.nl_commands.specs.declared.grammar.Argument.TheVariants.{Flag, Value, Operand, Operands}
-use Rattle.nl_commands.specs.Outcomes.{IsUnlessMemory}
 
 abbrev pub rule : (id : Text) → (short : Option ℕ) → (is_required : Bool) → ArgAction → Rule
 rule id short is_required action =
     record (new_rule id) { short = short; required = is_required; action = Some action }
+
+-- the letter that a text begins with
+abbrev pub letter : Text → ℕ
+letter [] = 0
+letter (b ∷ text) = b
 
 -- an option that is there or not
 abbrev pub flag_rule : Text → ℕ → Rule
@@ -47,7 +52,8 @@ with_rules app [] = app
 with_rules app (r ∷ rest) = with_rules (with_rule app r) rest
 
 abbrev pub bare_grammar : Text → App
-bare_grammar name = record { top = record (new_shape name) { no_binary_name = true; disable_help_flag = true }; subs = [] }
+bare_grammar name =
+    record { top = record (new_shape name) { no_binary_name = true; disable_help_flag = true }; subs = [] }
 
 abbrev pub grammar : Text → List Rule → App
 grammar name rules = with_rules (bare_grammar name) rules
@@ -58,19 +64,21 @@ is_readable app = is_simple_and_free app
 -- a lone hyphen stands before the end of the options
 abbrev pub has_hyphen : List Text → Bool
 has_hyphen [] = false
-has_hyphen (word ∷ words) = not (bytes_eq word (codes "--")) && (bytes_eq word (codes "-") || has_hyphen words)
+has_hyphen (word ∷ words) =
+    not (bytes_eq word (codes "--")) && (bytes_eq word (codes "-") || has_hyphen words)
 
 abbrev pub unless_fault : {A : Type 0} → Kinds → Result A LineError → Result A LineError
 unless_fault [] r = r
 unless_fault (k ∷ kinds) r = Err Usage
 
 abbrev pub parsed : App → List Text → Result (List Row) LineError
-parsed app words = cond (has_hyphen words) (Err Usage) (unless_fault (fault_of app words) (Ok (matches_of app words)))
+parsed app words =
+    cond (has_hyphen words) (Err Usage) (unless_fault (fault_of app words) (Ok (matches_of app words)))
 
 -- the result is what the words give by a readable grammar, where memory was not refused
 abbrev pub Reads : Text → List Rule → List Text → Result (List Row) LineError → Type 0
 Reads name rules words result =
-    is_readable (grammar name rules) ≡ true → IsUnlessMemory result (parsed (grammar name rules) words)
+    is_readable (grammar name rules) ≡ true → IsUnless Memory result (parsed (grammar name rules) words)
 
 -- ---- what was given
 

@@ -7,7 +7,6 @@ pub mod Grammars
 pub mod Kinds
 pub mod LineMeanings
 pub mod NumberWords
-pub mod Outcomes
 pub mod RangeWords
 pub mod SegmentCommands
 pub mod Splitting

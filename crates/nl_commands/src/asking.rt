@@ -1,7 +1,7 @@
 //! Commands that show what is at a path: what they may be given, and what they ask for then. Their
 //! errors: `Usage` where a word is not of its kind, and `Memory`.
+ghost use Rattle.nl_types.specs.Calls.{IsUnless};
 ghost use Rattle.nl_commands.specs.AskingCommands.{catm_given, show_given};
-ghost use Rattle.nl_commands.specs.Outcomes.{IsUnlessMemory};
 
 use crate::command::{Command, Shown};
 use crate::error::LineError;
@@ -17,7 +17,7 @@ pub const SHOW_ARGUMENTS: &[Argument<'static>] = &[
 
 /// `cat [-m MOUNT] PATH`, `ls [-m MOUNT] PATH` or `stat [-m MOUNT] PATH`
 pub fn show(alloc: Global, what: Shown, given: &Given<'_>) -> Result<Command, LineError>
-    ensures { IsUnlessMemory result (show_given what given.now) }
+    ensures { IsUnless LineError.Memory result (show_given what given.now) }
 {
     let mount = mount_at(given, "mount")?;
     let path = bytes_at(alloc, given, "path")?;
@@ -31,7 +31,7 @@ pub const CATM_ARGUMENTS: &[Argument<'static>] = &[
 
 /// `catm MOUNT PATH..`
 pub fn catm(alloc: Global, given: &Given<'_>) -> Result<Command, LineError>
-    ensures { IsUnlessMemory result (catm_given given.now) }
+    ensures { IsUnless LineError.Memory result (catm_given given.now) }
 {
     let mount = number_at(given, "mount")?;
     let paths = paths_at(alloc, given, "path")?;

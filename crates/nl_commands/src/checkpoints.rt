@@ -1,8 +1,8 @@
 //! Commands on checkpoints, and the moment that these are made at: what they may be given, and what
 //! they ask for then. Their errors: `Usage` where a word is not of its kind, and `Memory`.
 ghost use Rattle.std.specs.Prelude.{◌≡◌};
+ghost use Rattle.nl_types.specs.Calls.{IsUnless};
 ghost use Rattle.nl_commands.specs.CheckpointCommands.{at_given, chcp_given, lscp_given, mkcp_given, mode_at, mode_if, mode_in, rmcp_given};
-ghost use Rattle.nl_commands.specs.Outcomes.{IsUnlessMemory};
 
 use crate::command::Command;
 use crate::error::LineError;
@@ -59,15 +59,13 @@ fn mode_in(word: &str) -> Result<Mode, LineError>
 fn mode_at(given: &Given<'_>, id: &str) -> Result<Mode, LineError>
     ensures { result ≡ mode_at id.now given.now }
 {
-    match given.text(id) {
-        Some(word) => mode_in(word),
-        None => Err(LineError::Usage),
-    }
+    let word = given.text(id).ok_or(LineError::Usage)?;
+    mode_in(word)
 }
 
 /// `chcp cp|ss NUMBER..`
 pub fn chcp(alloc: Global, given: &Given<'_>) -> Result<Command, LineError>
-    ensures { IsUnlessMemory result (chcp_given given.now) }
+    ensures { IsUnless LineError.Memory result (chcp_given given.now) }
 {
     let mode = mode_at(given, "mode")?;
     let numbers = numbers_at(alloc, given, "numbers")?;
@@ -105,7 +103,7 @@ pub const RMCP_ARGUMENTS: &[Argument<'static>] = &[
 
 /// `rmcp [-f] RANGE..`
 pub fn rmcp(alloc: Global, given: &Given<'_>) -> Result<Command, LineError>
-    ensures { IsUnlessMemory result (rmcp_given given.now) }
+    ensures { IsUnless LineError.Memory result (rmcp_given given.now) }
 {
     let quiet = given.has("quiet");
     let ranges = ranges_at(alloc, given, "ranges")?;

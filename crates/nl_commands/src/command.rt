@@ -42,7 +42,8 @@ pub enum Command {
         quiet: bool,
         ranges: Items<CheckpointRange>,
     },
-    /// Lists segments: all of them, or those alone that are not clean. Where `long`, it tells the needed blocks of each.
+    /// Lists segments: all of them, or those alone that are not clean. Where `long`, it tells the needed
+    /// blocks of each.
     Lssu {
         all: bool,
         long: bool,

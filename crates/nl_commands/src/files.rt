@@ -1,8 +1,8 @@
 //! Commands that change the tree of files: what they may be given, and what they ask for then. Their
 //! errors: `Usage` where a word is not of its kind, and `Memory`.
 ghost use Rattle.std.specs.Prelude.{◌≡◌, min};
+ghost use Rattle.nl_types.specs.Calls.{IsUnless};
 ghost use Rattle.nl_commands.specs.FileCommands.{create_given, fill_given, mkdir_given, most_filled, mv_given, rm_given, rmdir_given, truncate_given, write_given};
-ghost use Rattle.nl_commands.specs.Outcomes.{IsUnlessMemory};
 
 use crate::command::Command;
 use crate::error::LineError;
@@ -20,7 +20,7 @@ pub const PATH_ARGUMENTS: &[Argument<'static>] = &[Argument::Operand("path")];
 
 /// `create PATH`
 pub fn create(alloc: Global, given: &Given<'_>) -> Result<Command, LineError>
-    ensures { IsUnlessMemory result (create_given given.now) }
+    ensures { IsUnless LineError.Memory result (create_given given.now) }
 {
     let path = bytes_at(alloc, given, "path")?;
     Ok(Command::Change(Change::Create { path }))
@@ -28,7 +28,7 @@ pub fn create(alloc: Global, given: &Given<'_>) -> Result<Command, LineError>
 
 /// `mkdir PATH`
 pub fn mkdir(alloc: Global, given: &Given<'_>) -> Result<Command, LineError>
-    ensures { IsUnlessMemory result (mkdir_given given.now) }
+    ensures { IsUnless LineError.Memory result (mkdir_given given.now) }
 {
     let path = bytes_at(alloc, given, "path")?;
     Ok(Command::Change(Change::Mkdir { path }))
@@ -36,7 +36,7 @@ pub fn mkdir(alloc: Global, given: &Given<'_>) -> Result<Command, LineError>
 
 /// `rm PATH`
 pub fn rm(alloc: Global, given: &Given<'_>) -> Result<Command, LineError>
-    ensures { IsUnlessMemory result (rm_given given.now) }
+    ensures { IsUnless LineError.Memory result (rm_given given.now) }
 {
     let path = bytes_at(alloc, given, "path")?;
     Ok(Command::Change(Change::Unlink { path }))
@@ -44,19 +44,19 @@ pub fn rm(alloc: Global, given: &Given<'_>) -> Result<Command, LineError>
 
 /// `rmdir PATH`
 pub fn rmdir(alloc: Global, given: &Given<'_>) -> Result<Command, LineError>
-    ensures { IsUnlessMemory result (rmdir_given given.now) }
+    ensures { IsUnless LineError.Memory result (rmdir_given given.now) }
 {
     let path = bytes_at(alloc, given, "path")?;
     Ok(Command::Change(Change::Rmdir { path }))
 }
 
-/// What `mv`, `write`, `fill` and `truncate` are given: all operands as one argument, since the library looks at each pair of
-/// arguments that are given.
+/// What `mv`, `write`, `fill` and `truncate` are given: all operands as one argument, since the library looks
+/// at each pair of arguments that are given.
 pub const OPERANDS_ARGUMENTS: &[Argument<'static>] = &[Argument::Operands("operands")];
 
 /// `mv FROM TO`
 pub fn mv(alloc: Global, given: &Given<'_>) -> Result<Command, LineError>
-    ensures { IsUnlessMemory result (mv_given given.now) }
+    ensures { IsUnless LineError.Memory result (mv_given given.now) }
 {
     let Some([from, to]) = given.texts("operands") else {
         return Err(LineError::Usage);
@@ -68,7 +68,7 @@ pub fn mv(alloc: Global, given: &Given<'_>) -> Result<Command, LineError>
 
 /// `write PATH OFFSET TEXT`
 pub fn write(alloc: Global, given: &Given<'_>) -> Result<Command, LineError>
-    ensures { IsUnlessMemory result (write_given given.now) }
+    ensures { IsUnless LineError.Memory result (write_given given.now) }
 {
     let Some([path, offset, text]) = given.texts("operands") else {
         return Err(LineError::Usage);
@@ -95,7 +95,7 @@ fn counted(count: u64) -> u64
 
 /// `fill PATH OFFSET BYTE COUNT`
 pub fn fill(alloc: Global, given: &Given<'_>) -> Result<Command, LineError>
-    ensures { IsUnlessMemory result (fill_given given.now) }
+    ensures { IsUnless LineError.Memory result (fill_given given.now) }
 {
     let Some([path, offset, byte, count]) = given.texts("operands") else {
         return Err(LineError::Usage);
@@ -114,7 +114,7 @@ pub fn fill(alloc: Global, given: &Given<'_>) -> Result<Command, LineError>
 
 /// `truncate PATH SIZE`
 pub fn truncate(alloc: Global, given: &Given<'_>) -> Result<Command, LineError>
-    ensures { IsUnlessMemory result (truncate_given given.now) }
+    ensures { IsUnless LineError.Memory result (truncate_given given.now) }
 {
     let Some([path, size]) = given.texts("operands") else {
         return Err(LineError::Usage);

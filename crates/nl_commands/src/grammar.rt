@@ -2,8 +2,8 @@
 //! the library that reads them.
 ghost use Rattle.std.specs.Prelude.{◌≡◌, IfOk, false, map, option_map, true};
 ghost use Rattle.clap.specs.Words.{all_of, app_of, first_of, rule_of, with_rule};
+ghost use Rattle.nl_types.specs.Calls.{IsUnless};
 ghost use Rattle.nl_commands.specs.Grammars.{Reads, argument_rule, bare_grammar, has_hyphen, is_from_words, is_readable, is_used, parsed, with_rules};
-ghost use Rattle.nl_commands.specs.Outcomes.{IsUnlessMemory};
 
 use crate::error::LineError;
 use clap::parser::ValueSource;
@@ -63,7 +63,8 @@ fn is_from_words(source: Option<ValueSource>) -> bool
 /// judged behind the library's reading, which has used up the command.
 fn read_by<'a>(command: Command<'a>, words: &'a [&'a str]) -> Result<Given<'a>, LineError>
     ensures { is_readable (app_of command.entry) ≡ true
-        → IsUnlessMemory result (parsed (app_of command.entry) (map (λ w. w.now) words.entry.now)) }
+        → IsUnless LineError.Memory result
+        (parsed (app_of command.entry) (map (λ w. w.now) words.entry.now)) }
 {
     let matches = command.try_get_matches_from(words)?;
     if has_hyphen(words) {

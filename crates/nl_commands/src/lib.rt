@@ -1,5 +1,8 @@
 //! Lines of a script to commands: a line's bytes to its words, and these, by what the command that the
 //! first one names may be given, to what it asks for.
+//!
+//! What no other crate calls is public too, where its contract is one that docs/PROOFS.md names: a promise is
+//! kept by public contracts alone.
 #![tactic(auto)]
 
 mod asking;

@@ -1,8 +1,8 @@
 //! A line of a script, as a command.
 ghost use Rattle.std.specs.Prelude.{◌≡◌, ◌≢◌, map};
+ghost use Rattle.nl_types.specs.Calls.{IsUnless};
 ghost use Rattle.nl_commands.specs.CommandNames.{command_meant};
 ghost use Rattle.nl_commands.specs.LineMeanings.{MeansLine, MeansText, words_meant};
-ghost use Rattle.nl_commands.specs.Outcomes.{IsUnlessMemory};
 
 use crate::command::Command;
 use crate::error::LineError;
@@ -16,19 +16,17 @@ use std::str;
 /// # Errors
 /// `Usage` where they are no command, or not of its command's form; `Memory`.
 pub fn read_words(alloc: Global, words: &[&str]) -> Result<Command, LineError>
-    ensures { IsUnlessMemory result (command_meant (map (λ w. w.now) words.now)) }
+    ensures { IsUnless LineError.Memory result (command_meant (map (λ w. w.now) words.now)) }
 {
     let [word, rest @ ..] = words else {
         return Err(LineError::Usage);
     };
-    match command_name(word) {
-        Some(name) => read_named(alloc, name, word, rest),
-        None => Err(LineError::Usage),
-    }
+    let name = command_name(word).ok_or(LineError::Usage)?;
+    read_named(alloc, name, word, rest)
 }
 
 fn read_if_any(alloc: Global, words: &[&str]) -> Result<Option<Command>, LineError>
-    ensures { IsUnlessMemory result (words_meant (map (λ w. w.now) words.now)) }
+    ensures { IsUnless LineError.Memory result (words_meant (map (λ w. w.now) words.now)) }
 {
     if words.is_empty() {
         return Ok(None);

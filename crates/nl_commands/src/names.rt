@@ -1,8 +1,8 @@
 //! The names of the commands.
 ghost use Rattle.std.specs.Prelude.{◌≡◌, map};
-ghost use Rattle.nl_commands.specs.CommandNames.{asking_name, command_given, command_name, file_name, named_meant, rules_of, segment_name};
+ghost use Rattle.nl_types.specs.Calls.{IsUnless};
+ghost use Rattle.nl_commands.specs.CommandNames.{asking_name, checkpoint_name, command_given, command_name, file_name, named_meant, rules_of, segment_name};
 ghost use Rattle.nl_commands.specs.Grammars.{argument_rule};
-ghost use Rattle.nl_commands.specs.Outcomes.{IsUnlessMemory};
 
 use crate::command::{Command, Shown};
 use crate::error::LineError;
@@ -37,14 +37,28 @@ pub enum CommandName {
     Stat,
 }
 
-fn asking_name(word: &str) -> Option<CommandName>
-    ensures { result ≡ asking_name word.now }
+fn checkpoint_name(word: &str) -> Option<CommandName>
+    ensures { result ≡ checkpoint_name word.now }
 {
     match word {
-        "cat" => Some(CommandName::Cat),
-        "catm" => Some(CommandName::Catm),
-        "ls" => Some(CommandName::Ls),
-        "stat" => Some(CommandName::Stat),
+        "at" => Some(CommandName::At),
+        "mkcp" => Some(CommandName::Mkcp),
+        "chcp" => Some(CommandName::Chcp),
+        "lscp" => Some(CommandName::Lscp),
+        "rmcp" => Some(CommandName::Rmcp),
+        _ => None,
+    }
+}
+
+fn segment_name(word: &str) -> Option<CommandName>
+    ensures { result ≡ segment_name word.now }
+{
+    match word {
+        "lssu" => Some(CommandName::Lssu),
+        "clean" => Some(CommandName::Clean),
+        "mount" => Some(CommandName::Mount),
+        "umount" => Some(CommandName::Umount),
+        "resize" => Some(CommandName::Resize),
         _ => None,
     }
 }
@@ -61,20 +75,19 @@ fn file_name(word: &str) -> Option<CommandName>
         "write" => Some(CommandName::Write),
         "fill" => Some(CommandName::Fill),
         "truncate" => Some(CommandName::Truncate),
-        _ => asking_name(word),
+        _ => None,
     }
 }
 
-fn segment_name(word: &str) -> Option<CommandName>
-    ensures { result ≡ segment_name word.now }
+fn asking_name(word: &str) -> Option<CommandName>
+    ensures { result ≡ asking_name word.now }
 {
     match word {
-        "lssu" => Some(CommandName::Lssu),
-        "clean" => Some(CommandName::Clean),
-        "mount" => Some(CommandName::Mount),
-        "umount" => Some(CommandName::Umount),
-        "resize" => Some(CommandName::Resize),
-        _ => file_name(word),
+        "cat" => Some(CommandName::Cat),
+        "catm" => Some(CommandName::Catm),
+        "ls" => Some(CommandName::Ls),
+        "stat" => Some(CommandName::Stat),
+        _ => None,
     }
 }
 
@@ -82,14 +95,10 @@ fn segment_name(word: &str) -> Option<CommandName>
 pub fn command_name(word: &str) -> Option<CommandName>
     ensures { result ≡ command_name word.now }
 {
-    match word {
-        "at" => Some(CommandName::At),
-        "mkcp" => Some(CommandName::Mkcp),
-        "chcp" => Some(CommandName::Chcp),
-        "lscp" => Some(CommandName::Lscp),
-        "rmcp" => Some(CommandName::Rmcp),
-        _ => segment_name(word),
-    }
+    checkpoint_name(word)
+        .or_else(|| segment_name(word))
+        .or_else(|| file_name(word))
+        .or_else(|| asking_name(word))
 }
 
 fn arguments_of(name: CommandName) -> &'static [Argument<'static>]
@@ -116,7 +125,7 @@ fn arguments_of(name: CommandName) -> &'static [Argument<'static>]
 }
 
 fn command_given(alloc: Global, name: CommandName, given: &Given<'_>) -> Result<Command, LineError>
-    ensures { IsUnlessMemory result (command_given name given.now) }
+    ensures { IsUnless LineError.Memory result (command_given name given.now) }
 {
     match name {
         CommandName::At => checkpoints::at(given),
@@ -154,7 +163,7 @@ pub fn read_named(
     word: &str,
     words: &[&str],
 ) -> Result<Command, LineError>
-    ensures { IsUnlessMemory result (named_meant name word.now (map (λ w. w.now) words.now)) }
+    ensures { IsUnless LineError.Memory result (named_meant name word.now (map (λ w. w.now) words.now)) }
 {
     let arguments = arguments_of(name);
     let given = read(alloc, word, arguments, words)?;

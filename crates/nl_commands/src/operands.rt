@@ -1,7 +1,7 @@
 //! What a command is given, by the names of its grammar.
 ghost use Rattle.std.specs.Prelude.{◌≡◌, Ok, map, nat_lt};
+ghost use Rattle.nl_types.specs.Calls.{IsUnless};
 ghost use Rattle.nl_commands.specs.GivenOperands.{byte_in, byte_of, number_at, numbers_at, numbers_in, optional_number_at, ranges_at, ranges_in, word_at, words_at};
-ghost use Rattle.nl_commands.specs.Outcomes.{IsUnlessMemory};
 
 use crate::command::CheckpointRange;
 use crate::error::LineError;
@@ -14,10 +14,8 @@ use std::alloc::Global;
 pub fn number_at(given: &Given<'_>, id: &str) -> Result<u64, LineError>
     ensures { result ≡ number_at id.now given.now }
 {
-    match given.text(id) {
-        Some(word) => number(word),
-        None => Err(LineError::Usage),
-    }
+    let word = given.text(id).ok_or(LineError::Usage)?;
+    number(word)
 }
 
 /// The number, where one is given.
@@ -34,20 +32,14 @@ pub fn optional_number_at(given: &Given<'_>, id: &str) -> Result<Option<u64>, Li
 pub fn checkpoint_at(given: &Given<'_>, id: &str) -> Result<Option<CheckpointNumber>, LineError>
     ensures { result ≡ optional_number_at id.now given.now }
 {
-    match optional_number_at(given, id)? {
-        Some(number) => Ok(Some(CheckpointNumber::new(number))),
-        None => Ok(None),
-    }
+    Ok(optional_number_at(given, id)?.map(CheckpointNumber::new))
 }
 
 /// The mount, where one is given.
 pub fn mount_at(given: &Given<'_>, id: &str) -> Result<Option<MountNumber>, LineError>
     ensures { result ≡ optional_number_at id.now given.now }
 {
-    match optional_number_at(given, id)? {
-        Some(number) => Ok(Some(MountNumber::new(number))),
-        None => Ok(None),
-    }
+    Ok(optional_number_at(given, id)?.map(MountNumber::new))
 }
 
 fn byte_of(number: u64) -> Result<u8, LineError>
@@ -70,23 +62,21 @@ pub fn byte_in(word: &str) -> Result<u8, LineError>
 
 /// The bytes of a word.
 pub fn bytes_of(alloc: Global, word: &str) -> Result<Items<u8>, LineError>
-    ensures { IsUnlessMemory result (Ok word.now) }
+    ensures { IsUnless LineError.Memory result (Ok word.now) }
 {
     Ok(Items::from_slice(alloc, word.as_bytes())?)
 }
 
 /// The bytes of the word that is given.
 pub fn bytes_at(alloc: Global, given: &Given<'_>, id: &str) -> Result<Items<u8>, LineError>
-    ensures { IsUnlessMemory result (word_at id.now given.now) }
+    ensures { IsUnless LineError.Memory result (word_at id.now given.now) }
 {
-    match given.text(id) {
-        Some(word) => bytes_of(alloc, word),
-        None => Err(LineError::Usage),
-    }
+    let word = given.text(id).ok_or(LineError::Usage)?;
+    bytes_of(alloc, word)
 }
 
 fn paths_in(alloc: Global, words: &[&str]) -> Result<Items<Items<u8>>, LineError>
-    ensures { IsUnlessMemory result (Ok (map (λ w. w.now) words.now)) }
+    ensures { IsUnless LineError.Memory result (Ok (map (λ w. w.now) words.now)) }
 {
     let mut paths = Items::new(alloc);
     for word in words {
@@ -97,16 +87,14 @@ fn paths_in(alloc: Global, words: &[&str]) -> Result<Items<Items<u8>>, LineError
 
 /// Paths, in the order of their words.
 pub fn paths_at(alloc: Global, given: &Given<'_>, id: &str) -> Result<Items<Items<u8>>, LineError>
-    ensures { IsUnlessMemory result (words_at id.now given.now) }
+    ensures { IsUnless LineError.Memory result (words_at id.now given.now) }
 {
-    match given.texts(id) {
-        Some(words) => paths_in(alloc, words),
-        None => Err(LineError::Usage),
-    }
+    let words = given.texts(id).ok_or(LineError::Usage)?;
+    paths_in(alloc, words)
 }
 
 fn numbers_in(alloc: Global, words: &[&str]) -> Result<Items<CheckpointNumber>, LineError>
-    ensures { IsUnlessMemory result (numbers_in (map (λ w. w.now) words.now)) }
+    ensures { IsUnless LineError.Memory result (numbers_in (map (λ w. w.now) words.now)) }
 {
     let mut numbers = Items::new(alloc);
     for word in words {
@@ -122,16 +110,14 @@ pub fn numbers_at(
     given: &Given<'_>,
     id: &str,
 ) -> Result<Items<CheckpointNumber>, LineError>
-    ensures { IsUnlessMemory result (numbers_at id.now given.now) }
+    ensures { IsUnless LineError.Memory result (numbers_at id.now given.now) }
 {
-    match given.texts(id) {
-        Some(words) => numbers_in(alloc, words),
-        None => Err(LineError::Usage),
-    }
+    let words = given.texts(id).ok_or(LineError::Usage)?;
+    numbers_in(alloc, words)
 }
 
 fn ranges_in(alloc: Global, words: &[&str]) -> Result<Items<CheckpointRange>, LineError>
-    ensures { IsUnlessMemory result (ranges_in (map (λ w. w.now) words.now)) }
+    ensures { IsUnless LineError.Memory result (ranges_in (map (λ w. w.now) words.now)) }
 {
     let mut ranges = Items::new(alloc);
     for word in words {
@@ -147,10 +133,8 @@ pub fn ranges_at(
     given: &Given<'_>,
     id: &str,
 ) -> Result<Items<CheckpointRange>, LineError>
-    ensures { IsUnlessMemory result (ranges_at id.now given.now) }
+    ensures { IsUnless LineError.Memory result (ranges_at id.now given.now) }
 {
-    match given.texts(id) {
-        Some(words) => ranges_in(alloc, words),
-        None => Err(LineError::Usage),
-    }
+    let words = given.texts(id).ok_or(LineError::Usage)?;
+    ranges_in(alloc, words)
 }

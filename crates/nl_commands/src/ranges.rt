@@ -1,7 +1,7 @@
 //! Ranges of checkpoints in words.
 ghost use Rattle.std.specs.Prelude.{◌≡◌, []};
 ghost use Rattle.std.specs.Option.{option_map};
-ghost use Rattle.nl_commands.specs.RangeWords.{around_dot, behind_dot, between, first_in, range_in};
+ghost use Rattle.nl_commands.specs.RangeWords.{around_dot, behind_dot, range_between, first_in, range_in};
 
 use crate::command::CheckpointRange;
 use crate::error::LineError;
@@ -30,14 +30,14 @@ fn first_of_range(word: &str) -> Result<CheckpointNumber, LineError>
 }
 
 fn since(first: &str) -> Result<CheckpointRange, LineError>
-    ensures { result ≡ between first.now [] }
+    ensures { result ≡ range_between first.now [] }
 {
     let first = number(first)?;
     Ok(CheckpointRange::Since(CheckpointNumber::new(first)))
 }
 
 fn between(first: &str, last: &str) -> Result<CheckpointRange, LineError>
-    ensures { result ≡ between first.now last.now }
+    ensures { result ≡ range_between first.now last.now }
 {
     if last.is_empty() {
         return since(first);

@@ -1,5 +1,5 @@
 //! A line, as words.
-ghost use Rattle.std.specs.Prelude.{MatchOption, IfOk, IfSome, IsErrOf};
+ghost use Rattle.std.specs.Prelude.{MatchOption, IfOk, IfSome, IsErrOf, map};
 ghost use Rattle.nl_commands.specs.Splitting.{IsPlainWord, IsFirstWord, IsOpen, IsTrimmed, AreWords, HasOpenWord};
 
 use crate::error::LineError;
@@ -58,7 +58,7 @@ fn trimmed(text: &str) -> &str
 /// # Errors
 /// `Usage` where a quotation mark is open, `Memory` where there is none for the list.
 pub fn words_of(alloc: Global, line: &str) -> Result<Vec<&str>, LineError>
-    ensures words { IfOk result (λ words. AreWords line.now words.items) }
+    ensures words { IfOk result (λ words. AreWords line.now (map (λ w. w.now) words.items)) }
     ensures open { IsErrOf result LineError.Usage → HasOpenWord line.now }
 {
     let has_tabs = line.contains('\t');

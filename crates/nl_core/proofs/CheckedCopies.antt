@@ -17,13 +17,13 @@ use Rattle.nl_types.specs.Paths.{Name, is_name, name_cmp, same_name}
 use Rattle.nl_types.specs.Roots.{Pages}
 use Rattle.nl_types.specs.Trees.{IsTree, Tree}
 use Rattle.nl_types.specs.Worlds.{Copy, are_stamps_rising, greatest, numbers}
-use Rattle.nl_types.proofs.NumberedLists.{AllBelow, before-is, find-push_same, top-push}
+use Rattle.nl_types.specs.Facts.NumberedLists.{AllBelow, before-is, find-push_same, top-push}
 use Rattle.nl_layout.specs.Root.{root_of}
 use Rattle.nl_dirs.specs.Records.{entry_of}
 use Rattle.nl_dirs.specs.declared.record.Record.{Record}
 use Rattle.nl_tree.specs.Held.{Held, Holding, IsHolding, IsInodeNumber, Listed, Stored, byte_stored, bytes_stored, inode_content, inodes_of_holding}
 use Rattle.nl_check.specs.Laws.{StandsForTree}
-use Rattle.nl_cpfile.specs.Tables.{IsRising, Precedes, root_in}
+use Rattle.nl_cpfile.specs.Tables.{IsRising, Precedes, checkpoint_root}
 use Rattle.nl_cpfile.specs.declared.checkpoint.Checkpoint.{Checkpoint}
 use Rattle.nl_core.specs.Means.{CopyMeans}
 
@@ -56,7 +56,7 @@ bytes_in (Records records) = []
 within-limits : (holding : Holding) → IsHolding holding → AreWithinLimits (inodes_of_holding holding)
 unfolding records_in bytes_in
 within-limits holding sound = record {
-  numbers = λ i c is. number i (holding i) c refl is;
+  inode_numbers = λ i c is. number i (holding i) c refl is;
   names = λ i records n link is at. name i (holding i) records n link refl is at;
   sizes = λ i bytes is. size i (holding i) bytes refl is;
 }
@@ -64,7 +64,7 @@ within-limits holding sound = record {
     number : (i : ℕ) (o : Option Held) (c : InodeContent) → holding i ≡ o → option_map inode_content o ≡ Some c
         → (i ≡ root_inode) ⊎ ((first_inode ≤ i) × (i ≤ last_inode))
     number i None c at is = cc
-    number i (Some held) c at is = sound.numbers i held at
+    number i (Some held) c at is = sound.inode_numbers i held at
 
     name : (i : ℕ) (o : Option Held) (records : Name → Option Link) (n : Name) (link : Link) → holding i ≡ o
         → option_map inode_content o ≡ Some (Records records) → records n ≡ Some link → IsTrue (is_name n)
@@ -72,7 +72,7 @@ within-limits holding sound = record {
     name i (Some (Stored size blocks)) records n link at is l = cc
     name i (Some (Listed rs)) records n link at is l =
         let same : entry_of n rs ≡ records n = ap (λ (o : Option InodeContent). option_and_then (λ c. records_in c n) o) is in
-        let r = named-found (λ (x : Record). IsTrue (is_name x.name) × IsInodeNumber x.inode) rs n link (sound.names i rs at)
+        let r = named-found (λ (x : Record). IsTrue (is_name x.name) × IsInodeNumber x.inode) rs n link (sound.each i (Listed rs) at).names
         (same ∙ l) in
         subst (λ (m : Name). IsTrue (is_name m)) (sym r.2) r.1.0
 
@@ -83,7 +83,7 @@ within-limits holding sound = record {
     size i (Some (Stored n blocks)) bytes at is =
         let same : bytes_stored blocks n ≡ bytes = ap (λ (o : Option InodeContent). unwrap o) is in
         let count = length-map-range_with_len (byte_stored blocks) 0 n in
-        let most = sound.sizes i n blocks at in
+        let most = (sound.each i (Stored n blocks) at).small in
         omega (arith, most, count, ap length same)
       where
         unwrap : Option InodeContent → List ℕ
@@ -94,7 +94,7 @@ within-limits holding sound = record {
 
 module _ (pages : Pages) where
   abbrev pub HasTree : Checkpoint → Type 0
-  HasTree c = StandsForTree pages (root_of (root_in c)) c.inodes
+  HasTree c = StandsForTree pages (root_of (checkpoint_root c)) c.inodes
 
   pub copy_of : (c : Checkpoint) → HasTree c → Copy
   copy_of c t = record { tree = t.tree; mode = c.mode; minor = c.minor; stamp = c.stamp }

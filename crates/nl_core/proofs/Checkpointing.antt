@@ -16,26 +16,26 @@ use Rattle.nl_types.specs.Limits.{checkpoint_number_limit}
 use Rattle.nl_types.specs.Roots.{Pages, pages_of}
 use Rattle.nl_types.specs.Worlds.{World, Reply, step, latest}
 use Rattle.nl_types.specs.Placing as placing
-use Rattle.nl_types.proofs.WorldLaws.{steps_keep_worlds}
+use Rattle.nl_types.specs.Facts.WorldLaws.{steps_keep_worlds}
 use Rattle.nl_layout.specs.Root.{root_of}
 use Rattle.nl_vstore.specs.Batches.{items_of}
 use Rattle.nl_vstore.specs.Stores.{Store, IsStore, content_in, entry_now}
 use Rattle.nl_files.specs.CheckpointRoots.{IsTreeSound}
 use Rattle.nl_cpfile.specs.declared.checkpoint.Checkpoint.{Checkpoint}
-use Rattle.nl_core.specs.Layout.{Layout, IsPen, IsSoundPen, IsCheckpointRefusal, Does, Follows, HasFaulted, HasRefused, HasWritten, LacksSpaceToSettle, MeansWorld, Touches, cleaned, layout_of, ledger_of, unshared}
+use Rattle.nl_core.specs.Layout.{Layout, IsPen, IsSoundPen, IsCheckpointRefusal, Does, StepsWorlds, HasFaulted, HasRefused, HasWrittenCheckpoint, LacksSpaceToSettle, MeansWorld, Becomes, cleaned, layout_of, ledger_of, unshared}
 use Rattle.nl_core.specs.Means.{Means}
-use Rattle.nl_cpfile.specs.Tables.{by_number, root_in}
+use Rattle.nl_cpfile.specs.Tables.{by_number, checkpoint_root}
 use Rattle.nl_core.specs.Volume.{Lists, kept_by}
-use Rattle.nl_core.proofs.Checkpoints.{differs-behind, numbers-behind, sound-behind}
-use Rattle.nl_core.proofs.Ledgers.{same-numbers, stands-latest}
-use Rattle.nl_core.proofs.Published.{latest-means, means-published}
-use Rattle.nl_core.proofs.Settlings.{births-alike, count-items}
+use Rattle.nl_core.specs.Facts.Checkpoints.{differs-behind, numbers-behind, sound-behind}
+use Rattle.nl_core.specs.Facts.Ledgers.{same-numbers, stands-latest}
+use Rattle.nl_core.specs.Facts.Published.{latest-means, means-published}
+use Rattle.nl_core.specs.Facts.Settlings.{births-alike, count-items}
 
 -- ---- one that is done
 
-module _ (old new : Layout) (mode : Mode) (moment : ℕ) (pen : IsPen old) (writes : HasWritten mode moment old new) where
+module _ (old new : Layout) (mode : Mode) (moment : ℕ) (pen : IsPen old) (writes : HasWrittenCheckpoint mode moment old new) where
   -- where it leads from a world
-  follows-written : Follows unshared old (event.Checkpoint mode moment) (Ok (answer.Checkpoint new.lists.table.latest.number)) new
+  follows-written : StepsWorlds unshared old (event.Checkpoint mode moment) (Ok (answer.Checkpoint new.lists.table.latest.number)) new
   follows-written w means =
       let done = event.Checkpoint mode moment in
       let given = cleaned old done in
@@ -52,7 +52,7 @@ module _ (old new : Layout) (mode : Mode) (moment : ℕ) (pen : IsPen old) (writ
       let stands = stands-latest old pen.sound w.tree tree in
       record {
         follows = follows-written;
-        touches = record { writes = writes; differs = differs-behind old new mode moment pen.sound tree.base w.tree stands writes };
+        becomes = record { writes = writes; differs = differs-behind old new mode moment pen.sound tree.base w.tree stands writes };
         numbers = numbers-behind old new mode moment pen.sound tree.base w.tree stands writes;
         pen = record {
           world = let next = follows-written w pen.world.1 in (next.after, next.means);
@@ -73,7 +73,7 @@ spent given l w mode moment means over =
     (le-leb checkpoint_number_limit (latest w + 1) (omega (arith, number, over)))
 
 follows-refused : (l : Layout) (mode : Mode) (moment : ℕ) (e : VolError) → IsCheckpointRefusal l e
-    → Follows unshared l (event.Checkpoint mode moment) (Err e) l
+    → StepsWorlds unshared l (event.Checkpoint mode moment) (Err e) l
 follows-refused l mode moment error.NumbersSpent why w means = record {
   after = w;
   means = means;
@@ -91,12 +91,12 @@ follows-refused l mode moment error.Memory why w means = record {
 }
 follows-refused l mode moment _ why w means = absurd why
 
-touches-refused : (l : Layout) (mode : Mode) (moment : ℕ) (e : VolError) → IsCheckpointRefusal l e
-    → Touches l (event.Checkpoint mode moment) (Err e) l
-touches-refused l mode moment error.NumbersSpent why = (refl, why)
-touches-refused l mode moment error.NoSpace why = (refl, why)
-touches-refused l mode moment error.Memory why = (refl, why)
-touches-refused l mode moment _ why = absurd why
+becomes-refused : (l : Layout) (mode : Mode) (moment : ℕ) (e : VolError) → IsCheckpointRefusal l e
+    → Becomes l (event.Checkpoint mode moment) (Err e) l
+becomes-refused l mode moment error.NumbersSpent why = (refl, why)
+becomes-refused l mode moment error.NoSpace why = (refl, why)
+becomes-refused l mode moment error.Memory why = (refl, why)
+becomes-refused l mode moment _ why = absurd why
 
 does-unwritten : (old new : Layout) (mode : Mode) (moment : ℕ) (e : VolError) → IsPen old
     → IsCheckpointRefusal old e → new ≡ old
@@ -104,7 +104,7 @@ does-unwritten : (old new : Layout) (mode : Mode) (moment : ℕ) (e : VolError) 
 does-unwritten old new mode moment e pen why same =
     subst (Does unshared old (event.Checkpoint mode moment) (Err e)) (sym same) (record {
       follows = follows-refused old mode moment e why;
-      touches = touches-refused old mode moment e why;
+      becomes = becomes-refused old mode moment e why;
       numbers = same-numbers old old refl;
       pen = pen;
       failures = omega arith;
@@ -140,13 +140,13 @@ module _ (old new : Layout) (mode : Mode) (moment : ℕ) (pen : IsPen old)
       lacks.lacks logs (subst (λ (n : ℕ). placing.LogsFit old.store.segments true n logs) count broken.fits)
 
   abbrev AreSound : Pages → List Checkpoint → Type 0
-  AreSound pages kept = All (λ (c : Checkpoint). IsTreeSound pages (root_of (root_in c))) kept
+  AreSound pages kept = All (λ (c : Checkpoint). IsTreeSound pages (root_of (checkpoint_root c))) kept
 
   sound-same : IsStore new.store → IsSoundPen new
   sound-same is_store = record {
     ledger = subst IsLedger (sym ledger-same) pen.sound.ledger;
-    kept = subst (λ (l : Lists). AreSound (pages_of (content_in new.store)) (kept_by l)) (sym fault.lists)
-        (subst (λ (content : Content). AreSound (pages_of content) (kept_by old.lists)) (sym content-same) pen.sound.kept);
+    trees_sound = subst (λ (l : Lists). AreSound (pages_of (content_in new.store)) (kept_by l)) (sym fault.lists)
+        (subst (λ (content : Content). AreSound (pages_of content) (kept_by old.lists)) (sym content-same) pen.sound.trees_sound);
     latest = subst (λ (l : Lists). find nat_cmp l.table.latest.number (map by_number (kept_by l)) ≡ Some l.table.latest) (sym fault.lists)
         pen.sound.latest;
     last = subst (λ (l : Lists). l.table.latest.number < checkpoint_number_limit) (sym fault.lists) pen.sound.last;
@@ -160,7 +160,7 @@ module _ (old new : Layout) (mode : Mode) (moment : ℕ) (pen : IsPen old)
       means = means-same w means;
       step = inr (record { error = error.Fault; reply_is = refl; may_be = (tt, (space-there, fault.store.failures, fault.store.writes)); unchanged = refl });
     };
-    touches = fault;
+    becomes = fault;
     numbers = same-numbers old new ledger-same;
     pen = record { world = (pen.world.0, means-same pen.world.0 pen.world.1); sound = sound-same is_store };
     failures = let more = fault.store.failures in omega (arith, more);

@@ -8,23 +8,23 @@ use Rattle.nl_types.specs.Entries.{Entry}
 use Rattle.nl_types.specs.Lifetimes.{IsBounded}
 use Rattle.nl_types.specs.Limits.{checkpoint_number_limit}
 use Rattle.nl_types.specs.Roots.{Pages, Root, pages_of}
-use Rattle.nl_types.proofs.UsedParts.{used_inside}
+use Rattle.nl_types.specs.Facts.UsedParts.{used_inside}
 use Rattle.nl_layout.specs.Root.{root_of}
 use Rattle.nl_layout.specs.declared.checkpoint_entry.CheckpointEntry.{CheckpointEntry}
 use Rattle.nl_vstore.specs.Stores.{IsStore, KeepsStored, Numbered, Store, block_now, capacity, content_in, entry_now, numbered_in}
-use Rattle.nl_dat.specs.EntryBytes.{EntryFits, Fits}
+use Rattle.nl_dat.specs.EntryBytes.{NumberHasSpelling, HasSpelling}
 use Rattle.nl_dat.specs.Table.{dat_entry_of, numbers_shown}
 use Rattle.nl_check.specs.Shapes.{At, IsShaped, Itself, StandsAlone}
-use Rattle.nl_check.proofs.Checkpoints.{sound_checkpoints_are_shaped}
+use Rattle.nl_check.specs.Facts.Checkpoints.{sound_checkpoints_are_shaped}
 use Rattle.nl_image.specs.StoreImages.{IsSizedEntry}
-use Rattle.nl_cpfile.specs.Tables.{Table, all, root_in}
-use Rattle.nl_cpfile.proofs.ImageEntries.{zip_push}
+use Rattle.nl_cpfile.specs.Tables.{Table, all, checkpoint_root}
+use Rattle.nl_cpfile.specs.Facts.ImageEntries.{zip_push}
 use Rattle.nl_cpfile.specs.declared.checkpoint.Checkpoint.{Checkpoint}
-use Rattle.nl_core.specs.Closed.{AreSized, HasSize, HaveSizes}
-use Rattle.nl_core.specs.Layout.{IsPen, Layout, layout_of, pages_in, reached_by}
+use Rattle.nl_core.specs.Private.Closed.{AreSized, HasSize, HaveSizes}
+use Rattle.nl_core.specs.Layout.{IsPen, Layout, layout_of, layout_pages, reached_by}
 use Rattle.nl_core.specs.Volume.{Lists, kept_by}
-use Rattle.nl_core.proofs.CleanedPens.{all-held, content-of, same-content}
-use Rattle.nl_core.proofs.KeptNumbers.{found-own}
+use Rattle.nl_core.specs.Facts.CleanedPens.{all-held, content-of, same-content}
+use Rattle.nl_core.specs.Facts.KeptNumbers.{found-own}
 
 -- ---- sizes
 
@@ -38,15 +38,15 @@ stands-alone pages root s = record {
 }
 
 -- so each kept checkpoint of a pen has a size
-pub have-sizes : (l : Layout) → IsPen l → HaveSizes (pages_in l) (kept_by l.lists)
+pub have-sizes : (l : Layout) → IsPen l → HaveSizes (layout_pages l) (kept_by l.lists)
 have-sizes l pen i d low =
     let c : Checkpoint = get_or (kept_by l.lists) i d in
     let means = pen.world.1 in
     let holds = all-held l (kept_by l.lists) pen.world.0.copies means.copies i d low in
-    let at = found-own (pages_in l) (kept_by l.lists) pen.world.0.copies means.copies means.world.numbers_rise i d low in
-    stands-alone (pages_in l) (root_of (root_in c))
-    (sound_checkpoints_are_shaped (content_in l.store) c.number (root_of (root_in c)) holds.0 (pen.sound.kept i d low) holds.1
-    (pen.sound.ledger.exact c.number (reached_by (pages_in l) c) (ap (option_map (reached_by (pages_in l))) at)))
+    let at = found-own (layout_pages l) (kept_by l.lists) pen.world.0.copies means.copies means.world.numbers_rise i d low in
+    stands-alone (layout_pages l) (root_of (checkpoint_root c))
+    (sound_checkpoints_are_shaped (content_in l.store) c.number (root_of (checkpoint_root c)) holds.0 (pen.sound.trees_sound i d low) holds.1
+    (pen.sound.ledger.exact c.number (reached_by (layout_pages l) c) (ap (option_map (reached_by (layout_pages l))) at)))
 
 -- those before the latest checkpoint have sizes, and it has one
 pub table-sizes : (pages : Pages) (t : Table) (earlier : List Checkpoint) (latest : Checkpoint) → earlier ≡ t.earlier
@@ -72,7 +72,7 @@ within-capacity s is v some = by (numbered_in s v) refl some
 -- ---- numbers
 
 module _ (s : Store) (latest : ℕ) (is : IsStore s) (bounded : IsBounded (content_in s) latest) (low : latest < checkpoint_number_limit) where
-  entry-fits : (v : ℕ) (n : Numbered) → numbered_in s v ≡ Some n → EntryFits (dat_entry_of n)
+  entry-fits : (v : ℕ) (n : Numbered) → numbered_in s v ≡ Some n → NumberHasSpelling (dat_entry_of n)
   entry-fits v n at =
       let entry : content_in s v ≡ Some n.entry = ap (option_map entry_now) at in
       let inside = used_inside s.segments n.block is.limits.tidy (is.used v n.block (ap (option_map block_now) at)) in
@@ -84,31 +84,31 @@ module _ (s : Store) (latest : ℕ) (is : IsStore s) (bounded : IsBounded (conte
         end = λ c is_end. let end = bounded.ends v n.entry c entry is_end in omega (arith, end, low);
       }
 
-  number-fits : (v : ℕ) (o : Option Numbered) → numbered_in s v ≡ o → Fits (option_map dat_entry_of o)
+  number-fits : (v : ℕ) (o : Option Numbered) → numbered_in s v ≡ o → HasSpelling (option_map dat_entry_of o)
   number-fits v None at = tt
   number-fits v (Some n) at = entry-fits v n at
 
   -- those from a number on
   rest-fits : (first : ℕ) (rest : List (Option Numbered)) → ((i : ℕ) → numbered_in s (first + i) ≡ slice_index_or rest i None)
-      → All Fits (map (option_map dat_entry_of) rest)
-  rest-fits first [] each = All-nil Fits
+      → All HasSpelling (map (option_map dat_entry_of) rest)
+  rest-fits first [] each = All-nil HasSpelling
   rest-fits first (o ∷ rest) each =
       let here : first + 0 ≡ first = omega arith in
-      All-cons Fits (option_map dat_entry_of o) (map (option_map dat_entry_of) rest)
+      All-cons HasSpelling (option_map dat_entry_of o) (map (option_map dat_entry_of) rest)
       (number-fits first o (ap (numbered_in s) (sym here) ∙ each 0))
       (rest-fits (suc first) rest (λ i. let next : suc first + i ≡ first + suc i = omega arith in ap (numbered_in s) next ∙ each (suc i)))
 
-  all-fit : All Fits (numbers_shown s)
+  all-fit : All HasSpelling (numbers_shown s)
   all-fit = by s.numbers refl
     where
-      by : (numbers : List (Option Numbered)) → s.numbers ≡ numbers → All Fits (map (option_map dat_entry_of) (drop 1 numbers))
-      by [] at = All-nil Fits
+      by : (numbers : List (Option Numbered)) → s.numbers ≡ numbers → All HasSpelling (map (option_map dat_entry_of) (drop 1 numbers))
+      by [] at = All-nil HasSpelling
       by (o ∷ rest) at = rest-fits 1 rest (λ i.
           let next : 1 + i ≡ suc i = omega arith in
           ap (numbered_in s) next ∙ ap (λ (numbers : List (Option Numbered)). slice_index_or numbers (suc i) None) at)
 
 -- all numbers of a pen have a spelling
-pub numbers-fit : (l : Layout) → IsPen l → All Fits (numbers_shown l.store)
+pub numbers-fit : (l : Layout) → IsPen l → All HasSpelling (numbers_shown l.store)
 numbers-fit l pen = all-fit l.store l.lists.table.latest.number pen.sound.store pen.sound.ledger.bounded pen.sound.last
 
 -- ---- what was read leaves

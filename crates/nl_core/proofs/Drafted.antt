@@ -8,13 +8,13 @@ use Rattle.nl_types.specs.declared.event.Mode.{Mode}
 use Rattle.nl_vstore.specs.Stores.{Store, IsWritten, IsWriteRefused, content_in}
 use Rattle.nl_files.specs.Laws.{SettledNumbersAreLowest}
 use Rattle.nl_core.specs.Draft.{CanBeDrafted, IsNextDraft}
-use Rattle.nl_core.specs.Layout.{HasRefused, HasWritten, Settled, layout_of}
+use Rattle.nl_core.specs.Layout.{HasRefused, HasWrittenCheckpoint, Settled, layout_of}
 use Rattle.nl_layout.specs.Root.{root_of}
 use Rattle.nl_core.specs.NeededBlocks.{HasWrittenBatch}
 use Rattle.nl_core.specs.Notes.{HasNotedWrite, new_checkpoint}
 use Rattle.nl_core.specs.declared.commit.Commit.{Commit}
 use Rattle.nl_core.specs.declared.commit.Commit.TheVariants.{Written}
-use Rattle.nl_cpfile.specs.Tables.{ComesNext, root_in}
+use Rattle.nl_cpfile.specs.Tables.{ComesNext, checkpoint_root}
 use Rattle.nl_core.specs.Volume.{Lists, latest_root, published}
 use Rattle.nl_cpfile.specs.declared.checkpoint.Checkpoint.{Checkpoint}
 use Rattle.nl_core.specs.declared.draft.Draft.{Draft}
@@ -22,7 +22,7 @@ use Rattle.nl_core.specs.declared.draft.Draft.{Draft}
 module _ (lists : Lists) (store : Store) (mode : Mode) (moment : ℕ) (draft : Draft)
     (can : CanBeDrafted (content_in store) lists) (drafted : IsNextDraft store mode moment lists draft) where
   -- the current tree is settled in its batch
-  abbrev settled-draft : Settled (layout_of lists store) (root_in draft.checkpoint)
+  abbrev settled-draft : Settled (layout_of lists store) (checkpoint_root draft.checkpoint)
   settled-draft = record {
     base = can.1;
     held = can.2;
@@ -44,11 +44,11 @@ module _ (lists : Lists) (store : Store) (mode : Mode) (moment : ℕ) (draft : D
   module _ (lowest : SettledNumbersAreLowest) (now : Lists) (after : Store) (is : now ≡ published draft.checkpoint lists)
       (written : IsWritten draft.checkpoint.number draft.checkpoint.stamp draft.batch store after) where
     -- the batch is written, and the checkpoint is kept
-    abbrev writes-draft : HasWritten mode moment (layout_of lists store) (layout_of (published draft.checkpoint lists) after)
+    abbrev writes-draft : HasWrittenCheckpoint mode moment (layout_of lists store) (layout_of (published draft.checkpoint lists) after)
     writes-draft = record {
       left = drafted.left;
       settled = settled-draft;
-      numbers = lowest (content_in store) (root_of (latest_root lists)) (root_of (root_in draft.checkpoint))
+      lowest_free = lowest (content_in store) (root_of (latest_root lists)) (root_of (checkpoint_root draft.checkpoint))
           lists.current.became can.2 draft.batch (drafted.settles can.1 can.2 can.3);
       lists = ap (λ (c : Checkpoint). published c lists) drafted.checkpoint;
       written = written;
@@ -74,9 +74,9 @@ module _ (lists : Lists) (store : Store) (mode : Mode) (moment : ℕ) (draft : D
       → IsWriteRefused (lists.table.latest.number + 1) (max moment lists.table.latest.stamp) draft.batch store after e
       → HasRefused (event.Checkpoint mode moment) e (layout_of lists store) (layout_of lists after)
   refused error.NoSpace after why =
-      (ap (layout_of lists) why.1, (drafted.left, record { root = root_in draft.checkpoint; settled = settled-draft; lacks = why.0 }))
+      (ap (layout_of lists) why.1, (drafted.left, record { root = checkpoint_root draft.checkpoint; settled = settled-draft; lacks = why.0 }))
   refused error.Memory after why = (ap (layout_of lists) why, drafted.left)
-  refused error.Fault after why = record { left = drafted.left; lists = refl; root = root_in draft.checkpoint; settled = settled-draft; store = why }
+  refused error.Fault after why = record { left = drafted.left; lists = refl; root = checkpoint_root draft.checkpoint; settled = settled-draft; store = why }
   refused _ after why = absurd why
 
   pub refused-draft : (e : VolError) (now : Lists) (after : Store) → now ≡ lists

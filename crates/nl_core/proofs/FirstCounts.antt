@@ -7,7 +7,7 @@ use Rattle.std.proofs.lemmas.Bool.{cases_Bool, eq-eqb, eqb-true, or_left, or_rig
 use Rattle.nl_types.specs.declared.event.Mode.TheVariants.{Plain}
 use Rattle.nl_types.specs.declared.geometry.Geometry.{Geometry}
 use Rattle.nl_types.specs.NeedLaws.{AreGone}
-use Rattle.nl_types.specs.PartialMaps.{is_one_of}
+use Rattle.nl_types.specs.NumberLists.{is_one_of}
 use Rattle.nl_types.specs.Trees.{root_alone}
 use Rattle.nl_device.specs.Failures.{Failures}
 use Rattle.nl_device.specs.Pages.{DevicePages}
@@ -21,8 +21,8 @@ use Rattle.nl_core.specs.CleaningEvents.{kept_numbers}
 use Rattle.nl_core.specs.Layout.{Layout, blank_layout}
 use Rattle.nl_core.specs.NeededBlocks.{HasWrittenBatch}
 use Rattle.nl_core.specs.Volume.{Lists, latest_alone}
-use Rattle.nl_core.proofs.CountedPens.{written-over}
-use Rattle.nl_core.proofs.Checkpoints.{number-next}
+use Rattle.nl_core.specs.Facts.CountedPens.{written-over}
+use Rattle.nl_core.specs.Facts.Checkpoints.{number-next}
 use Rattle.nl_core.proofs.Formats.{none-in-use, sound-before, stands-before}
 
 module _ (geometry : Geometry) (device : DevicePages) (failures : Failures) (old new : Layout) (now : ℕ) (batch : Changes)

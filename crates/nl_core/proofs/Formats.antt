@@ -12,18 +12,18 @@ use Rattle.nl_types.specs.declared.event.Event.TheVariants.{Checkpoint}
 use Rattle.nl_types.specs.declared.event.Mode.TheVariants.{Plain}
 use Rattle.nl_types.specs.declared.geometry.Geometry.{Geometry}
 use Rattle.nl_types.specs.Entries.{Content}
-use Rattle.nl_types.specs.Lifetimes.{IsLedger, Ledger, Remove, Write, blank, ledger_after, ledger_after_all}
+use Rattle.nl_types.specs.Lifetimes.{IsLedger, Ledger, Forgets, Makes, blank, ledger_after, ledger_after_all}
 use Rattle.nl_types.specs.Roots as roots
 use Rattle.nl_types.specs.Roots.{pages_of}
 use Rattle.nl_types.specs.Trees.{root_alone}
 use Rattle.nl_types.specs.Worlds.{formatted}
-use Rattle.nl_types.proofs.ExactLifetimes.{ledger_after-IsLedger}
-use Rattle.nl_types.proofs.WorldLaws.{formatted_is_world}
+use Rattle.nl_types.specs.Facts.ExactLifetimes.{ledger_after-IsLedger}
+use Rattle.nl_types.specs.Facts.WorldLaws.{formatted_is_world}
 use Rattle.nl_device.specs.Failures.{Failures}
 use Rattle.nl_device.specs.Pages.{DevicePages}
 use Rattle.nl_layout.specs.Root.{root_of}
 use Rattle.nl_layout.specs.declared.root.Root.{Root}
-use Rattle.nl_vstore.specs.Batches.{Fits}
+use Rattle.nl_vstore.specs.Batches.{CanBeTaken}
 use Rattle.nl_space.specs.Content.{SpaceContent, new_content}
 use Rattle.nl_vstore.specs.Stores.{IsStore, IsWritten, Numbered, Store, capacity, content_in, entry_now, new_store}
 use Rattle.nl_blocktree.specs.Checkpoints.{numbers_of}
@@ -34,21 +34,21 @@ use Rattle.nl_files.specs.CheckpointRoots.{IsTreeSound, roots_at}
 use Rattle.nl_files.specs.Laws.{ledger_with}
 use Rattle.nl_files.specs.Settles.{Settles}
 use Rattle.nl_files.specs.TreeLaws.{StandsOverLatest}
-use Rattle.nl_files.proofs.Few.{few-births}
-use Rattle.nl_files.proofs.First.{latest-first, stores-nothing}
-use Rattle.nl_files.proofs.TreeLaws.{first_trees-stand, trees-can_be_settled}
-use Rattle.nl_files.proofs.Holdings.{roots-hold_one}
+use Rattle.nl_files.specs.Facts.Few.{few-births}
+use Rattle.nl_files.specs.Facts.First.{latest-first, stores-nothing}
+use Rattle.nl_files.specs.Facts.TreeLaws.{first_trees-stand, trees-can_be_settled}
+use Rattle.nl_files.specs.Facts.Holdings.{roots-hold_one}
 use Rattle.nl_core.specs.Draft.{CanBeDrafted, HasFewNames, SettlesNow}
-use Rattle.nl_core.specs.Layout.{HasRefused, HasWritten, IsFormatted, IsPen, IsSoundPen, LacksSpaceToSettle, Layout, MeansWorld, Settled, blank_layout, layout_of, ledger_of, pages_in, reached_by}
+use Rattle.nl_core.specs.Layout.{HasRefused, HasWrittenCheckpoint, IsFormatted, IsPen, IsSoundPen, LacksSpaceToSettle, Layout, MeansWorld, Settled, blank_layout, layout_of, ledger_of, layout_pages, reached_by}
 use Rattle.nl_core.specs.Means.{RootMeans}
 use Rattle.nl_core.specs.Tables.{blank_checkpoint, blank_lists}
-use Rattle.nl_cpfile.specs.Tables.{by_number, kept_at, root_in}
+use Rattle.nl_cpfile.specs.Tables.{by_number, kept_at, checkpoint_root}
 use Rattle.nl_core.specs.Volume.{Lists, latest_alone, mount_of}
 use Rattle.nl_cpfile.specs.declared.checkpoint.Checkpoint.{Checkpoint as Kept}
-use Rattle.nl_core.proofs.Checkpoints.{differs-behind, ledger-behind, stands-behind}
+use Rattle.nl_core.specs.Facts.Checkpoints.{differs-behind, ledger-behind, stands-behind}
 use Rattle.nl_core.proofs.FirstLogs.{first_logs}
-use Rattle.nl_cpfile.proofs.Found.{eq_by_cmp-nat_cmp}
-use Rattle.nl_core.proofs.Published.{current-means, root-means}
+use Rattle.nl_cpfile.specs.Facts.Found.{eq_by_cmp-nat_cmp}
+use Rattle.nl_core.specs.Facts.Published.{current-means, root-means}
 
 -- ---- what is found under a number
 
@@ -81,19 +81,19 @@ module _ (geometry : Geometry) (device : DevicePages) (failures : Failures) wher
   content-blank : content_in before.store ≡ blank.content
   content-blank i v = ap (option_map entry_now) (none-stands {X = Numbered} (capacity before.store + 1) v) i
 
-  reached-blank : reached_by (pages_in before) blank_checkpoint ≡ (λ _. None)
+  reached-blank : reached_by (layout_pages before) blank_checkpoint ≡ (λ _. None)
   reached-blank =
       ap (λ (content : Content). numbers_of (pages_of content) (roots_at (pages_of content) roots.Empty)) content-blank
       ∙ sym latest-first.numbers
 
   kept-blank : (c : ℕ)
-      → option_map (reached_by (pages_in before)) (find nat_cmp c (by_number blank_checkpoint ∷ [])) ≡ blank.kept c
+      → option_map (reached_by (layout_pages before)) (find nat_cmp c (by_number blank_checkpoint ∷ [])) ≡ blank.kept c
   kept-blank c = elim (cases_eq c 0) [
     | inl is ↦
-        subst (λ k. option_map (reached_by (pages_in before)) (find nat_cmp k (by_number blank_checkpoint ∷ [])) ≡ blank.kept k)
+        subst (λ k. option_map (reached_by (layout_pages before)) (find nat_cmp k (by_number blank_checkpoint ∷ [])) ≡ blank.kept k)
         (sym is) (ap (λ numbers. Some numbers) reached-blank)
     | inr other ↦
-        ap (option_map (reached_by (pages_in before))) (found-behind c blank_checkpoint [] (λ is. other (sym is)))
+        ap (option_map (reached_by (layout_pages before))) (found-behind c blank_checkpoint [] (λ is. other (sym is)))
         ∙ sym (cond-false (c == 0) _ _ (ne_eqb c 0 other))
   ]
 
@@ -109,8 +109,8 @@ module _ (geometry : Geometry) (device : DevicePages) (failures : Failures) wher
   pub sound-before : IsStore before.store → IsSoundPen before
   sound-before is_store = record {
     ledger = stands-before.is_ledger;
-    kept = All-cons (λ (c : Kept). IsTreeSound (pages_in before) (root_of (root_in c))) blank_checkpoint []
-        stands-before.latest.sound (All-nil (λ (c : Kept). IsTreeSound (pages_in before) (root_of (root_in c))));
+    trees_sound = All-cons (λ (c : Kept). IsTreeSound (layout_pages before) (root_of (checkpoint_root c))) blank_checkpoint []
+        stands-before.latest.sound (All-nil (λ (c : Kept). IsTreeSound (layout_pages before) (root_of (checkpoint_root c))));
     latest = found-one blank_checkpoint;
     last = omega arith;
     store = is_store;
@@ -130,8 +130,8 @@ module _ (geometry : Geometry) (device : DevicePages) (failures : Failures) wher
     where
       held : settled.held ≡ first_holding
       held = settled.current.holds ∙ ap (holding_over root_directory_alone)
-          (roots-hold_one (pages_in before) roots.Empty settled.base nothing_held settled.current.base_is
-          (stores-nothing (pages_in before)))
+          (roots-hold_one (layout_pages before) roots.Empty settled.base nothing_held settled.current.base_is
+          (stores-nothing (layout_pages before)))
 
       settles : Settles blank.content roots.Empty (root_of root) root_directory_alone first_holding settled.changes
       settles = subst
@@ -139,8 +139,8 @@ module _ (geometry : Geometry) (device : DevicePages) (failures : Failures) wher
           content-blank
           (subst (λ (h : Holding). SettlesNow (content_in before.store) before.lists root h settled.changes) held settled.settles)
 
-      fits : Fits (capacity before.store) blank.content settled.changes
-      fits = subst (λ (content : Content). Fits (capacity before.store) content settled.changes) content-blank settled.fits
+      fits : CanBeTaken (capacity before.store) blank.content settled.changes
+      fits = subst (λ (content : Content). CanBeTaken (capacity before.store) content settled.changes) content-blank settled.fits
 
   -- and there is space for them
   has-space : LacksSpaceToSettle before → ⊥
@@ -158,7 +158,7 @@ module _ (geometry : Geometry) (device : DevicePages) (failures : Failures) wher
 
   -- ---- behind the first checkpoint, once the one without files is gone
 
-  module _ (new : Layout) (now : ℕ) (writes : HasWritten Plain now before new) (old_store : IsStore before.store) where
+  module _ (new : Layout) (now : ℕ) (writes : HasWrittenCheckpoint Plain now before new) (old_store : IsStore before.store) where
     abbrev after : Layout
     after = layout_of (latest_alone new.lists) new.store
 
@@ -181,36 +181,36 @@ module _ (geometry : Geometry) (device : DevicePages) (failures : Failures) wher
     inodes = ap (λ (l : Lists). l.table.latest.inodes) writes.lists
 
     -- the tree stands over it
-    stands : StandsOverLatest (ledger_of new) (root_of (root_in latest)) new.lists.current first_holding root_alone
+    stands : StandsOverLatest (ledger_of new) (root_of (checkpoint_root latest)) new.lists.current first_holding root_alone
     stands = stands-behind before new Plain now (sound-before old_store) nothing_held root_alone stands-before writes
 
     -- ---- its ledger
 
     kept-after : (c : ℕ)
-        → option_map (reached_by (pages_in new)) (find nat_cmp c (by_number latest ∷ [])) ≡ (ledger_after (Remove 0) (ledger_of new)).kept c
+        → option_map (reached_by (layout_pages new)) (find nat_cmp c (by_number latest ∷ [])) ≡ (ledger_after (Forgets 0) (ledger_of new)).kept c
     kept-after c = elim (cases_eq c 0) [
       | inl is ↦
-          ap (option_map (reached_by (pages_in new))) (found-behind c latest [] (λ same. omega (arith, same, is, number)))
+          ap (option_map (reached_by (layout_pages new))) (found-behind c latest [] (λ same. omega (arith, same, is, number)))
           ∙ sym (cond-true (c == 0) _ _ (eq-eqb c 0 is))
       | inr other ↦
-          ap (option_map (reached_by (pages_in new)))
+          ap (option_map (reached_by (layout_pages new)))
           (sym (found-behind c blank_checkpoint (by_number latest ∷ []) (λ same. other (sym same)))
           ∙ ap (λ (earlier : List Kept). kept_at c (record new.lists.table { earlier = earlier }))
           (sym (ap (λ (l : Lists). l.table.earlier) writes.lists)))
           ∙ sym (cond-false (c == 0) _ _ (ne_eqb c 0 other))
     ]
 
-    ledger-after : ledger_of after ≡ ledger_after (Remove 0) (ledger_of new)
+    ledger-after : ledger_of after ≡ ledger_after (Forgets 0) (ledger_of new)
     ledger-after i = record { content = content_in new.store; latest = latest.number; kept = λ c. kept-after c i }
 
     is_ledger : IsLedger (ledger_of after)
     is_ledger = subst IsLedger (sym ledger-after)
-        (ledger_after-IsLedger (Remove 0) (ledger_of new) stands.is_ledger (λ same. omega (arith, same, number)))
+        (ledger_after-IsLedger (Forgets 0) (ledger_of new) stands.is_ledger (λ same. omega (arith, same, number)))
 
     -- what was written and removed since the blank one
-    ledger-formatted : ledger_of after ≡ ledger_after_all (Write writes.settled.changes.births writes.settled.changes.ends ∷ Remove 0 ∷ []) blank
+    ledger-formatted : ledger_of after ≡ ledger_after_all (Makes writes.settled.changes.births writes.settled.changes.ends ∷ Forgets 0 ∷ []) blank
     ledger-formatted =
-        ledger-after ∙ ap (ledger_after (Remove 0))
+        ledger-after ∙ ap (ledger_after (Forgets 0))
         (ledger-behind before new Plain now (sound-before old_store) nothing_held root_alone stands-before writes
         ∙ ap (ledger_with writes.settled.changes) ledger-before)
 
@@ -220,7 +220,7 @@ module _ (geometry : Geometry) (device : DevicePages) (failures : Failures) wher
     is-formatted = record {
       settled = writes.settled;
       differs = differs-behind before new Plain now (sound-before old_store) nothing_held root_alone stands-before writes;
-      numbers = writes.numbers;
+      lowest_free = writes.lowest_free;
       written = subst (λ n. IsWritten n now writes.settled.changes before.store new.store) number
           (subst (λ n. IsWritten latest.number n writes.settled.changes before.store new.store) stamp writes.written);
       ledger = ledger-formatted;
@@ -229,17 +229,17 @@ module _ (geometry : Geometry) (device : DevicePages) (failures : Failures) wher
     sound-after : IsStore new.store → IsSoundPen after
     sound-after is_store = record {
       ledger = is_ledger;
-      kept = All-cons (λ (c : Kept). IsTreeSound (pages_in new) (root_of (root_in c))) latest [] stands.latest.sound
-          (All-nil (λ (c : Kept). IsTreeSound (pages_in new) (root_of (root_in c))));
+      trees_sound = All-cons (λ (c : Kept). IsTreeSound (layout_pages new) (root_of (checkpoint_root c))) latest [] stands.latest.sound
+          (All-nil (λ (c : Kept). IsTreeSound (layout_pages new) (root_of (checkpoint_root c))));
       latest = found-one latest;
       last = omega (arith, number);
       store = is_store;
     }
 
     -- nothing differs from the checkpoint, so it stands for the tree too
-    copy-after : RootMeans (pages_in new) (root_in latest) root_alone
+    copy-after : RootMeans (layout_pages new) (checkpoint_root latest) root_alone
     copy-after = root-means new before.lists.current first_holding root_alone
-        (subst (λ (now : Current). StandsOverLatest (ledger_of new) (root_of (root_in latest)) now first_holding root_alone)
+        (subst (λ (now : Current). StandsOverLatest (ledger_of new) (root_of (checkpoint_root latest)) now first_holding root_alone)
         (ap (λ (l : Lists). l.current) writes.lists) stands)
 
     means-after : MeansWorld after (formatted now)
@@ -289,7 +289,7 @@ module _ (geometry : Geometry) (device : DevicePages) (failures : Failures) (old
     refused-first e refused = refused-before geometry device failures new now e
         (subst (λ (l : Layout). HasRefused (Checkpoint Plain now) e l new) is-blank refused)
 
-    pub new-volume : (left : Lists) → HasWritten Plain now old new → IsStore old.store → IsStore new.store
+    pub new-volume : (left : Lists) → HasWrittenCheckpoint Plain now old new → IsStore old.store → IsStore new.store
         → left ≡ latest_alone new.lists
         → IsNew geometry device failures now (layout_of left new.store)
     new-volume left writes old_store is_store is =
@@ -299,8 +299,8 @@ module _ (geometry : Geometry) (device : DevicePages) (failures : Failures) (old
           is_pen = is-pen geometry device failures new now first first_store is_store;
         })
       where
-        first : HasWritten Plain now (blank_layout geometry device failures) new
-        first = subst (λ (l : Layout). HasWritten Plain now l new) is-blank writes
+        first : HasWrittenCheckpoint Plain now (blank_layout geometry device failures) new
+        first = subst (λ (l : Layout). HasWrittenCheckpoint Plain now l new) is-blank writes
 
         first_store : IsStore (blank_layout geometry device failures).store
         first_store = subst (λ (l : Layout). IsStore l.store) is-blank old_store

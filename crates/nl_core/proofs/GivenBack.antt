@@ -35,7 +35,7 @@ pen-given_back l pen = record {
   world = (record pen.world.0 { mounts = [] }, means-given_back l pen.world.0 pen.world.1);
   sound = record {
     ledger = pen.sound.ledger;
-    kept = pen.sound.kept;
+    trees_sound = pen.sound.trees_sound;
     latest = pen.sound.latest;
     last = pen.sound.last;
     store = pen.sound.store;

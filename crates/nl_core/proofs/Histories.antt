@@ -8,7 +8,7 @@ use Rattle.std.proofs.lemmas.Bool.{eqb-true, ne_eqb}
 use Rattle.nl_types.specs.Entries.{Place}
 use Rattle.nl_types.specs.Roots.{Pages}
 use Rattle.nl_cpfile.specs.declared.checkpoint.Checkpoint.{Checkpoint}
-use Rattle.nl_cpfile.proofs.Found.{eq_by_cmp-nat_cmp}
+use Rattle.nl_cpfile.specs.Facts.Found.{eq_by_cmp-nat_cmp}
 use Rattle.nl_core.specs.Commits.{IsNew, KeepsCheckpoint, MountsStillShow, applied}
 use Rattle.nl_core.specs.Shown.{Shown, mounted_on, pages_shown}
 use Rattle.nl_core.specs.Volume.{is_other_mount, mount_of}

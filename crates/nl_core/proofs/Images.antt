@@ -12,19 +12,19 @@ use Rattle.nl_types.specs.declared.event.Mode.{Mode}
 use Rattle.nl_types.specs.declared.event.Mode.TheVariants.{Snapshot}
 use Rattle.nl_types.specs.Roots.{Pages}
 use Rattle.nl_types.specs.Worlds.{Copy, World, are_stamps_rising, copy_at}
-use Rattle.nl_types.proofs.NumberedLists.{before-lt}
+use Rattle.nl_types.specs.Facts.NumberedLists.{before-lt}
 use Rattle.nl_layout.specs.Root.{root_of}
 use Rattle.nl_files.specs.CheckpointRoots.{IsTreeSound}
-use Rattle.nl_cpfile.specs.Tables.{IsRising, IsTable, Precedes, kept_at, root_in}
+use Rattle.nl_cpfile.specs.Tables.{IsRising, IsTable, Precedes, kept_at, checkpoint_root}
 use Rattle.nl_cpfile.specs.declared.checkpoint.Checkpoint.{Checkpoint}
 use Rattle.nl_core.specs.Commits.{HasTree, IsImage}
-use Rattle.nl_core.specs.Layout.{IsPen, Layout, pages_in}
+use Rattle.nl_core.specs.Layout.{IsPen, Layout, layout_pages}
 use Rattle.nl_core.specs.Means.{CopyMeans, Means}
 use Rattle.nl_core.specs.Notes.{shown_of}
 use Rattle.nl_core.specs.Volume.{kept_by, mount_of}
-use Rattle.nl_core.proofs.Events.{HasCopy, copy_of}
-use Rattle.nl_core.proofs.Ledgers.{found-all}
-use Rattle.nl_core.proofs.ShownNumbers.{pages-shown}
+use Rattle.nl_core.specs.Facts.Events.{HasCopy, copy_of}
+use Rattle.nl_core.specs.Facts.Ledgers.{found-all}
+use Rattle.nl_core.specs.Facts.ShownNumbers.{pages-shown}
 
 -- ---- the table
 
@@ -59,7 +59,7 @@ module _ (pages : Pages) where
 
 pub pen-table : (l : Layout) → IsPen l → IsTable l.lists.table
 pen-table l pen = record {
-  rising = rising-means (pages_in l) (kept_by l.lists) pen.world.0.copies pen.world.1.copies pen.world.1.world.numbers_rise
+  rising = rising-means (layout_pages l) (kept_by l.lists) pen.world.0.copies pen.world.1.copies pen.world.1.world.numbers_rise
       pen.world.1.world.stamps_rise;
   limit = pen.sound.last;
 }
@@ -81,7 +81,7 @@ module _ (l : Layout) (pen : IsPen l) where
   abbrev w : World
   w = pen.world.0
 
-  abbrev means : Means (pages_in l) l.lists w
+  abbrev means : Means (layout_pages l) l.lists w
   means = pen.world.1
 
   in-world : (m n : ℕ) → find nat_cmp m (map mount_of l.lists.mounts) ≡ Some n → find nat_cmp m w.mounts ≡ Some n
@@ -94,7 +94,7 @@ module _ (l : Layout) (pen : IsPen l) where
       let low = leb-true m w.given (and_parts (nat_lt 0 m) (nat_le m w.given) passes).1 in
       omega (arith, low, means.given)
 
-  snapshot : (n : ℕ) (o : Option Checkpoint) → kept_at n l.lists.table ≡ o → HasCopy (pages_in l) o (copy_at w n)
+  snapshot : (n : ℕ) (o : Option Checkpoint) → kept_at n l.lists.table ≡ o → HasCopy (layout_pages l) o (copy_at w n)
       → option_map (λ (copy : Copy). copy.mode) (copy_at w n) ≡ Some Snapshot
       → (c : Checkpoint) × (kept_at n l.lists.table ≡ Some c) × (c.mode ≡ Snapshot)
   snapshot n None at has is =
@@ -105,11 +105,11 @@ module _ (l : Layout) (pen : IsPen l) where
       let mode : has.0.mode ≡ Snapshot = cc in
       (c, at, sym has.2.mode ∙ mode)
 
-  has-tree : (n : ℕ) (c : Checkpoint) → kept_at n l.lists.table ≡ Some c → HasTree (pages_in l) (root_in c)
+  has-tree : (n : ℕ) (c : Checkpoint) → kept_at n l.lists.table ≡ Some c → HasTree (layout_pages l) (checkpoint_root c)
   has-tree n c at =
-      let copy = copy_of (pages_in l) l.lists w n (Some c) means at in
+      let copy = copy_of (layout_pages l) l.lists w n (Some c) means at in
       record {
-        sound = found-all (λ (k : Checkpoint). IsTreeSound (pages_in l) (root_of (root_in k))) n (kept_by l.lists) c pen.sound.kept at;
+        sound = found-all (λ (k : Checkpoint). IsTreeSound (layout_pages l) (root_of (checkpoint_root k))) n (kept_by l.lists) c pen.sound.trees_sound at;
         tree = copy.0.tree;
         means = copy.2.tree;
       }
@@ -118,9 +118,9 @@ module _ (l : Layout) (pen : IsPen l) where
   pub pen-image : IsImage (shown_of l)
   pen-image = record {
     table = pen-table l pen;
-    trees = λ n c at. subst (λ (pages : Pages). HasTree pages (root_in c)) (sym (pages-shown l)) (has-tree n c at);
+    trees = λ n c at. subst (λ (pages : Pages). HasTree pages (checkpoint_root c)) (sym (pages-shown l)) (has-tree n c at);
     given = given;
     mounted = λ m n at.
         let o = kept_at n l.lists.table in
-        snapshot n o refl (copy_of (pages_in l) l.lists w n o means refl) (means.world.mounted m n (in-world m n at));
+        snapshot n o refl (copy_of (layout_pages l) l.lists w n o means refl) (means.world.mounted m n (in-world m n at));
   }

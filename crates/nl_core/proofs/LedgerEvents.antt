@@ -11,7 +11,7 @@ use Rattle.nl_types.specs.declared.event.Mode.{Mode}
 use Rattle.nl_types.specs.declared.reply.Answer.{Answer}
 use Rattle.nl_types.specs.declared.reply.Answer.TheVariants as answer
 use Rattle.nl_types.specs.declared.segment.SegmentInfo.{SegmentInfo}
-use Rattle.nl_types.specs.Lifetimes.{CoveredNumbersStay, EachAllowed, EndsOnceSince, KeepsCovered, Ledger, LedgerEvent, NumbersEndOnce, Reclaim, Remove, Write, ledger_after, ledger_after_all}
+use Rattle.nl_types.specs.Lifetimes.{CoveredNumbersStay, EachAllowed, EndsOnceSince, KeepsCovered, Ledger, LedgerEvent, NumbersEndOnce, Frees, Forgets, Makes, ledger_after, ledger_after_all}
 use Rattle.nl_types.specs.Worlds.{is_moving}
 use Rattle.nl_vstore.specs.Located.{needed_in}
 use Rattle.nl_vstore.specs.Stores.{IsMoveRefused, IsStore}
@@ -24,11 +24,11 @@ use Rattle.nl_core.specs.LedgerEvents.{EventsAreLedgerEvents, LedgerGoesOn, Runs
 use Rattle.nl_core.specs.Layout.{AllowedBetween, HasDone, HasPublished, HasRefused, HasRetired, IsPen, Layout, layout_of, ledger_of}
 use Rattle.nl_core.specs.Volume.{IsTakenOut, Lists, moved_lists, with_minor}
 use Rattle.nl_core.proofs.Checkpointing.{ledger-same}
-use Rattle.nl_core.proofs.Checkpoints.{allowed-behind, ledger-behind}
-use Rattle.nl_core.proofs.CleanedPens.{moves_keep_pens, refused_moves_keep_pens, retirements_keep_pens}
-use Rattle.nl_core.proofs.CleaningEvents.{none_needed}
-use Rattle.nl_core.proofs.Ledgers.{stands-latest}
-use Rattle.nl_core.proofs.MinorPens.{minors_keep_pens, nothing-allowed}
+use Rattle.nl_core.specs.Facts.Checkpoints.{allowed-behind, ledger-behind}
+use Rattle.nl_core.specs.Facts.CleanedPens.{moves_keep_pens, refused_moves_keep_pens, retirements_keep_pens}
+use Rattle.nl_core.specs.Facts.CleaningEvents.{none_needed}
+use Rattle.nl_core.specs.Facts.Ledgers.{stands-latest}
+use Rattle.nl_core.specs.Facts.MinorPens.{minors_keep_pens, nothing-allowed}
 use Rattle.nl_core.proofs.ModeChanges.{ledger-moded}
 use Rattle.nl_core.proofs.Removals.{each-allowed, ledger-left}
 use Rattle.nl_core.proofs.ResizedPens.{resized-ledger, unresized-ledger}
@@ -47,7 +47,7 @@ module _ (old new : Layout) (pen : IsPen old) where
   same-layout same = ap ledger_of same
 
   checkpointed : (mode : Mode) (moment : ℕ) (done : HasPublished mode moment old new)
-      → GoesOn (Write done.writes.settled.changes.births done.writes.settled.changes.ends ∷ [])
+      → GoesOn (Makes done.writes.settled.changes.births done.writes.settled.changes.ends ∷ [])
   checkpointed mode moment done =
       let tree = pen.world.1.tree in
       let w = pen.world.0 in
@@ -58,14 +58,14 @@ module _ (old new : Layout) (pen : IsPen old) where
       }
 
   -- checkpoints are gone
-  removed : (gone : List ℕ) → IsTakenOut gone old.lists new.lists → new.store ≡ old.store → GoesOn (map Remove gone)
+  removed : (gone : List ℕ) → IsTakenOut gone old.lists new.lists → new.store ≡ old.store → GoesOn (map Forgets gone)
   removed gone taken store = record {
     each = each-allowed old gone taken.stays;
     after = (λ i. ledger_of (layout_of (taken.lists i) (store i))) ∙ ledger-left old gone taken.stays;
   }
 
   retired-segment : (segment : ℕ) (a : Answer) → HasRetired segment a old new → IsStore new.store
-      → GoesOn (Reclaim (stood_in old.store segment) ∷ [])
+      → GoesOn (Frees (stood_in old.store segment) ∷ [])
   retired-segment segment a done store =
       let emptied = done.emptied in
       let leaves : LeavesPen segment old new =
@@ -76,7 +76,7 @@ module _ (old new : Layout) (pen : IsPen old) where
   -- where blocks were moved, a checkpoint without births and ends was written
   moved-segment : (segment limit moment : ℕ) (a : Answer) → new.lists ≡ moved_lists moment a old.lists
       → HasMovedOut segment limit moment a old.lists old.store new.store → IsStore new.store
-      → GoesOn (if is_moving (Ok a) then Write [] [] ∷ [] else [])
+      → GoesOn (if is_moving (Ok a) then Makes [] [] ∷ [] else [])
   moved-segment segment limit moment a lists moved store = by (is_moving (Ok a)) refl
     where
       mid : Layout
@@ -90,14 +90,14 @@ module _ (old new : Layout) (pen : IsPen old) where
       some zero is = absurd (true≢false (sym is))
       some (suc m) is = omega arith
 
-      by : (b : Bool) → is_moving (Ok a) ≡ b → GoesOn (cond b (Write [] [] ∷ []) [])
+      by : (b : Bool) → is_moving (Ok a) ≡ b → GoesOn (cond b (Makes [] [] ∷ []) [])
       by false idle = stays (ap (λ (l : Lists). ledger_of (layout_of l new.store)) same ∙ kept.ledger)
         where
           same : new.lists ≡ old.lists
           same = lists ∙ cond-false (is_moving (Ok a)) (with_minor moment old.lists) old.lists idle
       by true moving = record {
         each = (nothing-allowed (ledger_of old), tt);
-        after = ap (λ (l : Lists). ledger_of (layout_of l new.store)) more ∙ minor.ledger ∙ ap (ledger_after (Write [] [])) kept.ledger;
+        after = ap (λ (l : Lists). ledger_of (layout_of l new.store)) more ∙ minor.ledger ∙ ap (ledger_after (Makes [] [])) kept.ledger;
       }
         where
           more : new.lists ≡ with_minor moment old.lists
@@ -172,9 +172,9 @@ module _ (old new : Layout) (pen : IsPen old) where
 
 pub events_are_ledger_events : (allowed : AllowedBetween) → EventsAreLedgerEvents allowed
 events_are_ledger_events allowed old new event (Ok a) pen does =
-    done-goes_on old new pen event a does.touches does.pen.sound.store
+    done-goes_on old new pen event a does.becomes does.pen.sound.store
 events_are_ledger_events allowed old new event (Err e) pen does =
-    stays old new pen (refused-same old new pen event e does.touches does.pen.sound.store)
+    stays old new pen (refused-same old new pen event e does.becomes does.pen.sound.store)
 
 -- ---- a list of events
 

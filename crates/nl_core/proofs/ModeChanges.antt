@@ -10,11 +10,11 @@ use Rattle.nl_layout.specs.Root.{root_of}
 use Rattle.nl_layout.specs.declared.root.Root.{Root}
 use Rattle.nl_files.specs.CheckpointRoots.{IsTreeSound}
 use Rattle.nl_cpfile.specs.declared.checkpoint.Checkpoint.{Checkpoint}
-use Rattle.nl_cpfile.specs.Tables.{all, kept_at, moded, root_in, with_mode}
-use Rattle.nl_core.specs.Layout.{IsSoundPen, KeepsNumbers, Layout, layout_of, ledger_of, pages_in, reached_by}
+use Rattle.nl_cpfile.specs.Tables.{all, kept_at, moded, checkpoint_root, with_mode}
+use Rattle.nl_core.specs.Layout.{IsSoundPen, KeepsNumbers, Layout, layout_of, ledger_of, layout_pages, reached_by}
 use Rattle.nl_core.specs.Volume.{with_checkpoint_mode}
-use Rattle.nl_core.proofs.Ledgers.{same-numbers}
-use Rattle.nl_core.proofs.TableChanges.{all-with_mode, kept-with_mode, moded-same}
+use Rattle.nl_core.specs.Facts.Ledgers.{same-numbers}
+use Rattle.nl_core.specs.Facts.TableChanges.{all-with_mode, kept-with_mode, moded-same}
 
 module _ (l : Layout) (n : ℕ) (mode : Mode) where
   abbrev pub moded_layout : Layout
@@ -24,16 +24,16 @@ module _ (l : Layout) (n : ℕ) (mode : Mode) where
   latest-number = moded-same (λ c. c.number) n mode l.lists.table.latest refl
 
   reached-moded : (o : Option Checkpoint)
-      → option_map (reached_by (pages_in l)) (option_map (moded n mode) o) ≡ option_map (reached_by (pages_in l)) o
+      → option_map (reached_by (layout_pages l)) (option_map (moded n mode) o) ≡ option_map (reached_by (layout_pages l)) o
   reached-moded None = refl
-  reached-moded (Some c) = ap Some (moded-same (reached_by (pages_in l)) n mode c refl)
+  reached-moded (Some c) = ap Some (moded-same (reached_by (layout_pages l)) n mode c refl)
 
   -- modes play no part in what checkpoints reach
   pub ledger-moded : ledger_of moded_layout ≡ ledger_of l
   ledger-moded i = record {
     content = (ledger_of l).content;
     latest = latest-number i;
-    kept = λ c. (ap (option_map (reached_by (pages_in l))) (kept-with_mode n mode l.lists.table c)
+    kept = λ c. (ap (option_map (reached_by (layout_pages l))) (kept-with_mode n mode l.lists.table c)
         ∙ reached-moded (kept_at c l.lists.table)) i;
   }
 
@@ -42,18 +42,18 @@ module _ (l : Layout) (n : ℕ) (mode : Mode) where
 
   module _ (sound : IsSoundPen l) where
     abbrev IsKeptSound : Checkpoint → Type 0
-    IsKeptSound c = IsTreeSound (pages_in l) (root_of (root_in c))
+    IsKeptSound c = IsTreeSound (layout_pages l) (root_of (checkpoint_root c))
 
     still-sound : (c : Checkpoint) → IsKeptSound c → IsKeptSound (moded n mode c)
-    still-sound c is = subst (λ (root : Root). IsTreeSound (pages_in l) (root_of root))
-        (sym (moded-same root_in n mode c refl)) is
+    still-sound c is = subst (λ (root : Root). IsTreeSound (layout_pages l) (root_of root))
+        (sym (moded-same checkpoint_root n mode c refl)) is
 
     pub sound-moded : IsSoundPen moded_layout
     sound-moded = record {
       ledger = subst IsLedger (sym ledger-moded) sound.ledger;
-      kept = subst (All IsKeptSound) (sym (all-with_mode n mode l.lists.table))
+      trees_sound = subst (All IsKeptSound) (sym (all-with_mode n mode l.lists.table))
           (All-map IsKeptSound (moded n mode) (all l.lists.table)
-          (All-weaker IsKeptSound (λ c. IsKeptSound (moded n mode c)) still-sound (all l.lists.table) sound.kept));
+          (All-weaker IsKeptSound (λ c. IsKeptSound (moded n mode c)) still-sound (all l.lists.table) sound.trees_sound));
       latest = ap (λ k. kept_at k (with_mode n mode l.lists.table)) latest-number
           ∙ (kept-with_mode n mode l.lists.table l.lists.table.latest.number
           ∙ ap (option_map (moded n mode)) sound.latest);

@@ -5,8 +5,8 @@ use Rattle.std.specs.List.Sorted.{IsNonDecreasingBy, IsPartitionPoint}
 use Rattle.std.specs.FinMap.{find}
 use Rattle.std.specs.Ordering.{nat_cmp}
 use Rattle.std.proofs.lemmas.Bool.{cases_lt, ltb-false, ltb-true}
-use Rattle.nl_cpfile.proofs.Rising.{All-at, All-filter, All-push, All-weaken}
-use Rattle.nl_tree.proofs.Rising.{find-here, find-there}
+use Rattle.nl_cpfile.specs.Facts.Rising.{All-at, All-filter, All-push, All-weaken}
+use Rattle.nl_tree.specs.Facts.Rising.{find-here, find-there}
 use Rattle.nl_core.specs.MountTables.{AreGiven, AreRising, IsGiven, Precedes}
 use Rattle.nl_core.specs.Volume.{is_other_mount, mount_of}
 use Rattle.nl_core.specs.declared.mounts.Mounted.{Mounted}

@@ -18,11 +18,11 @@ use Rattle.nl_types.specs.Runs.{Step, memory_alone}
 use Rattle.nl_vstore.specs.Stores.{Store, content_in}
 use Rattle.nl_tree.specs.Became.{Current}
 use Rattle.nl_core.specs.Changes.{HasChanged}
-use Rattle.nl_core.specs.Means.{FollowsOver}
+use Rattle.nl_core.specs.Means.{StepsWorldsOver}
 use Rattle.nl_core.specs.Volume.{IsExpired, IsTakenOut, IsTakenOutRange, Lists, with_change, with_checkpoint_mode, with_mount, without_mount}
-use Rattle.nl_core.specs.Layout.{Does, Follows, HasDone, IsPen, IsSoundPen, KeepsNumbers, Touches, cleaned, layout_of, unshared}
+use Rattle.nl_core.specs.Layout.{Does, StepsWorlds, HasDone, IsPen, IsSoundPen, KeepsNumbers, Becomes, cleaned, layout_of, unshared}
 use Rattle.nl_core.specs.declared.mounts.Mounted.{Mounted}
-use Rattle.nl_core.proofs.Ledgers.{same-numbers}
+use Rattle.nl_core.specs.Facts.Ledgers.{same-numbers}
 use Rattle.nl_core.proofs.ModeChanges.{numbers-moded, sound-moded}
 use Rattle.nl_core.proofs.Removals.{numbers-left, sound-left}
 
@@ -32,8 +32,8 @@ abbrev pub pages_under : Store → Pages
 pages_under store = pages_of (content_in store)
 
 -- an event that memory alone may be refused to may be refused for more
-follows-more : (l new : Lists) (store : Store) (event : Event) (reply : Reply) → FollowsOver (pages_under store) l event reply new
-    → Follows unshared (layout_of l store) event reply (layout_of new store)
+follows-more : (l new : Lists) (store : Store) (event : Event) (reply : Reply) → StepsWorldsOver (pages_under store) l event reply new
+    → StepsWorlds unshared (layout_of l store) event reply (layout_of new store)
 follows-more l new store event reply follows = λ w m.
     let next = follows (cleaned (layout_of l store) event) w m in
     record { after = next.after; means = next.means; step = step-more next.after next.step }
@@ -53,15 +53,15 @@ follows-more l new store event reply follows = λ w m.
 
 -- the store stays, and what is true of the pen but for its world is shown
 does-kept : (l new : Lists) (store : Store) (event : Event) (reply : Reply) → IsPen (layout_of l store)
-    → FollowsOver (pages_under store) l event reply new
-    → Touches (layout_of l store) event reply (layout_of new store)
+    → StepsWorldsOver (pages_under store) l event reply new
+    → Becomes (layout_of l store) event reply (layout_of new store)
     → IsSoundPen (layout_of new store) → KeepsNumbers (layout_of l store) (layout_of new store)
     → Does unshared (layout_of l store) event reply (layout_of new store)
-does-kept l new store event reply pen follows touches sound numbers =
+does-kept l new store event reply pen follows becomes sound numbers =
     let next = follows (cleaned (layout_of l store) event) pen.world.0 pen.world.1 in
     record {
       follows = follows-more l new store event reply follows;
-      touches = touches;
+      becomes = becomes;
       numbers = numbers;
       pen = record { world = (next.after, next.means); sound = sound };
       failures = omega arith;
@@ -78,40 +78,40 @@ module _ (l : Lists) (store : Store) (pen : IsPen (layout_of l store)) (current 
   sound-moved : IsSoundPen (layout_of moved store)
   sound-moved = record {
     ledger = pen.sound.ledger;
-    kept = pen.sound.kept;
+    trees_sound = pen.sound.trees_sound;
     latest = pen.sound.latest;
     last = pen.sound.last;
     store = pen.sound.store;
   }
 
-  does-moved : (event : Event) (reply : Reply) → FollowsOver (pages_under store) l event reply moved
-      → Touches (layout_of l store) event reply (layout_of moved store)
+  does-moved : (event : Event) (reply : Reply) → StepsWorldsOver (pages_under store) l event reply moved
+      → Becomes (layout_of l store) event reply (layout_of moved store)
       → Does unshared (layout_of l store) event reply (layout_of moved store)
-  does-moved event reply follows touches =
-      does-kept l moved store event reply pen follows touches sound-moved
+  does-moved event reply follows becomes =
+      does-kept l moved store event reply pen follows becomes sound-moved
       (same-numbers (layout_of l store) (layout_of moved store) refl)
 
 -- an event that leaves all as it was
 does-nothing : (l : Lists) (store : Store) (event : Event) (reply : Reply) → IsPen (layout_of l store)
-    → FollowsOver (pages_under store) l event reply l
-    → Touches (layout_of l store) event reply (layout_of l store)
+    → StepsWorldsOver (pages_under store) l event reply l
+    → Becomes (layout_of l store) event reply (layout_of l store)
     → Does unshared (layout_of l store) event reply (layout_of l store)
-does-nothing l store event reply pen follows touches =
-    does-moved l store pen l.current l.dirty l.mounts l.given event reply follows touches
+does-nothing l store event reply pen follows becomes =
+    does-moved l store pen l.current l.dirty l.mounts l.given event reply follows becomes
 
 -- a refused event leaves all as it was
 does-refused : (l new : Lists) (store : Store) (event : Event) (e : VolError) → IsPen (layout_of l store)
-    → FollowsOver (pages_under store) l event (Err e) new
-    → Touches (layout_of l store) event (Err e) (layout_of l store) → new ≡ l
+    → StepsWorldsOver (pages_under store) l event (Err e) new
+    → Becomes (layout_of l store) event (Err e) (layout_of l store) → new ≡ l
     → Does unshared (layout_of l store) event (Err e) (layout_of new store)
-does-refused l new store event e pen follows touches same =
+does-refused l new store event e pen follows becomes same =
     subst (λ lists. Does unshared (layout_of l store) event (Err e) (layout_of lists store)) (sym same)
     (does-nothing l store event (Err e) pen
-    (subst (λ lists. FollowsOver (pages_under store) l event (Err e) lists) same follows) touches)
+    (subst (λ lists. StepsWorldsOver (pages_under store) l event (Err e) lists) same follows) becomes)
 
 -- some checkpoints are gone
 does-taken_out : (l new : Lists) (store : Store) (event : Event) (a : Answer) (gone : List ℕ) → IsPen (layout_of l store)
-    → FollowsOver (pages_under store) l event (Ok a) new → IsTakenOut gone l new
+    → StepsWorldsOver (pages_under store) l event (Ok a) new → IsTakenOut gone l new
     → HasDone (layout_of l store) event a (layout_of new store)
     → Does unshared (layout_of l store) event (Ok a) (layout_of new store)
 does-taken_out l new store event a gone pen follows taken done =
@@ -125,7 +125,7 @@ does-taken_out l new store event a gone pen follows taken done =
 
 -- a change
 pub does-Apply : (l new : Lists) (store : Store) (c : Change) (reply : Reply) → IsPen (layout_of l store)
-    → FollowsOver (pages_under store) l (Apply c) reply new
+    → StepsWorldsOver (pages_under store) l (Apply c) reply new
     → IfOk reply (λ _. new ≡ with_change c new.current l)
     → IfOk reply (λ _. HasChanged (pages_under store) c l new)
     → OnErr reply (new ≡ l)
@@ -133,14 +133,14 @@ pub does-Apply : (l new : Lists) (store : Store) (c : Change) (reply : Reply) �
 does-Apply l new store c (Ok a) pen follows is changed same =
     subst (λ lists. Does unshared (layout_of l store) (Apply c) (Ok a) (layout_of lists store)) (sym is)
     (does-moved l store pen new.current (l.dirty || is_dirtying c) l.mounts l.given (Apply c) (Ok a)
-    (subst (λ lists. FollowsOver (pages_under store) l (Apply c) (Ok a) lists) is follows)
+    (subst (λ lists. StepsWorldsOver (pages_under store) l (Apply c) (Ok a) lists) is follows)
     (refl, subst (λ lists. HasChanged (pages_under store) c l lists) is changed))
 does-Apply l new store c (Err e) pen follows is changed same =
     does-refused l new store (Apply c) e pen follows refl same
 
 -- a mount
 pub does-Mount : (l new : Lists) (store : Store) (n : ℕ) (reply : Reply) → IsPen (layout_of l store)
-    → FollowsOver (pages_under store) l (Mount n) reply new
+    → StepsWorldsOver (pages_under store) l (Mount n) reply new
     → IfOk reply (λ _. new ≡ with_mount n l)
     → OnErr reply (new ≡ l)
     → Does unshared (layout_of l store) (Mount n) reply (layout_of new store)
@@ -148,13 +148,13 @@ does-Mount l new store n (Ok a) pen follows is same =
     let next = with_mount n l in
     subst (λ lists. Does unshared (layout_of l store) (Mount n) (Ok a) (layout_of lists store)) (sym is)
     (does-moved l store pen l.current l.dirty next.mounts next.given (Mount n) (Ok a)
-    (subst (λ lists. FollowsOver (pages_under store) l (Mount n) (Ok a) lists) is follows) refl)
+    (subst (λ lists. StepsWorldsOver (pages_under store) l (Mount n) (Ok a) lists) is follows) refl)
 does-Mount l new store n (Err e) pen follows is same =
     does-refused l new store (Mount n) e pen follows refl same
 
 -- an unmount
 pub does-Unmount : (l new : Lists) (store : Store) (m : ℕ) (reply : Reply) → IsPen (layout_of l store)
-    → FollowsOver (pages_under store) l (Unmount m) reply new
+    → StepsWorldsOver (pages_under store) l (Unmount m) reply new
     → IfOk reply (λ _. new ≡ without_mount m l)
     → OnErr reply (new ≡ l)
     → Does unshared (layout_of l store) (Unmount m) reply (layout_of new store)
@@ -162,12 +162,12 @@ does-Unmount l new store m (Ok a) pen follows is same =
     let next = without_mount m l in
     subst (λ lists. Does unshared (layout_of l store) (Unmount m) (Ok a) (layout_of lists store)) (sym is)
     (does-moved l store pen l.current l.dirty next.mounts l.given (Unmount m) (Ok a)
-    (subst (λ lists. FollowsOver (pages_under store) l (Unmount m) (Ok a) lists) is follows) refl)
+    (subst (λ lists. StepsWorldsOver (pages_under store) l (Unmount m) (Ok a) lists) is follows) refl)
 does-Unmount l new store m (Err e) pen follows is same = does-refused l new store (Unmount m) e pen follows refl same
 
 -- a change of a mode
 pub does-ChangeMode : (l new : Lists) (store : Store) (n : ℕ) (mode : Mode) (reply : Reply) → IsPen (layout_of l store)
-    → FollowsOver (pages_under store) l (ChangeMode n mode) reply new
+    → StepsWorldsOver (pages_under store) l (ChangeMode n mode) reply new
     → IfOk reply (λ _. new ≡ with_checkpoint_mode n mode l)
     → OnErr reply (new ≡ l)
     → Does unshared (layout_of l store) (ChangeMode n mode) reply (layout_of new store)
@@ -179,7 +179,7 @@ does-ChangeMode l new store n mode (Err e) pen follows is same = does-refused l 
 
 -- a removal
 pub does-Remove : (l new : Lists) (store : Store) (n : ℕ) (reply : Reply) → IsPen (layout_of l store)
-    → FollowsOver (pages_under store) l (Remove n) reply new
+    → StepsWorldsOver (pages_under store) l (Remove n) reply new
     → IfOk reply (λ _. IsTakenOut (n ∷ []) l new)
     → OnErr reply (new ≡ l)
     → Does unshared (layout_of l store) (Remove n) reply (layout_of new store)
@@ -189,7 +189,7 @@ does-Remove l new store n (Err e) pen follows taken same = does-refused l new st
 
 -- a removal of a range
 pub does-RemoveRange : (l new : Lists) (store : Store) (first last : ℕ) (reply : Reply) → IsPen (layout_of l store)
-    → FollowsOver (pages_under store) l (RemoveRange first last) reply new
+    → StepsWorldsOver (pages_under store) l (RemoveRange first last) reply new
     → IfOk reply (λ a. IsTakenOutRange first last a l new)
     → OnErr reply (new ≡ l)
     → Does unshared (layout_of l store) (RemoveRange first last) reply (layout_of new store)
@@ -201,7 +201,7 @@ does-RemoveRange l new store first last (Err e) pen follows taken same =
 
 -- an expiry
 pub does-Expire : (l new : Lists) (store : Store) (now period : ℕ) (reply : Reply) → IsPen (layout_of l store)
-    → FollowsOver (pages_under store) l (Expire now period) reply new
+    → StepsWorldsOver (pages_under store) l (Expire now period) reply new
     → IfOk reply (λ a. IsExpired now period a l new)
     → OnErr reply (new ≡ l)
     → Does unshared (layout_of l store) (Expire now period) reply (layout_of new store)
@@ -213,21 +213,21 @@ does-Expire l new store now period (Err e) pen follows expired same =
 
 -- a listing
 pub does-Listing : (l : Lists) (store : Store) (options : ListOptions) (reply : Reply) → IsPen (layout_of l store)
-    → FollowsOver (pages_under store) l (Listing options) reply l
+    → StepsWorldsOver (pages_under store) l (Listing options) reply l
     → Does unshared (layout_of l store) (Listing options) reply (layout_of l store)
 does-Listing l store options (Ok a) pen follows = does-nothing l store (Listing options) (Ok a) pen follows refl
 does-Listing l store options (Err e) pen follows = does-nothing l store (Listing options) (Err e) pen follows refl
 
 -- a read of the current tree
 pub does-Read : (l : Lists) (store : Store) (a : Ask) (reply : Reply) → IsPen (layout_of l store)
-    → FollowsOver (pages_under store) l (Read a) reply l
+    → StepsWorldsOver (pages_under store) l (Read a) reply l
     → Does unshared (layout_of l store) (Read a) reply (layout_of l store)
 does-Read l store a (Ok answer) pen follows = does-nothing l store (Read a) (Ok answer) pen follows refl
 does-Read l store a (Err e) pen follows = does-nothing l store (Read a) (Err e) pen follows refl
 
 -- a read of a mount
 pub does-MountRead : (l : Lists) (store : Store) (mount : ℕ) (a : Ask) (reply : Reply) → IsPen (layout_of l store)
-    → FollowsOver (pages_under store) l (MountRead mount a) reply l
+    → StepsWorldsOver (pages_under store) l (MountRead mount a) reply l
     → Does unshared (layout_of l store) (MountRead mount a) reply (layout_of l store)
 does-MountRead l store mount a (Ok answer) pen follows = does-nothing l store (MountRead mount a) (Ok answer) pen follows refl
 does-MountRead l store mount a (Err e) pen follows = does-nothing l store (MountRead mount a) (Err e) pen follows refl

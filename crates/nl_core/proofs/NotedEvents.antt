@@ -16,14 +16,14 @@ use Rattle.nl_vstore.specs.Batches.{Changes}
 use Rattle.nl_vstore.specs.Located.{numbers_in}
 use Rattle.nl_vstore.specs.Stores.{IsStore}
 use Rattle.nl_core.specs.CleaningEvents.{needed_by}
-use Rattle.nl_core.specs.Layout.{Does, HasRefused, IsPen, Layout, Touches, cleaned, unshared}
+use Rattle.nl_core.specs.Layout.{Does, HasRefused, IsPen, Layout, Becomes, cleaned, unshared}
 use Rattle.nl_core.specs.NeededBlocks.{HasWrittenBatch}
 use Rattle.nl_core.specs.Notes.{AreCommitsOf, ChangesLists, DoesNoting, HasNoted, HasNotedWrite, has_other_mode, moved_as, new_checkpoint, shared, where_any, where_true}
 use Rattle.nl_core.specs.declared.commit.Commit.{Commit}
 use Rattle.nl_core.specs.declared.commit.Commit.TheVariants.{Freed, ModeSet, Resized, Written}
 use Rattle.nl_core.proofs.Checkpointing.{does-refused, does-written}
-use Rattle.nl_core.proofs.Ledgers.{same-numbers}
-use Rattle.nl_core.proofs.Outside.{retired-inside}
+use Rattle.nl_core.specs.Facts.Ledgers.{same-numbers}
+use Rattle.nl_core.specs.Facts.Outside.{retired-inside}
 use Rattle.nl_core.proofs.Telling.{commits_tell_all}
 
 -- ---- beside readers
@@ -36,7 +36,7 @@ shared-more old new event e may = may
 pub does-shared : (old new : Layout) (event : Event) (reply : Reply) → Does unshared old event reply new → Does shared old event reply new
 does-shared old new event reply does = record {
   follows = λ w m. let next = does.follows w m in record { after = next.after; means = next.means; step = more w next.after next.step };
-  touches = does.touches;
+  becomes = does.becomes;
   numbers = does.numbers;
   pen = does.pen;
   failures = does.failures;
@@ -55,14 +55,14 @@ does-shared old new event reply does = record {
     ]
 
 -- memory is refused before anything changes
-no-memory : (l : Layout) (event : Event) → IsPen l → Touches l event (Err error.Memory) l → Does shared l event (Err error.Memory) l
-no-memory l event pen touches = record {
+no-memory : (l : Layout) (event : Event) → IsPen l → Becomes l event (Err error.Memory) l → Does shared l event (Err error.Memory) l
+no-memory l event pen becomes = record {
   follows = λ w m. record {
     after = w;
     means = m;
     step = inr (record { error = error.Memory; reply_is = refl; may_be = tt; unchanged = refl });
   };
-  touches = touches;
+  becomes = becomes;
   numbers = same-numbers l l refl;
   pen = pen;
   failures = omega arith;
@@ -198,7 +198,7 @@ pub noting-retired : (old new : Layout) (segment : ℕ) (a : Answer) (gone : Lis
     → after ≡ before ++ where_any gone (Freed gone)
     → DoesNoting old (event.Retire segment) (Ok a) new before after
 noting-retired old new segment a gone before after pen does are behind =
-    let there = retired-inside old.store (needed_by old.lists) segment does.touches.emptied.count does.touches.emptied.judged in
+    let there = retired-inside old.store (needed_by old.lists) segment does.becomes.emptied.count does.becomes.emptied.judged in
     noting old (event.Retire segment) new before after pen (Ok a) (where_any gone (Freed gone))
     (does-shared old new (event.Retire segment) (Ok a) does) behind
     (ap (λ (vs : List ℕ). where_any vs (Freed vs)) (are there))

@@ -20,7 +20,7 @@ use Rattle.nl_image.specs.Conditions.{pages_told}
 use Rattle.nl_image.specs.Laws.{ImagesHaveOneParts, StoreImagesAreImages, StoreImagesTellPages}
 use Rattle.nl_image.specs.Parts.{Parts}
 use Rattle.nl_image.specs.StoreImages.{parts_of}
-use Rattle.nl_core.specs.Layout.{IsPen, Layout, MeansWorld, pages_in}
+use Rattle.nl_core.specs.Layout.{IsPen, Layout, MeansWorld, layout_pages}
 use Rattle.nl_core.specs.Means.{CopyMeans}
 use Rattle.nl_core.specs.PenImages.{CanBeClosed, ImagesMeanOneWorld, IsPenImage}
 use Rattle.nl_core.specs.Volume.{kept_by, mount_of}
@@ -89,7 +89,7 @@ module _ (meets_all : SoundCheckpointsMeetAll) (are_images : StoreImagesAreImage
   same-parts = one bytes parts other_parts (pen_images_are_images meets_all are_images l bytes pen image)
       (pen_images_are_images meets_all are_images m bytes other other_image)
 
-  same-pages : pages_in l ≡ pages_in m
+  same-pages : layout_pages l ≡ layout_pages m
   same-pages =
       sym (tell l.store (kept_by l.lists) bytes pen.sound.store image)
       ∙ ap (pages_told bytes) same-parts
@@ -98,13 +98,13 @@ module _ (meets_all : SoundCheckpointsMeetAll) (are_images : StoreImagesAreImage
   same-kept : kept_by l.lists ≡ kept_by m.lists
   same-kept = kept-one (kept_by l.lists) (kept_by m.lists) other_image.entries
       (subst (AllZip IsEntryOf (kept_by l.lists)) (ap (λ (p : Parts). p.kept) same-parts)
-      (entries-of (pages_in l) (kept_by l.lists) image.entries image.are.sized))
-      (entries-of (pages_in m) (kept_by m.lists) other_image.entries other_image.are.sized)
+      (entries-of (layout_pages l) (kept_by l.lists) image.entries image.are.sized))
+      (entries-of (layout_pages m) (kept_by m.lists) other_image.entries other_image.are.sized)
 
   same-copies : w.copies ≡ v.copies
-  same-copies = copies-one (pages_in m) (kept_by m.lists) w.copies v.copies
+  same-copies = copies-one (layout_pages m) (kept_by m.lists) w.copies v.copies
       (subst (λ (pages : Pages). AllZip (CopyMeans pages) (kept_by m.lists) w.copies) same-pages
-      (subst (λ (kept : List Checkpoint). AllZip (CopyMeans (pages_in l)) kept w.copies) same-kept means.copies))
+      (subst (λ (kept : List Checkpoint). AllZip (CopyMeans (layout_pages l)) kept w.copies) same-kept means.copies))
       other_means.copies
 
   same-tree : w.tree ≡ v.tree

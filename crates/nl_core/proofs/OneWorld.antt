@@ -5,15 +5,15 @@ use Rattle.nl_types.specs.Roots.{Pages}
 use Rattle.nl_types.specs.Trees.{Tree}
 use Rattle.nl_types.specs.Inodes.{MeansTree}
 use Rattle.nl_types.specs.Worlds.{Copy}
-use Rattle.nl_types.proofs.Inodes.Means.{inodes_mean_one_tree}
+use Rattle.nl_types.specs.Facts.Inodes.Means.{inodes_mean_one_tree}
 use Rattle.nl_layout.specs.Root.{root_of}
 use Rattle.nl_layout.specs.declared.root.Root.{Root}
 use Rattle.nl_tree.specs.Became.{Current, holding_over}
 use Rattle.nl_tree.specs.Held.{Holding, inodes_of_holding}
-use Rattle.nl_files.proofs.Holdings.{roots-hold_one}
+use Rattle.nl_files.specs.Facts.Holdings.{roots-hold_one}
 use Rattle.nl_core.specs.Laws.{MeansOneWorld}
 use Rattle.nl_core.specs.Means.{CopyMeans, CurrentMeans, RootMeans}
-use Rattle.nl_cpfile.specs.Tables.{root_in}
+use Rattle.nl_cpfile.specs.Tables.{checkpoint_root}
 use Rattle.nl_core.specs.Volume.{kept_by, latest_root}
 use Rattle.nl_cpfile.specs.declared.checkpoint.Checkpoint.{Checkpoint}
 
@@ -44,7 +44,7 @@ copy-one : (pages : Pages) (c : Checkpoint) (copy other : ℕ × Copy) → CopyM
     → CopyMeans pages c other → copy ≡ other
 copy-one pages c copy other m n =
     let number = m.number ∙ sym n.number in
-    let tree = root-one pages (root_in c) copy.1.tree other.1.tree m.tree n.tree in
+    let tree = root-one pages (checkpoint_root c) copy.1.tree other.1.tree m.tree n.tree in
     let mode = m.mode ∙ sym n.mode in
     let minor = m.minor ∙ sym n.minor in
     let stamp = m.stamp ∙ sym n.stamp in

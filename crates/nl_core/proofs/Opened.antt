@@ -11,7 +11,7 @@ use Rattle.nl_types.specs.Entries.{Content}
 use Rattle.nl_types.specs.InodeLaws.{LimitedInodesMeanTrees}
 use Rattle.nl_types.specs.Inodes.{MeansTree}
 use Rattle.nl_types.specs.Lifetimes.{IsExact, IsLedger, Numbers}
-use Rattle.nl_types.specs.PartialMaps.{is_one_of}
+use Rattle.nl_types.specs.NumberLists.{is_one_of}
 use Rattle.nl_types.specs.Roots.{pages_of}
 use Rattle.nl_types.specs.Worlds.{Copy, IsWorld, World, copy_at, latest}
 use Rattle.nl_layout.specs.Root.{root_of}
@@ -21,15 +21,15 @@ use Rattle.nl_tree.specs.CurrentTrees.{StandsOver}
 use Rattle.nl_tree.specs.Held.{Holding, IsHolding, inodes_of_holding}
 use Rattle.nl_files.specs.CheckpointRoots.{IsTreeSound}
 use Rattle.nl_check.specs.Laws.{ExactPeriodsAreExact, SoundTreesAreMeant}
-use Rattle.nl_cpfile.specs.Tables.{Precedes, Table, by_number, kept_at, root_in}
+use Rattle.nl_cpfile.specs.Tables.{Precedes, Table, by_number, kept_at, checkpoint_root}
 use Rattle.nl_cpfile.specs.declared.checkpoint.Checkpoint.{Checkpoint}
-use Rattle.nl_cpfile.proofs.Found.{eq_by_cmp-nat_cmp, kept-last}
-use Rattle.nl_cpfile.proofs.Rising.{IsRising-last}
-use Rattle.nl_core.specs.Layout.{IsPen, IsSoundPen, Layout, MeansWorld, ledger_of, pages_in, reached_by}
+use Rattle.nl_cpfile.specs.Facts.Found.{eq_by_cmp-nat_cmp, kept-last}
+use Rattle.nl_cpfile.specs.Facts.Rising.{IsRising-last}
+use Rattle.nl_core.specs.Layout.{IsPen, IsSoundPen, Layout, MeansWorld, ledger_of, layout_pages, reached_by}
 use Rattle.nl_core.specs.Opened.{CheckedCheckpointsHaveInodes, IsChecked, IsOpened, OpenedImagesArePens}
 use Rattle.nl_core.specs.Volume.{kept_by, mount_of}
 use Rattle.nl_core.proofs.CheckedCopies.{HasTree, InLimits, copies-fit, copies-last, copies-mean, copies-sorted, copies-stamped, copies_of, copy_of, copy_of-tree, found-tree, is-tree, last_tree, some-inode}
-use Rattle.nl_core.proofs.Ledgers.{found-all}
+use Rattle.nl_core.specs.Facts.Ledgers.{found-all}
 
 -- what is found under a number has it
 numbered-found : (n : ℕ) (kept : List Checkpoint) (c : Checkpoint) → find nat_cmp n (map by_number kept) ≡ Some c → c.number ≡ n
@@ -47,7 +47,7 @@ module _ (limited : LimitedInodesMeanTrees) (sound_trees : SoundTreesAreMeant) w
   -- a checkpoint that was checked stands for a tree
   tree-of : (content : Content) (c : Checkpoint) → IsChecked content c → HasTree (pages_of content) c
   tree-of content c checked =
-      (sound_trees (pages_of content) (root_of (root_in c)) checked.size c.inodes checked.meets.shaped checked.meets.tree).1
+      (sound_trees (pages_of content) (root_of (checkpoint_root c)) checked.size c.inodes checked.meets.shaped checked.meets.tree).1
 
   pub checked_have-inodes : CheckedCheckpointsHaveInodes
   checked_have-inodes content c checked = some-inode (pages_of content) limited c (tree-of content c checked)
@@ -59,17 +59,17 @@ module _ (limited : LimitedInodesMeanTrees) (sound_trees : SoundTreesAreMeant) w
     abbrev table : Table
     table = l.lists.table
 
-    sound-of : (c : Checkpoint) → IsChecked content c → IsTreeSound (pages_in l) (root_of (root_in c))
+    sound-of : (c : Checkpoint) → IsChecked content c → IsTreeSound (layout_pages l) (root_of (checkpoint_root c))
     sound-of c checked =
-        (sound_trees (pages_of content) (root_of (root_in c)) checked.size c.inodes checked.meets.shaped checked.meets.tree).0
+        (sound_trees (pages_of content) (root_of (checkpoint_root c)) checked.size c.inodes checked.meets.shaped checked.meets.tree).0
 
-    exact-of : (c : Checkpoint) → IsChecked content c → IsExact content c.number (reached_by (pages_in l) c)
-    exact-of c checked = exact_periods content c.number (root_of (root_in c)) checked.size c.inodes checked.meets.shaped
+    exact-of : (c : Checkpoint) → IsChecked content c → IsExact content c.number (reached_by (layout_pages l) c)
+    exact-of c checked = exact_periods content c.number (root_of (checkpoint_root c)) checked.size c.inodes checked.meets.shaped
         checked.meets.tree checked.meets.exact
 
-    trees : AllByRecursion (HasTree (pages_in l)) (kept_by l.lists)
-    trees = recursion_from_All (HasTree (pages_in l)) (kept_by l.lists)
-        (All-weaker (IsChecked content) (HasTree (pages_in l)) (tree-of content) (kept_by l.lists) opened.checked)
+    trees : AllByRecursion (HasTree (layout_pages l)) (kept_by l.lists)
+    trees = recursion_from_All (HasTree (layout_pages l)) (kept_by l.lists)
+        (All-weaker (IsChecked content) (HasTree (layout_pages l)) (tree-of content) (kept_by l.lists) opened.checked)
 
     -- ---- the numbers of checkpoints
 
@@ -88,10 +88,10 @@ module _ (limited : LimitedInodesMeanTrees) (sound_trees : SoundTreesAreMeant) w
     none-above = All-push IsNotAbove table.earlier table.latest
         (All-weaker IsBelow IsNotAbove (λ c low. omega (arith, low)) table.earlier earlier-below) (omega arith)
 
-    in-limits : AllByRecursion (InLimits (pages_in l)) (kept_by l.lists)
-    in-limits = recursion_from_All (InLimits (pages_in l)) (kept_by l.lists) (λ i d inside. fits i d inside)
+    in-limits : AllByRecursion (InLimits (layout_pages l)) (kept_by l.lists)
+    in-limits = recursion_from_All (InLimits (layout_pages l)) (kept_by l.lists) (λ i d inside. fits i d inside)
       where
-        fits : All (InLimits (pages_in l)) (kept_by l.lists)
+        fits : All (InLimits (layout_pages l)) (kept_by l.lists)
         fits i d inside =
             let low = (opened.checked i d inside).positive in
             let high = none-above i d inside in
@@ -106,7 +106,7 @@ module _ (limited : LimitedInodesMeanTrees) (sound_trees : SoundTreesAreMeant) w
     record IsKept (c : ℕ) (numbers : Numbers) : Type 0 where
       pub checkpoint : Checkpoint
       pub at : kept_at c table ≡ Some checkpoint
-      pub reaches : reached_by (pages_in l) checkpoint ≡ numbers
+      pub reaches : reached_by (layout_pages l) checkpoint ≡ numbers
 
     kept : (c : ℕ) (numbers : Numbers) → (ledger_of l).kept c ≡ Some numbers → IsKept c numbers
     kept c numbers h = by (kept_at c table) refl h
@@ -114,9 +114,9 @@ module _ (limited : LimitedInodesMeanTrees) (sound_trees : SoundTreesAreMeant) w
         inside : (a b : Numbers) → Some a ≡ Some b → a ≡ b
         inside a b e = cc
 
-        by : (o : Option Checkpoint) → kept_at c table ≡ o → option_map (reached_by (pages_in l)) o ≡ Some numbers → IsKept c numbers
+        by : (o : Option Checkpoint) → kept_at c table ≡ o → option_map (reached_by (layout_pages l)) o ≡ Some numbers → IsKept c numbers
         by None at h = cc
-        by (Some k) at h = record { checkpoint = k; at = at; reaches = inside (reached_by (pages_in l) k) numbers h }
+        by (Some k) at h = record { checkpoint = k; at = at; reaches = inside (reached_by (layout_pages l) k) numbers h }
 
     ledger : IsLedger (ledger_of l)
     ledger = record {
@@ -124,28 +124,28 @@ module _ (limited : LimitedInodesMeanTrees) (sound_trees : SoundTreesAreMeant) w
           let k = kept c numbers h in
           let checked = found-all (IsChecked content) c (kept_by l.lists) k.checkpoint opened.checked k.at in
           subst (λ (n : Numbers). IsExact content c n) k.reaches
-          (subst (λ (n : ℕ). IsExact content n (reached_by (pages_in l) k.checkpoint))
+          (subst (λ (n : ℕ). IsExact content n (reached_by (layout_pages l) k.checkpoint))
           (numbered-found c (kept_by l.lists) k.checkpoint k.at) (exact-of k.checkpoint checked));
       bounded = opened.periods;
-      latest_kept = there (ledger_of l).kept (ap (option_map (reached_by (pages_in l))) latest-found);
+      latest_kept = there (ledger_of l).kept (ap (option_map (reached_by (layout_pages l))) latest-found);
       below = λ c numbers h.
           let k = kept c numbers h in
           let low = found-all IsNotAbove c (kept_by l.lists) k.checkpoint none-above k.at in
           omega (arith, low, numbered-found c (kept_by l.lists) k.checkpoint k.at);
     }
       where
-        there : (f : ℕ → Option Numbers) → f table.latest.number ≡ Some (reached_by (pages_in l) table.latest)
+        there : (f : ℕ → Option Numbers) → f table.latest.number ≡ Some (reached_by (layout_pages l) table.latest)
             → f table.latest.number ≡ Some (unwrap_or (f table.latest.number) (λ _. None))
         there f e = by (f table.latest.number) e
           where
-            by : (o : Option Numbers) → o ≡ Some (reached_by (pages_in l) table.latest) → o ≡ Some (unwrap_or o (λ _. None))
+            by : (o : Option Numbers) → o ≡ Some (reached_by (layout_pages l) table.latest) → o ≡ Some (unwrap_or o (λ _. None))
             by None e = cc
             by (Some n) e = refl
 
     sound : IsSoundPen l
     sound = record {
       ledger = ledger;
-      kept = All-weaker (IsChecked content) (λ (c : Checkpoint). IsTreeSound (pages_in l) (root_of (root_in c))) sound-of
+      trees_sound = All-weaker (IsChecked content) (λ (c : Checkpoint). IsTreeSound (layout_pages l) (root_of (checkpoint_root c))) sound-of
           (kept_by l.lists) opened.checked;
       latest = latest-found;
       last = opened.table.limit;
@@ -154,33 +154,33 @@ module _ (limited : LimitedInodesMeanTrees) (sound_trees : SoundTreesAreMeant) w
 
     -- ---- the world
 
-    newest : HasTree (pages_in l) table.latest
-    newest = last_tree (pages_in l) table.earlier table.latest trees
+    newest : HasTree (layout_pages l) table.latest
+    newest = last_tree (layout_pages l) table.earlier table.latest trees
 
     world : World
     world = record {
       tree = newest.tree;
       dirty = false;
-      copies = copies_of (pages_in l) (kept_by l.lists) trees;
+      copies = copies_of (layout_pages l) (kept_by l.lists) trees;
       mounts = [];
       given = 0;
     }
 
-    latest-copy : copy_at world (latest world) ≡ Some (copy_of (pages_in l) table.latest newest)
+    latest-copy : copy_at world (latest world) ≡ Some (copy_of (layout_pages l) table.latest newest)
     unfolding world newest
-    latest-copy = copies-last (pages_in l) table.earlier table.latest trees (recursion_from_All IsBelow table.earlier earlier-below)
+    latest-copy = copies-last (layout_pages l) table.earlier table.latest trees (recursion_from_All IsBelow table.earlier earlier-below)
 
     is-world : IsWorld world
     unfolding world
     is-world = record {
-      tree = is-tree (pages_in l) limited table.latest newest;
-      trees = found-tree (pages_in l) limited (kept_by l.lists) trees;
+      tree = is-tree (layout_pages l) limited table.latest newest;
+      trees = found-tree (layout_pages l) limited (kept_by l.lists) trees;
       clean = λ _. ap (option_map (λ (copy : Copy). copy.tree)) latest-copy
-          ∙ ap Some (copy_of-tree (pages_in l) table.latest newest);
-      numbers_rise = copies-sorted (pages_in l) (kept_by l.lists) trees opened.table.rising;
+          ∙ ap Some (copy_of-tree (layout_pages l) table.latest newest);
+      numbers_rise = copies-sorted (layout_pages l) (kept_by l.lists) trees opened.table.rising;
       latest_kept = ap is_some latest-copy;
-      numbers_fit = copies-fit (pages_in l) (kept_by l.lists) trees in-limits;
-      stamps_rise = copies-stamped (pages_in l) (kept_by l.lists) trees opened.table.rising;
+      numbers_fit = copies-fit (layout_pages l) (kept_by l.lists) trees in-limits;
+      stamps_rise = copies-stamped (layout_pages l) (kept_by l.lists) trees opened.table.rising;
       mounts_rise = refl;
       mounts_given = refl;
       given_fits = refl;
@@ -213,7 +213,7 @@ module _ (limited : LimitedInodesMeanTrees) (sound_trees : SoundTreesAreMeant) w
       where
         few : l.lists.current.names ≤ 524277
         few =
-            let most = (is-tree (pages_in l) limited table.latest newest).count in
+            let most = (is-tree (layout_pages l) limited table.latest newest).count in
             let count = newest.means.count in
             let names = opened.rest.names in
             omega (arith, most, count, names)
@@ -224,7 +224,7 @@ module _ (limited : LimitedInodesMeanTrees) (sound_trees : SoundTreesAreMeant) w
       world = is-world;
       tree = record { base = newest.holding; holds = newest.holds; stands = stands-over };
       dirty = sym opened.rest.clean;
-      copies = copies-mean (pages_in l) (kept_by l.lists) trees;
+      copies = copies-mean (layout_pages l) (kept_by l.lists) trees;
       mounts = sym (ap (map mount_of) opened.rest.unmounted);
       given = sym opened.rest.none_given;
     }

@@ -4,14 +4,14 @@ use Rattle.std.specs.Prelude.{All}
 use Rattle.std.specs.List.{AllZip}
 use Rattle.std.specs.Option.{option_and_then, option_map, option_map_or}
 use Rattle.std.proofs.Math.ListN.{get_or-map}
-use Rattle.nl_types.specs.Entries.{Entry}
+use Rattle.nl_types.specs.Entries.{Entry, period_of}
 use Rattle.nl_types.specs.Lifetimes.{IsBounded}
 use Rattle.nl_types.specs.Roots.{Pages, pages_of}
 use Rattle.nl_types.specs.Segments.{IsUsed}
 use Rattle.nl_layout.specs.declared.checkpoint_entry.CheckpointEntry.{CheckpointEntry}
-use Rattle.nl_vstore.specs.Periods.{Periods, period_of, periods_of}
+use Rattle.nl_vstore.specs.Periods.{Periods, periods_of}
 use Rattle.nl_vstore.specs.Stores.{IsStore, Numbered, Store, content_in, entry_now, numbered_in}
-use Rattle.nl_vstore.proofs.StoredLogs.{one_list_stands}
+use Rattle.nl_vstore.specs.Facts.StoredLogs.{one_list_stands}
 use Rattle.nl_segwriter.specs.Images.{page_in}
 use Rattle.nl_dat.specs.declared.entries.DatEntry.{DatEntry}
 use Rattle.nl_dat.specs.Images.{entry_told, table_of}
@@ -25,7 +25,7 @@ use Rattle.nl_image.specs.declared.reading.ReadImage.{ReadImage}
 use Rattle.nl_image.specs.Conditions.{HasCheckpoints, HasLogs, HasNumbers, HasPeriods, HasShapes, HasTrees, blocks_told, latest_told, number_of_last, pages_told, periods_told}
 use Rattle.nl_image.specs.Parts.{Parts, dat_in}
 use Rattle.nl_image.specs.Reading.{HaveOwn, IsReadImage}
-use Rattle.nl_image.proofs.OnePayload.{own_by_both, used_page}
+use Rattle.nl_image.specs.Facts.OnePayload.{own_by_both, used_page}
 use Rattle.nl_core.specs.Layout.{layout_of}
 use Rattle.nl_core.specs.Opened.{IsAtRest, IsChecked, IsOpened, IsRestoredStore, opened_lists}
 use Rattle.nl_core.specs.Volume.{Lists}

@@ -26,9 +26,9 @@ use Rattle.nl_check.specs.Judging.{told}
 use Rattle.nl_check.specs.Shapes.{IsShaped}
 use Rattle.nl_check.specs.Trees.{IsTreeOf}
 use Rattle.nl_cpfile.specs.Images.{HasNumber, HasRoot, IsEntryOf}
-use Rattle.nl_cpfile.specs.Tables.{Table, all, root_in}
+use Rattle.nl_cpfile.specs.Tables.{Table, all, checkpoint_root}
 use Rattle.nl_cpfile.specs.declared.checkpoint.Checkpoint.{Checkpoint}
-use Rattle.nl_cpfile.proofs.Rising.{All-last}
+use Rattle.nl_cpfile.specs.Facts.Rising.{All-last}
 use Rattle.nl_core.specs.Opened.{IsChecked}
 
 -- ---- conditions 8 to 10
@@ -45,14 +45,14 @@ told-one (Tree height top) s is = by (nat_le height 3) is
 
 -- so an entry tells the root of its checkpoint, if it tells one
 pub told-root : (c : Checkpoint) (e : CheckpointEntry) (root : Root) → IsEntryOf c e → (told e).root ≡ Some root
-    → root ≡ root_of (root_in c)
+    → root ≡ root_of (checkpoint_root c)
 told-root c e root is same = by (root_told e.root) refl same
   where
-    by : (o : Option layout.Root) → root_told e.root ≡ o → option_map root_of o ≡ Some root → root ≡ root_of (root_in c)
+    by : (o : Option layout.Root) → root_told e.root ≡ o → option_map root_of o ≡ Some root → root ≡ root_of (checkpoint_root c)
     by None found none = cc
     by (Some r) found some =
         let its : root_of r ≡ root = cc in
-        sym its ∙ sym (ap root_of (told-one (root_in c) r (ap root_told (sym is.root) ∙ found)))
+        sym its ∙ sym (ap root_of (told-one (checkpoint_root c) r (ap root_told (sym is.root) ∙ found)))
 
 -- the root of a sound file is told, as no tree is higher than 3
 root-told : (pages : Pages) (root : layout.Root) → IsSound pages (root_of root) → root_told (fields_of root) ≡ Some root
@@ -69,9 +69,9 @@ root-told pages (Tree height top) sound = rw (le-leb height 3 low) refl
         let least = (sound.tree_shape refl).least in
         least.2 3 (omega arith) (far least.0 (place_at pages (roots.Tree height top) 0 least.0) refl least.1)
 
-pub told-whole : (pages : Pages) (c : Checkpoint) (e : CheckpointEntry) → IsEntryOf c e → IsSound pages (root_of (root_in c))
-    → (told e).root ≡ Some (root_of (root_in c))
-told-whole pages c e is sound = ap (option_map root_of) (ap root_told is.root ∙ root-told pages (root_in c) sound)
+pub told-whole : (pages : Pages) (c : Checkpoint) (e : CheckpointEntry) → IsEntryOf c e → IsSound pages (root_of (checkpoint_root c))
+    → (told e).root ≡ Some (root_of (checkpoint_root c))
+told-whole pages c e is sound = ap (option_map root_of) (ap root_told is.root ∙ root-told pages (checkpoint_root c) sound)
 
 inside_some : {A : Type 0} (a b : A) → Some a ≡ Some b → a ≡ b
 inside_some a b same = cc
@@ -86,14 +86,14 @@ module _ (content : Content) where
     size = e.size;
     meets = record {
       shaped = subst (IsShaped (pages_of content)) (its shape.0 shape.1) shape.2;
-      tree = subst (IsTreeOf (pages_of content) (root_of (root_in c)) e.size) is.inodes
+      tree = subst (IsTreeOf (pages_of content) (root_of (checkpoint_root c)) e.size) is.inodes
           (subst (λ (root : Root). IsTreeOf (pages_of content) root e.size e.inodes) (its tree.0 tree.1) tree.2);
-      exact = subst (λ (n : ℕ). MeetsItsNumbers (pages_of content) (periods_of content) n (root_of (root_in c))) is.number
+      exact = subst (λ (n : ℕ). MeetsItsNumbers (pages_of content) (periods_of content) n (root_of (checkpoint_root c))) is.number
           (subst (MeetsItsNumbers (pages_of content) (periods_of content) e.number) (its exact.0 exact.1) exact.2);
     };
   }
     where
-      its : (root : Root) → (told e).root ≡ Some root → root ≡ root_of (root_in c)
+      its : (root : Root) → (told e).root ≡ Some root → root ≡ root_of (checkpoint_root c)
       its root same = told-root c e root is same
 
   -- the checkpoints of entries that meet the conditions were checked

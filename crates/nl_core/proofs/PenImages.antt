@@ -14,7 +14,7 @@ use Rattle.nl_types.specs.Lifetimes.{IsBounded, IsExact}
 use Rattle.nl_types.specs.Limits.{checkpoint_number_limit}
 use Rattle.nl_types.specs.Roots.{Pages, pages_of}
 use Rattle.nl_types.specs.Worlds.{Copy, are_stamps_rising}
-use Rattle.nl_types.proofs.NumberedLists.{before-lt}
+use Rattle.nl_types.specs.Facts.NumberedLists.{before-lt}
 use Rattle.nl_layout.specs.Root.{root_of}
 use Rattle.nl_layout.specs.declared.checkpoint_entry.CheckpointEntry.{CheckpointEntry}
 use Rattle.nl_vstore.specs.Periods.{periods_of}
@@ -29,17 +29,17 @@ use Rattle.nl_check.specs.Laws.{MeetsAll, SoundCheckpointsMeetAll}
 use Rattle.nl_check.specs.Trees.{IsTreeOf}
 use Rattle.nl_cpfile.specs.declared.checkpoint.Checkpoint.{Checkpoint}
 use Rattle.nl_cpfile.specs.Images.{HasNumber, IsEntryOf, Precedes}
-use Rattle.nl_cpfile.specs.Tables.{root_in}
+use Rattle.nl_cpfile.specs.Tables.{checkpoint_root}
 use Rattle.nl_image.specs.Laws.{AreKeptOver, StoreImagesAreImages, StoresHaveOneImage}
 use Rattle.nl_image.specs.StoreImages.{IsSizedEntry}
-use Rattle.nl_image.proofs.StoreNumbers.{entry-of}
-use Rattle.nl_core.specs.Closed.{AreSized}
-use Rattle.nl_core.specs.Layout.{IsPen, Layout, pages_in, reached_by}
+use Rattle.nl_image.specs.Facts.StoreNumbers.{entry-of}
+use Rattle.nl_core.specs.Private.Closed.{AreSized}
+use Rattle.nl_core.specs.Layout.{IsPen, Layout, layout_pages, reached_by}
 use Rattle.nl_core.specs.Means.{CopyMeans}
 use Rattle.nl_core.specs.PenImages.{PenImagesAreImages, PensHaveOneImage}
 use Rattle.nl_core.specs.Volume.{kept_by}
 use Rattle.nl_core.proofs.CheckedCopies.{HasTree}
-use Rattle.nl_core.proofs.KeptNumbers.{found-own}
+use Rattle.nl_core.specs.Facts.KeptNumbers.{found-own}
 use Rattle.nl_core.proofs.OpenedImages.{last-number}
 use Rattle.nl_core.proofs.Opening.{told-whole}
 
@@ -157,15 +157,15 @@ all-stand pages (c ∷ kept) (copy ∷ copies) means =
 
 -- a checkpoint is sound, reaches exactly its numbers, and stands for a tree
 record IsWhole (content : Content) (c : Checkpoint) : Type 0 where
-  pub sound : IsTreeSound (pages_of content) (root_of (root_in c))
+  pub sound : IsTreeSound (pages_of content) (root_of (checkpoint_root c))
   pub exact : IsExact content c.number (reached_by (pages_of content) c)
   pub tree : HasTree (pages_of content) c
 
 module _ (meets_all : SoundCheckpointsMeetAll) (content : Content) where
   one-meets : (c : Checkpoint) (e : CheckpointEntry) → IsWhole content c → IsSizedEntry (pages_of content) c e
-      → MeetsAll content c.number (root_of (root_in c)) e.size c.inodes
+      → MeetsAll content c.number (root_of (checkpoint_root c)) e.size c.inodes
   one-meets c e whole sized =
-      meets_all content c.number (root_of (root_in c)) e.size whole.tree.holding whole.tree.tree c.inodes whole.sound
+      meets_all content c.number (root_of (checkpoint_root c)) e.size whole.tree.holding whole.tree.tree c.inodes whole.sound
       whole.tree.holds whole.tree.means sized.size whole.exact
 
   all-shaped : (kept : List Checkpoint) (entries : List CheckpointEntry) → All (IsWhole content) kept
@@ -175,7 +175,7 @@ module _ (meets_all : SoundCheckpointsMeetAll) (content : Content) where
   all-shaped (c ∷ kept) [] whole sized = absurd sized
   all-shaped (c ∷ kept) (e ∷ entries) whole sized =
       All-cons (IsSoundShape (pages_of content)) (told e) (map told entries)
-      (root_of (root_in c), told-whole (pages_of content) c e sized.0.entry (All-head (IsWhole content) c kept whole).sound.inode_file, (one-meets c e (All-head (IsWhole content) c kept whole) sized.0).shaped)
+      (root_of (checkpoint_root c), told-whole (pages_of content) c e sized.0.entry (All-head (IsWhole content) c kept whole).sound.inode_file, (one-meets c e (All-head (IsWhole content) c kept whole) sized.0).shaped)
       (all-shaped kept entries (All-tail (IsWhole content) c kept whole) sized.1)
 
   all-trees : (kept : List Checkpoint) (entries : List CheckpointEntry) → All (IsWhole content) kept
@@ -185,9 +185,9 @@ module _ (meets_all : SoundCheckpointsMeetAll) (content : Content) where
   all-trees (c ∷ kept) [] whole sized = absurd sized
   all-trees (c ∷ kept) (e ∷ entries) whole sized =
       All-cons (IsSoundTree (pages_of content)) (told e) (map told entries) (
-        root_of (root_in c),
+        root_of (checkpoint_root c),
         told-whole (pages_of content) c e sized.0.entry (All-head (IsWhole content) c kept whole).sound.inode_file,
-        subst (IsTreeOf (pages_of content) (root_of (root_in c)) e.size) (sym sized.0.entry.inodes)
+        subst (IsTreeOf (pages_of content) (root_of (checkpoint_root c)) e.size) (sym sized.0.entry.inodes)
             (one-meets c e (All-head (IsWhole content) c kept whole) sized.0).tree,
       )
       (all-trees kept entries (All-tail (IsWhole content) c kept whole) sized.1)
@@ -199,9 +199,9 @@ module _ (meets_all : SoundCheckpointsMeetAll) (content : Content) where
   all-exact (c ∷ kept) [] whole sized = absurd sized
   all-exact (c ∷ kept) (e ∷ entries) whole sized =
       All-cons (HasExactPeriods (pages_of content) (periods_of content)) (told e) (map told entries) (
-        root_of (root_in c),
+        root_of (checkpoint_root c),
         told-whole (pages_of content) c e sized.0.entry (All-head (IsWhole content) c kept whole).sound.inode_file,
-        subst (λ (n : ℕ). MeetsItsNumbers (pages_of content) (periods_of content) n (root_of (root_in c)))
+        subst (λ (n : ℕ). MeetsItsNumbers (pages_of content) (periods_of content) n (root_of (checkpoint_root c)))
             (sym sized.0.entry.number) (one-meets c e (All-head (IsWhole content) c kept whole) sized.0).exact,
       )
       (all-exact kept entries (All-tail (IsWhole content) c kept whole) sized.1)
@@ -213,20 +213,20 @@ kept-whole : (l : Layout) → IsPen l → All (IsWhole (content_in l.store)) (ke
 kept-whole l pen i d low =
     let c : Checkpoint = get_or (kept_by l.lists) i d in
     let means = pen.world.1 in
-    let at = found-own (pages_in l) (kept_by l.lists) pen.world.0.copies means.copies means.world.numbers_rise i d low in
+    let at = found-own (layout_pages l) (kept_by l.lists) pen.world.0.copies means.copies means.world.numbers_rise i d low in
     record {
-      sound = pen.sound.kept i d low;
-      exact = pen.sound.ledger.exact c.number (reached_by (pages_in l) c) (ap (option_map (reached_by (pages_in l))) at);
-      tree = all-stand (pages_in l) (kept_by l.lists) pen.world.0.copies means.copies i d low;
+      sound = pen.sound.trees_sound i d low;
+      exact = pen.sound.ledger.exact c.number (reached_by (layout_pages l) c) (ap (option_map (reached_by (layout_pages l))) at);
+      tree = all-stand (layout_pages l) (kept_by l.lists) pen.world.0.copies means.copies i d low;
     }
 
 -- so what the store doesn't tell of its checkpoints is as it has to be
 pub are-kept : SoundCheckpointsMeetAll → (l : Layout) (entries : List CheckpointEntry) → IsPen l
-    → AreSized (pages_in l) (kept_by l.lists) entries → AreKeptOver l.store entries
+    → AreSized (layout_pages l) (kept_by l.lists) entries → AreKeptOver l.store entries
 are-kept meets_all l entries pen sized =
     let means = pen.world.1 in
-    let are = entries-of (pages_in l) (kept_by l.lists) entries sized in
-    let tell = tell-copies (pages_in l) (kept_by l.lists) entries pen.world.0.copies are means.copies in
+    let are = entries-of (layout_pages l) (kept_by l.lists) entries sized in
+    let tell = tell-copies (layout_pages l) (kept_by l.lists) entries pen.world.0.copies are means.copies in
     let whole = kept-whole l pen in
     record {
       some = some-entry l.lists.table.earlier l.lists.table.latest entries are;

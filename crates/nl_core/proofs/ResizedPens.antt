@@ -28,7 +28,7 @@ use Rattle.nl_core.specs.NeededBlocks.{AreNeededCounts}
 use Rattle.nl_core.specs.Notes.{shown_of, shown_page}
 use Rattle.nl_core.specs.Volume.{Lists}
 use Rattle.nl_core.specs.declared.commit.ShownPage.{ShownPage}
-use Rattle.nl_core.proofs.CleanedPens.{content-of, same-content}
+use Rattle.nl_core.specs.Facts.CleanedPens.{content-of, same-content}
 
 -- ---- what numbers stand for stays
 
@@ -66,7 +66,7 @@ module _ (l : Lists) (old new : Store) (segments : ℕ) (pen : IsPen (layout_of 
       let stays : StaysPen (layout_of l old) (layout_of l new) = grown-stays (layout_of l old) (layout_of l new) pen refl store segments resized.grown in
       record {
         follows = λ w m. record { after = w; means = stays.means w m; step = inl (ap (λ (r : Reply). (r, w)) resized.judged) };
-        touches = (refl, resized);
+        becomes = (refl, resized);
         numbers = stays.numbers;
         pen = stays.pen;
         failures = counted;
@@ -76,7 +76,7 @@ module _ (l : Lists) (old new : Store) (segments : ℕ) (pen : IsPen (layout_of 
       → Does unshared (layout_of l old) (Resize segments) (Err e) (layout_of l new)
   does-not-resized e refused = record {
     follows = λ w m. record { after = w; means = stays.means w m; step = step e w refused };
-    touches = (refl, refused);
+    becomes = (refl, refused);
     numbers = stays.numbers;
     pen = stays.pen;
     failures = counted;

@@ -9,7 +9,7 @@ use Rattle.nl_types.specs.Segments.{IsUsed, Segments, total_blocks}
 use Rattle.nl_layout.specs.declared.checkpoint_entry.CheckpointEntry.{CheckpointEntry}
 use Rattle.nl_space.specs.Images as blocks
 use Rattle.nl_space.specs.Images.{AreBlocksOf, IsPageOf, zero_page}
-use Rattle.nl_space.proofs.ImageBlocks.{page_there}
+use Rattle.nl_space.specs.Facts.ImageBlocks.{page_there}
 use Rattle.nl_vstore.specs.Stores.{IsStore, Store, content_in, space_in}
 use Rattle.nl_dat.specs.declared.entries.DatEntry.{DatEntry}
 use Rattle.nl_dat.specs.Table.{dat_entry_of, numbers_shown}
@@ -19,7 +19,7 @@ use Rattle.nl_check.specs.Trees.{IsSizeOf}
 use Rattle.nl_cpfile.specs.Images.{IsEntryOf}
 use Rattle.nl_cpfile.specs.Tables.{Table, all}
 use Rattle.nl_cpfile.specs.declared.checkpoint.Checkpoint.{Checkpoint}
-use Rattle.nl_cpfile.proofs.ImageEntries.{count_told}
+use Rattle.nl_cpfile.specs.Facts.ImageEntries.{count_told}
 use Rattle.nl_image.specs.declared.reading.ReadImage.{ReadImage}
 use Rattle.nl_image.specs.Conditions.{HasCheckpoints, HasNumbers, HasSegments, HasTrees, HasZeros, IsDivided}
 use Rattle.nl_image.specs.Laws.{ImagesAreSpelled}
@@ -29,7 +29,7 @@ use Rattle.nl_layout.specs.declared.superblock.Superblock.{Superblock}
 use Rattle.nl_image.specs.Parts.{Parts, blocks_in, blocks_start, cpfile_in, cpfile_start, image_bytes, image_length, padding_of, total_of, with_present_mark}
 use Rattle.nl_image.specs.Reading.{IsReadImage}
 use Rattle.nl_image.specs.StoreImages.{AreOf, HaveSpelling, IsImageOf, IsShapeOfStore, IsSizedEntry, parts_of}
-use Rattle.nl_image.proofs.ReadParts.{part-length}
+use Rattle.nl_image.specs.Facts.ReadParts.{part-length}
 use Rattle.nl_core.specs.Layout.{Layout, layout_of}
 use Rattle.nl_core.specs.Opened.{IsRestoredStore, opened_lists}
 use Rattle.nl_core.specs.Volume.{Lists, kept_by}
@@ -153,7 +153,7 @@ module _ (bytes : List ℕ) (r : ReadImage) (is : IsReadImage bytes r) where
       unused = λ no. zeros.blocks b page (λ u. no (subst (λ (s : Segments). IsUsed s b) (sym segments-are) u)) there;
     }
       where
-        there : blocks.pages_of blocks_all b ≡ Some page
+        there : blocks.pages_of_bytes blocks_all b ≡ Some page
         there = page_there blocks_all count_all b blocks-long at.inside ∙ ap Some (sym at.is)
 
         whole-page : length (take 1024 (drop (1024 * b) blocks_all)) ≡ 1024

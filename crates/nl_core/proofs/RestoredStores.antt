@@ -6,7 +6,7 @@ use Rattle.std.proofs.lemmas.List.{get_or_past}
 use Rattle.nl_types.specs.Entries.{number_of}
 use Rattle.nl_types.specs.Segments.{Segments, total_blocks}
 use Rattle.nl_device.specs.Failures.{Failures}
-use Rattle.nl_space.specs.Content.{Held, Payload, SpaceContent}
+use Rattle.nl_space.specs.Content.{HeldPayload, Payload, SpaceContent}
 use Rattle.nl_vstore.specs.Batches.{birth_of_item, number_of_payload}
 use Rattle.nl_vstore.specs.Stores.{Store, device_in, payload_in}
 use Rattle.nl_segwriter.specs.declared.images.Restored.{Restored}
@@ -15,7 +15,7 @@ use Rattle.nl_segwriter.specs.Writing.{held_in}
 use Rattle.nl_dat.specs.declared.entries.DatEntry.{DatEntry}
 use Rattle.nl_dat.specs.Inside.{births_in, store_of}
 use Rattle.nl_dat.specs.Table.{HaveOwnPayload, addresses_of, entries_shown, entry_in}
-use Rattle.nl_dat.proofs.ShownSpace.{none-payload, shown}
+use Rattle.nl_dat.specs.Facts.ShownSpace.{none-payload, shown}
 use Rattle.nl_image.specs.Reading.{HaveOwn}
 use Rattle.nl_core.specs.Opened.{IsRestoredStore}
 
@@ -23,7 +23,7 @@ module _ (segments : Segments) (logs : Restored) (numbers : List (Option DatEntr
     (is : IsSpaceOf segments logs space) where
   -- whose the payload at a block is
   owner : (b : ℕ) → option_map number_of (births_in space b) ≡ option_map number_of_payload (held_in logs.payload b)
-  owner b = by (space.held b) ∙ ap (λ (h : Held). option_map number_of_payload (h b)) is.held
+  owner b = by (space.held b) ∙ ap (λ (h : HeldPayload). option_map number_of_payload (h b)) is.held
     where
       by : (o : Option Payload) → option_map number_of (option_map birth_of_item o) ≡ option_map number_of_payload o
       by None = refl
@@ -50,7 +50,7 @@ module _ (segments : Segments) (logs : Restored) (numbers : List (Option DatEntr
 
     held-made : (b : ℕ) → payload_in made b ≡ held_in logs.payload b
     held-made b = elim (cases_lt b (total_blocks space.segments)) [
-      | inl low ↦ (shown numbers space failures b low).0 ∙ ap (λ (h : Held). h b) is.held
+      | inl low ↦ (shown numbers space failures b low).0 ∙ ap (λ (h : HeldPayload). h b) is.held
       | inr high ↦ none-payload numbers space failures b high
           ∙ sym (get_or_past logs.payload b None (omega (arith, payload, total, high)))
     ]

@@ -16,13 +16,13 @@ use Rattle.nl_types.specs.Worlds.{Reply, is_moving}
 use Rattle.nl_vstore.specs.Batches.{Changes}
 use Rattle.nl_vstore.specs.Located.{needed_in, numbers_in}
 use Rattle.nl_vstore.specs.Stores.{IsReclaimed, Numbered, Store}
-use Rattle.nl_vstore.proofs.NumberAt.{in-numbers}
+use Rattle.nl_vstore.specs.Facts.NumberAt.{in-numbers}
 use Rattle.nl_reclaim.specs.Cleaning.{judged_for}
 use Rattle.nl_cpfile.specs.Tables.{Table, range_in, with_mode, with_next, without}
 use Rattle.nl_cpfile.specs.declared.checkpoint.Checkpoint.{Checkpoint}
 use Rattle.nl_core.specs.CleaningEvents.{HasMovedOut, HasResized, IsMoveRefusal, needed_by}
 use Rattle.nl_core.specs.Commits.{AllNext, IsImage, IsNew, KeepsCheckpoints, applied, numbers_written, with_room, without_numbers}
-use Rattle.nl_core.specs.Layout.{AllowedBetween, Does, HasRefused, HasWritten, IsPen, KeepsNumbers, Layout, layout_of}
+use Rattle.nl_core.specs.Layout.{AllowedBetween, Does, HasRefused, HasWrittenCheckpoint, IsPen, KeepsNumbers, Layout, layout_of}
 use Rattle.nl_core.specs.Notes.{AreCommitsOf, CommitsTellAll, HasNoted, freed_in, has_other_mode, mounted_as, moved_as, new_checkpoint, shown_of, shown_page, where_any, where_true, without_changes}
 use Rattle.nl_core.specs.Shown.{Shown}
 use Rattle.nl_core.specs.Volume.{IsTakenOut, Lists, boundary_in, minor_checkpoint, moved_lists, with_checkpoint_mode, with_minor}
@@ -30,14 +30,14 @@ use Rattle.nl_core.specs.declared.commit.Commit.{Commit}
 use Rattle.nl_core.specs.declared.commit.Commit.TheVariants.{Freed, GivenBack, ModeSet, Mounted, RangeRemoved, Removed, Resized, Written}
 use Rattle.nl_core.specs.declared.commit.ShownPage.{ShownPage}
 use Rattle.nl_core.specs.declared.mounts.Mounted.{Mounted as Mount}
-use Rattle.nl_core.proofs.Checkpoints.{latest-next, number-next}
-use Rattle.nl_core.proofs.CleanedPens.{refused-numbers}
-use Rattle.nl_core.proofs.ExpiredNumbers.{without-none}
+use Rattle.nl_core.specs.Facts.Checkpoints.{latest-next, number-next}
+use Rattle.nl_core.specs.Facts.CleanedPens.{refused-numbers}
+use Rattle.nl_core.specs.Facts.ExpiredNumbers.{without-none}
 use Rattle.nl_core.proofs.Images.{pen-image, pen-table}
 use Rattle.nl_core.proofs.Keeping.{KeepsRoots, keeps-checkpoints, roots-moded, roots-next, roots-same, roots-without}
-use Rattle.nl_core.proofs.MountEvents.{answers-mount, mounted-before}
+use Rattle.nl_core.specs.Facts.MountEvents.{answers-mount, mounted-before}
 use Rattle.nl_core.proofs.SameModes.{no-other_mode}
-use Rattle.nl_core.proofs.ShownNumbers.{numbers-freed, numbers-moved, numbers-written}
+use Rattle.nl_core.specs.Facts.ShownNumbers.{numbers-freed, numbers-moved, numbers-written}
 use Rattle.nl_core.proofs.ResizedPens.{numbers-resized, resized-as-many, room-resized, unresized-numbers}
 
 -- ---- commits that tell what readers see
@@ -139,7 +139,7 @@ tells-commit old new c leads roots is fresh =
 
 -- ---- a checkpoint
 
-tells-written : (old new : Layout) (mode : Mode) (moment : ℕ) (writes : HasWritten mode moment old new) → Leads old new
+tells-written : (old new : Layout) (mode : Mode) (moment : ℕ) (writes : HasWrittenCheckpoint mode moment old new) → Leads old new
     → TellsAll old new (Written (new_checkpoint writes.settled.changes new.lists.table.latest) ∷ [])
 tells-written old new mode moment writes leads =
     tells-commit old new (Written (new_checkpoint changes new.lists.table.latest)) leads
@@ -290,51 +290,51 @@ module _ (allowed : AllowedBetween) (old new : Layout) (pen : IsPen old) where
       (tells-written old new mode moment noted.0 (leads-on (event.Checkpoint mode moment) (Ok a) does))
   tells-done (event.ChangeMode n mode) a more does noted =
       subst (TellsAll old new) (sym noted)
-      (tells-moded old new n mode (leads-on (event.ChangeMode n mode) (Ok a) does) does.touches)
+      (tells-moded old new n mode (leads-on (event.ChangeMode n mode) (Ok a) does) does.becomes)
   tells-done (event.Remove n) a more does noted =
       let leads = leads-on (event.Remove n) (Ok a) does in
       subst (TellsAll old new) (sym noted)
-      (tells-commit old new (Removed n) leads (roots-taken old new (n ∷ []) leads does.touches.0 does.touches.1)
-      (shown-taken old new (n ∷ []) leads does.touches.0 does.touches.1) tt)
+      (tells-commit old new (Removed n) leads (roots-taken old new (n ∷ []) leads does.becomes.0 does.becomes.1)
+      (shown-taken old new (n ∷ []) leads does.becomes.0 does.becomes.1) tt)
   tells-done (event.RemoveRange first last) (answer.Removed range) more does noted =
       subst (TellsAll old new) (sym noted)
       (tells-range old new range.removed (leads-on (event.RemoveRange first last) (Ok (answer.Removed range)) does)
-      does.touches.0.taken does.touches.1 first last (ap removed_by does.touches.0.judged))
-  tells-done (event.RemoveRange first last) _ more does noted = absurd does.touches.0
+      does.becomes.0.taken does.becomes.1 first last (ap removed_by does.becomes.0.judged))
+  tells-done (event.RemoveRange first last) _ more does noted = absurd does.becomes.0
   tells-done (event.Expire now period) (answer.Expired gone) more does noted =
       subst (TellsAll old new) (sym noted)
       (tells-range old new gone (leads-on (event.Expire now period) (Ok (answer.Expired gone)) does)
-      does.touches.0.taken does.touches.1 1 (boundary_in old.lists.table now period - 1) (sym does.touches.0.expired))
-  tells-done (event.Expire now period) _ more does noted = absurd does.touches.0
+      does.becomes.0.taken does.becomes.1 1 (boundary_in old.lists.table now period - 1) (sym does.becomes.0.expired))
+  tells-done (event.Expire now period) _ more does noted = absurd does.becomes.0
   tells-done (event.Mount n) a more does noted =
       subst (TellsAll old new) (sym (noted ∙ ap (λ (b : Answer). mounted_as b n) (answers-mount allowed old new n a pen does)))
       (tells-commit old new (Mounted (record { number = old.lists.given + 1; checkpoint = n })) (leads-on (event.Mount n) (Ok a) does)
-      (subst (λ (l : Layout). KeepsRoots old.lists.table l.lists.table) (sym does.touches) (roots-same old.lists.table))
-      (ap shown_of does.touches) (omega arith))
+      (subst (λ (l : Layout). KeepsRoots old.lists.table l.lists.table) (sym does.becomes) (roots-same old.lists.table))
+      (ap shown_of does.becomes) (omega arith))
   tells-done (event.Unmount m) a more does noted =
       subst (TellsAll old new) (sym noted)
       (tells-commit old new (GivenBack m) (leads-on (event.Unmount m) (Ok a) does)
-      (subst (λ (l : Layout). KeepsRoots old.lists.table l.lists.table) (sym does.touches) (roots-same old.lists.table))
-      (ap shown_of does.touches) (mounted-before allowed old new m a pen does))
+      (subst (λ (l : Layout). KeepsRoots old.lists.table l.lists.table) (sym does.becomes) (roots-same old.lists.table))
+      (ap shown_of does.becomes) (mounted-before allowed old new m a pen does))
   tells-done (event.Retire segment) a more does noted =
       subst (TellsAll old new) (sym noted)
-      (tells-freed old new segment does.touches.emptied.count (leads-on (event.Retire segment) (Ok a) does)
-      does.touches.lists does.touches.emptied.reclaimed)
+      (tells-freed old new segment does.becomes.emptied.count (leads-on (event.Retire segment) (Ok a) does)
+      does.becomes.lists does.becomes.emptied.reclaimed)
   tells-done (event.Resize segments) a more does noted =
       subst (TellsAll old new) (sym noted)
-      (tells-resized old new segments a (leads-on (event.Resize segments) (Ok a) does) does.touches.0 does.touches.1)
+      (tells-resized old new segments a (leads-on (event.Resize segments) (Ok a) does) does.becomes.0 does.becomes.1)
   tells-done (event.Move segment limit moment) a more does noted =
       subst (TellsAll old new) (sym noted)
-      (tells-moved old new segment limit moment a (leads-on (event.Move segment limit moment) (Ok a) does) does.touches.0 does.touches.1)
-  tells-done (event.Apply change) a more does noted = tells-nothing-of more noted (ap shown_of does.touches.0)
-  tells-done (event.Read ask) a more does noted = tells-nothing-of more noted (ap shown_of does.touches)
-  tells-done (event.MountRead m ask) a more does noted = tells-nothing-of more noted (ap shown_of does.touches)
-  tells-done (event.Listing options) a more does noted = tells-nothing-of more noted (ap shown_of does.touches)
+      (tells-moved old new segment limit moment a (leads-on (event.Move segment limit moment) (Ok a) does) does.becomes.0 does.becomes.1)
+  tells-done (event.Apply change) a more does noted = tells-nothing-of more noted (ap shown_of does.becomes.0)
+  tells-done (event.Read ask) a more does noted = tells-nothing-of more noted (ap shown_of does.becomes)
+  tells-done (event.MountRead m ask) a more does noted = tells-nothing-of more noted (ap shown_of does.becomes)
+  tells-done (event.Listing options) a more does noted = tells-nothing-of more noted (ap shown_of does.becomes)
 
   tells : (event : Event) (reply : Reply) (more : List Commit) → Does allowed old event reply new
       → AreCommitsOf old event reply new more → TellsAll old new more
   tells event (Ok a) more does noted = tells-done event a more does noted
-  tells event (Err e) more does none = tells-nothing-of more none (refused-shown event e old new does.touches)
+  tells event (Err e) more does none = tells-nothing-of more none (refused-shown event e old new does.becomes)
 
 pub commits_tell_all : (allowed : AllowedBetween) → CommitsTellAll allowed
 commits_tell_all allowed old new event reply more pen does commits =

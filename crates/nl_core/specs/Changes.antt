@@ -12,4 +12,5 @@ use Rattle.nl_core.specs.Volume.{Lists, latest_root}
 pub record HasChanged (pages : Pages) (change : Change) (old new : Lists) : Type 0 where
   pub base : Holding
   pub holds : HoldsTree pages (root_of (latest_root old)) base
-  pub changed : HasChangedHolding change (holding_over old.current.became base) (holding_over new.current.became base)
+  pub changed : HasChangedHolding change (holding_over old.current.became base)
+      (holding_over new.current.became base)

@@ -2,7 +2,7 @@
 use Rattle.std.specs.Prelude.{◌≡◌, ℕ, List, [], Some, map, false}
 use Rattle.nl_types.specs.declared.error.VolError.{VolError}
 use Rattle.nl_types.specs.Entries.{Place}
-use Rattle.nl_types.specs.Lifetimes.{Allowed, Numbers, Reclaim, Write, ledger_after}
+use Rattle.nl_types.specs.Lifetimes.{Allowed, Numbers, Frees, Makes, ledger_after}
 use Rattle.nl_types.specs.Worlds as worlds
 use Rattle.nl_types.specs.Worlds.{World}
 use Rattle.nl_cpfile.specs.declared.checkpoint.Checkpoint.{Checkpoint}
@@ -13,16 +13,17 @@ use Rattle.nl_core.specs.Draft.{HasNextNumber}
 use Rattle.nl_core.specs.Layout.{IsPen, KeepsNumbers, Layout, MeansWorld, layout_of, ledger_of}
 use Rattle.nl_core.specs.Volume.{kept_by, with_minor}
 
-abbrev pub number_in : Checkpoint → ℕ
-number_in c = c.number
+abbrev pub kept_number : Checkpoint → ℕ
+kept_number c = c.number
 
 -- a pen as its cleaner sees it: its store, and the numbers of its kept checkpoints
 abbrev pub kept_store : Layout → KeptStore
-kept_store l = record { kept = map number_in (kept_by l.lists); store = l.store }
+kept_store l = record { kept = map kept_number (kept_by l.lists); store = l.store }
 
 -- ---- moves
 
--- the same numbers are in use for the same, each kept checkpoint reaches the same ones, and the same worlds are meant
+-- the same numbers are in use for the same, each kept checkpoint reaches the same ones, and the same worlds
+-- are meant
 pub record StaysPen (old new : Layout) : Type 0 where
   pub pen : IsPen new
   pub ledger : ledger_of new ≡ ledger_of old
@@ -43,11 +44,11 @@ RefusedMovesKeepPens = (checkpoint stamp : ℕ) (numbers : List ℕ) (e : VolErr
 
 -- ---- minor checkpoints
 
--- No number starts or ends at it: the ledger has one checkpoint more, which reaches what the latest one does, and each world
--- that was meant has one copy more.
+-- No number starts or ends at it: the ledger has one checkpoint more, which reaches what the latest one does,
+-- and each world that was meant has one copy more.
 pub record AddsMinor (moment : ℕ) (old new : Layout) : Type 0 where
   pub pen : IsPen new
-  pub ledger : ledger_of new ≡ ledger_after (Write [] []) (ledger_of old)
+  pub ledger : ledger_of new ≡ ledger_after (Makes [] []) (ledger_of old)
   pub numbers : KeepsNumbers old new
   pub means : (w : World) → MeansWorld old w → MeansWorld new (worlds.with_minor w moment)
 
@@ -58,14 +59,14 @@ MinorsKeepPens = (moment : ℕ) (old : Layout) → IsPen old → HasNextNumber o
 
 -- ---- retirements
 
--- The numbers whose pages stood in the segment are out of use, which is allowed, and the ledger is as it is then. No kept
--- checkpoint reaches one of them, and the same worlds are meant.
+-- The numbers whose pages stood in the segment are out of use, which is allowed, and the ledger is as it is
+-- then. No kept checkpoint reaches one of them, and the same worlds are meant.
 pub record LeavesPen (segment : ℕ) (old new : Layout) : Type 0 where
-  pub allowed : Allowed (Reclaim (stood_in old.store segment)) (ledger_of old)
+  pub allowed : Allowed (Frees (stood_in old.store segment)) (ledger_of old)
   pub unreached : (c v : ℕ) (q : Place) (numbers : Numbers)
       → (ledger_of old).kept c ≡ Some numbers → numbers q ≡ Some v
       → is_inside old.store.segments segment (address_in old.store v) ≡ false
-  pub ledger : ledger_of new ≡ ledger_after (Reclaim (stood_in old.store segment)) (ledger_of old)
+  pub ledger : ledger_of new ≡ ledger_after (Frees (stood_in old.store segment)) (ledger_of old)
   pub pen : IsPen new
   pub numbers : KeepsNumbers old new
   pub means : (w : World) → MeansWorld old w → MeansWorld new w

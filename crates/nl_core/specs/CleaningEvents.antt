@@ -74,7 +74,8 @@ cleaned_by l s (event.Listing options) = Ok Done
 -- ---- what they do
 
 -- the first needed blocks of the segment were moved, as the answer says, in logs of the next checkpoint
-pub record HasMovedOut (segment limit moment : ℕ) (answer : Answer) (l : Lists) (old new : Store) : Type 0 where
+pub record HasMovedOut (segment limit moment : ℕ) (answer : Answer) (l : Lists)
+    (old new : Store) : Type 0 where
   pub count : MoveCount
   pub answer_is : answer ≡ moved_answer count
   pub moved : HasMovedFirst (needed_by l) segment limit (l.table.latest.number + 1) moment old new count
@@ -86,8 +87,8 @@ AreNotMoved segment limit moment l old new e =
     IsMoveRefused (l.table.latest.number + 1) moment
     (take limit (needed_in old (needed_by l) segment)) old new e
 
--- Why blocks of a segment that may be cleaned are not moved, and what is left then: numbers are judged before anything is read
--- or written, and only where there are blocks to move.
+-- Why blocks of a segment that may be cleaned are not moved, and what is left then: numbers are judged before
+-- anything is read or written, and only where there are blocks to move.
 abbrev pub IsMoveRefusal : (segment limit moment : ℕ) → Lists → Store → Store → VolError → Type 0
 IsMoveRefusal segment limit moment l old new error.NumbersSpent =
     (new ≡ old) × (0 < needed_count old (needed_by l) segment)
@@ -113,7 +114,8 @@ pub record HasEmptied (segment : ℕ) (answer : Answer) (l : Lists) (old new : S
 
 -- no list of logs fits the blocks that a move takes
 abbrev pub LacksSpaceToMove : Lists → Store → (segment limit : ℕ) → Type 0
-LacksSpaceToMove l s segment limit = LacksSpace s.segments false (min limit (needed_count s (needed_by l) segment))
+LacksSpaceToMove l s segment limit =
+    LacksSpace s.segments false (min limit (needed_count s (needed_by l) segment))
 
 -- there are so many segments, and where there were as many nothing changed
 pub record HasResized (segments : ℕ) (answer : Answer) (old new : Store) : Type 0 where

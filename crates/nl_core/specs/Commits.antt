@@ -9,7 +9,7 @@ use Rattle.nl_types.specs.Trees.{Tree}
 use Rattle.nl_layout.specs.Root.{root_of}
 use Rattle.nl_layout.specs.declared.root.Root.{Root}
 use Rattle.nl_files.specs.CheckpointRoots.{IsTreeSound}
-use Rattle.nl_cpfile.specs.Tables.{IsTable, kept_at, range_in, root_in, with_mode, with_next, without}
+use Rattle.nl_cpfile.specs.Tables.{IsTable, kept_at, range_in, checkpoint_root, with_mode, with_next, without}
 use Rattle.nl_cpfile.specs.declared.checkpoint.Checkpoint.{Checkpoint}
 use Rattle.nl_core.specs.Means.{RootMeans}
 use Rattle.nl_core.specs.Layout.{reached_by}
@@ -85,7 +85,8 @@ pub record HasTree (pages : Pages) (root : Root) : Type 0 where
 -- snapshot.
 pub record IsImage (x : Shown) : Type 0 where
   pub table : IsTable x.table
-  pub trees : (n : ℕ) (c : Checkpoint) → kept_at n x.table ≡ Some c → HasTree (pages_shown x) (root_in c)
+  pub trees : (n : ℕ) (c : Checkpoint) → kept_at n x.table ≡ Some c
+      → HasTree (pages_shown x) (checkpoint_root c)
   pub given : (m n : ℕ) → mounted_on x m ≡ Some n → m ≤ x.given
   pub mounted : (m n : ℕ) → mounted_on x m ≡ Some n
       → (c : Checkpoint) × (kept_at n x.table ≡ Some c) × (c.mode ≡ Snapshot)
@@ -94,10 +95,10 @@ pub record IsImage (x : Shown) : Type 0 where
 
 -- a checkpoint keeps its root, its places and their pages, and so its tree
 pub record KeepsCheckpoint (before now : Pages) (old new : Checkpoint) : Type 0 where
-  pub root : root_in new ≡ root_in old
+  pub root : checkpoint_root new ≡ checkpoint_root old
   pub places : reached_by now new ≡ reached_by before old
   pub pages : (q : Place) (v : ℕ) → reached_by before old q ≡ Some v → now v ≡ before v
-  pub trees : (t : Tree) → RootMeans before (root_in old) t → RootMeans now (root_in new) t
+  pub trees : (t : Tree) → RootMeans before (checkpoint_root old) t → RootMeans now (checkpoint_root new) t
 
 -- so does each checkpoint that isn't taken out
 abbrev pub KeepsCheckpoints : Shown → Shown → Type 0
@@ -105,7 +106,8 @@ KeepsCheckpoints x y =
     (n : ℕ) (c d : Checkpoint) → kept_at n x.table ≡ Some c → kept_at n y.table ≡ Some d
     → KeepsCheckpoint (pages_shown x) (pages_shown y) c d
 
--- numbers ascend, so none comes twice; a mount that is given back is there; a volume never shrinks; and a history begins once
+-- numbers ascend, so none comes twice; a mount that is given back is there; a volume never shrinks; and a
+-- history begins once
 abbrev pub IsNew : Shown → Commit → Type 0
 IsNew x (Whole w) = ⊥
 IsNew x (Written w) = x.table.latest.number < w.checkpoint.number

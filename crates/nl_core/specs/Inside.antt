@@ -1,6 +1,6 @@
 -- What the fields of the pen's tables hold.
 use Rattle.nl_core.specs.Volume.{Lists}
-use Rattle.nl_core.specs.Tables.{Roomy}
+use Rattle.nl_core.specs.Tables.{RoomyLists}
 use Rattle.nl_core.specs.declared.tables.Tables.TheInside.{Inside}
 
 abbrev pub lists_of : Inside → Lists
@@ -12,5 +12,5 @@ lists_of t = record {
   given = t.mounts.given;
 }
 
-abbrev pub roomy_of : Inside → Roomy
+abbrev pub roomy_of : Inside → RoomyLists
 roomy_of t = record { lists = lists_of t; room = t.checkpoints.room }

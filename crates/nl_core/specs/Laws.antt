@@ -9,7 +9,7 @@ use Rattle.nl_types.specs.declared.event.Mode.{Mode}
 use Rattle.nl_types.specs.declared.reply.Answer.TheVariants.{Expired, Removed}
 use Rattle.nl_types.specs.declared.row.Range.{Range}
 use Rattle.nl_types.specs.Laws.{IsJudged}
-use Rattle.nl_types.specs.Lifetimes.{EachAllowed, Remove, ledger_after_all}
+use Rattle.nl_types.specs.Lifetimes.{EachAllowed, Forgets, ledger_after_all}
 use Rattle.nl_types.specs.Roots.{Pages}
 use Rattle.nl_types.specs.Worlds.{World, Reply}
 use Rattle.nl_types.specs.Runs.{Run, TakesMemory}
@@ -21,7 +21,8 @@ use Rattle.nl_core.specs.Layout.{AllowedBetween, IsPen, Layout, Does, DoesIn, La
 
 -- what a pen holds means one world at most
 abbrev pub MeansOneWorld : Type 0
-MeansOneWorld = (pages : Pages) (l : Lists) (w other : World) → Means pages l w → Means pages l other → w ≡ other
+MeansOneWorld =
+    (pages : Pages) (l : Lists) (w other : World) → Means pages l w → Means pages l other → w ≡ other
 
 -- what an event does to a pen, it does beside each world that the pen means
 abbrev pub EventsLeadOn : AllowedBetween → Type 0
@@ -75,32 +76,35 @@ NoSpaceIsTrue allowed =
 abbrev pub NoSpaceIsSaid : AllowedBetween → Type 0
 NoSpaceIsSaid allowed =
     (old new : Layout) (mode : Mode) (moment : ℕ) (reply : Reply)
-    → IsPen old → LacksSpaceFor old (Checkpoint mode moment) → Does allowed old (Checkpoint mode moment) reply new
+    → IsPen old → LacksSpaceFor old (Checkpoint mode moment)
+    → Does allowed old (Checkpoint mode moment) reply new
     → (e : VolError) × (reply ≡ Err e) × (e ≢ Fault)
 
 -- memory is refused only to events that take it
 abbrev pub MemoryIsTaken : Type 0
 MemoryIsTaken =
-    (old new : Layout) (event : Event) → IsPen old → Does unshared old event (Err Memory) new → TakesMemory event
+    (old new : Layout) (event : Event) → IsPen old → Does unshared old event (Err Memory) new
+    → TakesMemory event
 
 -- a removal of a range leaves the ledger that removals of the answered numbers leave, one after another
 abbrev pub RangesGoOneByOne : AllowedBetween → Type 0
 RangesGoOneByOne allowed =
     (old new : Layout) (first last : ℕ) (range : Range)
     → Does allowed old (RemoveRange first last) (Ok (Removed range)) new
-    → EachAllowed (map Remove range.removed) (ledger_of old)
-    × (ledger_of new ≡ ledger_after_all (map Remove range.removed) (ledger_of old))
+    → EachAllowed (map Forgets range.removed) (ledger_of old)
+    × (ledger_of new ≡ ledger_after_all (map Forgets range.removed) (ledger_of old))
 
 -- and so does an expiry
 abbrev pub ExpiriesGoOneByOne : AllowedBetween → Type 0
 ExpiriesGoOneByOne allowed =
     (old new : Layout) (now period : ℕ) (gone : List ℕ)
     → Does allowed old (Expire now period) (Ok (Expired gone)) new
-    → EachAllowed (map Remove gone) (ledger_of old)
-    × (ledger_of new ≡ ledger_after_all (map Remove gone) (ledger_of old))
+    → EachAllowed (map Forgets gone) (ledger_of old)
+    × (ledger_of new ≡ ledger_after_all (map Forgets gone) (ledger_of old))
 
--- whatever takes the current tree to a checkpoint writes as many blocks, and gives one root: so space is judged by what the
--- pen holds
+-- whatever takes the current tree to a checkpoint writes as many blocks, and gives one root: so space is
+-- judged by what the pen holds
 abbrev pub SettlingsAreAlike : Type 0
-SettlingsAreAlike = (l : Layout) (root other : Root) → IsPen l → (one : Settled l root) → (two : Settled l other)
+SettlingsAreAlike =
+    (l : Layout) (root other : Root) → IsPen l → (one : Settled l root) → (two : Settled l other)
     → (other ≡ root) × (length two.changes.births ≡ length one.changes.births)

@@ -2,20 +2,20 @@
 use Rattle.std.specs.Prelude.{◌≡◌, ◌⊎◌, ℕ, ◌+◌, ◌<◌, ◌≤◌, List, [], ◌∷◌, true, length, max, take, All, false, Some, Err, MatchResult}
 use Rattle.std.specs.Option.{option_map}
 use Rattle.nl_types.specs.declared.error.VolError.{VolError}
-use Rattle.nl_types.specs.declared.error.VolError.TheVariants.{NoSpace, Fault, Memory, NumbersSpent}
+use Rattle.nl_types.specs.declared.error.VolError.TheVariants.{NoSpace, Fault, Memory}
 use Rattle.nl_types.specs.declared.event.Event.{Event}
 use Rattle.nl_types.specs.declared.event.Mode.{Mode}
 use Rattle.nl_types.specs.declared.event.Event.TheVariants as variant
 use Rattle.nl_types.specs.declared.event.Event.TheVariants.{Apply, ChangeMode, Checkpoint, Expire, Listing, Mount, MountRead, Move, Read, RemoveRange, Resize, Retire, Unmount}
 use Rattle.nl_types.specs.declared.geometry.Geometry.{Geometry}
 use Rattle.nl_types.specs.declared.reply.Answer.{Answer}
-use Rattle.nl_types.specs.Lifetimes.{Numbers, Ledger, IsLedger, KeepsCovered, EndsOnce, Write, Remove, ledger_after_all, blank}
+use Rattle.nl_types.specs.Lifetimes.{Numbers, Ledger, IsLedger, KeepsCovered, EndsOnce, Makes, Forgets, ledger_after_all, blank}
 use Rattle.nl_types.specs.Entries.{Place}
-use Rattle.nl_types.specs.Limits.{checkpoint_number_limit}
+use Rattle.nl_types.specs.Limits.{checkpoint_number_limit, inode_file_number}
 use Rattle.nl_types.specs.Placing.{LacksSpace}
 use Rattle.nl_types.specs.Roots.{Pages, pages_of}
 use Rattle.nl_types.specs.Worlds.{World, Reply}
-use Rattle.nl_types.specs.Runs.{AllowedRefusals, Step, Run, alone}
+use Rattle.nl_types.specs.Runs.{AllowedRefusals, Step, Run, unshared_refusals}
 use Rattle.nl_device.specs.Failures.{Failures}
 use Rattle.nl_layout.specs.Root.{root_of}
 use Rattle.nl_layout.specs.declared.root.Root.{Root}
@@ -31,11 +31,11 @@ use Rattle.nl_files.specs.CheckpointRoots.{IsTreeSound, roots_at}
 use Rattle.nl_reclaim.specs.Cleaning.{retired}
 use Rattle.nl_core.specs.Changes.{HasChanged}
 use Rattle.nl_core.specs.CleaningEvents.{HasEmptied, HasMovedNothing, HasMovedOut, HasResized, HasResizedNone, LacksSpaceToMove, cleaned_by, needed_by}
-use Rattle.nl_core.specs.Draft.{HasNextNumber, HoldsNow, SettlesNow}
-use Rattle.nl_core.specs.Means.{LeadsOn, Means}
+use Rattle.nl_core.specs.Draft.{HasNextNumber, HoldsNow, IsDraftRefusal, SettlesNow}
+use Rattle.nl_core.specs.Means.{StepsWorld, Means}
 use Rattle.nl_core.specs.Tables.{blank_lists}
 use Rattle.nl_core.specs.Volume.{IsExpired, IsTakenOut, IsTakenOutRange, Lists, kept_by, latest_root, moved_lists, next_checkpoint, published, with_change, with_checkpoint_mode, with_mount, without_mount}
-use Rattle.nl_cpfile.specs.Tables.{kept_at, root_in}
+use Rattle.nl_cpfile.specs.Tables.{kept_at, checkpoint_root}
 use Rattle.nl_cpfile.specs.declared.checkpoint.Checkpoint.{Checkpoint as Kept}
 
 pub record Layout : Type 0 where
@@ -46,31 +46,33 @@ abbrev pub layout_of : Lists → Store → Layout
 layout_of lists store = record { lists = lists; store = store }
 
 -- the pages under the virtual block numbers
-abbrev pub pages_in : Layout → Pages
-pages_in l = pages_of (content_in l.store)
+abbrev pub layout_pages : Layout → Pages
+layout_pages l = pages_of (content_in l.store)
 
 -- the layout means the world
 abbrev pub MeansWorld : Layout → World → Type 0
-MeansWorld l w = Means (pages_in l) l.lists w
+MeansWorld l w = Means (layout_pages l) l.lists w
 
--- the number at each place of a checkpoint: of its file of inodes, its directories and its files, nodes and data
+-- the number at each place of a checkpoint: of its file of inodes, its directories and its files, nodes and
+-- data
 abbrev pub reached_by : Pages → Kept → Numbers
-reached_by pages c = numbers_of pages (roots_at pages (root_of (root_in c)))
+reached_by pages c = numbers_of pages (roots_at pages (root_of (checkpoint_root c)))
 
 -- which numbers are in use, and which of them each kept checkpoint reaches
 abbrev pub ledger_of : Layout → Ledger
 ledger_of l = record {
   content = content_in l.store;
   latest = l.lists.table.latest.number;
-  kept = λ c. option_map (reached_by (pages_in l)) (kept_at c l.lists.table);
+  kept = λ c. option_map (reached_by (layout_pages l)) (kept_at c l.lists.table);
 }
 
--- What is true of a pen, but that it means a world. The ledger: what each kept checkpoint reaches is exactly the numbers in
--- use that cover it, each at its one place. The checkpoints' trees are sound, and the latest one is found under its number.
--- The store: each number in use has a block of its own, and the device holds its page there.
+-- What is true of a pen, but that it means a world. The ledger: what each kept checkpoint reaches is exactly
+-- the numbers in use that cover it, each at its one place. The checkpoints' trees are sound, and the latest
+-- one is found under its number. The store: each number in use has a block of its own, and the device holds
+-- its page there.
 pub record IsSoundPen (l : Layout) : Type 0 where
   pub ledger : IsLedger (ledger_of l)
-  pub kept : All (λ c. IsTreeSound (pages_in l) (root_of (root_in c))) (kept_by l.lists)
+  pub trees_sound : All (λ c. IsTreeSound (layout_pages l) (root_of (checkpoint_root c))) (kept_by l.lists)
   pub latest : kept_at l.lists.table.latest.number l.lists.table ≡ Some l.lists.table.latest
   pub last : l.lists.table.latest.number < checkpoint_number_limit
   pub store : IsStore l.store
@@ -82,7 +84,8 @@ pub record IsPen (l : Layout) : Type 0 where
 
 -- ---- what an event does to the numbers
 
--- A number keeps its page, its place and its start while a kept checkpoint needs it, and its end changes once at most.
+-- A number keeps its page, its place and its start while a kept checkpoint needs it, and its end changes once
+-- at most.
 pub record KeepsNumbers (old new : Layout) : Type 0 where
   pub covered : KeepsCovered (ledger_of old) (ledger_of new)
   pub ends : EndsOnce (ledger_of old) (ledger_of new)
@@ -98,27 +101,28 @@ pub record Settled (l : Layout) (root : Root) : Type 0 where
   pub settles : SettlesNow (content_in l.store) l.lists root held changes
   pub fits : CanTake l.store changes
 
--- what differs between two checkpoints is written: the births stand at exactly the places that differ, in the order of the
--- payload, the file of inodes last; every other place keeps its number, and what has no place any more ends
+-- what differs between two checkpoints is written: the births stand at exactly the places that differ, in the
+-- order of the payload, the file of inodes last; every other place keeps its number, and what has no place
+-- any more ends
 abbrev pub WritesBetween : Layout → Layout → Changes → Type 0
-WritesBetween old new changes = WritesWhatDiffers (pages_in old) (pages_in new)
-    (roots_at (pages_in old) (root_of (latest_root old.lists)))
-    (roots_at (pages_in new) (root_of (latest_root new.lists)))
-    6 changes.births changes.ends
+WritesBetween old new changes = WritesWhatDiffers (layout_pages old) (layout_pages new)
+    (roots_at (layout_pages old) (root_of (latest_root old.lists)))
+    (roots_at (layout_pages new) (root_of (latest_root new.lists)))
+    inode_file_number changes.births changes.ends
 
--- The current tree was settled and its batch written, as the next checkpoint. What is born has the lowest numbers that are
--- free, in the order of the payload.
-pub record HasWritten (mode : Mode) (moment : ℕ) (old new : Layout) : Type 0 where
+-- The current tree was settled and its batch written, as the next checkpoint. What is born has the lowest
+-- numbers that are free, in the order of the payload.
+pub record HasWrittenCheckpoint (mode : Mode) (moment : ℕ) (old new : Layout) : Type 0 where
   pub left : HasNextNumber old.lists
   pub settled : Settled old (latest_root new.lists)
-  pub numbers : TakeLowestFree (content_in old.store) [] settled.changes.births
+  pub lowest_free : TakeLowestFree (content_in old.store) [] settled.changes.births
   pub lists : new.lists ≡ published (next_checkpoint mode moment (latest_root new.lists) old.lists) old.lists
   pub written : IsWritten new.lists.table.latest.number new.lists.table.latest.stamp
       settled.changes old.store new.store
 
 -- what differs from the latest checkpoint is written, and nothing else
 pub record HasPublished (mode : Mode) (moment : ℕ) (old new : Layout) : Type 0 where
-  pub writes : HasWritten mode moment old new
+  pub writes : HasWrittenCheckpoint mode moment old new
   pub differs : WritesBetween old new writes.settled.changes
 
 -- a segment was emptied, in which no number stood that a kept checkpoint reaches
@@ -133,7 +137,7 @@ abbrev pub HasDone : Layout → Event → Answer → Layout → Type 0
 HasDone old (Checkpoint mode moment) answer new = HasPublished mode moment old new
 HasDone old (Apply change) answer new =
     (new ≡ layout_of (with_change change new.lists.current old.lists) old.store)
-    × HasChanged (pages_in old) change old.lists new.lists
+    × HasChanged (layout_pages old) change old.lists new.lists
 HasDone old (ChangeMode n mode) answer new =
     new ≡ layout_of (with_checkpoint_mode n mode old.lists) old.store
 HasDone old (variant.Remove n) answer new =
@@ -156,8 +160,8 @@ HasDone old (Listing options) answer new = new ≡ old
 
 -- ---- and a refused one
 
--- The device failed before all logs with what differs were written, and no number has changed. The checkpoint had a number
--- left: numbers are judged before anything is written.
+-- The device failed before all logs with what differs were written, and no number has changed. The checkpoint
+-- had a number left: numbers are judged before anything is written.
 pub record HasFaulted (moment : ℕ) (old new : Layout) : Type 0 where
   pub left : HasNextNumber old.lists
   pub lists : new.lists ≡ old.lists
@@ -174,10 +178,8 @@ pub record LacksSpaceToSettle (l : Layout) : Type 0 where
 
 -- why a checkpoint is refused before anything is written: numbers are judged first, then memory, then space
 abbrev pub IsCheckpointRefusal : Layout → VolError → Type 0
-IsCheckpointRefusal l NumbersSpent = checkpoint_number_limit ≤ l.lists.table.latest.number + 1
-IsCheckpointRefusal l Memory = HasNextNumber l.lists
 IsCheckpointRefusal l NoSpace = HasNextNumber l.lists × LacksSpaceToSettle l
-IsCheckpointRefusal l e = ⊥
+IsCheckpointRefusal l e = IsDraftRefusal l.lists e
 
 -- why a retirement is refused: the segment is judged, or memory is refused to it beside readers
 abbrev pub IsRetirementRefusal : Layout → (segment : ℕ) → VolError → Type 0
@@ -204,8 +206,8 @@ HasRefused (Unmount m) e old new = new ≡ old
 HasRefused (MountRead m ask) e old new = new ≡ old
 HasRefused (Listing options) e old new = new ≡ old
 
-abbrev pub Touches : Layout → Event → Reply → Layout → Type 0
-Touches old event reply new =
+abbrev pub Becomes : Layout → Event → Reply → Layout → Type 0
+Becomes old event reply new =
     MatchResult reply (λ answer. HasDone old event answer new) (λ e. HasRefused event e old new)
 
 -- ---- a new volume
@@ -214,15 +216,17 @@ Touches old event reply new =
 abbrev pub blank_layout : Geometry → DevicePages → Failures → Layout
 blank_layout geometry pages failures = layout_of blank_lists (new_store (new_content geometry pages) failures)
 
--- From there the first checkpoint was written, of the root alone, and then the blank one went. What is born stands at exactly
--- the places that the checkpoint has, under the lowest numbers in the order of the payload.
-pub record IsFormatted (geometry : Geometry) (pages : DevicePages) (failures : Failures) (now : ℕ) (l : Layout) : Type 0 where
+-- From there the first checkpoint was written, of the root alone, and then the blank one went. What is born
+-- stands at exactly the places that the checkpoint has, under the lowest numbers in the order of the payload.
+pub record IsFormatted (geometry : Geometry) (pages : DevicePages) (failures : Failures) (now : ℕ)
+    (l : Layout) : Type 0 where
   pub settled : Settled (blank_layout geometry pages failures) (latest_root l.lists)
   pub differs : WritesBetween (blank_layout geometry pages failures) l settled.changes
-  pub numbers : TakeLowestFree (content_in (blank_layout geometry pages failures).store) [] settled.changes.births
+  pub lowest_free : TakeLowestFree
+      (content_in (blank_layout geometry pages failures).store) [] settled.changes.births
   pub written : IsWritten 1 now settled.changes (blank_layout geometry pages failures).store l.store
   pub ledger : ledger_of l
-      ≡ ledger_after_all (Write settled.changes.births settled.changes.ends ∷ Remove 0 ∷ []) blank
+      ≡ ledger_after_all (Makes settled.changes.births settled.changes.ends ∷ Forgets 0 ∷ []) blank
 
 -- ---- refusals in the place of an event
 
@@ -243,9 +247,9 @@ LacksSpaceFor l (Unmount m) = ⊥
 LacksSpaceFor l (MountRead m ask) = ⊥
 LacksSpaceFor l (Listing options) = ⊥
 
--- The device failed during the event. A write of it failed though there was space. A move may be ended by a read as well: then
--- no write failed, and nothing changed but that the read is counted. Where a write of it failed, the segment written to is in
--- error, none is active, and the logs before that one stand.
+-- The device failed during the event. A write of it failed though there was space. A move may be ended by a
+-- read as well: then no write failed, and nothing changed but that the read is counted. Where a write of it
+-- failed, the segment written to is in error, none is active, and the logs before that one stand.
 abbrev pub FailsIn : Layout → Layout → Event → Type 0
 FailsIn old new (Move segment limit moment) =
     IsUnread old.store new.store
@@ -262,7 +266,7 @@ AllowedBetween = Layout → Layout → AllowedRefusals
 
 -- on a pen that no reader shares
 abbrev pub unshared : AllowedBetween
-unshared old new = alone (LacksSpaceFor old) (FailsIn old new)
+unshared old new = unshared_refusals (LacksSpaceFor old) (FailsIn old new)
 
 -- what a move, a retirement or a resize answers, by the layout before it
 abbrev pub cleaned : Layout → Event → Reply
@@ -271,17 +275,18 @@ cleaned l event = cleaned_by l.lists l.store event
 -- ---- the whole
 
 -- from each world that the old layout means, the event leads on to one that the new layout means
-abbrev pub Follows : AllowedBetween → Layout → Event → Reply → Layout → Type 0
-Follows allowed old event reply new = (w : World) → MeansWorld old w
-    → LeadsOn (allowed old new) (cleaned old event) w event reply (pages_in new) new.lists
+abbrev pub StepsWorlds : AllowedBetween → Layout → Event → Reply → Layout → Type 0
+StepsWorlds allowed old event reply new = (w : World) → MeansWorld old w
+    → StepsWorld (allowed old new) (cleaned old event) w event reply (layout_pages new) new.lists
 
--- What an event does to a pen. In each world that the pen means, the event is done whole as the definitions say, or it is
--- refused by what is allowed in its place (`follows`). The lists and the blocks become what is due (`touches`). Numbers keep
--- what they stand for (`numbers`), what is true of every pen still is (`pen`), and how often the device failed is never
--- forgotten (`failures`).
-pub record Does (allowed : AllowedBetween) (old : Layout) (event : Event) (reply : Reply) (new : Layout) : Type 0 where
-  pub follows : Follows allowed old event reply new
-  pub touches : Touches old event reply new
+-- What an event does to a pen. In each world that the pen means, the event is done whole as the definitions
+-- say, or it is refused by what is allowed in its place (`follows`). The lists and the blocks become what is
+-- due (`becomes`). Numbers keep what they stand for (`numbers`), what is true of every pen still is (`pen`),
+-- and how often the device failed is never forgotten (`failures`).
+pub record Does (allowed : AllowedBetween) (old : Layout) (event : Event) (reply : Reply)
+    (new : Layout) : Type 0 where
+  pub follows : StepsWorlds allowed old event reply new
+  pub becomes : Becomes old event reply new
   pub numbers : KeepsNumbers old new
   pub pen : IsPen new
   pub failures : old.store.failures ≤ new.store.failures
@@ -294,7 +299,8 @@ pub record DoesIn (allowed : AllowedBetween) (old : Layout × World) (event : Ev
   pub step : Step (allowed old.0 new.0) (cleaned old.0 event) old.1 event reply new.1
 
 -- from a world, a list of events leads to one that the new pen means
-pub record RunsFrom (allowed : AllowedBetween) (w : World) (old : Layout) (events : List Event) (replies : List Reply)
+pub record RunsFrom (allowed : AllowedBetween) (w : World) (old : Layout) (events : List Event)
+    (replies : List Reply)
     (new : Layout) : Type 0 where
   pub after : World
   pub means : MeansWorld new after

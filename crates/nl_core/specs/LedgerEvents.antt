@@ -4,11 +4,11 @@ use Rattle.nl_types.specs.declared.event.Event.{Event}
 use Rattle.nl_types.specs.declared.event.Event.TheVariants as event
 use Rattle.nl_types.specs.declared.reply.Answer.{Answer}
 use Rattle.nl_types.specs.declared.reply.Answer.TheVariants.{Expired, Removed}
-use Rattle.nl_types.specs.Lifetimes.{EachAllowed, EndsOnceSince, KeepsCovered, Ledger, LedgerEvent, Reclaim, Remove, Write, ledger_after_all}
+use Rattle.nl_types.specs.Lifetimes.{EachAllowed, EndsOnceSince, KeepsCovered, Ledger, LedgerEvent, Frees, Forgets, Makes, ledger_after_all}
 use Rattle.nl_types.specs.Runs.{Run}
 use Rattle.nl_types.specs.Worlds.{Reply, is_moving}
 use Rattle.nl_reclaim.specs.Reclaims.{stood_in}
-use Rattle.nl_core.specs.Layout.{AllowedBetween, Does, HasDone, IsPen, Layout, Touches, ledger_of}
+use Rattle.nl_core.specs.Layout.{AllowedBetween, Does, HasDone, IsPen, Layout, Becomes, ledger_of}
 
 -- ---- which they are
 
@@ -18,22 +18,23 @@ taken_out (Removed range) = range.removed
 taken_out (Expired gone) = gone
 taken_out answer = []
 
--- A checkpoint is a write of the births and ends that it has, and a move of blocks one of none: at the minor checkpoint that it
--- makes no number starts or ends. A removal is that of its checkpoint, and the removal of a range
--- and an expiry are those of the answered ones, one after another. A retirement takes out the numbers whose pages stood in
--- its segment. No other event is one of the ledger.
-abbrev pub done_events : (old new : Layout) (event : Event) (answer : Answer) → HasDone old event answer new → List LedgerEvent
+-- A checkpoint is a write of the births and ends that it has, and a move of blocks one of none: at the minor
+-- checkpoint that it makes no number starts or ends. A removal is that of its checkpoint, and the removal of
+-- a range and an expiry are those of the answered ones, one after another. A retirement takes out the numbers
+-- whose pages stood in its segment. No other event is one of the ledger.
+abbrev pub done_events : (old new : Layout) (event : Event) (answer : Answer) → HasDone old event answer new
+    → List LedgerEvent
 done_events old new (event.Checkpoint mode moment) answer done =
-    Write done.writes.settled.changes.births done.writes.settled.changes.ends ∷ []
-done_events old new (event.Remove n) answer done = Remove n ∷ []
-done_events old new (event.RemoveRange first last) answer done = map Remove (taken_out answer)
-done_events old new (event.Expire now period) answer done = map Remove (taken_out answer)
-done_events old new (event.Retire segment) answer done = Reclaim (stood_in old.store segment) ∷ []
+    Makes done.writes.settled.changes.births done.writes.settled.changes.ends ∷ []
+done_events old new (event.Remove n) answer done = Forgets n ∷ []
+done_events old new (event.RemoveRange first last) answer done = map Forgets (taken_out answer)
+done_events old new (event.Expire now period) answer done = map Forgets (taken_out answer)
+done_events old new (event.Retire segment) answer done = Frees (stood_in old.store segment) ∷ []
 done_events old new (event.Apply change) answer done = []
 done_events old new (event.Read ask) answer done = []
 done_events old new (event.ChangeMode n mode) answer done = []
 done_events old new (event.Move segment limit moment) answer done =
-    if is_moving (Ok answer) then Write [] [] ∷ [] else []
+    if is_moving (Ok answer) then Makes [] [] ∷ [] else []
 done_events old new (event.Resize segments) answer done = []
 done_events old new (event.Mount n) answer done = []
 done_events old new (event.Unmount m) answer done = []
@@ -41,9 +42,10 @@ done_events old new (event.MountRead m ask) answer done = []
 done_events old new (event.Listing options) answer done = []
 
 -- a refused event is none
-abbrev pub ledger_events : (old new : Layout) (event : Event) (reply : Reply) → Touches old event reply new → List LedgerEvent
-ledger_events old new event (Ok answer) touches = done_events old new event answer touches
-ledger_events old new event (Err e) touches = []
+abbrev pub ledger_events : (old new : Layout) (event : Event) (reply : Reply) → Becomes old event reply new
+    → List LedgerEvent
+ledger_events old new event (Ok answer) becomes = done_events old new event answer becomes
+ledger_events old new event (Err e) becomes = []
 
 -- these events lead from one ledger to another, each allowed where it comes
 pub record LedgerGoesOn (events : List LedgerEvent) (old new : Ledger) : Type 0 where
@@ -56,7 +58,7 @@ pub record LedgerGoesOn (events : List LedgerEvent) (old new : Ledger) : Type 0 
 abbrev pub EventsAreLedgerEvents : AllowedBetween → Type 0
 EventsAreLedgerEvents allowed =
     (old new : Layout) (event : Event) (reply : Reply) → IsPen old → (does : Does allowed old event reply new)
-    → LedgerGoesOn (ledger_events old new event reply does.touches) (ledger_of old) (ledger_of new)
+    → LedgerGoesOn (ledger_events old new event reply does.becomes) (ledger_of old) (ledger_of new)
 
 -- and a list of events does what a list of ledger events does
 abbrev pub RunsAreLedgerEvents : AllowedBetween → Type 0
@@ -65,8 +67,9 @@ RunsAreLedgerEvents allowed =
     → IsPen old → Run (Does allowed) old events replies new
     → (changes : List LedgerEvent) × LedgerGoesOn changes (ledger_of old) (ledger_of new)
 
--- However many events came, a number keeps its page, its place and its start while a kept checkpoint needs it. Until it is
--- taken out, its end changes once at most, from none to the number of a checkpoint that was made since.
+-- However many events came, a number keeps its page, its place and its start while a kept checkpoint needs
+-- it. Until it is taken out, its end changes once at most, from none to the number of a checkpoint that was
+-- made since.
 pub record KeepsNumbersSince (old new : Layout) : Type 0 where
   pub covered : KeepsCovered (ledger_of old) (ledger_of new)
   pub ends : EndsOnceSince (ledger_of old) (ledger_of new)

@@ -17,5 +17,6 @@ pub mod NeededBlocks
 pub mod CleanedPens
 pub mod CleanerViews
 pub mod Opened
-pub mod Closed
 pub mod PenImages
+pub mod Facts
+pub mod Private

@@ -13,7 +13,7 @@ use Rattle.nl_tree.specs.CurrentTrees.{StandsOver}
 use Rattle.nl_tree.specs.Held.{Holding}
 use Rattle.nl_tree.specs.Reading.{HoldingMeans}
 use Rattle.nl_files.specs.CheckpointTrees.{HoldsTree}
-use Rattle.nl_cpfile.specs.Tables.{root_in}
+use Rattle.nl_cpfile.specs.Tables.{checkpoint_root}
 use Rattle.nl_cpfile.specs.declared.checkpoint.Checkpoint.{Checkpoint}
 use Rattle.nl_core.specs.Volume.{Lists, kept_by, latest_root, mount_of}
 
@@ -35,7 +35,7 @@ pub record CopyMeans (pages : Pages) (c : Checkpoint) (copy : ℕ × Copy) : Typ
   pub minor : copy.1.minor ≡ c.minor
   pub stamp : copy.1.stamp ≡ c.stamp
   pub inodes : c.inodes ≡ length copy.1.tree
-  pub tree : RootMeans pages (root_in c) copy.1.tree
+  pub tree : RootMeans pages (checkpoint_root c) copy.1.tree
 
 pub record Means (pages : Pages) (l : Lists) (w : World) : Type 0 where
   pub world : IsWorld w
@@ -47,14 +47,17 @@ pub record Means (pages : Pages) (l : Lists) (w : World) : Type 0 where
 
 -- ---- what an event does to the world
 
--- From a world the event leads to one that is meant then. It is done whole, or refused by what is allowed in its place.
-pub record LeadsOn (allowed : AllowedRefusals) (cleaned : Reply) (w : World) (event : Event) (reply : Reply)
+-- From a world the event leads to one that is meant then. It is done whole, or refused by what is allowed in
+-- its place.
+pub record StepsWorld (allowed : AllowedRefusals) (cleaned : Reply) (w : World) (event : Event)
+    (reply : Reply)
     (pages : Pages) (new : Lists) : Type 0 where
   pub after : World
   pub means : Means pages new after
   pub step : Step allowed cleaned w event reply after
 
 -- an event that writes nothing, to which memory alone may be refused, leads on from each world that is meant
-abbrev pub FollowsOver : Pages → Lists → Event → Reply → Lists → Type 0
-FollowsOver pages old event reply new =
-    (cleaned : Reply) (w : World) → Means pages old w → LeadsOn memory_alone cleaned w event reply pages new
+abbrev pub StepsWorldsOver : Pages → Lists → Event → Reply → Lists → Type 0
+StepsWorldsOver pages old event reply new =
+    (cleaned : Reply) (w : World) → Means pages old w
+    → StepsWorld memory_alone cleaned w event reply pages new

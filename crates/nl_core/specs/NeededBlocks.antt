@@ -1,7 +1,7 @@
 -- The counts of a pen's needed blocks, and what removals of checkpoints do to them.
 use Rattle.std.specs.Prelude.{◌≡◌, ◌⊎◌, ℕ, ◌-◌, ◌<◌, ◌≤◌, true, All, List, length, slice_index_or}
 use Rattle.std.specs.List.{AllPairs}
-use Rattle.nl_types.specs.PartialMaps.{is_one_of}
+use Rattle.nl_types.specs.NumberLists.{is_one_of}
 use Rattle.nl_types.specs.declared.event.Mode.{Mode}
 use Rattle.nl_types.specs.declared.geometry.Geometry.{Geometry}
 use Rattle.nl_device.specs.Failures.{Failures}
@@ -9,11 +9,11 @@ use Rattle.nl_device.specs.Pages.{DevicePages}
 use Rattle.nl_vstore.specs.Batches.{Changes}
 use Rattle.nl_counts.specs.Counted.{Counted, IsCounted}
 use Rattle.nl_core.specs.CleaningEvents.{kept_numbers}
-use Rattle.nl_core.specs.Layout.{HasWritten, IsPen, Layout, blank_layout}
+use Rattle.nl_core.specs.Layout.{HasWrittenCheckpoint, IsPen, Layout, blank_layout}
 use Rattle.nl_core.specs.Volume.{Lists}
 
--- Each segment's count is the number of needed blocks that stand there: those that a kept checkpoint has, or that have not
--- ended.
+-- Each segment's count is the number of needed blocks that stand there: those that a kept checkpoint has, or
+-- that have not ended.
 abbrev pub AreNeededCounts : Layout → Counted → Type 0
 AreNeededCounts l counted = IsCounted l.store (kept_numbers l.lists) counted
 
@@ -24,11 +24,13 @@ pub record IsCountedPen (l : Layout) (counted : Counted) : Type 0 where
 
 -- before there is a checkpoint, on a device of some geometry
 abbrev pub IsBlank : Layout → Type 0
-IsBlank l = (geometry : Geometry) × (pages : DevicePages) × (failures : Failures) × (l ≡ blank_layout geometry pages failures)
+IsBlank l =
+    (geometry : Geometry) × (pages : DevicePages) × (failures : Failures)
+    × (l ≡ blank_layout geometry pages failures)
 
 -- a checkpoint was written, by this batch
 pub record HasWrittenBatch (mode : Mode) (moment : ℕ) (batch : Changes) (old new : Layout) : Type 0 where
-  pub writes : HasWritten mode moment old new
+  pub writes : HasWrittenCheckpoint mode moment old new
   pub batch_is : writes.settled.changes ≡ batch
 
 -- ---- removals

@@ -7,16 +7,15 @@ use Rattle.nl_types.specs.declared.event.Event.TheVariants as event
 use Rattle.nl_types.specs.declared.event.Mode.{Mode}
 use Rattle.nl_types.specs.declared.reply.Answer.{Answer}
 use Rattle.nl_types.specs.declared.reply.Answer.TheVariants as answer
-use Rattle.nl_types.specs.Entries.{Birth}
+use Rattle.nl_types.specs.Entries.{Birth, period_of}
 use Rattle.nl_types.specs.Worlds.{Reply, is_given_up, is_moving}
 use Rattle.nl_cpfile.specs.Tables.{Table, kept_at}
 use Rattle.nl_cpfile.specs.declared.checkpoint.Checkpoint.{Checkpoint}
 use Rattle.nl_vstore.specs.Batches.{Changes}
 use Rattle.nl_vstore.specs.Located.{numbers_in}
 use Rattle.nl_vstore.specs.Stores.{Numbered, Store}
-use Rattle.nl_vstore.specs.Periods.{period_of}
 use Rattle.nl_core.specs.Commits.{AllNext, IsImage, applied}
-use Rattle.nl_core.specs.Layout.{AllowedBetween, Does, HasWritten, IsPen, Layout, unshared}
+use Rattle.nl_core.specs.Layout.{AllowedBetween, Does, HasWrittenCheckpoint, IsPen, Layout, unshared}
 use Rattle.nl_core.specs.Shown.{Shown}
 use Rattle.nl_core.specs.Volume.{boundary_in}
 use Rattle.nl_core.specs.declared.commit.Commit.{Commit}
@@ -89,7 +88,8 @@ mounted_as a n = []
 abbrev pub without_changes : Checkpoint → Commit
 without_changes checkpoint = Written (record { births = []; ends = []; checkpoint = checkpoint })
 
--- that of a move: nothing is seen of where a page stands, but where blocks were moved there is a checkpoint more
+-- that of a move: nothing is seen of where a page stands, but where blocks were moved there is a checkpoint
+-- more
 abbrev pub moved_as : Answer → (latest : Checkpoint) → List Commit
 moved_as a latest = where_true (is_moving (Ok a)) (without_changes latest)
 
@@ -100,7 +100,7 @@ freed_in s segment = where_any (numbers_in s segment) (Freed (numbers_in s segme
 -- what readers see changes by one commit at most
 abbrev pub HasNoted : Layout → Event → Answer → Layout → List Commit → Type 0
 HasNoted old (event.Checkpoint mode moment) a new more =
-    (writes : HasWritten mode moment old new)
+    (writes : HasWrittenCheckpoint mode moment old new)
     × (more ≡ Written (new_checkpoint writes.settled.changes new.lists.table.latest) ∷ [])
 HasNoted old (event.ChangeMode n mode) a new more =
     more ≡ where_true (has_other_mode n mode old.lists.table) (ModeSet n mode)
@@ -111,7 +111,8 @@ HasNoted old (event.Expire now period) a new more =
 HasNoted old (event.Move segment limit moment) a new more = more ≡ moved_as a new.lists.table.latest
 HasNoted old (event.Retire segment) a new more = more ≡ freed_in old.store segment
 HasNoted old (event.Resize segments) a new more =
-    more ≡ where_true (nat_lt (length old.store.segments.each) segments) (Resized segments old.store.segments.blocks)
+    more ≡ where_true (nat_lt (length old.store.segments.each) segments)
+    (Resized segments old.store.segments.blocks)
 HasNoted old (event.Mount n) a new more = more ≡ mounted_as a n
 HasNoted old (event.Unmount m) a new more = more ≡ GivenBack m ∷ []
 HasNoted old (event.Apply change) a new more = more ≡ []
@@ -152,7 +153,7 @@ pub record DoesNoting (old : Layout) (event : Event) (reply : Reply) (new : Layo
 -- a checkpoint was written by this batch, and is noted behind the commits before
 pub record HasNotedWrite (mode : Mode) (moment : ℕ) (batch : Changes) (old new : Layout)
     (before after : List Commit) : Type 0 where
-  pub writes : HasWritten mode moment old new
+  pub writes : HasWrittenCheckpoint mode moment old new
   pub batch_is : writes.settled.changes ≡ batch
   pub behind : after
       ≡ before ++ Written (new_checkpoint writes.settled.changes new.lists.table.latest) ∷ []

@@ -1,5 +1,6 @@
 -- What is opened of an image: the lists over a store, and what they have to be for a pen.
 use Rattle.std.specs.Prelude.{◌≡◌, ◌⊎◌, ℕ, ◌+◌, ◌-◌, ◌≤◌, List, [], false, All, Option, Some}
+use Rattle.nl_types.specs.Limits.{first_inode}
 use Rattle.nl_types.specs.declared.error.VolError.{VolError}
 use Rattle.nl_types.specs.declared.error.VolError.TheVariants.{Fault}
 use Rattle.nl_types.specs.Entries.{Content}
@@ -13,28 +14,30 @@ use Rattle.nl_segwriter.specs.Writing.{held_in}
 use Rattle.nl_dat.specs.declared.entries.DatEntry.{DatEntry}
 use Rattle.nl_dat.specs.Table.{entries_shown}
 use Rattle.nl_check.specs.Laws.{MeetsAll}
-use Rattle.nl_cpfile.specs.Tables.{IsTable, Table, root_in}
+use Rattle.nl_cpfile.specs.Tables.{IsTable, Table, checkpoint_root}
 use Rattle.nl_cpfile.specs.declared.checkpoint.Checkpoint.{Checkpoint}
 use Rattle.nl_image.specs.Reading.{IsRefusal}
 use Rattle.nl_core.specs.Layout.{IsPen, Layout}
 use Rattle.nl_core.specs.Volume.{Lists, kept_by}
 
--- the lists over checkpoints that an image keeps: nothing differs from the latest one, and nothing was mounted
+-- the lists over checkpoints that an image keeps: nothing differs from the latest one, and nothing was
+-- mounted
 abbrev pub opened_lists : Table → Lists
 opened_lists table = record {
-  current = record { became = []; freed = []; mark = 11; names = table.latest.inodes - 1 };
+  current = record { became = []; freed = []; mark = first_inode; names = table.latest.inodes - 1 };
   dirty = false;
   table = table;
   mounts = [];
   given = 0;
 }
 
--- nothing differs from the latest checkpoint, which has the paths of the current tree, and no mount number was given
+-- nothing differs from the latest checkpoint, which has the paths of the current tree, and no mount number
+-- was given
 pub record IsAtRest (l : Lists) : Type 0 where
   pub clean : l.dirty ≡ false
   pub unchanged : l.current.became ≡ []
   pub none_freed : l.current.freed ≡ []
-  pub unmarked : l.current.mark ≡ 11
+  pub unmarked : l.current.mark ≡ first_inode
   pub names : l.current.names + 1 ≡ l.table.latest.inodes
   pub unmounted : l.mounts ≡ []
   pub none_given : l.given ≡ 0
@@ -44,10 +47,10 @@ pub record IsChecked (content : Content) (c : Checkpoint) : Type 0 where
   pub positive : 1 ≤ c.number
   -- of its file of inodes
   pub size : ℕ
-  pub meets : MeetsAll content c.number (root_of (root_in c)) size c.inodes
+  pub meets : MeetsAll content c.number (root_of (checkpoint_root c)) size c.inodes
 
--- The segments, logs and numbers are those of a store, and the periods end by the latest checkpoint. Checkpoints rise, and
--- each was checked. Nothing else is there.
+-- The segments, logs and numbers are those of a store, and the periods end by the latest checkpoint.
+-- Checkpoints rise, and each was checked. Nothing else is there.
 pub record IsOpened (l : Layout) : Type 0 where
   pub store : IsStore l.store
   pub periods : IsBounded (content_in l.store) l.lists.table.latest.number
@@ -70,7 +73,8 @@ abbrev pub IsOpenRefusal : List ℕ → VolError → Type 0
 IsOpenRefusal bytes e = (e ≡ Fault) ⊎ IsRefusal bytes e
 
 -- the store has these segments and entries, and what the logs hold
-pub record IsRestoredStore (segments : Segments) (logs : Restored) (numbers : List (Option DatEntry)) (store : Store) : Type 0 where
+pub record IsRestoredStore (segments : Segments) (logs : Restored) (numbers : List (Option DatEntry))
+    (store : Store) : Type 0 where
   pub segments_are : store.segments ≡ segments
   pub shown : entries_shown store ≡ numbers
   pub held : (b : ℕ) → payload_in store b ≡ held_in logs.payload b

@@ -18,9 +18,11 @@ PenImagesAreImages =
 
 -- a pen has one image
 abbrev pub PensHaveOneImage : Type 0
-PensHaveOneImage = (l : Layout) (bytes other : List ℕ) → IsPen l → IsPenImage l bytes → IsPenImage l other → bytes ≡ other
+PensHaveOneImage =
+    (l : Layout) (bytes other : List ℕ) → IsPen l → IsPenImage l bytes → IsPenImage l other → bytes ≡ other
 
--- nothing is dirty or mounted, so an image has all that the pen means, but for how many mount numbers were given
+-- nothing is dirty or mounted, so an image has all that the pen means, but for how many mount numbers were
+-- given
 pub record CanBeClosed (l : Lists) : Type 0 where
   pub clean : l.dirty ≡ false
   pub unmounted : l.mounts ≡ []
@@ -28,6 +30,7 @@ pub record CanBeClosed (l : Lists) : Type 0 where
 -- pens of one image mean one world
 abbrev pub ImagesMeanOneWorld : Type 0
 ImagesMeanOneWorld =
-    (l m : Layout) (bytes : List ℕ) (w v : World) → IsPen l → IsPen m → IsPenImage l bytes → IsPenImage m bytes
+    (l m : Layout) (bytes : List ℕ) (w v : World) → IsPen l → IsPen m → IsPenImage l bytes
+    → IsPenImage m bytes
     → CanBeClosed l.lists → CanBeClosed m.lists → MeansWorld l w → MeansWorld m v
     → record w { given = 0 } ≡ record v { given = 0 }

@@ -6,7 +6,7 @@ use Rattle.nl_tree.specs.FirstTree.{first_tree}
 use Rattle.nl_cpfile.specs.declared.checkpoint.Checkpoint.{Checkpoint}
 use Rattle.nl_core.specs.Volume.{Lists}
 
-pub record Roomy : Type 0 where
+pub record RoomyLists : Type 0 where
   pub lists : Lists
   -- for how many more checkpoints there is room
   pub room : ℕ

@@ -13,15 +13,16 @@ use Rattle.nl_types.specs.declared.row.Range.{Range}
 use Rattle.nl_types.specs.declared.row.Row.{Row}
 use Rattle.nl_types.specs.CheckpointLaws.{removed_by}
 use Rattle.nl_types.specs.Protection.{boundary}
-use Rattle.nl_types.specs.Rows.{is_among, kept_row, range_removal}
+use Rattle.nl_types.specs.NumberLists.{is_one_of}
+use Rattle.nl_types.specs.Rows.{kept_row, range_removal}
 use Rattle.nl_types.specs.Worlds.{is_given_up, is_mounted, is_moving}
 use Rattle.nl_layout.specs.declared.root.Root.{Root}
-use Rattle.nl_cpfile.specs.Tables.{Table, all, root_in, rows, with_latest_alone, with_mode, with_next, without}
+use Rattle.nl_cpfile.specs.Tables.{Table, all, checkpoint_root, rows, with_latest_alone, with_mode, with_next, without}
 use Rattle.nl_cpfile.specs.declared.checkpoint.Checkpoint.{Checkpoint}
 use Rattle.nl_tree.specs.Became.{Current}
 use Rattle.nl_core.specs.declared.mounts.Mounted.{Mounted}
 
--- what the tables hold
+-- what the tables hold in memory, as lists: without capacities and pointers
 pub record Lists : Type 0 where
   -- the current tree over the latest checkpoint
   pub current : Current
@@ -37,7 +38,7 @@ kept_by l = all l.table
 
 -- the root of the latest checkpoint
 abbrev pub latest_root : Lists → Root
-latest_root l = root_in l.table.latest
+latest_root l = checkpoint_root l.table.latest
 
 abbrev pub mount_of : Mounted → ℕ × ℕ
 mount_of m = (m.number, m.checkpoint)
@@ -88,7 +89,7 @@ without_checkpoints gone l = record l { table = without gone l.table }
 
 -- earlier checkpoints of these numbers are gone, the latest one stays, and nothing else changes
 pub record IsTakenOut (gone : List ℕ) (old new : Lists) : Type 0 where
-  pub stays : is_among gone old.table.latest.number ≡ false
+  pub stays : is_one_of gone old.table.latest.number ≡ false
   pub lists : new ≡ without_checkpoints gone old
 
 -- those of a range are gone that may go
@@ -147,8 +148,8 @@ published checkpoint l = record l {
 
 -- ---- a minor checkpoint
 
--- the latest checkpoint once more, as the volume makes it by itself: plain, under the next number, and with a stamp that does
--- not fall
+-- the latest checkpoint once more, as the volume makes it by itself: plain, under the next number, and with a
+-- stamp that does not fall
 abbrev pub minor_checkpoint : (moment : ℕ) → Lists → Checkpoint
 minor_checkpoint moment l = record l.table.latest {
   number = l.table.latest.number + 1;

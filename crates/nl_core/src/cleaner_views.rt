@@ -2,7 +2,7 @@
 ghost use Rattle.std.specs.Prelude.{◌≡◌, ◌≤◌, IfOk, IsOkUnless};
 ghost use Rattle.std.specs.List.{AllByRecursion};
 ghost use Rattle.std.proofs.Props.{props};
-ghost use Rattle.nl_types.specs.Protection.{staying};
+ghost use Rattle.nl_types.specs.Protection.{staying_numbers};
 ghost use Rattle.nl_vstore.specs.Counts.{needed_counts};
 ghost use Rattle.nl_vstore.specs.Located.{needed_count, payload_count_in};
 ghost use Rattle.nl_counts.specs.Counted.{IsCounted};
@@ -24,23 +24,24 @@ struct Staying<'a> {
     kept: &'a Checkpoints,
     below: CheckpointNumber,
     first: CheckpointNumber,
-    ghost least: { AllByRecursion (λ n. first ≤ n) (staying below (rows kept.now.table)) } by { Prim.hlevel props },
+    ghost least: { AllByRecursion (λ n. first ≤ n)
+        (staying_numbers below (rows kept.now.table)) } by { Prim.hlevel props },
 }
 
 impl<'a> Keeping for Staying<'a> {
     ghost use Rattle.nl_types.specs.Entries.{is_period_needed};
-    ghost use Rattle.nl_types.specs.Protection.{staying};
+    ghost use Rattle.nl_types.specs.Protection.{staying_numbers};
     ghost use Rattle.nl_cpfile.specs.Tables.{rows};
 
-    ghost test = { λ s. is_period_needed (staying s.below (rows s.kept.now.table)) };
+    ghost test = { λ s. is_period_needed (staying_numbers s.below (rows s.kept.now.table)) };
 
     fn needed(&self, period: Period) -> bool {
         needed_from(self.kept, self.below, self.first, period)
     }
 }
 
-/// How many numbers whose pages stand in a segment are needed once the plain checkpoints below one are gone: 0 where there
-/// is no such segment.
+/// How many numbers whose pages stand in a segment are needed once the plain checkpoints below one are gone:
+/// 0 where there is no such segment.
 pub fn needed_in<V: Vstore>(
     store: &V,
     kept: &Checkpoints,
@@ -58,7 +59,8 @@ pub fn needed_in<V: Vstore>(
     }
 }
 
-/// How many needed blocks each segment has once the plain checkpoints below one are gone. Refused by `Memory` alone.
+/// How many needed blocks each segment has once the plain checkpoints below one are gone. Refused by `Memory`
+/// alone.
 pub fn counts_after<V: Vstore>(
     alloc: Global,
     store: &V,

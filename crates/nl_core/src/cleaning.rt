@@ -19,8 +19,9 @@ use nl_types::{Answer, Reply, Segment};
 use nl_vstore::Vstore;
 use std::alloc::Global;
 
-/// Moves the listed numbers of a segment, of which there are some, into logs of the next checkpoint, which is the latest one once
-/// more, counts them where they stand then, and keeps that checkpoint. Refused by `NoSpace`, `Fault` and `Memory`.
+/// Moves the listed numbers of a segment, of which there are some, into logs of the next checkpoint, which is
+/// the latest one once more, counts them where they stand then, and keeps that checkpoint. Refused by
+/// `NoSpace`, `Fault` and `Memory`.
 pub fn move_with_minor<V: Vstore>(
     alloc: Global,
     tables: &mut Tables,
@@ -59,8 +60,9 @@ pub fn move_with_minor<V: Vstore>(
     })
 }
 
-/// Moves the first needed blocks of a segment elsewhere, at the moment `now` in whole seconds. Where there are some, the latest
-/// checkpoint is kept once more: its number and room for it are taken before a block is read.
+/// Moves the first needed blocks of a segment elsewhere, at the moment `now` in whole seconds. Where there
+/// are some, the latest checkpoint is kept once more: its number and room for it are taken before a block is
+/// read.
 pub fn move_out<V: Vstore>(
     alloc: Global,
     tables: &mut Tables,

@@ -6,7 +6,7 @@ ghost use Rattle.nl_space.specs.Appended.{IsLoadError};
 ghost use Rattle.nl_vstore.specs.Stores.{KeepsStored, content_in};
 ghost use Rattle.nl_cpfile.specs.Tables as tables;
 ghost use Rattle.nl_image.specs.StoreImages.{IsSizedEntry};
-ghost use Rattle.nl_core.specs.Closed.{AreSized, HasSize, HaveSizes};
+ghost use Rattle.nl_core.specs.Private.Closed.{AreSized, HasSize, HaveSizes};
 ghost use Rattle.nl_core.specs.Layout.{IsPen, layout_of};
 ghost use Rattle.nl_core.specs.PenImages.{IsPenImage};
 
@@ -76,8 +76,9 @@ fn all_entries<V: Vstore>(
     Ok(entries)
 }
 
-/// The image of a store and of the checkpoints that are kept over it, as a pen holds them. Each used block is loaded once from
-/// the device, in order, and nothing else is. Refused by `Memory`, and by `Fault` where the device failed.
+/// The image of a store and of the checkpoints that are kept over it, as a pen holds them. Each used block is
+/// loaded once from the device, in order, and nothing else is. Refused by `Memory`, and by `Fault` where the
+/// device failed.
 pub fn image_of<S: Space>(
     alloc: Global,
     tables: &Tables,

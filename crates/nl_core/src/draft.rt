@@ -1,7 +1,7 @@
 //! A checkpoint that is not published yet.
 ghost use Rattle.std.specs.Prelude.{◌≡◌, ◌<◌, ◌≤◌, ℕ, List, length, IfErr, IfOk, OnErr, OnOk};
 ghost use Rattle.nl_cpfile.specs.Tables.{ComesNext};
-ghost use Rattle.nl_vstore.specs.Batches.{Fits};
+ghost use Rattle.nl_vstore.specs.Batches.{CanBeTaken};
 ghost use Rattle.nl_vstore.specs.Stores.{IsWriteRefused, IsWritten, Store, capacity, content_in};
 ghost use Rattle.nl_counts.specs.Counted.{IsCounted};
 ghost use Rattle.nl_core.specs.Draft.{CanBeDrafted, HasFewNames, IsDraftRefusal, IsNextDraft};
@@ -18,12 +18,13 @@ use std::alloc::Global;
 #[derive(Drop)]
 pub struct Draft {
     pub checkpoint: Checkpoint,
-    /// The blocks that differ from those of the latest checkpoint, each under a number of its own, and the numbers that end.
+    /// The blocks that differ from those of the latest checkpoint, each under a number of its own, and the
+    /// numbers that end.
     pub batch: Batch,
 }
 
-/// The next checkpoint, with all the memory that it takes, and with room for its ends among the counts of needed blocks.
-/// Refused by `NumbersSpent` and `Memory`.
+/// The next checkpoint, with all the memory that it takes, and with room for its ends among the counts of
+/// needed blocks. Refused by `NumbersSpent` and `Memory`.
 pub fn draft_next<V: Vstore>(
     alloc: Global,
     tables: &mut Tables,
@@ -46,8 +47,8 @@ pub fn draft_next<V: Vstore>(
     Ok(draft)
 }
 
-/// Writes the blocks of a draft, and then keeps its checkpoint. The write takes its memory before its first put,
-/// so it is refused for memory before anything is written.
+/// Writes the blocks of a draft, and then keeps its checkpoint. The write takes its memory before its first
+/// put, so it is refused for memory before anything is written.
 pub fn write_draft<V: Vstore>(
     alloc: Global,
     tables: &mut Tables,
@@ -56,7 +57,8 @@ pub fn write_draft<V: Vstore>(
 ) -> Result<CheckpointNumber, VolError>
     requires room { 0 < tables.old.room }
     requires next { ComesNext draft.now.checkpoint tables.old.lists.table }
-    requires fits { Fits (capacity (V.store store.old)) (content_in (V.store store.old)) draft.now.batch }
+    requires fits { CanBeTaken (capacity (V.store store.old))
+        (content_in (V.store store.old)) draft.now.batch }
     ensures written { OnOk result (IsWritten draft.now.checkpoint.number draft.now.checkpoint.stamp
         draft.now.batch (V.store store.old) (V.store store.new)) }
     ensures kept { OnOk result (tables.new.lists ≡ published draft.now.checkpoint tables.old.lists) }

@@ -26,8 +26,8 @@ fn none_unless_memory(alloc: Global, refusal: VolError) -> Result<Items<Checkpoi
     }
 }
 
-/// Removes the plain checkpoints below the boundary of protection but for the latest one, and answers their numbers:
-/// the removal of the range from 1 to just below it, where that is one. Refused by `Memory` alone.
+/// Removes the plain checkpoints below the boundary of protection but for the latest one, and answers their
+/// numbers: the removal of the range from 1 to just below it, where that is one. Refused by `Memory` alone.
 pub fn expire(
     alloc: Global,
     kept: &mut Checkpoints,

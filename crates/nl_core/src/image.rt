@@ -26,10 +26,10 @@ use nl_sufile::SegTable;
 use nl_types::{Items, VolError};
 use std::alloc::Global;
 
-/// The volume whose image these bytes are, on a device of its geometry. It is closed to the same bytes, but for the mark where
-/// that is the first one. What the device holds is no part of it, and nothing is
-/// put there before all conditions were met. Refused by `BadImage` with the number of the first condition that the bytes fail,
-/// by `Memory`, and by `Fault` where the device failed; the device is dropped then.
+/// The volume whose image these bytes are, on a device of its geometry. It is closed to the same bytes, but
+/// for the mark where that is the first one. What the device holds is no part of it, and nothing is put there
+/// before all conditions were met. Refused by `BadImage` with the number of the first condition that the
+/// bytes fail, by `Memory`, and by `Fault` where the device failed; the device is dropped then.
 pub fn open<D: Device>(alloc: Global, bytes: &[u8], device: D) -> Result<Pen<D>, VolError>
     requires shape { (p : Parts) → MeetsFirst 2 bytes.now p → IsShapeOf (D.shape device) p.shape }
     ensures rest { IfOk result (λ pen. IsAtRest pen.lists) }
@@ -44,7 +44,7 @@ pub fn open<D: Device>(alloc: Global, bytes: &[u8], device: D) -> Result<Pen<D>,
 
 /// The volume of what was read of an image.
 fn open_read<D: Device>(alloc: Global, read: ReadImage, device: D) -> Result<Pen<D>, VolError>
-    requires shape { spaces.IsShapeOf (D.shape device) read.segments }
+    requires shape { spaces.IsTableShapeOf (D.shape device) read.segments }
     requires restores { CanBeRestored read }
     requires image { (bytes : List ℕ) × IsReadImage bytes read }
     ensures rest { IfOk result (λ pen. IsAtRest pen.lists) }
@@ -78,7 +78,7 @@ fn restore_store<D: Device>(
     logs: Restored,
     numbers: Items<Option<DatEntry>>,
 ) -> Result<Dat<LogSpace<D>>, VolError>
-    requires shape { spaces.IsShapeOf (D.shape device) segments }
+    requires shape { spaces.IsTableShapeOf (D.shape device) segments }
     requires pages { length logs.pages ≡ total_blocks segments }
     requires logs { HoldLogs segments (page_in logs.pages) logs.payload }
     requires have_logs { HaveLogs segments }

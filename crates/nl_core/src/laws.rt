@@ -20,20 +20,21 @@ pub fn pens_mean_one_world()
     ensures { MeansOneWorld }
 {}
 
-/// What events do to a pen, one or many, they do beside each world that the pen means: each reply is the one that the
-/// definitions give there, or an allowed refusal that keeps the world.
+/// What events do to a pen, one or many, they do beside each world that the pen means: each reply is the one
+/// that the definitions give there, or an allowed refusal that keeps the world.
 pub fn worlds_follow_pens()
     ensures event { EventsLeadOn unshared }
     ensures events { RunsLeadOn unshared }
 {}
 
-/// A refusal leaves the pen and its device as they were, but for a fault. A move may have counted reads that failed.
+/// A refusal leaves the pen and its device as they were, but for a fault. A move may have counted reads that
+/// failed.
 pub fn refusals_keep_pens()
     ensures { RefusalsKeepPens unshared }
 {}
 
-/// A refusal is judged by the world or the segments, or it has its reason: space lacks for a checkpoint or a move, or the
-/// device failed during one, or the event takes memory.
+/// A refusal is judged by the world or the segments, or it has its reason: space lacks for a checkpoint or a
+/// move, or the device failed during one, or the event takes memory.
 pub fn refusals_have_reasons()
     ensures { RefusalsHaveReasons unshared }
 {}
@@ -44,56 +45,56 @@ pub fn memory_is_refused_where_it_is_taken()
     ensures { MemoryIsTaken }
 {}
 
-/// A removal of a range leaves the same numbers in use, each with the same period, and the same checkpoints as removals of
-/// the answered ones, one after another. So does an expiry.
+/// A removal of a range leaves the same numbers in use, each with the same period, and the same checkpoints
+/// as removals of the answered ones, one after another. So does an expiry.
 pub fn ranges_go_one_by_one()
     ensures ranges { RangesGoOneByOne unshared }
     ensures expiries { ExpiriesGoOneByOne unshared }
 {}
 
-/// A checkpoint is refused for space only where no list of logs fits what it writes. Where none fits, it is refused before
-/// anything is written.
+/// A checkpoint is refused for space only where no list of logs fits what it writes. Where none fits, it is
+/// refused before anything is written.
 pub fn space_is_judged_exactly()
     ensures only { NoSpaceIsTrue unshared }
     ensures always { NoSpaceIsSaid unshared }
 {}
 
-/// Whatever a checkpoint of a pen could write has as many blocks, and gives one root. So whether space lacks is told by what
-/// the pen holds.
+/// Whatever a checkpoint of a pen could write has as many blocks, and gives one root. So whether space lacks
+/// is told by what the pen holds.
 pub fn settlings_are_alike()
     ensures { SettlingsAreAlike }
 {}
 
-/// A move of pages out of a segment leaves a pen that means the same: the same numbers are in use for the same, and each kept
-/// checkpoint reaches the same ones. So does a move that is refused.
+/// A move of pages out of a segment leaves a pen that means the same: the same numbers are in use for the
+/// same, and each kept checkpoint reaches the same ones. So does a move that is refused.
 pub fn moves_keep_pens()
     ensures moved { MovesKeepPens }
     ensures refused { RefusedMovesKeepPens }
 {}
 
-/// A minor checkpoint leaves a pen: no number starts or ends at it, and each world that was meant goes on with one copy more, the
-/// latest one under the next number.
+/// A minor checkpoint leaves a pen: no number starts or ends at it, and each world that was meant goes on
+/// with one copy more, the latest one under the next number.
 pub fn minors_keep_pens()
     ensures { MinorsKeepPens }
 {}
 
-/// A retirement of a segment in which no number is needed takes out numbers that no kept checkpoint reaches, and leaves a pen
-/// that means the same.
+/// A retirement of a segment in which no number is needed takes out numbers that no kept checkpoint reaches,
+/// and leaves a pen that means the same.
 pub fn retirements_keep_pens()
     ensures { RetirementsKeepPens }
 {}
 
-/// What an event does to the numbers and the kept checkpoints, events of the ledger do, each allowed where it comes. A
-/// checkpoint is a write of its births and ends, a move of blocks one of none, a removal, a range or an expiry removes one
-/// checkpoint after another, a retirement takes out the numbers of its segment, and nothing else is one. So all laws about
-/// lists of ledger events hold of lists of a pen's events.
+/// What an event does to the numbers and the kept checkpoints, events of the ledger do, each allowed where it
+/// comes. A checkpoint is a write of its births and ends, a move of blocks one of none, a removal, a range or
+/// an expiry removes one checkpoint after another, a retirement takes out the numbers of its segment, and
+/// nothing else is one. So all laws about lists of ledger events hold of lists of a pen's events.
 pub fn events_are_ledger_events()
     ensures event { EventsAreLedgerEvents unshared }
     ensures events { RunsAreLedgerEvents unshared }
 {}
 
-/// However many events come, a number keeps its page, its place and its start while a kept checkpoint needs it, and its end
-/// changes once at most: from none to the number of a checkpoint that was made meanwhile.
+/// However many events come, a number keeps its page, its place and its start while a kept checkpoint needs
+/// it, and its end changes once at most: from none to the number of a checkpoint that was made meanwhile.
 pub fn runs_keep_numbers()
     ensures { RunsKeepNumbers unshared }
 {
@@ -101,15 +102,15 @@ pub fn runs_keep_numbers()
     numbers_end_once();
 }
 
-/// What events do beside readers, one or many, they do beside each world that the pen means, as of a pen alone;
-/// but memory may be refused to any event.
+/// What events do beside readers, one or many, they do beside each world that the pen means, as of a pen
+/// alone; but memory may be refused to any event.
 pub fn worlds_follow_shared_pens()
     ensures event { EventsLeadOn shared }
     ensures events { RunsLeadOn shared }
 {}
 
-/// What readers see of a pen is an image: every kept checkpoint stands for a tree, and every mount is one of a
-/// kept snapshot.
+/// What readers see of a pen is an image: every kept checkpoint stands for a tree, and every mount is one of
+/// a kept snapshot.
 pub fn pens_are_images()
     ensures { PensAreImages }
 {}
@@ -151,7 +152,8 @@ pub fn pens_have_one_image()
     store_images_tell_the_store();
 }
 
-/// Pens of one image, of which nothing is dirty or mounted, mean one world, but for how many mount numbers were given.
+/// Pens of one image, of which nothing is dirty or mounted, mean one world, but for how many mount numbers
+/// were given.
 pub fn pens_of_one_image_mean_one_world()
     ensures { ImagesMeanOneWorld }
 {

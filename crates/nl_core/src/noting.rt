@@ -1,4 +1,5 @@
-//! Events with the commits that tell readers of them. What a commit takes of memory is taken before anything changes.
+//! Events with the commits that tell readers of them. What a commit takes of memory is taken before anything
+//! changes.
 ghost use Rattle.std.specs.Prelude.{◌≡◌, ◌<◌, ◌≤◌, ◌∷◌, ◌++◌, [], ℕ, List, if◌then◌else◌, length, map, nat_lt, vec_capacity, vec_len, IfOk, IfErr, OnErr, OnOk};
 ghost use Rattle.std.specs.Option.{option_map};
 ghost use Rattle.nl_types.specs.declared.event.Event.TheVariants.{Checkpoint, Move, Retire};
@@ -274,7 +275,8 @@ fn written_minor(alloc: Global, minor: &Kept) -> Commit
     })
 }
 
-/// Moves the first needed blocks of a segment elsewhere, and notes the checkpoint that this makes, where there are some.
+/// Moves the first needed blocks of a segment elsewhere, and notes the checkpoint that this makes, where
+/// there are some.
 pub fn note_move<V: Vstore>(
     alloc: Global,
     tables: &mut Tables,
@@ -337,7 +339,8 @@ fn shown_numbers<V: Vstore>(
 
 /// All that readers see.
 pub fn whole<V: Vstore>(alloc: Global, tables: &Tables, store: &V) -> Result<Whole, AllocError>
-    ensures image { IfOk result (λ w. whole_of w ≡ shown_of (layout_of tables.now.lists (V.store store.now))) }
+    ensures image { IfOk result
+        (λ w. whole_of w ≡ shown_of (layout_of tables.now.lists (V.store store.now))) }
     ensures mounts { IfOk result (λ w. MountsRise (whole_of w)) }
 {
     let numbers = shown_numbers(alloc, store)?;

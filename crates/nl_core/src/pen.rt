@@ -48,8 +48,8 @@ use nl_vstore::Vstore;
 use std::alloc::Global;
 use std::marker::Model;
 
-/// The writer's state of a volume: its tables in memory, the store of its blocks on the device that it writes to, and how many
-/// needed blocks each segment has.
+/// The writer's state of a volume: its tables in memory, the store of its blocks on the device that it writes
+/// to, and how many needed blocks each segment has.
 #[derive(Drop)]
 pub struct Pen<D: Device> {
     alloc: Global,
@@ -79,8 +79,8 @@ impl<D: Device> Pen<D> {
     ghost use Rattle.nl_vstore.specs.Stores.{KeepsStored};
     ghost use Rattle.nl_core.specs.PenImages.{CanBeClosed, IsPenImage};
 
-    /// A volume on a device of this geometry, with checkpoint 1 of the root alone, which it writes. What the device holds is
-    /// no part of it.
+    /// A volume on a device of this geometry, with checkpoint 1 of the root alone, which it writes. What the
+    /// device holds is no part of it.
     ///
     /// Refused by `Memory`, and by `Fault` where the device fails; the device is dropped then.
     pub fn format(alloc: Global, device: D, geometry: Geometry, now: u64) -> Result<Self, VolError>
@@ -103,8 +103,8 @@ impl<D: Device> Pen<D> {
         })
     }
 
-    /// The volume of an image that meets all conditions: the store of its blocks, the tables over its checkpoints, and the
-    /// counts of its needed blocks.
+    /// The volume of an image that meets all conditions: the store of its blocks, the tables over its
+    /// checkpoints, and the counts of its needed blocks.
     pub(crate) fn opened(
         alloc: Global,
         store: Dat<LogSpace<D>>,
@@ -132,8 +132,9 @@ impl<D: Device> Pen<D> {
         let _ = &self.tables;
     }
 
-    /// What a virtual block number stands for: its period and its block, where it is in use. Refused by `BadRange` for 0 and
-    /// for numbers above those that there are: one for each block of the device. It takes no memory.
+    /// What a virtual block number stands for: its period and its block, where it is in use. Refused by
+    /// `BadRange` for 0 and for numbers above those that there are: one for each block of the device. It
+    /// takes no memory.
     pub fn entry(&self, number: VirtualNumber) -> Result<Option<DatEntry>, VolError>
         ensures range { IsErr result ↔ ((number ≡ 0) ⊎ (capacity self.now.store < number)) }
         ensures kind { OnErr result (result ≡ Err VolError.BadRange) }
@@ -150,8 +151,9 @@ impl<D: Device> Pen<D> {
         self.store.table()
     }
 
-    /// A description of each payload block of the logs of a segment, in the order of the blocks, be their numbers in use or
-    /// not. Refused by `BadRange` where there is no such segment, and by `Memory` for the list.
+    /// A description of each payload block of the logs of a segment, in the order of the blocks, be their
+    /// numbers in use or not. Refused by `BadRange` where there is no such segment, and by `Memory` for the
+    /// list.
     pub fn bdescs(&self, alloc: Global, segment: Segment) -> Result<Vec<Bdesc>, VolError>
         ensures range { IsErrOf result VolError.BadRange
             ↔ (length self.now.store.segments.each ≤ segment) }
@@ -212,15 +214,17 @@ impl<D: Device> Pen<D> {
         boundary(self.tables.checkpoints(), now, period)
     }
 
-    /// How many numbers whose pages stand in a segment are needed once the plain checkpoints below one are gone. From 0 on
-    /// none goes. It looks at each block of the segment; there is none where there is no such segment.
+    /// How many numbers whose pages stand in a segment are needed once the plain checkpoints below one are
+    /// gone. From 0 on none goes. It looks at each block of the segment; there is none where there is no such
+    /// segment.
     pub fn needed_in(&self, segment: Segment, below: CheckpointNumber) -> u32
         ensures { result ≡ needed_after self.now below segment }
     {
         needed_in(&self.store, self.tables.checkpoints(), segment, below)
     }
 
-    /// How many needed blocks a segment has. Refused by `BadRange` where there is no such segment. It takes no memory.
+    /// How many needed blocks a segment has. Refused by `BadRange` where there is no such segment. It takes
+    /// no memory.
     pub fn needed(&self, segment: Segment) -> Result<u32, VolError>
         ensures { result ≡ needed_told self.now segment }
     {
@@ -238,8 +242,8 @@ impl<D: Device> Pen<D> {
         }
     }
 
-    /// How many needed blocks each segment has once the plain checkpoints below one are gone. It looks at those alone that
-    /// have ended at one of these. Refused by `Memory` alone.
+    /// How many needed blocks each segment has once the plain checkpoints below one are gone. It looks at
+    /// those alone that have ended at one of these. Refused by `Memory` alone.
     pub fn counts_after(
         &self,
         alloc: Global,
@@ -258,7 +262,8 @@ impl<D: Device> Pen<D> {
         )
     }
 
-    /// How many blocks of the logs of a segment have payload, be their numbers in use or not: 0 where there is no such segment.
+    /// How many blocks of the logs of a segment have payload, be their numbers in use or not: 0 where there
+    /// is no such segment.
     pub fn payload_count(&self, segment: Segment) -> u32
         ensures { result ≡ payload_count_in self.now.store segment }
     {
@@ -280,9 +285,9 @@ impl<D: Device> Pen<D> {
         }
     }
 
-    /// One event. A refusal leaves the world as it was. `NoSpace` comes only of a checkpoint or a move of which no list
-    /// of logs fits what is written, `Fault` only where the device failed during one, and `Memory` only by want of memory.
-    /// `nl_core::laws` has what follows.
+    /// One event. A refusal leaves the world as it was. `NoSpace` comes only of a checkpoint or a move of
+    /// which no list of logs fits what is written, `Fault` only where the device failed during one, and
+    /// `Memory` only by want of memory. `nl_core::laws` has what follows.
     pub fn apply(&mut self, event: &Event) -> Reply
         ensures { Does unshared self.old event.now result self.new }
     {
@@ -349,8 +354,8 @@ impl<D: Device> Pen<D> {
         }
     }
 
-    /// One event beside readers, who are told of it by a commit behind the others in `notes`, where it changes
-    /// what they see. The commit's memory is taken before anything changes. Else it is as `apply`.
+    /// One event beside readers, who are told of it by a commit behind the others in `notes`, where it
+    /// changes what they see. The commit's memory is taken before anything changes. Else it is as `apply`.
     pub fn apply_noting(&mut self, event: &Event, notes: &mut Vec<Commit>) -> Reply
         ensures { DoesNoting self.old event.now result self.new notes.old.items notes.new.items }
     {
@@ -525,8 +530,8 @@ impl<D: Device> Pen<D> {
         self.tables.give_all_back();
     }
 
-    /// The image of a volume of which nothing is dirty and nothing mounted. It reads each used block once from the device, in
-    /// order. Refused by `Memory`, and by `Fault` where the device failed.
+    /// The image of a volume of which nothing is dirty and nothing mounted. It reads each used block once
+    /// from the device, in order. Refused by `Memory`, and by `Fault` where the device failed.
     pub fn close(&mut self) -> Result<Vec<u8>, VolError>
         requires { CanBeClosed self.old.lists }
         ensures image { IfOk result (λ bytes. IsPenImage self.old bytes.items) }
@@ -544,8 +549,8 @@ impl<D: Device> Pen<D> {
 
 ghost use Rattle.nl_core.specs.Layout.{Runs};
 
-/// Does the events in order. Each reply is that of plain files with a whole copied tree for each checkpoint. Refused by
-/// `Memory` before the first event, or not at all.
+/// Does the events in order. Each reply is that of plain files with a whole copied tree for each checkpoint.
+/// Refused by `Memory` before the first event, or not at all.
 pub fn run<D: Device>(
     alloc: Global,
     pen: &mut Pen<D>,

@@ -33,7 +33,8 @@ fn span_of(numbers: &[CheckpointNumber]) -> Option<(CheckpointNumber, Checkpoint
     Some((*first, *last))
 }
 
-/// Kept checkpoints between two numbers are gone, both included: what the others need no more is let go. It takes no memory.
+/// Kept checkpoints between two numbers are gone, both included: what the others need no more is let go. It
+/// takes no memory.
 fn let_go_between<V: Vstore>(
     tables: &Tables,
     store: &V,
@@ -52,7 +53,8 @@ fn let_go_between<V: Vstore>(
     needed.removed(store, tables, first, next);
 }
 
-/// Kept checkpoints of these numbers are gone, which ascend: what the others need no more is let go. It takes no memory.
+/// Kept checkpoints of these numbers are gone, which ascend: what the others need no more is let go. It takes
+/// no memory.
 fn let_go<V: Vstore>(
     tables: &Tables,
     store: &V,

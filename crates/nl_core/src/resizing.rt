@@ -58,7 +58,8 @@ fn add_segments<V: Vstore>(
     grown
 }
 
-/// Makes the volume one of so many segments, the new ones clean, where it has fewer, with a count of needed blocks for each.
+/// Makes the volume one of so many segments, the new ones clean, where it has fewer, with a count of needed
+/// blocks for each.
 pub fn resize<V: Vstore>(
     alloc: Global,
     tables: &Tables,

@@ -1,5 +1,5 @@
-//! What the pen holds in memory: the current tree, kept checkpoints and mounts. Their blocks are in a store, under virtual
-//! block numbers.
+//! What the pen holds in memory: the current tree, kept checkpoints and mounts. Their blocks are in a store,
+//! under virtual block numbers.
 ghost use Rattle.std.specs.Prelude.{◌≡◌, ◌<◌, ◌≤◌, [], ◌∷◌, IfErr, IfOk, OnErr, OnOk, IsOkUnless, length};
 ghost use Rattle.nl_types.specs.Calls as calls;
 ghost use Rattle.nl_types.specs.Roots.{Pages};
@@ -41,9 +41,9 @@ pub struct Tables {
 }
 
 impl Model for Tables {
-    ghost use Rattle.nl_core.specs.Tables.{Roomy};
+    ghost use Rattle.nl_core.specs.Tables.{RoomyLists};
 
-    ghost Value = { Roomy };
+    ghost Value = { RoomyLists };
 
     ghost use Rattle.nl_core.specs.Inside.{roomy_of};
 
@@ -59,14 +59,15 @@ impl Tables {
     ghost use Rattle.nl_core.specs.NeededBlocks.{AreEarlier};
     ghost use Rattle.nl_core.specs.Changes.{HasChanged};
     ghost use Rattle.nl_core.specs.Draft.{CanBeDrafted, HasFewNames, HasNextNumber, IsDraftRefusal, IsNextDraft};
-    ghost use Rattle.nl_core.specs.Means.{FollowsOver, Means};
+    ghost use Rattle.nl_core.specs.Means.{StepsWorldsOver, Means};
     ghost use Rattle.nl_core.specs.Tables.{blank_lists};
     ghost use Rattle.nl_core.specs.Volume.{IsTakenOut, IsExpired, IsTakenOutRange, is_held_at, latest_alone, latest_root, minor_checkpoint, published, with_change, with_checkpoint_mode, with_mount, without_mount, without_mounts};
     ghost use Rattle.nl_core.specs.Notes.{has_other_mode};
     ghost use Rattle.nl_core.specs.Opened.{IsAtRest, opened_lists};
     ghost use Rattle.nl_core.specs.Shown.{MountsRise, whole_of};
 
-    /// The tables before a volume is formatted: the root alone, over a checkpoint 0 without files. Refused by `Memory` alone.
+    /// The tables before a volume is formatted: the root alone, over a checkpoint 0 without files. Refused by
+    /// `Memory` alone.
     pub fn blank(alloc: Global) -> Result<Tables, VolError>
         ensures blank { IfOk result (λ tables. tables.lists ≡ blank_lists) }
         ensures refused { IsOkUnless result VolError.Memory }
@@ -87,8 +88,8 @@ impl Tables {
         })
     }
 
-    /// The tables of a volume that was just opened, over the checkpoints that its image keeps: nothing differs from the latest
-    /// one, there is no mount, and no mount number was given. Takes no memory.
+    /// The tables of a volume that was just opened, over the checkpoints that its image keeps: nothing
+    /// differs from the latest one, there is no mount, and no mount number was given. Takes no memory.
     pub fn opened(alloc: Global, checkpoints: Checkpoints) -> Tables
         requires { 1 ≤ checkpoints.table.latest.inodes }
         ensures lists { result.lists ≡ opened_lists checkpoints.table }
@@ -193,7 +194,8 @@ impl Tables {
     /// A change of the current tree. Refused as the call is, and by `Memory`.
     pub fn change<V: VRead>(&mut self, alloc: Global, store: &V, change: &Change) -> Reply
         requires { (w : World) × Means (V.pages store.now) self.old.lists w }
-        ensures follows { FollowsOver (V.pages store.now) self.old.lists (Apply change.now) result self.new.lists }
+        ensures follows { StepsWorldsOver (V.pages store.now) self.old.lists
+            (Apply change.now) result self.new.lists }
         ensures lists { IfOk result (λ _.
             self.new.lists ≡ with_change change.now self.new.lists.current self.old.lists) }
         ensures changed { IfOk result (λ _.
@@ -208,17 +210,17 @@ impl Tables {
 
     /// What the current tree answers. Refused as the call is, and by `Memory`.
     pub fn read<V: VRead>(&self, alloc: Global, store: &V, ask: &Ask) -> Reply
-        ensures { FollowsOver (V.pages store.now) self.now.lists (Read ask.now) result self.now.lists }
+        ensures { StepsWorldsOver (V.pages store.now) self.now.lists (Read ask.now) result self.now.lists }
     {
         let base = ReadTree::new(store, self.base_root());
         answer(alloc, &self.current.view(&base), ask)
     }
 
-    /// Mounts a snapshot. Refused by `NoCheckpoint` where there is none of the number, by `NotSnapshot` where it is a plain
-    /// checkpoint, by `NumbersSpent` where no mount number is left, and by `Memory`.
+    /// Mounts a snapshot. Refused by `NoCheckpoint` where there is none of the number, by `NotSnapshot` where
+    /// it is a plain checkpoint, by `NumbersSpent` where no mount number is left, and by `Memory`.
     pub fn mount(&mut self, number: CheckpointNumber) -> Reply
         ensures follows { (pages : Pages)
-            → FollowsOver pages self.old.lists (Mount number) result self.new.lists }
+            → StepsWorldsOver pages self.old.lists (Mount number) result self.new.lists }
         ensures mounted { IfOk result (λ _. self.new.lists ≡ with_mount number self.old.lists) }
         ensures same { OnErr result (self.new.lists ≡ self.old.lists) }
     {
@@ -241,8 +243,8 @@ impl Tables {
         Ok(Answer::Mount(mount))
     }
 
-    /// What the tree of a mounted snapshot answers. Refused by `BadMount` where there is no such mount, as the call is, and
-    /// by `Memory`.
+    /// What the tree of a mounted snapshot answers. Refused by `BadMount` where there is no such mount, as
+    /// the call is, and by `Memory`.
     pub fn read_mounted<V: VRead>(
         &self,
         alloc: Global,
@@ -250,7 +252,7 @@ impl Tables {
         mount: MountNumber,
         ask: &Ask,
     ) -> Reply
-        ensures { FollowsOver (V.pages store.now) self.now.lists
+        ensures { StepsWorldsOver (V.pages store.now) self.now.lists
             (MountRead mount ask.now) result self.now.lists }
     {
         let Some(number) = self.mounts.find(mount) else {
@@ -262,11 +264,11 @@ impl Tables {
         answer(alloc, &ReadTree::new(store, checkpoint.root), ask)
     }
 
-    /// Keeps a checkpoint in this mode, without memory. Refused by `NoCheckpoint` where it isn't kept, and by `Mounted` where
-    /// a mounted snapshot would become plain.
+    /// Keeps a checkpoint in this mode, without memory. Refused by `NoCheckpoint` where it isn't kept, and by
+    /// `Mounted` where a mounted snapshot would become plain.
     pub fn change_mode(&mut self, number: CheckpointNumber, mode: Mode) -> Reply
         ensures follows { (pages : Pages)
-            → FollowsOver pages self.old.lists (ChangeMode number mode) result self.new.lists }
+            → StepsWorldsOver pages self.old.lists (ChangeMode number mode) result self.new.lists }
         ensures changed { IfOk result (λ _.
             self.new.lists ≡ with_checkpoint_mode number mode self.old.lists) }
         ensures same { OnErr result (self.new.lists ≡ self.old.lists) }
@@ -299,11 +301,11 @@ impl Tables {
         }
     }
 
-    /// Removes a checkpoint, without memory. Refused by `NoCheckpoint` where it isn't kept, by `IsSnapshot` where it is a
-    /// snapshot, and by `Latest` where it is the latest one.
+    /// Removes a checkpoint, without memory. Refused by `NoCheckpoint` where it isn't kept, by `IsSnapshot`
+    /// where it is a snapshot, and by `Latest` where it is the latest one.
     pub fn remove(&mut self, number: CheckpointNumber) -> Reply
         ensures follows { (pages : Pages)
-            → FollowsOver pages self.old.lists (Remove number) result self.new.lists }
+            → StepsWorldsOver pages self.old.lists (Remove number) result self.new.lists }
         ensures removed { IfOk result (λ _. IsTakenOut (number ∷ []) self.old.lists self.new.lists) }
         ensures low { IfOk result (λ _. number < self.old.lists.table.latest.number) }
         ensures same { OnErr result (self.new.lists ≡ self.old.lists) }
@@ -312,9 +314,9 @@ impl Tables {
         Ok(Answer::Done)
     }
 
-    /// Removes the checkpoints of a range but for snapshots and the latest one, and answers what became of each. Refused by
-    /// `BadRange` where the first number is 0 or above the last one, by `NoCheckpoint` where none of the range is kept, and
-    /// by `Memory`.
+    /// Removes the checkpoints of a range but for snapshots and the latest one, and answers what became of
+    /// each. Refused by `BadRange` where the first number is 0 or above the last one, by `NoCheckpoint` where
+    /// none of the range is kept, and by `Memory`.
     pub fn remove_range(
         &mut self,
         alloc: Global,
@@ -322,7 +324,7 @@ impl Tables {
         last: CheckpointNumber,
     ) -> Reply
         ensures follows { (pages : Pages)
-            → FollowsOver pages self.old.lists (RemoveRange first last) result self.new.lists }
+            → StepsWorldsOver pages self.old.lists (RemoveRange first last) result self.new.lists }
         ensures removed { IfOk result (λ answer.
             IsTakenOutRange first last answer self.old.lists self.new.lists) }
         ensures earlier { IfOk result (λ answer. AreEarlier (taken_out answer) self.old.lists) }
@@ -332,11 +334,11 @@ impl Tables {
         Ok(Answer::Removed(range))
     }
 
-    /// Removes the plain checkpoints below the boundary of protection but for the latest one, and answers their numbers.
-    /// Refused by `Memory` alone.
+    /// Removes the plain checkpoints below the boundary of protection but for the latest one, and answers
+    /// their numbers. Refused by `Memory` alone.
     pub fn expire(&mut self, alloc: Global, now: u64, period: u64) -> Reply
         ensures follows { (pages : Pages)
-            → FollowsOver pages self.old.lists (Expire now period) result self.new.lists }
+            → StepsWorldsOver pages self.old.lists (Expire now period) result self.new.lists }
         ensures expired { IfOk result (λ answer. IsExpired now period answer self.old.lists self.new.lists) }
         ensures earlier { IfOk result (λ answer. AreEarlier (taken_out answer) self.old.lists) }
         ensures same { OnErr result (self.new.lists ≡ self.old.lists) }
@@ -348,7 +350,7 @@ impl Tables {
     /// Gives a mount back, without memory. Refused by `BadMount` where there is no such mount.
     pub fn unmount(&mut self, mount: MountNumber) -> Reply
         ensures follows { (pages : Pages)
-            → FollowsOver pages self.old.lists (Unmount mount) result self.new.lists }
+            → StepsWorldsOver pages self.old.lists (Unmount mount) result self.new.lists }
         ensures gone { IfOk result (λ _. self.new.lists ≡ without_mount mount self.old.lists) }
         ensures same { OnErr result (self.new.lists ≡ self.old.lists) }
     {
@@ -362,14 +364,14 @@ impl Tables {
     /// What is told of the kept checkpoints that a listing shows. Refused by `Memory` alone.
     pub fn listing(&self, alloc: Global, options: &ListOptions) -> Reply
         ensures { (pages : Pages)
-            → FollowsOver pages self.now.lists (Listing options.now) result self.now.lists }
+            → StepsWorldsOver pages self.now.lists (Listing options.now) result self.now.lists }
     {
         let rows = self.checkpoints.listing(alloc, options)?;
         Ok(Answer::Rows(rows))
     }
 
-    /// The latest checkpoint, where there is a number for one more, and room for that one. Refused by `NumbersSpent` and
-    /// `Memory`.
+    /// The latest checkpoint, where there is a number for one more, and room for that one. Refused by
+    /// `NumbersSpent` and `Memory`.
     fn latest_with_room(&mut self) -> Result<Checkpoint, VolError>
         ensures same { self.new.lists ≡ self.old.lists }
         ensures latest { IfOk result (λ latest. latest ≡ self.old.lists.table.latest) }
@@ -430,8 +432,8 @@ impl Tables {
         number
     }
 
-    /// The latest checkpoint once more, as the volume keeps it by itself under the next number, and room for it. Refused by
-    /// `NumbersSpent` and `Memory`.
+    /// The latest checkpoint once more, as the volume keeps it by itself under the next number, and room for
+    /// it. Refused by `NumbersSpent` and `Memory`.
     pub fn draft_minor(&mut self, moment: u64) -> Result<Checkpoint, VolError>
         ensures same { self.new.lists ≡ self.old.lists }
         ensures left { OnOk result (HasNextNumber self.old.lists) }
@@ -469,10 +471,10 @@ impl Tables {
 
 impl Keeping for Tables {
     ghost use Rattle.nl_types.specs.Entries.{is_period_needed};
-    ghost use Rattle.nl_types.specs.Protection.{staying};
+    ghost use Rattle.nl_types.specs.Protection.{staying_numbers};
     ghost use Rattle.nl_cpfile.specs.Tables.{rows};
 
-    ghost test = { λ t. is_period_needed (staying 0 (rows t.lists.table)) };
+    ghost test = { λ t. is_period_needed (staying_numbers 0 (rows t.lists.table)) };
 
     fn needed(&self, period: Period) -> bool {
         needed(&self.checkpoints, CheckpointNumber::new(0), period)

@@ -20,8 +20,8 @@ use nl_types::{Answer, CheckpointNumber, Mode, Reply, VolError};
 use nl_vstore::Vstore;
 use std::alloc::Global;
 
-/// Writes the next checkpoint: its draft, which takes the memory for the tables, and then what the draft has. The needed
-/// blocks are still counted as before it, with room for the ends.
+/// Writes the next checkpoint: its draft, which takes the memory for the tables, and then what the draft has.
+/// The needed blocks are still counted as before it, with room for the ends.
 pub fn write_checkpoint<V: Vstore>(
     alloc: Global,
     tables: &mut Tables,
@@ -69,8 +69,8 @@ pub fn checkpoint<V: Vstore>(
     Ok(Answer::Checkpoint(draft.checkpoint.number))
 }
 
-/// Checkpoint 1 of a blank volume: of the root alone. The blank checkpoint goes. Refused by `Memory`, and by `Fault` where the
-/// device fails.
+/// Checkpoint 1 of a blank volume: of the root alone. The blank checkpoint goes. Refused by `Memory`, and by
+/// `Fault` where the device fails.
 pub fn first_checkpoint<V: Vstore>(
     alloc: Global,
     tables: &mut Tables,
@@ -83,8 +83,10 @@ pub fn first_checkpoint<V: Vstore>(
     requires no_ends { needed.old.ends ≡ [] }
     ensures formatted { (geometry : Geometry) (pages : DevicePages) (failures : Failures)
         → layout_of tables.old.lists (V.store store.old) ≡ blank_layout geometry pages failures
-        → OnOk result (IsFormatted geometry pages failures now (layout_of tables.new.lists (V.store store.new))) }
-    ensures means { OnOk result (MeansWorld (layout_of tables.new.lists (V.store store.new)) (formatted now)) }
+        → OnOk result (IsFormatted geometry pages failures now
+        (layout_of tables.new.lists (V.store store.new))) }
+    ensures means { OnOk result
+        (MeansWorld (layout_of tables.new.lists (V.store store.new)) (formatted now)) }
     ensures pen { OnOk result (IsCountedPen (layout_of tables.new.lists (V.store store.new)) needed.new) }
     ensures refused { IfErr result (λ e. (e ≡ VolError.Memory) ⊎ (e ≡ VolError.Fault)) }
 {

@@ -5,8 +5,8 @@ use Rattle.std.specs.List.Sorted.{IsNonDecreasingBy}
 use Rattle.std.proofs.lemmas.Bool.{cases_Bool, eqb-true, eq-eqb, or_left, or_right}
 use Rattle.std.proofs.lemmas.List.{get_or_default, take_more}
 use Rattle.nl_counts.specs.declared.ends.Ended.{Ended}
-use Rattle.nl_counts.specs.EndLists.{end_at, end_of, no_end, noted, with_end}
-use Rattle.nl_counts.specs.Listed.{is_listed, is_number}
+use Rattle.nl_counts.specs.EndLists.{end_at, end_of, no_end, noted_ends, with_end}
+use Rattle.nl_counts.specs.Private.Listed.{is_listed, is_number}
 
 pub same_bool : (a b : Bool) → (a ≡ true → b ≡ true) → (b ≡ true → a ≡ true) → a ≡ b
 same_bool true b there back = sym (there refl)
@@ -70,15 +70,15 @@ past-front (x ∷ xs) ys (suc k) past =
 
 -- one number more is noted
 pub noted-more : (before : List Ended) (c : ℕ) (numbers : List ℕ) (i v : ℕ) → i < length numbers → v ≡ get_or numbers i 0
-    → (before ++ noted c (take i numbers)) ++ with_end c v ∷ [] ≡ before ++ noted c (take (i + 1) numbers)
+    → (before ++ noted_ends c (take i numbers)) ++ with_end c v ∷ [] ≡ before ++ noted_ends c (take (i + 1) numbers)
 noted-more before c numbers i v low is =
-    append_assoc before (noted c (take i numbers)) (with_end c v ∷ [])
+    append_assoc before (noted_ends c (take i numbers)) (with_end c v ∷ [])
     ∙ ap (λ (ends : List Ended). before ++ ends) (
-    ap (λ (n : ℕ). noted c (take i numbers) ++ with_end c n ∷ []) is
+    ap (λ (n : ℕ). noted_ends c (take i numbers) ++ with_end c n ∷ []) is
     ∙ sym (noted-append (take i numbers))
-    ∙ ap (noted c) (sym (take_more numbers i 0 low))
+    ∙ ap (noted_ends c) (sym (take_more numbers i 0 low))
     )
   where
-    noted-append : (xs : List ℕ) → noted c (xs ++ get_or numbers i 0 ∷ []) ≡ noted c xs ++ with_end c (get_or numbers i 0) ∷ []
+    noted-append : (xs : List ℕ) → noted_ends c (xs ++ get_or numbers i 0 ∷ []) ≡ noted_ends c xs ++ with_end c (get_or numbers i 0) ∷ []
     noted-append [] = refl
     noted-append (x ∷ xs) = ap (λ (ends : List Ended). with_end c x ∷ ends) (noted-append xs)

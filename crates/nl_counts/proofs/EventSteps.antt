@@ -4,23 +4,22 @@ use Rattle.std.specs.List.Sorted.{IsNonDecreasingBy, IsPermutation}
 use Rattle.std.specs.Prelude.{OnErr, OnOk, Result, Ok, Err}
 use Rattle.nl_types.specs.declared.period.Period.{Period}
 use Rattle.nl_types.specs.PartialMaps.{Partial}
-use Rattle.nl_types.specs.Entries.{Entry, is_needed}
+use Rattle.nl_types.specs.Entries.{Entry, is_needed, period_of}
 use Rattle.nl_types.specs.Lifetimes.{WritesAreByNumber}
 use Rattle.nl_types.specs.NeedLaws.{AreGone, CheckpointsKeepNeeds}
 use Rattle.nl_space.specs.Content.{Payload}
 use Rattle.nl_vstore.specs.Batches.{Changes, births_of, number_of_payload}
 use Rattle.nl_vstore.specs.Counts.{NeededAreStanding, needed_counts, needed_places}
 use Rattle.nl_vstore.specs.Located.{by_period, entry_needed, needs}
-use Rattle.nl_vstore.specs.Periods.{period_of}
 use Rattle.nl_vstore.specs.Stores.{IsStore, Store, address_in, capacity, content_in}
 use Rattle.nl_counts.specs.declared.ends.Ended.{Ended}
-use Rattle.nl_counts.specs.Adding.{GetBlocks, LeaveSegment, mixed}
+use Rattle.nl_counts.specs.Private.Adding.{GetBlocks, LeaveSegment, mixed}
 use Rattle.nl_counts.specs.Counted.{AreEnds, Counted, IsCounted}
-use Rattle.nl_counts.specs.EndLists.{IsRun, Roomy, end_at, end_of, noted, swept}
+use Rattle.nl_counts.specs.EndLists.{IsRun, RoomyEnds, end_at, end_of, noted_ends, swept}
 use Rattle.nl_counts.specs.Events.{HasMovedNeeded, IsLatest, IsNextWritten, TellsNeeds}
-use Rattle.nl_counts.specs.Listed.{AreListed, HasLetGoAll}
-use Rattle.nl_counts.specs.Places.{AreCountsIn}
-use Rattle.nl_counts.specs.Walked.{AreFound, HasWalked}
+use Rattle.nl_counts.specs.Private.Listed.{AreListed, HasLetGoAll}
+use Rattle.nl_counts.specs.Private.Places.{AreCountsIn}
+use Rattle.nl_counts.specs.Private.Walked.{AreFound, HasWalked}
 use Rattle.nl_counts.proofs.JoinedCounts.{counts-from, listed-from}
 use Rattle.nl_counts.proofs.MovedCounts as moved
 use Rattle.nl_counts.proofs.RemovedEnds.{LetsGo, below-left, ends-left}
@@ -52,7 +51,7 @@ module _ (standing : NeededAreStanding) (keep : CheckpointsKeepNeeds) (by_number
   pub after-written : (c d : Counted) (gone : List ℕ) → gone ≡ changes.ends
       → ((at : Partial ℕ) → GetBlocks new (map number_of_payload payload) at → AreCountsIn new at c.counts
       → AreCountsIn new (mixed (map number_of_payload payload) (address_in new) at) d.counts)
-      → d.ends ≡ c.ends ++ noted checkpoint gone
+      → d.ends ≡ c.ends ++ noted_ends checkpoint gone
       → (old : Store) (kept : List ℕ) → IsCounted old kept c → IsNextWritten checkpoint changes kept old new → IsCounted new (kept ++ checkpoint ∷ []) d
   unfolding before-written
   after-written c d gone gone-is counts ends-are old kept counted next =
@@ -61,7 +60,7 @@ module _ (standing : NeededAreStanding) (keep : CheckpointsKeepNeeds) (by_number
       subst (λ (ns : List ℕ). AreCountsIn new (mixed ns (address_in new) (needed_places old (is_needed kept))) d.counts) (numbers-same payload changes births)
       (counts before.0 before.1 before.2) in
       subst (λ (ends : List Ended). IsCounted new (kept ++ checkpoint ∷ []) (record d { ends = ends }))
-      (ap (λ (ns : List ℕ). c.ends ++ noted checkpoint ns) (sym gone-is) ∙ sym ends-are)
+      (ap (λ (ns : List ℕ). c.ends ++ noted_ends checkpoint ns) (sym gone-is) ∙ sym ends-are)
       (written.written-is-counted standing keep by_number checkpoint changes kept old new next store c counted d.counts d.room are)
 
 -- ---- moves
@@ -158,11 +157,11 @@ after-room c d counts (inr swept-are) s kept counted = record {
   below = rw swept-are (below-swept kept c.ends counted.below);
 }
 
-abbrev with-ends : List ℕ → Roomy → Counted
+abbrev with-ends : List ℕ → RoomyEnds → Counted
 with-ends counts ends = record { counts = counts; ends = ends.ended; room = ends.room }
 
-pub after-reserve : {A E : Type 0} (r : Result A E) (counts : List ℕ) (old new : Roomy) → OnOk r ((new.ended ≡ old.ended) ⊎ (new.ended ≡ swept old.ended)) → OnErr r (new ≡ old)
+pub after-reserve : {A E : Type 0} (r : Result A E) (counts : List ℕ) (old new : RoomyEnds) → OnOk r ((new.ended ≡ old.ended) ⊎ (new.ended ≡ swept old.ended)) → OnErr r (new ≡ old)
     → (s : Store) (kept : List ℕ) → IsCounted s kept (record { counts = counts; ends = old.ended; room = old.room })
     → IsCounted s kept (record { counts = counts; ends = new.ended; room = new.room })
 after-reserve (Ok a) counts old new swept-are same s kept counted = after-room (with-ends counts old) (with-ends counts new) refl swept-are s kept counted
-after-reserve (Err e) counts old new swept-are same s kept counted = after-room (with-ends counts old) (with-ends counts new) refl (inl (ap (λ (r : Roomy). r.ended) same)) s kept counted
+after-reserve (Err e) counts old new swept-are same s kept counted = after-room (with-ends counts old) (with-ends counts new) refl (inl (ap (λ (r : RoomyEnds). r.ended) same)) s kept counted

@@ -11,14 +11,14 @@ use Rattle.nl_types.specs.declared.error.VolError.TheVariants as error
 use Rattle.nl_types.specs.PartialMaps.{Partial}
 use Rattle.nl_types.specs.Entries.{Entry, is_needed}
 use Rattle.nl_types.specs.Segments.{Segments, clean_info, total_blocks}
-use Rattle.nl_types.proofs.UsedParts.{used_inside}
+use Rattle.nl_types.specs.Facts.UsedParts.{used_inside}
 use Rattle.nl_sufile.specs.BySegment.{AreCounts, GrownAreCounted, grown_counts, lies_in}
 use Rattle.nl_vstore.specs.Counts.{NeededAreStanding, needed_counts, needed_places}
 use Rattle.nl_vstore.specs.Located.{entry_needed}
 use Rattle.nl_vstore.specs.Stores.{HasGrown, IsGrowthRefused, IsStore, StaysStored, Store, address_in, capacity, content_in, entry_now}
 use Rattle.nl_counts.specs.Counted.{Counted, IsCounted, with_segments}
 use Rattle.nl_counts.specs.Laws.{GrowthIsTakenBack, GrowthKeepsCounts, RefusedGrowthKeepsCounts}
-use Rattle.nl_counts.specs.Places.{AreCountsIn}
+use Rattle.nl_counts.specs.Private.Places.{AreCountsIn}
 use Rattle.nl_counts.proofs.JoinedCounts.{counted-are-needed, needed-are-counted, same-places}
 use Rattle.nl_counts.proofs.StoreChanges.{ends-between, numbers-stay, place-for, same-sizes}
 

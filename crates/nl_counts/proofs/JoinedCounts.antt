@@ -13,8 +13,8 @@ use Rattle.nl_vstore.specs.Located.{entry_needed, needed_count, needs}
 use Rattle.nl_vstore.specs.Stores.{IsStore, Numbered, Store, address_in, block_now, capacity, content_in, entry_now, numbered_in}
 use Rattle.nl_counts.specs.declared.ends.Ended.{Ended}
 use Rattle.nl_counts.specs.Counted.{AreEnds}
-use Rattle.nl_counts.specs.Listed.{AreListed, counted_places, is_listed}
-use Rattle.nl_counts.specs.Places.{AreCountsIn}
+use Rattle.nl_counts.specs.Private.Listed.{AreListed, counted_places, is_listed}
+use Rattle.nl_counts.specs.Private.Places.{AreCountsIn}
 use Rattle.nl_counts.proofs.EndPlaces.{listed-place, place-listed, same_bool}
 
 -- ---- counts

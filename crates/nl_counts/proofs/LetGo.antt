@@ -10,7 +10,7 @@ use Rattle.nl_vstore.specs.Batches.{is_live}
 use Rattle.nl_vstore.specs.Stores.{IsStore, Store, address_in, content_in, is_inside}
 use Rattle.nl_counts.specs.declared.ends.Ended.{Ended}
 use Rattle.nl_counts.specs.EndLists.{blanked, end_at, no_end}
-use Rattle.nl_counts.specs.Listed.{AreListed, HasLetGo, HasLetGoAll, IsTakenOff, ListsAt, counted_places, is_listed}
+use Rattle.nl_counts.specs.Private.Listed.{AreListed, HasLetGo, HasLetGoAll, IsTakenOff, ListsAt, counted_places, is_listed}
 use Rattle.nl_counts.proofs.EndPlaces.{listed-place, place-listed, same_bool, no-number}
 use Rattle.nl_counts.proofs.SegmentsOf.{Follow, one-taken, some-counted}
 

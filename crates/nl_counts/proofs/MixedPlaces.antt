@@ -3,12 +3,13 @@ use Rattle.std.proofs.Common.{◌≡◌, ◌≢◌, ℕ, zero, suc, ◌+◌, ◌
 use Rattle.std.specs.Prelude.{◌||◌}
 use Rattle.std.proofs.lemmas.Bool.{cases_Bool, eqb-true, eq-eqb, or_left, or_right}
 use Rattle.std.proofs.lemmas.List.{take_all, take_more}
-use Rattle.nl_types.specs.PartialMaps.{NoneTwice, Partial, is_one_of}
+use Rattle.nl_types.specs.NumberLists.{NoneTwice, is_one_of}
+use Rattle.nl_types.specs.PartialMaps.{Partial}
 use Rattle.nl_sufile.specs.BySegment.{HasBlock, one_less}
 use Rattle.nl_vstore.specs.Counts.{IsSegmentOf}
 use Rattle.nl_vstore.specs.Stores.{IsStore, Store, address_in, is_inside}
-use Rattle.nl_counts.specs.Adding.{GetBlocks, HaveBlocks, LeaveSegment, mixed}
-use Rattle.nl_counts.specs.Places.{AreCountsIn, HasOneMore, HaveRoom, with_one}
+use Rattle.nl_counts.specs.Private.Adding.{GetBlocks, HaveBlocks, LeaveSegment, mixed}
+use Rattle.nl_counts.specs.Private.Places.{AreCountsIn, HasOneMore, HaveRoom, with_one}
 use Rattle.nl_counts.proofs.EndPlaces.{no-number}
 use Rattle.nl_counts.proofs.SegmentsOf.{Follow, have-room, one-added, one-taken, some-counted}
 

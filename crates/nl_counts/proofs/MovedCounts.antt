@@ -3,17 +3,18 @@ use Rattle.std.proofs.Common.{◌≡◌, ℕ, suc, true, false, cond, eqb, List,
 use Rattle.std.specs.Prelude.{◌||◌, All}
 use Rattle.std.specs.Option.{option_map}
 use Rattle.std.proofs.lemmas.Bool.{cases_Bool, eqb-true, or_left}
-use Rattle.nl_types.specs.PartialMaps.{Partial, adjust, adjust_each, is_one_of}
+use Rattle.nl_types.specs.NumberLists.{is_one_of}
+use Rattle.nl_types.specs.PartialMaps.{Partial, adjust, adjust_each}
 use Rattle.nl_types.specs.Entries.{Entry, is_needed}
 use Rattle.nl_types.specs.Segments.{Segments}
 use Rattle.nl_vstore.specs.Counts.{NeededAreStanding, needed_places}
 use Rattle.nl_vstore.specs.Located.{entry_needed, needs}
 use Rattle.nl_sufile.specs.BySegment.{lies_in}
 use Rattle.nl_vstore.specs.Stores.{IsStore, Store, address_in, content_in, is_inside, moved_to}
-use Rattle.nl_counts.specs.Adding.{LeaveSegment, mixed}
+use Rattle.nl_counts.specs.Private.Adding.{LeaveSegment, mixed}
 use Rattle.nl_counts.specs.Counted.{Counted, IsCounted}
 use Rattle.nl_counts.specs.Events.{HasMovedNeeded}
-use Rattle.nl_counts.specs.Places.{AreCountsIn}
+use Rattle.nl_counts.specs.Private.Places.{AreCountsIn}
 use Rattle.nl_counts.proofs.JoinedCounts.{counted-are-needed, has-block, needed-are-counted, same-places}
 use Rattle.nl_counts.proofs.StoreChanges.{SameSizes, counts-between, ends-between, sizes-with-logs}
 

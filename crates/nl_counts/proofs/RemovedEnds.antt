@@ -1,13 +1,13 @@
 -- The list of ends behind a removal of checkpoints.
 use Rattle.std.proofs.Common.{◌≡◌, ℕ, ◌<◌, ◌≤◌, ◌⊎◌, Bool, true, List, Some, inl, inr, ap, sym, ◌∙◌, arith}
 use Rattle.std.proofs.lemmas.Bool.{cases_Bool}
-use Rattle.nl_types.specs.PartialMaps.{is_one_of}
+use Rattle.nl_types.specs.NumberLists.{is_one_of}
 use Rattle.nl_types.specs.Entries.{Content, Entry, is_needed}
 use Rattle.nl_types.specs.NeedLaws.{AreGone, LostNumbersEndInTheRun, RemovalsNeedNoMore}
 use Rattle.nl_counts.specs.declared.ends.Ended.{Ended}
 use Rattle.nl_counts.specs.EndLists.{IsRun, end_at, no_end}
 use Rattle.nl_counts.specs.Counted.{AreBelow, AreEnds, HasEndedNeeded}
-use Rattle.nl_counts.specs.Listed.{HasLetGoAll}
+use Rattle.nl_counts.specs.Private.Listed.{HasLetGoAll}
 use Rattle.nl_counts.proofs.EndPlaces.{in-list, rising-from}
 
 -- what a removal does to needs

@@ -4,7 +4,7 @@ use Rattle.std.proofs.lemmas.List.{length-set}
 use Rattle.nl_types.specs.PartialMaps.{Partial}
 use Rattle.nl_sufile.specs.BySegment.{AddedIsCounted, CountsAreFew, HasBlock, TakenIsCounted, TakenWasCounted, one_less, one_more}
 use Rattle.nl_vstore.specs.Stores.{IsStore, Store, capacity, is_inside}
-use Rattle.nl_counts.specs.Places.{AreCountsIn, HaveRoom}
+use Rattle.nl_counts.specs.Private.Places.{AreCountsIn, HaveRoom}
 
 -- what counts by segment do where a number gets a block, or loses it
 pub record Follow : Type 0 where

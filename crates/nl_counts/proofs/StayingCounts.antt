@@ -48,7 +48,7 @@ module _ (standing : NeededAreStanding) (kept : List ℕ) (c : Counted) (old new
   move-refused : (checkpoint stamp : ℕ) (numbers : List ℕ) (e : VolError) → IsMoveRefused checkpoint stamp numbers old new e → IsCounted new kept c
   move-refused checkpoint stamp numbers error.NoSpace refused = stored refused.1
   move-refused checkpoint stamp numbers error.Memory refused = stored refused
-  move-refused checkpoint stamp numbers error.Fault (inl read) = stored read.kept
+  move-refused checkpoint stamp numbers error.Fault (inl read) = stored read.stored_stays
   move-refused checkpoint stamp numbers error.Fault (inr write) = faulted false checkpoint stamp write.0 write.2
   move-refused checkpoint stamp numbers _ refused = absurd refused
 

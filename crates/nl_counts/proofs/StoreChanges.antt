@@ -15,7 +15,7 @@ use Rattle.nl_vstore.specs.Located.{entry_needed}
 use Rattle.nl_vstore.specs.Stores.{IsStore, Numbered, Store, block_now, capacity, content_in, entry_now}
 use Rattle.nl_counts.specs.declared.ends.Ended.{Ended}
 use Rattle.nl_counts.specs.Counted.{AreEnds, Counted, HasEndedNeeded, IsCounted}
-use Rattle.nl_counts.specs.Places.{AreCountsIn}
+use Rattle.nl_counts.specs.Private.Places.{AreCountsIn}
 use Rattle.nl_counts.proofs.JoinedCounts.{counted-are-needed, needed-are-counted, same-places}
 
 -- ---- sizes

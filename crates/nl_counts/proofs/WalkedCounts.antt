@@ -16,8 +16,8 @@ use Rattle.nl_vstore.specs.Stores.{IsStore, Store, address_in, capacity, content
 use Rattle.nl_counts.specs.declared.ends.Ended.{Ended}
 use Rattle.nl_counts.specs.Counted.{AreEnds, HasEndedNeeded}
 use Rattle.nl_counts.specs.EndLists.{end_at, end_of, no_end, with_end, with_found}
-use Rattle.nl_counts.specs.Places.{AreCountsIn, HasOneMore}
-use Rattle.nl_counts.specs.Walked.{AreFound, HasWalked, ending_of, up_to}
+use Rattle.nl_counts.specs.Private.Places.{AreCountsIn, HasOneMore}
+use Rattle.nl_counts.specs.Private.Walked.{AreFound, HasWalked, ending_of, up_to}
 use Rattle.nl_counts.proofs.EndPlaces.{in-front, in-list, no-number, past-front, same_bool}
 use Rattle.nl_counts.proofs.JoinedCounts.{counted-are-needed, has-block, same-places}
 use Rattle.nl_counts.proofs.MixedPlaces.{added-there}

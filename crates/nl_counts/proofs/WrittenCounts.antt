@@ -2,7 +2,8 @@
 use Rattle.std.proofs.Common.{◌≡◌, ℕ, ◌+◌, Bool, true, false, cond, eqb, List, [], ◌∷◌, ◌++◌, map, Option, Some, None, inl, inr, sym, refl, ap, subst, ◌∙◌}
 use Rattle.std.specs.Prelude.{◌||◌}
 use Rattle.std.proofs.lemmas.Bool.{cases_Bool, or_left}
-use Rattle.nl_types.specs.PartialMaps.{NoneTwice, Partial, is_one_of, put, put_each}
+use Rattle.nl_types.specs.NumberLists.{NoneTwice, is_one_of}
+use Rattle.nl_types.specs.PartialMaps.{Partial, put, put_each}
 use Rattle.nl_types.specs.Entries.{Birth, Entry, GivenOnce, birth_of, born_at, ended_at, is_needed, number_of, written, written_at}
 use Rattle.nl_types.specs.Lifetimes.{WritesAreByNumber}
 use Rattle.nl_types.specs.NeedLaws.{CheckpointsKeepNeeds}
@@ -10,11 +11,11 @@ use Rattle.nl_vstore.specs.Batches.{Changes}
 use Rattle.nl_vstore.specs.Counts.{NeededAreStanding, needed_places}
 use Rattle.nl_vstore.specs.Located.{entry_needed}
 use Rattle.nl_vstore.specs.Stores.{IsStore, Store, address_in, capacity, content_in}
-use Rattle.nl_counts.specs.Adding.{GetBlocks, mixed}
+use Rattle.nl_counts.specs.Private.Adding.{GetBlocks, mixed}
 use Rattle.nl_counts.specs.Counted.{Counted, IsCounted}
-use Rattle.nl_counts.specs.EndLists.{noted}
+use Rattle.nl_counts.specs.EndLists.{noted_ends}
 use Rattle.nl_counts.specs.Events.{IsNextWritten}
-use Rattle.nl_counts.specs.Places.{AreCountsIn}
+use Rattle.nl_counts.specs.Private.Places.{AreCountsIn}
 use Rattle.nl_counts.proofs.JoinedCounts.{counted-are-needed, has-block, needed-are-counted, same-places}
 use Rattle.nl_counts.proofs.StoreChanges.{SameSizes, counts-between, ends-between, sizes-with-logs}
 use Rattle.nl_counts.proofs.WrittenEnds.{CanBeWritten, born-of, ended-entry, fits-can-be-written, kept-entry, live-needed, new-below, new-ends}
@@ -173,18 +174,18 @@ module _ (standing : NeededAreStanding) (keep : CheckpointsKeepNeeds) (by_number
 
   counted-later : (c : Counted) → IsCounted old kept c → (counts : List ℕ) (room : ℕ)
       → AreCountsIn new (mixed (numbers_of births) (address_in new) old_places) counts
-      → IsCounted new (kept ++ later ∷ []) (record { counts = counts; ends = c.ends ++ noted later changes.ends; room = room })
+      → IsCounted new (kept ++ later ∷ []) (record { counts = counts; ends = c.ends ++ noted_ends later changes.ends; room = room })
   counted-later c counted counts room are = record {
     counts = counted-are-needed standing new (is_needed (kept ++ later ∷ [])) store counts
         (same-places new (mixed (numbers_of births) (address_in new) old_places) new_places counts all-places are);
-    ends = ends-between (written births changes.ends later (content_in old)) (content_in new) (is_needed (kept ++ later ∷ [])) (c.ends ++ noted later changes.ends) content-now
+    ends = ends-between (written births changes.ends later (content_in old)) (content_in new) (is_needed (kept ++ later ∷ [])) (c.ends ++ noted_ends later changes.ends) content-now
         (new-ends keep by_number (capacity old) changes kept next.latest (content_in old) next.fits next.is_latest.bounded next.is_latest.there c.ends next.is_latest.last counted.below next.ends_once counted.ends);
     below = new-below keep by_number (capacity old) changes kept next.latest (content_in old) next.fits next.is_latest.bounded next.is_latest.there c.ends next.is_latest.last counted.below;
   }
 
   pub written-is-counted : (c : Counted) → IsCounted old kept c → (counts : List ℕ) (room : ℕ)
       → AreCountsIn new (mixed (numbers_of births) (address_in new) old_places) counts
-      → IsCounted new (kept ++ checkpoint ∷ []) (record { counts = counts; ends = c.ends ++ noted checkpoint changes.ends; room = room })
+      → IsCounted new (kept ++ checkpoint ∷ []) (record { counts = counts; ends = c.ends ++ noted_ends checkpoint changes.ends; room = room })
   written-is-counted c counted counts room are =
-      subst (λ (n : ℕ). IsCounted new (kept ++ n ∷ []) (record { counts = counts; ends = c.ends ++ noted n changes.ends; room = room }))
+      subst (λ (n : ℕ). IsCounted new (kept ++ n ∷ []) (record { counts = counts; ends = c.ends ++ noted_ends n changes.ends; room = room }))
       (sym next.next) (counted-later c counted counts room are)

@@ -4,29 +4,29 @@ use Rattle.std.specs.Prelude.{◌||◌, is_none}
 use Rattle.std.specs.List.{AllPairs, list_any}
 use Rattle.std.proofs.lemmas.Bool.{cases_Bool, cases_lt, eqb-true, eq-eqb, or_left, or_right}
 use Rattle.std.proofs.lemmas.List.{length-append}
-use Rattle.nl_types.specs.PartialMaps.{is_one_of}
+use Rattle.nl_types.specs.NumberLists.{is_one_of}
 use Rattle.nl_types.specs.Entries.{Birth, Content, Entry, birth_of, covers, ended_at, is_needed, written, written_at}
 use Rattle.nl_types.specs.Lifetimes.{IsBounded, WritesAreByNumber}
 use Rattle.nl_types.specs.NeedLaws.{CheckpointsKeepNeeds}
-use Rattle.nl_vstore.specs.Batches.{Changes, Fits, is_born, is_live}
+use Rattle.nl_vstore.specs.Batches.{Changes, CanBeTaken, is_born, is_live}
 use Rattle.nl_counts.specs.declared.ends.Ended.{Ended}
-use Rattle.nl_counts.specs.EndLists.{end_at, end_of, no_end, noted}
+use Rattle.nl_counts.specs.EndLists.{end_at, end_of, no_end, noted_ends}
 use Rattle.nl_counts.specs.Counted.{AreBelow, AreEnds, HasEndedNeeded}
 use Rattle.nl_counts.proofs.EndPlaces.{in-front, no-number, past-front, rising-from}
 
 -- ---- ends that are noted
 
-noted-end : (c : ℕ) (gone : List ℕ) (k : ℕ) → k < length (noted c gone) → (end_at (noted c gone) k).end ≡ c
+noted-end : (c : ℕ) (gone : List ℕ) (k : ℕ) → k < length (noted_ends c gone) → (end_at (noted_ends c gone) k).end ≡ c
 noted-end c [] k low = absurd (omega arith)
 noted-end c (v ∷ gone) zero low = refl
 noted-end c (v ∷ gone) (suc k) low = noted-end c gone k (omega arith)
 
-pub noted-number : (c : ℕ) (gone : List ℕ) (k v : ℕ) → (end_at (noted c gone) k).number ≡ Some v → (k < length (noted c gone)) × (is_one_of gone v ≡ true)
+pub noted-number : (c : ℕ) (gone : List ℕ) (k v : ℕ) → (end_at (noted_ends c gone) k).number ≡ Some v → (k < length (noted_ends c gone)) × (is_one_of gone v ≡ true)
 noted-number c [] k v is = no-number v is
 noted-number c (w ∷ gone) zero v is = let same : w ≡ v = cc in (omega arith, or_left (eqb v w) (is_one_of gone v) (eq-eqb v w (sym same)))
 noted-number c (w ∷ gone) (suc k) v is = let (low, among) = noted-number c gone k v is in (omega arith, or_right (eqb v w) (is_one_of gone v) among)
 
-pub is-noted : (c : ℕ) (gone : List ℕ) (v : ℕ) → is_one_of gone v ≡ true → (k : ℕ) × (k < length (noted c gone)) × ((end_at (noted c gone) k).number ≡ Some v)
+pub is-noted : (c : ℕ) (gone : List ℕ) (v : ℕ) → is_one_of gone v ≡ true → (k : ℕ) × (k < length (noted_ends c gone)) × ((end_at (noted_ends c gone) k).number ≡ Some v)
 is-noted c [] v among = cc
 is-noted c (w ∷ gone) v among = elim (cases_Bool (eqb v w)) [
   | inl here ↦ (0, omega arith, ap Some (sym (eqb-true v w here)))
@@ -36,12 +36,12 @@ is-noted c (w ∷ gone) v among = elim (cases_Bool (eqb v w)) [
 ]
 
 -- the number that is noted at a place
-noted-at : (c : ℕ) (gone : List ℕ) (k v : ℕ) → (end_at (noted c gone) k).number ≡ Some v → (k < length gone) × (get_or gone k 0 ≡ v)
+noted-at : (c : ℕ) (gone : List ℕ) (k v : ℕ) → (end_at (noted_ends c gone) k).number ≡ Some v → (k < length gone) × (get_or gone k 0 ≡ v)
 noted-at c [] k v is = no-number v is
 noted-at c (w ∷ gone) zero v is = (omega arith, cc)
 noted-at c (w ∷ gone) (suc k) v is = let (low, at) = noted-at c gone k v is in (omega arith, at)
 
-noted-once : (c : ℕ) (gone : List ℕ) → AllPairs (λ a b. a ≢ b) gone → (k j v : ℕ) → (end_at (noted c gone) k).number ≡ Some v → (end_at (noted c gone) j).number ≡ Some v → k ≡ j
+noted-once : (c : ℕ) (gone : List ℕ) → AllPairs (λ a b. a ≢ b) gone → (k j v : ℕ) → (end_at (noted_ends c gone) k).number ≡ Some v → (end_at (noted_ends c gone) j).number ≡ Some v → k ≡ j
 noted-once c gone apart k j v one two = by (cases_lt k j) (cases_lt j k)
   where
     first : (k < length gone) × (get_or gone k 0 ≡ v)
@@ -73,7 +73,7 @@ born-of (p ∷ births) v b is = elim (cases_Bool (eqb v p.number)) [
   | inr other ↦ or_right (eqb p.number v) (is_born births v) (born-of births v b (sym (ap (λ t. cond t (Some p) (birth_of births v)) other) ∙ is))
 ]
 
-pub fits-can-be-written : (capacity : ℕ) (content : Content) (changes : Changes) → Fits capacity content changes → CanBeWritten changes.births changes.ends content
+pub fits-can-be-written : (capacity : ℕ) (content : Content) (changes : Changes) → CanBeTaken capacity content changes → CanBeWritten changes.births changes.ends content
 fits-can-be-written capacity content changes fits = record {
   unborn = λ v e at. unborn v e at (birth_of changes.births v) refl;
   stands = λ v among. found v (content v) refl (fits.live v among);
@@ -97,7 +97,7 @@ fits-can-be-written capacity content changes fits = record {
 -- ---- a checkpoint
 
 module _ (keep : CheckpointsKeepNeeds) (by_number : WritesAreByNumber) (capacity : ℕ) (changes : Changes) (kept : List ℕ) (latest : ℕ) (content : Content)
-    (fits : Fits capacity content changes) (bounded : IsBounded content latest) (there : is_one_of kept latest ≡ true) where
+    (fits : CanBeTaken capacity content changes) (bounded : IsBounded content latest) (there : is_one_of kept latest ≡ true) where
   abbrev births : List Birth
   births = changes.births
 
@@ -146,14 +146,14 @@ module _ (keep : CheckpointsKeepNeeds) (by_number : WritesAreByNumber) (capacity
 
   module _ (ends : List Ended) where
     abbrev new : List Ended
-    new = ends ++ noted next gone
+    new = ends ++ noted_ends next gone
 
     ending-at : (k : ℕ) → k < length new → (k < length ends) ⊎ (length ends ≤ k)
         → ((k < length ends) × ((end_at new k).end ≡ (end_at ends k).end)) ⊎ ((length ends ≤ k) × ((end_at new k).end ≡ next))
-    ending-at k low (inl less) = inl (less, ap end_of (in-front ends (noted next gone) k less))
+    ending-at k low (inl less) = inl (less, ap end_of (in-front ends (noted_ends next gone) k less))
     ending-at k low (inr past) =
-        let size = length-append ends (noted next gone) in
-        inr (past, ap end_of (past-front ends (noted next gone) k past) ∙ noted-end next gone (k - length ends) (omega arith))
+        let size = length-append ends (noted_ends next gone) in
+        inr (past, ap end_of (past-front ends (noted_ends next gone) k past) ∙ noted-end next gone (k - length ends) (omega arith))
 
     module _ (last : (c : ℕ) → is_one_of kept c ≡ true → c ≤ latest) (below : AreBelow kept ends) where
       low-end : (k : ℕ) → k < length ends → (end_at ends k).end ≤ latest
@@ -190,10 +190,10 @@ module _ (keep : CheckpointsKeepNeeds) (by_number : WritesAreByNumber) (capacity
 
         theirs-of : (k v : ℕ) → (end_at new k).number ≡ Some v → (k < length ends) ⊎ (length ends ≤ k) → HasEndedNeeded after (is_needed (kept ++ next ∷ [])) v (end_at new k).end
         theirs-of k v is (inl low) =
-            let same = in-front ends (noted next gone) k low in
+            let same = in-front ends (noted_ends next gone) k low in
             rw same (still v (end_at ends k).end (are.theirs k v (sym (ap (λ (e : Ended). e.number) same) ∙ is)))
         theirs-of k v is (inr past) =
-            let same = past-front ends (noted next gone) k past in
+            let same = past-front ends (noted_ends next gone) k past in
             let (low, among) = noted-number next gone (k - length ends) v (sym (ap (λ (e : Ended). e.number) same) ∙ is) in
             let ending : (end_at new k).end ≡ next = ap end_of same ∙ noted-end next gone (k - length ends) low in
             rw ending (ends-now v among)
@@ -201,17 +201,17 @@ module _ (keep : CheckpointsKeepNeeds) (by_number : WritesAreByNumber) (capacity
         old-place : (v end : ℕ) → HasEndedNeeded content (is_needed kept) v end → (k : ℕ) × (k < length new) × ((end_at new k).number ≡ Some v) × ((end_at new k).end ≡ end)
         old-place v end has =
             let (k, low, number, ending) = are.all v end has in
-            let same = in-front ends (noted next gone) k low in
-            let size = length-append ends (noted next gone) in
+            let same = in-front ends (noted_ends next gone) k low in
+            let size = length-append ends (noted_ends next gone) in
             (k, omega arith, ap (λ (e : Ended). e.number) same ∙ number, ap end_of same ∙ ending)
 
         new-place : (v : ℕ) → is_one_of gone v ≡ true → (k : ℕ) × (k < length new) × ((end_at new k).number ≡ Some v) × ((end_at new k).end ≡ next)
         new-place v among =
             let (k, low, number) = is-noted next gone v among in
-            let same = past-front ends (noted next gone) (length ends + k) (omega arith) in
+            let same = past-front ends (noted_ends next gone) (length ends + k) (omega arith) in
             let back : length ends + k - length ends ≡ k = omega arith in
-            let at : end_at new (length ends + k) ≡ end_at (noted next gone) k = same ∙ ap (end_at (noted next gone)) back in
-            let size = length-append ends (noted next gone) in
+            let at : end_at new (length ends + k) ≡ end_at (noted_ends next gone) k = same ∙ ap (end_at (noted_ends next gone)) back in
+            let size = length-append ends (noted_ends next gone) in
             (length ends + k, omega arith, ap (λ (e : Ended). e.number) at ∙ number, ap end_of at ∙ noted-end next gone k low)
 
         all-of : (v end : ℕ) (f : Entry) → after v ≡ Some f → f.end ≡ Some end → is_needed (kept ++ next ∷ []) f ≡ true
@@ -246,17 +246,17 @@ module _ (keep : CheckpointsKeepNeeds) (by_number : WritesAreByNumber) (capacity
         once-of k j v one two (inl low) (inl under) = are.once k j v (old-number k v low one) (old-number j v under two)
           where
             old-number : (k v : ℕ) → k < length ends → (end_at new k).number ≡ Some v → (end_at ends k).number ≡ Some v
-            old-number k v low is = sym (ap (λ (e : Ended). e.number) (in-front ends (noted next gone) k low)) ∙ is
+            old-number k v low is = sym (ap (λ (e : Ended). e.number) (in-front ends (noted_ends next gone) k low)) ∙ is
         once-of k j v one two (inl low) (inr past) =
-            absurd (old-not-now k v (sym (ap (λ (e : Ended). e.number) (in-front ends (noted next gone) k low)) ∙ one)
-            (noted-number next gone (j - length ends) v (sym (ap (λ (e : Ended). e.number) (past-front ends (noted next gone) j past)) ∙ two)).1)
+            absurd (old-not-now k v (sym (ap (λ (e : Ended). e.number) (in-front ends (noted_ends next gone) k low)) ∙ one)
+            (noted-number next gone (j - length ends) v (sym (ap (λ (e : Ended). e.number) (past-front ends (noted_ends next gone) j past)) ∙ two)).1)
         once-of k j v one two (inr past) (inl low) =
-            absurd (old-not-now j v (sym (ap (λ (e : Ended). e.number) (in-front ends (noted next gone) j low)) ∙ two)
-            (noted-number next gone (k - length ends) v (sym (ap (λ (e : Ended). e.number) (past-front ends (noted next gone) k past)) ∙ one)).1)
+            absurd (old-not-now j v (sym (ap (λ (e : Ended). e.number) (in-front ends (noted_ends next gone) j low)) ∙ two)
+            (noted-number next gone (k - length ends) v (sym (ap (λ (e : Ended). e.number) (past-front ends (noted_ends next gone) k past)) ∙ one)).1)
         once-of k j v one two (inr past) (inr beyond) =
             let same : k - length ends ≡ j - length ends = noted-once next gone ends_once (k - length ends) (j - length ends) v
-            (sym (ap (λ (e : Ended). e.number) (past-front ends (noted next gone) k past)) ∙ one)
-            (sym (ap (λ (e : Ended). e.number) (past-front ends (noted next gone) j beyond)) ∙ two) in
+            (sym (ap (λ (e : Ended). e.number) (past-front ends (noted_ends next gone) k past)) ∙ one)
+            (sym (ap (λ (e : Ended). e.number) (past-front ends (noted_ends next gone) j beyond)) ∙ two) in
             omega (arith, same, past, beyond)
 
         pub new-ends : AreEnds after (is_needed (kept ++ next ∷ [])) new

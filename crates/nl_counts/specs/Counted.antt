@@ -1,7 +1,8 @@
--- What is kept of a volume: how many needed numbers have their pages in each segment, and which needed numbers have ended.
+-- What is kept of a volume: how many needed numbers have their pages in each segment, and which needed
+-- numbers have ended.
 use Rattle.std.specs.Prelude.{◌≡◌, ℕ, ◌<◌, ◌≤◌, Bool, true, List, length, take, Some}
 use Rattle.std.specs.List.Sorted.{IsNonDecreasingBy}
-use Rattle.nl_types.specs.PartialMaps.{is_one_of}
+use Rattle.nl_types.specs.NumberLists.{is_one_of}
 use Rattle.nl_types.specs.Entries.{Content, Entry, is_needed}
 use Rattle.nl_sufile.specs.BySegment.{grown_counts}
 use Rattle.nl_vstore.specs.Counts.{needed_counts}
@@ -22,18 +23,20 @@ pub record HasEndedNeeded (content : Content) (needed : Entry → Bool) (v end :
   pub ended : entry.end ≡ Some end
   pub passes : needed entry ≡ true
 
--- They ascend by their ends. Each number is a needed one with its end, in one place of the list, and each needed number that
--- has ended is there.
+-- They ascend by their ends. Each number is a needed one with its end, in one place of the list, and each
+-- needed number that has ended is there.
 pub record AreEnds (content : Content) (needed : Entry → Bool) (ends : List Ended) : Type 0 where
   pub rising : IsNonDecreasingBy end_of ends
-  pub theirs : (k v : ℕ) → (end_at ends k).number ≡ Some v → HasEndedNeeded content needed v (end_at ends k).end
+  pub theirs : (k v : ℕ) → (end_at ends k).number ≡ Some v
+      → HasEndedNeeded content needed v (end_at ends k).end
   pub all : (v end : ℕ) → HasEndedNeeded content needed v end
       → (k : ℕ) × (k < length ends) × ((end_at ends k).number ≡ Some v) × ((end_at ends k).end ≡ end)
   pub once : (k j v : ℕ) → (end_at ends k).number ≡ Some v → (end_at ends j).number ≡ Some v → k ≡ j
 
 -- each end, that of a number let go too, is at or below a kept checkpoint
 abbrev pub AreBelow : List ℕ → List Ended → Type 0
-AreBelow kept ends = (k : ℕ) → k < length ends → (c : ℕ) × (is_one_of kept c ≡ true) × ((end_at ends k).end ≤ c)
+AreBelow kept ends =
+    (k : ℕ) → k < length ends → (c : ℕ) × (is_one_of kept c ≡ true) × ((end_at ends k).end ≤ c)
 
 -- the counts are those of the needed numbers, and the ends those of the needed numbers that have ended
 pub record IsCounted (s : Store) (kept : List ℕ) (c : Counted) : Type 0 where

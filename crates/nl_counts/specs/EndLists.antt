@@ -4,7 +4,7 @@ use Rattle.std.specs.List.{filter}
 use Rattle.nl_counts.specs.declared.ends.Ended.{Ended}
 
 -- a list, and for how many more there is room
-pub record Roomy : Type 0 where
+pub record RoomyEnds : Type 0 where
   pub ended : List Ended
   pub room : ℕ
 
@@ -39,14 +39,16 @@ with_found ends v None = ends
 with_found ends v (Some c) = ends ++ with_end c v ∷ []
 
 -- the numbers, each with this end
-abbrev pub noted : ℕ → List ℕ → List Ended
-noted c numbers = map (with_end c) numbers
+abbrev pub noted_ends : ℕ → List ℕ → List Ended
+noted_ends c numbers = map (with_end c) numbers
 
 -- ---- runs
 
--- the places from one on and below another are those of the ends behind `first` and not behind `next`, or more
+-- the places from one on and below another are those of the ends behind `first` and not behind `next`, or
+-- more
 pub record IsRun (first next from to : ℕ) (ends : List Ended) : Type 0 where
   pub order : from ≤ to
   pub within : to ≤ length ends
-  pub inside : (k : ℕ) → k < length ends → first < (end_at ends k).end → (end_at ends k).end ≤ next → (from ≤ k) × (k < to)
+  pub inside : (k : ℕ) → k < length ends → first < (end_at ends k).end → (end_at ends k).end ≤ next
+      → (from ≤ k) × (k < to)
   pub behind : (k : ℕ) → from ≤ k → k < to → (first < (end_at ends k).end) × ((end_at ends k).end ≤ next)

@@ -1,11 +1,12 @@
--- What events do to a volume whose needed numbers are counted, in the words of its store and its kept checkpoints.
+-- What events do to a volume whose needed numbers are counted, in the words of its store and its kept
+-- checkpoints.
 use Rattle.std.specs.Prelude.{◌≡◌, ◌≢◌, ℕ, ◌+◌, ◌<◌, ◌≤◌, Bool, true, List, All, length}
 use Rattle.std.specs.List.{AllPairs}
 use Rattle.nl_types.specs.declared.period.Period.{Period}
-use Rattle.nl_types.specs.PartialMaps.{NoneTwice, is_one_of}
+use Rattle.nl_types.specs.NumberLists.{NoneTwice, is_one_of}
 use Rattle.nl_types.specs.Entries.{Entry, is_needed, is_period_needed}
 use Rattle.nl_types.specs.Lifetimes.{IsBounded}
-use Rattle.nl_vstore.specs.Batches.{Changes, Fits}
+use Rattle.nl_vstore.specs.Batches.{Changes, CanBeTaken}
 use Rattle.nl_vstore.specs.Located.{needs}
 use Rattle.nl_vstore.specs.Stores.{AreInside, IsMoved, IsStore, IsWritten, Store, capacity, content_in}
 
@@ -17,14 +18,14 @@ pub record IsLatest (latest : ℕ) (kept : List ℕ) (s : Store) : Type 0 where
   pub last : (c : ℕ) → is_one_of kept c ≡ true → c ≤ latest
   pub bounded : IsBounded (content_in s) latest
 
--- The births and ends were written as the checkpoint next to the latest one. The store could take them, and no number ends
--- twice.
+-- The births and ends were written as the checkpoint next to the latest one. The store could take them, and
+-- no number ends twice.
 pub record IsNextWritten (checkpoint : ℕ) (changes : Changes) (kept : List ℕ) (old new : Store) : Type 0 where
   pub sound : IsStore old
   pub latest : ℕ
   pub is_latest : IsLatest latest kept old
   pub next : checkpoint ≡ latest + 1
-  pub fits : Fits (capacity old) (content_in old) changes
+  pub fits : CanBeTaken (capacity old) (content_in old) changes
   pub ends_once : AllPairs (λ a b. a ≢ b) changes.ends
   pub stamp : ℕ
   pub written : IsWritten checkpoint stamp changes old new

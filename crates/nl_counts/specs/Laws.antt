@@ -10,13 +10,16 @@ use Rattle.nl_counts.specs.Events.{AreNeededIn, IsNextWritten}
 
 -- a retirement of a segment without a needed number
 abbrev pub RetirementsKeepCounts : Type 0
-RetirementsKeepCounts = (segment count : ℕ) (kept : List ℕ) (c : Counted) (old new : Store) → IsStore old → IsStore new
-    → segment < length old.segments.each → needed_count old (is_needed kept) segment ≡ 0 → IsReclaimed segment count old new
+RetirementsKeepCounts =
+    (segment count : ℕ) (kept : List ℕ) (c : Counted) (old new : Store) → IsStore old → IsStore new
+    → segment < length old.segments.each → needed_count old (is_needed kept) segment ≡ 0
+    → IsReclaimed segment count old new
     → IsCounted old kept c → IsCounted new kept c
 
 -- reads of the device, which change no number
 abbrev pub ReadsKeepCounts : Type 0
-ReadsKeepCounts = (kept : List ℕ) (c : Counted) (old new : Store) → IsStore old → IsStore new → KeepsStored old new
+ReadsKeepCounts =
+    (kept : List ℕ) (c : Counted) (old new : Store) → IsStore old → IsStore new → KeepsStored old new
     → IsCounted old kept c → IsCounted new kept c
 
 -- a checkpoint without births and ends
@@ -53,12 +56,14 @@ GrowthIsTakenBack = (segments : ℕ) (c : Counted) → with_first (length c.coun
 
 -- and where they are refused
 abbrev pub RefusedGrowthKeepsCounts : Type 0
-RefusedGrowthKeepsCounts = (e : VolError) (kept : List ℕ) (c : Counted) (old new : Store) → IsStore old → IsStore new
+RefusedGrowthKeepsCounts =
+    (e : VolError) (kept : List ℕ) (c : Counted) (old new : Store) → IsStore old → IsStore new
     → IsGrowthRefused old new e → IsCounted old kept c → IsCounted new kept c
 
 -- of a store without a number in use all counts are 0, whatever is kept
 abbrev pub UnusedStoresAreCounted : Type 0
-UnusedStoresAreCounted = (s : Store) (kept : List ℕ) (c : Counted) → IsStore s → ((v : ℕ) → content_in s v ≡ None)
+UnusedStoresAreCounted =
+    (s : Store) (kept : List ℕ) (c : Counted) → IsStore s → ((v : ℕ) → content_in s v ≡ None)
     → c.counts ≡ replicate (length s.segments.each) 0 → c.ends ≡ [] → IsCounted s kept c
 
 -- ---- what a move takes

@@ -4,8 +4,8 @@ ghost use Rattle.nl_types.specs.PartialMaps.{Partial};
 ghost use Rattle.nl_sufile.specs.BySegment.{one_less};
 ghost use Rattle.nl_vstore.specs.Batches.{number_of_payload};
 ghost use Rattle.nl_vstore.specs.Stores.{address_in};
-ghost use Rattle.nl_counts.specs.Adding.{GetBlocks, LeaveSegment, mixed};
-ghost use Rattle.nl_counts.specs.Places.{AreCountsIn, HasOneMore, HaveRoom};
+ghost use Rattle.nl_counts.specs.Private.Adding.{GetBlocks, LeaveSegment, mixed};
+ghost use Rattle.nl_counts.specs.Private.Places.{AreCountsIn, HasOneMore, HaveRoom};
 
 use nl_space::Payload;
 use nl_sufile::SegmentCounts;

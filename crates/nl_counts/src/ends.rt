@@ -1,7 +1,7 @@
 //! Numbers that have ended, in the order of their ends.
 ghost use Rattle.std.specs.Prelude.{◌≡◌, ◌⊎◌, ◌+◌, ◌<◌, ◌≤◌, [], ◌∷◌, ◌++◌, nat_le, true, false, length, OnOk, OnErr};
 ghost use Rattle.std.specs.List.Sorted.{IsNonDecreasingBy, IsPartitionPoint, IsPermutation};
-ghost use Rattle.nl_counts.specs.EndLists.{IsRun, blanked, end_at, end_of, noted, swept, with_end};
+ghost use Rattle.nl_counts.specs.EndLists.{IsRun, blanked, end_at, end_of, noted_ends, swept, with_end};
 
 use nl_types::{CheckpointNumber, VirtualNumber};
 use std::alloc::{AllocError, Global};
@@ -14,8 +14,8 @@ pub struct Ended {
     pub end: CheckpointNumber,
 }
 
-/// Numbers that have ended, ascending by their ends. A number that is let go leaves a blank, which keeps its end. Contracts
-/// see the list, and for how many more there is room.
+/// Numbers that have ended, ascending by their ends. A number that is let go leaves a blank, which keeps its
+/// end. Contracts see the list, and for how many more there is room.
 #[derive(Drop)]
 pub struct Ends {
     ended: Vec<Ended>,
@@ -24,9 +24,9 @@ pub struct Ends {
 
 impl Model for Ends {
     ghost use Rattle.std.specs.Prelude.{◌-◌, vec_capacity, vec_len};
-    ghost use Rattle.nl_counts.specs.EndLists.{Roomy};
+    ghost use Rattle.nl_counts.specs.EndLists.{RoomyEnds};
 
-    ghost Value = { Roomy };
+    ghost Value = { RoomyEnds };
 
     ghost view = { λ e. record { ended = e.ended.items; room = vec_capacity e.ended - vec_len e.ended } };
 }
@@ -85,9 +85,11 @@ impl Ends {
         self.ended.len()
     }
 
-    /// Makes room for so many more, and sweeps the blanks out where they are more than half. Refused for memory alone.
+    /// Makes room for so many more, and sweeps the blanks out where they are more than half. Refused for
+    /// memory alone.
     pub fn reserve(&mut self, count: usize) -> Result<(), AllocError>
-        ensures swept { OnOk result ((self.new.ended ≡ self.old.ended) ⊎ (self.new.ended ≡ swept self.old.ended)) }
+        ensures swept { OnOk result
+            ((self.new.ended ≡ self.old.ended) ⊎ (self.new.ended ≡ swept self.old.ended)) }
         ensures room { OnOk result (count ≤ self.new.room) }
         ensures same { OnErr result (self.new ≡ self.old) }
     {
@@ -122,7 +124,7 @@ impl Ends {
     /// Puts numbers behind the others that end at the same checkpoint. Takes no memory.
     pub fn note(&mut self, numbers: &[VirtualNumber], end: CheckpointNumber)
         requires { length numbers.now ≤ self.old.room }
-        ensures ended { self.new.ended ≡ self.old.ended ++ noted end numbers.now }
+        ensures ended { self.new.ended ≡ self.old.ended ++ noted_ends end numbers.now }
         ensures room { self.new.room + length numbers.now ≡ self.old.room }
     {
         for number in numbers {
@@ -149,8 +151,8 @@ impl Ends {
         self.blanks = self.blanks.saturating_add(1);
     }
 
-    /// The places of the ends behind one checkpoint and not behind another: from the first place on, and below the second.
-    /// It halves the list twice.
+    /// The places of the ends behind one checkpoint and not behind another: from the first place on, and
+    /// below the second. It halves the list twice.
     pub fn run(&self, first: CheckpointNumber, next: CheckpointNumber) -> (usize, usize)
         requires rising { IsNonDecreasingBy end_of self.now.ended }
         requires order { first ≤ next }

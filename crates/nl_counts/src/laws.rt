@@ -5,8 +5,8 @@ use nl_sufile::laws::counts_follow_blocks;
 use nl_types::laws::{checkpoints_keep_needs, writes_are_by_number};
 use nl_vstore::laws::{needed_numbers_are_counted, needed_numbers_stand_once};
 
-/// A retirement takes out no needed number, and neither reads of the device nor a checkpoint without births and ends change a
-/// number: what was counted still is.
+/// A retirement takes out no needed number, and neither reads of the device nor a checkpoint without births
+/// and ends change a number: what was counted still is.
 pub fn counts_stay()
     ensures retired { RetirementsKeepCounts }
     ensures read { ReadsKeepCounts }
@@ -26,8 +26,8 @@ pub fn refusals_keep_counts()
     needed_numbers_are_counted();
 }
 
-/// In segments that come behind the others no number stands, so their counts may be taken back; and where they are refused no
-/// number changes.
+/// In segments that come behind the others no number stands, so their counts may be taken back; and where
+/// they are refused no number changes.
 pub fn growth_keeps_counts()
     ensures grown { GrowthKeepsCounts }
     ensures back { GrowthIsTakenBack }

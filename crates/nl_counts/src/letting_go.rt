@@ -5,7 +5,7 @@ ghost use Rattle.nl_vstore.specs.Located.{by_period, needs};
 ghost use Rattle.nl_vstore.specs.Stores.{content_in};
 ghost use Rattle.nl_counts.specs.declared.ends.Ended.{Ended};
 ghost use Rattle.nl_counts.specs.EndLists.{end_at};
-ghost use Rattle.nl_counts.specs.Listed.{AreListed, HasLetGo, HasLetGoAll, IsTakenOff, ListsAt};
+ghost use Rattle.nl_counts.specs.Private.Listed.{AreListed, HasLetGo, HasLetGoAll, IsTakenOff, ListsAt};
 
 use crate::ends::Ends;
 use nl_reclaim::Keeping;
@@ -37,7 +37,8 @@ fn take_off<V: Vstore, K: Keeping>(
 ) -> bool
     requires { (ends : List Ended) × (index : ℕ) × AreListed (V.store store.now) counts.old ends
         × ListsAt ends index (Some number) }
-    ensures told { result ≡ not (needs (by_period (K.test keeping.now)) (content_in (V.store store.now)) number) }
+    ensures told { result ≡ not
+        (needs (by_period (K.test keeping.now)) (content_in (V.store store.now)) number) }
     ensures taken { OnTrue result (IsTakenOff (V.store store.now) number counts.old counts.new) }
     ensures same { OnFalse result (counts.new ≡ counts.old) }
 {
@@ -100,8 +101,8 @@ pub(crate) fn let_go<V: Vstore, K: Keeping>(
     }
 }
 
-/// Takes the number at a place off the count of its segment, where it isn't needed. The list stays, as if the number were
-/// still there: `left` is what would be left of it.
+/// Takes the number at a place off the count of its segment, where it isn't needed. The list stays, as if the
+/// number were still there: `left` is what would be left of it.
 fn take_one_off<V: Vstore, K: Keeping>(
     store: &V,
     keeping: &K,
@@ -123,7 +124,8 @@ fn take_one_off<V: Vstore, K: Keeping>(
     let _ = take_off(store, keeping, counts, number);
 }
 
-/// Takes all numbers of a run of places that aren't needed off the counts of their segments. The list of ends stays.
+/// Takes all numbers of a run of places that aren't needed off the counts of their segments. The list of ends
+/// stays.
 pub(crate) fn take_run_off<V: Vstore, K: Keeping>(
     store: &V,
     keeping: &K,

@@ -1,5 +1,5 @@
-//! How many needed numbers have their pages in each segment, and which needed numbers have ended. Both follow each event, so
-//! that no event has to go over the table of numbers, but for the opening of an image.
+//! How many needed numbers have their pages in each segment, and which needed numbers have ended. Both follow
+//! each event, so that no event has to go over the table of numbers, but for the opening of an image.
 #![tactic(auto)]
 
 mod counting;

@@ -21,8 +21,8 @@ use nl_vstore::{Batch, Vstore};
 use std::alloc::{AllocError, Global};
 use std::marker::Model;
 
-/// How many needed numbers have their pages in each segment, and the needed numbers that have ended, in the order of their
-/// ends: what a removal lets go is a part of one run of these.
+/// How many needed numbers have their pages in each segment, and the needed numbers that have ended, in the
+/// order of their ends: what a removal lets go is a part of one run of these.
 #[derive(Drop)]
 pub struct NeededCounts {
     counts: SegmentCounts,
@@ -50,7 +50,8 @@ impl NeededCounts {
         })
     }
 
-    /// The counts of a store, by what the kept checkpoints need. It goes over all numbers once. Refused by `Memory` alone.
+    /// The counts of a store, by what the kept checkpoints need. It goes over all numbers once. Refused by
+    /// `Memory` alone.
     pub fn of_store<V: Vstore, K: Keeping>(
         alloc: Global,
         store: &V,
@@ -73,7 +74,8 @@ impl NeededCounts {
 
     /// Makes room for the ends of the next checkpoint. Refused for memory alone.
     pub fn reserve(&mut self, ends: usize) -> Result<(), AllocError>
-        ensures counted { (s : Store) (kept : List ℕ) → IsCounted s kept self.old → IsCounted s kept self.new }
+        ensures counted { (s : Store) (kept : List ℕ) → IsCounted s kept self.old
+            → IsCounted s kept self.new }
         ensures counts { self.new.counts ≡ self.old.counts }
         ensures room { OnOk result (ends ≤ self.new.room) }
         ensures same { OnErr result (self.new ≡ self.old) }
@@ -97,7 +99,8 @@ impl NeededCounts {
         self.counts.shrink(segments);
     }
 
-    /// The batch of a checkpoint was written: its births are counted, and its ends are noted. It takes no memory.
+    /// The batch of a checkpoint was written: its births are counted, and its ends are noted. It takes no
+    /// memory.
     pub fn written<V: Vstore>(&mut self, store: &V, batch: &Batch, checkpoint: CheckpointNumber)
         requires room { length batch.now.ends ≤ self.old.room }
         requires counted { (old : Store) × (kept : List ℕ) × IsCounted old kept self.old
@@ -125,8 +128,8 @@ impl NeededCounts {
         count_moves(store, &mut self.counts, segment, numbers);
     }
 
-    /// Checkpoints from the first one on and below the next, which is kept, were removed: what the kept ones need no more is
-    /// let go. It looks at the ends between the two alone, and takes no memory.
+    /// Checkpoints from the first one on and below the next, which is kept, were removed: what the kept ones
+    /// need no more is let go. It looks at the ends between the two alone, and takes no memory.
     pub fn removed<V: Vstore, K: Keeping>(
         &mut self,
         store: &V,
@@ -146,8 +149,8 @@ impl NeededCounts {
         let_go(store, keeping, &mut self.counts, &mut self.ends, from, to);
     }
 
-    /// How many needed numbers have their pages in a segment. Refused by `BadRange` where there is no such segment. It takes
-    /// no memory.
+    /// How many needed numbers have their pages in a segment. Refused by `BadRange` where there is no such
+    /// segment. It takes no memory.
     pub fn get(&self, segment: Segment) -> Result<u32, VolError>
         ensures counts { result ≡ ok_or (slice_get self.now.counts segment) VolError.BadRange }
         ensures needed { (s : Store) (kept : List ℕ) → IsCounted s kept self.now
@@ -156,8 +159,8 @@ impl NeededCounts {
         self.counts.get(segment)
     }
 
-    /// The counts as they will be once checkpoints from the first one on and below the next are removed. It looks at the ends
-    /// between the two alone. Refused by `Memory` alone.
+    /// The counts as they will be once checkpoints from the first one on and below the next are removed. It
+    /// looks at the ends between the two alone. Refused by `Memory` alone.
     pub fn after<V: Vstore, K: Keeping>(
         &self,
         alloc: Global,
@@ -168,7 +171,8 @@ impl NeededCounts {
     ) -> Result<SegmentCounts, VolError>
         requires order { first ≤ next }
         requires counted { (kept : List ℕ) × IsCounted (V.store store.now) kept self.now }
-        ensures counts { IfOk result (λ counts. (kept stay : List ℕ) → IsCounted (V.store store.now) kept self.now
+        ensures counts { IfOk result
+            (λ counts. (kept stay : List ℕ) → IsCounted (V.store store.now) kept self.now
             → AreGone first next kept stay → TellsNeeds (K.test staying.now) stay
             → counts ≡ needed_counts (V.store store.now) (is_needed stay)) }
         ensures refused { IsOkUnless result VolError.Memory }

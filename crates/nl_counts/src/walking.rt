@@ -3,8 +3,8 @@ ghost use Rattle.std.specs.Prelude.{◌≡◌, ℕ, ◌+◌, length, replicate, 
 ghost use Rattle.nl_vstore.specs.Located.{by_period};
 ghost use Rattle.nl_vstore.specs.Stores.{capacity, content_in};
 ghost use Rattle.nl_counts.specs.EndLists.{with_found};
-ghost use Rattle.nl_counts.specs.Places.{HaveRoom};
-ghost use Rattle.nl_counts.specs.Walked.{HasWalked, ending_of};
+ghost use Rattle.nl_counts.specs.Private.Places.{HaveRoom};
+ghost use Rattle.nl_counts.specs.Private.Walked.{HasWalked, ending_of};
 
 use crate::counting::count_one;
 use crate::ends::Ended;

@@ -6,8 +6,8 @@ use Rattle.nl_types.specs.declared.row.ListOptions.{ListOptions}
 use Rattle.nl_types.specs.declared.row.Row.{Row}
 use Rattle.nl_types.specs.Rows.{at_most, in_direction, is_shown, listing}
 use Rattle.nl_cpfile.specs.declared.checkpoint.Checkpoint.{Checkpoint}
-use Rattle.nl_cpfile.specs.Tables.{row_of, rows_of}
-use Rattle.nl_cpfile.proofs.Rising.{map-push}
+use Rattle.nl_cpfile.specs.Tables.{checkpoint_row, rows_of}
+use Rattle.nl_cpfile.specs.Facts.Rising.{map-push}
 
 filter-shorter : (p : Row → Bool) (rows : List Row) → length (filter p rows) ≤ length rows
 filter-shorter p [] = omega arith
@@ -37,8 +37,8 @@ length-rows_of (c ∷ earlier) latest = let rest = length-rows_of earlier latest
 rows_of-reverse : (kept : List Checkpoint) → rows_of (reverse kept) ≡ reverse (rows_of kept)
 rows_of-reverse [] = refl
 rows_of-reverse (c ∷ kept) =
-    ap rows_of (reverse-append (c ∷ []) kept) ∙ map-push row_of (reverse kept) c
-    ∙ ap (λ (rows : List Row). rows ++ row_of c ∷ []) (rows_of-reverse kept) ∙ sym (reverse-append (row_of c ∷ []) (rows_of kept))
+    ap rows_of (reverse-append (c ∷ []) kept) ∙ map-push checkpoint_row (reverse kept) c
+    ∙ ap (λ (rows : List Row). rows ++ checkpoint_row c ∷ []) (rows_of-reverse kept) ∙ sym (reverse-append (checkpoint_row c ∷ []) (rows_of kept))
 
 rows_of-reversed : (earlier : List Checkpoint) (latest : Checkpoint) → rows_of ((latest ∷ []) ++ reverse earlier) ≡ reverse (rows_of (earlier ++ latest ∷ []))
 rows_of-reversed earlier latest = ap rows_of (sym (reverse-append earlier (latest ∷ []))) ∙ rows_of-reverse (earlier ++ latest ∷ [])

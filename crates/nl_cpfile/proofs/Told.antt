@@ -1,30 +1,29 @@
 -- What is told of a checkpoint that is looked up.
-use Rattle.std.proofs.Common.{◌≡◌, ℕ, eqb, cond, true, false, List, [], ◌∷◌, Option, None, Some, refl, sym, ap, ◌∙◌}
+use Rattle.std.proofs.Common.{◌≡◌, ◌≢◌, ◌<◌, ℕ, Bool, eqb, cond, true, false, List, [], ◌∷◌, ◌++◌, Option, None, Some, refl, sym, ap, ◌∙◌, arith}
 use Rattle.std.specs.Prelude.{Ok, Err}
 use Rattle.std.specs.Option.{ok_or, option_map}
-use Rattle.std.proofs.lemmas.Bool.{eq-eqb}
+use Rattle.std.proofs.lemmas.Bool.{eqb-false, eqb-true, ne_eqb}
 use Rattle.nl_types.specs.Calls.{and_then, ok_unless}
 use Rattle.nl_types.specs.Rows.{is_snapshot}
 use Rattle.nl_types.specs.declared.error.VolError.{VolError}
 use Rattle.nl_types.specs.declared.error.VolError.TheVariants.{IsSnapshot, Latest, NoCheckpoint}
-use Rattle.nl_types.specs.declared.event.Mode.{Mode}
-use Rattle.nl_types.specs.declared.event.Mode.TheVariants.{Plain, Snapshot}
 use Rattle.nl_cpfile.specs.declared.checkpoint.Checkpoint.{Checkpoint}
 use Rattle.nl_types.specs.Rows.{find_row, kept_row, mode_change, reason_to_stay, removal}
-use Rattle.nl_cpfile.specs.Tables.{Table, all, kept_at, row_of, rows, rows_of}
-use Rattle.nl_cpfile.proofs.Found.{found, eq_by_cmp-nat_cmp}
+use Rattle.nl_cpfile.specs.Tables.{IsRising, IsTable, Precedes, Table, all, kept_at, checkpoint_row, rows, rows_of}
+use Rattle.nl_cpfile.specs.Facts.Found.{found, found-here, found-later, eq_by_cmp-nat_cmp}
+use Rattle.nl_cpfile.specs.Facts.Rising.{All-last}
 
 -- the row of a number is that of its checkpoint
-pub find_row-found : (n : ℕ) (kept : List Checkpoint) → find_row n (rows_of kept) ≡ option_map row_of (found n kept)
+pub find_row-found : (n : ℕ) (kept : List Checkpoint) → find_row n (rows_of kept) ≡ option_map checkpoint_row (found n kept)
 find_row-found n [] = refl
 find_row-found n (c ∷ kept) =
-    elim (eqb c.number n) as (λ b. eqb c.number n ≡ b → cond b (Some (row_of c)) (find_row n (rows_of kept)) ≡ option_map row_of (found n (c ∷ kept))) [
-      | true ↦ λ e. sym (ap (λ b. option_map row_of (cond b (Some c) (found n kept))) (eq_by_cmp-nat_cmp n c.number ∙ e))
-      | false ↦ λ e. find_row-found n kept ∙ sym (ap (λ b. option_map row_of (cond b (Some c) (found n kept))) (eq_by_cmp-nat_cmp n c.number ∙ e))
+    elim (eqb c.number n) as (λ b. eqb c.number n ≡ b → cond b (Some (checkpoint_row c)) (find_row n (rows_of kept)) ≡ option_map checkpoint_row (found n (c ∷ kept))) [
+      | true ↦ λ e. sym (ap (λ b. option_map checkpoint_row (cond b (Some c) (found n kept))) (eq_by_cmp-nat_cmp n c.number ∙ e))
+      | false ↦ λ e. find_row-found n kept ∙ sym (ap (λ b. option_map checkpoint_row (cond b (Some c) (found n kept))) (eq_by_cmp-nat_cmp n c.number ∙ e))
     ] refl
 
-pub kept_row-kept : (n : ℕ) (t : Table) (o : Option Checkpoint) → kept_at n t ≡ o → kept_row n (rows t) ≡ ok_or (option_map row_of o) NoCheckpoint
-kept_row-kept n t o is = ap (λ r. ok_or r NoCheckpoint) (find_row-found n (all t) ∙ ap (option_map row_of) is)
+pub kept_row-kept : (n : ℕ) (t : Table) (o : Option Checkpoint) → kept_at n t ≡ o → kept_row n (rows t) ≡ ok_or (option_map checkpoint_row o) NoCheckpoint
+kept_row-kept n t o is = ap (λ r. ok_or r NoCheckpoint) (find_row-found n (all t) ∙ ap (option_map checkpoint_row) is)
 
 pub mode_change-kept : (n : ℕ) (t : Table) (c : Checkpoint) → kept_at n t ≡ Some c → Ok tt ≡ mode_change n (rows t)
 mode_change-kept n t c is = sym (ap (λ r. and_then r (λ _. Ok tt)) (kept_row-kept n t (Some c) is))
@@ -32,23 +31,62 @@ mode_change-kept n t c is = sym (ap (λ r. and_then r (λ _. Ok tt)) (kept_row-k
 pub mode_change-none : (n : ℕ) (t : Table) → kept_at n t ≡ None → Err NoCheckpoint ≡ mode_change n (rows t)
 mode_change-none n t is = sym (ap (λ r. and_then r (λ _. Ok tt)) (kept_row-kept n t None is))
 
-pub removal-kept : (n : ℕ) (t : Table) (c : Checkpoint) (reason : Option VolError) → kept_at n t ≡ Some c → reason_to_stay t.latest.number (row_of c) ≡ reason → ok_unless reason ≡ removal n t.latest.number (rows t)
+pub removal-kept : (n : ℕ) (t : Table) (c : Checkpoint) (reason : Option VolError) → kept_at n t ≡ Some c → reason_to_stay t.latest.number (checkpoint_row c) ≡ reason → ok_unless reason ≡ removal n t.latest.number (rows t)
 removal-kept n t c reason is why =
     sym (ap (λ r. and_then r (λ row. ok_unless (reason_to_stay t.latest.number row))) (kept_row-kept n t (Some c) is) ∙ ap ok_unless why)
 
 pub removal-none : (n : ℕ) (t : Table) → kept_at n t ≡ None → Err NoCheckpoint ≡ removal n t.latest.number (rows t)
 removal-none n t is = sym (ap (λ r. and_then r (λ row. ok_unless (reason_to_stay t.latest.number row))) (kept_row-kept n t None is))
 
--- ---- the reasons
+-- ---- why a checkpoint stays
 
-abbrev reason_with : (latest number : ℕ) → Mode → Option VolError
-reason_with latest number mode = cond (is_snapshot mode) (Some IsSnapshot) (cond (eqb number latest) (Some Latest) None)
+pub reason-is : (t : Table) (latest c : Checkpoint) (reason : Option VolError) → latest ≡ t.latest → reason ≡ reason_to_stay latest.number (checkpoint_row c) → reason_to_stay t.latest.number (checkpoint_row c) ≡ reason
+reason-is t latest c reason same is = sym (is ∙ ap (λ (x : Checkpoint). reason_to_stay x.number (checkpoint_row c)) same)
 
-pub snapshot-stays : (latest : ℕ) (c : Checkpoint) → c.mode ≡ Snapshot → reason_to_stay latest (row_of c) ≡ Some IsSnapshot
-snapshot-stays latest c mode = ap (reason_with latest c.number) mode
+-- ---- a checkpoint that may go
 
-pub latest-stays : (c : Checkpoint) → c.mode ≡ Plain → reason_to_stay c.number (row_of c) ≡ Some Latest
-latest-stays c mode = ap (reason_with c.number c.number) mode ∙ ap (λ b. cond b (Some Latest) None) (eq-eqb c.number c.number refl)
+-- what is found has the number
+found-number : (n : ℕ) (kept : List Checkpoint) (c : Checkpoint) → found n kept ≡ Some c → c.number ≡ n
+found-number n [] c at = cc
+found-number n (x ∷ kept) c at = by (eqb x.number n) refl (found-number n kept c)
+  where
+    by : (b : Bool) → eqb x.number n ≡ b → (found n kept ≡ Some c → c.number ≡ n) → c.number ≡ n
+    by true here rest =
+        let number = eqb-true x.number n here in
+        let one : Some x ≡ Some c = sym (found-here n x kept number) ∙ at in
+        cc
+    by false apart rest = rest (sym (found-later n x kept (eqb-false x.number n apart)) ∙ at)
 
-pub plain-goes : (latest : ℕ) (c : Checkpoint) → c.mode ≡ Plain → eqb c.number latest ≡ false → reason_to_stay latest (row_of c) ≡ None
-plain-goes latest c mode other = ap (reason_with latest c.number) mode ∙ ap (λ b. cond b (Some Latest) None) other
+-- and lies below the last one, where that has another
+found-low : (n : ℕ) (earlier : List Checkpoint) (latest c : Checkpoint) → IsRising (earlier ++ latest ∷ []) → found n (earlier ++ latest ∷ []) ≡ Some c → latest.number ≢ n
+    → n < latest.number
+found-low n [] latest c rising at other =
+    let none : None ≡ Some c = sym (found-later n latest [] other) ∙ at in
+    cc
+found-low n (x ∷ earlier) latest c rising at other =
+    by (eqb x.number n) refl (λ later. found-low n earlier latest c rising.1 later other)
+  where
+    by : (b : Bool) → eqb x.number n ≡ b → (found n (earlier ++ latest ∷ []) ≡ Some c → n < latest.number) → n < latest.number
+    by true here rest =
+        let number = eqb-true x.number n here in
+        let up = (All-last (Precedes x) earlier latest rising.0).number in
+        omega (arith, number, up)
+    by false apart rest = rest (sym (found-later n x (earlier ++ latest ∷ []) (eqb-false x.number n apart)) ∙ at)
+
+no_latest : (s b : Bool) → cond s (Some IsSnapshot) (cond b (Some Latest) None) ≡ None → b ≡ false
+no_latest true b none = cc
+no_latest false true none = cc
+no_latest false false none = refl
+
+-- the latest one stays
+module _ (t : Table) (is : IsTable t) (n : ℕ) (c : Checkpoint) (at : kept_at n t ≡ Some c) (goes : reason_to_stay t.latest.number (checkpoint_row c) ≡ None) where
+  not-latest : t.latest.number ≢ n
+  not-latest same =
+      let other = no_latest (is_snapshot c.mode) (eqb c.number t.latest.number) goes in
+      eqb-false c.number t.latest.number other (found-number n (all t) c at ∙ sym same)
+
+  pub going-apart : eqb t.latest.number n ≡ false
+  going-apart = ne_eqb t.latest.number n not-latest
+
+  pub going-low : n < t.latest.number
+  going-low = found-low n t.earlier t.latest c is.rising at not-latest

@@ -5,7 +5,7 @@ use Rattle.nl_types.specs.Limits.{checkpoint_number_limit}
 use Rattle.nl_layout.specs.declared.checkpoint_entry.CheckpointEntry.{CheckpointEntry}
 use Rattle.nl_layout.specs.declared.superblock.Mark.{Mark}
 use Rattle.nl_layout.specs.declared.superblock.Mark.TheVariants.{First, Second}
-use Rattle.nl_layout.specs.Checkpoints.{Fits, checkpoint_bytes}
+use Rattle.nl_layout.specs.Checkpoints.{HasSpelling, checkpoint_bytes}
 use Rattle.nl_layout.specs.Root.{fields_of, root_told}
 use Rattle.nl_cpfile.specs.declared.checkpoint.Checkpoint.{Checkpoint}
 
@@ -36,7 +36,7 @@ are_known_to Second kept = true
 -- under the mark the bytes are the entries of these checkpoints, which rise
 pub record IsCpfileOf (mark : Mark) (bytes : List ℕ) (kept : List CheckpointEntry) : Type 0 where
   pub spelled : bytes ≡ cpfile_bytes kept
-  pub fit : All Fits kept
+  pub fit : All HasSpelling kept
   pub rise : AreRising kept
   pub known : are_known_to mark kept ≡ true
 

@@ -1,5 +1,6 @@
 pub mod Tables
 pub mod Searching
-pub mod Judging
 pub mod Inside
 pub mod Images
+pub mod Facts
+pub mod Private

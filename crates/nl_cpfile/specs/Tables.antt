@@ -7,7 +7,8 @@ use Rattle.nl_types.specs.declared.event.Mode.{Mode}
 use Rattle.nl_types.specs.declared.row.Row.{Row}
 use Rattle.nl_types.specs.Limits.{checkpoint_number_limit}
 use Rattle.nl_types.specs.CheckpointLaws.{removed_by}
-use Rattle.nl_types.specs.Rows.{is_among, is_snapshot, range_removal}
+use Rattle.nl_types.specs.NumberLists.{is_one_of}
+use Rattle.nl_types.specs.Rows.{is_snapshot, range_removal}
 use Rattle.nl_layout.specs.declared.root.Root.{Root}
 use Rattle.nl_cpfile.specs.declared.checkpoint.Checkpoint.{Checkpoint}
 use Rattle.nl_cpfile.specs.declared.table.Cpstat.{Cpstat}
@@ -22,8 +23,8 @@ abbrev pub all : Table → List Checkpoint
 all t = t.earlier ++ t.latest ∷ []
 
 -- the root of a checkpoint's file of inodes
-abbrev pub root_in : Checkpoint → Root
-root_in c = c.root
+abbrev pub checkpoint_root : Checkpoint → Root
+checkpoint_root c = c.root
 
 -- a checkpoint under its number
 abbrev pub by_number : Checkpoint → ℕ × Checkpoint
@@ -32,11 +33,12 @@ by_number c = (c.number, c)
 abbrev pub kept_at : ℕ → Table → Option Checkpoint
 kept_at n t = find nat_cmp n (map by_number (all t))
 
-abbrev pub row_of : Checkpoint → Row
-row_of c = record { number = c.number; stamp = c.stamp; mode = c.mode; minor = c.minor; inodes = c.inodes }
+abbrev pub checkpoint_row : Checkpoint → Row
+checkpoint_row c =
+    record { number = c.number; stamp = c.stamp; mode = c.mode; minor = c.minor; inodes = c.inodes }
 
 abbrev pub rows_of : List Checkpoint → List Row
-rows_of kept = map row_of kept
+rows_of kept = map checkpoint_row kept
 
 abbrev pub rows : Table → List Row
 rows t = rows_of (all t)
@@ -85,7 +87,7 @@ abbrev pub with_mode : ℕ → Mode → Table → Table
 with_mode n mode t = record { earlier = map (moded n mode) t.earlier; latest = moded n mode t.latest }
 
 abbrev pub is_kept_without : List ℕ → Checkpoint → Bool
-is_kept_without gone c = not (is_among gone c.number)
+is_kept_without gone c = not (is_one_of gone c.number)
 
 -- the table without earlier checkpoints of some numbers
 abbrev pub without : List ℕ → Table → Table
@@ -101,7 +103,7 @@ with_latest_alone t = record t { earlier = [] }
 
 -- ---- the table, and the room for more
 
-pub record Roomy : Type 0 where
+pub record RoomyTable : Type 0 where
   pub table : Table
   -- for how many more checkpoints there is room
   pub room : ℕ

@@ -1,6 +1,6 @@
 //! A kept checkpoint, and what is judged of it alone.
 ghost use Rattle.std.specs.Prelude.{◌≡◌};
-ghost use Rattle.nl_types.specs.Rows as rows;
+ghost use Rattle.nl_types.specs.Rows as told;
 ghost use Rattle.nl_cpfile.specs.Tables as tables;
 
 use nl_layout::Root;
@@ -24,7 +24,7 @@ pub struct Checkpoint {
 impl Checkpoint {
     /// What is told of it.
     pub fn row(&self) -> Row
-        ensures { result ≡ tables.row_of self.now }
+        ensures { result ≡ tables.checkpoint_row self.now }
     {
         Row {
             number: self.number,
@@ -35,9 +35,10 @@ impl Checkpoint {
         }
     }
 
-    /// Why it can't be removed, where the latest checkpoint has this number: snapshots stay, and so does the latest one.
+    /// Why it can't be removed, where the latest checkpoint has this number: snapshots stay, and so does the
+    /// latest one.
     pub(crate) fn reason_to_stay(&self, latest: CheckpointNumber) -> Option<VolError>
-        ensures { result ≡ rows.reason_to_stay latest (tables.row_of self.now) }
+        ensures { result ≡ told.reason_to_stay latest (tables.checkpoint_row self.now) }
     {
         if self.mode.is_snapshot() {
             Some(VolError::IsSnapshot)
@@ -49,7 +50,7 @@ impl Checkpoint {
     }
 
     pub(crate) fn is_between(&self, first: CheckpointNumber, last: CheckpointNumber) -> bool
-        ensures { result ≡ rows.is_between first last (tables.row_of self.now) }
+        ensures { result ≡ told.is_between first last (tables.checkpoint_row self.now) }
     {
         first <= self.number && self.number <= last
     }

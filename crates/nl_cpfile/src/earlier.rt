@@ -8,8 +8,8 @@ use crate::checkpoint::Checkpoint;
 use std::alloc::{AllocError, Global};
 use std::marker::Model;
 
-/// Checkpoints in a list whose first places may be out of use, so that one near the front leaves without a move of all that
-/// stand behind it. Contracts see those in use, and for how many more there is room.
+/// Checkpoints in a list whose first places may be out of use, so that one near the front leaves without a
+/// move of all that stand behind it. Contracts see those in use, and for how many more there is room.
 #[derive(Drop)]
 pub(crate) struct Earlier {
     places: Vec<Checkpoint>,
@@ -60,8 +60,8 @@ impl Earlier {
         self.places[self.gone + index] = checkpoint;
     }
 
-    /// Makes room for one more. Refused for memory alone. Where more than half of the places are out of use, the others move
-    /// to the front and the list doesn't grow, so that adding takes constant time on average.
+    /// Makes room for one more. Refused for memory alone. Where more than half of the places are out of use,
+    /// the others move to the front and the list doesn't grow, so that adding takes constant time on average.
     pub(crate) fn reserve(&mut self) -> Result<(), AllocError>
         ensures items { self.new.items ≡ self.old.items }
         ensures room { OnOk result (0 < self.new.room) }

@@ -2,7 +2,7 @@
 ghost use Rattle.std.specs.Prelude.{◌≡◌, ◌*◌, ◌+◌, ◌<◌, ◌≤◌, ◌⊎◌, ◌↔◌, ℕ, not, IsTrue, IfOk, IfErr, IfSome, MatchResult, length, take, drop, List, Some, All};
 ghost use Rattle.std.specs.List.{AllZip, list_all};
 ghost use Rattle.nl_layout.specs.declared.checkpoint_entry.CheckpointEntry.{CheckpointEntry};
-ghost use Rattle.nl_layout.specs.Checkpoints.{Fits, Spells};
+ghost use Rattle.nl_layout.specs.Checkpoints.{HasSpelling, Spells};
 ghost use Rattle.nl_cpfile.specs.Images.{AreRising, are_known_to, HasNumber, HasRoot, IsCpfileOf, IsEntryOf, Precedes, cpfile_bytes};
 ghost use Rattle.nl_cpfile.specs.Tables.{all};
 
@@ -15,9 +15,10 @@ use std::alloc::{AllocError, Global};
 /// What refuses an image for its entries of checkpoints.
 const BAD_ENTRIES: VolError = VolError::BadImage(5);
 
-/// The entries of checkpoints that the bytes of an image of a mark spell, 160 bytes for each. Refused by `BadImage(5)` where
-/// they spell none: the numbers rise from 1 at least and stay below the limit, no stamp falls, and under the first mark none is
-/// minor; and by `Memory`. The root of an entry and the size of its file of inodes are judged by the blocks that they lead to.
+/// The entries of checkpoints that the bytes of an image of a mark spell, 160 bytes for each. Refused by
+/// `BadImage(5)` where they spell none: the numbers rise from 1 at least and stay below the limit, no stamp
+/// falls, and under the first mark none is minor; and by `Memory`. The root of an entry and the size of its
+/// file of inodes are judged by the blocks that they lead to.
 pub fn read_checkpoints(
     alloc: Global,
     mark: Mark,
@@ -42,7 +43,7 @@ pub fn read_checkpoints(
 pub fn write_checkpoints(kept: &[CheckpointEntry], out: &mut [u8])
     requires { length out.old ≡ 160 * length kept.now }
     ensures bytes { out.new ≡ cpfile_bytes kept.now }
-    ensures fit { All Fits kept.now }
+    ensures fit { All HasSpelling kept.now }
 {
     for (i, entry) in kept.iter().enumerate() {
         let from = CHECKPOINT_SIZE * i;
@@ -108,8 +109,8 @@ impl Checkpoint {
 fn read_entries(alloc: Global, bytes: &[u8]) -> Result<Items<CheckpointEntry>, VolError>
     requires { (n : ℕ) × (length bytes.now ≡ 160 * n) }
     ensures spelled { IfOk result (λ kept. bytes.now ≡ cpfile_bytes kept) }
-    ensures fit { IfOk result (All Fits) }
-    ensures only { (kept : List CheckpointEntry) → bytes.now ≡ cpfile_bytes kept → All Fits kept
+    ensures fit { IfOk result (All HasSpelling) }
+    ensures only { (kept : List CheckpointEntry) → bytes.now ≡ cpfile_bytes kept → All HasSpelling kept
         → MatchResult result (λ found. found ≡ kept) (λ e. e ≡ VolError.Memory) }
     ensures refused { IfErr result (λ e. (e ≡ VolError.BadImage 5) ⊎ (e ≡ VolError.Memory)) }
 {

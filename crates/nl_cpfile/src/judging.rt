@@ -1,8 +1,8 @@
 //! What is judged of many checkpoints.
 ghost use Rattle.std.specs.Prelude.{◌≡◌, [], ◌∷◌, ◌++◌, ◌≤◌, length, IfOk};
 ghost use Rattle.std.specs.List.{filter};
-ghost use Rattle.nl_types.specs.Rows as rows;
-ghost use Rattle.nl_cpfile.specs.Judging.{joined};
+ghost use Rattle.nl_types.specs.Rows as told;
+ghost use Rattle.nl_cpfile.specs.Private.Judging.{joined};
 ghost use Rattle.nl_cpfile.specs.Tables as tables;
 
 use crate::checkpoint::Checkpoint;
@@ -11,14 +11,14 @@ use std::alloc::{AllocError, Global};
 
 /// Whether the numbers bound no range.
 pub(crate) fn is_no_range(first: CheckpointNumber, last: CheckpointNumber) -> bool
-    ensures { result ≡ rows.is_no_range first last }
+    ensures { result ≡ told.is_no_range first last }
 {
     first.get() == 0 || last < first
 }
 
 /// How many of the checkpoints are snapshots.
 pub(crate) fn count_snapshots(kept: &[Checkpoint]) -> usize
-    ensures count { result ≡ length (filter (λ c. rows.is_snapshot c.mode) kept.now) }
+    ensures count { result ≡ length (filter (λ c. told.is_snapshot c.mode) kept.now) }
     ensures most { result ≤ length kept.now }
 {
     let mut count = 0;
@@ -38,8 +38,8 @@ pub(crate) fn judge(
     first: CheckpointNumber,
     last: CheckpointNumber,
 ) -> Result<Range, AllocError>
-    ensures { IfOk result (λ range. range ≡ rows.judged latest.now.number
-        (rows.between first last (tables.rows_of (earlier.now ++ latest.now ∷ [])))) }
+    ensures { IfOk result (λ range. range ≡ told.judged_range latest.now.number
+        (told.rows_between first last (tables.rows_of (earlier.now ++ latest.now ∷ [])))) }
 {
     let mut range = judge_all(alloc, earlier, latest.number, first, last)?;
     judge_one(&mut range, latest, latest.number, first, last)?;
@@ -54,7 +54,7 @@ fn judge_all(
     last: CheckpointNumber,
 ) -> Result<Range, AllocError>
     ensures { IfOk result (λ range.
-        range ≡ rows.judged latest (rows.between first last (tables.rows_of kept.now))) }
+        range ≡ told.judged_range latest (told.rows_between first last (tables.rows_of kept.now))) }
 {
     let mut range = Range {
         removed: Items::new(alloc),
@@ -74,8 +74,8 @@ fn judge_one(
     first: CheckpointNumber,
     last: CheckpointNumber,
 ) -> Result<(), AllocError>
-    ensures { IfOk result (λ _. range.new ≡ joined range.old (rows.judged latest
-        (rows.between first last (tables.row_of checkpoint.now ∷ [])))) }
+    ensures { IfOk result (λ _. range.new ≡ joined range.old (told.judged_range latest
+        (told.rows_between first last (tables.checkpoint_row checkpoint.now ∷ [])))) }
 {
     if !checkpoint.is_between(first, last) {
         return Ok(());

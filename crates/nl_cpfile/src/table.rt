@@ -3,7 +3,7 @@ ghost use Rattle.std.specs.Prelude.{◌≡◌, ◌<◌, [], ◌∷◌, All, AllP
 ghost use Rattle.std.specs.Option.{option_copied};
 ghost use Rattle.nl_types.specs.Calls.{IsUnlessMemory};
 ghost use Rattle.nl_types.specs.Limits.{checkpoint_number_limit};
-ghost use Rattle.nl_types.specs.Rows.{between, judged, kept_row, mode_change, range_removal, removal};
+ghost use Rattle.nl_types.specs.Rows.{rows_between, judged_range, kept_row, mode_change, range_removal, removal};
 ghost use Rattle.nl_types.specs.Rows as told;
 ghost use Rattle.nl_cpfile.specs.Searching.{IsLeastAbove};
 ghost use Rattle.nl_cpfile.specs.Tables as tables;
@@ -38,9 +38,9 @@ pub struct Checkpoints {
 
 impl Model for Checkpoints {
     ghost use Rattle.nl_cpfile.specs.Inside.{roomy_of, table_of};
-    ghost use Rattle.nl_cpfile.specs.Tables.{IsTable, Roomy};
+    ghost use Rattle.nl_cpfile.specs.Tables.{IsTable, RoomyTable};
 
-    ghost Value = { Roomy };
+    ghost Value = { RoomyTable };
 
     ghost view = { roomy_of };
 
@@ -61,7 +61,8 @@ impl Checkpoints {
         }
     }
 
-    /// The checkpoints of a table: those before the latest one, ascending, and the latest one. Takes no memory.
+    /// The checkpoints of a table: those before the latest one, ascending, and the latest one. Takes no
+    /// memory.
     pub fn from_table(earlier: Vec<Checkpoint>, latest: Checkpoint) -> Self
         requires { IsTable (record { earlier = earlier.items; latest = latest }) }
         ensures { result.table ≡ record { earlier = earlier.items; latest = latest } }
@@ -150,8 +151,8 @@ impl Checkpoints {
         }
     }
 
-    /// Removes a checkpoint. Takes no memory. Refused by `NoCheckpoint` where it isn't kept, by `IsSnapshot` where it is a
-    /// snapshot, and by `Latest` where it is the latest one.
+    /// Removes a checkpoint. Takes no memory. Refused by `NoCheckpoint` where it isn't kept, by `IsSnapshot`
+    /// where it is a snapshot, and by `Latest` where it is the latest one.
     pub fn remove(&mut self, number: CheckpointNumber) -> Result<(), VolError>
         ensures judged { result ≡ removal number self.old.table.latest.number (rows self.old.table) }
         ensures removed { OnOk result (self.new.table ≡ tables.without (number ∷ []) self.old.table) }
@@ -160,28 +161,19 @@ impl Checkpoints {
         ensures low { OnOk result (number < self.old.table.latest.number) }
         ensures same { OnErr result (self.new ≡ self.old) }
     {
-        if self.latest.number == number {
-            return Err(match self.latest.mode {
-                Mode::Plain => VolError::Latest,
-                Mode::Snapshot => VolError::IsSnapshot,
-            });
+        let Some(checkpoint) = self.kept(number) else {
+            return Err(VolError::NoCheckpoint);
+        };
+        if let Some(reason) = checkpoint.reason_to_stay(self.latest().number) {
+            return Err(reason);
         }
-        let earlier = self.earlier.as_slice();
-        match place_of(earlier, number) {
-            None => Err(VolError::NoCheckpoint),
-            Some(index) => match earlier[index].mode {
-                Mode::Snapshot => Err(VolError::IsSnapshot),
-                Mode::Plain => {
-                    self.earlier.remove(index);
-                    Ok(())
-                }
-            },
-        }
+        self.take_out(number);
+        Ok(())
     }
 
-    /// Removes the checkpoints of a range, both ends included, but for the snapshots and the latest one, and answers what
-    /// became of each. Refused by `BadRange` where the first number is 0 or above the last one, by `NoCheckpoint` where none
-    /// of the range is kept, and by `Memory`.
+    /// Removes the checkpoints of a range, both ends included, but for the snapshots and the latest one, and
+    /// answers what became of each. Refused by `BadRange` where the first number is 0 or above the last one,
+    /// by `NoCheckpoint` where none of the range is kept, and by `Memory`.
     pub fn remove_range(
         &mut self,
         alloc: Global,
@@ -204,8 +196,8 @@ impl Checkpoints {
         Ok(range)
     }
 
-    /// Takes out an earlier checkpoint, plain or a snapshot, where one has the number. Takes no memory. That it may go is for
-    /// the caller to know: `remove` judges it.
+    /// Takes out an earlier checkpoint, plain or a snapshot, where one has the number. Takes no memory. That
+    /// it may go is for the caller to know: `remove` judges it.
     pub fn take_out(&mut self, number: CheckpointNumber)
         ensures { self.new.table ≡ tables.without (number ∷ []) self.old.table }
     {
@@ -214,7 +206,8 @@ impl Checkpoints {
         }
     }
 
-    /// Takes out what the removal of a range takes out, which is nothing where it would be refused. Takes no memory.
+    /// Takes out what the removal of a range takes out, which is nothing where it would be refused. Takes no
+    /// memory.
     pub fn take_out_range(&mut self, first: CheckpointNumber, last: CheckpointNumber)
         ensures { self.new.table ≡ tables.without (tables.range_in first last self.old.table) self.old.table }
     {
@@ -226,10 +219,12 @@ impl Checkpoints {
     /// Takes out the plain earlier checkpoints between two numbers, both included.
     fn take_out_between(&mut self, first: CheckpointNumber, last: CheckpointNumber)
         ensures taken { self.new.table ≡ tables.without
-            (judged self.old.table.latest.number (between first last (rows self.old.table))).removed
+            (judged_range self.old.table.latest.number
+            (rows_between first last (rows self.old.table))).removed
             self.old.table }
         ensures told { rows self.new.table ≡ told.without
-            (judged self.old.table.latest.number (between first last (rows self.old.table))).removed
+            (judged_range self.old.table.latest.number
+            (rows_between first last (rows self.old.table))).removed
             (rows self.old.table) }
     {
         self.earlier.retain(|checkpoint| checkpoint.mode.is_snapshot()
@@ -245,8 +240,8 @@ impl Checkpoints {
     ) -> Result<Range, VolError>
         ensures judged { IsUnlessMemory result
             (range_removal first last self.now.table.latest.number (rows self.now.table)) }
-        ensures found { IfOk result (λ range. range ≡ judged self.now.table.latest.number
-            (between first last (rows self.now.table))) }
+        ensures found { IfOk result (λ range. range ≡ judged_range self.now.table.latest.number
+            (rows_between first last (rows self.now.table))) }
         ensures rising { IfOk result (λ range. AllPairs ◌<◌ range.removed) }
         ensures low { IfOk result (λ range.
             All (λ n. n < self.now.table.latest.number) range.removed) }
@@ -291,8 +286,8 @@ impl Checkpoints {
         }
     }
 
-    /// What is told of the checkpoints that a listing shows, in its order. Takes memory for these alone, and is refused for
-    /// it alone.
+    /// What is told of the checkpoints that a listing shows, in its order. Takes memory for these alone, and
+    /// is refused for it alone.
     pub fn listing(&self, alloc: Global, options: &ListOptions) -> Result<Items<Row>, AllocError>
         ensures { IfOk result (λ listed. listed ≡ told.listing options.now (rows self.now.table)) }
     {

@@ -3,14 +3,14 @@ use Rattle.std.proofs.Common.{◌≡◌, ◌≤◌, ◌<◌, ℕ, zero, suc, ◌
 use Rattle.std.specs.Prelude.{slice_get, slice_index_or}
 use Rattle.std.proofs.Math.Nat.{mul-le-mul_right}
 use Rattle.nl_types.specs.Segments.{AreTidy, info_of}
-use Rattle.nl_types.proofs.SegmentChanges.{room_of}
+use Rattle.nl_types.specs.Facts.SegmentChanges.{room_of}
 use Rattle.nl_device.specs.Failures.{Failures}
 use Rattle.nl_space.specs.Content.{Payload, SpaceContent}
 use Rattle.nl_dat.specs.declared.entries.DatEntry.{DatEntry}
 use Rattle.nl_dat.specs.Inside.{store_of}
 use Rattle.nl_vstore.specs.Located.{block_if, in_row, onto, picked, payload_block, payload_count_in}
-use Rattle.nl_dat.proofs.Positions.{held-row}
-use Rattle.nl_dat.proofs.ShownSpace.{shown}
+use Rattle.nl_dat.specs.Facts.Positions.{held-row}
+use Rattle.nl_dat.specs.Facts.ShownSpace.{shown}
 
 count-same : (f g : ℕ → Option ℕ) (b c n : ℕ) → ((k : ℕ) → k < n → is_some (f (b + k)) ≡ is_some (g (c + k))) → length (picked f b n) ≡ length (picked g c n)
 count-same f g b c zero each = refl

@@ -10,7 +10,7 @@ use Rattle.std.proofs.lemmas.List.Folds.{list_any-append}
 use Rattle.std.proofs.lemmas.Map.Made.{length-le_from_is_member}
 use Rattle.nl_types.specs.declared.segment.SegmentInfo.{SegmentInfo}
 use Rattle.nl_types.specs.Segments.{Segments, info_of, IsUsed, used_in, used_blocks}
-use Rattle.nl_types.specs.Placing.{row_of}
+use Rattle.nl_types.specs.Placing.{blocks_from}
 use Rattle.nl_types.specs.PartialMaps.{Partial}
 use Rattle.nl_types.specs.Entries.{Birth, Content, number_of}
 use Rattle.nl_sufile.specs.BySegment.{count_to}
@@ -99,25 +99,25 @@ values-at-most m n bs apart members =
 
 abbrev used_list : ℕ → ℕ → List SegmentInfo → List ℕ
 used_list blocks i [] = []
-used_list blocks i (info ∷ infos) = row_of (i * blocks) info.used ++ used_list blocks (suc i) infos
+used_list blocks i (info ∷ infos) = blocks_from (i * blocks) info.used ++ used_list blocks (suc i) infos
 
-length-row_of : (b n : ℕ) → length (row_of b n) ≡ n
+length-row_of : (b n : ℕ) → length (blocks_from b n) ≡ n
 length-row_of b zero = refl
 length-row_of b (suc n) = ap suc (length-row_of (suc b) n)
 
 length-used_list : (blocks i : ℕ) (infos : List SegmentInfo) → length (used_list blocks i infos) ≡ used_in infos
 length-used_list blocks i [] = refl
 length-used_list blocks i (info ∷ infos) =
-    length-append (row_of (i * blocks) info.used) (used_list blocks (suc i) infos) ∙ omega (arith, length-row_of (i * blocks) info.used, length-used_list blocks (suc i) infos)
+    length-append (blocks_from (i * blocks) info.used) (used_list blocks (suc i) infos) ∙ omega (arith, length-row_of (i * blocks) info.used, length-used_list blocks (suc i) infos)
 
-in_row : (b n k : ℕ) → k < n → is_member nat_eq (row_of b n) (b + k) ≡ true
+in_row : (b n k : ℕ) → k < n → is_member nat_eq (blocks_from b n) (b + k) ≡ true
 in_row b zero k low = absurd (omega (arith, low))
 in_row b (suc n) zero low =
     let here : b + 0 ≡ b = omega arith in
-    ap (λ t. t || is_member nat_eq (row_of (suc b) n) (b + 0)) (eq-eqb (b + 0) b here)
+    ap (λ t. t || is_member nat_eq (blocks_from (suc b) n) (b + 0)) (eq-eqb (b + 0) b here)
 in_row b (suc n) (suc k) low =
     let next : suc b + k ≡ b + suc k = omega arith in
-    or_right (nat_eq (b + suc k) b) (subst (λ c. is_member nat_eq (row_of (suc b) n) c ≡ true) next (in_row (suc b) n k (omega (arith, low))))
+    or_right (nat_eq (b + suc k) b) (subst (λ c. is_member nat_eq (blocks_from (suc b) n) c ≡ true) next (in_row (suc b) n k (omega (arith, low))))
   where
     or_right : (a : Bool) {c : Bool} → c ≡ true → (a || c) ≡ true
     or_right true h = refl
@@ -141,11 +141,11 @@ in_used_list blocks i [] j k low = absurd (none j low)
     none (suc j) low = omega (arith, low)
 in_used_list blocks i (info ∷ infos) zero k low =
     let here : i * blocks + k ≡ (i + 0) * blocks + k = ap (λ n. n * blocks + k) (omega arith) in
-    member-append-left (row_of (i * blocks) info.used) (used_list blocks (suc i) infos) ((i + 0) * blocks + k)
-    (subst (λ b. is_member nat_eq (row_of (i * blocks) info.used) b ≡ true) here (in_row (i * blocks) info.used k low))
+    member-append-left (blocks_from (i * blocks) info.used) (used_list blocks (suc i) infos) ((i + 0) * blocks + k)
+    (subst (λ b. is_member nat_eq (blocks_from (i * blocks) info.used) b ≡ true) here (in_row (i * blocks) info.used k low))
 in_used_list blocks i (info ∷ infos) (suc j) k low =
     let next : (suc i + j) * blocks + k ≡ (i + suc j) * blocks + k = ap (λ n. n * blocks + k) (omega arith) in
-    member-append-right (row_of (i * blocks) info.used) (used_list blocks (suc i) infos) ((i + suc j) * blocks + k)
+    member-append-right (blocks_from (i * blocks) info.used) (used_list blocks (suc i) infos) ((i + suc j) * blocks + k)
     (subst (λ b. is_member nat_eq (used_list blocks (suc i) infos) b ≡ true) next (in_used_list blocks (suc i) infos j k low))
 
 -- ---- numbers in use, and numbers of a batch

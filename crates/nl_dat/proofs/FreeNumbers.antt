@@ -12,7 +12,7 @@ use Rattle.nl_types.specs.Entries.{Content}
 use Rattle.nl_device.specs.Failures.{Failures}
 use Rattle.nl_space.specs.Content.{SpaceContent}
 use Rattle.nl_dat.specs.declared.entries.DatEntry.{DatEntry}
-use Rattle.nl_vstore.specs.Batches.{LacksSpaceFrom, Changes, Fits, IsLowestFree, is_born, is_taken, last_number}
+use Rattle.nl_vstore.specs.Batches.{LacksSpaceFrom, Changes, CanBeTaken, IsLowestFree, is_born, is_taken, last_number}
 use Rattle.nl_dat.specs.Table.{AreInUse, IsFirstFree, entry_in, addresses_of, block_of}
 use Rattle.nl_vstore.specs.Stores.{content_in}
 use Rattle.nl_dat.specs.Inside.{births_in, store_of, IsTable}
@@ -27,7 +27,7 @@ is_some-addresses_of entries v = of_entry (entries v)
     of_entry None = refl
     of_entry (Some e) = refl
 
-module _ (table : List (Option DatEntry)) (lowest : ℕ) (space : SpaceContent) (failures : Failures) (changes : Changes) (is_table : IsTable table lowest space) (fits : Fits (total_blocks space.segments) (content_in (store_of table space failures)) changes) where
+module _ (table : List (Option DatEntry)) (lowest : ℕ) (space : SpaceContent) (failures : Failures) (changes : Changes) (is_table : IsTable table lowest space) (fits : CanBeTaken (total_blocks space.segments) (content_in (store_of table space failures)) changes) where
   abbrev pub content : Content
   content = content_in (store_of table space failures)
 

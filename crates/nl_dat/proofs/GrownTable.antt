@@ -9,7 +9,7 @@ use Rattle.nl_types.specs.Segments.{IsUsed, Segments, grown_to, total_blocks}
 use Rattle.nl_types.specs.GrowingLaws.{UsedStays}
 use Rattle.nl_types.specs.Entries.{Birth, number_of}
 use Rattle.nl_types.specs.PartialMaps.{Partial}
-use Rattle.nl_types.proofs.UsedParts.{used_inside}
+use Rattle.nl_types.specs.Facts.UsedParts.{used_inside}
 use Rattle.nl_types.specs.Segments.{AreTidy}
 use Rattle.nl_device.specs.Failures.{Failures}
 use Rattle.nl_space.specs.Content.{HoldsOnlyUsed, IsGrown, Payload, SpaceContent, payload_page}
@@ -18,7 +18,7 @@ use Rattle.nl_vstore.specs.Stores.{HasGrown, device_in, numbered_in, payload_in}
 use Rattle.nl_dat.specs.declared.entries.DatEntry.{DatEntry}
 use Rattle.nl_dat.specs.Inside.{IsTable, births_in, numbered_of, store_of}
 use Rattle.nl_dat.specs.Table.{addresses_of, block_of, entry_in}
-use Rattle.nl_dat.proofs.ShownSpace.{none-payload, shown}
+use Rattle.nl_dat.specs.Facts.ShownSpace.{none-payload, shown}
 use Rattle.nl_dat.proofs.StoreOf.{numbered_in-store_of}
 
 -- places without a value behind others
@@ -70,7 +70,7 @@ module _ (table : List (Option DatEntry)) (lowest segments : ℕ) (old later : S
     used = λ v b is. used b (is_table.used v b (sym (at v) ∙ is));
     stored = λ v b is.
         let was = sym (at v) ∙ is in
-        let kept = grown.kept b (is_table.used v b was) in
+        let kept = grown.used_stay b (is_table.used v b was) in
         kept.1 ∙ is_table.stored v b was ∙ sym (ap (option_map payload_page) kept.0);
     positive = is_table.positive;
     within = rw (length-append) (omega (arith, is_table.within));
@@ -97,5 +97,5 @@ module _ (table : List (Option DatEntry)) (lowest segments : ℕ) (old later : S
     payload = payload;
     device = λ b is.
         let low = used_inside old.segments b tidy is in
-        (shown new later after b (omega (arith, low, total, most))).1 ∙ (grown.kept b is).1 ∙ sym (shown table old before b low).1;
+        (shown new later after b (omega (arith, low, total, most))).1 ∙ (grown.used_stay b is).1 ∙ sym (shown table old before b low).1;
   }

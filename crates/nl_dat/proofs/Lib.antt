@@ -2,14 +2,11 @@ pub mod Tables
 pub mod Counting
 pub mod SoundTable
 pub mod Contents
-pub mod BlockCounts
-pub mod ShownSpace
 pub mod StoreOf
 pub mod FreeNumbers
 pub mod Writing
 pub mod GrownTable
 pub mod Refusals
-pub mod Positions
 pub mod SegmentOf
 pub mod TakingOut
 pub mod Reclaiming
@@ -20,7 +17,6 @@ pub mod ShownRows
 pub mod DescribedRows
 pub mod EntryReading
 pub mod TakenBlocks
-pub mod ImageEntries
 pub mod ShownNumbers
 pub mod OwnPayload
 pub mod ShownBlocks

@@ -13,7 +13,7 @@ use Rattle.nl_vstore.specs.Batches.{birth_of_item}
 use Rattle.nl_dat.specs.Table.{entry_in, addresses_of, block_of, stored_at}
 use Rattle.nl_vstore.specs.Stores.{is_inside}
 use Rattle.nl_dat.specs.Inside.{IsBacked, births_in}
-use Rattle.nl_dat.proofs.Positions.{position-used, held-row}
+use Rattle.nl_dat.specs.Facts.Positions.{position-used, held-row}
 
 -- where a block in a segment lies
 inside-bounds : (s : Segments) (segment b : ℕ) → is_inside s segment (Some b) ≡ true → (segment * s.blocks ≤ b) × (b < segment * s.blocks + s.blocks)

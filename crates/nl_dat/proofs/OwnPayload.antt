@@ -12,14 +12,14 @@ use Rattle.nl_types.specs.Entries.{number_of}
 use Rattle.nl_types.specs.PartialMaps.{Partial}
 use Rattle.nl_types.specs.Segments.{Segments, IsUsed, info_of}
 use Rattle.nl_sufile.specs.Table.{IsSegTable}
-use Rattle.nl_space.specs.Content.{Held, IsRowOf, Payload, SpaceContent, payload_page}
+use Rattle.nl_space.specs.Content.{HeldPayload, IsRowOf, Payload, SpaceContent, payload_page}
 use Rattle.nl_space.specs.Logs.{AreWholeLogs, FillUpTo, WholeLog}
 use Rattle.nl_vstore.specs.Batches.{birth_of_item, number_of_payload}
 use Rattle.nl_dat.specs.declared.entries.DatEntry.{DatEntry}
 use Rattle.nl_dat.specs.Images.{HasOwn, IsTableOver}
 use Rattle.nl_dat.specs.Inside.{IsTable, births_in}
 use Rattle.nl_dat.specs.Table.{HaveOwnPayload, addresses_of, block_of, entry_in}
-use Rattle.nl_dat.proofs.Positions.{held-row, position-used}
+use Rattle.nl_dat.specs.Facts.Positions.{held-row, position-used}
 
 -- ---- one number
 
@@ -82,7 +82,7 @@ used_each table space v is = of_entry (entry_in table v) (λ b at. is.used v b a
 -- ---- the pages on the device
 
 -- the page of payload in a log is on the device
-fill_stored : (b end c : ℕ) (logs : List WholeLog) (held : Held) (stored : Partial (List ℕ)) → FillUpTo b end logs held stored → b ≤ c → c < end → (p : Payload) → held c ≡ Some p → stored c ≡ Some (payload_page p)
+fill_stored : (b end c : ℕ) (logs : List WholeLog) (held : HeldPayload) (stored : Partial (List ℕ)) → FillUpTo b end logs held stored → b ≤ c → c < end → (p : Payload) → held c ≡ Some p → stored c ≡ Some (payload_page p)
 fill_stored b end c [] held stored fill low high p at = absurd (omega (arith, fill, low, high))
 fill_stored b end c (log ∷ logs) held stored fill low high p at =
     elim (cases_eq c b) [

@@ -6,7 +6,7 @@ use Rattle.std.proofs.lemmas.Bool.{cases_Bool, cases_eq, cases_lt}
 use Rattle.std.proofs.lemmas.Bool.Decides.{nat_tests}
 use Rattle.std.proofs.lemmas.List.{length-set, get_or-set_other}
 use Rattle.nl_types.specs.Segments.{Segments, AreTidy, IsUsed, info_of, clean_info, with_clean, total_blocks}
-use Rattle.nl_types.proofs.SegmentChanges.{room_of}
+use Rattle.nl_types.specs.Facts.SegmentChanges.{room_of}
 use Rattle.nl_types.specs.PartialMaps.{Partial}
 use Rattle.nl_types.specs.Entries.{number_of}
 use Rattle.nl_device.specs.Failures.{Failures}
@@ -19,8 +19,8 @@ use Rattle.nl_vstore.specs.Stores.{IsReclaimed, numbered_in, is_inside}
 use Rattle.nl_dat.specs.Inside.{births_in, numbered_of, numbered_with, store_of, IsTable}
 use Rattle.nl_dat.specs.TakenOut.{HasTakenOut, IsAtMost, is_in_row}
 use Rattle.nl_dat.proofs.StoreOf.{numbered_in-store_of, address_in-store_of}
-use Rattle.nl_dat.proofs.Positions.{position-used}
-use Rattle.nl_dat.proofs.ShownSpace.{freed-shown}
+use Rattle.nl_dat.specs.Facts.Positions.{position-used}
+use Rattle.nl_dat.specs.Facts.ShownSpace.{freed-shown}
 
 -- a used block lies in the row of a segment's used part exactly where it lies in the segment
 row-inside : (s : Segments) (segment b : ℕ) → AreTidy s → IsUsed s b → is_in_row (segment * s.blocks) (info_of s.each segment).used (Some b) ≡ is_inside s segment (Some b)
@@ -94,11 +94,11 @@ module _ (table new : List (Option DatEntry)) (filled filled' segment : ℕ) (ol
   table-reclaimed = record {
     full = out.size ∙ is_table.full ∙ ap (λ n. n + 1) (sym total);
     zero_unused = left 0 ∙ ap (cond (is_inside old.segments segment (addresses_of (entry_in table) 0)) None) is_table.zero_unused ∙ both (is_inside old.segments segment (addresses_of (entry_in table) 0));
-    sound = λ v b at. let s = stays v b at in ap (option_map number_of) (ap (option_map birth_of_item) (freed.kept b (used_now v b at)).0) ∙ is_table.sound v b s.0;
+    sound = λ v b at. let s = stays v b at in ap (option_map number_of) (ap (option_map birth_of_item) (freed.used_stay b (used_now v b at)).0) ∙ is_table.sound v b s.0;
     used = used_now;
     stored = λ v b at.
         let s = stays v b at in
-        let same = freed.kept b (used_now v b at) in
+        let same = freed.used_stay b (used_now v b at) in
         same.1 ∙ is_table.stored v b s.0 ∙ sym (ap (option_map payload_page) same.0);
     positive = omega arith;
     within = omega (arith, most, is_table.within, out.size);
@@ -148,4 +148,4 @@ module _ (table new : List (Option DatEntry)) (filled filled' segment : ℕ) (ol
               let at : addresses_of (entry_in table) v ≡ Some e.block = ap (option_map block_of) is in
               let free : is_inside old.segments segment (Some e.block) ≡ false = sym (ap (is_inside old.segments segment) at) ∙ outside in
               let used : IsUsed later.segments e.block = subst (λ (t : Segments). IsUsed t e.block) (sym freed.segments) (used-elsewhere old.segments segment e.block tidy (is_table.used v e.block at) free) in
-              ap (λ o. option_map (numbered_with e) (option_map birth_of_item o)) (freed.kept e.block used).0
+              ap (λ o. option_map (numbered_with e) (option_map birth_of_item o)) (freed.used_stay e.block used).0

@@ -17,8 +17,8 @@ use Rattle.nl_vstore.specs.Stores.{Store, IsFaulted, IsWriteRefused}
 use Rattle.nl_dat.specs.Inside.{births_in, numbered_of, numbered_with, store_of, IsTable}
 use Rattle.nl_dat.proofs.Contents.{KeepsAt}
 use Rattle.nl_dat.proofs.StoreOf.{numbered_in-store_of}
-use Rattle.nl_dat.proofs.BlockCounts.{total-with_logs, total-with_error}
-use Rattle.nl_dat.proofs.ShownSpace.{broken-shown, kept-shown}
+use Rattle.nl_dat.specs.Facts.BlockCounts.{total-with_logs, total-with_error}
+use Rattle.nl_dat.specs.Facts.ShownSpace.{broken-shown, kept-shown}
 use Rattle.nl_dat.proofs.Writing.{keeps_at}
 
 -- there are as many blocks as before
@@ -52,7 +52,7 @@ is_faulted table lowest old later before after reserve stamp checkpoint payload 
   writes = writes;
   numbers = numbers-kept table old later (keeps_at table lowest old later is_table kept);
   broken_off = broken-shown table table old later before after reserve stamp checkpoint payload tidy broken;
-  kept = kept-shown table table old later before after (total-broken old later reserve stamp checkpoint payload broken) old.segments kept;
+  used_stay = kept-shown table table old later before after (total-broken old later reserve stamp checkpoint payload broken) old.segments kept;
 }
 
 pub write-refused : (checkpoint stamp : ℕ) (changes : Changes) (old new : Store) (e : VolError) → IsAppendError e → (e ≡ NoSpace → LacksSpace old.segments true (length changes.births)) → (e ≡ NoSpace → new ≡ old) → (e ≡ Memory → new ≡ old)

@@ -10,7 +10,7 @@ use Rattle.nl_types.specs.Segments.{AreTidy, IsUsed, StaysUsed, total_blocks, Is
 use Rattle.nl_types.specs.Placing.{LacksSpace}
 use Rattle.nl_types.specs.Entries.{Birth, Content}
 use Rattle.nl_types.specs.PartialMaps.{Partial, adjust, adjust_each, Stands}
-use Rattle.nl_types.proofs.PartialMaps.{is_one_of-get_or}
+use Rattle.nl_types.specs.Facts.PartialMaps.{is_one_of-get_or}
 use Rattle.nl_device.specs.Failures.{Failures, CountsReads, FailsToRead, FailsToWrite}
 use Rattle.nl_space.specs.Content.{Payload, SpaceContent, KeepsUsed, payload_page}
 use Rattle.nl_space.specs.Appended.{IsAppended, IsAppendError, IsLoadError, IsBrokenOff}
@@ -21,12 +21,12 @@ use Rattle.nl_vstore.specs.Stores.{IsMoved, IsMoveRefused, IsPayloadOf, KeepsSto
 use Rattle.nl_dat.specs.Inside.{births_in, numbered_of, store_of, IsTable}
 use Rattle.nl_dat.proofs.Contents.{KeepsAt, content_of-KeepsAt, HaveOwnPayload-KeepsAt, content_of-moves, addresses_of-moves, HaveOwnPayload-moves}
 use Rattle.nl_dat.proofs.StoreOf.{content_in-store_of, address_in-store_of}
-use Rattle.nl_vstore.proofs.ClosedSegments.{fits-outside}
-use Rattle.nl_vstore.proofs.MovedBlocks.{moved-in, is_some-inside}
+use Rattle.nl_vstore.specs.Facts.ClosedSegments.{fits-outside}
+use Rattle.nl_vstore.specs.Facts.MovedBlocks.{moved-in, is_some-inside}
 use Rattle.nl_dat.proofs.SoundTable.{stored_for}
-use Rattle.nl_dat.proofs.ShownSpace.{appended-shown}
-use Rattle.nl_dat.proofs.BlockCounts.{total-with_logs}
-use Rattle.nl_dat.proofs.Writing.{items_back, stand-births, stand-stored, length-StandAt, keeps_at}
+use Rattle.nl_dat.specs.Facts.ShownSpace.{appended-shown}
+use Rattle.nl_dat.specs.Facts.BlockCounts.{total-with_logs}
+use Rattle.nl_dat.proofs.Writing.{items_back, stand-births, stand-stored, length-Stands, keeps_at}
 use Rattle.nl_dat.proofs.Refusals.{is_faulted}
 
 -- ---- numbers that are moved
@@ -102,7 +102,7 @@ module _ (table new : List (Option DatEntry)) (lowest : ℕ) (old later : SpaceC
   moved-count = sym (length-map numbers (stored_at (entry_in table) (births_in old))) ∙ ap length loaded ∙ length-map (births_of items) Some ∙ length-map items birth_of_item
 
   at-count : length numbers ≡ length at
-  at-count = moved-count ∙ length-StandAt at items later.held appended.held
+  at-count = moved-count ∙ length-Stands at items later.held appended.held
 
   -- what was read stands at the old blocks still
   stored-still : (v : ℕ) → stored_at (entry_in table) (births_in later) v ≡ stored_at (entry_in table) (births_in old) v
@@ -221,7 +221,7 @@ load-refused table old later before after checkpoint stamp numbers e same why co
   | inl is ↦ subst (IsMoveRefused checkpoint stamp numbers (store_of table old before) (store_of table later after)) (sym is) (inl (record {
     failures = let fails = risen is in omega (arith, fails.0, fails.1);
     reads = (risen is).0;
-    kept = keeps-stored table old later before after same counted.1;
+    stored_stays = keeps-stored table old later before after same counted.1;
   }))
   | inr is ↦ subst (IsMoveRefused checkpoint stamp numbers (store_of table old before) (store_of table later after)) (sym is) (keeps-stored table old later before after same counted.1)
 ]

@@ -9,7 +9,7 @@ use Rattle.nl_space.specs.Images.{AreBlocksOf, IsPageOf}
 use Rattle.nl_vstore.specs.Stores.{space_in}
 use Rattle.nl_dat.specs.declared.entries.DatEntry.{DatEntry}
 use Rattle.nl_dat.specs.Inside.{store_of}
-use Rattle.nl_dat.proofs.ShownSpace.{shown}
+use Rattle.nl_dat.specs.Facts.ShownSpace.{shown}
 
 pub blocks-store_of : (table : List (Option DatEntry)) (space : SpaceContent) (failures : Failures) (bytes : List ℕ) → AreBlocksOf space bytes → AreBlocksOf (space_in (store_of table space failures)) bytes
 blocks-store_of table space failures bytes are = record {

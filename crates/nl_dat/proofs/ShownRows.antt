@@ -4,28 +4,28 @@ use Rattle.std.specs.Prelude.{slice_get}
 use Rattle.std.proofs.Math.Nat.{mul-le-mul_right}
 use Rattle.std.proofs.lemmas.Option.{same_Some}
 use Rattle.nl_types.specs.Segments.{AreTidy, info_of}
-use Rattle.nl_types.specs.Placing.{row_of}
-use Rattle.nl_types.proofs.SegmentChanges.{room_of}
+use Rattle.nl_types.specs.Placing.{blocks_from}
+use Rattle.nl_types.specs.Facts.SegmentChanges.{room_of}
 use Rattle.nl_device.specs.Failures.{Failures}
-use Rattle.nl_space.specs.Content.{Held, Payload, SpaceContent}
+use Rattle.nl_space.specs.Content.{HeldPayload, Payload, SpaceContent}
 use Rattle.nl_dat.specs.declared.entries.DatEntry.{DatEntry}
 use Rattle.nl_dat.specs.Inside.{store_of}
 use Rattle.nl_vstore.specs.Stores.{payload_in}
 use Rattle.nl_vstore.specs.Summaries.{payload_row}
-use Rattle.nl_dat.proofs.ShownSpace.{shown}
+use Rattle.nl_dat.specs.Facts.ShownSpace.{shown}
 
-row-is : (row : List (Option Payload)) (held : Held) (b : ℕ) → ((k : ℕ) → k < length row → slice_get row k ≡ Some (held (b + k))) → row ≡ map held (row_of b (length row))
+row-is : (row : List (Option Payload)) (held : HeldPayload) (b : ℕ) → ((k : ℕ) → k < length row → slice_get row k ≡ Some (held (b + k))) → row ≡ map held (blocks_from b (length row))
 row-is [] held b each = refl
 row-is (o ∷ row) held b each =
     let head : o ≡ held b = same_Some o (held (b + 0)) (each 0 (omega arith)) ∙ ap held (add-zero b) in
-    let tail : row ≡ map held (row_of (suc b) (length row)) = row-is row held (suc b) (λ k low. each (suc k) (omega (arith, low)) ∙ (let at : b + suc k ≡ suc b + k = omega arith in ap (λ (c : ℕ). Some (held c)) at)) in
+    let tail : row ≡ map held (blocks_from (suc b) (length row)) = row-is row held (suc b) (λ k low. each (suc k) (omega (arith, low)) ∙ (let at : b + suc k ≡ suc b + k = omega arith in ap (λ (c : ℕ). Some (held c)) at)) in
     λ i. head i ∷ tail i
 
 pub row-store_of : (table : List (Option DatEntry)) (space : SpaceContent) (failures : Failures) (segment : ℕ) (row : List (Option Payload)) → AreTidy space.segments → segment < length space.segments.each → length row ≡ (info_of space.segments.each segment).used
     → ((k : ℕ) → k < length row → slice_get row k ≡ Some (space.held (segment * space.segments.blocks + k))) → row ≡ payload_row (store_of table space failures) segment
 row-store_of table space failures segment row tidy within size each =
     row-is row (payload_in (store_of table space failures)) (segment * space.segments.blocks) at
-    ∙ ap (λ (n : ℕ). map (payload_in (store_of table space failures)) (row_of (segment * space.segments.blocks) n)) size
+    ∙ ap (λ (n : ℕ). map (payload_in (store_of table space failures)) (blocks_from (segment * space.segments.blocks) n)) size
   where
     at : (k : ℕ) → k < length row → slice_get row k ≡ Some (payload_in (store_of table space failures) (segment * space.segments.blocks + k))
     at k low =

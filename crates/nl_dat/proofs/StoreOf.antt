@@ -7,21 +7,20 @@ use Rattle.std.proofs.lemmas.List.{get_or_past, length-map, length-replicate}
 use Rattle.std.proofs.lemmas.Bool.{cases_lt}
 use Rattle.nl_types.specs.Segments.{HaveLogs, total_blocks}
 use Rattle.nl_types.specs.PartialMaps.{Partial}
-use Rattle.nl_types.specs.Entries.{Birth, number_of}
-use Rattle.nl_types.proofs.PartialMaps.{same_at_all}
+use Rattle.nl_types.specs.Entries.{Birth, number_of, period_of}
+use Rattle.nl_types.specs.Facts.PartialMaps.{same_at_all}
 use Rattle.nl_sufile.specs.Table.{IsSegTable}
 use Rattle.nl_space.specs.Content.{Payload, SpaceContent, HoldsOnlyUsed, payload_page}
 use Rattle.nl_space.specs.Logs.{AreWholeLogs}
 use Rattle.nl_dat.specs.declared.entries.DatEntry.{DatEntry}
 use Rattle.nl_vstore.specs.Batches.{birth_of_item, tag_place, tag_for}
 use Rattle.nl_dat.specs.Table.{entry_in, addresses_of, block_of, content_of, meaning_of, meaning_at, period_of_entry, HaveOwnPayload, dat_entry_of}
-use Rattle.nl_vstore.specs.Periods.{period_of}
 use Rattle.nl_vstore.specs.Stores.{Numbered, new_store, numbered_in, content_in, address_in, entry_now, block_now, payload_for, IsStore, SoundStore}
 use Rattle.nl_dat.specs.Inside.{births_in, numbered_with, numbered_of, store_of, IsTable}
-use Rattle.nl_types.proofs.UsedParts.{used_inside}
+use Rattle.nl_types.specs.Facts.UsedParts.{used_inside}
 use Rattle.nl_device.specs.Failures.{Failures, failure_count}
 use Rattle.nl_dat.proofs.SoundTable.{stored_for, HaveOwnPayload-apart}
-use Rattle.nl_dat.proofs.ShownSpace.{shown, whole-shown, only-shown}
+use Rattle.nl_dat.specs.Facts.ShownSpace.{shown, whole-shown, only-shown}
 
 -- the same value has the same store
 pub same_store : {a b : SoundStore} → a ≡ b → a.store ≡ b.store

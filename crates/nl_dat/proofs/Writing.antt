@@ -9,20 +9,20 @@ use Rattle.std.proofs.lemmas.List.Folds.{list_any_at}
 use Rattle.nl_types.specs.Segments.{AreTidy, IsUsed, StaysUsed, total_blocks}
 use Rattle.nl_types.specs.PartialMaps.{Partial, put, put_each, put_all, adjust, adjust_all, Stands}
 use Rattle.nl_types.specs.Entries.{Birth, Content, number_of, born_at, ended_at, written}
-use Rattle.nl_types.proofs.PartialMaps.{put-other, put-same}
+use Rattle.nl_types.specs.Facts.PartialMaps.{put-other, put-same}
 use Rattle.nl_device.specs.Failures.{Failures}
-use Rattle.nl_space.specs.Content.{Payload, SpaceContent, KeepsUsed, StandAt, payload_page}
+use Rattle.nl_space.specs.Content.{Payload, SpaceContent, KeepsUsed, payload_page}
 use Rattle.nl_space.specs.Appended.{IsAppended}
 use Rattle.nl_dat.specs.declared.entries.DatEntry.{DatEntry}
-use Rattle.nl_vstore.specs.Batches.{Changes, Fits, birth_of_item, births_of, items_of, is_born, is_live, last_number}
+use Rattle.nl_vstore.specs.Batches.{Changes, CanBeTaken, birth_of_item, births_of, items_of, is_born, is_live, last_number}
 use Rattle.nl_dat.specs.Table.{entry_in, addresses_of, content_of, meaning_at, new_entry, ended_entry, HaveOwnPayload}
 use Rattle.nl_vstore.specs.Stores.{IsWritten, content_in, space_in}
 use Rattle.nl_dat.specs.Inside.{births_in, store_of, IsTable}
 use Rattle.nl_dat.proofs.Contents.{KeepsAt, content_of-KeepsAt, HaveOwnPayload-KeepsAt, content_of-births, addresses_of-births, HaveOwnPayload-births, content_of-ends, addresses_of-ends}
 use Rattle.nl_dat.proofs.StoreOf.{content_in-store_of, address_in-store_of}
 use Rattle.nl_dat.proofs.FreeNumbers.{in_use}
-use Rattle.nl_dat.proofs.BlockCounts.{total-with_logs}
-use Rattle.nl_dat.proofs.ShownSpace.{appended-shown}
+use Rattle.nl_dat.specs.Facts.BlockCounts.{total-with_logs}
+use Rattle.nl_dat.specs.Facts.ShownSpace.{appended-shown}
 
 -- ---- what is put at the numbers of births
 
@@ -93,23 +93,23 @@ pub items_back : (items : List Payload) → items ≡ items_of (births_of items)
 items_back [] = refl
 items_back (item ∷ items) = ap (λ (rest : List Payload). item ∷ rest) (items_back items)
 
-pub stand-births : (at : List ℕ) (items : List Payload) (space : SpaceContent) → StandAt at items space.held → Stands (births_in space) at (births_of items)
+pub stand-births : (at : List ℕ) (items : List Payload) (space : SpaceContent) → Stands space.held at items → Stands (births_in space) at (births_of items)
 stand-births [] [] space stand = tt
 stand-births [] (item ∷ items) space stand = absurd stand
 stand-births (b ∷ at) [] space stand = absurd stand
 stand-births (b ∷ at) (item ∷ items) space stand = (ap (option_map birth_of_item) stand.0, stand-births at items space stand.1)
 
-pub stand-stored : (at : List ℕ) (items : List Payload) (space : SpaceContent) → StandAt at items space.held → StandAt at (map payload_page items) space.stored → AllByRecursion (λ b. space.stored b ≡ option_map payload_page (space.held b)) at
+pub stand-stored : (at : List ℕ) (items : List Payload) (space : SpaceContent) → Stands space.held at items → Stands space.stored at (map payload_page items) → AllByRecursion (λ b. space.stored b ≡ option_map payload_page (space.held b)) at
 stand-stored [] [] space held stored = tt
 stand-stored [] (item ∷ items) space held stored = absurd held
 stand-stored (b ∷ at) [] space held stored = absurd held
 stand-stored (b ∷ at) (item ∷ items) space held stored = (stored.0 ∙ sym (ap (option_map payload_page) held.0), stand-stored at items space held.1 stored.1)
 
-pub length-StandAt : {V : Type 0} (at : List ℕ) (values : List V) (f : ℕ → Option V) → StandAt at values f → length values ≡ length at
-length-StandAt [] [] f stand = refl
-length-StandAt [] (v ∷ values) f stand = absurd stand
-length-StandAt (b ∷ at) [] f stand = absurd stand
-length-StandAt (b ∷ at) (v ∷ values) f stand = ap suc (length-StandAt at values f stand.1)
+pub length-Stands : {V : Type 0} (at : List ℕ) (values : List V) (f : ℕ → Option V) → Stands f at values → length values ≡ length at
+length-Stands [] [] f stand = refl
+length-Stands [] (v ∷ values) f stand = absurd stand
+length-Stands (b ∷ at) [] f stand = absurd stand
+length-Stands (b ∷ at) (v ∷ values) f stand = ap suc (length-Stands at values f stand.1)
 
 -- ---- a table over a space that keeps what is used
 
@@ -131,7 +131,7 @@ table-kept table lowest old later is_table kept stays total = record {
 -- ---- a batch that is written
 
 module _ (table new : List (Option DatEntry)) (lowest : ℕ) (old later : SpaceContent) (before after : Failures) (c now : ℕ) (changes : Changes) (items : List Payload) (at : List ℕ)
-    (is_table : IsTable table lowest old) (fits : Fits (total_blocks old.segments) (content_in (store_of table old before)) changes)
+    (is_table : IsTable table lowest old) (fits : CanBeTaken (total_blocks old.segments) (content_in (store_of table old before)) changes)
     (items_are : births_of items ≡ changes.births) (appended : IsAppended old later true now c items at) (kept : KeepsUsed old.segments old later) (stays : StaysUsed old.segments later.segments)
     (is_new : entry_in new ≡ put_each number_of (new_entry c) changes.births at (adjust_all (ended_entry c) changes.ends (entry_in table))) (size : length new ≡ length table) (low : last_number changes.births ≤ total_blocks old.segments) where
   abbrev ended : Partial DatEntry
@@ -144,7 +144,7 @@ module _ (table new : List (Option DatEntry)) (lowest : ℕ) (old later : SpaceC
   stands = subst (Stands (births_in later) at) items_are (stand-births at items later appended.held)
 
   count : length changes.births ≡ length at
-  count = ap length (sym items_are) ∙ length-map items birth_of_item ∙ length-StandAt at items later.held appended.held
+  count = ap length (sym items_are) ∙ length-map items birth_of_item ∙ length-Stands at items later.held appended.held
 
   content_of-written : content_of (entry_in new) (births_in later) ≡ written changes.births changes.ends c (content_of (entry_in table) (births_in old))
   content_of-written =

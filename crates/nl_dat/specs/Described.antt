@@ -9,7 +9,14 @@ use Rattle.nl_vstore.specs.Stores.{Store, address_in}
 
 -- block b with this tag, where each number in use has its page at these addresses
 abbrev pub desc_of : Partial ℕ → ℕ → Tag → Bdesc
-desc_of addresses b tag = record { inode = tag.inode; offset = tag.offset; level = tag.level; old_block = b; block = addresses tag.number }
+desc_of addresses b tag =
+    record {
+      inode = tag.inode;
+      offset = tag.offset;
+      level = tag.level;
+      old_block = b;
+      block = addresses tag.number;
+    }
 
 -- the description of block b, if it has a tag
 abbrev pub desc_at : Partial ℕ → ℕ → Option Tag → List Bdesc
@@ -19,7 +26,8 @@ desc_at addresses b (Some tag) = desc_of addresses b tag ∷ []
 -- those of a row of blocks, the first of which is b
 abbrev pub descs_from : Partial ℕ → ℕ → List (Option Payload) → List Bdesc
 descs_from addresses b [] = []
-descs_from addresses b (slot ∷ slots) = desc_at addresses b (option_map payload_tag slot) ++ descs_from addresses (suc b) slots
+descs_from addresses b (slot ∷ slots) =
+    desc_at addresses b (option_map payload_tag slot) ++ descs_from addresses (suc b) slots
 
 -- a description of each payload block of a segment, by position
 abbrev pub descs_of : Store → ℕ → List (Option Payload) → List Bdesc

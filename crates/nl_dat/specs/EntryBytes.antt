@@ -6,31 +6,34 @@ use Rattle.nl_dat.specs.declared.entries.DatEntry.{DatEntry}
 
 -- ---- writing
 
--- zeros where the number is not in use; else the block, the start and the end, of which one that has not come is the number
--- that no checkpoint has
+-- zeros where the number is not in use; else the block, the start and the end, of which one that has not come
+-- is the number that no checkpoint has
 abbrev pub number_bytes : Option DatEntry → List ℕ
 number_bytes None = replicate 24 0
-number_bytes (Some e) = little_bytes 8 e.block ++ little_bytes 8 e.start ++ little_bytes 8 (unwrap_or e.end checkpoint_number_limit)
+number_bytes (Some e) =
+    little_bytes 8 e.block
+    ++ little_bytes 8 e.start
+    ++ little_bytes 8 (unwrap_or e.end checkpoint_number_limit)
 
 -- the entries, one after the other
 abbrev pub dat_bytes : List (Option DatEntry) → List ℕ
 dat_bytes numbers = flat_map number_bytes numbers
 
 -- what has a spelling
-pub record EntryFits (e : DatEntry) : Type 0 where
+pub record NumberHasSpelling (e : DatEntry) : Type 0 where
   pub block : e.block < 2 ^ 32
   -- else it would be spelled as no entry is
   pub begins : 1 ≤ e.start
   pub start : e.start < 2 ^ 64
   pub end : (c : ℕ) → e.end ≡ Some c → c < checkpoint_number_limit
 
-abbrev pub Fits : Option DatEntry → Type 0
-Fits None = Unit {0}
-Fits (Some e) = EntryFits e
+abbrev pub HasSpelling : Option DatEntry → Type 0
+HasSpelling None = Unit {0}
+HasSpelling (Some e) = NumberHasSpelling e
 
 -- the bytes are the spelling of what the table has for a number
 pub record Spells (bytes : List ℕ) (entry : Option DatEntry) : Type 0 where
-  pub fits : Fits entry
+  pub fits : HasSpelling entry
   pub spelling : bytes ≡ number_bytes entry
 
 -- ---- reading: what stands in the fields of an entry, whether the bytes spell one or not
@@ -46,5 +49,5 @@ entry_with (suc before) bytes = Some (record {
   end = end_at (little_number 8 (drop 16 bytes));
 })
 
-abbrev pub number_at : List ℕ → Option DatEntry
-number_at bytes = entry_with (little_number 8 (drop 8 bytes)) bytes
+abbrev pub entry_of_bytes : List ℕ → Option DatEntry
+entry_of_bytes bytes = entry_with (little_number 8 (drop 8 bytes)) bytes

@@ -6,7 +6,7 @@ use Rattle.nl_types.specs.PartialMaps.{Partial}
 use Rattle.nl_types.specs.Segments.{Segments, IsUsed, total_blocks}
 use Rattle.nl_space.specs.Content.{SpaceContent}
 use Rattle.nl_dat.specs.declared.entries.DatEntry.{DatEntry}
-use Rattle.nl_dat.specs.EntryBytes.{Fits, Spells, dat_bytes}
+use Rattle.nl_dat.specs.EntryBytes.{HasSpelling, Spells, dat_bytes}
 use Rattle.nl_dat.specs.Inside.{births_in}
 use Rattle.nl_dat.specs.Table.{addresses_of, entry_in}
 use Rattle.nl_dat.specs.TakenOut.{HaveOwnBlocks}
@@ -31,37 +31,41 @@ pub record IsEntry (s : Segments) (latest : ℕ) (e : DatEntry) : Type 0 where
   pub period : HasPeriod latest e
   pub used : IsUsed s e.block
 
--- The bytes are the entries of the numbers from 1 on, as many as there are blocks. Each number in use has a period and a
--- used block of its own.
-pub record IsDatOf (s : Segments) (latest : ℕ) (bytes : List ℕ) (numbers : List (Option DatEntry)) : Type 0 where
+-- The bytes are the entries of the numbers from 1 on, as many as there are blocks. Each number in use has a
+-- period and a used block of its own.
+pub record IsDatOf (s : Segments) (latest : ℕ) (bytes : List ℕ)
+    (numbers : List (Option DatEntry)) : Type 0 where
   pub spelled : bytes ≡ dat_bytes numbers
-  pub fit : All Fits numbers
+  pub fit : All HasSpelling numbers
   pub count : length numbers ≡ total_blocks s
   pub entries : (v : ℕ) (e : DatEntry) → entry_told numbers v ≡ Some e → IsEntry s latest e
   pub apart : HaveOwnBlocks (addresses_of (entry_told numbers))
 
 -- the table is that of numbers which the bytes tell
-pub record IsTableOf (s : Segments) (latest : ℕ) (bytes : List ℕ) (table : List (Option DatEntry)) : Type 0 where
+pub record IsTableOf (s : Segments) (latest : ℕ) (bytes : List ℕ)
+    (table : List (Option DatEntry)) : Type 0 where
   pub numbers : List (Option DatEntry)
   pub told : IsDatOf s latest bytes numbers
   pub table_is : table ≡ table_of numbers
 
 -- ---- of one number, and of all but for blocks that two have
 
-abbrev pub IsSound : Segments → ℕ → Option DatEntry → Type 0
-IsSound s latest entry = IfSome entry (IsEntry s latest)
+abbrev pub IsSoundNumber : Segments → ℕ → Option DatEntry → Type 0
+IsSoundNumber s latest entry = IfSome entry (IsEntry s latest)
 
 -- the entry that stands at a place
-pub record IsEntryAt (s : Segments) (latest : ℕ) (bytes : List ℕ) (i : ℕ) (entry : Option DatEntry) : Type 0 where
+pub record IsEntryAt (s : Segments) (latest : ℕ) (bytes : List ℕ) (i : ℕ)
+    (entry : Option DatEntry) : Type 0 where
   pub spells : Spells (take 24 (drop (24 * i) bytes)) entry
-  pub sound : IsSound s latest entry
+  pub sound : IsSoundNumber s latest entry
 
 -- the bytes are the entries of such numbers
-pub record AreEntriesOf (s : Segments) (latest : ℕ) (bytes : List ℕ) (numbers : List (Option DatEntry)) : Type 0 where
+pub record AreEntriesOf (s : Segments) (latest : ℕ) (bytes : List ℕ)
+    (numbers : List (Option DatEntry)) : Type 0 where
   pub spelled : bytes ≡ dat_bytes numbers
-  pub fit : All Fits numbers
+  pub fit : All HasSpelling numbers
   pub count : length numbers ≡ total_blocks s
-  pub sound : All (IsSound s latest) numbers
+  pub sound : All (IsSoundNumber s latest) numbers
 
 -- ---- which blocks are taken
 
@@ -85,4 +89,5 @@ pub record IsTableOver (table : List (Option DatEntry)) (s : Segments) : Type 0 
 
 -- the payload at the entry's block, if there is an entry, is the number's
 abbrev pub HasOwn : SpaceContent → ℕ → Option DatEntry → Type 0
-HasOwn space v entry = IfSome entry (λ (e : DatEntry). option_map number_of (births_in space e.block) ≡ Some v)
+HasOwn space v entry =
+    IfSome entry (λ (e : DatEntry). option_map number_of (births_in space e.block) ≡ Some v)

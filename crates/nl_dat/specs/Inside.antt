@@ -52,16 +52,18 @@ AreRead table space numbers payload = map (birth_under table space) numbers ≡ 
 pub record IsBacked (table : List (Option DatEntry)) (space : SpaceContent) : Type 0 where
   pub sound : HaveOwnPayload (addresses_of (entry_in table)) (births_in space)
   pub used : (v b : ℕ) → addresses_of (entry_in table) v ≡ Some b → IsUsed space.segments b
-  pub stored : (v b : ℕ) → addresses_of (entry_in table) v ≡ Some b → space.stored b ≡ option_map payload_page (space.held b)
+  pub stored : (v b : ℕ) → addresses_of (entry_in table) v ≡ Some b
+      → space.stored b ≡ option_map payload_page (space.held b)
 
--- The table has a place for 0, which is never used, and for each number. The payload at the block of a number is its own,
--- in memory and on the device. Below the lowest number that may be free all are in use.
+-- The table has a place for 0, which is never used, and for each number. The payload at the block of a number
+-- is its own, in memory and on the device. Below the lowest number that may be free all are in use.
 pub record IsTable (table : List (Option DatEntry)) (lowest : ℕ) (space : SpaceContent) : Type 0 where
   pub full : length table ≡ total_blocks space.segments + 1
   pub zero_unused : entry_in table 0 ≡ None
   pub sound : HaveOwnPayload (addresses_of (entry_in table)) (births_in space)
   pub used : (v b : ℕ) → addresses_of (entry_in table) v ≡ Some b → IsUsed space.segments b
-  pub stored : (v b : ℕ) → addresses_of (entry_in table) v ≡ Some b → space.stored b ≡ option_map payload_page (space.held b)
+  pub stored : (v b : ℕ) → addresses_of (entry_in table) v ≡ Some b
+      → space.stored b ≡ option_map payload_page (space.held b)
   pub positive : 1 ≤ lowest
   pub within : lowest ≤ length table
   pub below_lowest : AreInUse table 1 lowest

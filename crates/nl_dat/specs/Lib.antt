@@ -5,3 +5,4 @@ pub mod TakenOut
 pub mod OneProof
 pub mod EntryBytes
 pub mod Images
+pub mod Facts

@@ -6,7 +6,7 @@ use Rattle.std.proofs.Math.Nat.{mul-le-mul_right}
 use Rattle.std.proofs.lemmas.Bool.{cases_lt}
 use Rattle.nl_types.specs.declared.segment.Position.{Position}
 use Rattle.nl_types.specs.Segments.{Segments, AreTidy, IsUsed, block_at, info_of}
-use Rattle.nl_types.proofs.SegmentChanges.{room_of}
+use Rattle.nl_types.specs.Facts.SegmentChanges.{room_of}
 use Rattle.nl_space.specs.Content.{SpaceContent}
 use Rattle.nl_dat.specs.declared.entries.DatEntry.{DatEntry}
 use Rattle.nl_vstore.specs.Stores.{Store, IsStore}
@@ -17,29 +17,42 @@ same_fact : {A : Type 0} → (x y : A) → IsProp A → x ≡ y
 same_fact x y one = one x y
 
 -- a block stands at one place
-same_place : (blocks : ℕ) (p q : Position) → p.block < blocks → q.block < blocks → block_at blocks p ≡ block_at blocks q → p ≡ q
+same_place : (blocks : ℕ) (p q : Position) → p.block < blocks → q.block < blocks
+    → block_at blocks p ≡ block_at blocks q → p ≡ q
 same_place blocks p q low_p low_q at = λ i. record { segment = segment i; block = block i }
   where
     segment : p.segment ≡ q.segment
     segment = elim (cases_lt p.segment q.segment) [
-      | inl h ↦ absurd (let m : (p.segment + 1) * blocks ≤ q.segment * blocks = mul-le-mul_right blocks (omega arith) in omega (arith, m, at, low_p, low_q))
+      | inl h ↦ absurd
+          (let m : (p.segment + 1) * blocks ≤ q.segment * blocks = mul-le-mul_right blocks (omega arith)
+          in omega (arith, m, at, low_p, low_q))
       | inr low ↦ elim (cases_lt q.segment p.segment) [
-        | inl h ↦ absurd (let m : (q.segment + 1) * blocks ≤ p.segment * blocks = mul-le-mul_right blocks (omega arith) in omega (arith, m, at, low_p, low_q))
+        | inl h ↦ absurd
+            (let m : (q.segment + 1) * blocks ≤ p.segment * blocks = mul-le-mul_right blocks (omega arith)
+            in omega (arith, m, at, low_p, low_q))
         | inr high ↦ omega (arith, low, high)
       ]
     ]
 
     block : p.block ≡ q.block
-    block = let m : p.segment * blocks ≡ q.segment * blocks = ap (λ k. k * blocks) segment in omega (arith, m, at)
+    block = let m : p.segment * blocks ≡ q.segment * blocks = ap (λ k. k * blocks) segment
+        in omega (arith, m, at)
 
 -- so it is used in one way
 IsUsed-prop : (s : Segments) (b : ℕ) → AreTidy s → IsProp (IsUsed s b)
 IsUsed-prop s b tidy (p, at_p, low_p) (q, at_q, low_q) =
-    subst (λ (z : Position). (at : b ≡ block_at s.blocks z) (low : z.block < (info_of s.each z.segment).used) → ◌≡◌ {A = IsUsed s b} (p, at_p, low_p) (z, at, low))
+    subst (λ (z : Position). (at : b ≡ block_at s.blocks z) (low : z.block < (info_of s.each z.segment).used)
+    → ◌≡◌ {A = IsUsed s b} (p, at_p, low_p) (z, at, low))
     (let room_p = room_of s.blocks s.each tidy.each p.segment in
     let room_q = room_of s.blocks s.each tidy.each q.segment in
-    same_place s.blocks p q (omega (arith, low_p, room_p)) (omega (arith, low_q, room_q)) (omega (arith, at_p, at_q)))
-    (λ at low i. (p, same_fact at_p at (Prim.hlevel props) i, same_fact low_p low (Prim.hlevel props) i)) at_q low_q
+    same_place s.blocks p q (omega (arith, low_p, room_p)) (omega (arith, low_q, room_q))
+    (omega (arith, at_p, at_q)))
+    (λ at low i. (
+      p,
+      same_fact at_p at (Prim.hlevel props) i,
+      same_fact low_p low
+          (Prim.hlevel props) i,
+    )) at_q low_q
 
 -- a store is sound in one way
 pub IsStore-prop : {s : Store} → IsProp (IsStore s)
@@ -58,7 +71,8 @@ IsStore-prop {s} x y = λ i. record {
 }
 
 -- and so is a table over tidy segments
-pub IsTable-prop : {table : List (Option DatEntry)} {lowest : ℕ} {space : SpaceContent} → AreTidy space.segments → IsProp (IsTable table lowest space)
+pub IsTable-prop : {table : List (Option DatEntry)} {lowest : ℕ} {space : SpaceContent}
+    → AreTidy space.segments → IsProp (IsTable table lowest space)
 IsTable-prop {table} {lowest} {space} tidy x y = λ i. record {
   full = same_fact x.full y.full (Prim.hlevel props) i;
   zero_unused = same_fact x.zero_unused y.zero_unused (Prim.hlevel props) i;

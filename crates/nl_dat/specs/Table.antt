@@ -48,7 +48,8 @@ addresses_of entries v = option_map block_of (entries v)
 
 -- what an entry stands for, with the payload at its block
 abbrev pub meaning_of : DatEntry → Birth → Entry
-meaning_of entry payload = record { place = payload.place; page = payload.page; start = entry.start; end = entry.end }
+meaning_of entry payload =
+    record { place = payload.place; page = payload.page; start = entry.start; end = entry.end }
 
 abbrev pub meaning_at : Partial Birth → DatEntry → Option Entry
 meaning_at stored entry = option_map (meaning_of entry) (stored entry.block)
@@ -68,7 +69,8 @@ has_block b (Some entry) = entry.block == b
 
 -- the number, where its page stands at the block
 abbrev pub IsNumberWith : Partial ℕ → ℕ → Option ℕ → Option ℕ → Type 0
-IsNumberWith addresses block number found = MatchOption found ((v : ℕ) → number ≡ Some v → addresses v ≢ Some block) (λ v. addresses v ≡ Some block)
+IsNumberWith addresses block number found =
+    MatchOption found ((v : ℕ) → number ≡ Some v → addresses v ≢ Some block) (λ v. addresses v ≡ Some block)
 
 -- what is stored at the block of a number
 abbrev pub stored_at : Partial DatEntry → Partial Birth → Partial Birth

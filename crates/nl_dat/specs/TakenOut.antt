@@ -1,6 +1,7 @@
 -- Numbers taken out of use, block by block of a row.
 use Rattle.std.specs.Prelude.{◌≡◌, ◌≢◌, ℕ, ◌+◌, ◌<◌, ◌≤◌, ◌&&◌, nat_le, nat_lt, Bool, true, false, if◌then◌else◌, List, length, slice_index_or, slice_set, Option, None, Some}
-use Rattle.nl_types.specs.PartialMaps.{Partial, is_one_of, NoneTwice}
+use Rattle.nl_types.specs.NumberLists.{is_one_of, NoneTwice}
+use Rattle.nl_types.specs.PartialMaps.{Partial}
 use Rattle.std.specs.Option.{option_map}
 use Rattle.nl_space.specs.Content.{Payload}
 use Rattle.nl_vstore.specs.Batches.{number_of_payload}
@@ -14,11 +15,15 @@ HaveOwnBlocks addresses = (v w b : ℕ) → addresses v ≡ Some b → addresses
 
 -- what a row of payload has at a position tells which number alone may have the block
 abbrev pub TellsNumber : List (Option Payload) → ℕ → Partial ℕ → ℕ → Type 0
-TellsNumber row position addresses block = (v : ℕ) → addresses v ≡ Some block → option_map number_of_payload (slice_index_or row position None) ≡ Some v
+TellsNumber row position addresses block =
+    (v : ℕ) → addresses v ≡ Some block
+    → option_map number_of_payload (slice_index_or row position None) ≡ Some v
 
 -- the row tells it of each of its blocks, the first of which is given
 abbrev pub TellsNumbers : List (Option Payload) → Partial ℕ → ℕ → Type 0
-TellsNumbers row addresses first = (k v : ℕ) → k < length row → addresses v ≡ Some (first + k) → option_map number_of_payload (slice_index_or row k None) ≡ Some v
+TellsNumbers row addresses first =
+    (k v : ℕ) → k < length row → addresses v ≡ Some (first + k)
+    → option_map number_of_payload (slice_index_or row k None) ≡ Some v
 
 -- no number has the block, and nothing changes
 pub record HasNone (block : ℕ) (old new : List (Option DatEntry)) : Type 0 where
@@ -50,7 +55,9 @@ IsAtMost (Some least) v = least ≤ v
 -- the numbers whose blocks are in the row are taken out, and counted
 pub record HasTakenOut (first count : ℕ) (old new : List (Option DatEntry)) (taken : TakenOut) : Type 0 where
   pub size : length new ≡ length old
-  pub left : (v : ℕ) → entry_in new v ≡ (if is_in_row first count (addresses_of (entry_in old) v) then None else entry_in old v)
+  pub left : (v : ℕ)
+      → entry_in new v
+      ≡ (if is_in_row first count (addresses_of (entry_in old) v) then None else entry_in old v)
   pub gone : List ℕ
   pub each_once : NoneTwice gone
   pub gone_are : (v : ℕ) → is_one_of gone v ≡ is_in_row first count (addresses_of (entry_in old) v)

@@ -10,8 +10,8 @@ use nl_space::Payload;
 use nl_types::{BlockNumber, InodeNumber};
 use std::alloc::{AllocError, Global};
 
-/// A payload block of a segment, as `nilfs_bdesc` of libnilfs has it: what it was written for, and where the page of its
-/// virtual number stands now. The block is dead where that is in another block, or in none.
+/// A payload block of a segment, as `nilfs_bdesc` of libnilfs has it: what it was written for, and where the
+/// page of its virtual number stands now. The block is dead where that is in another block, or in none.
 #[derive(Clone, Copy, Debug, PartialEq, Eq)]
 pub struct Bdesc {
     /// The inode of its file; 6 for the file of inodes.
@@ -66,7 +66,8 @@ pub(crate) fn describe_row(
     first: u32,
 ) -> Result<Vec<Bdesc>, AllocError>
     requires { first + length row.now < 2 ^ 32 }
-    ensures { IfOk result (λ descs. descs.items ≡ descs_from (addresses_of (entry_in table.now)) first row.now) }
+    ensures { IfOk result (λ descs. descs.items
+        ≡ descs_from (addresses_of (entry_in table.now)) first row.now) }
 {
     let mut descs = Vec::new(alloc);
     for position in 0..row.len() as u32 {

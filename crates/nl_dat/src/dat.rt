@@ -7,8 +7,8 @@ ghost use Rattle.nl_dat.specs.OneProof.{IsStore-prop, IsTable-prop};
 
 use crate::bdesc::{Bdesc, describe_row};
 use crate::entries::{
-    DatEntry, add_places, empty_places, end_entries, enter_births, entry_at, first_free,
-    move_entries, number_in, number_with, segment_at,
+    DatEntry, end_entries, enter_births, entry_at, first_free, move_entries, number_in,
+    number_with, segment_at,
 };
 use crate::images::{have_own_payload, write_numbers};
 use crate::moving::{count_payload, load_all, row_tag};
@@ -17,13 +17,16 @@ use nl_layout::Tag;
 use nl_space::{Payload, Space};
 use nl_sufile::SegTable;
 use nl_types::laws::{growing_keeps_segments, payload_goes_to_unused_blocks};
-use nl_types::{CheckpointNumber, Items, Page, Period, Segment, VirtualNumber, VolError};
+use nl_types::{
+    CheckpointNumber, Items, Page, Period, Segment, VirtualNumber, VolError, add_places,
+    empty_places,
+};
 use nl_vstore::{Batch, VRead, Vstore};
 use std::alloc::{AllocError, Global};
 use std::marker::Model;
 
-/// The table of virtual block numbers, over the space that has their pages. Its length changes where segments are added
-/// alone, so no call needs memory but that one, those that append, and those that answer a list.
+/// The table of virtual block numbers, over the space that has their pages. Its length changes where segments
+/// are added alone, so no call needs memory but that one, those that append, and those that answer a list.
 #[derive(Drop)]
 pub struct Dat<S: Space> {
     /// By number; 0 is never used.
@@ -78,8 +81,8 @@ impl<S: Space> Dat<S> {
         })
     }
 
-    /// The table of an image, over a space with the payload of its logs. Refused by `BadImage(7)` where the block of a number
-    /// is not one that a log has for it; the space is dropped then. It takes no memory.
+    /// The table of an image, over a space with the payload of its logs. Refused by `BadImage(7)` where the
+    /// block of a number is not one that a log has for it; the space is dropped then. It takes no memory.
     pub fn restore(space: S, table: Items<Option<DatEntry>>) -> Result<Dat<S>, VolError>
         requires { IsTableOver table (S.content space).segments }
         ensures restored { IfOk result (λ dat.
@@ -102,8 +105,8 @@ impl<S: Space> Dat<S> {
         })
     }
 
-    /// What the table has for a number, where it is in use. Refused by `BadRange` for 0 and for numbers above those that
-    /// there are: one for each block of the device. It takes no memory.
+    /// What the table has for a number, where it is in use. Refused by `BadRange` for 0 and for numbers above
+    /// those that there are: one for each block of the device. It takes no memory.
     pub fn entry(&self, number: VirtualNumber) -> Result<Option<DatEntry>, VolError>
         ensures range { IsErr result ↔ ((number ≡ 0) ⊎ (capacity self.now.store < number)) }
         ensures kind { OnErr result (result ≡ Err VolError.BadRange) }
@@ -124,9 +127,9 @@ impl<S: Space> Dat<S> {
         write_numbers(&self.table.as_slice()[1..], out);
     }
 
-    /// Fills the place with the blocks of an image, 1,024 bytes for each: what the device has where one is used, else zeros.
-    /// Each used block is loaded once, in order, and nothing else is. Refused by `Fault` where the device failed, and by
-    /// `Memory`.
+    /// Fills the place with the blocks of an image, 1,024 bytes for each: what the device has where one is
+    /// used, else zeros. Each used block is loaded once, in order, and nothing else is. Refused by `Fault`
+    /// where the device failed, and by `Memory`.
     pub fn dump_blocks(&mut self, out: &mut [u8]) -> Result<(), VolError>
         requires { length out.old ≡ 1024 * capacity self.old.store }
         ensures blocks { OnOk result (AreBlocksOf (space_in self.old.store) out.new) }
@@ -139,8 +142,9 @@ impl<S: Space> Dat<S> {
         nl_space::dump(&mut self.space, out)
     }
 
-    /// A description of each payload block of the logs of a segment, in the order of the blocks, be their numbers in use or
-    /// not. Refused by `BadRange` where there is no such segment, and by `Memory` for the list.
+    /// A description of each payload block of the logs of a segment, in the order of the blocks, be their
+    /// numbers in use or not. Refused by `BadRange` where there is no such segment, and by `Memory` for the
+    /// list.
     pub fn bdescs(&self, alloc: Global, segment: Segment) -> Result<Vec<Bdesc>, VolError>
         ensures range { IsErrOf result VolError.BadRange
             ↔ (length self.now.store.segments.each ≤ segment) }
@@ -165,7 +169,8 @@ impl<S: Space> Dat<S> {
         describe_row(alloc, self.table.as_slice(), row, first)
     }
 
-    /// The number that the payload at a position of a segment was written for: no other number's page can stand there.
+    /// The number that the payload at a position of a segment was written for: no other number's page can
+    /// stand there.
     fn tagged(&self, segment: Segment, position: u32) -> Option<VirtualNumber>
         requires segment { segment < length self.now.store.segments.each }
         requires position { position < self.now.store.segments.blocks }

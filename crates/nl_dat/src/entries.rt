@@ -11,7 +11,8 @@ use nl_space::Payload;
 use nl_types::{BlockNumber, CheckpointNumber, Items, Period, Segment, VirtualNumber};
 use std::alloc::{AllocError, Global};
 
-/// What the table has for a number in use: where its page stands, and its period. As in the DAT of nilfs2.rst.
+/// What the table has for a number in use: where its page stands, and its period. As in the DAT of
+/// nilfs2.rst.
 #[derive(Clone, Copy, Debug, PartialEq, Eq)]
 pub struct DatEntry {
     /// Where the page stands now.
@@ -33,35 +34,6 @@ impl DatEntry {
             end: self.end,
         }
     }
-}
-
-/// So many places, none of which has a value.
-pub(crate) fn empty_places<T: Drop>(
-    alloc: Global,
-    count: usize,
-) -> Result<Items<Option<T>>, AllocError>
-    ensures { IfOk result (λ places. places ≡ replicate count None) }
-{
-    let mut places = Vec::with_capacity(alloc, count)?;
-    for _ in 0..count {
-        places.push(None)?;
-    }
-    Ok(Items::from_vec(places))
-}
-
-/// Adds places without a value, up to so many. Refused, those there are stay as they are.
-pub(crate) fn add_places<T: Drop>(
-    places: &mut Items<Option<T>>,
-    alloc: Global,
-    count: usize,
-) -> Result<(), AllocError>
-    requires { length places.old ≤ count }
-    ensures added { OnOk result
-        (places.new ≡ places.old ++ replicate (count - length places.old) None) }
-    ensures refused { OnErr result (places.new ≡ places.old) }
-{
-    let more = empty_places(alloc, count - places.len())?;
-    places.append(more.into_vec())
 }
 
 /// What the table has for a number, where it is in use.
@@ -214,7 +186,8 @@ pub(crate) fn move_entries(
 )
     requires inside { All (λ v. v < length table.old) numbers.now }
     requires each { length numbers.now ≡ length blocks.now }
-    ensures entries { entry_in table.new ≡ adjust_each moved_entry numbers.now blocks.now (entry_in table.old) }
+    ensures entries { entry_in table.new
+        ≡ adjust_each moved_entry numbers.now blocks.now (entry_in table.old) }
     ensures length { length table.new ≡ length table.old }
 {
     for (i, number) in numbers.iter().enumerate() {

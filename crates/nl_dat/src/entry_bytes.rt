@@ -1,7 +1,7 @@
 //! Entries of the table of virtual block numbers, as bytes.
 ghost use Rattle.std.specs.Prelude.{◌≡◌, length, IfSome, Option, Some};
 ghost use Rattle.nl_dat.specs.declared.entries.DatEntry.{DatEntry};
-ghost use Rattle.nl_dat.specs.EntryBytes.{Fits, Spells, end_at, number_at, number_bytes};
+ghost use Rattle.nl_dat.specs.EntryBytes.{HasSpelling, Spells, end_at, entry_of_bytes, number_bytes};
 
 use crate::entries::DatEntry;
 use byteorder::{ByteOrder, LittleEndian};
@@ -10,11 +10,12 @@ use nl_types::{BlockNumber, CheckpointNumber};
 /// The bytes of an entry.
 pub(crate) const NUMBER_SIZE: usize = 24;
 
-/// What the bytes have for a number: nothing where it isn't in use, else its entry, as one of the DAT of nilfs2.rst. None
-/// where they spell neither: not 24 of them, a start of 0 where another byte isn't zero, or no block's number.
+/// What the bytes have for a number: nothing where it isn't in use, else its entry, as one of the DAT of
+/// nilfs2.rst. None where they spell neither: not 24 of them, a start of 0 where another byte isn't zero, or
+/// no block's number.
 ///
-/// An entry has numbers in little endian, each in 8 bytes: the block at 0, the start at 8 and the end at 16, which is
-/// 2^64 - 1 where it hasn't come. All bytes are zero where the number isn't in use.
+/// An entry has numbers in little endian, each in 8 bytes: the block at 0, the start at 8 and the end at 16,
+/// which is 2^64 - 1 where it hasn't come. All bytes are zero where the number isn't in use.
 pub(crate) fn read_number(bytes: &[u8]) -> Option<Option<DatEntry>>
     ensures found { IfSome result (Spells bytes.now) }
     ensures only { (entry : Option DatEntry) → Spells bytes.now entry → result ≡ Some entry }
@@ -61,8 +62,8 @@ fn to_bytes(entry: DatEntry) -> [u8; NUMBER_SIZE]
 /// What stands in the fields, whatever the other bytes are.
 fn from_bytes(bytes: &[u8]) -> Option<DatEntry>
     requires { length bytes.now ≡ 24 }
-    ensures told { result ≡ number_at bytes.now }
-    ensures fits { Fits result }
+    ensures told { result ≡ entry_of_bytes bytes.now }
+    ensures fits { HasSpelling result }
 {
     let start = LittleEndian::read_u64(&bytes[8..]);
     if start == 0 {

@@ -6,7 +6,7 @@ ghost use Rattle.nl_types.specs.Entries.{number_of};
 ghost use Rattle.nl_types.specs.Segments.{IsUsed, total_blocks};
 ghost use Rattle.nl_dat.specs.declared.entries.DatEntry.{DatEntry};
 ghost use Rattle.nl_dat.specs.EntryBytes.{dat_bytes};
-ghost use Rattle.nl_dat.specs.Images.{AreEntriesOf, HasOwn, HasPeriod, HasTakenBlock, IsDatOf, IsEntryAt, IsSound, IsTableOf, IsTableOver, TakesBlock, entry_told, table_of};
+ghost use Rattle.nl_dat.specs.Images.{AreEntriesOf, HasOwn, HasPeriod, HasTakenBlock, IsDatOf, IsEntryAt, IsSoundNumber, IsTableOf, IsTableOver, TakesBlock, entry_told, table_of};
 ghost use Rattle.nl_dat.specs.Inside.{births_in};
 ghost use Rattle.nl_dat.specs.Table.{HaveOwnPayload, addresses_of, entry_in};
 ghost use Rattle.nl_dat.specs.TakenOut.{HaveOwnBlocks};
@@ -21,9 +21,10 @@ use std::alloc::{AllocError, Global};
 /// What refuses an image for its entries of numbers.
 const BAD_ENTRIES: VolError = VolError::BadImage(6);
 
-/// The table that the entries of an image tell, 24 bytes for each number from 1 on, where these are the segments and the
-/// latest checkpoint. Refused by `BadImage(6)` where they tell none, and by `Memory`: each number in use has a period that
-/// begins, and ends if it does, by the latest checkpoint, and a used block that no other number has.
+/// The table that the entries of an image tell, 24 bytes for each number from 1 on, where these are the
+/// segments and the latest checkpoint. Refused by `BadImage(6)` where they tell none, and by `Memory`: each
+/// number in use has a period that begins, and ends if it does, by the latest checkpoint, and a used block
+/// that no other number has.
 pub fn read_numbers(
     alloc: Global,
     bytes: &[u8],
@@ -60,7 +61,8 @@ pub(crate) fn write_numbers(numbers: &[Option<DatEntry>], out: &mut [u8])
     }
 }
 
-/// What the entries have for each number from 1 on, whichever numbers have one block. There is room for one more.
+/// What the entries have for each number from 1 on, whichever numbers have one block. There is room for one
+/// more.
 fn read_entries(
     alloc: Global,
     bytes: &[u8],
@@ -106,7 +108,7 @@ fn read_entry(
 }
 
 fn is_sound(entry: &Option<DatEntry>, segments: &SegTable, latest: CheckpointNumber) -> bool
-    ensures { IsTrue result ↔ IsSound segments.now latest entry.now }
+    ensures { IsTrue result ↔ IsSoundNumber segments.now latest entry.now }
 {
     match entry {
         Some(entry) => has_period(entry, latest) && segments.is_used(entry.block),

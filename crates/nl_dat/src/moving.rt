@@ -90,7 +90,8 @@ pub(crate) fn load_all<S: Space>(
     requires segment { segment < length (S.content space.old).segments.each }
     requires backed { IsBacked table.now (S.content space.old) }
     requires inside { All (StandsIn table.now (S.content space.old) segment) numbers.now }
-    ensures payload { IfOk result (λ payload. AreRead table.now (S.content space.old) numbers.now payload.items) }
+    ensures payload { IfOk result
+        (λ payload. AreRead table.now (S.content space.old) numbers.now payload.items) }
     ensures same { S.content space.new ≡ S.content space.old }
     ensures counted { CountsReads (S.failed space.old) (S.failed space.new) }
     ensures fault { IsErrOf result VolError.Fault → FailsToRead (S.failed space.old) (S.failed space.new) }

@@ -28,8 +28,8 @@ fn take_out_with(table: &mut Items<Option<DatEntry>>, number: VirtualNumber, blo
     }
 }
 
-/// Takes the number out of use whose page stands at a block, if there is one. The row has the payload of that block at a
-/// position, and the payload tells which number may.
+/// Takes the number out of use whose page stands at a block, if there is one. The row has the payload of that
+/// block at a position, and the payload tells which number may.
 fn take_out_at(
     table: &mut Items<Option<DatEntry>>,
     row: &[Option<Payload>],

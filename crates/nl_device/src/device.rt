@@ -20,8 +20,8 @@ pub enum DeviceError {
     Memory,
 }
 
-/// Blocks by number. A device gives back what was put, and counts its failures, those of gets apart from those of puts and
-/// clears.
+/// Blocks by number. A device gives back what was put, and counts its failures, those of gets apart from
+/// those of puts and clears.
 pub trait Device: Drop {
     /// The page at each block number, if there is one.
     ghost pages: { Self → DevicePages };
@@ -58,8 +58,8 @@ pub trait Device: Drop {
         ensures counted { CountsWrites (failed self.old) (failed self.new) }
         ensures shape { shape self.new ≡ shape self.old };
 
-    /// Makes it a device of so many segments of the same size, and keeps its pages. Of the new blocks nothing is promised.
-    /// Refused, it stays as it is.
+    /// Makes it a device of so many segments of the same size, and keeps its pages. Of the new blocks nothing
+    /// is promised. Refused, it stays as it is.
     fn grow(&mut self, segments: u32) -> Result<(), DeviceError>
         requires more { (shape self.old).segments ≤ segments }
         requires limits { IsGeometry segments (shape self.old).blocks }

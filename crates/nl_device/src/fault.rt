@@ -8,8 +8,8 @@ use crate::turn::Turn;
 use nl_types::{BLOCK_SIZE, Block, BlockNumber, Page, Segment, VolError};
 use std::alloc::{AllocError, Global};
 
-/// A device in memory of which one put, one get and one growth fail. A torn put leaves zeros in the place of the old page. It
-/// goes on behind a failure.
+/// A device in memory of which one put, one get and one growth fail. A torn put leaves zeros in the place of
+/// the old page. It goes on behind a failure.
 #[derive(Drop)]
 pub struct FaultDevice {
     memory: MemDevice,
@@ -45,8 +45,8 @@ impl FaultDevice {
     ghost use Rattle.nl_device.specs.Pages.{KeepsOthers};
     ghost use Rattle.nl_device.specs.Turns.{HasTurned, left_of, turned};
 
-    /// Over a device in memory, whose pages it keeps: the put and the get of these numbers fail, counted from 1 since it was
-    /// made, and none does for 0. Refused by `Memory` alone; the device is dropped then.
+    /// Over a device in memory, whose pages it keeps: the put and the get of these numbers fail, counted from
+    /// 1 since it was made, and none does for 0. Refused by `Memory` alone; the device is dropped then.
     pub fn new(
         alloc: Global,
         memory: MemDevice,

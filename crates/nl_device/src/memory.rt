@@ -3,7 +3,7 @@ ghost use Rattle.std.specs.Prelude.{◌≡◌, ℕ, ◌+◌, ◌*◌, ◌<◌, �
 ghost use Rattle.nl_device.specs.Pages.{IsEmpty, KeepsOthers};
 
 use crate::device::{Device, DeviceError, Fault};
-use nl_types::{BlockNumber, Geometry, Page, Segment, VolError};
+use nl_types::{BlockNumber, Geometry, Page, Segment, VolError, empty_places};
 use std::alloc::{AllocError, Global};
 
 /// A device in memory. Its table has its full length from the start, and from each growth on.
@@ -18,11 +18,7 @@ pub struct MemDevice {
 fn empty_blocks(alloc: Global, total: usize) -> Result<Vec<Option<Page>>, AllocError>
     ensures { IfOk result (λ blocks. blocks.items ≡ replicate total None) }
 {
-    let mut blocks = Vec::with_capacity(alloc, total)?;
-    for _ in 0..total {
-        blocks.push(None)?;
-    }
-    Ok(blocks)
+    Ok(empty_places(alloc, total)?.into_vec())
 }
 
 impl MemDevice {

@@ -10,18 +10,18 @@ use Rattle.nl_types.specs.Paths.{Name, same_name}
 use Rattle.nl_types.specs.declared.kind.Kind.{Kind}
 use Rattle.nl_types.specs.declared.kind.Kind.TheVariants.{File, Directory}
 use Rattle.nl_dirs.specs.declared.record.Record.{Record}
-use Rattle.nl_dirs.specs.Records.{AreBytes, Begins, BeginsNone, HoldsList, entry_of, RecordFits, kind_code, record_bytes, size_of}
+use Rattle.nl_dirs.specs.Records.{AreBytes, Begins, BeginsNone, HoldsList, entry_of, RecordHasSpelling, kind_code, record_bytes, size_of}
 use Rattle.nl_dirs.specs.Listings.{first_name_of}
-use Rattle.nl_dirs.proofs.Spelling.{flat_map-record_bytes}
+use Rattle.nl_dirs.specs.Facts.Spelling.{flat_map-record_bytes}
 
 -- ---- one record after the other
 
 pub HoldsList-none : (bytes : List ℕ) → BeginsNone bytes → HoldsList bytes []
-HoldsList-none bytes none = record { fit = All-nil RecordFits; rest = bytes; begins = refl; no_more = none }
+HoldsList-none bytes none = record { fit = All-nil RecordHasSpelling; rest = bytes; begins = refl; no_more = none }
 
 pub HoldsList-more : (bytes behind : List ℕ) (r : Record) (records : List Record) → Begins bytes r behind → HoldsList behind records → HoldsList bytes (r ∷ records)
 HoldsList-more bytes behind r records begins holds = record {
-  fit = All-cons RecordFits r records begins.fits holds.fit;
+  fit = All-cons RecordHasSpelling r records begins.fits holds.fit;
   rest = holds.rest;
   begins = begins.spelling ∙ (ap (λ (xs : List ℕ). record_bytes r ++ xs) holds.begins ∙ sym (flat_map-record_bytes r records holds.rest));
   no_more = holds.no_more;

@@ -10,8 +10,8 @@ use Rattle.std.proofs.lemmas.List.Elements.{All-append, All-nil, All-push}
 use Rattle.std.proofs.lemmas.List.Quantifiers.{all_pairs_push}
 use Rattle.nl_types.specs.Paths.{name_cmp}
 use Rattle.nl_dirs.specs.declared.record.Record.{Record}
-use Rattle.nl_dirs.specs.Records.{AllFit, NamesAscend, AreBytes, Begins, BeginsNone, HoldsList, IsPageOf, RecordFits, packed_block, record_bytes, size_of, sizes}
-use Rattle.nl_dirs.proofs.Spelling.{bytes_hold_one_list, packed_block-HoldsList}
+use Rattle.nl_dirs.specs.Records.{AllHaveSpelling, NamesAscend, AreBytes, Begins, BeginsNone, HoldsList, IsPageOf, RecordHasSpelling, packed_block, record_bytes, size_of, sizes}
+use Rattle.nl_dirs.specs.Facts.Spelling.{bytes_hold_one_list, packed_block-HoldsList}
 use Rattle.nl_dirs.proofs.Holding.{HoldsList-more, small_behind, some_list}
 use Rattle.nl_dirs.proofs.Ascending.{IsBehind}
 
@@ -41,17 +41,17 @@ NamesAscend-behind records r others ascending k d within =
 -- the records that the page begins with, and the rest of its bytes
 pub record IsReadSoFar (page : List ℕ) (records : List Record) (rest : List ℕ) : Type 0 where
   pub small : AreBytes rest
-  pub fit : AllFit records
+  pub fit : AllHaveSpelling records
   pub ascending : NamesAscend records
   pub begins : page ≡ flat_map record_bytes records ++ rest
 
 pub read_none : (page rest : List ℕ) → AreBytes rest → rest ≡ page → IsReadSoFar page [] rest
-read_none page rest small e = record { small = small; fit = All-nil RecordFits; ascending = λ i j d less within. absurd (omega arith); begins = sym e }
+read_none page rest small e = record { small = small; fit = All-nil RecordHasSpelling; ascending = λ i j d less within. absurd (omega arith); begins = sym e }
 
 pub read_more : (page : List ℕ) (records : List Record) (rest behind : List ℕ) (r : Record) → IsReadSoFar page records rest → Begins rest r behind → IsBehind r.name records → IsReadSoFar page (records ++ r ∷ []) behind
 read_more page records rest behind r read begins later = record {
   small = small_behind rest behind r begins read.small;
-  fit = All-push RecordFits records r read.fit begins.fits;
+  fit = All-push RecordHasSpelling records r read.fit begins.fits;
   ascending = all_pairs_push (λ a b. name_cmp a.name b.name ≡ Less) records r read.ascending (λ k d within. later k d within);
   begins = read.begins ∙ (ap (λ (bytes : List ℕ). flat_map record_bytes records ++ bytes) spelled ∙ sym (flat_map-record_bytes-append records (r ∷ []) behind));
 }
@@ -62,7 +62,7 @@ read_more page records rest behind r read begins later = record {
 -- the page holds what has been read and what the rest holds
 read-HoldsList : (page : List ℕ) (records more : List Record) (rest : List ℕ) → IsReadSoFar page records rest → HoldsList rest more → HoldsList page (records ++ more)
 read-HoldsList page records more rest read holds = record {
-  fit = All-append RecordFits records more read.fit holds.fit;
+  fit = All-append RecordHasSpelling records more read.fit holds.fit;
   rest = holds.rest;
   begins = read.begins ∙ (ap (λ (bytes : List ℕ). flat_map record_bytes records ++ bytes) holds.begins ∙ sym (flat_map-record_bytes-append records more holds.rest));
   no_more = holds.no_more;

@@ -5,7 +5,7 @@ use Rattle.std.specs.declared.cmp.Ordering.TheVariants.{Less}
 use Rattle.nl_types.specs.Paths.{Name, name_cmp}
 use Rattle.nl_types.specs.Roots.{Blocks}
 use Rattle.nl_dirs.specs.declared.record.Record.{Record}
-use Rattle.nl_dirs.specs.Records.{AllFit, NamesAscend, AreBytes, HoldsList, entry_of, packed_block, sizes}
+use Rattle.nl_dirs.specs.Records.{AllHaveSpelling, NamesAscend, AreBytes, HoldsList, entry_of, packed_block, sizes}
 use Rattle.nl_dirs.specs.Packing.{IsPacked, Packs}
 use Rattle.nl_dirs.specs.Listings.{HoldsRecords, first_name_of}
 
@@ -26,7 +26,7 @@ BytesHoldOneList = (bytes : List ℕ) (xs ys : List Record) →
 
 -- a block holds the records that it is made of
 abbrev pub BlocksHoldTheirRecords : Type 0
-BlocksHoldTheirRecords = (records : List Record) → AllFit records → sizes records ≤ 1024 →
+BlocksHoldTheirRecords = (records : List Record) → AllHaveSpelling records → sizes records ≤ 1024 →
     HoldsList (packed_block records) records
 
 -- a directory's blocks are those of one list of records
@@ -55,4 +55,5 @@ NamesStandInOneBlock =
 -- a name before the first one of a directory is not there
 abbrev pub EarlierNamesAreAbsent : Type 0
 EarlierNamesAreAbsent = (records : List Record) (packed : List (List Record)) (name : Name) →
-    NamesAscend records → IsPacked records packed → IsBefore name (slice_get packed 0) → entry_of name records ≡ None
+    NamesAscend records → IsPacked records packed → IsBefore name (slice_get packed 0)
+    → entry_of name records ≡ None

@@ -1,5 +1,6 @@
 pub mod Records
-pub mod Stored
 pub mod Packing
 pub mod Listings
 pub mod Laws
+pub mod Facts
+pub mod Private

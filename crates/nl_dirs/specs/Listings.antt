@@ -5,7 +5,7 @@ use Rattle.std.specs.List.{slice_get}
 use Rattle.nl_types.specs.Paths.{Name}
 use Rattle.nl_types.specs.Roots.{Blocks}
 use Rattle.nl_dirs.specs.declared.record.Record.{Record}
-use Rattle.nl_dirs.specs.Records.{AllFit, NamesAscend, packed_block}
+use Rattle.nl_dirs.specs.Records.{AllHaveSpelling, NamesAscend, packed_block}
 use Rattle.nl_dirs.specs.Packing.{IsPacked}
 
 abbrev pub first_name_of : List Record → Option Name
@@ -14,7 +14,7 @@ first_name_of (r ∷ records) = Some r.name
 
 -- the blocks by index, and the size, of a directory with these records
 pub record HoldsRecords (blocks : Blocks) (size : ℕ) (records : List Record) : Type 0 where
-  pub fit : AllFit records
+  pub fit : AllHaveSpelling records
   pub ascending : NamesAscend records
   pub packed : List (List Record)
   pub is_packed : IsPacked records packed

@@ -7,15 +7,16 @@ use Rattle.std.specs.Prelude.{◌≡◌, ◌≢◌, ℕ, ◌+◌, ◌-◌, ◌<�
 use Rattle.std.specs.List.{All, AllPairs, flat_map}
 use Rattle.std.specs.declared.cmp.Ordering.TheVariants.{Less}
 use Rattle.byteorder.specs.Endian.{little_bytes}
+use Rattle.nl_types.specs.Limits.{name_limit}
 use Rattle.nl_types.specs.Paths.{Name, name_cmp, same_name}
 use Rattle.nl_types.specs.declared.kind.Kind.{Kind}
 use Rattle.nl_types.specs.declared.kind.Kind.TheVariants.{File, Directory}
 use Rattle.nl_dirs.specs.declared.record.Record.{Record}
 
 -- what has a spelling: a name of 1 to 255 bytes, and an inode number of 4 bytes
-pub record RecordFits (r : Record) : Type 0 where
+pub record RecordHasSpelling (r : Record) : Type 0 where
   pub some : 1 ≤ length r.name
-  pub most : length r.name ≤ 255
+  pub most : length r.name ≤ name_limit
   pub inode : r.inode < 2 ^ 32
 
 abbrev pub kind_code : Kind → ℕ
@@ -48,8 +49,8 @@ entry_of name (r ∷ records) = if same_name name r.name then Some (r.inode, r.k
 abbrev pub NamesAscend : List Record → Type 0
 NamesAscend records = AllPairs (λ a b. name_cmp a.name b.name ≡ Less) records
 
-abbrev pub AllFit : List Record → Type 0
-AllFit records = All RecordFits records
+abbrev pub AllHaveSpelling : List Record → Type 0
+AllHaveSpelling records = All RecordHasSpelling records
 
 -- ---- reading any bytes
 
@@ -58,23 +59,24 @@ AreBytes bytes = (i : ℕ) → slice_index bytes i < 256
 
 -- the bytes begin with the spelling of a record, and these are behind it
 pub record Begins (bytes : List ℕ) (r : Record) (behind : List ℕ) : Type 0 where
-  pub fits : RecordFits r
+  pub fits : RecordHasSpelling r
   pub spelling : bytes ≡ record_bytes r ++ behind
 
 -- no record begins the bytes
 abbrev pub BeginsNone : List ℕ → Type 0
-BeginsNone bytes = (r : Record) (behind : List ℕ) → RecordFits r → bytes ≢ record_bytes r ++ behind
+BeginsNone bytes = (r : Record) (behind : List ℕ) → RecordHasSpelling r → bytes ≢ record_bytes r ++ behind
 
--- The records that bytes begin with, behind which no record begins. Each list of bytes holds exactly one list.
+-- The records that bytes begin with, behind which no record begins. Each list of bytes holds exactly one
+-- list.
 pub record HoldsList (bytes : List ℕ) (records : List Record) : Type 0 where
-  pub fit : AllFit records
+  pub fit : AllHaveSpelling records
   pub rest : List ℕ
   pub begins : bytes ≡ flat_map record_bytes records ++ rest
   pub no_more : BeginsNone rest
 
 -- the page is that of these records, as a directory has it
 pub record IsPageOf (page : List ℕ) (records : List Record) : Type 0 where
-  pub fit : AllFit records
+  pub fit : AllHaveSpelling records
   pub some : records ≢ []
   pub ascending : NamesAscend records
   pub room : sizes records ≤ 1024

@@ -26,8 +26,8 @@ pub fn directories_hold_one_list()
     ensures { DirectoriesHoldOneList }
 {}
 
-/// Where the first names of a directory's blocks are known, one block is read to find a name: the last one whose first
-/// name isn't behind it. A name before all of them is not there.
+/// Where the first names of a directory's blocks are known, one block is read to find a name: the last one
+/// whose first name isn't behind it. A name before all of them is not there.
 pub fn names_stand_in_one_block()
     ensures one { NamesStandInOneBlock }
     ensures none { EarlierNamesAreAbsent }

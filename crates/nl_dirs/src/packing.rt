@@ -1,19 +1,20 @@
 //! Packing the records of a directory into blocks.
 ghost use Rattle.std.specs.Prelude.{◌≡◌, IfOk, IfErr};
 ghost use Rattle.nl_types.specs.declared.error.VolError;
-ghost use Rattle.nl_dirs.specs.Records.{AllFit};
+ghost use Rattle.nl_dirs.specs.Records.{AllHaveSpelling};
 ghost use Rattle.nl_dirs.specs.Packing.{Packs};
 
 use crate::record::Record;
 use nl_types::{BLOCK_SIZE, Block, VolError};
 use std::alloc::Global;
 
-/// The blocks of a directory with these records, which are given in the order of their names: each block has as many
-/// records as fit, no record crosses a block, and the rest of a block is zero. A directory without records has no block.
+/// The blocks of a directory with these records, which are given in the order of their names: each block has
+/// as many records as fit, no record crosses a block, and the rest of a block is zero. A directory without
+/// records has no block.
 ///
 /// Refused by `Memory` alone.
 pub fn pack(alloc: Global, records: &[Record]) -> Result<Vec<Block>, VolError>
-    requires { AllFit records.now }
+    requires { AllHaveSpelling records.now }
     ensures ok { IfOk result (λ blocks. Packs records.now blocks.items) }
     ensures err { IfErr result (λ e. e ≡ VolError.Memory) }
 {
@@ -41,7 +42,7 @@ struct Filling {
 impl Filling {
     ghost use Rattle.std.specs.Prelude.{◌==◌, ◌++◌, ◌∷◌, [], ◌+◌, ◌≤◌, List, nat_le};
     ghost use Rattle.nl_dirs.specs.declared.record.Record.{Record};
-    ghost use Rattle.nl_dirs.specs.Records.{RecordFits, size_of};
+    ghost use Rattle.nl_dirs.specs.Records.{RecordHasSpelling, size_of};
     ghost use Rattle.nl_dirs.specs.Packing.{IsFilled};
 
     fn new() -> Self
@@ -61,7 +62,7 @@ impl Filling {
 
     /// Whether a record fits behind the others.
     fn has_room(&self, next: &Record) -> bool
-        requires fits { RecordFits next.now }
+        requires fits { RecordHasSpelling next.now }
         requires used { self.now.used ≤ 1024 }
         ensures { result ≡ nat_le (self.now.used + size_of next.now) 1024 }
     {
@@ -70,7 +71,7 @@ impl Filling {
 
     /// Puts a record behind the others.
     fn add(&mut self, next: &Record)
-        requires fits { RecordFits next.now }
+        requires fits { RecordHasSpelling next.now }
         requires room { self.old.used + size_of next.now ≤ 1024 }
         ensures { (records : List Record) → IsFilled self.old.bytes self.old.used records →
             IsFilled self.new.bytes self.new.used (records ++ next.now ∷ []) }

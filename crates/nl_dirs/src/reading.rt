@@ -48,8 +48,8 @@ fn are_zeros(bytes: &[u8]) -> bool
     bytes.iter().all(|byte| *byte == 0)
 }
 
-/// What the name stands for in a page of a directory, if the page has a record of it: the first one, on any page. It
-/// takes no memory.
+/// What the name stands for in a page of a directory, if the page has a record of it: the first one, on any
+/// page. It takes no memory.
 pub fn find(page: &Page, name: &[u8]) -> Option<(InodeNumber, Kind)>
     ensures { (records : List Record) × HoldsList page.now records ×
         (result ≡ entry_of name.now records) }
@@ -64,7 +64,8 @@ pub fn find(page: &Page, name: &[u8]) -> Option<(InodeNumber, Kind)>
     None
 }
 
-/// The first name of a page, if a record begins it. The first names of a directory's blocks tell which one has a name.
+/// The first name of a page, if a record begins it. The first names of a directory's blocks tell which one
+/// has a name.
 pub fn first_name(page: &Page) -> Option<&[u8]>
     ensures { (records : List Record) × HoldsList page.now records ×
         (option_map (λ name. name.now) result ≡ first_name_of records) }
@@ -88,8 +89,8 @@ pub fn record_count(page: &Page) -> usize
     count
 }
 
-/// The records of a page of a directory, in the order of their names. None where it isn't such a page: no record begins
-/// it, names do not ascend, or what is behind the last record isn't all zero.
+/// The records of a page of a directory, in the order of their names. None where it isn't such a page: no
+/// record begins it, names do not ascend, or what is behind the last record isn't all zero.
 ///
 /// Refused by `Memory` alone.
 pub fn records(alloc: Global, page: &Page) -> Result<Option<Vec<Record>>, VolError>

@@ -1,18 +1,19 @@
 //! The records of a directory, and their bytes.
 ghost use Rattle.std.specs.Prelude.{◌≡◌, ◌≢◌, ◌++◌, ◌≤◌, length, drop, MatchOption, IfOk};
 ghost use Rattle.nl_types.specs.declared.kind.Kind.{Kind};
-ghost use Rattle.nl_dirs.specs.Stored.{stored};
-ghost use Rattle.nl_dirs.specs.Records.{Begins, BeginsNone, RecordFits, kind_code, record_bytes, size_of};
+ghost use Rattle.nl_dirs.specs.Private.Stored.{stored};
+ghost use Rattle.nl_dirs.specs.Records.{Begins, BeginsNone, RecordHasSpelling, kind_code, record_bytes, size_of};
 
 use byteorder::{ByteOrder, LittleEndian};
 use nl_types::{InodeNumber, Items, Kind};
 use std::alloc::{AllocError, Global};
 
-/// What stands in front of the name: the inode in 4 bytes, the kind in one, and the length of the name in one.
+/// What stands in front of the name: the inode in 4 bytes, the kind in one, and the length of the name in
+/// one.
 const HEAD_SIZE: usize = 6;
 
-/// A record of a directory: a name of 1 to 255 bytes, and what it stands for. Inode numbers are below 2^32. Which names
-/// a path may have is for the caller to judge.
+/// A record of a directory: a name of 1 to 255 bytes, and what it stands for. Inode numbers are below 2^32.
+/// Which names a path may have is for the caller to judge.
 #[derive(Drop)]
 pub struct Record {
     pub name: Items<u8>,
@@ -51,7 +52,7 @@ fn kind_of(code: u8) -> Option<Kind>
 impl Record {
     /// The bytes that the record takes in a block.
     pub(crate) fn size(&self) -> usize
-        requires { RecordFits self.now }
+        requires { RecordHasSpelling self.now }
         ensures { result ≡ size_of self.now }
     {
         HEAD_SIZE + self.name.len()
@@ -59,7 +60,7 @@ impl Record {
 
     /// Writes the record's bytes to the beginning of `out`, and leaves what stands behind them.
     pub(crate) fn write(&self, out: &mut [u8])
-        requires fits { RecordFits self.now }
+        requires fits { RecordHasSpelling self.now }
         requires room { size_of self.now ≤ length out.old }
         ensures { out.new ≡ record_bytes self.now ++ drop (size_of self.now) out.old }
     {

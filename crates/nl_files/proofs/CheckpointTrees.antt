@@ -1,13 +1,13 @@
 -- Which numbers a checkpoint's tree has in use.
 use Rattle.std.proofs.Common.{ℕ, IsSome, Option, Some, None, subst, rules}
 use Rattle.nl_types.specs.Roots.{Pages, Root, page_at}
+use Rattle.nl_types.specs.Inodes.{AreInUseFrom, IsLowestFreeInode}
 use Rattle.nl_layout.specs.Root.{root_of}
 use Rattle.nl_layout.specs.declared.inode.Inode.{Inode}
 use Rattle.nl_layout.specs.declared.inode.InodeKind.{InodeKind}
 use Rattle.nl_layout.specs.declared.inode.InodeKind.TheVariants.{File, Directory, InodeFile}
 use Rattle.nl_ifile.specs.Inodes.{inode_at}
-use Rattle.nl_ifile.specs.Free.{AreInUseFrom, IsLowestFreeFrom}
-use Rattle.nl_tree.specs.Held.{AreHeldFrom, Held, Holding, IsLowestUnheld}
+use Rattle.nl_tree.specs.Held.{Held, Holding}
 use Rattle.nl_files.specs.CheckpointRoots.{StandsAs, StandsFor}
 use Rattle.nl_files.specs.CheckpointTrees.{HoldsTree}
 
@@ -22,13 +22,13 @@ held_by pages (Some inode) held stands used = of_kind inode.kind stands
     of_kind InodeFile stands = absurd stands
 
 module _ (pages : Pages) (root : Root) (holding : Holding) (h : HoldsTree pages root holding) (first : ℕ) where
-  pub all_held : (end : ℕ) → AreInUseFrom (inode_at pages root) first end → AreHeldFrom holding first end
+  pub all_held : (end : ℕ) → AreInUseFrom (inode_at pages root) first end → AreInUseFrom holding first end
   all_held end used n low high = held_by pages (inode_at pages root n) (holding n) (h.stores n) (used n low high)
 
-  pub lowest_free : (n : ℕ) → IsLowestFreeFrom (inode_at pages root) first n → IsLowestUnheld holding first n
+  pub lowest_free : (n : ℕ) → IsLowestFreeInode (inode_at pages root) first n → IsLowestFreeInode holding first n
   lowest_free n free = record {
-    low = free.first;
-    high = free.last;
+    first = free.first;
+    last = free.last;
     free = subst (λ (inode : Option Inode). StandsFor pages inode (holding n)) free.free (h.stores n);
     lowest = all_held n free.lowest;
   }

@@ -11,10 +11,10 @@ use Rattle.nl_dirs.specs.declared.record.Record.{Record}
 use Rattle.nl_dirs.specs.Records.{HoldsList, IsPageOf, entry_of, packed_block}
 use Rattle.nl_dirs.specs.Listings.{HoldsRecords, first_name_of}
 use Rattle.nl_dirs.specs.Laws.{IsBefore}
-use Rattle.nl_dirs.proofs.Spelling.{bytes_hold_one_list, packed_block-HoldsList}
-use Rattle.nl_dirs.proofs.Blocks.{earlier-absent, names-one_block}
+use Rattle.nl_dirs.specs.Facts.Spelling.{bytes_hold_one_list, packed_block-HoldsList}
+use Rattle.nl_dirs.specs.Facts.Blocks.{earlier-absent, names-one_block}
 use Rattle.nl_files.proofs.DirectoryBlocks.{blocks_of_records}
-use Rattle.nl_files.specs.Directories.{AreBlocksOf, BeginsBy, StandsInBlock, StartsBehind}
+use Rattle.nl_files.specs.Private.Directories.{AreBlocksOf, BeginsBy, StandsInBlock, StartsBehind}
 
 -- the records that a page of a directory holds
 pub read_on_page : (page : List ℕ) (found block : List Record) → HoldsList page found → Some page ≡ Some (packed_block block) → IsPageOf (packed_block block) block → found ≡ block

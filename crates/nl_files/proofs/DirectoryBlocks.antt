@@ -7,12 +7,12 @@ use Rattle.std.specs.Option.{option_map}
 use Rattle.std.proofs.lemmas.Option.{slice_get_cases, slice_get_past}
 use Rattle.nl_types.specs.Roots.{Blocks}
 use Rattle.nl_dirs.specs.declared.record.Record.{Record}
-use Rattle.nl_dirs.specs.Records.{AllFit, HoldsList, IsPageOf, NamesAscend, RecordFits, packed_block, sizes}
+use Rattle.nl_dirs.specs.Records.{AllHaveSpelling, HoldsList, IsPageOf, NamesAscend, RecordHasSpelling, packed_block, sizes}
 use Rattle.nl_dirs.specs.Packing.{IsPacked, no_blocks, last_block, full_block}
 use Rattle.nl_dirs.specs.Listings.{HoldsRecords}
-use Rattle.nl_dirs.proofs.RecordOrder.{all-right, ascending-right}
-use Rattle.nl_dirs.proofs.Spelling.{bytes_hold_one_list, packed_block-HoldsList}
-use Rattle.nl_files.specs.Directories.{AreBlocksOf}
+use Rattle.nl_dirs.specs.Facts.RecordOrder.{all-right, ascending-right}
+use Rattle.nl_dirs.specs.Facts.Spelling.{bytes_hold_one_list, packed_block-HoldsList}
+use Rattle.nl_files.specs.Private.Directories.{AreBlocksOf}
 
 -- ---- each block's records
 
@@ -26,11 +26,11 @@ ascending-left xs ys h i j d lt within =
     let second = get_or_append_left xs ys d j within in
     rw (sym first, sym second) (h i j d lt (omega (arith, length-append xs ys)))
 
-page_of : (r : Record) (records : List Record) → AllFit (r ∷ records) → NamesAscend (r ∷ records) → sizes (r ∷ records) ≤ 1024 → IsPageOf (packed_block (r ∷ records)) (r ∷ records)
+page_of : (r : Record) (records : List Record) → AllHaveSpelling (r ∷ records) → NamesAscend (r ∷ records) → sizes (r ∷ records) ≤ 1024 → IsPageOf (packed_block (r ∷ records)) (r ∷ records)
 page_of r records fit ascending room = record { fit = fit; some = λ e. cc; ascending = ascending; room = room; spelling = refl }
 
 -- each block is a page of a directory
-pages_of_packed : (xs : List Record) (p : List (List Record)) → IsPacked xs p → AllFit xs → NamesAscend xs
+pages_of_packed : (xs : List Record) (p : List (List Record)) → IsPacked xs p → AllHaveSpelling xs → NamesAscend xs
     → (i : ℕ) (block : List Record) → slice_get p i ≡ Some block → IsPageOf (packed_block block) block
 pages_of_packed _ _ no_blocks fit ascending i block at = absurd cc
 pages_of_packed _ _ (last_block r rs room) fit ascending zero block at =
@@ -39,9 +39,9 @@ pages_of_packed _ _ (last_block r rs room) fit ascending (suc i) block at = absu
 pages_of_packed _ _ (full_block r rs n rest blocks room full more) fit ascending zero block at =
     let same : (r ∷ rs) ≡ block = cc in
     subst (λ (b : List Record). IsPageOf (packed_block b) b) same
-    (page_of r rs (all-left RecordFits (r ∷ rs) (n ∷ rest) fit) (ascending-left (r ∷ rs) (n ∷ rest) ascending) room)
+    (page_of r rs (all-left RecordHasSpelling (r ∷ rs) (n ∷ rest) fit) (ascending-left (r ∷ rs) (n ∷ rest) ascending) room)
 pages_of_packed _ _ (full_block r rs n rest blocks room full more) fit ascending (suc i) block at =
-    pages_of_packed (n ∷ rest) blocks more (all-right RecordFits (r ∷ rs) (n ∷ rest) fit) (ascending-right (r ∷ rs) (n ∷ rest) ascending) i block at
+    pages_of_packed (n ∷ rest) blocks more (all-right RecordHasSpelling (r ∷ rs) (n ∷ rest) fit) (ascending-right (r ∷ rs) (n ∷ rest) ascending) i block at
 
 pub blocks_of_records : (blocks : Blocks) (size : ℕ) (records : List Record) → (h : HoldsRecords blocks size records) → AreBlocksOf blocks (size / 1024) h.packed
 blocks_of_records blocks size records h =

@@ -11,8 +11,8 @@ use Rattle.nl_types.specs.Roots.{Pages}
 use Rattle.nl_blocktree.specs.declared.change.BlockChange.{BlockChange}
 use Rattle.nl_blocktree.specs.Changed.{blocks_with}
 use Rattle.nl_tree.specs.Became.{Rises, blocks_over}
-use Rattle.nl_tree.proofs.Rising.{find-below, find-here, find-there, rises-lower}
-use Rattle.nl_files.specs.Planned.{cursor_after, index_of, lesser_of, merged, packed_over, placed, removals}
+use Rattle.nl_tree.specs.Facts.Rising.{find-below, find-here, find-there, rises-lower}
+use Rattle.nl_files.specs.Private.Planned.{cursor_after, index_of, lesser_of, merged, packed_over, placed, removals}
 
 abbrev pub entry : ℕ × List ℕ → ℕ
 entry e = e.0

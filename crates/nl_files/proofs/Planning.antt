@@ -19,9 +19,9 @@ use Rattle.nl_dirs.specs.Packing.{Packs}
 use Rattle.nl_dirs.specs.Listings.{HoldsRecords}
 use Rattle.nl_tree.specs.Became.{BecameDirectory, BecameFile, MayBecome, Removed, Rises, blocks_over, over_became}
 use Rattle.nl_tree.specs.Held.{Held, Listed, Stored, held_block}
-use Rattle.nl_tree.proofs.Rising.{rises-higher}
+use Rattle.nl_tree.specs.Facts.Rising.{rises-higher}
 use Rattle.nl_files.specs.CheckpointRoots.{StandsAs}
-use Rattle.nl_files.specs.Planned.{IsBase, IsPlanned, StandsShaped, cut_of, file_cut, index_of, inode_block_count, inode_size, merged, packed_over, removals}
+use Rattle.nl_files.specs.Private.Planned.{IsBase, IsPlanned, StandsShaped, cut_of, file_cut, index_of, inode_block_count, inode_size, merged, packed_over, removals}
 use Rattle.nl_files.specs.declared.plan.Shape.{Shape}
 use Rattle.nl_files.specs.declared.plan.Plan.{Plan}
 use Rattle.nl_files.proofs.Packed.{packed-few}

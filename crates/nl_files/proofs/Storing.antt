@@ -8,31 +8,31 @@ use Rattle.std.proofs.lemmas.Bool.{cases_eq, eq-eqb, ne_eqb}
 use Rattle.std.proofs.lemmas.List.{append-nil}
 use Rattle.std.proofs.lemmas.List.Elements.{Contains-append_right}
 use Rattle.nl_types.specs.Entries.{Birth, Content}
-use Rattle.nl_types.specs.PartialMaps.{NoneTwice, is_one_of}
+use Rattle.nl_types.specs.NumberLists.{NoneTwice, is_one_of}
 use Rattle.nl_types.specs.Roots.{Pages, Root, page_at, pages_of}
 use Rattle.nl_types.specs.RootChanges.{IsSound, KeepsFile, born, with_births}
-use Rattle.nl_vstore.specs.Batches.{Changes, Fits}
+use Rattle.nl_vstore.specs.Batches.{Changes, CanBeTaken}
 use Rattle.nl_layout.specs.Root.{root_of}
 use Rattle.nl_layout.specs.declared.inode.Inode.{Inode}
 use Rattle.nl_blocktree.specs.Checkpoints.{ComesBefore, FileChange, batch_after, inodes_of, no_changes, roots_after}
 use Rattle.nl_blocktree.specs.Numbering.{IsUnused}
 use Rattle.nl_blocktree.specs.Putting.{PutsAll, pages_after}
-use Rattle.nl_blocktree.proofs.Frames.{births-keep, keeps-file, more-keep}
-use Rattle.nl_blocktree.proofs.Numbers.{born-append, unused_of_fits}
+use Rattle.nl_blocktree.specs.Facts.Frames.{births-keep, keeps-file, more-keep}
+use Rattle.nl_blocktree.specs.Facts.Numbers.{born-append, unused_of_fits}
 use Rattle.nl_ifile.specs.declared.change.InodeChange.{InodeChange}
 use Rattle.nl_ifile.specs.Inodes.{inode_at}
 use Rattle.nl_ifile.specs.Changing.{NumbersAscend, NumbersAreInRange, PutsInodes, inodes_with}
-use Rattle.nl_tree.specs.Became.{Became, EachMayBecome, Rises, over_any, over_became}
+use Rattle.nl_tree.specs.Became.{Became, EachMayBecome, Rises, over_if_became, over_became}
 use Rattle.nl_tree.specs.Held.{Held, Holding}
-use Rattle.nl_tree.proofs.Rising.{find-here, find-there, rises-below, rises-map, rises-pairs}
+use Rattle.nl_tree.specs.Facts.Rising.{find-here, find-there, rises-below, rises-map, rises-pairs}
 use Rattle.nl_files.specs.Settles.{IsCurrent, AreSettlements, IsSettlement, Settlement, Settles, Settling, settled_became, settled_files, settled_inode}
-use Rattle.nl_files.specs.CheckpointRoots.{IsCheckpointRoot, StandsAs, StandsFor, Stores, root_in, roots_at}
-use Rattle.nl_files.proofs.Slots.{not_six, root-there}
-use Rattle.nl_files.proofs.Steps.{ArePut-push, births-added, steps-put}
+use Rattle.nl_files.specs.CheckpointRoots.{IsCheckpointRoot, StandsAs, StandsFor, Stores, inode_root, roots_at}
+use Rattle.nl_files.specs.Facts.Slots.{not_six, root-there}
+use Rattle.nl_files.specs.Facts.Steps.{ArePut-push, births-added, steps-put}
 
 -- ---- over more pages
 
-stands-over : (pages more : Pages) (n : Option Inode) (held : Option Held) → KeepsFile pages more (root_in n) → StandsFor pages n held → StandsFor more n held
+stands-over : (pages more : Pages) (n : Option Inode) (held : Option Held) → KeepsFile pages more (inode_root n) → StandsFor pages n held → StandsFor more n held
 stands-over pages more None held k stands = stands
 stands-over pages more (Some n) held k stands =
     let same : page_at pages (root_of n.root) ≡ page_at more (root_of n.root) = λ j. λ b. sym (k.blocks b) j in
@@ -40,8 +40,8 @@ stands-over pages more (Some n) held k stands =
 
 -- what a step leaves, over the pages at the end
 record Left (pages : Pages) (base : Holding) (s : Settlement) : Type 0 where
-  pub is_root : root_in s.inode ≡ s.file.root
-  pub sound : IsSound pages (root_in s.inode)
+  pub is_root : inode_root s.inode ≡ s.file.root
+  pub sound : IsSound pages (inode_root s.inode)
   pub stands : StandsFor pages s.inode (over_became s.became (base s.file.inode))
 
 unused-right : (content : Content) (births more : List Birth) → IsUnused content (births ++ more) → IsUnused content more
@@ -53,8 +53,8 @@ step-left : (content : Content) (roots : ℕ → Root) (base : Holding) (before 
 step-left content roots base before final s more is births unused =
     subst (λ (bs : List Birth). Left (with_births bs (pages_of content)) base s) (sym births) (record {
       is_root = is.is_root;
-      sound = (keep (root_in s.inode) is.sound).sound;
-      stands = stands-over (pages_after content s.file.batch) later s.inode (over_became s.became (base s.file.inode)) (keep (root_in s.inode) is.sound) is.stands;
+      sound = (keep (inode_root s.inode) is.sound).sound;
+      stands = stands-over (pages_after content s.file.batch) later s.inode (over_became s.became (base s.file.inode)) (keep (inode_root s.inode) is.sound) is.stands;
     })
   where
     later : Pages
@@ -152,7 +152,7 @@ module _ (room : ℕ) (content : Content) (root new : Root) (base v : Holding) (
   pub inodes-within : NumbersAreInRange inodes
   inodes-within = rises-below (λ (c : InodeChange). c.number) 0 524288 inodes inodes-rise
 
-  module _ (puts : PutsInodes content root new inodes before after) (fits : Fits room content after) where
+  module _ (puts : PutsInodes content root new inodes before after) (fits : CanBeTaken room content after) where
     final : Pages
     final = pages_after content after
 
@@ -168,8 +168,8 @@ module _ (room : ℕ) (content : Content) (root new : Root) (base v : Holding) (
     inode_is : (i : ℕ) → inode_at (pages_after content after) new i ≡ inodes_with (map settled_inode done.steps) (inode_at (pages_of content) root) i
     inode_is i = puts.inodes i ∙ ap (λ (cs : List InodeChange). inodes_with cs (inode_at (pages_of content) root) i) done.inodes_are
 
-    held_is : (i : ℕ) (o : Option Became) → find nat_cmp i (map settled_became done.steps) ≡ o → v i ≡ over_any o (base i)
-    held_is i o e = ap (λ (w : Holding). w i) current.holds ∙ ap (λ (x : Option Became). over_any x (base i)) (ap (find nat_cmp i) (sym all_are) ∙ e)
+    held_is : (i : ℕ) (o : Option Became) → find nat_cmp i (map settled_became done.steps) ≡ o → v i ≡ over_if_became o (base i)
+    held_is i o e = ap (λ (w : Holding). w i) current.holds ∙ ap (λ (x : Option Became). over_if_became x (base i)) (ap (find nat_cmp i) (sym all_are) ∙ e)
 
     stores : Stores (pages_after content after) new v
     stores i = elim (at i) [
@@ -186,14 +186,14 @@ module _ (room : ℕ) (content : Content) (root new : Root) (base v : Holding) (
           subst (λ (n : Option Inode). StandsFor (pages_after content after) n (v i)) (sym inode)
           (subst (λ (x : Option Held). StandsFor (pages_after content after) (inode_at (pages_of content) root i) x) (sym held)
           (stands-over (pages_of content) (pages_after content after) (inode_at (pages_of content) root i) (base i)
-          (keeps-file (pages_of content) (pages_after content after) (root_in (inode_at (pages_of content) root i)) (births-keep content after.births unused) (checkpoint.each i).sound)
+          (keeps-file (pages_of content) (pages_after content after) (inode_root (inode_at (pages_of content) root i)) (births-keep content after.births unused) (checkpoint.each i).sound)
           (current.base_is i)))
     ]
 
     inode_file : FileChange
     inode_file = record { inode = 6; changes = puts.blocks; root = new; batch = after }
 
-    with_inode_file : (i : ℕ) → (i ≡ 6 → ⊥) → roots_after (inode_file ∷ []) (roots_at (pages_of content) root) i ≡ root_in (inode_at (pages_of content) root i)
+    with_inode_file : (i : ℕ) → (i ≡ 6 → ⊥) → roots_after (inode_file ∷ []) (roots_at (pages_of content) root) i ≡ inode_root (inode_at (pages_of content) root i)
     unfolding inode_file
     with_inode_file i n = ap (λ (b : Bool). cond b new (roots_at (pages_of content) root i)) (ne_eqb i 6 n) ∙ root-there content root i n
 
@@ -201,11 +201,11 @@ module _ (room : ℕ) (content : Content) (root new : Root) (base v : Holding) (
     unfolding inode_file
     of_inode_file = refl
 
-    new-there : (i : ℕ) → (i ≡ 6 → ⊥) → roots_at (pages_after content after) new i ≡ root_in (inode_at (pages_after content after) new i)
-    new-there i n = ap (λ (b : Bool). cond b new (root_in (inode_at (pages_after content after) new i))) (ne_eqb i 6 n)
+    new-there : (i : ℕ) → (i ≡ 6 → ⊥) → roots_at (pages_after content after) new i ≡ inode_root (inode_at (pages_after content after) new i)
+    new-there i n = ap (λ (b : Bool). cond b new (inode_root (inode_at (pages_after content after) new i))) (ne_eqb i 6 n)
 
     new-six : (i : ℕ) → i ≡ 6 → roots_at (pages_after content after) new i ≡ new
-    new-six i e = ap (λ (b : Bool). cond b new (root_in (inode_at (pages_after content after) new i))) (eq-eqb i 6 e)
+    new-six i e = ap (λ (b : Bool). cond b new (inode_root (inode_at (pages_after content after) new i))) (eq-eqb i 6 e)
 
     six-none : (i : ℕ) → i ≡ 6 → find nat_cmp i (map settled_became done.steps) ≡ None
     six-none i e = ap (λ (k : ℕ). find nat_cmp k (map settled_became done.steps)) e ∙ (ap (find nat_cmp 6) all_are ∙ no_six all may)
@@ -226,18 +226,18 @@ module _ (room : ℕ) (content : Content) (root new : Root) (base v : Holding) (
         by (inl six) (inr h) = split ∙ (h.root last ∙ (ap last six ∙ (of_inode_file ∙ sym (new-six i six))))
         by (inr n) (inl h) =
             let inode : inode_at (pages_after content after) new i ≡ h.0.inode = inode_is i ∙ h.1.told (inode_at (pages_of content) root) in
-            split ∙ (h.1.root last ∙ (sym h.1.left.is_root ∙ sym (new-there i n ∙ ap root_in inode)))
+            split ∙ (h.1.root last ∙ (sym h.1.left.is_root ∙ sym (new-there i n ∙ ap inode_root inode)))
         by (inr n) (inr h) =
             let inode : inode_at (pages_after content after) new i ≡ inode_at (pages_of content) root i = inode_is i ∙ h.told (inode_at (pages_of content) root) in
-            split ∙ (h.root last ∙ (with_inode_file i n ∙ sym (new-there i n ∙ ap root_in inode)))
+            split ∙ (h.root last ∙ (with_inode_file i n ∙ sym (new-there i n ∙ ap inode_root inode)))
 
-    old-file : (i : ℕ) → KeepsFile (pages_of content) (pages_after content after) (root_in (inode_at (pages_of content) root i))
-    old-file i = keeps-file (pages_of content) (pages_after content after) (root_in (inode_at (pages_of content) root i)) (births-keep content after.births unused) (checkpoint.each i).sound
+    old-file : (i : ℕ) → KeepsFile (pages_of content) (pages_after content after) (inode_root (inode_at (pages_of content) root i))
+    old-file i = keeps-file (pages_of content) (pages_after content after) (inode_root (inode_at (pages_of content) root i)) (births-keep content after.births unused) (checkpoint.each i).sound
 
-    each-sound : (i : ℕ) → IsSound (pages_after content after) (root_in (inode_at (pages_after content after) new i))
+    each-sound : (i : ℕ) → IsSound (pages_after content after) (inode_root (inode_at (pages_after content after) new i))
     each-sound i = elim (at i) [
-      | inl h ↦ subst (λ (n : Option Inode). IsSound (pages_after content after) (root_in n)) (sym (inode_is i ∙ h.1.told (inode_at (pages_of content) root))) h.1.left.sound
-      | inr h ↦ subst (λ (n : Option Inode). IsSound (pages_after content after) (root_in n)) (sym (inode_is i ∙ h.told (inode_at (pages_of content) root))) (old-file i).sound
+      | inl h ↦ subst (λ (n : Option Inode). IsSound (pages_after content after) (inode_root n)) (sym (inode_is i ∙ h.1.told (inode_at (pages_of content) root))) h.1.left.sound
+      | inr h ↦ subst (λ (n : Option Inode). IsSound (pages_after content after) (inode_root n)) (sym (inode_is i ∙ h.told (inode_at (pages_of content) root))) (old-file i).sound
     ]
 
     absent : (k low : ℕ) (steps : List Settlement) → k < low → Rises (λ (e : ℕ × Became). e.0) low 524288 (map settled_became steps) → (k ≡ 6 → ⊥) → is_one_of (inodes_of (settled_files steps ++ inode_file ∷ [])) k ≡ false

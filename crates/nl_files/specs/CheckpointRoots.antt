@@ -1,5 +1,6 @@
 -- What a checkpoint's root stands for, and the roots of its files.
 use Rattle.std.specs.Prelude.{◌≡◌, ℕ, ◌==◌, if◌then◌else◌, List, Option, None, Some}
+use Rattle.nl_types.specs.Limits.{inode_file_number}
 use Rattle.nl_types.specs.Entries.{Content}
 use Rattle.nl_types.specs.Roots.{Blocks, Pages, Root, Empty, page_at, pages_of}
 use Rattle.nl_types.specs.RootChanges.{IsSound}
@@ -30,13 +31,13 @@ Stores pages root holding = (i : ℕ) → StandsFor pages (inode_at pages root i
 
 -- ---- roots
 
-abbrev pub root_in : Option Inode → Root
-root_in None = Empty
-root_in (Some inode) = root_of inode.root
+abbrev pub inode_root : Option Inode → Root
+inode_root None = Empty
+inode_root (Some inode) = root_of inode.root
 
 -- the root of each file of a checkpoint: the file of inodes has number 6
 abbrev pub roots_at : Pages → Root → ℕ → Root
-roots_at pages root i = if i == 6 then root else root_in (inode_at pages root i)
+roots_at pages root i = if i == inode_file_number then root else inode_root (inode_at pages root i)
 
 -- a root whose numbers are all in use, none of them ended
 pub record IsRootInUse (content : Content) (root : Root) : Type 0 where
@@ -47,11 +48,11 @@ pub record IsRootInUse (content : Content) (root : Root) : Type 0 where
 pub record IsTreeSound (pages : Pages) (root : Root) : Type 0 where
   pub inode_file : IsSound pages root
   pub inodes : IsInodeFile pages root
-  pub each : (i : ℕ) → IsSound pages (root_in (inode_at pages root i))
+  pub each : (i : ℕ) → IsSound pages (inode_root (inode_at pages root i))
 
 -- the latest checkpoint's root: its files are in use, and stand for what inodes may hold
 pub record IsCheckpointRoot (content : Content) (root : Root) : Type 0 where
   pub inode_file : IsRootInUse content root
   pub inodes : IsInodeFile (pages_of content) root
-  pub each : (i : ℕ) → IsRootInUse content (root_in (inode_at (pages_of content) root i))
+  pub each : (i : ℕ) → IsRootInUse content (inode_root (inode_at (pages_of content) root i))
   pub holds : (holding : Holding) × Stores (pages_of content) root holding × IsHolding holding

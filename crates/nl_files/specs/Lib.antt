@@ -1,9 +1,9 @@
 pub mod CheckpointRoots
-pub mod Planned
 pub mod Settles
 pub mod Laws
-pub mod Directories
 pub mod CheckpointTrees
 pub mod TreeLaws
 pub mod Staying
 pub mod OneSettling
+pub mod Facts
+pub mod Private

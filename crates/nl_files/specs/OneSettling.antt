@@ -11,7 +11,8 @@ use Rattle.nl_files.specs.Settles.{Settles}
 -- it writes as many blocks whichever way it is settled, and gives one root
 abbrev pub SettlingsAreAlike : Type 0
 SettlingsAreAlike =
-    (content : Content) (root new other : Root) (became : List (ℕ × Became)) (held : Holding) (one two : Changes) →
+    (content : Content) (root new other : Root) (became : List (ℕ × Became)) (held : Holding)
+    (one two : Changes) →
     IsCheckpointRoot content root → IsHolding held →
     Settles content root new became held one → Settles content root other became held two →
     (length one.births ≡ length two.births) × (other ≡ new)

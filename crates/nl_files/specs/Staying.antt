@@ -11,7 +11,8 @@ use Rattle.nl_files.specs.CheckpointRoots.{IsTreeSound, Stores, roots_at}
 abbrev pub AgreeAtCheckpoint : Pages → Pages → Root → Type 0
 AgreeAtCheckpoint pages more root = (i : ℕ) → AgreeWhere pages more (roots_at pages root i)
 
--- the checkpoint's files have the roots that they had, their places the same numbers, and it stands for the same
+-- the checkpoint's files have the roots that they had, their places the same numbers, and it stands for the
+-- same
 pub record CheckpointStays (pages more : Pages) (root : Root) : Type 0 where
   pub roots : (i : ℕ) → roots_at more root i ≡ roots_at pages root i
   pub numbers : numbers_of more (roots_at more root) ≡ numbers_of pages (roots_at pages root)

@@ -3,8 +3,8 @@ use Rattle.std.specs.Prelude.{ℕ, []}
 use Rattle.nl_types.specs.Lifetimes.{IsLedger, Ledger, blank}
 use Rattle.nl_types.specs.Trees.{Tree, root_alone}
 use Rattle.nl_types.specs.Roots.{Pages, Root, Empty}
-use Rattle.nl_vstore.specs.Batches.{Changes, Fits}
-use Rattle.nl_blocktree.specs.Checkpoints.{pages_in}
+use Rattle.nl_vstore.specs.Batches.{Changes, CanBeTaken}
+use Rattle.nl_blocktree.specs.Checkpoints.{ledger_pages}
 use Rattle.nl_tree.specs.Held.{Holding, IsHolding}
 use Rattle.nl_tree.specs.Became.{Current, holding_over}
 use Rattle.nl_tree.specs.CurrentTrees.{StandsOver}
@@ -14,8 +14,10 @@ use Rattle.nl_files.specs.Settles.{IsCurrent, Settles}
 use Rattle.nl_files.specs.CheckpointTrees.{HoldsTree}
 use Rattle.nl_files.specs.Laws.{IsLatest, ledger_with}
 
--- The current tree stands for the tree over the latest checkpoint of a ledger, which has this root and holds this.
-pub record StandsOverLatest (ledger : Ledger) (root : Root) (now : Current) (base : Holding) (tree : Tree) : Type 0 where
+-- The current tree stands for the tree over the latest checkpoint of a ledger, which has this root and holds
+-- this.
+pub record StandsOverLatest (ledger : Ledger) (root : Root) (now : Current) (base : Holding)
+    (tree : Tree) : Type 0 where
   pub is_ledger : IsLedger ledger
   pub latest : IsLatest ledger root base
   pub base_sound : IsHolding base
@@ -35,7 +37,7 @@ EmptyRootsHoldNothing = (pages : Pages) → HoldsTree pages Empty nothing_held
 
 -- the checkpoint can be read, and the tree be settled over it
 pub record CanBeSettled (ledger : Ledger) (root : Root) (now : Current) (base : Holding) : Type 0 where
-  pub holds : HoldsTree (pages_in ledger) root base
+  pub holds : HoldsTree (ledger_pages ledger) root base
   pub checkpoint : IsCheckpointRoot ledger.content root
   pub current : IsCurrent ledger.content root now.became base (holding_over now.became base)
 
@@ -47,7 +49,10 @@ TreesCanBeSettled =
 -- once the batch is written nothing differs from the new checkpoint, and that stands for the same tree
 abbrev pub SettledTreesGoOn : Type 0
 SettledTreesGoOn =
-    (room : ℕ) (ledger : Ledger) (root new : Root) (now : Current) (base : Holding) (tree : Tree) (batch : Changes) →
+    (room : ℕ) (ledger : Ledger) (root new : Root) (now : Current) (base : Holding) (tree : Tree)
+    (batch : Changes) →
     StandsOverLatest ledger root now base tree →
-    Settles ledger.content root new now.became (holding_over now.became base) batch → Fits room ledger.content batch →
-    StandsOverLatest (ledger_with batch ledger) new (record now { became = [] }) (holding_over now.became base) tree
+    Settles ledger.content root new now.became (holding_over now.became base) batch
+    → CanBeTaken room ledger.content batch →
+    StandsOverLatest (ledger_with batch ledger) new (record now { became = [] })
+    (holding_over now.became base) tree

@@ -22,7 +22,8 @@ fn copy_block(page: Option<&Page>, start: usize, into: &mut [u8])
     }
 }
 
-/// Fills the slice with the bytes of a root's blocks from an offset on. It takes no memory, and reads each node once.
+/// Fills the slice with the bytes of a root's blocks from an offset on. It takes no memory, and reads each
+/// node once.
 pub(crate) fn copy_bytes<V: VRead>(store: &V, root: Root, offset: u64, into: &mut [u8])
     requires { offset + length into.old < 2 ^ 64 }
     ensures { AreBytesFrom (page_at (V.pages store.now) (root_of root)) offset into.new }

@@ -6,7 +6,7 @@ ghost use Rattle.nl_layout.specs.Root.{root_of};
 ghost use Rattle.nl_dirs.specs.declared.record.Record.{Record};
 ghost use Rattle.nl_dirs.specs.Records.{IsPageOf, entry_of};
 ghost use Rattle.nl_dirs.specs.Listings.{HoldsRecords};
-ghost use Rattle.nl_files.specs.Directories.{AreBlocksOf, StandsInBlock, StartsBehind};
+ghost use Rattle.nl_files.specs.Private.Directories.{AreBlocksOf, StandsInBlock, StartsBehind};
 
 use nl_blocktree::{Cursor, get};
 use nl_dirs::{Record, find, first_name, record_count, records};

@@ -45,22 +45,22 @@ pub fn first_trees_stand()
     ensures checkpoint { EmptyRootsHoldNothing }
 {}
 
-/// What stands for a tree over the latest checkpoint can be settled, and then stands for it over the checkpoint that is
-/// made of it.
+/// What stands for a tree over the latest checkpoint can be settled, and then stands for it over the
+/// checkpoint that is made of it.
 pub fn settled_trees_go_on()
     ensures before { TreesCanBeSettled }
     ensures after { SettledTreesGoOn }
 {}
 
-/// A checkpoint keeps its roots, the numbers at their places and what it stands for over any pages that agree with its own
-/// under the numbers that it reaches, as pages do that keep all there were.
+/// A checkpoint keeps its roots, the numbers at their places and what it stands for over any pages that agree
+/// with its own under the numbers that it reaches, as pages do that keep all there were.
 pub fn checkpoints_stay()
     ensures stay { CheckpointsStay }
     ensures kept { KeptPagesAgree }
 {}
 
-/// Whichever way a tree is settled over a checkpoint, as many blocks are written, and the root is the same: none, and the
-/// checkpoint's own, where nothing differs from it.
+/// Whichever way a tree is settled over a checkpoint, as many blocks are written, and the root is the same:
+/// none, and the checkpoint's own, where nothing differs from it.
 pub fn settlings_are_alike()
     ensures alike { SettlingsAreAlike }
     ensures clean { CleanTreesWriteNothing }

@@ -1,11 +1,12 @@
 //! The changes of blocks that make what an inode became of the checkpoint's one.
 ghost use Rattle.std.specs.Prelude.{◌≡◌, ℕ, Some, None, ◌≤◌, ◌-◌, ◌*◌, ◌++◌, ◌∷◌, [], List, length, IfOk, IfErr};
+ghost use Rattle.nl_types.specs.Limits as limits;
 ghost use Rattle.nl_dirs.specs.Packing.{Packs};
 ghost use Rattle.nl_tree.specs.Became.{MayBecome, Rises};
 ghost use Rattle.nl_tree.specs.Overlays.{became_of, new_pages};
 ghost use Rattle.nl_tree.specs.Records.{records_of};
 ghost use Rattle.nl_tree.specs.Shown.{itself, pair, shown_entries};
-ghost use Rattle.nl_files.specs.Planned.{IsPlanned, cursor_after, file_cut, index_of, inode_block_count, inode_size, lesser_of, merged, packed_over, placed, removals};
+ghost use Rattle.nl_files.specs.Private.Planned.{IsPlanned, cursor_after, file_cut, index_of, inode_block_count, inode_size, lesser_of, merged, packed_over, placed, removals};
 
 use nl_blocktree::BlockChange;
 use nl_dirs::pack;
@@ -35,10 +36,10 @@ pub(crate) fn plan_changes(
     what: &Changed,
     old: &Option<Inode>,
 ) -> Result<Plan, VolError>
-    requires sized { inode_size old.now ≤ 268435456 }
+    requires sized { inode_size old.now ≤ limits.size_limit }
     requires change { MayBecome (became_of what.now) }
     ensures planned { IfOk result (IsPlanned old.now (became_of what.now)) }
-    ensures range { IfOk result (λ plan. Rises index_of 0 262144 plan.changes.items) }
+    ensures range { IfOk result (λ plan. Rises index_of 0 limits.index_limit plan.changes.items) }
     ensures err { IfErr result (λ e. e ≡ VolError.Memory) }
 {
     let count = block_count(old);
@@ -51,7 +52,7 @@ pub(crate) fn plan_changes(
 
 /// How many blocks the inode may have.
 fn block_count(old: &Option<Inode>) -> u64
-    requires { inode_size old.now ≤ 268435456 }
+    requires { inode_size old.now ≤ limits.size_limit }
     ensures { result ≡ inode_block_count old.now }
 {
     match old {
@@ -190,7 +191,7 @@ fn plan_directory(alloc: Global, listing: &Listing, count: u64) -> Result<Plan, 
 }
 
 fn plan_pages(alloc: Global, pages: Vec<Block>, count: u64) -> Result<Plan, VolError>
-    requires { length pages.items ≤ 262144 }
+    requires { length pages.items ≤ limits.index_limit }
     ensures changes { IfOk result (λ plan. plan.changes.items ≡ packed_over count pages.items) }
     ensures shape { IfOk result (λ plan. plan.shape ≡
         Some (record { kind = InodeKind.Directory; size = 1024 * length pages.items })) }
@@ -209,7 +210,7 @@ fn plan_pages(alloc: Global, pages: Vec<Block>, count: u64) -> Result<Plan, VolE
 }
 
 fn put_pages(alloc: Global, pages: Vec<Block>) -> Result<Vec<BlockChange>, VolError>
-    requires { length pages.items ≤ 262144 }
+    requires { length pages.items ≤ limits.index_limit }
     ensures ok { IfOk result (λ changes. changes.items ≡ placed 0 pages.items) }
     ensures err { IfErr result (λ e. e ≡ VolError.Memory) }
 {

@@ -19,8 +19,8 @@ use nl_types::{InodeNumber, Page, VolError};
 use nl_vstore::VRead;
 use std::alloc::Global;
 
-/// The tree of a checkpoint, by the root of its file of inodes. Its calls answer on any pages; their contracts speak of
-/// those where the root stands for a tree.
+/// The tree of a checkpoint, by the root of its file of inodes. Its calls answer on any pages; their
+/// contracts speak of those where the root stands for a tree.
 #[derive(Drop)]
 pub struct ReadTree<'a, V: VRead> {
     store: &'a V,

@@ -1,5 +1,6 @@
 //! What a checkpoint takes of the current tree.
 ghost use Rattle.std.specs.Prelude.{◌≡◌, ℕ, ◌≤◌, List, [], ◌∷◌, ◌++◌, Option, IfOk, IfErr, OnErr};
+ghost use Rattle.nl_types.specs.Limits as limits;
 ghost use Rattle.nl_types.specs.Roots.{page_at, pages_of};
 ghost use Rattle.nl_layout.specs.Root.{root_of};
 ghost use Rattle.nl_vstore.specs.Batches.{Changes};
@@ -10,9 +11,9 @@ ghost use Rattle.nl_tree.specs.Became.{Became, EachMayBecome, MayBecome, over_be
 ghost use Rattle.nl_tree.specs.Held.{Held, Holding, IsHolding};
 ghost use Rattle.nl_tree.specs.Overlays.{became_in, became_of, slot_shows};
 ghost use Rattle.nl_tree.specs.Shown.{pair, shown_entries};
-ghost use Rattle.nl_files.specs.Settles.{IsCurrent, IsInodeSettled, Settles, Settling};
-ghost use Rattle.nl_files.specs.CheckpointRoots.{IsCheckpointRoot, IsRootInUse, Stores, root_in, roots_at};
-ghost use Rattle.nl_files.specs.Planned.{IsBase, inode_size, shaped};
+ghost use Rattle.nl_files.specs.Settles.{IsCurrent, IsInodeSettled, Settles, SettlesMore, Settling};
+ghost use Rattle.nl_files.specs.CheckpointRoots.{IsCheckpointRoot, IsRootInUse, Stores, inode_root, roots_at};
+ghost use Rattle.nl_files.specs.Private.Planned.{IsBase, inode_size, shaped};
 
 use crate::plan::{Shape, plan_changes};
 use nl_blocktree::put_all;
@@ -23,8 +24,8 @@ use nl_types::{InodeNumber, VolError};
 use nl_vstore::{Batch, Vstore};
 use std::alloc::Global;
 
-/// Puts what differs from the checkpoint into an empty batch, and answers the root of the new one. Refused by `Memory`
-/// alone; then the batch is empty again.
+/// Puts what differs from the checkpoint into an empty batch, and answers the root of the new one. Refused by
+/// `Memory` alone; then the batch is empty again.
 pub fn settle<V: Vstore>(
     alloc: Global,
     store: &V,
@@ -45,6 +46,7 @@ pub fn settle<V: Vstore>(
     ensures same { OnErr result (batch.new ≡ batch.old) }
     ensures err { IfErr result (λ e. e ≡ VolError.Memory) }
 {
+    // no `?`: where one of the two is refused, the batch is emptied
     let settled = match settle_inodes(alloc, store, batch, &root, tree.overlay()) {
         Ok(inodes) => put_inodes(alloc, store, batch, root, &inodes),
         Err(refusal) => Err(refusal),
@@ -94,14 +96,9 @@ fn settle_slot<V: Vstore>(
     requires fits { CanTake (V.store store.now) batch.old }
     requires checkpoint { IsCheckpointRoot (content_in (V.store store.now)) (root_of root.now) }
     requires changes { EachMayBecome (shown_entries pair slot_shows ((number, slot.now) ∷ [])) }
-    ensures settling { IfOk result (λ _. (base : Holding) (before : Changes) (left all : List (ℕ × Became))
-        → Stores (pages_of (content_in (V.store store.now))) (root_of root.now) base → IsHolding base
-        → Settling (content_in (V.store store.now))
-        (roots_at (pages_of (content_in (V.store store.now))) (root_of root.now)) base before
-        batch.old inodes.old.items (shown_entries pair slot_shows ((number, slot.now) ∷ []) ++ left) all
-        → Settling (content_in (V.store store.now))
-        (roots_at (pages_of (content_in (V.store store.now))) (root_of root.now)) base before
-        batch.new inodes.new.items left all) }
+    ensures settling { IfOk result (λ _. SettlesMore (content_in (V.store store.now)) (root_of root.now)
+        batch.old batch.new inodes.old.items inodes.new.items
+        (shown_entries pair slot_shows ((number, slot.now) ∷ []))) }
     ensures fits { IfOk result (λ _. CanTake (V.store store.now) batch.new) }
     ensures err { IfErr result (λ e. e ≡ VolError.Memory) }
 {
@@ -137,12 +134,12 @@ fn settle_one<V: Vstore>(
     what: &Changed,
 ) -> Result<Option<Inode>, VolError>
     requires fits { CanTake (V.store store.now) batch.old }
-    requires in_use { IsRootInUse (content_in (V.store store.now)) (root_in old.now) }
-    requires sized { inode_size old.now ≤ 268435456 }
+    requires in_use { IsRootInUse (content_in (V.store store.now)) (inode_root old.now) }
+    requires sized { inode_size old.now ≤ limits.size_limit }
     requires change { MayBecome (became_of what.now) }
     ensures settled { IfOk result (λ new. (base : Option Held)
-        → IsBase (page_at (pages_of (content_in (V.store store.now))) (root_in old.now)) old.now base
-        → IsInodeSettled (content_in (V.store store.now)) number (root_in old.now) new
+        → IsBase (page_at (pages_of (content_in (V.store store.now))) (inode_root old.now)) old.now base
+        → IsInodeSettled (content_in (V.store store.now)) number (inode_root old.now) new
         (over_became (became_of what.now) base) batch.old batch.new) }
     ensures fits { IfOk result (λ _. CanTake (V.store store.now) batch.new) }
     ensures err { IfErr result (λ e. e ≡ VolError.Memory) }
@@ -160,7 +157,7 @@ fn settle_one<V: Vstore>(
 }
 
 fn root_or_empty(old: &Option<Inode>) -> Root
-    ensures { root_of result ≡ root_in old.now }
+    ensures { root_of result ≡ inode_root old.now }
 {
     match old {
         Some(inode) => inode.root,

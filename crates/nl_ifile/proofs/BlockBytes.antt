@@ -11,7 +11,7 @@ use Rattle.nl_layout.specs.declared.inode.InodeKind.{InodeKind}
 use Rattle.nl_layout.specs.declared.inode.InodeKind.TheVariants.{File, Directory, InodeFile}
 use Rattle.nl_layout.specs.declared.inode.InodeEntry.{InodeEntry}
 use Rattle.nl_layout.specs.declared.inode.InodeEntry.TheVariants.{Free, InUse}
-use Rattle.nl_layout.specs.Inode.{EntryFits, entry_bytes, inode_kind_code}
+use Rattle.nl_layout.specs.Inode.{EntryHasSpelling, entry_bytes, inode_kind_code}
 use Rattle.nl_ifile.specs.Inodes.{block_bytes, block_for, entry_for, in_use, inode_in, block_places, with_inode}
 use Rattle.nl_ifile.proofs.Spelling.{inode_spelled-Spells}
 use borrow.Rule.Slice.PartMut.{put_mid}
@@ -102,7 +102,7 @@ in_use-entry_for None = refl
 in_use-entry_for (Some i) = refl
 
 -- each inode of a block is read again
-pub inode_in-block : (f : ℕ → Option Inode) (p : ℕ) → p < 8 → EntryFits (entry_for (f p)) → inode_in (block_bytes f) p ≡ f p
+pub inode_in-block : (f : ℕ → Option Inode) (p : ℕ) → p < 8 → EntryHasSpelling (entry_for (f p)) → inode_in (block_bytes f) p ≡ f p
 inode_in-block f p low fits = inode_spelled-Spells _ (entry_for (f p)) (record { fits = fits; spelling = block-piece f p low }) ∙ in_use-entry_for (f p)
 
 -- an entry that is written at a place changes the inode there
@@ -176,7 +176,7 @@ block_for-others f n = by (list_any (λ p. is_some (f p)) block_places) refl
     by false e = absurd (n (block_bytes-cong f no_inode (none-in-use f e) ∙ zeros))
 
 -- the inode at a place of the block that has to be there
-pub inode_in-block_for : (f : ℕ → Option Inode) (p : ℕ) → p < 8 → EntryFits (entry_for (f p)) → option_and_then (λ page. inode_in page p) (block_for f) ≡ f p
+pub inode_in-block_for : (f : ℕ → Option Inode) (p : ℕ) → p < 8 → EntryHasSpelling (entry_for (f p)) → option_and_then (λ page. inode_in page p) (block_for f) ≡ f p
 inode_in-block_for f p low fits = by (list_any (λ q. is_some (f q)) block_places) refl
   where
     by : (b : Bool) → list_any (λ q. is_some (f q)) block_places ≡ b → option_and_then (λ page. inode_in page p) (cond b (Some (block_bytes f)) None) ≡ f p

@@ -6,11 +6,11 @@ use Rattle.std.proofs.lemmas.Bool.{cases_eq}
 use Rattle.std.proofs.lemmas.List.{get_or-drop, get_or-map, get_or-take, length-map, length-take, take_all}
 use Rattle.std.proofs.lemmas.List.Elements.{All-append, All-push}
 use Rattle.std.proofs.lemmas.List.Quantifiers.{all_pairs_push}
-use Rattle.nl_layout.specs.Inode.{EntryFits}
+use Rattle.nl_layout.specs.Inode.{EntryHasSpelling}
 use Rattle.nl_blocktree.specs.declared.change.BlockChange.{BlockChange}
 use Rattle.nl_blocktree.specs.Changed.{blocks_with, indexes}
-use Rattle.nl_blocktree.proofs.HeldPages.{Sets}
-use Rattle.nl_blocktree.proofs.TreeData.{sets-one}
+use Rattle.nl_blocktree.specs.Facts.HeldPages.{Sets}
+use Rattle.nl_blocktree.specs.Facts.TreeData.{sets-one}
 use Rattle.nl_ifile.specs.declared.change.InodeChange.{InodeChange}
 use Rattle.nl_ifile.specs.Inodes.{InodeMap, block_for, entry_for, in_block}
 use Rattle.nl_ifile.specs.Changing.{AreBlockChanges, AreFirstBlockChanges, NumbersAscend, inodes_with}
@@ -53,7 +53,7 @@ module _ (pages : ℕ → Option (List ℕ)) (inodes : InodeMap) (changes : List
     (first : (next : InodeChange) → (get_or changes start next).number / 8 ≡ i)
     (in_range : i < 65536) (index : b.index ≡ i) (group : All (λ c. c.number / 8 ≡ i) (take (end - start) (drop start changes)))
     (page : b.page ≡ block_for (in_block (inodes_with (take (end - start) (drop start changes)) inodes) i))
-    (fits : All (λ c. EntryFits (entry_for c.inode)) (take (end - start) (drop start changes)))
+    (fits : All (λ c. EntryHasSpelling (entry_for c.inode)) (take (end - start) (drop start changes)))
     (stop : (next : InodeChange) → end < length changes → i < (get_or changes end next).number / 8) (none : InodeChange) where
   these : List InodeChange
   these = take (end - start) (drop start changes)
@@ -111,7 +111,7 @@ module _ (pages : ℕ → Option (List ℕ)) (inodes : InodeMap) (changes : List
       ascending = all_pairs_push (λ (x y : BlockChange). x.index < y.index) blocks b before.blocks_are.ascending (λ k d l. let less = lower_blocks k d l in omega (arith, less, index));
       in_range = All-push (λ (x : BlockChange). x.index < 262144) blocks b before.blocks_are.in_range (omega (arith, index));
       become = λ j. become j (cases_eq j b.index);
-      fits = subst (λ (cs : List InodeChange). All (λ c. EntryFits (entry_for c.inode)) cs) (sym split) (All-append (λ (c : InodeChange). EntryFits (entry_for c.inode)) (take start changes) these before.blocks_are.fits fits);
+      fits = subst (λ (cs : List InodeChange). All (λ c. EntryHasSpelling (entry_for c.inode)) cs) (sym split) (All-append (λ (c : InodeChange). EntryHasSpelling (entry_for c.inode)) (take start changes) these before.blocks_are.fits fits);
     };
     lower = λ next l. All-push (λ (x : BlockChange). x.index < (get_or changes end next).number / 8) blocks b (λ k d m. let less = lower_blocks k d m in omega (arith, less, stop next l)) (omega (arith, index, stop next l));
     apart = λ next l.

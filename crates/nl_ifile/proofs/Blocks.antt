@@ -2,10 +2,11 @@
 use Rattle.std.proofs.Common.{◌≡◌, ℕ, ◌/◌, ◌%◌, ◌<◌, ◌≤◌, List, Option, Some, None, IsSome, sym, ap, subst, ◌∙◌, arith}
 use Rattle.std.specs.Option.{option_and_then}
 use Rattle.nl_types.specs.Roots.{Pages, Root, page_at}
+use Rattle.nl_types.specs.Inodes.{AreInUseFrom}
 use Rattle.nl_ifile.specs.declared.change.InodeChange.{InodeChange}
 use Rattle.nl_ifile.specs.Inodes.{InodeMap, inode_at, inode_in}
 use Rattle.nl_ifile.specs.Changing.{inodes_with}
-use Rattle.nl_ifile.specs.Free.{AreInUseFrom, FindsFreeInBlock, IsFreeInBlock, block_end, inode_of_page}
+use Rattle.nl_ifile.specs.Free.{FindsFreeInBlock, IsFreeInBlock, block_end, inode_of_page}
 use Rattle.nl_ifile.proofs.Finding.{inodes_with-same}
 
 module _ (pages : Pages) (root : Root) (changes : List InodeChange) (page : Option (List ℕ)) (first : ℕ) (there : page ≡ page_at pages root (first / 8)) where

@@ -6,7 +6,7 @@ use Rattle.nl_types.specs.Entries.{Content}
 use Rattle.nl_types.specs.Roots.{Pages, Root, page_at, pages_of}
 use Rattle.nl_types.specs.RootChanges.{with_births}
 use Rattle.nl_layout.specs.declared.inode.Inode.{Inode}
-use Rattle.nl_layout.specs.Inode.{EntryFits}
+use Rattle.nl_layout.specs.Inode.{EntryHasSpelling}
 use Rattle.nl_vstore.specs.Batches.{Changes}
 use Rattle.nl_blocktree.specs.declared.change.BlockChange.{BlockChange}
 use Rattle.nl_blocktree.specs.Putting.{PutsAll}
@@ -17,25 +17,25 @@ use Rattle.nl_ifile.proofs.Spelling.{inode_spelled-fits}
 use Rattle.nl_ifile.proofs.BlockBytes.{block_for-cong, inode_in-block_for}
 
 abbrev AllFit : InodeMap → Type 0
-AllFit inodes = (n : ℕ) → EntryFits (entry_for (inodes n))
+AllFit inodes = (n : ℕ) → EntryHasSpelling (entry_for (inodes n))
 
 -- inodes that are read have a spelling
 fits-read : (pages : Pages) (root : Root) → AllFit (inode_at pages root)
 fits-read pages root n = of (page_at pages root (n / 8))
   where
-    spelled : (bytes : List ℕ) (o : Option Inode) → inode_spelled bytes ≡ o → EntryFits (entry_for o)
+    spelled : (bytes : List ℕ) (o : Option Inode) → inode_spelled bytes ≡ o → EntryHasSpelling (entry_for o)
     spelled bytes None e = tt
     spelled bytes (Some i) e = inode_spelled-fits bytes i e
 
-    of : (o : Option (List ℕ)) → EntryFits (entry_for (option_and_then (λ page. inode_in page (n % 8)) o))
+    of : (o : Option (List ℕ)) → EntryHasSpelling (entry_for (option_and_then (λ page. inode_in page (n % 8)) o))
     of None = tt
     of (Some page) = spelled (take 128 (drop (128 * (n % 8)) page)) (inode_in page (n % 8)) refl
 
-fits-inodes_with : (changes : List InodeChange) (inodes : InodeMap) → All (λ c. EntryFits (entry_for c.inode)) changes → AllFit inodes → AllFit (inodes_with changes inodes)
+fits-inodes_with : (changes : List InodeChange) (inodes : InodeMap) → All (λ c. EntryHasSpelling (entry_for c.inode)) changes → AllFit inodes → AllFit (inodes_with changes inodes)
 fits-inodes_with [] inodes h old n = old n
 fits-inodes_with (c ∷ changes) inodes h old n = either (n == c.number) (fits-inodes_with changes inodes (λ k d l. h (suc k) d (omega arith)) old n)
   where
-    either : (b : Bool) → EntryFits (entry_for (inodes_with changes inodes n)) → EntryFits (entry_for (cond b c.inode (inodes_with changes inodes n)))
+    either : (b : Bool) → EntryHasSpelling (entry_for (inodes_with changes inodes n)) → EntryHasSpelling (entry_for (cond b c.inode (inodes_with changes inodes n)))
     either true rest = h 0 c (omega arith)
     either false rest = rest
 

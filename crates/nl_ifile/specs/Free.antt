@@ -1,24 +1,15 @@
 -- Free inode numbers. No inode has a number above 524,287.
 use Rattle.std.specs.Prelude.{◌≡◌, ℕ, ◌+◌, ◌*◌, ◌/◌, ◌%◌, ◌≤◌, ◌<◌, ◌==◌, if◌then◌else◌, List, [], ◌∷◌, IsSome, Option, None, Some}
 use Rattle.std.specs.Option.{option_and_then}
+use Rattle.nl_types.specs.Limits.{inode_limit}
+use Rattle.nl_types.specs.Inodes.{AreInUseFrom, IsLowestFreeInode}
 use Rattle.nl_ifile.specs.declared.change.InodeChange.{InodeChange}
 use Rattle.nl_ifile.specs.Inodes.{InodeMap, inode_in}
 
--- all numbers from one up to, and without, another are in use
-abbrev pub AreInUseFrom : InodeMap → ℕ → ℕ → Type 0
-AreInUseFrom inodes from end = (n : ℕ) → from ≤ n → n < end → IsSome (inodes n)
-
--- the lowest number from one on that is free
-pub record IsLowestFreeFrom (inodes : InodeMap) (from n : ℕ) : Type 0 where
-  pub first : from ≤ n
-  pub last : n ≤ 524287
-  pub free : inodes n ≡ None
-  pub lowest : AreInUseFrom inodes from n
-
 -- what a search from a number finds: the lowest free one, or that none is
 abbrev pub FindsFree : InodeMap → ℕ → Option ℕ → Type 0
-FindsFree inodes from None = AreInUseFrom inodes from 524288
-FindsFree inodes from (Some n) = IsLowestFreeFrom inodes from n
+FindsFree inodes from None = AreInUseFrom inodes from inode_limit
+FindsFree inodes from (Some n) = IsLowestFreeInode inodes from n
 
 -- ---- within a block
 

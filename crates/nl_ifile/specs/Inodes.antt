@@ -22,7 +22,8 @@ in_use (InUse inode) = Some inode
 -- the inode that bytes spell, if they spell one
 abbrev pub inode_spelled : List ℕ → Option Inode
 inode_spelled bytes =
-    option_and_then (λ entry. if bytes_eq (entry_bytes entry) bytes then in_use entry else None) (entry_at bytes)
+    option_and_then (λ entry. if bytes_eq (entry_bytes entry) bytes then in_use entry else None)
+    (entry_at bytes)
 
 -- the inode at a place of a block
 abbrev pub inode_in : List ℕ → ℕ → Option Inode

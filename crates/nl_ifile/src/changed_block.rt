@@ -2,7 +2,7 @@
 ghost use Rattle.std.specs.Prelude.{◌≡◌, ◌≤◌, ◌<◌, ◌/◌, ℕ, Option, length, slice_index_or, take, drop, All, IfOk, IfErr};
 ghost use Rattle.nl_types.specs.Roots.{page_at};
 ghost use Rattle.nl_layout.specs.Root.{root_of};
-ghost use Rattle.nl_layout.specs.Inode.{EntryFits};
+ghost use Rattle.nl_layout.specs.Inode.{EntryHasSpelling};
 ghost use Rattle.nl_layout.specs.declared.inode.Inode.{Inode};
 ghost use Rattle.nl_ifile.specs.declared.change.InodeChange.{InodeChange};
 ghost use Rattle.nl_ifile.specs.Inodes.{InodeMap, IsInodeFile, block_bytes, block_for, entry_for, in_block, inode_at, with_inode};
@@ -61,7 +61,8 @@ fn end_of_block(changes: &[InodeChange], start: usize, index: u64) -> usize
     end
 }
 
-/// The change of a block that changes of its inodes are. The block goes where none of the eight is in use then.
+/// The change of a block that changes of its inodes are. The block goes where none of the eight is in use
+/// then.
 fn changed_block<V: VRead>(
     alloc: Global,
     cursor: &mut Cursor<'_, V>,
@@ -76,7 +77,7 @@ fn changed_block<V: VRead>(
         (inode_at (V.pages cursor.old.store.now) (root_of cursor.old.root))) index)) }
     ensures store { cursor.new.store.now ≡ cursor.old.store.now }
     ensures root { cursor.new.root ≡ cursor.old.root }
-    ensures fits { IfOk result (λ _. All (λ c. EntryFits (entry_for c.inode)) changes.now) }
+    ensures fits { IfOk result (λ _. All (λ c. EntryHasSpelling (entry_for c.inode)) changes.now) }
     ensures err { IfErr result (λ e. e ≡ VolError.Memory) }
 {
     let mut bytes = old_bytes(cursor, index);
@@ -111,7 +112,7 @@ fn write_inodes(bytes: &mut [u8; BLOCK_SIZE], changes: &[InodeChange])
     ensures written { (inodes : InodeMap) (index : ℕ) → All (λ c. c.number / 8 ≡ index) changes.now →
         bytes.old ≡ block_bytes (in_block inodes index) →
         bytes.new ≡ block_bytes (in_block (inodes_with changes.now inodes) index) }
-    ensures fits { All (λ c. EntryFits (entry_for c.inode)) changes.now }
+    ensures fits { All (λ c. EntryHasSpelling (entry_for c.inode)) changes.now }
 {
     for change in changes {
         let place = (change.number.get() % INODES_PER_BLOCK) as usize;
@@ -124,7 +125,7 @@ pub(crate) fn write_inode(bytes: &mut [u8; BLOCK_SIZE], place: usize, inode: Opt
     requires { place < 8 }
     ensures written { (inodes : ℕ → Option Inode) → bytes.old ≡ block_bytes inodes →
         bytes.new ≡ block_bytes (with_inode inodes place inode) }
-    ensures fits { EntryFits (entry_for inode) }
+    ensures fits { EntryHasSpelling (entry_for inode) }
 {
     let entry = match inode {
         Some(inode) => InodeEntry::InUse(inode),

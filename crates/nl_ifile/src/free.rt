@@ -1,5 +1,6 @@
 //! Free inode numbers.
 ghost use Rattle.std.specs.Prelude.{◌≡◌, ◌<◌, option_copied};
+ghost use Rattle.nl_types.specs.Limits as limits;
 ghost use Rattle.nl_layout.specs.Root.{root_of};
 ghost use Rattle.nl_ifile.specs.Inodes.{inode_at};
 ghost use Rattle.nl_ifile.specs.Changing.{NumbersAscend, inodes_with};
@@ -12,14 +13,15 @@ use nl_layout::{Inode, Root};
 use nl_types::{InodeNumber, Page};
 use nl_vstore::VRead;
 
-/// The lowest number of an ordinary inode. Those below are the root's and those of files that the volume itself has.
+/// The lowest number of an ordinary inode. Those below are the root's and those of files that the volume
+/// itself has.
 pub const FIRST_INODE: u64 = 11;
 
 /// The greatest number of an inode.
 pub const LAST_INODE: u64 = 524_287;
 
-/// The lowest number from `from` on that is free when the changes are made, or none where all up to 524,287 are in use. It
-/// takes no memory.
+/// The lowest number from `from` on that is free when the changes are made, or none where all up to 524,287
+/// are in use. It takes no memory.
 pub fn next_ino<V: VRead>(
     store: &V,
     root: Root,
@@ -48,7 +50,7 @@ fn free_in_block<V: VRead>(
     first: u64,
 ) -> Option<InodeNumber>
     requires ascending { NumbersAscend changes.now }
-    requires in_range { first < 524288 }
+    requires in_range { first < limits.inode_limit }
     ensures found { FindsFreeInBlock (inodes_with changes.now
         (inode_at (V.pages cursor.old.store.now) (root_of cursor.old.root))) first result }
     ensures store { cursor.new.store.now ≡ cursor.old.store.now }
@@ -60,7 +62,7 @@ fn free_in_block<V: VRead>(
 /// The lowest free number from `first` on in the block of that number, whose page is given where it is there.
 fn free_on_page(page: Option<&Page>, changes: &[InodeChange], first: u64) -> Option<InodeNumber>
     requires ascending { NumbersAscend changes.now }
-    requires in_range { first < 524288 }
+    requires in_range { first < limits.inode_limit }
     ensures { FindsFreeInBlock
         (inodes_with changes.now (inode_of_page (option_copied page.entry))) first result }
 {

@@ -19,8 +19,9 @@ use std::alloc::Global;
 /// The inode of the file of inodes itself, as in nilfs2.rst.
 pub const INODE_FILE: u64 = 6;
 
-/// Changes inodes: adds to the batch what is born and what ends by it, and answers the root of the changed file. A block of
-/// inodes is there exactly where one of its eight is in use, and one that has the same bytes afterwards isn't written.
+/// Changes inodes: adds to the batch what is born and what ends by it, and answers the root of the changed
+/// file. A block of inodes is there exactly where one of its eight is in use, and one that has the same bytes
+/// afterwards isn't written.
 ///
 /// Refused by `Memory` alone; then the batch is as before.
 pub fn put_inodes<V: Vstore>(

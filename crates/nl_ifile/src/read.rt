@@ -11,8 +11,8 @@ use nl_vstore::VRead;
 /// How many inodes a block has.
 pub(crate) const INODES_PER_BLOCK: u64 = 8;
 
-/// The inode of a number. None where the number is free: its block isn't there, or its place in the block is free or spells
-/// no inode. It takes no memory, and answers on any pages.
+/// The inode of a number. None where the number is free: its block isn't there, or its place in the block is
+/// free or spells no inode. It takes no memory, and answers on any pages.
 pub fn inode<V: VRead>(store: &V, root: Root, number: InodeNumber) -> Option<Inode>
     ensures { result ≡ inode_at (V.pages store.now) (root_of root) number }
 {

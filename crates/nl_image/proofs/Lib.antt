@@ -1,14 +1,9 @@
-pub mod ConditionOrder
 pub mod FirstConditions
 pub mod Refusing
 pub mod TableConditions
-pub mod OnePayload
-pub mod LaterConditions
-pub mod ReadParts
 pub mod ImageBytes
 pub mod Restoring
 pub mod SpelledParts
-pub mod StoreNumbers
 pub mod StoreLogs
 pub mod StoreConditions
 pub mod StoreBlocks

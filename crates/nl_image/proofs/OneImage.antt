@@ -21,7 +21,7 @@ use Rattle.nl_check.specs.Conditions.{AreShaped, IsSoundShape}
 use Rattle.nl_check.specs.Judging.{told}
 use Rattle.nl_check.specs.Shapes.{HasShape, Itself}
 use Rattle.nl_check.specs.Trees.{IsSizeOf}
-use Rattle.nl_check.proofs.Below.{not-none, some-by}
+use Rattle.nl_check.specs.Facts.Below.{not-none, some-by}
 use Rattle.nl_image.specs.Parts.{image_bytes}
 use Rattle.nl_image.specs.StoreImages.{IsImageOf, IsSizedEntry, parts_of}
 

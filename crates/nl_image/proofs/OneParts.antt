@@ -6,16 +6,16 @@ use Rattle.std.proofs.lemmas.List.{append_cancel_left}
 use Rattle.std.proofs.lemmas.List.Elements.{All-head, All-tail}
 use Rattle.nl_types.specs.declared.segment.SegmentInfo.{SegmentInfo}
 use Rattle.nl_types.specs.Segments.{Segments}
-use Rattle.nl_types.proofs.EqualPieces.{HaveWidth}
+use Rattle.nl_types.specs.Facts.EqualPieces.{HaveWidth}
 use Rattle.nl_layout.specs.Checkpoints as checkpoint
 use Rattle.nl_layout.specs.Laws.{SpellOne}
 use Rattle.nl_layout.specs.Segment as segment
 use Rattle.nl_layout.specs.Superblock as superblock
 use Rattle.nl_layout.specs.declared.superblock.Superblock.{Superblock}
-use Rattle.nl_sufile.proofs.ImageEntries as segments
+use Rattle.nl_sufile.specs.Facts.ImageEntries as segments
 use Rattle.nl_dat.specs.EntryBytes as number
-use Rattle.nl_dat.proofs.ImageEntries as numbers
-use Rattle.nl_cpfile.proofs.ImageEntries as checkpoints
+use Rattle.nl_dat.specs.Facts.ImageEntries as numbers
+use Rattle.nl_cpfile.specs.Facts.ImageEntries as checkpoints
 use Rattle.nl_image.specs.Conditions.{HasCheckpoints, HasNumbers, HasSegments, IsDivided, IsImage}
 use Rattle.nl_image.specs.Laws.{ImagesHaveOneParts}
 use Rattle.nl_image.specs.Parts.{Parts, cpfile_in, dat_in, sufile_in}
@@ -65,15 +65,15 @@ pub record SpellOneEach : Type 0 where
   pub numbers : SpellOne number.Spells
 
 module _ (ones : SpellOneEach) where
-  own-segment : HaveOwnSpelling segment.segment_bytes segment.Fits
+  own-segment : HaveOwnSpelling segment.segment_bytes segment.HasSpelling
   own-segment x y fit other same =
       ones.segments _ x y (record { fits = fit; spelling = refl }) (record { fits = other; spelling = same })
 
-  own-checkpoint : HaveOwnSpelling checkpoint.checkpoint_bytes checkpoint.Fits
+  own-checkpoint : HaveOwnSpelling checkpoint.checkpoint_bytes checkpoint.HasSpelling
   own-checkpoint x y fit other same =
       ones.checkpoints _ x y (record { fits = fit; spelling = refl }) (record { fits = other; spelling = same })
 
-  own-number : HaveOwnSpelling number.number_bytes number.Fits
+  own-number : HaveOwnSpelling number.number_bytes number.HasSpelling
   own-number x y fit other same =
       ones.numbers _ x y (record { fits = fit; spelling = refl }) (record { fits = other; spelling = same })
 
@@ -90,21 +90,21 @@ module _ (ones : SpellOneEach) where
         let other : HasSegments bytes q = n.1.1.1.0 in
         same-table p.segments q.segments
         (one.told.blocks ∙ one.shape.blocks ∙ ap (λ (s : Superblock). s.blocks) same-shape ∙ sym other.shape.blocks ∙ sym other.told.blocks)
-        (one-list segment.segment_bytes segment.Fits 16 (omega arith) segments.entry_width own-segment _ _ one.told.fit other.told.fit
+        (one-list segment.segment_bytes segment.HasSpelling 16 (omega arith) segments.entry_width own-segment _ _ one.told.fit other.told.fit
         (sym one.told.spelled ∙ ap (λ (s : Superblock). sufile_in s bytes) same-shape ∙ other.told.spelled))
 
     same-kept : p.kept ≡ q.kept
     same-kept =
         let one : HasCheckpoints bytes p = m.1.1.1.1.0 in
         let other : HasCheckpoints bytes q = n.1.1.1.1.0 in
-        one-list checkpoint.checkpoint_bytes checkpoint.Fits 160 (omega arith) checkpoints.entry_width own-checkpoint _ _ one.fit other.fit
+        one-list checkpoint.checkpoint_bytes checkpoint.HasSpelling 160 (omega arith) checkpoints.entry_width own-checkpoint _ _ one.fit other.fit
         (sym one.spelled ∙ ap (λ (s : Superblock). cpfile_in s bytes) same-shape ∙ other.spelled)
 
     same-numbers : p.numbers ≡ q.numbers
     same-numbers =
         let one : HasNumbers bytes p = m.1.1.1.1.1.0 in
         let other : HasNumbers bytes q = n.1.1.1.1.1.0 in
-        one-list number.number_bytes number.Fits 24 (omega arith) numbers.entry_width own-number p.numbers q.numbers one.fit other.fit
+        one-list number.number_bytes number.HasSpelling 24 (omega arith) numbers.entry_width own-number p.numbers q.numbers one.fit other.fit
         (sym one.spelled ∙ ap (λ (s : Superblock). dat_in s bytes) same-shape ∙ other.spelled)
 
   pub images_have_one_parts : ImagesHaveOneParts

@@ -8,7 +8,7 @@ use Rattle.nl_layout.specs.declared.checkpoint_entry.CheckpointEntry.{Checkpoint
 use Rattle.nl_segwriter.specs.Images as spaces
 use Rattle.nl_segwriter.specs.Images.{HoldLogs, page_in}
 use Rattle.nl_dat.specs.declared.entries.DatEntry.{DatEntry}
-use Rattle.nl_dat.specs.EntryBytes.{Fits}
+use Rattle.nl_dat.specs.EntryBytes.{HasSpelling}
 use Rattle.nl_dat.specs.Images.{IsDatOf, IsTableOver, entry_told, table_of}
 use Rattle.nl_dat.specs.Table.{addresses_of}
 use Rattle.nl_cpfile.specs.Images.{AreRising, cpfile_bytes}
@@ -16,7 +16,7 @@ use Rattle.nl_image.specs.declared.reading.ReadImage.{ReadImage}
 use Rattle.nl_image.specs.Conditions.{HasCheckpoints, HasNumbers, HasSegments, IsDivided, latest_told}
 use Rattle.nl_image.specs.Parts.{Parts, cpfile_start, dat_in, image_length, padding_of, total_of}
 use Rattle.nl_image.specs.Reading.{CanBeRestored, IsReadImage}
-use Rattle.nl_image.proofs.ReadParts.{part-length}
+use Rattle.nl_image.specs.Facts.ReadParts.{part-length}
 
 -- a table of entries that are told has a used block at each number in use
 module _ (s : Segments) (latest : ℕ) (bytes : List ℕ) (numbers : List (Option DatEntry)) (is : IsDatOf s latest bytes numbers) where
@@ -58,7 +58,7 @@ module _ (bytes : List ℕ) (r : ReadImage) (is : IsReadImage bytes r) where
   dat : HasNumbers bytes p
   dat = is.image.1.1.1.1.1.0
 
-  shape-told : spaces.IsShapeOf r.geometry p.segments
+  shape-told : spaces.IsTableShapeOf r.geometry p.segments
   shape-told = record {
     segments = sufile.told.count ∙ (sufile.shape.segments ∙ sym is.shape.segments);
     blocks = sufile.told.blocks ∙ (sufile.shape.blocks ∙ sym is.shape.blocks);
@@ -77,14 +77,14 @@ module _ (bytes : List ℕ) (r : ReadImage) (is : IsReadImage bytes r) where
 
   pub can-be-restored : CanBeRestored r
   can-be-restored = record {
-    shape = subst (spaces.IsShapeOf r.geometry) (sym is.segments) shape-told;
+    shape = subst (spaces.IsTableShapeOf r.geometry) (sym is.segments) shape-told;
     pages = is.logs.pages.count ∙ ap total_blocks (sym is.segments);
     logs = subst (λ (s : Segments). HoldLogs s (page_in r.logs.pages) r.logs.payload) (sym is.segments) is.logs.logs;
     have_logs = subst segments.HaveLogs (sym is.segments) sufile.told.have_logs;
     over = subst (λ (s : Segments). IsTableOver r.numbers s) (sym is.segments)
         (subst (λ (table : List (Option DatEntry)). IsTableOver table p.segments) (sym is.numbers)
         (over-told p.segments (latest_told p) (dat_in p.shape bytes) p.numbers dat));
-    fit = subst (λ (table : List (Option DatEntry)). All Fits (drop 1 table)) (sym is.numbers) dat.fit;
+    fit = subst (λ (table : List (Option DatEntry)). All HasSpelling (drop 1 table)) (sym is.numbers) dat.fit;
     rise = subst AreRising (sym is.kept) cpfile.rise;
     some = subst (λ (kept : List CheckpointEntry). 0 < length kept) (sym is.kept) kept-told;
   }

@@ -2,7 +2,7 @@
 use Rattle.std.proofs.Common.{◌≡◌, ◌∙◌, ℕ, ◌+◌, ◌*◌, List, [], ◌++◌, refl, ap, append_assoc, arith, drop, length, length-append, replicate, sym, take}
 use Rattle.std.proofs.Math.Seq.{drop-append_seam, take-append_seam}
 use Rattle.std.proofs.lemmas.List.{length-replicate, take_all}
-use Rattle.nl_types.proofs.EqualPieces.{length-pieces}
+use Rattle.nl_types.specs.Facts.EqualPieces.{length-pieces}
 use Rattle.nl_layout.specs.Checkpoints.{checkpoint_bytes}
 use Rattle.nl_layout.specs.Segment.{segment_bytes}
 use Rattle.nl_layout.specs.Superblock.{superblock_bytes}
@@ -10,11 +10,11 @@ use Rattle.nl_layout.specs.declared.superblock.Mark.{Mark}
 use Rattle.nl_layout.specs.declared.superblock.Mark.TheVariants.{First, Second}
 use Rattle.nl_layout.specs.declared.superblock.Superblock.{Superblock}
 use Rattle.nl_sufile.specs.Images.{sufile_bytes}
-use Rattle.nl_sufile.proofs.ImageEntries as segments
+use Rattle.nl_sufile.specs.Facts.ImageEntries as segments
 use Rattle.nl_dat.specs.EntryBytes.{dat_bytes, number_bytes}
-use Rattle.nl_dat.proofs.ImageEntries as numbers
+use Rattle.nl_dat.specs.Facts.ImageEntries as numbers
 use Rattle.nl_cpfile.specs.Images.{cpfile_bytes}
-use Rattle.nl_cpfile.proofs.ImageEntries as checkpoints
+use Rattle.nl_cpfile.specs.Facts.ImageEntries as checkpoints
 use Rattle.nl_image.specs.Parts.{Parts, blocks_in, blocks_start, bytes_from, cpfile_in, cpfile_start, dat_in, dat_start, image_bytes, image_length, padding_in, padding_of, padding_start, sufile_in, sufile_start, total_of}
 
 -- ---- one part of a list

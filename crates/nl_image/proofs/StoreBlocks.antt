@@ -5,10 +5,10 @@ use Rattle.std.proofs.Math.Nat.{mul-suc}
 use Rattle.std.proofs.Math.Seq.{drop-append-add, take-append_seam}
 use Rattle.std.proofs.lemmas.Option.{same_Some, slice_get-get_or}
 use Rattle.nl_types.specs.Segments.{AreTidy, IsUsed, total_blocks}
-use Rattle.nl_types.proofs.UsedParts.{used_inside}
+use Rattle.nl_types.specs.Facts.UsedParts.{used_inside}
 use Rattle.nl_space.specs.Content.{SpaceContent}
-use Rattle.nl_space.specs.Images.{AreBlocksOf, IsRestAt, IsRestZero, IsWhole, page_bytes, pages_of}
-use Rattle.nl_space.proofs.ImageBlocks.{page_there, rest_zero}
+use Rattle.nl_space.specs.Images.{AreBlocksOf, IsRestAt, IsRestZero, IsWhole, page_bytes, pages_of_bytes}
+use Rattle.nl_space.specs.Facts.ImageBlocks.{page_there, rest_zero}
 
 -- ---- whole pages, one after the other
 
@@ -46,7 +46,7 @@ module _ (c : SpaceContent) (bytes : List ℕ) (are : AreBlocksOf c bytes) where
   pub blocks-long : length bytes ≡ 1024 * total_blocks c.segments
   blocks-long = ap length are.spelled ∙ pages-long are.pages whole ∙ ap (λ (n : ℕ). 1024 * n) are.count
 
-  block-at : (b : ℕ) (page : List ℕ) → b < total_blocks c.segments → slice_get are.pages b ≡ Some page → pages_of bytes b ≡ Some page
+  block-at : (b : ℕ) (page : List ℕ) → b < total_blocks c.segments → slice_get are.pages b ≡ Some page → pages_of_bytes bytes b ≡ Some page
   block-at b page low at =
       page_there bytes (total_blocks c.segments) b blocks-long low
       ∙ ap (λ (xs : List ℕ). Some (take 1024 (drop (1024 * b) xs))) are.spelled
@@ -56,17 +56,17 @@ module _ (c : SpaceContent) (bytes : List ℕ) (are : AreBlocksOf c bytes) where
   there b low = slice_get-get_or are.pages b [] (omega (arith, low, are.count))
 
   -- a used block is what the space stores
-  pub used-block : AreTidy c.segments → (b : ℕ) → IsUsed c.segments b → pages_of bytes b ≡ c.stored b
+  pub used-block : AreTidy c.segments → (b : ℕ) → IsUsed c.segments b → pages_of_bytes bytes b ≡ c.stored b
   used-block tidy b used =
       let low = used_inside c.segments b tidy used in
       let page : List ℕ = get_or are.pages b [] in
       block-at b page low (there b low) ∙ sym ((are.each b page (there b low)).used used)
 
   -- all other blocks are zero
-  pub rest-zero : IsRestZero c.segments (pages_of bytes)
+  pub rest-zero : IsRestZero c.segments (pages_of_bytes bytes)
   rest-zero = rest_zero c.segments bytes (total_blocks c.segments) blocks-long each
     where
-      each : (b : ℕ) → b < total_blocks c.segments → IsRestAt c.segments (pages_of bytes) b
+      each : (b : ℕ) → b < total_blocks c.segments → IsRestAt c.segments (pages_of_bytes bytes) b
       each b low page unused at =
           let stored : List ℕ = get_or are.pages b [] in
           same_Some page stored (sym at ∙ block-at b stored low (there b low)) ∙ (are.each b stored (there b low)).unused unused

@@ -12,7 +12,7 @@ use Rattle.nl_layout.specs.Superblock.{HasMark, mark_bytes, superblock_bytes}
 use Rattle.nl_layout.specs.declared.superblock.Mark.{Mark}
 use Rattle.nl_layout.specs.declared.superblock.Mark.TheVariants.{First, Second}
 use Rattle.nl_layout.specs.declared.superblock.Superblock.{Superblock}
-use Rattle.nl_space.specs.Images.{IsRestZero, pages_of}
+use Rattle.nl_space.specs.Images.{IsRestZero, pages_of_bytes}
 use Rattle.nl_vstore.specs.Periods.{Periods, periods_of}
 use Rattle.nl_vstore.specs.Stores.{IsStore, Store, content_in, device_in, space_in}
 use Rattle.nl_cpfile.specs.declared.checkpoint.Checkpoint.{Checkpoint}
@@ -26,7 +26,7 @@ use Rattle.nl_image.specs.StoreImages.{IsImageOf, IsSizedEntry, parts_of}
 use Rattle.nl_image.proofs.SpelledParts.{HaveCounts, all-long, blocks-told, head-told, kept-told, numbers-told, padding-told, segments-told}
 use Rattle.nl_image.proofs.StoreBlocks.{blocks-long, rest-zero, used-block}
 use Rattle.nl_image.proofs.StoreLogs.{held-is, hold-logs, payload-of}
-use Rattle.nl_image.proofs.StoreNumbers.{are-own, are-used, numbers-long, own-blocks, pages-are, periods-are}
+use Rattle.nl_image.specs.Facts.StoreNumbers.{are-own, are-used, numbers-long, own-blocks, pages-are, periods-are}
 
 -- bytes that begin with a superblock begin with the mark
 marked : (bytes : List ℕ) (s : Superblock) → 1024 ≤ length bytes → take 1024 bytes ≡ superblock_bytes s → HasMark bytes
@@ -58,8 +58,8 @@ module _ (store : Store) (kept : List Checkpoint) (bytes : List ℕ) (is : IsSto
   }
 
   -- the blocks of the image are those that were written
-  blocks-are : blocks_told bytes parts ≡ pages_of image.blocks
-  blocks-are = ap pages_of (blocks-told parts image.blocks bytes counts image.spelled)
+  blocks-are : blocks_told bytes parts ≡ pages_of_bytes image.blocks
+  blocks-are = ap pages_of_bytes (blocks-told parts image.blocks bytes counts image.spelled)
 
   used-are : (b : ℕ) → IsUsed store.segments b → blocks_told bytes parts b ≡ device_in store b
   used-are b used = ap (λ (blocks : DevicePages). blocks b) blocks-are ∙ used-block (space_in store) image.blocks image.blocks_are is.limits.tidy b used

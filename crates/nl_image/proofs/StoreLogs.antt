@@ -7,24 +7,24 @@ use Rattle.std.proofs.lemmas.Bool.{cases_lt}
 use Rattle.std.proofs.lemmas.List.{get_or_past}
 use Rattle.std.proofs.lemmas.List.FromFn.{get_or-map-range_with_len, length-map-range_with_len}
 use Rattle.nl_types.specs.Segments.{IsUsed, total_blocks}
-use Rattle.nl_types.proofs.UsedParts.{used_inside}
+use Rattle.nl_types.specs.Facts.UsedParts.{used_inside}
 use Rattle.nl_device.specs.Pages.{DevicePages}
-use Rattle.nl_space.specs.Content.{Held, Payload}
+use Rattle.nl_space.specs.Content.{HeldPayload, Payload}
 use Rattle.nl_space.specs.Logs.{FillUpTo, StandsFrom, WholeLog}
-use Rattle.nl_space.proofs.KeptLogs.{fill_kept}
+use Rattle.nl_space.specs.Facts.KeptLogs.{fill_kept}
 use Rattle.nl_vstore.specs.Stores.{IsStore, Store, device_in, payload_in, space_in}
 use Rattle.nl_vstore.specs.Summaries.{IsOfLogs, payload_row}
-use Rattle.nl_vstore.proofs.StoredLogs.{one_list_stands, row-of_logs}
-use Rattle.nl_segwriter.specs.Images.{HoldLogs, IsHeld, end_of, first_of}
+use Rattle.nl_vstore.specs.Facts.StoredLogs.{one_list_stands, row-of_logs}
+use Rattle.nl_segwriter.specs.Images.{HoldLogs, IsHeld, used_end, used_start}
 use Rattle.nl_segwriter.specs.Writing.{held_in, space_content}
-use Rattle.nl_image.proofs.OnePayload.{on_device}
+use Rattle.nl_image.specs.Facts.OnePayload.{on_device}
 
 -- ---- that logs hold a payload is one fact
 
-stands-prop : (b : ℕ) (log : WholeLog) (held : Held) (stored : DevicePages) → IsProp (StandsFrom b log held stored)
+stands-prop : (b : ℕ) (log : WholeLog) (held : HeldPayload) (stored : DevicePages) → IsProp (StandsFrom b log held stored)
 stands-prop b log held stored = Prim.hlevel props
 
-fill-prop : (b end : ℕ) (logs : List WholeLog) (held : Held) (stored : DevicePages) → IsProp (FillUpTo b end logs held stored)
+fill-prop : (b end : ℕ) (logs : List WholeLog) (held : HeldPayload) (stored : DevicePages) → IsProp (FillUpTo b end logs held stored)
 fill-prop b end [] held stored = Prim.hlevel props
 fill-prop b end (log ∷ logs) held stored = λ x y i. (stands-prop b log held stored x.0 y.0 i, fill-prop (b + 1 + length log.payload) end logs held stored x.1 y.1 i)
 
@@ -33,9 +33,9 @@ module _ (s : Store) (is : IsStore s) where
   logs-in : (i : ℕ) → IsHeld s.segments (device_in s) (payload_in s) i
   logs-in i = (
     logs,
-    ∥∥₁_elim (is.whole_logs i) (fill-prop (first_of s.segments i) (end_of s.segments i) logs (payload_in s) (device_in s)) (λ filled.
-        subst (λ (ls : List WholeLog). FillUpTo (first_of s.segments i) (end_of s.segments i) ls (payload_in s) (device_in s))
-        (one_list_stands s i filled.0 logs (on_device (first_of s.segments i) (end_of s.segments i) filled.0 (payload_in s) (device_in s) filled.1) standing.stand)
+    ∥∥₁_elim (is.whole_logs i) (fill-prop (used_start s.segments i) (used_end s.segments i) logs (payload_in s) (device_in s)) (λ filled.
+        subst (λ (ls : List WholeLog). FillUpTo (used_start s.segments i) (used_end s.segments i) ls (payload_in s) (device_in s))
+        (one_list_stands s i filled.0 logs (on_device (used_start s.segments i) (used_end s.segments i) filled.0 (payload_in s) (device_in s) filled.1) standing.stand)
         filled.1),
   )
     where
@@ -68,6 +68,6 @@ module _ (s : Store) (is : IsStore s) where
       held i =
           let logs = logs-in i in (
             logs.0,
-            fill_kept (first_of s.segments i) (end_of s.segments i) logs.0 (space_in s) (space_content s.segments payload-of image)
-                (λ c low high. (held-is c, same c (record { segment = i; block = c - first_of s.segments i }, omega (arith, low), omega (arith, low, high)))) logs.1,
+            fill_kept (used_start s.segments i) (used_end s.segments i) logs.0 (space_in s) (space_content s.segments payload-of image)
+                (λ c low high. (held-is c, same c (record { segment = i; block = c - used_start s.segments i }, omega (arith, low), omega (arith, low, high)))) logs.1,
           )

@@ -16,7 +16,7 @@ use Rattle.nl_image.specs.declared.sections.Sections.{Sections}
 use Rattle.nl_image.specs.Conditions.{HasSegments, MeetsFirst, conditions, number_of_last}
 use Rattle.nl_image.specs.Parts.{Parts, bytes_from, cpfile_in, cpfile_start, dat_in, dat_start, image_length, sufile_in, total_of}
 use Rattle.nl_image.specs.Reading.{AreTold, HaveCheckpoints, HaveSegments, HaveTables, IsRefusal, IsSectioned, parts_with}
-use Rattle.nl_image.proofs.ConditionOrder.{hold-fewer}
+use Rattle.nl_image.specs.Facts.ConditionOrder.{hold-fewer}
 use Rattle.nl_image.proofs.FirstConditions.{parts-of}
 use Rattle.nl_image.proofs.Refusing.{FindsAll, memory-alone, refused-by}
 

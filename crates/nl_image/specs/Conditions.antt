@@ -10,7 +10,7 @@ use Rattle.nl_layout.specs.declared.superblock.Superblock.{Superblock}
 use Rattle.nl_layout.specs.Superblock.{HasMark, Spells}
 use Rattle.nl_sufile.specs.Images.{IsSufileOf}
 use Rattle.nl_space.specs.Content.{Payload}
-use Rattle.nl_space.specs.Images.{IsRestZero, pages_of}
+use Rattle.nl_space.specs.Images.{IsRestZero, pages_of_bytes}
 use Rattle.nl_vstore.specs.Batches.{number_of_payload}
 use Rattle.nl_vstore.specs.Periods.{Periods}
 use Rattle.nl_segwriter.specs.Images.{HoldLogs}
@@ -35,11 +35,12 @@ latest_told p = number_of_last p.kept
 
 -- the page of each block
 abbrev pub blocks_told : List ℕ → Parts → DevicePages
-blocks_told bytes p = pages_of (blocks_in p.shape bytes)
+blocks_told bytes p = pages_of_bytes (blocks_in p.shape bytes)
 
 -- the page under each virtual block number, and its period
 abbrev pub pages_told : List ℕ → Parts → Pages
-pages_told bytes p v = option_and_then (λ (e : DatEntry). blocks_told bytes p e.block) (entry_told p.numbers v)
+pages_told bytes p v =
+    option_and_then (λ (e : DatEntry). blocks_told bytes p e.block) (entry_told p.numbers v)
 
 abbrev pub periods_told : Parts → Periods
 periods_told p v = option_map period_of_entry (entry_told p.numbers v)
@@ -118,7 +119,8 @@ Condition = List ℕ → Parts → Type 0
 -- in this order
 abbrev pub conditions : List Condition
 conditions =
-    IsMarked ∷ IsDivided ∷ HasItsLength ∷ HasSegments ∷ HasCheckpoints ∷ HasNumbers ∷ HasLogs ∷ HasShapes ∷ HasTrees
+    IsMarked ∷ IsDivided ∷ HasItsLength ∷ HasSegments ∷ HasCheckpoints ∷ HasNumbers ∷ HasLogs ∷ HasShapes
+    ∷ HasTrees
     ∷ HasPeriods ∷ HasZeros ∷ []
 
 abbrev pub condition_count : ℕ
@@ -137,8 +139,8 @@ MeetsFirst n bytes p = HoldFirst n conditions bytes p
 abbrev pub IsImage : List ℕ → Parts → Type 0
 IsImage bytes p = MeetsFirst condition_count bytes p
 
--- The condition of this number is the first that fails: the bytes have parts that meet those before it, and none that meet it
--- too.
+-- The condition of this number is the first that fails: the bytes have parts that meet those before it, and
+-- none that meet it too.
 pub record FirstFails (n : ℕ) (bytes : List ℕ) : Type 0 where
   pub number : 1 ≤ n
   pub before : (p : Parts) × MeetsFirst (n - 1) bytes p

@@ -17,7 +17,8 @@ use Rattle.nl_image.specs.StoreImages.{IsImageOf, parts_of}
 
 -- no condition of an image is the first that fails
 abbrev pub ImagesHaveNoFault : Type 0
-ImagesHaveNoFault = (n : ℕ) (bytes : List ℕ) (p : Parts) → n ≤ condition_count → IsImage bytes p → FirstFails n bytes → ⊥
+ImagesHaveNoFault =
+    (n : ℕ) (bytes : List ℕ) (p : Parts) → n ≤ condition_count → IsImage bytes p → FirstFails n bytes → ⊥
 
 -- and of other bytes one alone is
 abbrev pub OneFailsFirst : Type 0
@@ -25,7 +26,8 @@ OneFailsFirst = (n m : ℕ) (bytes : List ℕ) → FirstFails n bytes → FirstF
 
 -- an image is the bytes of its parts and of its blocks, one after the other: it has no others
 abbrev pub ImagesAreSpelled : Type 0
-ImagesAreSpelled = (bytes : List ℕ) (p : Parts) → IsImage bytes p → bytes ≡ image_bytes p (blocks_in p.shape bytes)
+ImagesAreSpelled =
+    (bytes : List ℕ) (p : Parts) → IsImage bytes p → bytes ≡ image_bytes p (blocks_in p.shape bytes)
 
 -- an image has no other parts
 abbrev pub ImagesHaveOneParts : Type 0
@@ -33,8 +35,8 @@ ImagesHaveOneParts = (bytes : List ℕ) (p q : Parts) → IsImage bytes p → Is
 
 -- ---- images of stores
 
--- A store and the checkpoints kept over it have one image, where the roots of those have their shape: where a root names a number
--- without a page, its file has no one size.
+-- A store and the checkpoints kept over it have one image, where the roots of those have their shape: where a
+-- root names a number without a page, its file has no one size.
 abbrev pub StoresHaveOneImage : Type 0
 StoresHaveOneImage =
     (store : Store) (kept : List Checkpoint) (a b : List ℕ) → (image : IsImageOf store kept a)
@@ -49,15 +51,17 @@ PresentMarkStays =
 -- and tells the pages under its numbers
 abbrev pub StoreImagesTellPages : Type 0
 StoreImagesTellPages =
-    (store : Store) (kept : List Checkpoint) (bytes : List ℕ) → IsStore store → (image : IsImageOf store kept bytes)
+    (store : Store) (kept : List Checkpoint) (bytes : List ℕ) → IsStore store
+    → (image : IsImageOf store kept bytes)
     → pages_told bytes (parts_of image.shape store image.entries) ≡ pages_of (content_in store)
 
--- What a store alone doesn't tell of the checkpoints kept over it: there are some, they rise, all numbers have periods up to
--- the latest one, and the store has their trees.
+-- What a store alone doesn't tell of the checkpoints kept over it: there are some, they rise, all numbers
+-- have periods up to the latest one, and the store has their trees.
 pub record AreKeptOver (store : Store) (entries : List CheckpointEntry) : Type 0 where
   pub some : 1 ≤ length entries
   pub rise : AreRising entries
-  pub periods : (v : ℕ) (e : DatEntry) → entry_told (numbers_shown store) v ≡ Some e → HasPeriod (number_of_last entries) e
+  pub periods : (v : ℕ) (e : DatEntry) → entry_told (numbers_shown store) v ≡ Some e
+      → HasPeriod (number_of_last entries) e
   pub shaped : AreShaped (pages_of (content_in store)) (map told entries)
   pub trees : AreTrees (pages_of (content_in store)) (map told entries)
   pub exact : AreExact (pages_of (content_in store)) (periods_of (content_in store)) (map told entries)
@@ -65,5 +69,6 @@ pub record AreKeptOver (store : Store) (entries : List CheckpointEntry) : Type 0
 -- the image of a store and of checkpoints so kept over it meets all conditions
 abbrev pub StoreImagesAreImages : Type 0
 StoreImagesAreImages =
-    (store : Store) (kept : List Checkpoint) (bytes : List ℕ) → IsStore store → (image : IsImageOf store kept bytes) → AreKeptOver store image.entries
+    (store : Store) (kept : List Checkpoint) (bytes : List ℕ) → IsStore store
+    → (image : IsImageOf store kept bytes) → AreKeptOver store image.entries
     → IsImage bytes (parts_of image.shape store image.entries)

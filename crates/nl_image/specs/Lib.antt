@@ -4,3 +4,4 @@ pub mod StoreImages
 pub mod Laws
 pub mod ReadPages
 pub mod Reading
+pub mod Facts

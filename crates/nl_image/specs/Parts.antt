@@ -77,6 +77,7 @@ entry_bytes p = sufile_bytes p.segments ++ dat_bytes p.numbers ++ cpfile_bytes p
 abbrev pub image_bytes : Parts → List ℕ → List ℕ
 image_bytes p blocks = superblock_bytes p.shape ++ entry_bytes p ++ replicate (padding_of p.shape) 0 ++ blocks
 
--- bytes that begin with a mark, under the present one: that is how a volume is closed that was opened under the first
+-- bytes that begin with a mark, under the present one: that is how a volume is closed that was opened under
+-- the first
 abbrev pub with_present_mark : List ℕ → List ℕ
 with_present_mark bytes = mark_bytes Second ++ drop 8 bytes

@@ -6,14 +6,14 @@ use Rattle.nl_types.specs.Segments as segments
 use Rattle.nl_types.specs.Segments.{Segments, total_blocks}
 use Rattle.nl_layout.specs.declared.checkpoint_entry.CheckpointEntry.{CheckpointEntry}
 use Rattle.nl_layout.specs.declared.superblock.Superblock.{Superblock}
-use Rattle.nl_space.specs.Content.{Held, Payload}
-use Rattle.nl_space.specs.Images.{IsRestZero, pages_of}
+use Rattle.nl_space.specs.Content.{HeldPayload, Payload}
+use Rattle.nl_space.specs.Images.{IsRestZero, pages_of_bytes}
 use Rattle.nl_segwriter.specs.declared.images.Restored.{Restored}
 use Rattle.nl_segwriter.specs.Images as spaces
 use Rattle.nl_segwriter.specs.Images.{HoldLogs, IsRestored, page_in}
 use Rattle.nl_segwriter.specs.Writing.{held_in}
 use Rattle.nl_dat.specs.declared.entries.DatEntry.{DatEntry}
-use Rattle.nl_dat.specs.EntryBytes.{Fits}
+use Rattle.nl_dat.specs.EntryBytes.{HasSpelling}
 use Rattle.nl_dat.specs.Images.{IsTableOver, table_of}
 use Rattle.nl_dat.specs.Table.{entry_in}
 use Rattle.nl_cpfile.specs.Images.{AreRising}
@@ -53,7 +53,8 @@ pub record HaveSegments (x : Sections) (segments : Segments) : Type 0 where
   pub only : (p : Parts) → MeetsFirst 4 x.image.now p → (p.shape ≡ x.superblock) × (p.segments ≡ segments)
 
 -- parts that have these segments and checkpoints
-pub record AreTold (x : Sections) (segments : Segments) (kept : List CheckpointEntry) (p : Parts) : Type 0 where
+pub record AreTold (x : Sections) (segments : Segments) (kept : List CheckpointEntry)
+    (p : Parts) : Type 0 where
   pub shape : p.shape ≡ x.superblock
   pub segments_are : p.segments ≡ segments
   pub kept_are : p.kept ≡ kept
@@ -65,7 +66,8 @@ pub record HaveCheckpoints (x : Sections) (segments : Segments) (kept : List Che
 
 -- with what a table has for each number, 0 too
 abbrev pub parts_with : Sections → Segments → List CheckpointEntry → List (Option DatEntry) → Parts
-parts_with x segments kept table = record { shape = x.superblock; segments = segments; numbers = drop 1 table; kept = kept }
+parts_with x segments kept table =
+    record { shape = x.superblock; segments = segments; numbers = drop 1 table; kept = kept }
 
 abbrev pub parts_read : Sections → Tables → Parts
 parts_read x t = parts_with x t.segments t.kept t.numbers
@@ -83,7 +85,7 @@ pub record AreNumbered (table : List (Option DatEntry)) (segments : Segments) (p
 -- ---- logs, and the trees of files
 
 -- the block of what a table has for a number, if anything, is that number's own
-abbrev pub IsOwnEntry : Held → ℕ → Option DatEntry → Type 0
+abbrev pub IsOwnEntry : HeldPayload → ℕ → Option DatEntry → Type 0
 IsOwnEntry payload v entry = IfSome entry (λ (e : DatEntry). IsOwn payload v e)
 
 -- each number's block is its own
@@ -91,8 +93,8 @@ abbrev pub HaveOwn : List (Option DatEntry) → List (Option Payload) → Type 0
 HaveOwn table payload = (v : ℕ) (e : DatEntry) → entry_in table v ≡ Some e → IsOwn (held_in payload) v e
 
 -- the used blocks are read, which are whole logs, and each number's block is its own
-pub record HaveLogs (x : Sections) (t : Tables) (logs : Restored) : Type 0 where
-  pub restored : IsRestored t.segments (pages_of x.blocks.now) logs
+pub record HaveReadLogs (x : Sections) (t : Tables) (logs : Restored) : Type 0 where
+  pub restored : IsRestored t.segments (pages_of_bytes x.blocks.now) logs
   pub own : HaveOwn t.numbers logs.payload
 
 -- conditions 8 to 10
@@ -104,7 +106,7 @@ pub record HasCheckedTrees (bytes : List ℕ) (p : Parts) : Type 0 where
 -- the padding, and all blocks outside used parts, are zero
 pub record AreZero (x : Sections) (segments : Segments) : Type 0 where
   pub padding : x.padding.now ≡ replicate (length x.padding.now) 0
-  pub blocks : IsRestZero segments (pages_of x.blocks.now)
+  pub blocks : IsRestZero segments (pages_of_bytes x.blocks.now)
 
 -- ---- all of it
 
@@ -120,11 +122,11 @@ pub record IsReadImage (bytes : List ℕ) (r : ReadImage) : Type 0 where
 
 -- what a store asks that is made of what was read
 pub record CanBeRestored (r : ReadImage) : Type 0 where
-  pub shape : spaces.IsShapeOf r.geometry r.segments
+  pub shape : spaces.IsTableShapeOf r.geometry r.segments
   pub pages : length r.logs.pages ≡ total_blocks r.segments
   pub logs : HoldLogs r.segments (page_in r.logs.pages) r.logs.payload
   pub have_logs : segments.HaveLogs r.segments
   pub over : IsTableOver r.numbers r.segments
-  pub fit : All Fits (drop 1 r.numbers)
+  pub fit : All HasSpelling (drop 1 r.numbers)
   pub rise : AreRising r.kept
   pub some : 0 < length r.kept

@@ -31,20 +31,22 @@ pub record IsShapeOfStore (store : Store) (s : Superblock) : Type 0 where
 
 -- the parts of a store, with the entries of checkpoints
 abbrev pub parts_of : Superblock → Store → List CheckpointEntry → Parts
-parts_of s store entries = record { shape = s; segments = store.segments; numbers = numbers_shown store; kept = entries }
+parts_of s store entries =
+    record { shape = s; segments = store.segments; numbers = numbers_shown store; kept = entries }
 
 -- they are in front of the image of the store and of the kept checkpoints
-pub record AreOf (store : Store) (kept : List Checkpoint) (s : Superblock) (entries : List CheckpointEntry) : Type 0 where
+pub record AreOf (store : Store) (kept : List Checkpoint) (s : Superblock)
+    (entries : List CheckpointEntry) : Type 0 where
   pub shape : IsShapeOfStore store s
   pub count : s.checkpoints ≡ length kept
   pub sized : AllZip (IsSizedEntry (pages_of (content_in store))) kept entries
 
 -- all of them have a spelling
 pub record HaveSpelling (p : Parts) : Type 0 where
-  pub shape : superblock.Fits p.shape
-  pub segments : All segments.Fits p.segments.each
-  pub numbers : All numbers.Fits p.numbers
-  pub kept : All checkpoints.Fits p.kept
+  pub shape : superblock.HasSpelling p.shape
+  pub segments : All segments.HasSpelling p.segments.each
+  pub numbers : All numbers.HasSpelling p.numbers
+  pub kept : All checkpoints.HasSpelling p.kept
 
 -- The bytes are the image: its parts, and all blocks as the device has them, with zeros where none is used.
 pub record IsImageOf (store : Store) (kept : List Checkpoint) (bytes : List ℕ) : Type 0 where

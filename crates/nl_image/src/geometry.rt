@@ -15,9 +15,9 @@ pub(crate) struct Division {
     pub(crate) geometry: Geometry,
 }
 
-/// How the volume of an image is divided, whatever stands behind its superblock. Refused by `BadImage(1)` where the bytes
-/// don't begin as an image does, and by `BadImage(2)` where no volume is divided so, no checkpoint is kept, or a byte outside
-/// the fields of the superblock isn't zero.
+/// How the volume of an image is divided, whatever stands behind its superblock. Refused by `BadImage(1)`
+/// where the bytes don't begin as an image does, and by `BadImage(2)` where no volume is divided so, no
+/// checkpoint is kept, or a byte outside the fields of the superblock isn't zero.
 pub fn geometry_of(bytes: &[u8]) -> Result<Geometry, VolError>
     ensures found { IfOk result (λ g.
         (p : Parts) × MeetsFirst 2 bytes.now p × IsShapeOf g p.shape) }
@@ -44,7 +44,8 @@ pub(crate) fn division_of(bytes: &[u8]) -> Result<Division, VolError>
     }
 }
 
-/// The superblock that the bytes spell, where they spell one, a volume may be divided so, and a checkpoint is kept.
+/// The superblock that the bytes spell, where they spell one, a volume may be divided so, and a checkpoint is
+/// kept.
 fn divided(bytes: &[u8]) -> Option<Division>
     ensures found { IfSome result (λ d.
         IsDividedBy bytes.now d.superblock × IsShapeOf d.geometry d.superblock) }

@@ -1,10 +1,10 @@
 //! The logs of an image, and whose their payload is.
 ghost use Rattle.std.specs.Prelude.{◌≡◌, ◌↔◌, IfErr, IfOk, IsTrue};
-ghost use Rattle.nl_space.specs.Images.{pages_of};
+ghost use Rattle.nl_space.specs.Images.{pages_of_bytes};
 ghost use Rattle.nl_segwriter.specs.Images.{IsRestored};
 ghost use Rattle.nl_segwriter.specs.Writing.{held_in};
 ghost use Rattle.nl_image.specs.Conditions.{HasLogs};
-ghost use Rattle.nl_image.specs.Reading.{AreNumbered, HaveLogs, HaveOwn, HaveTables, IsOwnEntry, IsRefusal, IsSectioned, parts_read};
+ghost use Rattle.nl_image.specs.Reading.{AreNumbered, HaveReadLogs, HaveOwn, HaveTables, IsOwnEntry, IsRefusal, IsSectioned, parts_read};
 
 use crate::sections::Sections;
 use crate::tables::Tables;
@@ -15,8 +15,8 @@ use nl_types::VolError;
 use nl_vstore::laws::summaries_are_one;
 use std::alloc::Global;
 
-/// The logs of an image. Refused by `BadImage(7)` where the used part of a segment isn't whole logs, or the block of a number
-/// isn't payload of one that names the number, and by `Memory`.
+/// The logs of an image. Refused by `BadImage(7)` where the used part of a segment isn't whole logs, or the
+/// block of a number isn't payload of one that names the number, and by `Memory`.
 pub(crate) fn read_logs(
     alloc: Global,
     sections: &Sections<'_>,
@@ -26,7 +26,7 @@ pub(crate) fn read_logs(
     requires tables { HaveTables sections.now.image.now (parts_read sections.now tables.now) }
     requires numbered { AreNumbered tables.now.numbers tables.now.segments
         (parts_read sections.now tables.now) }
-    ensures found { IfOk result (HaveLogs sections.now tables.now) }
+    ensures found { IfOk result (HaveReadLogs sections.now tables.now) }
     ensures meets { IfOk result (λ _.
         HasLogs sections.now.image.now (parts_read sections.now tables.now)) }
     ensures refused { IfErr result (IsRefusal sections.now.image.now) }
@@ -45,7 +45,7 @@ pub(crate) fn read_logs(
 fn read_whole(alloc: Global, sections: &Sections<'_>, tables: &Tables) -> Result<Restored, VolError>
     requires sectioned { IsSectioned sections.now }
     requires tables { HaveTables sections.now.image.now (parts_read sections.now tables.now) }
-    ensures found { IfOk result (IsRestored tables.now.segments (pages_of sections.now.blocks.now)) }
+    ensures found { IfOk result (IsRestored tables.now.segments (pages_of_bytes sections.now.blocks.now)) }
     ensures refused { IfErr result (IsRefusal sections.now.image.now) }
 {
     Restored::read(alloc, &tables.segments, sections.blocks)

@@ -2,7 +2,7 @@
 ghost use Rattle.std.specs.Prelude.{◌≡◌, ◌↔◌, ◌*◌, IfErr, IfOk, IsTrue, OnOk, length, replicate};
 ghost use Rattle.nl_types.specs.Segments.{total_blocks};
 ghost use Rattle.nl_image.specs.Conditions.{HasLogs, IsImage};
-ghost use Rattle.nl_image.specs.Reading.{AreNumbered, AreZero, CanBeRestored, HasCheckedTrees, HaveLogs, HaveTables, IsReadImage, IsRefusal, IsSectioned, parts_read};
+ghost use Rattle.nl_image.specs.Reading.{AreNumbered, AreZero, CanBeRestored, HasCheckedTrees, HaveReadLogs, HaveTables, IsReadImage, IsRefusal, IsSectioned, parts_read};
 
 use crate::logs::read_logs;
 use crate::pages::ImagePages;
@@ -28,8 +28,8 @@ pub struct ReadImage {
     pub logs: Restored,
 }
 
-/// Reads an image. Refused by `BadImage` with the number of the first condition that the bytes fail, and by `Memory`: a page is
-/// taken for each used block.
+/// Reads an image. Refused by `BadImage` with the number of the first condition that the bytes fail, and by
+/// `Memory`: a page is taken for each used block.
 pub fn read_image(alloc: Global, bytes: &[u8]) -> Result<ReadImage, VolError>
     ensures found { IfOk result (IsReadImage bytes.now) }
     ensures restores { IfOk result CanBeRestored }
@@ -62,7 +62,7 @@ fn read_checked(
     requires tables { HaveTables sections.now.image.now (parts_read sections.now tables.now) }
     requires numbered { AreNumbered tables.now.numbers tables.now.segments
         (parts_read sections.now tables.now) }
-    ensures found { IfOk result (HaveLogs sections.now tables.now) }
+    ensures found { IfOk result (HaveReadLogs sections.now tables.now) }
     ensures image { IfOk result (λ _.
         IsImage sections.now.image.now (parts_read sections.now tables.now)) }
     ensures refused { IfErr result (IsRefusal sections.now.image.now) }
@@ -76,8 +76,8 @@ fn read_checked(
     }
 }
 
-/// Whether all kept checkpoints meet conditions 8 to 10. Refused by the first of them that one of these doesn't meet, and by
-/// `Memory`.
+/// Whether all kept checkpoints meet conditions 8 to 10. Refused by the first of them that one of these
+/// doesn't meet, and by `Memory`.
 fn check_trees(
     alloc: Global,
     sections: &Sections<'_>,
@@ -88,7 +88,7 @@ fn check_trees(
     requires tables { HaveTables sections.now.image.now (parts_read sections.now tables.now) }
     requires numbered { AreNumbered tables.now.numbers tables.now.segments
         (parts_read sections.now tables.now) }
-    requires logs { HaveLogs sections.now tables.now logs.now }
+    requires logs { HaveReadLogs sections.now tables.now logs.now }
     requires meets { HasLogs sections.now.image.now (parts_read sections.now tables.now) }
     ensures holds { OnOk result
         (HasCheckedTrees sections.now.image.now (parts_read sections.now tables.now)) }

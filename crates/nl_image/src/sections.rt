@@ -29,7 +29,8 @@ pub(crate) struct Sections<'a> {
     pub(crate) blocks: &'a [u8],
 }
 
-/// The parts of an image. Refused by `BadImage` 1 to 3, where the bytes aren't divided as an image, or have another length.
+/// The parts of an image. Refused by `BadImage` 1 to 3, where the bytes aren't divided as an image, or have
+/// another length.
 pub(crate) fn sections_of<'a>(image: &'a [u8]) -> Result<Sections<'a>, VolError>
     ensures found { IfOk result IsSectioned }
     ensures image { IfOk result (λ x. x.image.now ≡ image.now) }

@@ -1,6 +1,7 @@
 //! The image of a store and of the checkpoints kept over it, written.
 ghost use Rattle.std.specs.Prelude.{◌≡◌, ◌<◌, ◌≤◌, ◌*◌, ◌+◌, ◌^◌, ◌++◌, All, IfErr, IfNone, IfOk, IfSome, IsErrOf, List, length, replicate};
 ghost use Rattle.std.specs.List.{AllZip};
+ghost use Rattle.nl_types.specs.Limits as limits;
 ghost use Rattle.nl_types.specs.declared.error.VolError;
 ghost use Rattle.nl_types.specs.Roots.{pages_of};
 ghost use Rattle.nl_layout.specs.Superblock.{superblock_bytes};
@@ -23,14 +24,15 @@ use nl_types::{BLOCK_SIZE, VolError};
 use nl_vstore::Vstore;
 use std::alloc::Global;
 
-/// The image of a store, with the entries of the checkpoints that are kept over it. Each used block is loaded once from the
-/// device, in order, and nothing else is. Refused by `Memory`, and by `Fault` where the device failed.
+/// The image of a store, with the entries of the checkpoints that are kept over it. Each used block is loaded
+/// once from the device, in order, and nothing else is. Refused by `Memory`, and by `Fault` where the device
+/// failed.
 pub fn write_image<S: Space>(
     alloc: Global,
     store: &mut Dat<S>,
     kept: &[CheckpointEntry],
 ) -> Result<Vec<u8>, VolError>
-    requires { All numbers.Fits (numbers_shown store.old.store) }
+    requires { All numbers.HasSpelling (numbers_shown store.old.store) }
     ensures image { IfOk result (λ bytes. (all : List Checkpoint)
         → AllZip (IsSizedEntry (pages_of (content_in store.old.store))) all kept.now
         → IsImageOf store.old.store all bytes.items) }
@@ -67,10 +69,10 @@ fn superblock_over<S: Space>(store: &Dat<S>, kept: &[CheckpointEntry]) -> Superb
 
 /// How many bytes stand in front of the blocks. None where no list of bytes is so long.
 fn front_of(superblock: &Superblock) -> Option<usize>
-    requires segments { superblock.now.segments ≤ 4096 }
-    requires blocks { superblock.now.segments * superblock.now.blocks ≤ 262144 }
+    requires segments { superblock.now.segments ≤ limits.segment_limit }
+    requires blocks { superblock.now.segments * superblock.now.blocks ≤ limits.volume_block_limit }
     ensures front { IfSome result (λ front. front ≡ blocks_start superblock.now) }
-    ensures few { IfSome result (λ front. front + 1024 * 262144 < 2 ^ 64) }
+    ensures few { IfSome result (λ front. front + 1024 * limits.volume_block_limit < 2 ^ 64) }
     ensures none { IfNone result (2 ^ 64 ≤ 320 * (superblock.now.checkpoints + 1)) }
 {
     if superblock.checkpoints > u64::MAX / 320 {
@@ -95,9 +97,9 @@ fn write_front<S: Space>(
     ensures bytes { out.new ≡ superblock_bytes superblock.now
         ++ entry_bytes (parts_of superblock.now store.now.store kept.now)
         ++ replicate (padding_of superblock.now) 0 }
-    ensures superblock { superblocks.Fits superblock.now }
-    ensures segments { All segments.Fits store.now.store.segments.each }
-    ensures kept { All checkpoints.Fits kept.now }
+    ensures superblock { superblocks.HasSpelling superblock.now }
+    ensures segments { All segments.HasSpelling store.now.store.segments.each }
+    ensures kept { All checkpoints.HasSpelling kept.now }
 {
     let (head, rest) = out.split_at_mut(BLOCK_SIZE);
     superblock.write(head);

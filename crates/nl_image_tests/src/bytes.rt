@@ -1,5 +1,5 @@
-//! The parts of an image by hand: 8 segments of 4 blocks. The first segment is active, and has one log with the blocks of
-//! virtual numbers 1 and 2.
+//! The parts of an image by hand: 8 segments of 4 blocks. The first segment is active, and has one log with
+//! the blocks of virtual numbers 1 and 2.
 
 /// Bytes at an offset.
 pub(crate) type Spelling = (usize, &'static [u8]);

@@ -16,7 +16,8 @@ struct Shape {
     full: bool,
 }
 
-/// The payload blocks that come first: a block and the node of the directory, and two blocks and the node of the file of inodes.
+/// The payload blocks that come first: a block and the node of the directory, and two blocks and the node of
+/// the file of inodes.
 const DIRECTORY: usize = 0;
 
 const DIRECTORY_NODE: usize = 1;

@@ -1,4 +1,5 @@
-//! Which condition is the first that an image fails: for each sentence of the conditions an image that breaks it.
+//! Which condition is the first that an image fails: for each sentence of the conditions an image that breaks
+//! it.
 use crate::judging::fault_of;
 use crate::volume::{Change, HIGH_TREE, NO_END, Part, TREES, TWO_BLOCKS, image_with};
 use nl_types::VolError;
@@ -63,8 +64,8 @@ const LENGTH: &[Row] = &[
 
 // ---- condition 4: segments
 
-/// A clean one with a stamp; flag 1 alone; more blocks than there are; none of an active one, and of a dirty one; an active one
-/// in error; two active ones; another flag.
+/// A clean one with a stamp; flag 1 alone; more blocks than there are; none of an active one, and of a dirty
+/// one; an active one in error; two active ones; another flag.
 const SEGMENTS: &[Row] = &[
     &[(Part::Segment(1), 0, &[1])],
     &[(Part::Segment(0), 12, &[1])],
@@ -96,8 +97,8 @@ const CHECKPOINTS: &[Row] = &[
 
 // ---- condition 6: numbers
 
-/// A start of 0; one above the latest checkpoint; an end that is the start; one above the latest checkpoint; a block behind the
-/// used part; one of a clean segment; one that another number has.
+/// A start of 0; one above the latest checkpoint; an end that is the start; one above the latest checkpoint;
+/// a block behind the used part; one of a clean segment; one that another number has.
 const NUMBERS: &[Row] = &[
     &[(Part::Number(1), 8, &[0])],
     &[(Part::Number(1), 8, &[3])],
@@ -110,9 +111,9 @@ const NUMBERS: &[Row] = &[
 
 // ---- condition 7: logs
 
-/// Another mark; a count of 0, and of 31; a level of 4; a byte behind the level; one behind the fields of the header; one in a
-/// record behind the last one; a log that ends past the used part; a used block behind the last log; a record that names
-/// another number; a summary's block.
+/// Another mark; a count of 0, and of 31; a level of 4; a byte behind the level; one behind the fields of the
+/// header; one in a record behind the last one; a log that ends past the used part; a used block behind the
+/// last log; a record that names another number; a summary's block.
 const LOGS: &[Row] = &[
     &[(Part::Block(11), 3, b"F")],
     &[(Part::Block(11), 4, &[0])],
@@ -129,8 +130,8 @@ const LOGS: &[Row] = &[
 
 // ---- condition 8: shapes
 
-/// Of the file of inodes: a root of kind 3; a chain with a height; a tree without one; an empty root with a number; a chain
-/// without one.
+/// Of the file of inodes: a root of kind 3; a chain with a height; a tree without one; an empty root with a
+/// number; a chain without one.
 const ROOTS: &[Row] = &[
     &[(Part::Checkpoint(1), 33, &[3])],
     &[(Part::Checkpoint(1), 34, &[1])],
@@ -139,7 +140,8 @@ const ROOTS: &[Row] = &[
     &[(Part::Checkpoint(1), 48, &[0])],
 ];
 
-/// The same of inodes; an inode of kind 4; a byte outside the fields of one in use, and of a free one; a block without one.
+/// The same of inodes; an inode of kind 4; a byte outside the fields of one in use, and of a free one; a
+/// block without one.
 const INODES: &[Row] = &[
     &[(Part::Block(14), 385, &[3])],
     &[(Part::Block(14), 386, &[1])],
@@ -152,8 +154,9 @@ const INODES: &[Row] = &[
     &[(Part::Block(8), 256, &[0; 18])],
 ];
 
-/// A number that is not in use, in a slot of data, and of a node; one that is none; a last node that names nothing; a node that
-/// leads into itself, and into that of another file; a number at two indices, in two files, and in a file and the file of inodes.
+/// A number that is not in use, in a slot of data, and of a node; one that is none; a last node that names
+/// nothing; a node that leads into itself, and into that of another file; a number at two indices, in two
+/// files, and in a file and the file of inodes.
 const NODES: &[Row] = &[
     &[(Part::Block(13), 0, &[20])],
     &[(Part::Block(13), 1016, &[20])],
@@ -166,9 +169,9 @@ const NODES: &[Row] = &[
     &[(Part::Block(14), 641, &[1]), (Part::Block(14), 656, &[14])],
 ];
 
-/// Of trees: heights 0 and 4, of a file and of the file of inodes; no number at the top, in both; a node that names nothing, in
-/// both; a number that is not in use, in the first and in the last slot; one at two indices, and one in two files; the top at its
-/// own first slot; a height of 2 over a node of data.
+/// Of trees: heights 0 and 4, of a file and of the file of inodes; no number at the top, in both; a node that
+/// names nothing, in both; a number that is not in use, in the first and in the last slot; one at two
+/// indices, and one in two files; the top at its own first slot; a height of 2 over a node of data.
 const TREE_NODES: &[Row] = &[
     &[(Part::Block(14), 386, &[0])],
     &[(Part::Block(14), 386, &[4])],
@@ -189,8 +192,9 @@ const TREE_NODES: &[Row] = &[
     &[(Part::Block(14), 386, &[2])],
 ];
 
-/// Of a tree of height 2: one that would do with 1, with data at indices 0 and 1, and at 126 and 127; a node of level 1 that
-/// names nothing; one at two places; a top that names itself; a number that is not in use in the place of a node.
+/// Of a tree of height 2: one that would do with 1, with data at indices 0 and 1, and at 126 and 127; a node
+/// of level 1 that names nothing; one at two places; a top that names itself; a number that is not in use in
+/// the place of a node.
 const HIGH_NODES: &[Row] = &[
     &[(Part::Block(16), 0, b"\x0c\0\0\0\0\0\0\0\0")],
     &[
@@ -206,7 +210,8 @@ const HIGH_NODES: &[Row] = &[
 
 // ---- condition 9: trees
 
-/// No inode; a file as inode 2; inodes 6 and 10 in use; an inode of kind 3; one that no record names; more inodes than are told.
+/// No inode; a file as inode 2; inodes 6 and 10 in use; an inode of kind 3; one that no record names; more
+/// inodes than are told.
 const IN_USE: &[Row] = &[
     &[
         (Part::Checkpoint(1), 24, &[0]),
@@ -225,8 +230,8 @@ const IN_USE: &[Row] = &[
     &[(Part::Checkpoint(1), 24, &[3])],
 ];
 
-/// A record that names an inode that another one names; one of another kind; the root; an inode that is not in use; and a
-/// directory that its own record names alone.
+/// A record that names an inode that another one names; one of another kind; the root; an inode that is not
+/// in use; and a directory that its own record names alone.
 const NAMED: &[Row] = &[
     &[(Part::Block(6), 7, b"\x0b\0\0\0\x01\x01h")],
     &[(Part::Block(1), 4, &[1])],
@@ -238,8 +243,8 @@ const NAMED: &[Row] = &[
     ],
 ];
 
-/// Names that fall; equal ones; a byte behind the last record; a record of kind 3; an empty name; `.` and `..`; names with a
-/// slash and with a zero; a block without records; a hole in front of a block.
+/// Names that fall; equal ones; a byte behind the last record; a record of kind 3; an empty name; `.` and
+/// `..`; names with a slash and with a zero; a block without records; a hole in front of a block.
 const RECORDS: &[Row] = &[
     &[(Part::Block(1), 0, b"\x0b\0\0\0\x01\x01f\x0c\0\0\0\x02\x01d")],
     &[(Part::Block(1), 13, b"d")],
@@ -258,7 +263,8 @@ const RECORDS: &[Row] = &[
     ],
 ];
 
-/// Of a directory in two blocks: names that fall from one to the next; a record that has room in the block before it.
+/// Of a directory in two blocks: names that fall from one to the next; a record that has room in the block
+/// before it.
 const PACKED: &[Row] = &[
     &[(Part::Block(16), 6, &[b'a'; 255])],
     &[
@@ -276,8 +282,8 @@ const PACKED_SOUND: &[Row] = &[
     ],
 ];
 
-/// A directory's size that is not that of its blocks, and that is not of whole blocks; that of the file of inodes; a file's
-/// that ends before its last block; one above 64 MiB; a byte past a file's end.
+/// A directory's size that is not that of its blocks, and that is not of whole blocks; that of the file of
+/// inodes; a file's that ends before its last block; one above 64 MiB; a byte past a file's end.
 const SIZES: &[Row] = &[
     &[(Part::Block(14), 521, &[8])],
     &[(Part::Block(14), 520, &[1])],
@@ -289,8 +295,8 @@ const SIZES: &[Row] = &[
 
 // ---- conditions 10 and 11
 
-/// A number whose period has a checkpoint that doesn't meet it, behind the one that does, and before it; a number that is met
-/// where its period has ended, and has not begun.
+/// A number whose period has a checkpoint that doesn't meet it, behind the one that does, and before it; a
+/// number that is met where its period has ended, and has not begun.
 const PERIODS: &[Row] = &[
     &[(Part::Number(3), 16, NO_END)],
     &[(Part::Number(11), 8, &[1])],

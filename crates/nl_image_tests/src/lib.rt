@@ -1,5 +1,5 @@
-//! Tests of the parts of an image, byte by byte, as the format says, and of whole images. Nothing stands on this crate, and it
-//! has nothing but tests.
+//! Tests of the parts of an image, byte by byte, as the format says, and of whole images. Nothing stands on
+//! this crate, and it has nothing but tests.
 #![tactic(auto)]
 
 #[cfg(test)]

@@ -1,7 +1,7 @@
 //! The blocks of an image: which used parts are whole logs, whose the blocks are, and which blocks are zero.
 ghost use Rattle.std.specs.Prelude.{◌≡◌, ◌*◌, ◌↔◌, IfOk, IsTrue, length};
 ghost use Rattle.nl_types.specs.Segments.{HaveLogs, total_blocks};
-ghost use Rattle.nl_segwriter.specs.Images.{IsShapeOf};
+ghost use Rattle.nl_segwriter.specs.Images.{IsTableShapeOf};
 
 use crate::bytes::{BLOCKS, NUMBERS, Spelling, put_all, spelled};
 use crate::tables::table_of;
@@ -20,7 +20,8 @@ const BLOCK_BYTES: usize = 32_768;
 /// Changes of the segments' entries and of the blocks, and whether the used parts are whole logs then.
 type LogRow = (&'static [Spelling], &'static [Spelling], bool);
 
-/// Nothing; another mark; three records where two blocks are left; a used block behind the last log; a log past the used part.
+/// Nothing; another mark; three records where two blocks are left; a used block behind the last log; a log
+/// past the used part.
 const LOG_ROWS: &[LogRow] = &[
     (&[], &[], true),
     (&[], &[(3, b"F")], false),
@@ -116,7 +117,7 @@ fn space_of(
     blocks: &[u8],
 ) -> Result<LogSpace<MemDevice>, VolError>
     requires blocks { length blocks.now ≡ 1024 * total_blocks table }
-    requires shape { IsShapeOf geometry table }
+    requires shape { IsTableShapeOf geometry table }
     requires logs { HaveLogs table }
     ensures { IfOk result (λ space.
         (⟦<LogSpace<MemDevice> as Space>⟧.content space).segments ≡ table) }
@@ -137,7 +138,7 @@ fn dumps_again(
     blocks: &[u8],
 ) -> Result<bool, VolError>
     requires blocks { length blocks.now ≡ 1024 * total_blocks table }
-    requires shape { IsShapeOf geometry table }
+    requires shape { IsTableShapeOf geometry table }
     requires logs { HaveLogs table }
 {
     let mut space = space_of(alloc, geometry, table, blocks)?;
@@ -156,7 +157,7 @@ fn have_their_own(
 ) -> Result<bool, VolError>
     requires blocks { length blocks.now ≡ 1024 * total_blocks table }
     requires numbers { length numbers.now ≡ 24 * total_blocks table }
-    requires shape { IsShapeOf geometry table }
+    requires shape { IsTableShapeOf geometry table }
     requires logs { HaveLogs table }
 {
     let told = read_numbers(alloc, numbers, &table, CheckpointNumber::new(3))?;

@@ -106,7 +106,8 @@ fn checkpoint(pen: &mut Pen<MemDevice>) -> Result<CheckpointNumber, VolError> {
     }
 }
 
-/// The file is read in the current tree and in the mounted snapshot, and is written: the snapshot still has what it had.
+/// The file is read in the current tree and in the mounted snapshot, and is written: the snapshot still has
+/// what it had.
 fn is_read_beside_a_write(alloc: Global, pen: &mut Pen<MemDevice>) -> Result<bool, VolError> {
     pen.apply(&Event::Mount(CheckpointNumber::new(2)))?;
     let current = begins(alloc, pen, b"after\0")?;
@@ -126,8 +127,9 @@ fn gone_on(alloc: Global, image: &[u8]) -> Result<Vec<u8>, VolError> {
     closed(alloc, &mut pen)
 }
 
-/// What checkpoint 3 makes of the numbers: the block and the node of `/f`, its block of inodes and the node of that end and are
-/// born anew, as 15 to 18 at blocks 17, 18, 19 and 21. Both chains become trees, and that of `/d` stays.
+/// What checkpoint 3 makes of the numbers: the block and the node of `/f`, its block of inodes and the node
+/// of that end and are born anew, as 15 to 18 at blocks 17, 18, 19 and 21. Both chains become trees, and that
+/// of `/d` stays.
 const GONE_ON: Row = &[
     (Part::Number(4), 16, NO_END),
     (Part::Number(7), 16, NO_END),

@@ -1,7 +1,8 @@
-//! The superblock of an image and its three tables: which bytes they accept, and that these are written again.
+//! The superblock of an image and its three tables: which bytes they accept, and that these are written
+//! again.
 ghost use Rattle.std.specs.Prelude.{◌≡◌, IfOk};
 ghost use Rattle.nl_types.specs.Segments.{HaveLogs};
-ghost use Rattle.nl_segwriter.specs.Images.{IsShapeOf};
+ghost use Rattle.nl_segwriter.specs.Images.{IsTableShapeOf};
 
 use crate::bytes::{CHECKPOINTS, NUMBERS, SEGMENTS, Spelling, spelled};
 use nl_cpfile::{Checkpoint, Checkpoints, read_checkpoints, write_checkpoints};
@@ -57,8 +58,8 @@ fn superblocks_have_one_spelling(rt: HostRuntime) {
 
 // ---- segments
 
-/// Nothing; a dirty segment; one in error, which may use no block; flags 1 and 5; more blocks than there are; none of an
-/// active segment; a clean segment with a stamp; two active ones.
+/// Nothing; a dirty segment; one in error, which may use no block; flags 1 and 5; more blocks than there are;
+/// none of an active segment; a clean segment with a stamp; two active ones.
 const SEGMENT_ROWS: &[Row] = &[
     (&[], true),
     (&[(12, &[2])], true),
@@ -96,7 +97,7 @@ pub(crate) fn table_of(
     geometry: Geometry,
     changes: &[Spelling],
 ) -> Result<SegTable, VolError>
-    ensures shape { IfOk result (IsShapeOf geometry) }
+    ensures shape { IfOk result (IsTableShapeOf geometry) }
     ensures logs { IfOk result HaveLogs }
 {
     if geometry.segments != 8 {
@@ -190,8 +191,8 @@ fn checkpoints_are_judged_entry_by_entry(rt: HostRuntime) -> Result<(), Fail> {
 
 // ---- numbers
 
-/// Nothing; a start of 0 beside other bytes; a start above the latest checkpoint; an end that is the start; an end above the
-/// latest; a block that isn't used; a block that another number has.
+/// Nothing; a start of 0 beside other bytes; a start above the latest checkpoint; an end that is the start;
+/// an end above the latest; a block that isn't used; a block that another number has.
 const NUMBER_ROWS: &[Row] = &[
     (&[], true),
     (&[(8, &[0])], false),

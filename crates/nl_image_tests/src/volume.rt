@@ -1,8 +1,9 @@
 //! A whole image by hand, of 8 segments of 20 blocks, with two checkpoints.
 //!
-//! Checkpoint 1 has the directories `/` (inode 2) and `/d` (12), a file `/f` (11) of 1,500 bytes and an empty file `/d/g` (13).
-//! Checkpoint 2, a snapshot, has the first block of `/f` written anew. Both logs are in segment 0. The block of a virtual
-//! number from 1 to 10 is of that number; the second log's summary is block 11, and numbers 11 to 14 have blocks 12 to 15.
+//! Checkpoint 1 has the directories `/` (inode 2) and `/d` (12), a file `/f` (11) of 1,500 bytes and an empty
+//! file `/d/g` (13). Checkpoint 2, a snapshot, has the first block of `/f` written anew. Both logs are in
+//! segment 0. The block of a virtual number from 1 to 10 is of that number; the second log's summary is block
+//! 11, and numbers 11 to 14 have blocks 12 to 15.
 
 use std::alloc::{AllocError, Global};
 
@@ -23,8 +24,8 @@ pub(crate) enum Part {
 /// Bytes at an offset of a part.
 pub(crate) type Change = (Part, usize, &'static [u8]);
 
-/// The bytes of the image: 1,024 of the superblock, 128 of segments, 3,840 of numbers, 320 of checkpoints, 832 of padding, and
-/// 160 blocks.
+/// The bytes of the image: 1,024 of the superblock, 128 of segments, 3,840 of numbers, 320 of checkpoints,
+/// 832 of padding, and 160 blocks.
 const IMAGE_BYTES: usize = 169_984;
 
 impl Part {
@@ -72,8 +73,8 @@ const TABLES: &[Change] = &[
     (Part::Checkpoint(1), 48, &[14]),
 ];
 
-/// The block of each number, and the first checkpoint that has it. The first block and the node of `/f` and the second block
-/// and the node of the file of inodes ended at checkpoint 2.
+/// The block of each number, and the first checkpoint that has it. The first block and the node of `/f` and
+/// the second block and the node of the file of inodes ended at checkpoint 2.
 const NUMBERS: &[Change] = &[
     (Part::Number(1), 0, b"\x01\0\0\0\0\0\0\0\x01"),
     (Part::Number(1), 16, NO_END),
@@ -218,8 +219,8 @@ const FILES: &[Change] = &[
     (Part::Block(15), 0, b"\x08\0\0\0\0\0\0\0\x0d"),
 ];
 
-/// What makes `/d` a directory in two blocks, in both checkpoints, with the four files 11, 13, 14 and 15 and names of 255 bytes:
-/// one block more in the second log, of number 15, and inodes 14 and 15.
+/// What makes `/d` a directory in two blocks, in both checkpoints, with the four files 11, 13, 14 and 15 and
+/// names of 255 bytes: one block more in the second log, of number 15, and inodes 14 and 15.
 pub(crate) const TWO_BLOCKS: &[Change] = &[
     (Part::Segment(0), 8, &[17]),
     (Part::Number(15), 0, b"\x10\0\0\0\0\0\0\0\x01"),
@@ -256,8 +257,8 @@ pub(crate) const TREES: &[Change] = &[
     (Part::Block(14), 385, &[2, 1]),
 ];
 
-/// What makes `/f` a tree of height 2 in checkpoint 2, with its blocks at indices 128 and 129: one block more in the second log,
-/// of number 15, which is the top.
+/// What makes `/f` a tree of height 2 in checkpoint 2, with its blocks at indices 128 and 129: one block more
+/// in the second log, of number 15, which is the top.
 pub(crate) const HIGH_TREE: &[Change] = &[
     (Part::Segment(0), 8, &[17]),
     (Part::Number(15), 0, b"\x10\0\0\0\0\0\0\0\x02"),

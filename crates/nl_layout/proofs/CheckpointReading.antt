@@ -9,7 +9,7 @@ use Rattle.nl_types.specs.declared.event.Mode.{Mode}
 use Rattle.nl_types.specs.declared.event.Mode.TheVariants.{Plain, Snapshot}
 use Rattle.nl_layout.specs.declared.root.RootFields.{RootFields}
 use Rattle.nl_layout.specs.declared.checkpoint_entry.CheckpointEntry.{CheckpointEntry}
-use Rattle.nl_layout.specs.Checkpoints.{Fits, Spells, checkpoint_at, checkpoint_bytes, fields_with, flags_of, flags_told, root_fields_at}
+use Rattle.nl_layout.specs.Checkpoints.{HasSpelling, Spells, checkpoint_at, checkpoint_bytes, fields_with, flags_of, flags_told, root_fields_at}
 
 flags_told-flags_of : (mode : Mode) (minor : Bool) → flags_told (flags_of mode minor) ≡ Some (mode, minor)
 flags_told-flags_of Plain false = refl
@@ -27,7 +27,7 @@ same_entry : (c : CheckpointEntry) (n s i f z : ℕ) → n ≡ c.number → s �
     → (let d : CheckpointEntry = record { number = n; mode = c.mode; minor = c.minor; stamp = s; inodes = i; root = record { kind = c.root.kind; height = c.root.height; number = f }; size = z } in d) ≡ c
 same_entry c n s i f z a b d e g = rw (a, b, d, e, g) refl
 
-checkpoint_at-written : (c : CheckpointEntry) → Fits c → checkpoint_at (checkpoint_bytes c) ≡ Some c
+checkpoint_at-written : (c : CheckpointEntry) → HasSpelling c → checkpoint_at (checkpoint_bytes c) ≡ Some c
 checkpoint_at-written c fits =
     let bytes : List ℕ = checkpoint_bytes c in
     let number : little_number 8 bytes ≡ c.number = little_number-reads_back 8 c.number (drop 8 bytes) fits.number in

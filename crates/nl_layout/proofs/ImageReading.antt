@@ -34,7 +34,7 @@ module _ (n b c : ℕ) (segments : n < 2 ^ 32) (blocks : b < 2 ^ 32) (checkpoint
       same_superblock (of Second) _ _ _ _ refl (little_number-reads_back 4 n (drop 12 bytes) segments)
       (little_number-reads_back 4 b (drop 16 bytes) blocks) (little_number-reads_back 8 c (replicate 1000 0) checkpoints)
 
-superblock_at-written : (s : Superblock) → superblock.Fits s → superblock_at (superblock_bytes s) ≡ s
+superblock_at-written : (s : Superblock) → superblock.HasSpelling s → superblock_at (superblock_bytes s) ≡ s
 superblock_at-written s fits = written s.segments s.blocks s.checkpoints fits.segments fits.blocks fits.checkpoints s.mark
 
 -- the fields are those of the superblock that is spelled
@@ -56,7 +56,7 @@ flags-small Error = omega arith
 same_info : (info : SegmentInfo) (s u : ℕ) → s ≡ info.stamp → u ≡ info.used → (let i : SegmentInfo = record { state = info.state; stamp = s; used = u } in i) ≡ info
 same_info info s u p q = rw (p, q) refl
 
-segment_at-written : (info : SegmentInfo) → segment.Fits info → segment_at (segment_bytes info) ≡ Some info
+segment_at-written : (info : SegmentInfo) → segment.HasSpelling info → segment_at (segment_bytes info) ≡ Some info
 segment_at-written info fits =
     let bytes : List ℕ = segment_bytes info in
     let stamp : little_number 8 bytes ≡ info.stamp = little_number-reads_back 8 info.stamp (drop 8 bytes) fits.stamp in

@@ -13,7 +13,7 @@ use Rattle.byteorder.specs.Numbers.{little_number-reads_back, little_from-cons, 
 use borrow.Rule.Slice.PartMut.{put_mid}
 use Rattle.nl_types.specs.Roots.{numbered, slot}
 use Rattle.nl_layout.specs.Node.{Spells, slots_bytes, slots_at}
-use Rattle.nl_layout.proofs.Writing.{put_mid-seam}
+use Rattle.nl_layout.specs.Facts.Writing.{put_mid-seam}
 
 pub length-slots_bytes : (slots : List ℕ) → length (slots_bytes slots) ≡ 8 * length slots
 length-slots_bytes [] = refl

@@ -16,19 +16,31 @@ flags_of Snapshot false = 1
 flags_of Plain true = 2
 flags_of Snapshot true = 3
 
--- the inode of a file of inodes: its kind, what is told of its root, 5 zeros, the size and the root's number, and 104 zeros
+-- the inode of a file of inodes: its kind, what is told of its root, 5 zeros, the size and the root's number,
+-- and 104 zeros
 abbrev pub inode_file_bytes : RootFields → ℕ → List ℕ
 inode_file_bytes root size =
-    3 ∷ root.kind ∷ root.height ∷ replicate 5 0 ++ little_bytes 8 size ++ little_bytes 8 root.number ++ replicate 104 0
+    3
+    ∷ root.kind
+    ∷ root.height
+    ∷ replicate 5 0
+    ++ little_bytes 8 size
+    ++ little_bytes 8 root.number
+    ++ replicate 104 0
 
--- the number, the stamp, the flags and 4 zeros, how many inodes are in use, and the inode of the file of inodes
+-- the number, the stamp, the flags and 4 zeros, how many inodes are in use, and the inode of the file of
+-- inodes
 abbrev pub checkpoint_bytes : CheckpointEntry → List ℕ
 checkpoint_bytes c =
-    little_bytes 8 c.number ++ little_bytes 8 c.stamp
-    ++ little_bytes 4 (flags_of c.mode c.minor) ++ replicate 4 0 ++ little_bytes 8 c.inodes ++ inode_file_bytes c.root c.size
+    little_bytes 8 c.number
+    ++ little_bytes 8 c.stamp
+    ++ little_bytes 4 (flags_of c.mode c.minor)
+    ++ replicate 4 0
+    ++ little_bytes 8 c.inodes
+    ++ inode_file_bytes c.root c.size
 
 -- what has a spelling
-pub record Fits (c : CheckpointEntry) : Type 0 where
+pub record HasSpelling (c : CheckpointEntry) : Type 0 where
   pub number : c.number < 2 ^ 64
   pub stamp : c.stamp < 2 ^ 64
   pub inodes : c.inodes < 2 ^ 64
@@ -37,7 +49,7 @@ pub record Fits (c : CheckpointEntry) : Type 0 where
 
 -- the bytes are the spelling of this entry
 pub record Spells (bytes : List ℕ) (entry : CheckpointEntry) : Type 0 where
-  pub fits : Fits entry
+  pub fits : HasSpelling entry
   pub spelling : bytes ≡ checkpoint_bytes entry
 
 -- ---- reading: what stands in the fields of an entry, whether the bytes spell one or not

@@ -20,32 +20,39 @@ inode_kind_code InodeFile = 3
 abbrev pub inode_bytes : Inode → List ℕ
 inode_bytes inode =
     let root = fields_of inode.root in
-    inode_kind_code inode.kind ∷ root.kind ∷ root.height ∷ replicate 5 0
-    ++ little_bytes 8 inode.size ++ little_bytes 8 root.number ++ replicate 104 0
+    inode_kind_code inode.kind
+    ∷ root.kind
+    ∷ root.height
+    ∷ replicate 5 0
+    ++ little_bytes 8 inode.size
+    ++ little_bytes 8 root.number
+    ++ replicate 104 0
 
 abbrev pub entry_bytes : InodeEntry → List ℕ
 entry_bytes Free = replicate 128 0
 entry_bytes (InUse inode) = inode_bytes inode
 
 -- what has a spelling
-pub record InodeFits (inode : Inode) : Type 0 where
+pub record InodeHasSpelling (inode : Inode) : Type 0 where
   pub size : inode.size < 2 ^ 64
   pub height : (fields_of inode.root).height ≤ 3
   pub number : (fields_of inode.root).number < 2 ^ 64
 
-abbrev pub EntryFits : InodeEntry → Type 0
-EntryFits Free = Unit {0}
-EntryFits (InUse inode) = InodeFits inode
+abbrev pub EntryHasSpelling : InodeEntry → Type 0
+EntryHasSpelling Free = Unit {0}
+EntryHasSpelling (InUse inode) = InodeHasSpelling inode
 
 -- the bytes are the spelling of this entry
 pub record Spells (bytes : List ℕ) (entry : InodeEntry) : Type 0 where
-  pub fits : EntryFits entry
+  pub fits : EntryHasSpelling entry
   pub spelling : bytes ≡ entry_bytes entry
 
 -- ---- reading: what stands in the fields of an entry, whether the bytes spell one or not
 
 abbrev pub used_entry_at : InodeKind → List ℕ → Option InodeEntry
-used_entry_at kind bytes = option_map (λ root. InUse (record { kind = kind; root = root; size = little_number 8 (drop 8 bytes) })) (root_told_by (slice_index bytes 1) (slice_index bytes 2) (little_number 8 (drop 16 bytes)))
+used_entry_at kind bytes =
+    option_map (λ root. InUse (record { kind = kind; root = root; size = little_number 8 (drop 8 bytes) }))
+    (root_told_by (slice_index bytes 1) (slice_index bytes 2) (little_number 8 (drop 16 bytes)))
 
 abbrev pub entry_with : ℕ → List ℕ → Option InodeEntry
 entry_with zero bytes = Some Free

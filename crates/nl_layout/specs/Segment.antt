@@ -15,16 +15,19 @@ segment_flags Error = 6
 
 -- the stamp, the used blocks and the flags
 abbrev pub segment_bytes : SegmentInfo → List ℕ
-segment_bytes info = little_bytes 8 info.stamp ++ little_bytes 4 info.used ++ little_bytes 4 (segment_flags info.state)
+segment_bytes info =
+    little_bytes 8 info.stamp
+    ++ little_bytes 4 info.used
+    ++ little_bytes 4 (segment_flags info.state)
 
 -- what has a spelling
-pub record Fits (info : SegmentInfo) : Type 0 where
+pub record HasSpelling (info : SegmentInfo) : Type 0 where
   pub stamp : info.stamp < 2 ^ 64
   pub used : info.used < 2 ^ 32
 
 -- the bytes are the spelling of this entry
 pub record Spells (bytes : List ℕ) (info : SegmentInfo) : Type 0 where
-  pub fits : Fits info
+  pub fits : HasSpelling info
   pub spelling : bytes ≡ segment_bytes info
 
 -- ---- reading: what stands in the fields of an entry, whether the bytes spell one or not
@@ -40,7 +43,8 @@ segment_state_at (suc (suc (suc (suc (suc (suc zero)))))) = Some Error
 segment_state_at (suc (suc (suc (suc (suc (suc (suc flags))))))) = None
 
 abbrev pub info_with : List ℕ → SegmentState → SegmentInfo
-info_with bytes state = record { state = state; stamp = little_number 8 bytes; used = little_number 4 (drop 8 bytes) }
+info_with bytes state =
+    record { state = state; stamp = little_number 8 bytes; used = little_number 4 (drop 8 bytes) }
 
 abbrev pub segment_at : List ℕ → Option SegmentInfo
 segment_at bytes = option_map (info_with bytes) (segment_state_at (little_number 4 (drop 12 bytes)))

@@ -15,21 +15,24 @@ mark_bytes Second = codes "NLVOL002"
 -- the mark, the segments, the blocks of each, and the count of checkpoints
 abbrev pub header_bytes : Superblock → List ℕ
 header_bytes s =
-    mark_bytes s.mark ++ little_bytes 4 s.segments ++ little_bytes 4 s.blocks ++ little_bytes 8 s.checkpoints
+    mark_bytes s.mark
+    ++ little_bytes 4 s.segments
+    ++ little_bytes 4 s.blocks
+    ++ little_bytes 8 s.checkpoints
 
 -- and 1,000 zeros
 abbrev pub superblock_bytes : Superblock → List ℕ
 superblock_bytes s = header_bytes s ++ replicate 1000 0
 
 -- what has a spelling
-pub record Fits (s : Superblock) : Type 0 where
+pub record HasSpelling (s : Superblock) : Type 0 where
   pub segments : s.segments < 2 ^ 32
   pub blocks : s.blocks < 2 ^ 32
   pub checkpoints : s.checkpoints < 2 ^ 64
 
 -- the bytes are the spelling of this superblock
 pub record Spells (bytes : List ℕ) (s : Superblock) : Type 0 where
-  pub fits : Fits s
+  pub fits : HasSpelling s
   pub spelling : bytes ≡ superblock_bytes s
 
 -- ---- reading

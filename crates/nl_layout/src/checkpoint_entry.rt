@@ -14,11 +14,12 @@ const INODE_FILE: u8 = 3;
 
 /// A kept checkpoint, as an entry of the cpfile of nilfs2.rst.
 ///
-/// It has 160 bytes, with numbers in little endian: the checkpoint's number in 8 bytes at 0, its stamp in 8 bytes at 8, its
-/// flags in 4 bytes at 16 (1 for a snapshot, 2 for one that the volume made by itself, 3 for both), how many inodes are in use
-/// in 8 bytes at 24, and at 32 the inode of its file of inodes: its kind, which is 3, the root's kind at 33 and height at 34,
-/// the size in 8 bytes at 40, and the root's number in 8 bytes at 48. All other bytes are zero. Whether a root may be so, and
-/// the size too, is judged by the blocks that it leads to, so an entry may have any.
+/// It has 160 bytes, with numbers in little endian: the checkpoint's number in 8 bytes at 0, its stamp in 8
+/// bytes at 8, its flags in 4 bytes at 16 (1 for a snapshot, 2 for one that the volume made by itself, 3 for
+/// both), how many inodes are in use in 8 bytes at 24, and at 32 the inode of its file of inodes: its kind,
+/// which is 3, the root's kind at 33 and height at 34, the size in 8 bytes at 40, and the root's number in 8
+/// bytes at 48. All other bytes are zero. Whether a root may be so, and the size too, is judged by the blocks
+/// that it leads to, so an entry may have any.
 #[derive(Clone, Copy, Debug, PartialEq, Eq)]
 pub struct CheckpointEntry {
     pub number: CheckpointNumber,
@@ -35,8 +36,8 @@ pub struct CheckpointEntry {
 }
 
 impl CheckpointEntry {
-    /// The entry that the bytes spell. None where they spell none: not 160 of them, flags above 3, an inode of
-    /// another kind, or a byte that isn't zero outside all fields.
+    /// The entry that the bytes spell. None where they spell none: not 160 of them, flags above 3, an inode
+    /// of another kind, or a byte that isn't zero outside all fields.
     pub fn read(bytes: &[u8]) -> Option<Self>
         ensures found { IfSome result (Spells bytes.now) }
         ensures only { (entry : CheckpointEntry) → Spells bytes.now entry → result ≡ Some entry }

@@ -1,6 +1,6 @@
 //! Inodes.
 ghost use Rattle.std.specs.Prelude.{◌≡◌, ◌≤◌, length, IfSome, Some};
-ghost use Rattle.nl_layout.specs.Inode.{Spells, InodeFits, entry_at, inode_bytes};
+ghost use Rattle.nl_layout.specs.Inode.{Spells, InodeHasSpelling, entry_at, inode_bytes};
 
 use crate::root::{Root, RootFields};
 use byteorder::{ByteOrder, LittleEndian};
@@ -28,10 +28,10 @@ pub struct Inode {
 
 /// A place for an inode in the file of inodes, as in the ifile of nilfs2.rst.
 ///
-/// It has 128 bytes, with numbers in little endian: the kind at 0 (1 for a file, 2 for a directory, 3 for the file of
-/// inodes), the root's kind at 1 (0 for an empty one, 1 for a chain, 2 for a tree), the height of a tree at 2, the size in 8
-/// bytes at 8, and the number of the root's first or topmost node in 8 bytes at 16, which is 0 for an empty root. All other
-/// bytes are zero, and so are all bytes of a free place.
+/// It has 128 bytes, with numbers in little endian: the kind at 0 (1 for a file, 2 for a directory, 3 for the
+/// file of inodes), the root's kind at 1 (0 for an empty one, 1 for a chain, 2 for a tree), the height of a
+/// tree at 2, the size in 8 bytes at 8, and the number of the root's first or topmost node in 8 bytes at 16,
+/// which is 0 for an empty root. All other bytes are zero, and so are all bytes of a free place.
 #[derive(Clone, Copy, Debug, PartialEq, Eq)]
 pub enum InodeEntry {
     Free,
@@ -39,8 +39,9 @@ pub enum InodeEntry {
 }
 
 impl InodeEntry {
-    /// The entry that the bytes spell. None where they spell none: not 128 of them, a kind or a root's kind that is none, a
-    /// tree higher than 3, or a byte that isn't zero outside all fields, or anywhere in a free place.
+    /// The entry that the bytes spell. None where they spell none: not 128 of them, a kind or a root's kind
+    /// that is none, a tree higher than 3, or a byte that isn't zero outside all fields, or anywhere in a
+    /// free place.
     pub fn read(bytes: &[u8]) -> Option<Self>
         ensures found { IfSome result (Spells bytes.now) }
         ensures only { (entry : InodeEntry) → Spells bytes.now entry → result ≡ Some entry }
@@ -74,7 +75,7 @@ impl InodeEntry {
 impl Inode {
     pub(crate) fn to_bytes(self) -> [u8; INODE_SIZE]
         ensures bytes { result ≡ inode_bytes self }
-        ensures fits { InodeFits self }
+        ensures fits { InodeHasSpelling self }
     {
         let root = self.root.fields();
         let mut bytes = [0; INODE_SIZE];

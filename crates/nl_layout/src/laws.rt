@@ -4,7 +4,8 @@ ghost use Rattle.nl_layout.specs.Laws.{SpellOne};
 ghost use Rattle.nl_layout.specs.Segment as segment;
 ghost use Rattle.nl_layout.specs.Superblock as superblock;
 
-/// What stands in an image is told by its bytes: they spell one superblock, one entry of a segment and one of a checkpoint.
+/// What stands in an image is told by its bytes: they spell one superblock, one entry of a segment and one of
+/// a checkpoint.
 pub fn bytes_spell_one_value()
     ensures superblocks { SpellOne superblock.Spells }
     ensures segments { SpellOne segment.Spells }

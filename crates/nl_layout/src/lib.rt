@@ -1,5 +1,5 @@
-//! Blocks of the log as bytes: the summary block at the head of each log, the nodes above the data of a file, and inodes; and
-//! of an image the superblock, and the entries of the files of segments and of checkpoints.
+//! Blocks of the log as bytes: the summary block at the head of each log, the nodes above the data of a file,
+//! and inodes; and of an image the superblock, and the entries of the files of segments and of checkpoints.
 #![tactic(auto)]
 
 mod checkpoint_entry;

@@ -16,8 +16,8 @@ pub const NEXT: usize = 127;
 
 const SLOT_SIZE: usize = 8;
 
-/// A node of a chain or a tree: 128 slots, each a virtual number, or 0 where it names nothing. Contracts see the list of the
-/// numbers. Its block has them one after the other, in 8 bytes each, in little endian.
+/// A node of a chain or a tree: 128 slots, each a virtual number, or 0 where it names nothing. Contracts see
+/// the list of the numbers. Its block has them one after the other, in 8 bytes each, in little endian.
 #[derive(Debug, Drop)]
 pub struct Node {
     slots: [VirtualNumber; SLOTS],
@@ -40,7 +40,8 @@ impl Node {
         Self { slots }
     }
 
-    /// The node of a chain whose first slots have the numbers, and whose last one names the next node, 0 where there is none.
+    /// The node of a chain whose first slots have the numbers, and whose last one names the next node, 0
+    /// where there is none.
     pub fn of_chain(numbers: &[VirtualNumber], next: VirtualNumber) -> Self
         requires { length numbers.now ≤ 127 }
         ensures data { (s : ℕ) → s < 127 → slice_index result s ≡ slice_index numbers.now s }

@@ -52,8 +52,8 @@ impl Root {
 }
 
 impl RootFields {
-    /// The root that the fields spell. None where they spell none: another kind than 0, 1 and 2, a height that isn't a
-    /// tree's, a tree higher than 3, or a number of an empty root.
+    /// The root that the fields spell. None where they spell none: another kind than 0, 1 and 2, a height
+    /// that isn't a tree's, a tree higher than 3, or a number of an empty root.
     pub fn root(self) -> Option<Root>
         ensures { result ≡ root_told self }
     {

@@ -8,11 +8,12 @@ use nl_types::{SegmentInfo, SegmentState};
 /// The bytes of an entry of the segment usage file.
 pub const SEGMENT_SIZE: usize = 16;
 
-/// What is known of the segment whose entry the bytes spell, as one of the sufile of nilfs2.rst. None where they spell none:
-/// not 16 of them, or flags that no segment has.
+/// What is known of the segment whose entry the bytes spell, as one of the sufile of nilfs2.rst. None where
+/// they spell none: not 16 of them, or flags that no segment has.
 ///
-/// An entry has numbers in little endian: the stamp in 8 bytes at 0, the number of used blocks in 4 bytes at 8, and the flags
-/// in 4 bytes at 12, which are 0 for a clean segment, 2 for a dirty one, 3 for the active one and 6 for one in error.
+/// An entry has numbers in little endian: the stamp in 8 bytes at 0, the number of used blocks in 4 bytes at
+/// 8, and the flags in 4 bytes at 12, which are 0 for a clean segment, 2 for a dirty one, 3 for the active
+/// one and 6 for one in error.
 pub fn read_segment(bytes: &[u8]) -> Option<SegmentInfo>
     ensures found { IfSome result (Spells bytes.now) }
     ensures only { (info : SegmentInfo) → Spells bytes.now info → result ≡ Some info }

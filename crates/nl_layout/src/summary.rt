@@ -1,7 +1,8 @@
 //! The summary block of a log.
 ghost use Rattle.std.specs.Prelude.{◌≡◌, ◌<◌, ◌≤◌, ◌-◌, ◌*◌, ◌^◌, ◌++◌, length, drop, replicate, All, IfSome, Some};
 ghost use Rattle.std.specs.Option.{SomeIff};
-ghost use Rattle.nl_layout.specs.Tag.{TagFits};
+ghost use Rattle.nl_types.specs.Limits as limits;
+ghost use Rattle.nl_layout.specs.Tag.{TagHasSpelling};
 ghost use Rattle.nl_layout.specs.Summary.{Contents, HaveLevels, Spells, contents_at, header_bytes, tags_at, tags_bytes};
 
 use crate::level::Level;
@@ -16,12 +17,14 @@ const HEADER_SIZE: usize = 64;
 
 const MAX_TAGS: usize = 30;
 
-/// What the first block of a log says of it, as the segment summaries of nilfs2.rst and of Rosenblum and Ousterhout 1992
-/// do: the log's moment, the number of a checkpoint, and what each of its 1 to 30 payload blocks is. It takes no memory.
+/// What the first block of a log says of it, as the segment summaries of nilfs2.rst and of Rosenblum and
+/// Ousterhout 1992 do: the log's moment, the number of a checkpoint, and what each of its 1 to 30 payload
+/// blocks is. It takes no memory.
 ///
-/// The block has 1,024 bytes, with numbers in little endian: the mark `NLSG` at 0, the count of payload blocks in 2 bytes
-/// at 4, the moment in 8 bytes at 8, the checkpoint number in 8 bytes at 16, and record k in 32 bytes at 64 + 32 k: virtual
-/// number, inode and offset in 8 bytes each, then the level in one. All other bytes are zero.
+/// The block has 1,024 bytes, with numbers in little endian: the mark `NLSG` at 0, the count of payload
+/// blocks in 2 bytes at 4, the moment in 8 bytes at 8, the checkpoint number in 8 bytes at 16, and record k
+/// in 32 bytes at 64 + 32 k: virtual number, inode and offset in 8 bytes each, then the level in one. All
+/// other bytes are zero.
 #[derive(Debug, Drop)]
 pub struct Summary {
     stamp: u64,
@@ -45,7 +48,7 @@ impl Summary {
     /// The summary of a log whose payload blocks are as the tags say, in their order.
     pub fn new(stamp: u64, checkpoint: CheckpointNumber, tags: &[Tag]) -> Self
         requires some { 1 ≤ length tags.now }
-        requires most { length tags.now ≤ 30 }
+        requires most { length tags.now ≤ limits.log_limit }
         ensures { result ≡ record { stamp = stamp; checkpoint = checkpoint; tags = tags.now } }
     {
         let mut all = no_tags();
@@ -76,13 +79,14 @@ impl Summary {
     pub fn tags(&self) -> &[Tag]
         ensures tags { result.now ≡ self.now.tags }
         ensures some { 1 ≤ length result.now }
-        ensures most { length result.now ≤ 30 }
+        ensures most { length result.now ≤ limits.log_limit }
     {
         &self.tags[..self.count]
     }
 
-    /// The summary that the bytes spell. None where they spell none: not 1,024 of them, another mark, a count of 0 or above
-    /// 30, a level above 3, or a byte that isn't zero outside all fields and in the records from the count on.
+    /// The summary that the bytes spell. None where they spell none: not 1,024 of them, another mark, a count
+    /// of 0 or above 30, a level above 3, or a byte that isn't zero outside all fields and in the records
+    /// from the count on.
     pub fn read(bytes: &[u8]) -> Option<Self>
         ensures found { IfSome result (Spells bytes.now) }
         ensures only { (s : Contents) → Spells bytes.now s → result ≡ Some s }
@@ -118,7 +122,7 @@ impl Summary {
 
 /// A table of records in which none is set yet.
 fn no_tags() -> [Tag; MAX_TAGS]
-    ensures { length result ≡ 30 }
+    ensures { length result ≡ limits.log_limit }
 {
     let none = Tag {
         number: VirtualNumber::new(0),
@@ -144,10 +148,10 @@ fn header_of(summary: &Summary) -> [u8; HEADER_SIZE]
 
 /// Writes the records, and zeros behind them.
 fn write_tags(tags: &[Tag], out: &mut [u8])
-    requires most { length tags.now ≤ 30 }
+    requires most { length tags.now ≤ limits.log_limit }
     requires room { length out.old ≡ 960 }
-    ensures bytes { out.new ≡ tags_bytes tags.now ++ replicate (32 * (30 - length tags.now)) 0 }
-    ensures fit { All TagFits tags.now }
+    ensures bytes { out.new ≡ tags_bytes tags.now ++ replicate (32 * (limits.log_limit - length tags.now)) 0 }
+    ensures fit { All TagHasSpelling tags.now }
 {
     out.fill(0);
     for (k, tag) in tags.iter().enumerate() {
@@ -156,11 +160,12 @@ fn write_tags(tags: &[Tag], out: &mut [u8])
     }
 }
 
-/// What stands in the fields of a summary of so many records, whatever the other bytes are. None where a level is none.
+/// What stands in the fields of a summary of so many records, whatever the other bytes are. None where a
+/// level is none.
 fn from_fields(count: usize, bytes: &[u8]) -> Option<Summary>
     requires size { length bytes.now ≡ 1024 }
     requires some { 1 ≤ count }
-    requires most { count ≤ 30 }
+    requires most { count ≤ limits.log_limit }
     ensures { SomeIff result (HaveLevels (tags_at count (drop 64 bytes.now))) (contents_at count bytes.now) }
 {
     let mut tags = no_tags();

@@ -1,6 +1,6 @@
 //! The first block of an image.
 ghost use Rattle.std.specs.Prelude.{◌≡◌, ◌↔◌, IsTrue, IfSome, Some, length};
-ghost use Rattle.nl_layout.specs.Superblock.{Fits, HasMark, Spells, header_bytes, mark_at, mark_bytes, superblock_at};
+ghost use Rattle.nl_layout.specs.Superblock.{HasSpelling, HasMark, Spells, header_bytes, mark_at, mark_bytes, superblock_at};
 
 use byteorder::{ByteOrder, LittleEndian};
 use nl_types::BLOCK_SIZE;
@@ -29,11 +29,12 @@ impl Mark {
     }
 }
 
-/// How the volume of an image is divided, and how many checkpoints it keeps. Whether a volume may be so is judged elsewhere.
+/// How the volume of an image is divided, and how many checkpoints it keeps. Whether a volume may be so is
+/// judged elsewhere.
 ///
-/// The block has 1,024 bytes, with numbers in little endian: the mark `NLVOL001` or `NLVOL002` at 0, the number of segments in
-/// 4 bytes at 8, that of the blocks in each in 4 bytes at 12, and that of kept checkpoints in 8 bytes at 16. All other bytes
-/// are zero.
+/// The block has 1,024 bytes, with numbers in little endian: the mark `NLVOL001` or `NLVOL002` at 0, the
+/// number of segments in 4 bytes at 8, that of the blocks in each in 4 bytes at 12, and that of kept
+/// checkpoints in 8 bytes at 16. All other bytes are zero.
 #[derive(Clone, Copy, Debug, PartialEq, Eq)]
 pub struct Superblock {
     pub mark: Mark,
@@ -43,15 +44,16 @@ pub struct Superblock {
 }
 
 impl Superblock {
-    /// Whether bytes begin as an image does: there are as many as a superblock has, and the first ones are a mark.
+    /// Whether bytes begin as an image does: there are as many as a superblock has, and the first ones are a
+    /// mark.
     pub fn has_mark(bytes: &[u8]) -> bool
         ensures { IsTrue result ↔ HasMark bytes.now }
     {
         bytes.len() >= BLOCK_SIZE && (bytes[..8] == FIRST_MARK[..] || bytes[..8] == SECOND_MARK[..])
     }
 
-    /// The superblock that the bytes spell. None where they spell none: not 1,024 of them, another mark, or a byte that isn't
-    /// zero outside all fields.
+    /// The superblock that the bytes spell. None where they spell none: not 1,024 of them, another mark, or a
+    /// byte that isn't zero outside all fields.
     pub fn read(bytes: &[u8]) -> Option<Self>
         ensures found { IfSome result (Spells bytes.now) }
         ensures only { (s : Superblock) → Spells bytes.now s → result ≡ Some s }
@@ -83,7 +85,7 @@ impl Superblock {
 
 fn header_of(superblock: Superblock) -> [u8; HEADER_SIZE]
     ensures bytes { result ≡ header_bytes superblock }
-    ensures fits { Fits superblock }
+    ensures fits { HasSpelling superblock }
 {
     let mut bytes = [0; HEADER_SIZE];
     bytes[..8].copy_from_slice(&superblock.mark.bytes());

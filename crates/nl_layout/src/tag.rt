@@ -11,8 +11,8 @@ pub(crate) const TAG_SIZE: usize = 32;
 
 const MAX_LEVEL: u8 = 3;
 
-/// What a payload block is: its number, and its place in the file that it belongs to. By it a cleaner tells whether the
-/// block is still needed (Rosenblum and Ousterhout 1992, section 3.3).
+/// What a payload block is: its number, and its place in the file that it belongs to. By it a cleaner tells
+/// whether the block is still needed (Rosenblum and Ousterhout 1992, section 3.3).
 #[derive(Clone, Copy, Debug, PartialEq, Eq)]
 pub struct Tag {
     pub number: VirtualNumber,
@@ -24,11 +24,11 @@ pub struct Tag {
 }
 
 impl Tag {
-    ghost use Rattle.nl_layout.specs.Tag.{TagFits, tag_at, tag_bytes};
+    ghost use Rattle.nl_layout.specs.Tag.{TagHasSpelling, tag_at, tag_bytes};
 
     pub(crate) fn to_bytes(self) -> [u8; TAG_SIZE]
         ensures bytes { result ≡ tag_bytes self }
-        ensures fits { TagFits self }
+        ensures fits { TagHasSpelling self }
     {
         let mut bytes = [0; TAG_SIZE];
         LittleEndian::write_u64(&mut bytes, self.number.get());

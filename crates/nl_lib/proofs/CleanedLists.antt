@@ -5,7 +5,7 @@ use Rattle.std.proofs.lemmas.List.{at_drop_more}
 use Rattle.nl_types.specs.declared.error.VolError.{VolError}
 use Rattle.nl_types.specs.declared.reply.Answer.{Answer}
 use Rattle.nl_core.specs.Layout.{Layout}
-use Rattle.nl_lib.specs.CleanedSegments.{CleansSegment, CleansSegments, ended, one_more, refused_by}
+use Rattle.nl_lib.specs.CleanedSegments.{CleansSegment, CleansSegments, none_cleaned, one_more, refused_by}
 use Rattle.nl_lib.specs.declared.cleaning.Cleaned.{Cleaned}
 
 module _ (now : ℕ) (segments : List ℕ) (i segment : ℕ) (within : i < length segments) (item : segment ≡ get_or segments i segment) where
@@ -22,9 +22,9 @@ module _ (now : ℕ) (segments : List ℕ) (i segment : ℕ) (within : i < lengt
   one-refused old new e cleans =
       subst (λ (l : List ℕ). CleansSegments now l old (refused_by e) new) (sym next) (Err e, new, cleans, (refl, refl))
 
-pub none-left : (now i : ℕ) (segments : List ℕ) (l : Layout) → length segments ≤ i → CleansSegments now (drop i segments) l ended l
+pub none-left : (now i : ℕ) (segments : List ℕ) (l : Layout) → length segments ≤ i → CleansSegments now (drop i segments) l none_cleaned l
 none-left now i segments l past =
-    subst (λ (rest : List ℕ). CleansSegments now rest l ended l) (sym (drop_of_length-le segments past)) (refl, refl)
+    subst (λ (rest : List ℕ). CleansSegments now rest l none_cleaned l) (sym (drop_of_length-le segments past)) (refl, refl)
 
 -- the count of what was retired before and after
 pub with-count : (now : ℕ) (segments : List ℕ) (old new : Layout) (result : Cleaned) (m n : ℕ) → m ≡ n

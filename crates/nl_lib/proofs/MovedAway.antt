@@ -12,13 +12,13 @@ use Rattle.nl_types.specs.declared.segment.SegmentState.TheVariants.{Active, Cle
 use Rattle.nl_types.specs.Segments.{IsClosed, Segments, clean_info, is_closed}
 use Rattle.nl_types.specs.Worlds.{Reply}
 use Rattle.nl_vstore.specs.Located.{needed_count}
-use Rattle.nl_reclaim.specs.Cleaning.{judged, judged_by, judged_info}
-use Rattle.nl_reclaim.specs.Moves.{HasMoved, needed_now}
-use Rattle.nl_reclaim.proofs.Moves.{move-takes-first}
+use Rattle.nl_reclaim.specs.Cleaning.{judged_segment, judged_by, judged_info}
+use Rattle.nl_reclaim.specs.Moves.{HasMovedPages, needed_now}
+use Rattle.nl_reclaim.specs.Facts.Moves.{move-takes-first}
 use Rattle.nl_core.specs.CleanedPens.{kept_store}
 use Rattle.nl_core.specs.CleaningEvents.{needed_by}
 use Rattle.nl_core.specs.Layout.{Does, IsPen, Layout, unshared}
-use Rattle.nl_core.proofs.MovedNeeds.{moved-needs}
+use Rattle.nl_core.specs.Facts.MovedNeeds.{moved-needs}
 use Rattle.nl_lib.specs.CleanedSegments.{Cleans, is_moved}
 
 -- a segment that may be cleaned takes no more logs
@@ -30,7 +30,7 @@ closed-by-state i = elim i.state as (λ s. IsOk (judged_by s i) → is_closed s 
   | Error ↦ λ h. absurd (true≢false (sym h))
 ]
 
-closed : (s : Segments) (segment : ℕ) → IsOk (judged s segment) → IsClosed s segment
+closed : (s : Segments) (segment : ℕ) → IsOk (judged_segment s segment) → IsClosed s segment
 closed s segment ok = by (slice_get s.each segment) refl ok
   where
     by : (o : Option SegmentInfo) → slice_get s.each segment ≡ o → IsOk (judged_info o) → IsClosed s segment
@@ -45,13 +45,13 @@ needed_of l segment = needed_count l.store (needed_by l.lists) segment
 after-move : (old new : Layout) (segment now : ℕ) (answer : Answer) → IsPen old
     → Does unshared old (Move segment 30 now) (Ok answer) new → needed_of new segment ≡ needed_of old segment - 30
 after-move old new segment now answer held does =
-    let has : HasMoved segment (old.lists.table.latest.number + 1) now 30 (kept_store old) (kept_store new) = record {
+    let has : HasMovedPages segment (old.lists.table.latest.number + 1) now 30 (kept_store old) (kept_store new) = record {
       needs = moved-needs old new segment 30 now answer held does;
-      moved = does.touches.1.moved.moved;
+      moved = does.becomes.1.moved.moved;
       store = does.pen.sound.store;
     } in
     let first = move-takes-first segment (old.lists.table.latest.number + 1) now 30 (kept_store old) (kept_store new)
-    held.sound.store (closed old.store.segments segment does.touches.1.moved.judged) has in
+    held.sound.store (closed old.store.segments segment does.becomes.1.moved.judged) has in
     ap (λ (vs : List ℕ). length vs) first.needed ∙ length-drop 30 (needed_now (kept_store old) segment)
 
 pub fewer : (old new : Layout) (segment now : ℕ) (event : Event) (reply : Reply) → IsPen old

@@ -10,10 +10,10 @@ use Rattle.nl_types.specs.declared.reply.Answer.TheVariants as answer
 use Rattle.nl_types.specs.Limits.{checkpoint_number_limit}
 use Rattle.nl_types.specs.Rows.{kept_row, removal}
 use Rattle.nl_types.specs.Worlds.{Copy, Outcome, Reply, World, change_mode, checkpoint, copies_with_mode, is_given_up, is_mounted, latest, latest_stamp, refused_if, remove, rows, take_out}
-use Rattle.nl_types.proofs.EventCases.{either_gives, refused_if_gives}
-use Rattle.nl_core.specs.Layout.{Does, IsPen, Layout, pages_in, unshared}
+use Rattle.nl_types.specs.Facts.EventCases.{either_gives, refused_if_gives}
+use Rattle.nl_core.specs.Layout.{Does, IsPen, Layout, layout_pages, unshared}
 use Rattle.nl_core.specs.Volume.{Lists}
-use Rattle.nl_core.proofs.CheckpointEvents.{latest-same}
+use Rattle.nl_core.specs.Facts.CheckpointEvents.{latest-same}
 
 -- the answer in a reply, or another one
 abbrev answer_in : Reply → Answer → Answer
@@ -85,9 +85,9 @@ module _ (old new : Layout) (found : Answer) (held : IsPen old) where
   checkpoint-done mode now does =
       let next = does.follows held.world.0 held.world.1 in
       let number : new.lists.table.latest.number ≡ old.lists.table.latest.number + 1 =
-      ap (λ (l : Lists). l.table.latest.number) does.touches.writes.lists in
+      ap (λ (l : Lists). l.table.latest.number) does.becomes.writes.lists in
       let same : latest held.world.0 ≡ old.lists.table.latest.number =
-      sym (latest-same (pages_in old) old.lists held.world.0 held.world.1) in
+      sym (latest-same (layout_pages old) old.lists held.world.0 held.world.1) in
       elim next.step [
         | inl is ↦
             checkpoint-answer held.world.0 next.after found mode now is

@@ -9,7 +9,8 @@ use Rattle.nl_core.specs.Layout.{Does, Layout, unshared}
 use Rattle.nl_lib.specs.declared.cleaning.Cleaned.{Cleaned}
 
 -- what cleans the segment next is done or refused
-pub record Cleans (segment now : ℕ) (old : Layout) (event : Event) (reply : Reply) (new : Layout) : Type 0 where
+pub record Cleans (segment now : ℕ) (old : Layout) (event : Event) (reply : Reply)
+    (new : Layout) : Type 0 where
   pub next : event ≡ cleaning_event old segment now
   pub does : Does unshared old event reply new
 
@@ -37,15 +38,15 @@ pub record CleansSegment (segment now : ℕ) (old : Layout) (reply : Reply) (new
 abbrev pub one_more : Cleaned → Cleaned
 one_more c = record c { retired = c.retired + 1 }
 
-abbrev pub ended : Cleaned
-ended = record { retired = 0; refusal = None }
+abbrev pub none_cleaned : Cleaned
+none_cleaned = record { retired = 0; refusal = None }
 
 abbrev pub refused_by : VolError → Cleaned
 refused_by e = record { retired = 0; refusal = Some e }
 
 -- the segments are cleaned in their order, up to the first refusal
 abbrev pub CleansSegments : (now : ℕ) → List ℕ → Layout → Cleaned → Layout → Type 0
-CleansSegments now [] old result new = (new ≡ old) × (result ≡ ended)
+CleansSegments now [] old result new = (new ≡ old) × (result ≡ none_cleaned)
 CleansSegments now (segment ∷ rest) old result new =
     (reply : Reply) × (mid : Layout) × CleansSegment segment now old reply mid
     × MatchResult reply

@@ -11,9 +11,9 @@ use nl_core::Pen;
 use nl_device::Device;
 use nl_types::{CheckpointNumber, Event, Mode, VolError};
 
-/// Makes a plain checkpoint a snapshot or a snapshot a plain checkpoint, after `nilfs_change_cpmode`. A checkpoint that has
-/// the mode stays as it is. Refused by `NoCheckpoint` where it isn't kept, and by `Mounted` where a snapshot that is mounted
-/// would become plain. It takes no memory.
+/// Makes a plain checkpoint a snapshot or a snapshot a plain checkpoint, after `nilfs_change_cpmode`. A
+/// checkpoint that has the mode stays as it is. Refused by `NoCheckpoint` where it isn't kept, and by
+/// `Mounted` where a snapshot that is mounted would become plain. It takes no memory.
 pub fn change_cpmode<D: Device>(
     pen: &mut Pen<D>,
     number: CheckpointNumber,
@@ -27,8 +27,9 @@ pub fn change_cpmode<D: Device>(
     Ok(())
 }
 
-/// Removes a plain checkpoint, after `nilfs_delete_checkpoint`. Refused by `NoCheckpoint` where it isn't kept, by `IsSnapshot`
-/// where it is a snapshot, and by `Latest` where it is the latest one, in this order. It takes no memory.
+/// Removes a plain checkpoint, after `nilfs_delete_checkpoint`. Refused by `NoCheckpoint` where it isn't
+/// kept, by `IsSnapshot` where it is a snapshot, and by `Latest` where it is the latest one, in this order.
+/// It takes no memory.
 pub fn delete_checkpoint<D: Device>(
     pen: &mut Pen<D>,
     number: CheckpointNumber,
@@ -55,8 +56,9 @@ fn make_checkpoint<D: Device>(pen: &mut Pen<D>, now: u64) -> Result<CheckpointNu
     Ok(pen.latest())
 }
 
-/// Makes a plain checkpoint where something is dirty, and answers the latest one's number, after `nilfs_sync`. The moment is
-/// in whole seconds. Refused as a checkpoint is, and never where nothing is dirty.
+/// Makes a plain checkpoint where something is dirty, and answers the latest one's number, after
+/// `nilfs_sync`. The moment is in whole seconds. Refused as a checkpoint is, and never where nothing is
+/// dirty.
 pub fn sync<D: Device>(pen: &mut Pen<D>, now: u64) -> Result<CheckpointNumber, VolError>
     ensures synced { Syncs now pen.old.lists.dirty pen.old result pen.new }
     ensures world { (w : World) → MeansWorld pen.old w
@@ -71,11 +73,11 @@ pub fn sync<D: Device>(pen: &mut Pen<D>, now: u64) -> Result<CheckpointNumber, V
     }
 }
 
-/// Makes the volume one of so many segments, after `nilfs_resize` with a larger size. The new ones are clean. A volume that has
-/// just so many stays as it is.
+/// Makes the volume one of so many segments, after `nilfs_resize` with a larger size. The new ones are clean.
+/// A volume that has just so many stays as it is.
 ///
-/// Refused by `BadRange` where it has more, and by `BadGeometry` where a volume can't have so many; else by `Fault` where the
-/// device failed to grow, and by `Memory`.
+/// Refused by `BadRange` where it has more, and by `BadGeometry` where a volume can't have so many; else by
+/// `Fault` where the device failed to grow, and by `Memory`.
 pub fn resize<D: Device>(pen: &mut Pen<D>, segments: u32) -> Result<(), VolError>
     ensures does { Does unshared pen.old (Resize segments) (done_reply result) pen.new }
 {

@@ -25,7 +25,8 @@ fn is_moved(event: &Event, reply: &Reply) -> bool
     }
 }
 
-/// Moves what is needed out of a segment and retires it. It answers the last event's reply: the retirement's, or a refusal.
+/// Moves what is needed out of a segment and retires it. It answers the last event's reply: the retirement's,
+/// or a refusal.
 fn clean_segment<D: Device>(pen: &mut Pen<D>, segment: Segment, now: u64) -> Reply
     ensures { CleansSegment segment now pen.old result pen.new }
 {
@@ -39,12 +40,13 @@ fn clean_segment<D: Device>(pen: &mut Pen<D>, segment: Segment, now: u64) -> Rep
     }
 }
 
-/// Cleans segments in the order of the list, after `nilfs_clean_segments`: moves what is needed out of each, as many blocks
-/// at a time as a log takes, and retires it. The moment is in whole seconds, and goes into the logs of the moves.
+/// Cleans segments in the order of the list, after `nilfs_clean_segments`: moves what is needed out of each,
+/// as many blocks at a time as a log takes, and retires it. The moment is in whole seconds, and goes into the
+/// logs of the moves.
 ///
-/// It ends at the first refusal, and tells it: `BadRange` where there is no such segment, `SegClean`, `SegActive` or
-/// `SegError` by the segment's state, and `NumbersSpent`, `NoSpace`, `Memory` or `Fault` of a move. What was moved and retired
-/// before stays so. Each move makes a minor checkpoint.
+/// It ends at the first refusal, and tells it: `BadRange` where there is no such segment, `SegClean`,
+/// `SegActive` or `SegError` by the segment's state, and `NumbersSpent`, `NoSpace`, `Memory` or `Fault` of a
+/// move. What was moved and retired before stays so. Each move makes a minor checkpoint.
 pub fn clean_segments<D: Device>(pen: &mut Pen<D>, segments: &[Segment], now: u64) -> Cleaned
     ensures { CleansSegments now segments.now pen.old result pen.new }
 {

@@ -1,8 +1,9 @@
-//! Calls on a volume after libnilfs: what is told of its checkpoints, segments and blocks, and changes of its checkpoints.
+//! Calls on a volume after libnilfs: what is told of its checkpoints, segments and blocks, and changes of its
+//! checkpoints.
 //!
-//! Each call but `get_needed` stands for one of libnilfs and has its name without the prefix. The calls that only tell
-//! something are answered from what the pen holds in memory. The others are events of the pen, so what `nl_core` says of
-//! events holds of them.
+//! Each call but `get_needed` stands for one of libnilfs and has its name without the prefix. The calls that
+//! only tell something are answered from what the pen holds in memory. The others are events of the pen, so
+//! what `nl_core` says of events holds of them.
 #![tactic(auto)]
 
 mod changes;

@@ -22,8 +22,8 @@ use nl_types::{CheckpointNumber, Row, Segment, SegmentInfo, VirtualNumber, VolEr
 use nl_vstore::laws::summaries_are_one;
 use std::alloc::Global;
 
-/// What is told of a kept checkpoint, after `nilfs_get_cpinfo`. Refused by `NoCheckpoint` where it isn't kept. It takes no
-/// memory.
+/// What is told of a kept checkpoint, after `nilfs_get_cpinfo`. Refused by `NoCheckpoint` where it isn't
+/// kept. It takes no memory.
 pub fn get_cpinfo<D: Device>(pen: &Pen<D>, number: CheckpointNumber) -> Result<Row, VolError>
     ensures layout { result ≡ kept_row number (cpfile.rows pen.now.lists.table) }
     ensures world { (w : World) → MeansWorld pen.now w
@@ -32,7 +32,8 @@ pub fn get_cpinfo<D: Device>(pen: &Pen<D>, number: CheckpointNumber) -> Result<R
     pen.cpinfo(number)
 }
 
-/// How many checkpoints and snapshots are kept, and the latest one's number, after `nilfs_get_cpstat`. It takes no memory.
+/// How many checkpoints and snapshots are kept, and the latest one's number, after `nilfs_get_cpstat`. It
+/// takes no memory.
 pub fn get_cpstat<D: Device>(pen: &Pen<D>) -> Cpstat
     ensures layout { result ≡ cpfile.cpstat_of pen.now.lists.table }
     ensures world { (w : World) → MeansWorld pen.now w → result ≡ counted w }
@@ -40,24 +41,25 @@ pub fn get_cpstat<D: Device>(pen: &Pen<D>) -> Cpstat
     pen.cpstat()
 }
 
-/// What is known of a segment, after `nilfs_get_suinfo`: its state, the moment of its last log, and how many of its blocks
-/// are used. Refused by `BadRange` where there is no such segment. It takes no memory.
+/// What is known of a segment, after `nilfs_get_suinfo`: its state, the moment of its last log, and how many
+/// of its blocks are used. Refused by `BadRange` where there is no such segment. It takes no memory.
 pub fn get_suinfo<D: Device>(pen: &Pen<D>, segment: Segment) -> Result<SegmentInfo, VolError>
     ensures { result ≡ ok_or (slice_get pen.now.store.segments.each segment) VolError.BadRange }
 {
     pen.segments().suinfo(segment)
 }
 
-/// How many needed blocks a segment has: those whose virtual block numbers have not ended, or belong to a kept checkpoint.
-/// libnilfs has no such call. Refused by `BadRange` where there is no such segment. It takes no memory.
+/// How many needed blocks a segment has: those whose virtual block numbers have not ended, or belong to a
+/// kept checkpoint. libnilfs has no such call. Refused by `BadRange` where there is no such segment. It takes
+/// no memory.
 pub fn get_needed<D: Device>(pen: &Pen<D>, segment: Segment) -> Result<u32, VolError>
     ensures { result ≡ needed_told pen.now segment }
 {
     pen.needed(segment)
 }
 
-/// How many segments there are, and of them how many are clean, and how many dirty, after `nilfs_get_sustat`. It takes no
-/// memory.
+/// How many segments there are, and of them how many are clean, and how many dirty, after `nilfs_get_sustat`.
+/// It takes no memory.
 pub fn get_sustat<D: Device>(pen: &Pen<D>) -> Sustat
     ensures segments { result.segments ≡ length pen.now.store.segments.each }
     ensures clean { result.clean ≡ length (clean_segments pen.now.store.segments) }
@@ -66,8 +68,9 @@ pub fn get_sustat<D: Device>(pen: &Pen<D>) -> Sustat
     pen.segments().sustat()
 }
 
-/// The period and the block of a virtual block number, where it is in use, after `nilfs_get_vinfo`. Refused by `BadRange` for
-/// 0 and for numbers above those that there are: one for each block of the device. It takes no memory.
+/// The period and the block of a virtual block number, where it is in use, after `nilfs_get_vinfo`. Refused
+/// by `BadRange` for 0 and for numbers above those that there are: one for each block of the device. It takes
+/// no memory.
 pub fn get_vinfo<D: Device>(
     pen: &Pen<D>,
     number: VirtualNumber,
@@ -80,9 +83,9 @@ pub fn get_vinfo<D: Device>(
     pen.entry(number)
 }
 
-/// A description of each payload block of the logs of a segment, in the order of the blocks, be their numbers in use or not,
-/// after `nilfs_get_bdescs`. The logs are those that the device has there. Refused by `BadRange` where there is no such
-/// segment, and by `Memory` for the list.
+/// A description of each payload block of the logs of a segment, in the order of the blocks, be their numbers
+/// in use or not, after `nilfs_get_bdescs`. The logs are those that the device has there. Refused by
+/// `BadRange` where there is no such segment, and by `Memory` for the list.
 pub fn get_bdescs<D: Device>(
     alloc: Global,
     pen: &Pen<D>,

@@ -4,7 +4,7 @@ ghost use Rattle.std.specs.Option.{option_copied, option_map};
 ghost use Rattle.std.specs.Ordering.{nat_cmp};
 ghost use Rattle.std.specs.FinMap.{find};
 ghost use Rattle.nl_types.specs.declared.event.Mode.TheVariants.{Plain};
-ghost use Rattle.nl_types.specs.Rows.{is_among};
+ghost use Rattle.nl_types.specs.NumberLists.{is_one_of};
 ghost use Rattle.nl_types.specs.Worlds.{Copy, greatest, greatest_stamp, numbers, copies_with_mode, copies_without};
 
 use crate::tree::{self, Tree};
@@ -125,12 +125,12 @@ pub fn with_mode(
     }
 }
 
-fn is_among(numbers: &[CheckpointNumber], n: CheckpointNumber) -> bool
-    ensures { result ≡ is_among numbers.now n }
+fn is_one_of(numbers: &[CheckpointNumber], n: CheckpointNumber) -> bool
+    ensures { result ≡ is_one_of numbers.now n }
 {
     match numbers {
         [] => false,
-        [first, rest @ ..] => first.get() == n.get() || is_among(rest, n),
+        [first, rest @ ..] => n.get() == first.get() || is_one_of(rest, n),
     }
 }
 
@@ -146,7 +146,7 @@ pub fn without(
         [] => Ok(Items::new(alloc)),
         [first, rest @ ..] => {
             let mut new = without(alloc, rest, gone)?;
-            if !is_among(gone, first.0) {
+            if !is_one_of(gone, first.0) {
                 new.push_front((first.0, copy_kept(alloc, &first.1)?))?;
             }
             Ok(new)

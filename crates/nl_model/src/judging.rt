@@ -2,15 +2,15 @@
 ghost use Rattle.std.specs.Prelude.{◌≡◌, IfOk, map};
 ghost use Rattle.std.specs.List.{list_any};
 ghost use Rattle.nl_types.specs.Calls.{IsUnlessMemory};
-ghost use Rattle.nl_types.specs.Rows.{find_row, reason_to_stay, removal, is_between, between, judged, range_removal};
-ghost use Rattle.nl_types.specs.Worlds.{row_of};
+ghost use Rattle.nl_types.specs.Rows.{find_row, reason_to_stay, removal, is_between, rows_between, judged_range, range_removal};
+ghost use Rattle.nl_types.specs.Worlds.{copy_row};
 
 use crate::copies::Kept;
 use nl_types::{CheckpointNumber, Items, Range, Row, Stays, VolError};
 use std::alloc::{AllocError, Global};
 
 fn row_of(number: CheckpointNumber, kept: &Kept) -> Row
-    ensures { result ≡ row_of (number, kept.now) }
+    ensures { result ≡ copy_row (number, kept.now) }
 {
     Row {
         number,
@@ -23,7 +23,7 @@ fn row_of(number: CheckpointNumber, kept: &Kept) -> Row
 
 /// What is told of each copy.
 pub fn rows_of(alloc: Global, copies: &[(CheckpointNumber, Kept)]) -> Result<Items<Row>, AllocError>
-    ensures { IfOk result (λ rows. rows ≡ map row_of copies.now) }
+    ensures { IfOk result (λ rows. rows ≡ map copy_row copies.now) }
 {
     match copies {
         [] => Ok(Items::new(alloc)),
@@ -101,7 +101,7 @@ fn judge_between(
     first: CheckpointNumber,
     last: CheckpointNumber,
 ) -> Result<Range, AllocError>
-    ensures { IfOk result (λ range. range ≡ judged latest (between first last rows.now)) }
+    ensures { IfOk result (λ range. range ≡ judged_range latest (rows_between first last rows.now)) }
 {
     match rows {
         [] => Ok(Range {

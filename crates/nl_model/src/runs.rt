@@ -7,9 +7,10 @@ use crate::world::World;
 use nl_types::{Event, Items, Reply};
 use std::alloc::{AllocError, Global};
 
-/// Does the events one after another, and gives a reply for each. Beside each event stands what a volume answered to it,
-/// which moves and retirements answer here too: a world knows nothing of blocks. Where there is no memory for the
-/// replies, none of the events is done; where there is none for an event, its reply says so.
+/// Does the events one after another, and gives a reply for each. Beside each event stands what a volume
+/// answered to it, which moves and retirements answer here too: a world knows nothing of blocks. Where there
+/// is no memory for the replies, none of the events is done; where there is none for an event, its reply says
+/// so.
 pub fn run(
     world: &mut World,
     alloc: Global,

@@ -8,7 +8,7 @@ use lib.ListN.{get_elem?}
 use Rattle.crossbeam_utils.specs.Register.{Turns}
 use Rattle.nl_types.specs.Roots.{Pages}
 use Rattle.nl_types.specs.Trees.{Tree}
-use Rattle.nl_cpfile.specs.Tables.{kept_at, root_in}
+use Rattle.nl_cpfile.specs.Tables.{kept_at, checkpoint_root}
 use Rattle.nl_cpfile.specs.declared.checkpoint.Checkpoint.{Checkpoint}
 use Rattle.nl_core.specs.Commits.{IsHistory, IsImage, image_of}
 use Rattle.nl_core.specs.Means.{RootMeans}
@@ -68,10 +68,10 @@ lacks_tree (Some n) kept all is =
     let none : option_map (tree_of n) (Some c.0) ≡ None = ap (λ (k : Option Checkpoint). option_map (tree_of n) k) (sym c.1) ∙ is in
     absurd (cc none)
 
-means_root : (x : Shown) (n : ℕ) (c : Checkpoint) (t : Tree) → kept_at n x.table ≡ Some c → TreeOn x n t → RootMeans (pages_shown x) (root_in c) t
+means_root : (x : Shown) (n : ℕ) (c : Checkpoint) (t : Tree) → kept_at n x.table ≡ Some c → TreeOn x n t → RootMeans (pages_shown x) (checkpoint_root c) t
 means_root x n c t kept tree =
     let same : tree.checkpoint ≡ c = cc (tree.kept, kept) in
-    subst (λ (d : Checkpoint). RootMeans (pages_shown x) (root_in d) t) same tree.means
+    subst (λ (d : Checkpoint). RootMeans (pages_shown x) (checkpoint_root d) t) same tree.means
 
 -- ---- looks
 
@@ -95,7 +95,7 @@ module _ (m : Claim) (old new : Known) (i : Image) (images : HistoriesShowImages
   shows : (n : ℕ) (c : Checkpoint) → mounted_on i.tables m.number ≡ Some n → kept_at n i.tables.table ≡ Some c → IsMountTree m old new i.tables (tree_of n c)
   shows n c mounted_was kept_was =
       let mounted : mounted_on (image_of new.commits) m.number ≡ Some n = subst (λ (x : Shown). mounted_on x m.number ≡ Some n) shown mounted_was in
-      let means : (t : Tree) → TreeOn (image_of new.commits) n t → RootMeans (pages_shown i.tables) (root_in c) t =
+      let means : (t : Tree) → TreeOn (image_of new.commits) n t → RootMeans (pages_shown i.tables) (checkpoint_root c) t =
       λ t tree. means_root i.tables n c t kept_was (subst (λ (x : Shown). TreeOn x n t) (sym shown) tree) in
       record {
         volume = volume;

@@ -9,7 +9,7 @@ use Rattle.nl_tree.specs.Bytes.{byte_written}
 use Rattle.nl_tree.specs.Contents.{byte_in}
 use Rattle.nl_tree.specs.Held.{byte_stored}
 use Rattle.nl_tree.specs.Reading.{AreBytesFrom}
-use Rattle.nl_tree.proofs.PageBytes.{overwrote, written_above, written_below, written_in}
+use Rattle.nl_tree.specs.Facts.PageBytes.{overwrote, written_above, written_below, written_in}
 use Rattle.nl_mounts.specs.Warming.{AreReadFrom, AreReadUpTo}
 
 -- one part more

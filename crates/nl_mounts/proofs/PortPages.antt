@@ -13,18 +13,18 @@ use Rattle.nl_layout.specs.Root.{root_of}
 use Rattle.nl_layout.specs.declared.root.Root.{Root}
 use Rattle.nl_tree.specs.Held.{Holding}
 use Rattle.nl_files.specs.CheckpointTrees.{HoldsTree}
-use Rattle.nl_cpfile.specs.Tables.{IsRising, Precedes, kept_at, root_in}
+use Rattle.nl_cpfile.specs.Tables.{IsRising, Precedes, kept_at, checkpoint_root}
 use Rattle.nl_cpfile.specs.declared.checkpoint.Checkpoint.{Checkpoint}
-use Rattle.nl_cpfile.proofs.Found.{eq_by_cmp-nat_cmp, found}
-use Rattle.nl_cpfile.proofs.Rising.{All-last}
+use Rattle.nl_cpfile.specs.Facts.Found.{eq_by_cmp-nat_cmp, found}
+use Rattle.nl_cpfile.specs.Facts.Rising.{All-last}
 use Rattle.nl_core.specs.Commits.{IsHistory, image_of}
 use Rattle.nl_core.specs.Shown.{Shown, pages_shown}
 use Rattle.nl_core.specs.declared.commit.Commit.{Commit}
 use Rattle.nl_publish.specs.Cached.{IsCachedPage}
 use Rattle.nl_publish.specs.Histories.{IsBegun, Known}
 use Rattle.nl_publish.specs.Mounts.{Claim}
-use Rattle.nl_publish.proofs.CachedPages.{cached_pages_stay}
-use Rattle.nl_publish.proofs.Staying.{history_image}
+use Rattle.nl_publish.specs.Facts.CachedPages.{cached_pages_stay}
+use Rattle.nl_publish.specs.Facts.Staying.{history_image}
 use Rattle.nl_mounts.specs.declared.cache.CacheKey.{CacheKey}
 use Rattle.nl_mounts.specs.declared.port.MountedTree.{MountedTree}
 use Rattle.nl_mounts.specs.Caching.{AreCachedPages, Cache, HasCachedBlocks, key_of}
@@ -93,7 +93,7 @@ module _ (m : Claim) (old new : Known) (x : Shown) (t : MountedTree) (at : IsMou
   blocks_of : (c : Cache) → ((key : CacheKey) (page : List ℕ) → Contains c.entries (key, page) → IsCachedPage new.commits key.checkpoint key.inode key.index page)
       → (held : Holding) → HoldsTree (pages_shown x) (root_of t.root) held → HasCachedBlocks c t.checkpoint held
   blocks_of c each held holds inode index page has =
-      (each (key_of t.checkpoint inode index) page has).block at.checkpoint held at.kept (holds_at x (image_of new.commits) t.root (root_in at.checkpoint) held at.shown (sym at.root) holds)
+      (each (key_of t.checkpoint inode index) page has).block at.checkpoint held at.kept (holds_at x (image_of new.commits) t.root (checkpoint_root at.checkpoint) held at.shown (sym at.root) holds)
 
   of_mount_file : (path : List ℕ) (P : ℕ → Holding → ℕ → Type 0) → OfHeldFile (HoldsTree (pages_shown x) (root_of t.root)) t.checkpoint path P
       → OfMountFile (image_of new.commits) m.number path P
@@ -102,8 +102,8 @@ module _ (m : Claim) (old new : Known) (x : Shown) (t : MountedTree) (at : IsMou
       let same : t.checkpoint ≡ n = cc (mounted, mounted_at) in
       let kept_here : kept_at t.checkpoint (image_of new.commits).table ≡ Some c = subst (λ (k : ℕ). kept_at k (image_of new.commits).table ≡ Some c) (sym same) kept in
       let checkpoint : c ≡ at.checkpoint = cc (kept_here, kept_now) in
-      let root : root_in c ≡ t.root = ap root_in checkpoint ∙ at.root in
-      subst (λ (k : ℕ). P k held inode) same (all held inode (holds_at (image_of new.commits) x (root_in c) t.root held (sym at.shown) root holds) found_file)
+      let root : checkpoint_root c ≡ t.root = ap checkpoint_root checkpoint ∙ at.root in
+      subst (λ (k : ℕ). P k held inode) same (all held inode (holds_at (image_of new.commits) x (checkpoint_root c) t.root held (sym at.shown) root holds) found_file)
 
   -- a block of a file of the tree is a page that may be kept
   stored_page : IsHistory new.commits → (key : CacheKey) (page : List ℕ) → IsStored (HoldsTree (pages_shown x) (root_of t.root)) t.checkpoint (key, page)
@@ -117,7 +117,7 @@ module _ (m : Claim) (old new : Known) (x : Shown) (t : MountedTree) (at : IsMou
         block = λ c held kept holds.
             let kept_now = at.kept in
             let same : c ≡ at.checkpoint = cc (kept, kept_now) in
-            stored.block held (holds_at (image_of new.commits) x (root_in c) t.root held (sym at.shown) (ap root_in same ∙ at.root) holds);
+            stored.block held (holds_at (image_of new.commits) x (checkpoint_root c) t.root held (sym at.shown) (ap checkpoint_root same ∙ at.root) holds);
       })
 
 -- ---- of the tree that was found

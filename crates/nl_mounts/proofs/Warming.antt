@@ -12,7 +12,7 @@ use Rattle.nl_types.specs.Roots.{Blocks}
 use Rattle.nl_types.specs.Trees.{Tree}
 use Rattle.nl_tree.specs.Held.{Holding}
 use Rattle.nl_tree.specs.Reading.{HoldingMeans, as_file, link_at}
-use Rattle.nl_tree.proofs.ReadingCalls.{read_bytes}
+use Rattle.nl_tree.specs.Facts.ReadingCalls.{read_bytes}
 use Rattle.nl_mounts.specs.declared.cache.CacheKey.{CacheKey}
 use Rattle.nl_mounts.specs.Caching.{Cache, cached_at, is_key, key_of, put_by, put_count, put_one, touched_one, warmed, warmed_one}
 use Rattle.nl_mounts.specs.Warming.{HasBegunToWarm, HasWarmed, IsWarmingOf, OfHeldFile, Warms}

@@ -14,8 +14,8 @@ use Rattle.nl_mounts.specs.Ports.{IsBytesOf, IsLater, PortView}
 abbrev pub JobAnswer : Type 0
 JobAnswer = Result (List ℕ) VolError
 
--- the job is refused for its mount; or it gets what the tree says that the mount's checkpoint had when the mount was told,
--- the bytes or a refusal; or it is refused for memory
+-- the job is refused for its mount; or it gets what the tree says that the mount's checkpoint had when the
+-- mount was told, the bytes or a refusal; or it is refused for memory
 abbrev pub IsAnswerTo : Claim → ReadJob → JobAnswer → Type 0
 IsAnswerTo m job answer = (t : Tree) → TreeOn (image_of m.told.commits) m.checkpoint t
     → (answer ≡ Err BadMount) ⊎ IsBytesOf t job.path job.offset job.len answer

@@ -12,7 +12,7 @@ use Rattle.nl_types.specs.Paths.{path_of}
 use Rattle.nl_types.specs.Roots.{Pages}
 use Rattle.nl_types.specs.Trees.{Tree}
 use Rattle.nl_layout.specs.Root.{root_of}
-use Rattle.nl_cpfile.specs.Tables.{kept_at, root_in}
+use Rattle.nl_cpfile.specs.Tables.{kept_at, checkpoint_root}
 use Rattle.nl_cpfile.specs.declared.checkpoint.Checkpoint.{Checkpoint}
 use Rattle.nl_tree.specs.Held.{Holding}
 use Rattle.nl_tree.specs.Reading.{ShowsAs}
@@ -54,16 +54,20 @@ pub record IsNotRead (result : Result ℕ VolError) (was now : List ℕ) : Type 
   pub refused : result ≡ Err BadMount
   pub same : now ≡ was
 
--- the bytes of the file at a path from an offset on stand in the front of the slice, as many as there are and it takes, and
--- the rest of it is as it was; or the call is refused as the tree says, and the slice is as it was
-pub record IsReadOf (t : Tree) (path : List ℕ) (offset : ℕ) (was : List ℕ) (result : Result ℕ VolError) (now : List ℕ) : Type 0 where
-  pub reads : ShowsAs (λ count. Bytes (take count now)) result (and_then (path_of path) (read t offset (length was)))
+-- the bytes of the file at a path from an offset on stand in the front of the slice, as many as there are and
+-- it takes, and the rest of it is as it was; or the call is refused as the tree says, and the slice is as it
+-- was
+pub record IsReadOf (t : Tree) (path : List ℕ) (offset : ℕ) (was : List ℕ) (result : Result ℕ VolError)
+    (now : List ℕ) : Type 0 where
+  pub reads : ShowsAs (λ count. Bytes (take count now)) result
+      (and_then (path_of path) (read t offset (length was)))
   pub rest : IfOk result (λ count. drop count now ≡ drop count was)
   pub same : OnErr result (now ≡ was)
 
 -- the bytes, or a refusal as the tree says, or one for memory
 abbrev pub IsBytesOf : Tree → List ℕ → (offset len : ℕ) → Result (List ℕ) VolError → Type 0
-IsBytesOf t path offset len result = ShowsUnlessMemory Bytes result (and_then (path_of path) (read t offset len))
+IsBytesOf t path offset len result =
+    ShowsUnlessMemory Bytes result (and_then (path_of path) (read t offset len))
 
 abbrev pub IsStatOf : Tree → List ℕ → Result Stat VolError → Type 0
 IsStatOf t path result = result ≡ and_then (path_of path) (stat t)
@@ -76,7 +80,7 @@ IsListOf t path result = ShowsUnlessMemory (λ names. names) result (and_then (p
 
 -- a checkpoint under its number, as a tree
 abbrev pub tree_of : ℕ → Checkpoint → MountedTree
-tree_of n c = record { checkpoint = n; root = root_in c }
+tree_of n c = record { checkpoint = n; root = checkpoint_root c }
 
 -- the tree that a mount shows
 abbrev pub mounted_tree : Shown → ℕ → Option MountedTree
@@ -86,26 +90,29 @@ mounted_tree x m = option_and_then (λ n. option_map (tree_of n) (kept_at n x.ta
 abbrev pub HasLearned : Claim → Known → Type 0
 HasLearned m k = m.told.volume ≡ k.volume → IsPrefix m.told.commits k.commits
 
--- The tree that a mount shows in the image x of what has been seen. Where the mount was learned of, its root means the tree
--- that its checkpoint had when the mount was told.
+-- The tree that a mount shows in the image x of what has been seen. Where the mount was learned of, its root
+-- means the tree that its checkpoint had when the mount was told.
 pub record IsMountTree (m : Claim) (old new : Known) (x : Shown) (tree : MountedTree) : Type 0 where
   pub volume : m.told.volume ≡ old.volume
   pub shown : x ≡ image_of new.commits
   pub mounted : mounted_on (image_of new.commits) m.number ≡ Some tree.checkpoint
   pub checkpoint : Checkpoint
   pub kept : kept_at tree.checkpoint (image_of new.commits).table ≡ Some checkpoint
-  pub root : root_in checkpoint ≡ tree.root
-  pub means : (t : Tree) → TreeOn (image_of new.commits) tree.checkpoint t → RootMeans (pages_shown x) tree.root t
+  pub root : checkpoint_root checkpoint ≡ tree.root
+  pub means : (t : Tree) → TreeOn (image_of new.commits) tree.checkpoint t
+      → RootMeans (pages_shown x) tree.root t
   pub told : HasLearned m old → (t : Tree) → TreeOn (image_of m.told.commits) m.checkpoint t
       → RootMeans (pages_shown x) tree.root t
 
--- What a look for a mount at the image x finds. The image is older than what was seen, and nothing more is seen; or its history
--- is seen then, and the image lacks the mount, or shows its checkpoint.
+-- What a look for a mount at the image x finds. The image is older than what was seen, and nothing more is
+-- seen; or its history is seen then, and the image lacks the mount, or shows its checkpoint.
 pub data Finds (m : Claim) (old new : Known) (x : Shown) (tree : Option MountedTree) : Type 0 where
   Older : new ≡ old → tree ≡ None → Finds m old new x tree
-  Lacks : IsLater old new → IsHistory new.commits → mounted_on (image_of new.commits) m.number ≡ None → tree ≡ None
+  Lacks : IsLater old new → IsHistory new.commits → mounted_on (image_of new.commits) m.number ≡ None
+      → tree ≡ None
       → Finds m old new x tree
-  Shows : (t : MountedTree) → IsLater old new → IsHistory new.commits → IsMountTree m old new x t → tree ≡ Some t
+  Shows : (t : MountedTree) → IsLater old new → IsHistory new.commits → IsMountTree m old new x t
+      → tree ≡ Some t
       → Finds m old new x tree
 
 -- what is shown where a port has entered, what it has seen then, and the tree that a mount has there
@@ -114,23 +121,27 @@ pub record LookView : Type 0 where
   pub front : Known
   pub tree : Option MountedTree
 
--- what is answered under a root is true of every tree that the root means; where there is none, the call is refused
+-- what is answered under a root is true of every tree that the root means; where there is none, the call is
+-- refused
 abbrev pub IsOfTree : Pages → Option MountedTree → (Refused : Type 0) → (Answers : Tree → Type 0) → Type 0
 IsOfTree pages None Refused Answers = Refused
 IsOfTree pages (Some tree) Refused Answers = (t : Tree) → RootMeans pages tree.root t → Answers t
 
--- What a call of a port comes to. It is refused where the mount is another volume's, where no image was entered that is as
--- new as what was seen, and where the image that was entered lacks the mount. Else the answer is that of the mount's
--- checkpoint in the image of one history, which goes on from what was seen, and is what has been seen then.
+-- What a call of a port comes to. It is refused where the mount is another volume's, where no image was
+-- entered that is as new as what was seen, and where the image that was entered lacks the mount. Else the
+-- answer is that of the mount's checkpoint in the image of one history, which goes on from what was seen, and
+-- is what has been seen then.
 pub data Looked (m : Claim) (old new : Known) (Refused : Type 0) (Answers : Tree → Type 0) : Type 0 where
   Foreign : m.told.volume ≢ old.volume → new ≡ old → Refused → Looked m old new Refused Answers
   NoImage : new ≡ old → Refused → Looked m old new Refused Answers
   NoMount : IsHistory new.commits → mounted_on (image_of new.commits) m.number ≡ None → Refused
       → Looked m old new Refused Answers
-  Entered : (n : ℕ) → m.told.volume ≡ old.volume → IsHistory new.commits → mounted_on (image_of new.commits) m.number ≡ Some n
+  Entered : (n : ℕ) → m.told.volume ≡ old.volume → IsHistory new.commits
+      → mounted_on (image_of new.commits) m.number ≡ Some n
       → ((t : Tree) → TreeOn (image_of new.commits) n t → Answers t) → Looked m old new Refused Answers
 
--- where the mount was learned of, what is answered is true of the tree that its checkpoint had when the mount was told
+-- where the mount was learned of, what is answered is true of the tree that its checkpoint had when the mount
+-- was told
 abbrev pub Told : Claim → Known → (Refused : Type 0) → (Answers : Tree → Type 0) → Type 0
 Told m old Refused Answers = HasLearned m old
     → (t : Tree) → TreeOn (image_of m.told.commits) m.checkpoint t → Refused ⊎ Answers t
@@ -145,7 +156,7 @@ OfTreeFile pages tree path P =
 -- so it does of the file in the checkpoint that a mount shows in an image
 abbrev pub OfMountFile : Shown → (mount : ℕ) → (path : List ℕ) → (ℕ → Holding → ℕ → Type 0) → Type 0
 OfMountFile x m path P = (n : ℕ) (c : Checkpoint) → mounted_on x m ≡ Some n → kept_at n x.table ≡ Some c
-    → OfHeldFile (HoldsTree (pages_shown x) (root_of (root_in c))) n path P
+    → OfHeldFile (HoldsTree (pages_shown x) (root_of (checkpoint_root c))) n path P
 
 -- what is kept are blocks of the files of the tree that a mount has
 abbrev pub IsCacheOf : Pages → Option MountedTree → Option Cache → Type 0
@@ -158,13 +169,17 @@ PutsOfTree pages tree old new = (e : CacheKey × List ℕ) → Contains new.entr
     ⊎ ((t : MountedTree) × (tree ≡ Some t) × IsStored (HoldsTree pages (root_of t.root)) t.checkpoint e)
 
 -- where pages are kept, a read does so; else none are
-abbrev pub TouchesIfAny : ((ℕ → Holding → ℕ → Type 0) → Type 0) → (offset : ℕ) → Option Cache → Result ℕ VolError
+abbrev pub TouchesIfAny : ((ℕ → Holding → ℕ → Type 0) → Type 0) → (offset : ℕ) → Option Cache
+    → Result ℕ VolError
     → Option Cache → Type 0
 TouchesIfAny OfFile offset None result new = new ≡ None
-TouchesIfAny OfFile offset (Some old) result new = (c : Cache) × (new ≡ Some c) × HasTouched OfFile offset old result c
+TouchesIfAny OfFile offset (Some old) result new =
+    (c : Cache) × (new ≡ Some c) × HasTouched OfFile offset old result c
 
 -- where pages are kept, warming does so; else it answers 0
-abbrev pub WarmsIfAny : ((ℕ → Holding → ℕ → Type 0) → Type 0) → (offset len : ℕ) → Option Cache → Result ℕ VolError
+abbrev pub WarmsIfAny : ((ℕ → Holding → ℕ → Type 0) → Type 0) → (offset len : ℕ) → Option Cache
+    → Result ℕ VolError
     → Option Cache → Type 0
 WarmsIfAny OfFile offset len None result new = (result ≡ Ok 0) × (new ≡ None)
-WarmsIfAny OfFile offset len (Some old) result new = (c : Cache) × (new ≡ Some c) × Warms OfFile offset len old result c
+WarmsIfAny OfFile offset len (Some old) result new =
+    (c : Cache) × (new ≡ Some c) × Warms OfFile offset len old result c

@@ -11,10 +11,13 @@ use Rattle.nl_tree.specs.Reading.{as_file, link_at}
 use Rattle.nl_mounts.specs.declared.cache.CacheKey.{CacheKey}
 use Rattle.nl_mounts.specs.Caching.{Cache, block_count, put_count, touched, warmed}
 
--- P holds of the file at a path, whatever inodes hold: of the checkpoint's number, of what they hold, and of the file's inode
-abbrev pub OfHeldFile : (Holding → Type 0) → (checkpoint : ℕ) → (path : List ℕ) → (ℕ → Holding → ℕ → Type 0) → Type 0
+-- P holds of the file at a path, whatever inodes hold: of the checkpoint's number, of what they hold, and of
+-- the file's inode
+abbrev pub OfHeldFile : (Holding → Type 0) → (checkpoint : ℕ) → (path : List ℕ) → (ℕ → Holding → ℕ → Type 0)
+    → Type 0
 OfHeldFile holds n path P =
-    (held : Holding) (inode : ℕ) → holds held → Ok inode ≡ and_then (link_at held path) as_file → P n held inode
+    (held : Holding) (inode : ℕ) → holds held → Ok inode ≡ and_then (link_at held path) as_file
+    → P n held inode
 
 -- ---- which pages are put
 
@@ -36,18 +39,21 @@ PutsStored holds n old new =
 
 -- the first so many bytes are those of blocks from an offset on
 abbrev pub AreReadUpTo : (count : ℕ) → Blocks → (offset : ℕ) → List ℕ → Type 0
-AreReadUpTo count blocks offset bytes = (k : ℕ) → k < count → slice_index bytes k ≡ byte_stored blocks (offset + k)
+AreReadUpTo count blocks offset bytes =
+    (k : ℕ) → k < count → slice_index bytes k ≡ byte_stored blocks (offset + k)
 
 -- of so many bytes, those from one on are so
 abbrev pub AreReadFrom : (first count : ℕ) → Blocks → (offset : ℕ) → List ℕ → Type 0
 AreReadFrom first count blocks offset bytes =
     (k : ℕ) → first ≤ k → k < count → slice_index bytes k ≡ byte_stored blocks (offset + k)
 
--- A read changes the order alone: where it answers so many bytes, each of their blocks that is kept has come to the front, one
--- after another.
-pub record HasTouched (OfFile : (ℕ → Holding → ℕ → Type 0) → Type 0) (offset : ℕ) (old : Cache) (result : Result ℕ VolError)
+-- A read changes the order alone: where it answers so many bytes, each of their blocks that is kept has come
+-- to the front, one after another.
+pub record HasTouched (OfFile : (ℕ → Holding → ℕ → Type 0) → Type 0) (offset : ℕ) (old : Cache)
+    (result : Result ℕ VolError)
     (new : Cache) : Type 0 where
-  pub touched_is : IfOk result (λ count. OfFile (λ n held i. new ≡ touched n i (offset / 1024) (block_count offset count) old))
+  pub touched_is : IfOk result
+      (λ count. OfFile (λ n held i. new ≡ touched n i (offset / 1024) (block_count offset count) old))
   pub none : PutsNone old new
   pub same : OnErr result (new ≡ old)
 
@@ -78,9 +84,11 @@ pub record HasBegunToWarm (offset len : ℕ) (old new : Cache) (n : ℕ) (held :
   pub cache : new ≡ warmed_by held offset done n i old
 
 -- what warming comes to: all blocks of the range; or the first of them, where memory is refused; or nothing
-pub data Warms (OfFile : (ℕ → Holding → ℕ → Type 0) → Type 0) (offset len : ℕ) (old : Cache) (result : Result ℕ VolError)
+pub data Warms (OfFile : (ℕ → Holding → ℕ → Type 0) → Type 0) (offset len : ℕ) (old : Cache)
+    (result : Result ℕ VolError)
     (new : Cache) : Type 0 where
   Whole : (count : ℕ) → result ≡ Ok count → OfFile (HasWarmed offset len count old new)
       → Warms OfFile offset len old result new
-  Part : result ≡ Err Memory → OfFile (HasBegunToWarm offset len old new) → Warms OfFile offset len old result new
+  Part : result ≡ Err Memory → OfFile (HasBegunToWarm offset len old new)
+      → Warms OfFile offset len old result new
   Nothing : (e : VolError) → result ≡ Err e → new ≡ old → Warms OfFile offset len old result new

@@ -25,7 +25,8 @@ pub struct CacheKey {
 /// Pages, the most recently used first.
 pub(crate) type Cache = LruCache<CacheKey, Page>;
 
-/// An empty cache for so many pages. Refused by `BadRange` where these are none or more than 4,096, and by `Memory`.
+/// An empty cache for so many pages. Refused by `BadRange` where these are none or more than 4,096, and by
+/// `Memory`.
 pub(crate) fn new_cache(alloc: Global, pages: usize) -> Result<Cache, VolError>
     ensures size { OnOk result (IsCacheSize pages) }
     ensures empty { IfOk result (λ cache. cache ≡ lru_cache [] pages) }
@@ -87,8 +88,8 @@ fn put_page(cache: &mut Cache, key: CacheKey, page: &Page) -> Result<(), VolErro
     }
 }
 
-/// Brings a block of a file to the front where it is there, and else puts it where it is stored. Answers how many it put.
-/// Refused by `Memory` alone.
+/// Brings a block of a file to the front where it is there, and else puts it where it is stored. Answers how
+/// many it put. Refused by `Memory` alone.
 fn warm_block<T: TreeRead>(
     tree: &T,
     cache: &mut Cache,
@@ -118,8 +119,8 @@ fn warm_block<T: TreeRead>(
     }
 }
 
-/// Brings the blocks of a file from one index to another to the front, ascending, and puts those that are stored and aren't
-/// there. Answers how many it put. Refused by `Memory` alone; what was done before stays.
+/// Brings the blocks of a file from one index to another to the front, ascending, and puts those that are
+/// stored and aren't there. Answers how many it put. Refused by `Memory` alone; what was done before stays.
 pub(crate) fn warm_file<T: TreeRead>(
     tree: &T,
     cache: &mut Cache,

@@ -34,8 +34,8 @@ fn read_file<T: TreeRead>(
     count
 }
 
-/// Reads bytes as `nl_tree::read_into` does, and looks for their pages in the cache. Those that are there come to the front.
-/// It takes no memory.
+/// Reads bytes as `nl_tree::read_into` does, and looks for their pages in the cache. Those that are there
+/// come to the front. It takes no memory.
 pub(crate) fn read_cached<T: TreeRead>(
     tree: &T,
     checkpoint: CheckpointNumber,
@@ -59,7 +59,8 @@ pub(crate) fn read_cached<T: TreeRead>(
     Ok(read_file(tree, cache, &file, offset, into))
 }
 
-/// Warms the blocks of so many bytes of a file, as far as there are. Refused by `Memory` alone; what was done before stays.
+/// Warms the blocks of so many bytes of a file, as far as there are. Refused by `Memory` alone; what was done
+/// before stays.
 fn warm_bytes<T: TreeRead>(
     tree: &T,
     cache: &mut Cache,
@@ -79,8 +80,8 @@ fn warm_bytes<T: TreeRead>(
     warm_file(tree, cache, file, offset / BLOCK_SIZE as u64, end)
 }
 
-/// Brings the blocks of so many bytes of the file at a path to the front, ascending, as far as there are, and puts those that
-/// are stored and aren't there. Answers how many it put.
+/// Brings the blocks of so many bytes of the file at a path to the front, ascending, as far as there are, and
+/// puts those that are stored and aren't there. Answers how many it put.
 ///
 /// Refused as `nl_tree::find_file` is, and by `Memory`; what was done before stays.
 pub(crate) fn warm<T: TreeRead>(

@@ -66,8 +66,9 @@ impl<T: TreeRead> FileRead<'_, T> {
         from + (len - from).min(BLOCK_SIZE - start)
     }
 
-    /// Looks for a block in the cache, whose bytes go from one place in the slice to another. Where it is there, it comes to
-    /// the front, and the bytes from `done` on are filled up to its end. Answers up to where they are filled.
+    /// Looks for a block in the cache, whose bytes go from one place in the slice to another. Where it is
+    /// there, it comes to the front, and the bytes from `done` on are filled up to its end. Answers up to
+    /// where they are filled.
     fn read_block(
         &self,
         cache: &mut Cache,
@@ -99,8 +100,9 @@ impl<T: TreeRead> FileRead<'_, T> {
         to
     }
 
-    /// Fills the slice with the pages that were used last, where they are those of its blocks, the last one first, as they are
-    /// once a read has brought them to the front. It looks for no key. Answers whether they are.
+    /// Fills the slice with the pages that were used last, where they are those of its blocks, the last one
+    /// first, as they are once a read has brought them to the front. It looks for no key. Answers whether
+    /// they are.
     fn read_front(&self, cache: &Cache, into: &mut [u8]) -> bool
         requires { self.now.offset + length into.old < 2 ^ 64 }
         ensures order { result ≡ true → touched self.now.file.now.checkpoint self.now.file.now.inode
@@ -127,7 +129,8 @@ impl<T: TreeRead> FileRead<'_, T> {
         left == 0
     }
 
-    /// Fills the slice, and looks for each of its blocks. Those that are in the cache come to the front, ascending.
+    /// Fills the slice, and looks for each of its blocks. Those that are in the cache come to the front,
+    /// ascending.
     fn read_blocks(&self, cache: &mut Cache, into: &mut [u8])
         requires { self.now.offset + length into.old < 2 ^ 64 }
         ensures touched { cache.new ≡ touched self.now.file.now.checkpoint self.now.file.now.inode

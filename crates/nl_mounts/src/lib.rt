@@ -1,4 +1,5 @@
-//! Readers of a shared volume on other threads: ports, which read mounts without waiting, and the volume that they share.
+//! Readers of a shared volume on other threads: ports, which read mounts without waiting, and the volume that
+//! they share.
 #![tactic(auto)]
 
 mod cache;

@@ -225,8 +225,9 @@ fn gather<J: Volumes>(
     }
 }
 
-/// Does jobs by ports at once, each port in a thread of its own: job j by port j modulo the number of ports. Each port is told
-/// of the mount first. The answers stand in the order of the jobs. Where no thread can be made, ports take turns.
+/// Does jobs by ports at once, each port in a thread of its own: job j by port j modulo the number of ports.
+/// Each port is told of the mount first. The answers stand in the order of the jobs. Where no thread can be
+/// made, ports take turns.
 ///
 /// # Errors
 /// `Memory`, before anything is read. A job has refusals of its own, `Memory` among them.

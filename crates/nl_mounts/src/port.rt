@@ -22,8 +22,8 @@ use nl_types::{CheckpointNumber, Items, MountNumber, Named, Stat, VolError};
 use std::alloc::Global;
 use std::marker::Model;
 
-/// A reader's end of a shared volume. It may keep pages of files that it reads often. Contracts see what it has seen of the
-/// volume's history, and what it keeps.
+/// A reader's end of a shared volume. It may keep pages of files that it reads often. Contracts see what it
+/// has seen of the volume's history, and what it keeps.
 #[derive(Drop)]
 pub struct Port<J: Volumes> {
     /// It is out only while a call looks.
@@ -82,8 +82,8 @@ fn front_at<J: Volumes>(image: &Image, seen: &Front<J>) -> Option<Front<J>>
     Some(front)
 }
 
-/// What has been seen once a port has looked at an image, and the tree that a mount of its volume has there. No more is seen
-/// of an image that is older than what was seen, and it has no tree.
+/// What has been seen once a port has looked at an image, and the tree that a mount of its volume has there.
+/// No more is seen of an image that is older than what was seen, and it has no tree.
 fn find<J: Volumes>(
     image: &Image,
     seen: &Front<J>,
@@ -104,7 +104,8 @@ fn find<J: Volumes>(
     (front, tree_of_mount(image, mount.number()))
 }
 
-/// A port's look at the image that is published, and what it found. It is not `Drop`: `Port::come_back` takes it.
+/// A port's look at the image that is published, and what it found. It is not `Drop`: `Port::come_back` takes
+/// it.
 struct Look<J: Volumes> {
     reading: Reading<Image, Name, Keeps>,
     front: Front<J>,
@@ -254,7 +255,8 @@ impl<J: Volumes> Port<J> {
         }
     }
 
-    /// Takes the port out of its place, where one stays that finds nothing. Pages that are kept stay there. Takes no memory.
+    /// Takes the port out of its place, where one stays that finds nothing. Pages that are kept stay there.
+    /// Takes no memory.
     pub fn take(&mut self) -> Port<J>
         ensures { (result ≡ bare self.old.known) × (self.new ≡ self.old) }
     {
@@ -287,8 +289,8 @@ impl<J: Volumes> Port<J> {
         self.front.volume()
     }
 
-    /// Keeps pages of files from now on, at most so many: none at first, and those that were kept are gone. They come by
-    /// `warm`, and `read_into` looks for them.
+    /// Keeps pages of files from now on, at most so many: none at first, and those that were kept are gone.
+    /// They come by `warm`, and `read_into` looks for them.
     ///
     /// # Errors
     /// `BadRange` for none or more than 4,096, `Memory`; then all that was kept stays.
@@ -329,8 +331,8 @@ impl<J: Volumes> Port<J> {
         }
     }
 
-    /// Enters the image that is published, and looks for a mount there. Until the look comes back, the port has no reader.
-    /// Refused by `BadMount` where the mount is another volume's, and where no image is found.
+    /// Enters the image that is published, and looks for a mount there. Until the look comes back, the port
+    /// has no reader. Refused by `BadMount` where the mount is another volume's, and where no image is found.
     fn look(&mut self, mount: &Mount<J>) -> Result<Look<J>, VolError>
         ensures same { self.new ≡ self.old }
         ensures refused { IfErr result (λ e. e ≡ VolError.BadMount) }
@@ -401,10 +403,11 @@ impl<J: Volumes> Port<J> {
         result
     }
 
-    /// Reads the bytes of the file at a path of the mount's tree, as `nl_tree::read_into` does. Where the port keeps pages, it
-    /// looks for the file's there, and brings those of the bytes that it answers to the front, ascending; it puts none. It
-    /// takes no memory, and never waits. Refused by `BadMount` where the state that it enters lacks the mount, where it is
-    /// given none, and where the mount is another volume's; the path isn't looked at then.
+    /// Reads the bytes of the file at a path of the mount's tree, as `nl_tree::read_into` does. Where the
+    /// port keeps pages, it looks for the file's there, and brings those of the bytes that it answers to the
+    /// front, ascending; it puts none. It takes no memory, and never waits. Refused by `BadMount` where the
+    /// state that it enters lacks the mount, where it is given none, and where the mount is another volume's;
+    /// the path isn't looked at then.
     pub fn read_into(
         &mut self,
         mount: &Mount<J>,
@@ -454,9 +457,9 @@ impl<J: Volumes> Port<J> {
         result
     }
 
-    /// Puts the blocks in which bytes of a file lie from an offset on, at most so many bytes, into the cache: those that are
-    /// stored and aren't there yet, ascending, and answers how many. Those that are there come to the front. Without a
-    /// cache it answers 0, and looks at nothing. It never waits.
+    /// Puts the blocks in which bytes of a file lie from an offset on, at most so many bytes, into the cache:
+    /// those that are stored and aren't there yet, ascending, and answers how many. Those that are there come
+    /// to the front. Without a cache it answers 0, and looks at nothing. It never waits.
     ///
     /// # Errors
     /// Those of `read_into`, and `Memory`; then what was put before stays.
@@ -485,8 +488,8 @@ impl<J: Volumes> Port<J> {
         result
     }
 
-    /// The bytes of the file at a path of the mount's tree, as many as there are and at most `len`, as `nl_tree::read`
-    /// does. It never waits. Refused as `read_into` is, and for memory.
+    /// The bytes of the file at a path of the mount's tree, as many as there are and at most `len`, as
+    /// `nl_tree::read` does. It never waits. Refused as `read_into` is, and for memory.
     pub fn read(
         &mut self,
         alloc: Global,
@@ -509,8 +512,8 @@ impl<J: Volumes> Port<J> {
         result
     }
 
-    /// What stands at a path of the mount's tree. It takes no memory, and never waits. Refused as `read_into` is, and as
-    /// `nl_tree::stat` is.
+    /// What stands at a path of the mount's tree. It takes no memory, and never waits. Refused as `read_into`
+    /// is, and as `nl_tree::stat` is.
     pub fn stat(&mut self, mount: &Mount<J>, path: &[u8]) -> Result<Stat, VolError>
         ensures later { IsLater self.old.known self.new.known }
         ensures looked { Looked mount.now self.old.known self.new.known
@@ -526,8 +529,8 @@ impl<J: Volumes> Port<J> {
         result
     }
 
-    /// The names in the directory at a path of the mount's tree. It never waits. Refused as `read_into` is, and as
-    /// `nl_tree::list` is, want of memory among it.
+    /// The names in the directory at a path of the mount's tree. It never waits. Refused as `read_into` is,
+    /// and as `nl_tree::list` is, want of memory among it.
     pub fn list(
         &mut self,
         alloc: Global,

@@ -1,7 +1,7 @@
 //! A volume that threads share.
 ghost use Rattle.std.specs.Prelude.{◌≡◌, ◌≤◌, ◌+◌, IfErr, IfOk, IsOkUnless, length};
 ghost use Rattle.nl_mounts.specs.Ports.{HasLearned, IsLater};
-ghost use Rattle.nl_mounts.specs.Sharing.{AreCheckpointsCounted, AreSegmentsCounted, GivesBack, HasCleaned, HasMounted, HasRun, HasUnmounted, IsNeededTold, IsPlanned, IsPortCount, IsSegmentTold, IsShareRefused, IsSound};
+ghost use Rattle.nl_mounts.specs.Sharing.{AreCheckpointsCounted, AreSegmentsCounted, IsPenBack, HasCleaned, HasMounted, HasRun, HasUnmounted, IsNeededTold, IsRoundPlanned, IsPortCount, IsSegmentTold, IsShareRefused, IsSoundState};
 
 use crate::port::Port;
 use nl_cleaner::Job;
@@ -17,15 +17,15 @@ use std::sync::{Mutex, Wait};
 /// The most ports of a volume.
 const MOST_PORTS: usize = 32;
 
-/// A volume that one pen changes under a lock. Each call takes the lock, does what `Locked` does, and lets it go: what a
-/// contract says of a call is said of some state that stood under the lock then.
+/// A volume that one pen changes under a lock. Each call takes the lock, does what `Locked` does, and lets it
+/// go: what a contract says of a call is said of some state that stood under the lock then.
 pub struct Shared<P: NotingPen, J: Volumes, W: Press = Publisher> {
     locked: Mutex<Locked<P, J, W>>,
 }
 
 /// What lies under a lock is sound. This says so to its callers, and does nothing.
 fn is_sound<P: NotingPen, J: Volumes, W: Press>(locked: &Locked<P, J, W>)
-    ensures { IsSound locked.now }
+    ensures { IsSoundState locked.now }
 {
     locked.means_a_world();
     locked.is_told();
@@ -88,8 +88,8 @@ fn apply_to<P: NotingPen, J: Volumes, W: Press, R: Wait>(
 }
 
 impl<P: NotingPen, J: Volumes, W: Press> Shared<P, J, W> {
-    /// Applies an event that is no mount and no unmount, which have calls of their own. It stands where its commit can't be
-    /// published for want of memory: each later call publishes first.
+    /// Applies an event that is no mount and no unmount, which have calls of their own. It stands where its
+    /// commit can't be published for want of memory: each later call publishes first.
     ///
     /// # Errors
     /// Those of the event, and `Memory`.
@@ -102,8 +102,8 @@ impl<P: NotingPen, J: Volumes, W: Press> Shared<P, J, W> {
     /// Mounts a checkpoint, and tells the port. Other ports are told by `Port::learn`.
     ///
     /// # Errors
-    /// `BadMount` where the port is another volume's, before all else; those of a mount; `Memory`, also while a commit waits
-    /// to be published.
+    /// `BadMount` where the port is another volume's, before all else; those of a mount; `Memory`, also while
+    /// a commit waits to be published.
     pub fn mount<R: Wait>(
         &self,
         rt: &R,
@@ -152,7 +152,7 @@ fn planned_in<D: Device, J: Volumes, W: Press>(
     config: &Config,
     now: u64,
 ) -> Result<Job, VolError>
-    ensures planned { IfOk result (IsPlanned config.now now) }
+    ensures planned { IfOk result (IsRoundPlanned config.now now) }
     ensures refused { IsOkUnless result VolError.Memory }
 {
     is_sound(locked);
@@ -194,7 +194,8 @@ fn checkpoints_in<D: Device, J: Volumes, W: Press>(locked: &Locked<Pen<D>, J, W>
 }
 
 impl<D: Device, J: Volumes, W: Press> Shared<Pen<D>, J, W> {
-    /// Does the next event of a round of cleaning, and notes the reply in the round; None where the round is over.
+    /// Does the next event of a round of cleaning, and notes the reply in the round; None where the round is
+    /// over.
     pub fn clean_step<R: Wait>(&self, rt: &R, job: &mut Job) -> Option<Reply>
         ensures { HasCleaned job.old result job.new }
     {
@@ -212,7 +213,7 @@ impl<D: Device, J: Volumes, W: Press> Shared<Pen<D>, J, W> {
         config: &Config,
         now: u64,
     ) -> Result<Job, VolError>
-        ensures planned { IfOk result (IsPlanned config.now now) }
+        ensures planned { IfOk result (IsRoundPlanned config.now now) }
         ensures refused { IsOkUnless result VolError.Memory }
     {
         planned_in(&self.locked.lock(rt), alloc, config, now)
@@ -312,17 +313,17 @@ pub fn spend_all<J: Volumes>(mut mounts: Vec<Mount<J>>) {
 
 /// The pen of a volume that ends, without its mounts.
 fn pen_of<P: NotingPen, J: Volumes, R: Wait>(rt: &R, locked: Locked<P, J, Publisher>) -> P
-    ensures { GivesBack (P.layout result) }
+    ensures { IsPenBack (P.layout result) }
 {
     is_sound(&locked);
     locked.end(rt)
 }
 
 impl<P: NotingPen, J: Volumes> Shared<P, J> {
-    /// Takes all mounts out, those that are handed in among them, and gives the pen back. Ports find nothing from now on. It
-    /// takes no memory.
+    /// Takes all mounts out, those that are handed in among them, and gives the pen back. Ports find nothing
+    /// from now on. It takes no memory.
     pub fn end<R: Wait>(self, rt: &R, mounts: Vec<Mount<J>>) -> P
-        ensures { GivesBack (P.layout result) }
+        ensures { IsPenBack (P.layout result) }
     {
         spend_all(mounts);
         let Shared { locked } = self;

@@ -69,7 +69,8 @@ fn back_up<J: Volumes>(
     for named in names.as_slice() {
         let mut path = b"/".to_vec(alloc)?;
         path.extend_from_slice(named.name.as_slice())?;
-        // So are the bytes, whatever is written, removed and cleaned meanwhile. No call of a port waits for anyone.
+        // So are the bytes, whatever is written, removed and cleaned meanwhile. No call of a port waits for
+        // anyone.
         files.push(port.read(alloc, mount, path.as_slice(), 0, u64::MAX)?)?;
     }
     Ok(files)

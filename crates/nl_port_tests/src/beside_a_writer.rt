@@ -1,5 +1,5 @@
-//! Readers of a mount on threads of their own, beside a writer and a cleaner. The mount shows what its checkpoint had, whatever
-//! is written, removed and moved meanwhile.
+//! Readers of a mount on threads of their own, beside a writer and a cleaner. The mount shows what its
+//! checkpoint had, whatever is written, removed and moved meanwhile.
 ghost use Rattle.std.specs.Prelude.{◌≡◌};
 
 use crate::volume::{File, Volume, checkpoint, cleans, ends, files, fill, shared_among};

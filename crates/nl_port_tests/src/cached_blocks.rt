@@ -25,7 +25,8 @@ enum Case {
     Refusals,
 }
 
-/// A volume with `/f`, of three full blocks, and `/holes`, of whose three blocks the last is stored. Both are in snapshot 2.
+/// A volume with `/f`, of three full blocks, and `/holes`, of whose three blocks the last is stored. Both are
+/// in snapshot 2.
 fn files(alloc: Global) -> Result<Pen<MemDevice>, VolError> {
     let geometry = Geometry::new(16, 16)?;
     let mut pen = Pen::format(alloc, MemDevice::new(alloc, geometry)?, geometry, 0)?;
@@ -68,7 +69,8 @@ fn fall_out<J: Volumes>(alloc: Global, port: &mut Port<J>, mount: &Mount<J>) -> 
         && port.cached() == 2
 }
 
-/// Block 0 was read after block 1 was put, so block 2 takes the place of block 1, and block 1 then that of block 2.
+/// Block 0 was read after block 1 was put, so block 2 takes the place of block 1, and block 1 then that of
+/// block 2.
 fn order<J: Volumes>(alloc: Global, port: &mut Port<J>, mount: &Mount<J>) -> bool {
     port.set_cache(alloc, 2) == Ok(())
         && port.warm(mount, b"/f", 0, 1) == Ok(1)

@@ -1,5 +1,6 @@
-//! Tests of shared volumes whose ports read on threads of their own, beside a writer and a cleaner. Nothing stands on this
-//! crate, and it has nothing but tests; it is apart from `nl_tests`, so that the two are proved side by side.
+//! Tests of shared volumes whose ports read on threads of their own, beside a writer and a cleaner. Nothing
+//! stands on this crate, and it has nothing but tests; it is apart from `nl_tests`, so that the two are
+//! proved side by side.
 #![tactic(auto)]
 
 #[cfg(test)]

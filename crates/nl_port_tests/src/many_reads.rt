@@ -12,8 +12,8 @@ use std::sync::atomic::{AtomicBool, Ordering};
 use std::test::Fail;
 use std::thread::{Threads, join};
 
-/// Each of two jobs waits, for some turns, until the other one has begun and the volume has grown. It grows once both have
-/// begun.
+/// Each of two jobs waits, for some turns, until the other one has begun and the volume has grown. It grows
+/// once both have begun.
 #[derive(Drop)]
 struct Meeting {
     begun: [AtomicBool; 2],

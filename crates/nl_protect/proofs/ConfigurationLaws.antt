@@ -9,7 +9,7 @@ use Rattle.nl_protect.specs.declared.config.Config.{Config}
 use Rattle.nl_protect.specs.declared.setting.Setting.{Setting}
 use Rattle.nl_protect.specs.declared.setting.Setting.TheVariants as setting
 use Rattle.nl_protect.specs.Configuration.{after_lines, line_setting, with_setting, standard}
-use Rattle.nl_protect.specs.Laws.{IsFirstBad, IsSetBy, last_given, period_of, min_clean_of, max_clean_of, most_of, urgent_most_of, least_of, urgent_least_of}
+use Rattle.nl_protect.specs.Laws.{IsFirstBad, IsSetBy, last_given, period_set, min_clean_of, max_clean_of, most_of, urgent_most_of, least_of, urgent_least_of}
 
 -- ---- lines that can't be read
 
@@ -89,8 +89,8 @@ field-last field given step (s ∷ settings) config =
     ∙ ap (unwrap_or (last_given given settings)) (step s config)
     ∙ last-first (last_given given settings) (given s) (field config)
 
-period-step : (s : Setting) (config : Config) → (with_setting s config).protection_period ≡ unwrap_or (period_of s) config.protection_period
-period-step s config = elim s as (λ k. (with_setting k config).protection_period ≡ unwrap_or (period_of k) config.protection_period) [
+period-step : (s : Setting) (config : Config) → (with_setting s config).protection_period ≡ unwrap_or (period_set s) config.protection_period
+period-step s config = elim s as (λ k. (with_setting k config).protection_period ≡ unwrap_or (period_set k) config.protection_period) [
   | setting.ProtectionPeriod x ↦ refl
   | setting.MinCleanSegments x ↦ refl
   | setting.MaxCleanSegments x ↦ refl
@@ -175,7 +175,7 @@ urgent_least-step s config = elim s as (λ k. (with_setting k config).mc_min_rec
 
 pub is_set : (settings : List Setting) (config : Config) → config ≡ with_settings settings standard → IsSetBy settings config
 is_set settings config is = record {
-  period = ap (λ (c : Config). c.protection_period) is ∙ field-last (λ (c : Config). c.protection_period) period_of period-step settings standard;
+  period = ap (λ (c : Config). c.protection_period) is ∙ field-last (λ (c : Config). c.protection_period) period_set period-step settings standard;
   min_clean = ap (λ (c : Config). c.min_clean_segments) is ∙ field-last (λ (c : Config). c.min_clean_segments) min_clean_of min_clean-step settings standard;
   max_clean = ap (λ (c : Config). c.max_clean_segments) is ∙ field-last (λ (c : Config). c.max_clean_segments) max_clean_of max_clean-step settings standard;
   most = ap (λ (c : Config). c.nsegments_per_clean) is ∙ field-last (λ (c : Config). c.nsegments_per_clean) most_of most-step settings standard;

@@ -5,14 +5,14 @@ use Rattle.std.specs.List.{AllByRecursion, filter}
 use Rattle.std.specs.Option.{IfSome, is_none}
 use Rattle.std.proofs.lemmas.Bool.{cases_Bool, cases_lt, eqb-true, eq-eqb, le-leb, lt-ltb, ltb-true, ne_eqb, or_left, or_right}
 use Rattle.nl_types.specs.NeedLaws.{AreGone}
-use Rattle.nl_types.specs.PartialMaps.{is_one_of}
-use Rattle.nl_types.specs.Protection.{expired, is_below, is_staying, staying}
+use Rattle.nl_types.specs.NumberLists.{is_one_of}
+use Rattle.nl_types.specs.Protection.{expired, is_below, is_staying, staying_numbers}
 use Rattle.nl_types.specs.Rows.{is_snapshot, may_go, number_of}
 use Rattle.nl_types.specs.declared.error.VolError.TheVariants as error
 use Rattle.nl_types.specs.declared.row.Row.{Row}
 use Rattle.nl_cpfile.specs.declared.checkpoint.Checkpoint.{Checkpoint}
 use Rattle.nl_cpfile.specs.Searching.{IsLeastAbove}
-use Rattle.nl_cpfile.specs.Tables.{IsRising, Precedes, Table, all, kept_numbers, row_of, rows, rows_of}
+use Rattle.nl_cpfile.specs.Tables.{IsRising, Precedes, Table, all, kept_numbers, checkpoint_row, rows, rows_of}
 
 -- ---- numbers among others
 
@@ -91,7 +91,7 @@ module _ (p : Row → Bool) where
   passing-least [] first c rising head among = cc
   passing-least (x ∷ xs) first c rising head among =
       let rest : List Row = filter p (rows_of xs) in
-      elim (p (row_of x)) as (λ b. slice_get (map number_of (cond b (row_of x ∷ rest) rest)) 0 ≡ Some first → is_one_of (map number_of (cond b (row_of x ∷ rest) rest)) c ≡ true → first ≤ c) [
+      elim (p (checkpoint_row x)) as (λ b. slice_get (map number_of (cond b (checkpoint_row x ∷ rest) rest)) 0 ≡ Some first → is_one_of (map number_of (cond b (checkpoint_row x ∷ rest) rest)) c ≡ true → first ≤ c) [
         | true ↦ λ here one.
             let is : x.number ≡ first = cc in
             elim (first-or_later x.number (map number_of rest) c one) [
@@ -187,7 +187,7 @@ module _ (t : Table) (below : ℕ) (low : below ≤ t.latest.number) where
 
   -- a run that begins no later than what expires, and ends with a kept one from the boundary on
   run-of : (first next : ℕ) → is_one_of kept next ≡ true → below ≤ next → ((c : ℕ) → is_one_of gone c ≡ true → first ≤ c)
-      → AreGone first next kept (staying below (rows t))
+      → AreGone first next kept (staying_numbers below (rows t))
   run-of first next kept-next from least = record {
     next_stays = from-stays below t.latest.number (rows t) next from (among-rows next kept-next);
     gone = λ c one. elim (each-stays_or_expires below t.latest.number (rows t) c low (among-rows c one)) [
@@ -202,12 +202,12 @@ module _ (t : Table) (below : ℕ) (low : below ≤ t.latest.number) where
   }
 
   pub run-some : (first next : ℕ) → IsRising (all t) → slice_get gone 0 ≡ Some first → IsLeastAbove (below - 1) kept next
-      → AreGone first next kept (staying below (rows t))
+      → AreGone first next kept (staying_numbers below (rows t))
   run-some first next rising head is =
       let up = is.above in
       run-of first next is.among (omega (arith, up)) (λ c one.
       passing-least (is_expiring below t.latest.number) (all t) first c rising
       (sym (ap (λ ns. slice_get ns 0) gone-is) ∙ head) (sym (ap (λ ns. is_one_of ns c) gone-is) ∙ one))
 
-  pub run-none : slice_get gone 0 ≡ None → AreGone t.latest.number t.latest.number kept (staying below (rows t))
+  pub run-none : slice_get gone 0 ≡ None → AreGone t.latest.number t.latest.number kept (staying_numbers below (rows t))
   run-none none = run-of t.latest.number t.latest.number (among-last t.earlier t.latest) low (λ c one. absurd (none-among gone c none one))

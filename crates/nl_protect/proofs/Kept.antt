@@ -12,8 +12,8 @@ use Rattle.nl_types.specs.Protection as protection
 use Rattle.nl_types.specs.Entries.{holds, is_period_needed}
 use Rattle.nl_types.specs.Rows.{number_of}
 use Rattle.nl_cpfile.specs.declared.checkpoint.Checkpoint.{Checkpoint}
-use Rattle.nl_cpfile.specs.Tables.{IsRising, Precedes, row_of, rows_of}
-use Rattle.nl_protect.specs.Keeping.{first_protected, found, is_before, is_from, is_protected, is_staying}
+use Rattle.nl_cpfile.specs.Tables.{IsRising, Precedes, checkpoint_row, rows_of}
+use Rattle.nl_protect.specs.Keeping.{first_protected, stays_within, is_before, is_from, is_protected, is_staying}
 
 -- ---- rising lists
 
@@ -87,7 +87,7 @@ module _ (now period : ℕ) where
   lowest c (x ∷ xs) each =
       let rest = lowest c xs each.1 in
       let above : c.number < x.number = each.0.number in
-      elim (protection.is_protected now period (row_of x)) as (λ b. option_map_or (min c.number) (protection.least (map number_of (cond b (row_of x ∷ protection.protected now period (rows_of xs)) (protection.protected now period (rows_of xs))))) c.number ≡ c.number) [
+      elim (protection.is_protected now period (checkpoint_row x)) as (λ b. option_map_or (min c.number) (protection.least (map number_of (cond b (checkpoint_row x ∷ protection.protected now period (rows_of xs)) (protection.protected now period (rows_of xs))))) c.number ≡ c.number) [
         | false ↦ rest
         | true ↦ elim (least_of xs) as (λ o. option_map_or (min c.number) o c.number ≡ c.number → min c.number (option_map_or (min x.number) o x.number) ≡ c.number) [
           | None ↦ λ low. omega arith
@@ -97,13 +97,13 @@ module _ (now period : ℕ) where
 
   -- so the first protected one decides, or else the latest one
   pub first-decides : (xs : List Checkpoint) (y : Checkpoint) → IsRising (xs ++ y ∷ []) → unwrap_or (first_protected now period xs) y.number ≡ protection.boundary now period y.number (rows_of (xs ++ y ∷ []))
-  first-decides [] y rising = elim (is_protected now period y) as (λ b. y.number ≡ unwrap_or (protection.least (map number_of (cond b (row_of y ∷ []) []))) y.number) [
+  first-decides [] y rising = elim (is_protected now period y) as (λ b. y.number ≡ unwrap_or (protection.least (map number_of (cond b (checkpoint_row y ∷ []) []))) y.number) [
     | true ↦ refl
     | false ↦ refl
   ]
   first-decides (x ∷ xs) y rising =
       let rest = first-decides xs y rising.1 in
-      elim (is_protected now period x) as (λ b. unwrap_or (option_map (λ (c : Checkpoint). c.number) (cond b (Some x) (find (is_protected now period) xs))) y.number ≡ unwrap_or (protection.least (map number_of (cond b (row_of x ∷ protection.protected now period (rows_of (xs ++ y ∷ []))) (protection.protected now period (rows_of (xs ++ y ∷ [])))))) y.number) [
+      elim (is_protected now period x) as (λ b. unwrap_or (option_map (λ (c : Checkpoint). c.number) (cond b (Some x) (find (is_protected now period) xs))) y.number ≡ unwrap_or (protection.least (map number_of (cond b (checkpoint_row x ∷ protection.protected now period (rows_of (xs ++ y ∷ []))) (protection.protected now period (rows_of (xs ++ y ∷ [])))))) y.number) [
         | true ↦ sym (lowest x (xs ++ y ∷ []) rising.0)
         | false ↦ rest
       ]
@@ -198,16 +198,16 @@ module _ (below start end : ℕ) where
   is_held = holds (record { start = start; end = Some end })
 
   abbrev among : List Checkpoint → Bool
-  among xs = list_any is_held (protection.staying below (rows_of xs))
+  among xs = list_any is_held (protection.staying_numbers below (rows_of xs))
 
-  told : (x : Checkpoint) (a : Bool) (rows : List Row) → list_any is_held (map number_of (cond a (row_of x ∷ rows) rows)) ≡ ((a && is_held x.number) || list_any is_held (map number_of rows))
+  told : (x : Checkpoint) (a : Bool) (rows : List Row) → list_any is_held (map number_of (cond a (checkpoint_row x ∷ rows) rows)) ≡ ((a && is_held x.number) || list_any is_held (map number_of rows))
   told x true rows = refl
   told x false rows = refl
 
-  found-told : (x : Checkpoint) (xs : List Checkpoint) → found below start end (x ∷ xs) ≡ cond (is_before end x) (cond (is_from start x) (is_staying below x || found below start end xs) (found below start end xs)) (found below start end xs)
-  found-told x xs = elim (is_before end x) as (λ b. list_any (is_staying below) (filter (is_from start) (cond b (x ∷ filter (is_before end) xs) (filter (is_before end) xs))) ≡ cond b (cond (is_from start x) (is_staying below x || found below start end xs) (found below start end xs)) (found below start end xs)) [
+  found-told : (x : Checkpoint) (xs : List Checkpoint) → stays_within below start end (x ∷ xs) ≡ cond (is_before end x) (cond (is_from start x) (is_staying below x || stays_within below start end xs) (stays_within below start end xs)) (stays_within below start end xs)
+  found-told x xs = elim (is_before end x) as (λ b. list_any (is_staying below) (filter (is_from start) (cond b (x ∷ filter (is_before end) xs) (filter (is_before end) xs))) ≡ cond b (cond (is_from start x) (is_staying below x || stays_within below start end xs) (stays_within below start end xs)) (stays_within below start end xs)) [
     | false ↦ refl
-    | true ↦ elim (is_from start x) as (λ d. list_any (is_staying below) (cond d (x ∷ filter (is_from start) (filter (is_before end) xs)) (filter (is_from start) (filter (is_before end) xs))) ≡ cond d (is_staying below x || found below start end xs) (found below start end xs)) [
+    | true ↦ elim (is_from start x) as (λ d. list_any (is_staying below) (cond d (x ∷ filter (is_from start) (filter (is_before end) xs)) (filter (is_from start) (filter (is_before end) xs))) ≡ cond d (is_staying below x || stays_within below start end xs) (stays_within below start end xs)) [
       | true ↦ refl
       | false ↦ refl
     ]
@@ -231,16 +231,16 @@ module _ (below start end : ℕ) where
   turned false false = refl
 
   -- the latest one, or one of those before it
-  pub held : (xs : List Checkpoint) (y : Checkpoint) → among (xs ++ y ∷ []) ≡ ((is_held y.number && is_staying below y) || found below start end xs)
+  pub held : (xs : List Checkpoint) (y : Checkpoint) → among (xs ++ y ∷ []) ≡ ((is_held y.number && is_staying below y) || stays_within below start end xs)
   held [] y = told y (is_staying below y) [] ∙ turned (is_staying below y) (is_held y.number)
   held (x ∷ xs) y =
       told x (is_staying below x) (filter (protection.is_staying below) (rows_of (xs ++ y ∷ [])))
-      ∙ joined (is_staying below x) (is_before end x) (is_from start x) (is_held y.number && is_staying below y) (found below start end xs) (among (xs ++ y ∷ [])) (held xs y)
+      ∙ joined (is_staying below x) (is_before end x) (is_from start x) (is_held y.number && is_staying below y) (stays_within below start end xs) (among (xs ++ y ∷ [])) (held xs y)
       ∙ ap (λ b. (is_held y.number && is_staying below y) || b) (sym (found-told x xs))
 
 -- a period that has ended is needed where it holds the latest one or one of those before it, and that stays
 pub needed_is : (below : ℕ) (period : Period) (end : ℕ) (xs : List Checkpoint) (y : Checkpoint) → period.end ≡ Some end
-    → is_period_needed (protection.staying below (rows_of (xs ++ y ∷ []))) period ≡ (((is_from period.start y && is_before end y) && is_staying below y) || found below period.start end xs)
+    → is_period_needed (protection.staying_numbers below (rows_of (xs ++ y ∷ []))) period ≡ (((is_from period.start y && is_before end y) && is_staying below y) || stays_within below period.start end xs)
 needed_is below period end xs y is =
-    subst (λ (o : Option ℕ). is_period_needed (protection.staying below (rows_of (xs ++ y ∷ []))) (record { start = period.start; end = o }) ≡ (((is_from period.start y && is_before end y) && is_staying below y) || found below period.start end xs))
+    subst (λ (o : Option ℕ). is_period_needed (protection.staying_numbers below (rows_of (xs ++ y ∷ []))) (record { start = period.start; end = o }) ≡ (((is_from period.start y && is_before end y) && is_staying below y) || stays_within below period.start end xs))
     (sym is) (held below period.start end xs y)

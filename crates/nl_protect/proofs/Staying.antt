@@ -10,9 +10,8 @@ use Rattle.nl_types.specs.Entries.{holds, is_period_needed}
 use Rattle.nl_types.specs.Protection as protection
 use Rattle.nl_types.specs.Rows.{number_of}
 use Rattle.nl_cpfile.specs.declared.checkpoint.Checkpoint.{Checkpoint}
-use Rattle.nl_cpfile.specs.Tables.{IsRising, Precedes, row_of, rows_of}
+use Rattle.nl_cpfile.specs.Tables.{IsRising, Precedes, checkpoint_row, rows_of}
 use Rattle.nl_protect.specs.Keeping.{first_staying, has_ended_by, is_staying}
-use Rattle.nl_protect.proofs.Kept.{all-last}
 
 -- none of these lies below a number
 abbrev pub AreFrom : ℕ → List ℕ → Type 0
@@ -20,26 +19,26 @@ AreFrom first numbers = AllByRecursion (λ n. first ≤ n) numbers
 
 module _ (below : ℕ) where
   abbrev staying_of : List Checkpoint → List ℕ
-  staying_of xs = protection.staying below (rows_of xs)
+  staying_of xs = protection.staying_numbers below (rows_of xs)
 
   behind : (x : Checkpoint) (xs : List Checkpoint) → AllByRecursion (Precedes x) xs → AreFrom x.number (staying_of xs)
   behind x [] each = tt
   behind x (y ∷ xs) each =
       let up = each.0.number in
-      elim (is_staying below y) as (λ b. AreFrom x.number (map number_of (cond b (row_of y ∷ filter (protection.is_staying below) (rows_of xs)) (filter (protection.is_staying below) (rows_of xs))))) [
+      elim (is_staying below y) as (λ b. AreFrom x.number (map number_of (cond b (checkpoint_row y ∷ filter (protection.is_staying below) (rows_of xs)) (filter (protection.is_staying below) (rows_of xs))))) [
         | true ↦ (omega (arith, up), behind x xs each.1)
         | false ↦ behind x xs each.1
       ]
 
   -- none of those that stay lies below the first one, or the latest one
   pub stay-behind : (xs : List Checkpoint) (y : Checkpoint) → IsRising (xs ++ y ∷ []) → AreFrom (unwrap_or (first_staying below xs) y.number) (staying_of (xs ++ y ∷ []))
-  stay-behind [] y rising = elim (is_staying below y) as (λ b. AreFrom y.number (map number_of (cond b (row_of y ∷ []) []))) [
+  stay-behind [] y rising = elim (is_staying below y) as (λ b. AreFrom y.number (map number_of (cond b (checkpoint_row y ∷ []) []))) [
     | true ↦ (omega arith, tt)
     | false ↦ tt
   ]
   stay-behind (x ∷ xs) y rising =
       let stay : List Row = filter (protection.is_staying below) (rows_of (xs ++ y ∷ [])) in
-      elim (is_staying below x) as (λ b. AreFrom (unwrap_or (option_map (λ (c : Checkpoint). c.number) (cond b (Some x) (find (is_staying below) xs))) y.number) (map number_of (cond b (row_of x ∷ stay) stay))) [
+      elim (is_staying below x) as (λ b. AreFrom (unwrap_or (option_map (λ (c : Checkpoint). c.number) (cond b (Some x) (find (is_staying below) xs))) y.number) (map number_of (cond b (checkpoint_row x ∷ stay) stay))) [
         | true ↦ (omega arith, behind x (xs ++ y ∷ []) rising.0)
         | false ↦ stay-behind xs y rising.1
       ]

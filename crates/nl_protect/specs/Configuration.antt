@@ -1,10 +1,11 @@
--- The language of the cleaner's configuration, which is that of nilfs_cleanerd.conf(5): what each line sets, and what a
--- text means. Texts are lists of bytes.
-use Rattle.std.specs.Prelude.{ℕ, ◌+◌, ◌-◌, ◌*◌, ◌/◌, ◌==◌, Bool, ◌||◌, not, if◌then◌else◌, true, false, nat_le, List, [], ◌∷◌, map, codes, length, take, drop, Option, None, Some, Result, Ok}
+-- The language of the cleaner's configuration, which is that of nilfs_cleanerd.conf(5): what each line sets,
+-- and what a text means. Texts are lists of bytes.
+use Rattle.std.specs.Prelude.{ℕ, ◌+◌, ◌-◌, ◌*◌, ◌/◌, ◌==◌, Bool, not, if◌then◌else◌, true, false, nat_le, List, [], ◌∷◌, map, codes, length, take, drop, Option, None, Some, Result, Ok}
 use Rattle.std.specs.Str.{bytes_eq}
-use Rattle.std.specs.List.{slice_split, filter, before_first, list_any}
+use Rattle.std.specs.List.{slice_split, filter, find, before_first, list_any}
 use Rattle.std.specs.Option.{ok_or, option_map, option_and_then}
 use denote.Ref.{Bor}
+use Rattle.nl_types.specs.Characters.{hash_mark, is_blank, line_feed}
 use Rattle.nl_types.specs.declared.error.VolError.{VolError}
 use Rattle.nl_types.specs.declared.error.VolError.TheVariants.{BadConfig}
 use Rattle.nl_types.specs.Calls.{and_then}
@@ -27,13 +28,10 @@ amount_of (Percent n) whole = n * whole / 100
 -- ---- lines and words
 
 abbrev pub is_line_feed : ℕ → Bool
-is_line_feed byte = byte == 10
+is_line_feed byte = byte == line_feed
 
 abbrev pub is_comment : ℕ → Bool
-is_comment byte = byte == 35
-
-abbrev pub is_blank : ℕ → Bool
-is_blank byte = (byte == 32) || (byte == 9)
+is_comment byte = byte == hash_mark
 
 -- the lines of a text: what stands behind the last line feed is one too
 abbrev pub lines_in : List ℕ → List (List ℕ)
@@ -68,25 +66,17 @@ spelling keyword.UseMmap = codes "use_mmap"
 spelling keyword.UseSetSuinfo = codes "use_set_suinfo"
 spelling keyword.LogPriority = codes "log_priority"
 
+abbrev pub keywords : List Keyword
+keywords =
+    keyword.ProtectionPeriod ∷ keyword.MinCleanSegments ∷ keyword.MaxCleanSegments
+    ∷ keyword.CleanCheckInterval ∷ keyword.SelectionPolicy ∷ keyword.SegmentsPerClean
+    ∷ keyword.UrgentSegmentsPerClean ∷ keyword.CleaningInterval ∷ keyword.UrgentCleaningInterval
+    ∷ keyword.RetryInterval ∷ keyword.MinReclaimableBlocks ∷ keyword.UrgentMinReclaimableBlocks
+    ∷ keyword.UseMmap ∷ keyword.UseSetSuinfo ∷ keyword.LogPriority ∷ []
+
 -- the keyword that a word spells
 unfoldable pub keyword_in : List ℕ → Option Keyword
-keyword_in word =
-    if bytes_eq word (codes "protection_period") then Some keyword.ProtectionPeriod else (
-    if bytes_eq word (codes "min_clean_segments") then Some keyword.MinCleanSegments else (
-    if bytes_eq word (codes "max_clean_segments") then Some keyword.MaxCleanSegments else (
-    if bytes_eq word (codes "clean_check_interval") then Some keyword.CleanCheckInterval else (
-    if bytes_eq word (codes "selection_policy") then Some keyword.SelectionPolicy else (
-    if bytes_eq word (codes "nsegments_per_clean") then Some keyword.SegmentsPerClean else (
-    if bytes_eq word (codes "mc_nsegments_per_clean") then Some keyword.UrgentSegmentsPerClean else (
-    if bytes_eq word (codes "cleaning_interval") then Some keyword.CleaningInterval else (
-    if bytes_eq word (codes "mc_cleaning_interval") then Some keyword.UrgentCleaningInterval else (
-    if bytes_eq word (codes "retry_interval") then Some keyword.RetryInterval else (
-    if bytes_eq word (codes "min_reclaimable_blocks") then Some keyword.MinReclaimableBlocks else (
-    if bytes_eq word (codes "mc_min_reclaimable_blocks") then Some keyword.UrgentMinReclaimableBlocks else (
-    if bytes_eq word (codes "use_mmap") then Some keyword.UseMmap else (
-    if bytes_eq word (codes "use_set_suinfo") then Some keyword.UseSetSuinfo else (
-    if bytes_eq word (codes "log_priority") then Some keyword.LogPriority else (
-    None)))))))))))))))
+keyword_in word = find (λ k. bytes_eq word (spelling k)) keywords
 
 -- ---- values
 
@@ -124,12 +114,14 @@ value_setting keyword.MaxCleanSegments word = option_map setting.MaxCleanSegment
 value_setting keyword.CleanCheckInterval word = option_map (λ _. setting.NoEffect) (decimal_in word)
 value_setting keyword.SelectionPolicy word = nothing_if (bytes_eq word (codes "timestamp"))
 value_setting keyword.SegmentsPerClean word = option_map setting.SegmentsPerClean (decimal_in word)
-value_setting keyword.UrgentSegmentsPerClean word = option_map setting.UrgentSegmentsPerClean (decimal_in word)
+value_setting keyword.UrgentSegmentsPerClean word =
+    option_map setting.UrgentSegmentsPerClean (decimal_in word)
 value_setting keyword.CleaningInterval word = option_map (λ _. setting.NoEffect) (decimal_in word)
 value_setting keyword.UrgentCleaningInterval word = option_map (λ _. setting.NoEffect) (decimal_in word)
 value_setting keyword.RetryInterval word = option_map (λ _. setting.NoEffect) (decimal_in word)
 value_setting keyword.MinReclaimableBlocks word = option_map setting.MinReclaimableBlocks (amount_in word)
-value_setting keyword.UrgentMinReclaimableBlocks word = option_map setting.UrgentMinReclaimableBlocks (amount_in word)
+value_setting keyword.UrgentMinReclaimableBlocks word =
+    option_map setting.UrgentMinReclaimableBlocks (amount_in word)
 value_setting keyword.UseMmap word = None
 value_setting keyword.UseSetSuinfo word = None
 value_setting keyword.LogPriority word = nothing_if (is_level word)
@@ -167,7 +159,8 @@ with_setting (setting.MaxCleanSegments amount) config = record config { max_clea
 with_setting (setting.SegmentsPerClean n) config = record config { nsegments_per_clean = n }
 with_setting (setting.UrgentSegmentsPerClean n) config = record config { mc_nsegments_per_clean = n }
 with_setting (setting.MinReclaimableBlocks amount) config = record config { min_reclaimable_blocks = amount }
-with_setting (setting.UrgentMinReclaimableBlocks amount) config = record config { mc_min_reclaimable_blocks = amount }
+with_setting (setting.UrgentMinReclaimableBlocks amount) config =
+    record config { mc_min_reclaimable_blocks = amount }
 with_setting setting.NoEffect config = config
 
 -- what a line sets
@@ -178,7 +171,8 @@ line_setting line = setting_in (words_in line)
 abbrev pub after_lines : List (List ℕ) → ℕ → Config → Result Config VolError
 after_lines [] n config = Ok config
 after_lines (line ∷ lines) n config =
-    and_then (ok_or (line_setting line) (BadConfig n)) (λ s. after_lines lines (n + 1) (with_setting s config))
+    and_then (ok_or (line_setting line) (BadConfig n))
+    (λ s. after_lines lines (n + 1) (with_setting s config))
 
 -- what a text means
 abbrev pub configuration_in : List ℕ → Result Config VolError

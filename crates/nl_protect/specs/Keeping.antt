@@ -5,7 +5,7 @@ use Rattle.std.specs.Option.{option_map}
 use Rattle.nl_types.specs.Protection as protection
 use Rattle.nl_types.specs.Rows.{is_snapshot}
 use Rattle.nl_cpfile.specs.declared.checkpoint.Checkpoint.{Checkpoint}
-use Rattle.nl_cpfile.specs.Tables.{row_of}
+use Rattle.nl_cpfile.specs.Tables.{checkpoint_row}
 
 abbrev pub is_from : ℕ → Checkpoint → Bool
 is_from first c = nat_le first c.number
@@ -14,11 +14,12 @@ abbrev pub is_before : ℕ → Checkpoint → Bool
 is_before end c = nat_lt c.number end
 
 abbrev pub is_protected : (now period : ℕ) → Checkpoint → Bool
-is_protected now period c = protection.is_protected now period (row_of c)
+is_protected now period c = protection.is_protected now period (checkpoint_row c)
 
 -- the number of the first one that a period protects
 abbrev pub first_protected : (now period : ℕ) → List Checkpoint → Option ℕ
-first_protected now period kept = option_map (λ (c : Checkpoint). c.number) (find (is_protected now period) kept)
+first_protected now period kept =
+    option_map (λ (c : Checkpoint). c.number) (find (is_protected now period) kept)
 
 abbrev pub is_plain : Checkpoint → Bool
 is_plain c = not (is_snapshot c.mode)
@@ -28,11 +29,12 @@ abbrev pub first_plain : List Checkpoint → Option ℕ
 first_plain kept = option_map (λ (c : Checkpoint). c.number) (find is_plain kept)
 
 abbrev pub is_staying : (below : ℕ) → Checkpoint → Bool
-is_staying below c = protection.is_staying below (row_of c)
+is_staying below c = protection.is_staying below (checkpoint_row c)
 
 -- whether one of those from a first number on and before an end stays
-abbrev pub found : (below start end : ℕ) → List Checkpoint → Bool
-found below start end kept = list_any (is_staying below) (filter (is_from start) (filter (is_before end) kept))
+abbrev pub stays_within : (below start end : ℕ) → List Checkpoint → Bool
+stays_within below start end kept =
+    list_any (is_staying below) (filter (is_from start) (filter (is_before end) kept))
 
 -- the number of the first one that stays
 abbrev pub first_staying : (below : ℕ) → List Checkpoint → Option ℕ

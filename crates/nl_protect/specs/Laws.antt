@@ -31,9 +31,9 @@ OnlyBadLinesAreTold =
 
 -- ---- what counts
 
-abbrev pub period_of : Setting → Option ℕ
-period_of (setting.ProtectionPeriod n) = Some n
-period_of _ = None
+abbrev pub period_set : Setting → Option ℕ
+period_set (setting.ProtectionPeriod n) = Some n
+period_set _ = None
 
 abbrev pub min_clean_of : Setting → Option Amount
 min_clean_of (setting.MinCleanSegments amount) = Some amount
@@ -66,18 +66,26 @@ last_given given (s ∷ settings) = option_or (last_given given settings) (given
 
 -- each value is the last that is set, or the standard one where none is
 pub record IsSetBy (settings : List Setting) (config : Config) : Type 0 where
-  pub period : config.protection_period ≡ unwrap_or (last_given period_of settings) standard.protection_period
-  pub min_clean : config.min_clean_segments ≡ unwrap_or (last_given min_clean_of settings) standard.min_clean_segments
-  pub max_clean : config.max_clean_segments ≡ unwrap_or (last_given max_clean_of settings) standard.max_clean_segments
+  pub period : config.protection_period
+      ≡ unwrap_or (last_given period_set settings) standard.protection_period
+  pub min_clean : config.min_clean_segments
+      ≡ unwrap_or (last_given min_clean_of settings) standard.min_clean_segments
+  pub max_clean : config.max_clean_segments
+      ≡ unwrap_or (last_given max_clean_of settings) standard.max_clean_segments
   pub most : config.nsegments_per_clean ≡ unwrap_or (last_given most_of settings) standard.nsegments_per_clean
   pub urgent_most :
-      config.mc_nsegments_per_clean ≡ unwrap_or (last_given urgent_most_of settings) standard.mc_nsegments_per_clean
-  pub least : config.min_reclaimable_blocks ≡ unwrap_or (last_given least_of settings) standard.min_reclaimable_blocks
+      config.mc_nsegments_per_clean
+      ≡ unwrap_or (last_given urgent_most_of settings) standard.mc_nsegments_per_clean
+  pub least : config.min_reclaimable_blocks
+      ≡ unwrap_or (last_given least_of settings) standard.min_reclaimable_blocks
   pub urgent_least :
-      config.mc_min_reclaimable_blocks ≡ unwrap_or (last_given urgent_least_of settings) standard.mc_min_reclaimable_blocks
+      config.mc_min_reclaimable_blocks
+      ≡ unwrap_or (last_given urgent_least_of settings) standard.mc_min_reclaimable_blocks
 
--- the settings of a text that is read are those of its lines, in their order, and the last of each kind counts
+-- the settings of a text that is read are those of its lines, in their order, and the last of each kind
+-- counts
 abbrev pub LastSettingCounts : Type 0
 LastSettingCounts =
     (text : List ℕ) (config : Config) → configuration_in text ≡ Ok config
-    → (settings : List Setting) × (map line_setting (lines_in text) ≡ map Some settings) × IsSetBy settings config
+    → (settings : List Setting) × (map line_setting (lines_in text) ≡ map Some settings)
+    × IsSetBy settings config

@@ -23,6 +23,24 @@ pub enum Keyword {
     LogPriority,
 }
 
+const KEYWORDS: [Keyword; 15] = [
+    Keyword::ProtectionPeriod,
+    Keyword::MinCleanSegments,
+    Keyword::MaxCleanSegments,
+    Keyword::CleanCheckInterval,
+    Keyword::SelectionPolicy,
+    Keyword::SegmentsPerClean,
+    Keyword::UrgentSegmentsPerClean,
+    Keyword::CleaningInterval,
+    Keyword::UrgentCleaningInterval,
+    Keyword::RetryInterval,
+    Keyword::MinReclaimableBlocks,
+    Keyword::UrgentMinReclaimableBlocks,
+    Keyword::UseMmap,
+    Keyword::UseSetSuinfo,
+    Keyword::LogPriority,
+];
+
 impl Keyword {
     fn name(self) -> &'static str
         ensures { result.now ≡ spelling self }
@@ -61,41 +79,11 @@ fn spells(word: &[u8], keyword: Keyword) -> bool
 }
 
 /// The keyword that a word spells.
-#[tactic(auto, unfolding(crate::specs::Configuration::keyword_in))]
 pub(crate) fn keyword_of(word: &[u8]) -> Option<Keyword>
     ensures { result ≡ keyword_in word.now }
 {
-    if spells(word, Keyword::ProtectionPeriod) {
-        Some(Keyword::ProtectionPeriod)
-    } else if spells(word, Keyword::MinCleanSegments) {
-        Some(Keyword::MinCleanSegments)
-    } else if spells(word, Keyword::MaxCleanSegments) {
-        Some(Keyword::MaxCleanSegments)
-    } else if spells(word, Keyword::CleanCheckInterval) {
-        Some(Keyword::CleanCheckInterval)
-    } else if spells(word, Keyword::SelectionPolicy) {
-        Some(Keyword::SelectionPolicy)
-    } else if spells(word, Keyword::SegmentsPerClean) {
-        Some(Keyword::SegmentsPerClean)
-    } else if spells(word, Keyword::UrgentSegmentsPerClean) {
-        Some(Keyword::UrgentSegmentsPerClean)
-    } else if spells(word, Keyword::CleaningInterval) {
-        Some(Keyword::CleaningInterval)
-    } else if spells(word, Keyword::UrgentCleaningInterval) {
-        Some(Keyword::UrgentCleaningInterval)
-    } else if spells(word, Keyword::RetryInterval) {
-        Some(Keyword::RetryInterval)
-    } else if spells(word, Keyword::MinReclaimableBlocks) {
-        Some(Keyword::MinReclaimableBlocks)
-    } else if spells(word, Keyword::UrgentMinReclaimableBlocks) {
-        Some(Keyword::UrgentMinReclaimableBlocks)
-    } else if spells(word, Keyword::UseMmap) {
-        Some(Keyword::UseMmap)
-    } else if spells(word, Keyword::UseSetSuinfo) {
-        Some(Keyword::UseSetSuinfo)
-    } else if spells(word, Keyword::LogPriority) {
-        Some(Keyword::LogPriority)
-    } else {
-        None
-    }
+    KEYWORDS
+        .iter()
+        .find(|keyword| spells(word, **keyword))
+        .copied()
 }

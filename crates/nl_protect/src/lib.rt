@@ -1,5 +1,5 @@
-//! The protection of checkpoints: where they expire, which numbers the others need, the cleaner's configuration, and what
-//! ends its rounds.
+//! The protection of checkpoints: where they expire, which numbers the others need, the cleaner's
+//! configuration, and what ends its rounds.
 #![tactic(auto)]
 
 mod amount;
@@ -14,5 +14,5 @@ mod words;
 
 pub use amount::Amount;
 pub use config::Config;
-pub use protection::{boundary, expired, expiring_run, first_staying, needed, needed_from};
+pub use protection::{boundary, expiring_run, first_staying, needed, needed_from};
 pub use rounds::ends_round;

@@ -18,7 +18,8 @@ fn read_line(alloc: Global, line: &[u8], number: u64) -> Result<Setting, VolErro
 }
 
 impl Config {
-    /// The configuration that a text sets, in the language of nilfs_cleanerd.conf(5). Any bytes may stand in a comment.
+    /// The configuration that a text sets, in the language of nilfs_cleanerd.conf(5). Any bytes may stand in
+    /// a comment.
     ///
     /// # Errors
     /// `BadConfig` with the number of the first line that is none of a configuration, from 1; `Memory`.

@@ -1,21 +1,18 @@
 //! Which checkpoints a protection period protects, and which pages the kept ones need.
-ghost use Rattle.std.specs.Prelude.{◌≡◌, ℕ, ◌<◌, ◌≤◌, ◌&&◌, true, [], ◌∷◌, ◌++◌, unwrap_or, IfOk, IfSome, OnErr, slice_get};
+ghost use Rattle.std.specs.Prelude.{◌≡◌, ℕ, ◌<◌, ◌≤◌, ◌&&◌, true, unwrap_or, IfSome, slice_get};
 ghost use Rattle.std.specs.List.{AllByRecursion, filter, list_any};
 ghost use Rattle.nl_types.specs.Entries.{is_period_needed};
 ghost use Rattle.nl_types.specs.NeedLaws.{AreGone};
-ghost use Rattle.nl_types.specs.PartialMaps.{is_one_of};
+ghost use Rattle.nl_types.specs.NumberLists.{is_one_of};
 ghost use Rattle.nl_types.specs.Protection as protection;
-ghost use Rattle.nl_types.specs.Rows as told;
 ghost use Rattle.nl_cpfile.specs.Tables as tables;
-ghost use Rattle.nl_protect.specs.Keeping.{first_plain, first_protected, first_staying, found, has_ended_by, is_before, is_from, is_staying};
+ghost use Rattle.nl_protect.specs.Keeping.{first_plain, first_protected, first_staying, stays_within, has_ended_by, is_before, is_from, is_staying};
 
 use nl_cpfile::{Checkpoint, Checkpoints};
-use nl_types::{CheckpointNumber, Items, Period, Row, VolError};
-use std::alloc::{AllocError, Global};
-use std::slice::from_ref;
+use nl_types::{CheckpointNumber, Period};
 
 fn is_protected(checkpoint: &Checkpoint, now: u64, period: u64) -> bool
-    ensures { result ≡ protection.is_protected now period (tables.row_of checkpoint.now) }
+    ensures { result ≡ protection.is_protected now period (tables.checkpoint_row checkpoint.now) }
 {
     match checkpoint.stamp.checked_add(period) {
         Some(end) => now < end,
@@ -33,63 +30,15 @@ fn first_protected(kept: &[Checkpoint], now: u64, period: u64) -> Option<Checkpo
     Some(checkpoint.number)
 }
 
-/// The number of the first checkpoint that a protection period protects, or else of the latest one: plain checkpoints below
-/// it may go. A checkpoint is protected where its stamp and the period, in seconds, come to more than the moment. Takes no
-/// memory, and halves the list.
+/// The number of the first checkpoint that a protection period protects, or else of the latest one: plain
+/// checkpoints below it may go. A checkpoint is protected where its stamp and the period, in seconds, come to
+/// more than the moment. Takes no memory, and halves the list.
 pub fn boundary(kept: &Checkpoints, now: u64, period: u64) -> CheckpointNumber
     ensures boundary { result ≡ protection.boundary now period kept.now.table.latest.number
         (tables.rows kept.now.table) }
     ensures low { result ≤ kept.now.table.latest.number }
 {
     first_protected(kept.earlier(), now, period).unwrap_or(kept.latest().number)
-}
-
-fn is_below(row: &Row, boundary: CheckpointNumber) -> bool
-    ensures { result ≡ protection.is_below boundary row.now }
-{
-    row.number < boundary
-}
-
-fn may_go(row: &Row, latest: CheckpointNumber) -> bool
-    ensures { result ≡ told.may_go latest row.now }
-{
-    !row.mode.is_snapshot() && row.number != latest
-}
-
-fn expired_among(
-    alloc: Global,
-    earlier: &[Checkpoint],
-    latest: &Checkpoint,
-    boundary: CheckpointNumber,
-) -> Result<Vec<CheckpointNumber>, AllocError>
-    ensures { IfOk result (λ numbers. numbers.items ≡ protection.expired boundary latest.now.number
-        (tables.rows_of (earlier.now ++ latest.now ∷ []))) }
-{
-    earlier
-        .iter()
-        .chain(from_ref(latest).iter())
-        .map(|checkpoint| checkpoint.row())
-        .filter(|row| is_below(row, boundary))
-        .filter(|row| may_go(row, latest.number))
-        .map(|row| row.number)
-        .collect(alloc)
-}
-
-/// The numbers of the checkpoints below a boundary that may go, ascending: neither snapshots nor the latest one.
-///
-/// # Errors
-/// `Memory` alone.
-pub fn expired(
-    alloc: Global,
-    kept: &Checkpoints,
-    boundary: CheckpointNumber,
-) -> Result<Items<CheckpointNumber>, VolError>
-    ensures numbers { IfOk result (λ numbers.
-        numbers ≡ protection.expired boundary kept.now.table.latest.number (tables.rows kept.now.table)) }
-    ensures refused { OnErr result (result ≡ Err VolError.Memory) }
-{
-    let numbers = expired_among(alloc, kept.earlier(), kept.latest(), boundary)?;
-    Ok(Items::from_vec(numbers))
 }
 
 /// The number of the first one that is no snapshot.
@@ -102,7 +51,7 @@ fn first_plain(kept: &[Checkpoint]) -> Option<CheckpointNumber>
     Some(first.number)
 }
 
-/// The first of the numbers that `expired` answers, or none where nothing expires. It asks the checkpoints below the
+/// The first of the numbers that expire, or none where nothing does. It asks the checkpoints below the
 /// boundary, up to the first plain one.
 fn first_expiring(kept: &Checkpoints, boundary: CheckpointNumber) -> Option<CheckpointNumber>
     ensures first { result ≡ slice_get
@@ -112,8 +61,9 @@ fn first_expiring(kept: &Checkpoints, boundary: CheckpointNumber) -> Option<Chec
     first_plain(ending_before(kept.earlier(), boundary))
 }
 
-/// The run of checkpoints that an expiry takes out: the first that goes, and the first kept one from the boundary on, which
-/// is behind all that go, and stays. Where nothing expires, both are the latest one. Takes no memory.
+/// The run of checkpoints that an expiry takes out: the first that goes, and the first kept one from the
+/// boundary on, which is behind all that go, and stays. Where nothing expires, both are the latest one. Takes
+/// no memory.
 pub fn expiring_run(
     kept: &Checkpoints,
     below: CheckpointNumber,
@@ -121,7 +71,7 @@ pub fn expiring_run(
     requires { below ≤ kept.now.table.latest.number }
     ensures order { result.0 ≤ result.1 }
     ensures run { AreGone result.0 result.1 (tables.kept_numbers (tables.all kept.now.table))
-        (protection.staying below (tables.rows kept.now.table)) }
+        (protection.staying_numbers below (tables.rows kept.now.table)) }
     ensures first { result.0 ≡ unwrap_or
         (slice_get (protection.expired below kept.now.table.latest.number (tables.rows kept.now.table)) 0)
         kept.now.table.latest.number }
@@ -141,7 +91,7 @@ pub fn expiring_run(
 }
 
 fn stays(checkpoint: &Checkpoint, below: CheckpointNumber) -> bool
-    ensures { result ≡ protection.is_staying below (tables.row_of checkpoint.now) }
+    ensures { result ≡ protection.is_staying below (tables.checkpoint_row checkpoint.now) }
 {
     checkpoint.mode.is_snapshot() || below <= checkpoint.number
 }
@@ -177,7 +127,7 @@ fn earlier_stays(
     end: CheckpointNumber,
 ) -> bool
     requires { tables.IsRising kept.now }
-    ensures { result ≡ found below start end kept.now }
+    ensures { result ≡ stays_within below start end kept.now }
 {
     one_stays(beginning_at(ending_before(kept, end), start), below)
 }
@@ -188,16 +138,17 @@ fn latest_stays(
     start: CheckpointNumber,
     end: CheckpointNumber,
 ) -> bool
-    ensures { result ≡ ((is_from start latest.now && is_before end latest.now) && is_staying below latest.now) }
+    ensures { result ≡ ((is_from start latest.now && is_before end latest.now)
+        && is_staying below latest.now) }
 {
     start <= latest.number && latest.number < end && stays(latest, below)
 }
 
-/// Whether a page of this period is needed: the period has not ended, or has a kept checkpoint. Plain checkpoints below a
-/// number are taken as removed; from 0 on, all are kept.
+/// Whether a page of this period is needed: the period has not ended, or has a kept checkpoint. Plain
+/// checkpoints below a number are taken as removed; from 0 on, all are kept.
 pub fn needed(kept: &Checkpoints, below: CheckpointNumber, period: Period) -> bool
     ensures { result ≡ is_period_needed
-        (protection.staying below (tables.rows kept.now.table)) period }
+        (protection.staying_numbers below (tables.rows kept.now.table)) period }
 {
     let start = period.start;
     let Some(end) = period.end else {
@@ -217,10 +168,12 @@ fn first_staying_of(kept: &[Checkpoint], below: CheckpointNumber) -> Option<Chec
     Some(staying.number)
 }
 
-/// A number that none of the checkpoints lies below that stay once the plain ones below a number are gone: the first of
-/// these, or the latest one where none stays. Takes no memory, and asks the checkpoints up to the first one that stays.
+/// A number that none of the checkpoints lies below that stay once the plain ones below a number are gone:
+/// the first of these, or the latest one where none stays. Takes no memory, and asks the checkpoints up to
+/// the first one that stays.
 pub fn first_staying(kept: &Checkpoints, below: CheckpointNumber) -> CheckpointNumber
-    ensures { AllByRecursion (λ n. result ≤ n) (protection.staying below (tables.rows kept.now.table)) }
+    ensures { AllByRecursion (λ n. result ≤ n)
+        (protection.staying_numbers below (tables.rows kept.now.table)) }
 {
     first_staying_of(kept.earlier(), below).unwrap_or(kept.latest().number)
 }
@@ -235,17 +188,18 @@ fn has_ended_by(end: Option<CheckpointNumber>, checkpoint: CheckpointNumber) -> 
     }
 }
 
-/// What `needed` tells, by a number that none of the checkpoints lies below that stay: what has ended by then isn't needed,
-/// and is not looked for among them.
+/// What `needed` tells, by a number that none of the checkpoints lies below that stay: what has ended by then
+/// isn't needed, and is not looked for among them.
 pub fn needed_from(
     kept: &Checkpoints,
     below: CheckpointNumber,
     first: CheckpointNumber,
     period: Period,
 ) -> bool
-    requires { AllByRecursion (λ n. first ≤ n) (protection.staying below (tables.rows kept.now.table)) }
+    requires { AllByRecursion (λ n. first ≤ n)
+        (protection.staying_numbers below (tables.rows kept.now.table)) }
     ensures { result ≡ is_period_needed
-        (protection.staying below (tables.rows kept.now.table)) period }
+        (protection.staying_numbers below (tables.rows kept.now.table)) period }
 {
     !has_ended_by(period.end, first) && needed(kept, below, period)
 }

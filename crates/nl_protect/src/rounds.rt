@@ -4,7 +4,8 @@ ghost use Rattle.nl_protect.specs.Rounds.{ends_round};
 
 use nl_types::VolError;
 
-/// Whether a round goes no further behind such a refusal of a move or a retirement: the next segment would meet it too.
+/// Whether a round goes no further behind such a refusal of a move or a retirement: the next segment would
+/// meet it too.
 pub fn ends_round(refusal: VolError) -> bool
     ensures { result ≡ ends_round refusal }
 {

@@ -1,7 +1,8 @@
 //! The lines of a text, and their words.
 ghost use Rattle.std.specs.Prelude.{◌≡◌, IfOk};
 ghost use Rattle.std.specs.List.{before_first, slice_split};
-ghost use Rattle.nl_protect.specs.Configuration.{bytes_of, is_blank, is_comment, lines_in, words_in};
+ghost use Rattle.nl_types.specs.Characters.{is_blank};
+ghost use Rattle.nl_protect.specs.Configuration.{bytes_of, is_comment, lines_in, words_in};
 
 use std::alloc::{AllocError, Global};
 

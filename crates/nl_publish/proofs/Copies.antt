@@ -2,20 +2,20 @@
 use Rattle.std.proofs.Common.{◌≡◌, ℕ, List, [], ◌∷◌, ◌++◌, Some, ap, sym, ◌∙◌, subst}
 use Rattle.nl_types.specs.Roots.{Pages}
 use Rattle.nl_types.specs.Worlds.{World}
-use Rattle.nl_cpfile.specs.Tables.{root_in}
+use Rattle.nl_cpfile.specs.Tables.{checkpoint_root}
 use Rattle.nl_core.specs.Commits.{IsHistory, IsImage, image_of}
-use Rattle.nl_core.specs.Layout.{MeansWorld, pages_in}
+use Rattle.nl_core.specs.Layout.{MeansWorld, layout_pages}
 use Rattle.nl_core.specs.Means.{RootMeans}
 use Rattle.nl_core.specs.Notes.{shown_of}
 use Rattle.nl_core.specs.Shown.{Shown, mounted_on}
 use Rattle.nl_core.specs.declared.commit.Commit.{Commit}
 use Rattle.nl_core.specs.declared.commit.Commit.TheVariants as commit
-use Rattle.nl_core.proofs.Events.{copy_of}
-use Rattle.nl_core.proofs.ShownNumbers.{pages-shown}
-use Rattle.nl_publish.specs.Locks.{Held, IsTold}
+use Rattle.nl_core.specs.Facts.Events.{copy_of}
+use Rattle.nl_core.specs.Facts.ShownNumbers.{pages-shown}
+use Rattle.nl_publish.specs.Locks.{HeldPen, IsTold}
 use Rattle.nl_publish.specs.Told.{ShowsCopy}
 use Rattle.nl_publish.proofs.Running.{HasMounted}
-use Rattle.nl_publish.proofs.Staying.{found_pushed, history_image, new_mount}
+use Rattle.nl_publish.specs.Facts.Staying.{found_pushed, history_image, new_mount}
 
 -- the history that a mount's commit ends shows that mount
 pub mounted_last : (before : List Commit) (m k : ℕ) → IsHistory (before ++ commit.Mounted (record { number = m; checkpoint = k }) ∷ [])
@@ -25,23 +25,23 @@ mounted_last before m k h =
     ap (λ (x : Shown). mounted_on x m) new.grown ∙ found_pushed m k (image_of before).mounts new.none
 
 -- a copy that the pen means is what its image shows
-copy_shown : (h : Held) (k : ℕ) (w : World) → MeansWorld h.layout w → (m : ℕ) → IsImage (shown_of h.layout)
+copy_shown : (h : HeldPen) (k : ℕ) (w : World) → MeansWorld h.layout w → (m : ℕ) → IsImage (shown_of h.layout)
     → mounted_on (shown_of h.layout) m ≡ Some k → ShowsCopy (shown_of h.layout) k w
 copy_shown h k w means m image at =
     let c = image.mounted m k at in
-    let copy = copy_of (pages_in h.layout) h.layout.lists w k (Some c.0) means c.1 in
+    let copy = copy_of (layout_pages h.layout) h.layout.lists w k (Some c.0) means c.1 in
     record {
       copy = copy.0;
       kept = copy.1;
       shown = record {
         checkpoint = c.0;
         kept = c.1;
-        means = subst (λ (pages : Pages). RootMeans pages (root_in c.0) copy.0.tree) (sym (pages-shown h.layout)) copy.2.tree;
+        means = subst (λ (pages : Pages). RootMeans pages (checkpoint_root c.0) copy.0.tree) (sym (pages-shown h.layout)) copy.2.tree;
       };
     }
 
 -- the copy of a mount that was just published
-pub shows_copy : (h : Held) (m k : ℕ) (w : World) → IsTold h → HasMounted h k m → MeansWorld h.layout w
+pub shows_copy : (h : HeldPen) (m k : ℕ) (w : World) → IsTold h → HasMounted h k m → MeansWorld h.layout w
     → ShowsCopy (image_of h.published) k w
 shows_copy h m k w told mounted means =
     let at : image_of h.published ≡ shown_of h.layout = ap image_of mounted.all ∙ sym told.shown in

@@ -8,7 +8,7 @@ use Rattle.nl_types.specs.declared.error.VolError.{VolError}
 use Rattle.nl_types.specs.declared.error.VolError.TheVariants.{NoCheckpoint}
 use Rattle.nl_types.specs.declared.event.Mode.{Mode}
 use Rattle.nl_types.specs.declared.row.Row.{Row}
-use Rattle.nl_cpfile.specs.Tables.{ComesNext, IsRising, Precedes, Roomy, Table, moded, row_of, rows, rows_of, with_mode}
+use Rattle.nl_cpfile.specs.Tables.{ComesNext, IsRising, Precedes, RoomyTable, Table, moded, checkpoint_row, rows, rows_of, with_mode}
 use Rattle.nl_cpfile.specs.declared.checkpoint.Checkpoint.{Checkpoint}
 use Rattle.nl_core.specs.Commits.{IsNext}
 use Rattle.nl_core.specs.Shown.{Shown}
@@ -45,9 +45,9 @@ same_items p q = cc
 -- none of the checkpoints has the number
 same_modes : (n : ℕ) (mode : Mode) (earlier : List Checkpoint) (latest : Checkpoint) → find_row n (rows_of (earlier ++ latest ∷ [])) ≡ None
     → (map (moded n mode) earlier ≡ earlier) × (moded n mode latest ≡ latest)
-same_modes n mode [] latest none = (refl, moded-other n mode latest (none_found (latest.number == n) (row_of latest) None none).0)
+same_modes n mode [] latest none = (refl, moded-other n mode latest (none_found (latest.number == n) (checkpoint_row latest) None none).0)
 same_modes n mode (c ∷ earlier) latest none =
-    let head = none_found (c.number == n) (row_of c) (find_row n (rows_of (earlier ++ latest ∷ []))) none in
+    let head = none_found (c.number == n) (checkpoint_row c) (find_row n (rows_of (earlier ++ latest ∷ []))) none in
     let rest = same_modes n mode earlier latest head.1 in
     (same_items (moded-other n mode c head.0) rest.0, rest.1)
 
@@ -62,8 +62,8 @@ with_mode-refused n mode t e refused =
     rw (same.0, same.1) refl
 
 -- so a mode is set, whatever is answered
-pub with_mode-answered : (answer : Result (Unit {0}) VolError) (n : ℕ) (mode : Mode) (old new : Roomy) → answer ≡ mode_change n (rows old.table)
+pub with_mode-answered : (answer : Result (Unit {0}) VolError) (n : ℕ) (mode : Mode) (old new : RoomyTable) → answer ≡ mode_change n (rows old.table)
     → OnOk answer (new.table ≡ with_mode n mode old.table) → OnErr answer (new ≡ old) → new.table ≡ with_mode n mode old.table
 with_mode-answered (Ok done) n mode old new judged changed same = changed
 with_mode-answered (Err e) n mode old new judged changed same =
-    ap (λ (r : Roomy). r.table) same ∙ sym (with_mode-refused n mode old.table e (sym judged))
+    ap (λ (r : RoomyTable). r.table) same ∙ sym (with_mode-refused n mode old.table e (sym judged))

@@ -18,7 +18,7 @@ use Rattle.nl_publish.specs.Histories.{IsBegun, Known}
 use Rattle.nl_publish.specs.Images.{IsNextEntry, AreNext, absorbed}
 use Rattle.nl_publish.specs.Locks.{IsHeld, IsTold, NotedStep}
 use Rattle.nl_publish.proofs.Fronts.{prefix_self, prefix_length, prefix_trans, prefix_whole}
-use Rattle.nl_publish.proofs.Growing.{begun_more, fold-grows, history_more, history_start}
+use Rattle.nl_publish.specs.Facts.Growing.{begun_more, fold-grows, history_more, history_start}
 use Rattle.nl_publish.proofs.Keeping.{fold_whole, fold_book, fold_prefix}
 
 -- ---- entries that follow one another

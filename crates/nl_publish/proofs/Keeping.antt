@@ -13,7 +13,7 @@ use Rattle.nl_core.specs.Commits.{applied}
 use Rattle.nl_core.specs.Commits.{image_of}
 use Rattle.nl_publish.specs.Images.{Knows, Kept, Looks, Learns, IsWhole, IsNextEntry, AreNext, absorbed, name_of}
 use Rattle.nl_publish.proofs.Fronts.{prefix_self, prefix_trans}
-use Rattle.nl_publish.proofs.Growing.{fold-grows}
+use Rattle.nl_publish.specs.Facts.Growing.{fold-grows}
 
 -- ---- absorbing
 

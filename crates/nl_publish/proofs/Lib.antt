@@ -1,10 +1,7 @@
 pub mod Fronts
 pub mod Adding
-pub mod Growing
 pub mod Keeping
 pub mod Holding
 pub mod Running
-pub mod Staying
 pub mod Copies
 pub mod Following
-pub mod CachedPages

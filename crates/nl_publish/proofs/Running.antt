@@ -9,10 +9,10 @@ use Rattle.nl_types.specs.Worlds.{Reply}
 use Rattle.nl_core.specs.Layout.{Does, IsPen}
 use Rattle.nl_core.specs.Notes.{shared}
 use Rattle.nl_core.specs.declared.commit.Commit.TheVariants as commit
-use Rattle.nl_core.proofs.Leading.{runs_lead_on}
-use Rattle.nl_core.proofs.MountEvents.{answers-mount}
+use Rattle.nl_core.specs.Facts.Leading.{runs_lead_on}
+use Rattle.nl_core.specs.Facts.MountEvents.{answers-mount}
 use Rattle.nl_publish.specs.Histories.{EndsWith}
-use Rattle.nl_publish.specs.Locks.{Begins, Done, Finished, Goes, GoesBy, Held, IsClear, IsMountReply, IsReady, IsStuck, Keeps, Lost, MountGoes, MountRan, MountReply, Mounted, NotedStep, Pending, Ran, Refused, State, Stuck, all_answered, given_back, mount_reply, state_of}
+use Rattle.nl_publish.specs.Locks.{Begins, Done, Finished, Goes, GoesBy, HeldPen, IsClear, IsMountReply, IsReady, IsStuck, Keeps, Lost, MountGoes, MountRan, MountReply, Mounted, NotedStep, Pending, Ran, Refused, State, Stuck, as_replies, given_back, mount_reply, state_of}
 use Rattle.nl_publish.specs.Told.{LockedRunsLeadOn}
 use Rattle.nl_publish.proofs.Fronts.{prefix_self, prefix_trans}
 
@@ -23,31 +23,31 @@ run_on a b c (e ∷ es) fs (r ∷ rs) qs p q = (p.0, p.1, run_on p.0 b c es fs r
 run_on a b c [] fs (r ∷ rs) qs p q = absurd p
 run_on a b c (e ∷ es) fs [] qs p q = absurd p
 
-goes_on : (a b c : Held) (es fs : List Event) (rs qs : List Reply) → Goes a es rs b → Goes b fs qs c → Goes a (es ++ fs) (rs ++ qs) c
+goes_on : (a b c : HeldPen) (es fs : List Event) (rs qs : List Reply) → Goes a es rs b → Goes b fs qs c → Goes a (es ++ fs) (rs ++ qs) c
 goes_on a b c es fs rs qs p q = record {
   volume = q.volume ∙ p.volume;
   runs = run_on (state_of a) (state_of b) (state_of c) es fs rs qs p.runs q.runs;
   later = prefix_trans a.published b.published c.published p.later q.later;
 }
 
-stays : (a : Held) → Goes a [] [] a
+stays : (a : HeldPen) → Goes a [] [] a
 stays a = record { volume = refl; runs = refl; later = prefix_self a.published }
 
 -- nothing more ran
-goes_still : (a b c : Held) (es : List Event) (rs : List Reply) → Goes a es rs b → Goes b [] [] c → Goes a es rs c
+goes_still : (a b c : HeldPen) (es : List Event) (rs : List Reply) → Goes a es rs b → Goes b [] [] c → Goes a es rs c
 goes_still a b c es rs p q = record {
   volume = q.volume ∙ p.volume;
   runs = subst (λ s. Run NotedStep (state_of a) es rs s) (sym q.runs) p.runs;
   later = prefix_trans a.published b.published c.published p.later q.later;
 }
 
-pub goes_by_still : (a b c : Held) (event : Event) (r : Reply) → GoesBy a event r b → Keeps b c → GoesBy a event r c
+pub goes_by_still : (a b c : HeldPen) (event : Event) (r : Reply) → GoesBy a event r b → Keeps b c → GoesBy a event r c
 goes_by_still a b c event r p q = (goes_still a b c (event ∷ []) (r ∷ []) p.0 q.0, q.1 ∙ p.1)
 
 -- ---- a give-back
 
 -- nothing is lost
-pub ready_none : (a : Held) → a.lost ≡ None → IsReady a a
+pub ready_none : (a : HeldPen) → a.lost ≡ None → IsReady a a
 ready_none a none = record {
   backs = [];
   goes = subst (λ o. Goes a (given_back o) [] a) (sym none) (stays a);
@@ -55,10 +55,10 @@ ready_none a none = record {
 }
 
 -- what was lost is back
-pub gave : (a b : Held) (m : ℕ) (x : Answer) (r : Reply) → a.lost ≡ Some m → r ≡ Ok x → GoesBy a (Unmount m) r b
+pub gave : (a b : HeldPen) (m : ℕ) (x : Answer) (r : Reply) → a.lost ≡ Some m → r ≡ Ok x → GoesBy a (Unmount m) r b
     → IsReady a (record { volume = b.volume; published = b.published; history = b.history; lost = None; layout = b.layout })
 gave a b m x r was is g =
-    let after : Held = record { volume = b.volume; published = b.published; history = b.history; lost = None; layout = b.layout } in
+    let after : HeldPen = record { volume = b.volume; published = b.published; history = b.history; lost = None; layout = b.layout } in
     let here : Goes a (Unmount m ∷ []) (Ok x ∷ []) after =
     subst (λ (q : Reply). Goes a (Unmount m ∷ []) (q ∷ []) after) is (record { volume = g.0.volume; runs = g.0.runs; later = g.0.later }) in
     record {
@@ -68,7 +68,7 @@ gave a b m x r was is g =
     }
 
 -- it is still lost
-pub stuck : (a b : Held) (m : ℕ) (e : VolError) (r : Reply) → a.lost ≡ Some m → r ≡ Err e → GoesBy a (Unmount m) r b → IsStuck a b
+pub stuck : (a b : HeldPen) (m : ℕ) (e : VolError) (r : Reply) → a.lost ≡ Some m → r ≡ Err e → GoesBy a (Unmount m) r b → IsStuck a b
 stuck a b m e r was is g = record {
   number = m;
   error = e;
@@ -77,11 +77,11 @@ stuck a b m e r was is g = record {
 }
 
 -- behind what kept all
-pub begins_behind : (a b c : Held) (r : Result (Unit {0}) VolError) → Keeps a b → Begins b r c → Begins a r c
+pub begins_behind : (a b c : HeldPen) (r : Result (Unit {0}) VolError) → Keeps a b → Begins b r c → Begins a r c
 begins_behind a b c (Ok u) keeps ready = record {
   backs = ready.backs;
-  goes = goes_on a b c [] (given_back a.lost) [] (all_answered ready.backs) keeps.0
-      (subst (λ o. Goes b (given_back o) (all_answered ready.backs) c) keeps.1 ready.goes);
+  goes = goes_on a b c [] (given_back a.lost) [] (as_replies ready.backs) keeps.0
+      (subst (λ o. Goes b (given_back o) (as_replies ready.backs) c) keeps.1 ready.goes);
   lost = ready.lost;
 }
 begins_behind a b c (Err e) keeps stuck = (
@@ -96,10 +96,10 @@ begins_behind a b c (Err e) keeps stuck = (
 
 -- ---- calls of the locked state
 
-pub ran : (a b c d : Held) (event : Event) (r : Reply) → IsReady a b → GoesBy b event r c → Keeps c d → Ran a event r d
+pub ran : (a b c d : HeldPen) (event : Event) (r : Reply) → IsReady a b → GoesBy b event r c → Keeps c d → Ran a event r d
 ran a b c d event r begun here more =
     let back = given_back a.lost in
-    let backs = all_answered begun.backs in
+    let backs = as_replies begun.backs in
     Done begun.backs
     (goes_still a c d (back ++ event ∷ []) (backs ++ r ∷ []) (goes_on a b c back (event ∷ []) backs (r ∷ []) begun.goes here.0) more.0)
     (more.1 ∙ (here.1 ∙ begun.lost))
@@ -107,22 +107,22 @@ ran a b c d event r begun here more =
 -- ---- mounts
 
 -- a lost mount is back, and then all is published, or not
-pub ready_still : (a b c : Held) → IsReady a b → Keeps b c → IsReady a c
+pub ready_still : (a b c : HeldPen) → IsReady a b → Keeps b c → IsReady a c
 ready_still a b c begun more = record {
   backs = begun.backs;
-  goes = goes_still a b c (given_back a.lost) (all_answered begun.backs) begun.goes more.0;
+  goes = goes_still a b c (given_back a.lost) (as_replies begun.backs) begun.goes more.0;
   lost = more.1 ∙ begun.lost;
 }
 
-pub clear : (a b c : Held) → IsReady a b → Keeps b c → c.published ≡ c.history → IsClear a c
+pub clear : (a b c : HeldPen) → IsReady a b → Keeps b c → c.published ≡ c.history → IsClear a c
 clear a b c begun more all = record { ready = ready_still a b c begun more; settled = all }
 
 -- nothing is lost before the mount's own commit is published
-pub none_lost : (a c d : Held) (k : ℕ) → IsClear a c → (r : MountReply) → MountGoes c k r d → d.lost ≡ None
+pub none_lost : (a c d : HeldPen) (k : ℕ) → IsClear a c → (r : MountReply) → MountGoes c k r d → d.lost ≡ None
 none_lost a c d k all (Ok m) here = here.1 ∙ all.ready.lost
 none_lost a c d k all (Err e) here = here.1 ∙ all.ready.lost
 
-pub mount_done : (a c d : Held) (k : ℕ) → IsClear a c → (n : ℕ) (r : MountReply) (f : Held) → GoesBy c (Mount k) (mount_reply n) d
+pub mount_done : (a c d : HeldPen) (k : ℕ) → IsClear a c → (n : ℕ) (r : MountReply) (f : HeldPen) → GoesBy c (Mount k) (mount_reply n) d
     → Finished d n r f → MountRan a k r f
 mount_done a c d k all n (Ok m) f here end =
     Mounted c n all (goes_still c d f (Mount k ∷ []) (mount_reply n ∷ []) here.0 end.1) (ap (λ (x : ℕ). Ok x) end.0) end.2 end.3
@@ -135,11 +135,11 @@ mount_noted : (a b : State) (k m : ℕ) → NotedStep a (Mount k) (mount_reply m
 mount_noted a b k m step = step.behind ∙ ap (λ l. a.1 ++ l) step.noted.commits
 
 -- what a mount that isn't refused leaves
-pub record HasMounted (b : Held) (k n : ℕ) : Type 0 where
+pub record HasMounted (b : HeldPen) (k n : ℕ) : Type 0 where
   pub all : b.published ≡ b.history
   pub ends : EndsWith b.published (commit.Mounted (record { number = n; checkpoint = k }))
 
-pub has_mounted : (a b : Held) (k n : ℕ) (r : MountReply) → r ≡ Ok n → MountRan a k r b → HasMounted b k n
+pub has_mounted : (a b : HeldPen) (k n : ℕ) (r : MountReply) → r ≡ Ok n → MountRan a k r b → HasMounted b k n
 has_mounted a b k n r is (Mounted clear m begun goes reply all none) =
     let same : m ≡ n = cc (is, reply) in
     let behind : b.history ≡ clear.history ++ commit.Mounted (record { number = m; checkpoint = k }) ∷ [] =
@@ -154,12 +154,12 @@ has_mounted a b k n r is (Pending ready apart reply) = absurd (cc (is, reply))
 has_mounted a b k n r is (Stuck stuck reply) = absurd (cc (is, reply))
 
 -- a mount that is not refused answers a mount
-pub is_mount_reply : (a b : Held) (k : ℕ) (r : Reply) → IsPen a.layout → GoesBy a (Mount k) r b → IsMountReply r
+pub is_mount_reply : (a b : HeldPen) (k : ℕ) (r : Reply) → IsPen a.layout → GoesBy a (Mount k) r b → IsMountReply r
 is_mount_reply a b k (Ok x) pen goes =
     (a.layout.lists.given + 1, answers-mount shared a.layout goes.0.runs.0.0 k x pen goes.0.runs.1.does)
 is_mount_reply a b k (Err e) pen goes = tt
 
-pub mount_goes : (a b : Held) (k : ℕ) (reply : Reply) (r : MountReply) → GoesBy a (Mount k) reply b
+pub mount_goes : (a b : HeldPen) (k : ℕ) (reply : Reply) (r : MountReply) → GoesBy a (Mount k) reply b
     → MatchResult r (λ m. reply ≡ mount_reply m) (λ e. reply ≡ Err e) → MountGoes a k r b
 mount_goes a b k reply (Ok m) goes is = subst (λ (q : Reply). GoesBy a (Mount k) q b) is goes
 mount_goes a b k reply (Err e) goes is = subst (λ (q : Reply). GoesBy a (Mount k) q b) is goes

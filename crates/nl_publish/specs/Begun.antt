@@ -2,10 +2,10 @@
 use Rattle.std.specs.Prelude.{◌≡◌, ℕ, [], ◌∷◌, None}
 use Rattle.nl_core.specs.Layout.{Layout}
 use Rattle.nl_core.specs.declared.commit.Commit.{Commit}
-use Rattle.nl_publish.specs.Locks.{Held}
+use Rattle.nl_publish.specs.Locks.{HeldPen}
 
 -- one commit shows all of the pen, and it is published
-pub record HasBegun (id : ℕ) (pen : Layout) (h : Held) : Type 0 where
+pub record HasBegun (id : ℕ) (pen : Layout) (h : HeldPen) : Type 0 where
   pub volume : h.volume ≡ id
   pub first : Commit
   pub history : h.history ≡ first ∷ []

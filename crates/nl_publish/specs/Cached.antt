@@ -4,22 +4,25 @@ use mathlib.Core.List.{IsPrefix}
 use Rattle.nl_layout.specs.Root.{root_of}
 use Rattle.nl_tree.specs.Held.{Holding, held_block}
 use Rattle.nl_files.specs.CheckpointTrees.{HoldsTree}
-use Rattle.nl_cpfile.specs.Tables.{kept_at, root_in}
+use Rattle.nl_cpfile.specs.Tables.{kept_at, checkpoint_root}
 use Rattle.nl_cpfile.specs.declared.checkpoint.Checkpoint.{Checkpoint}
 use Rattle.nl_core.specs.Commits.{IsHistory, image_of}
 use Rattle.nl_core.specs.Shown.{pages_shown}
 use Rattle.nl_core.specs.declared.commit.Commit.{Commit}
 use Rattle.nl_publish.specs.Histories.{IsBegun}
 
--- The history has given the checkpoint's number. Where it still keeps the checkpoint, the file of the inode has this page there
--- at the index.
+-- The history has given the checkpoint's number. Where it still keeps the checkpoint, the file of the inode
+-- has this page there at the index.
 pub record IsCachedPage (log : List Commit) (checkpoint inode index : ℕ) (page : List ℕ) : Type 0 where
   pub history : IsHistory log
   pub given : checkpoint ≤ (image_of log).table.latest.number
   pub block : (c : Checkpoint) (held : Holding) → kept_at checkpoint (image_of log).table ≡ Some c
-      → HoldsTree (pages_shown (image_of log)) (root_of (root_in c)) held → held_block (held inode) index ≡ Some page
+      → HoldsTree (pages_shown (image_of log)) (root_of (checkpoint_root c)) held
+      → held_block (held inode) index ≡ Some page
 
 -- so it is in every history that goes on from it
 abbrev pub CachedPagesStay : Type 0
-CachedPagesStay = (log later : List Commit) (checkpoint inode index : ℕ) (page : List ℕ) → IsBegun later → IsPrefix log later
+CachedPagesStay =
+    (log later : List Commit) (checkpoint inode index : ℕ) (page : List ℕ) → IsBegun later
+    → IsPrefix log later
     → IsCachedPage log checkpoint inode index page → IsCachedPage later checkpoint inode index page

@@ -8,3 +8,4 @@ pub mod Cleaning
 pub mod Mounts
 pub mod Told
 pub mod Cached
+pub mod Facts

@@ -22,7 +22,7 @@ use Rattle.nl_publish.specs.Images.{IsWhole, AreNext, absorbed}
 
 -- the history that is published, the whole history with what is pending, the mount whose commit could not
 -- be published, and the pen
-pub record Held : Type 0 where
+pub record HeldPen : Type 0 where
   pub volume : ℕ
   pub published : List Commit
   pub history : List Commit
@@ -46,7 +46,7 @@ pub record IsHeld (book : ℕ → Book) (log : ℕ) (image : Image) (entries : L
   pub shown_is : shown ≡ image_of (noted.commits ++ waiting)
 
 -- what is true of whatever lies under a lock: the equation, and how much of the history is published
-pub record IsTold (h : Held) : Type 0 where
+pub record IsTold (h : HeldPen) : Type 0 where
   pub history : IsHistory h.history
   pub shown : shown_of h.layout ≡ image_of h.history
   pub published : IsPrefix h.published h.history
@@ -60,21 +60,21 @@ State = Layout × List Commit
 abbrev pub NotedStep : State → Event → Reply → State → Type 0
 NotedStep old event reply new = DoesNoting old.0 event reply new.0 old.1 new.1
 
-abbrev pub state_of : Held → State
+abbrev pub state_of : HeldPen → State
 state_of h = (h.layout, h.history)
 
 -- these events ran, the history grew by their commits, and no less of it is published
-pub record Goes (old : Held) (events : List Event) (replies : List Reply) (new : Held) : Type 0 where
+pub record Goes (old : HeldPen) (events : List Event) (replies : List Reply) (new : HeldPen) : Type 0 where
   pub volume : new.volume ≡ old.volume
   pub runs : Run NotedStep (state_of old) events replies (state_of new)
   pub later : IsPrefix old.published new.published
 
 -- nothing ran, and the same mount is lost
-abbrev pub Keeps : Held → Held → Type 0
+abbrev pub Keeps : HeldPen → HeldPen → Type 0
 Keeps old new = Goes old [] [] new × (new.lost ≡ old.lost)
 
 -- one event ran
-abbrev pub GoesBy : Held → Event → Reply → Held → Type 0
+abbrev pub GoesBy : HeldPen → Event → Reply → HeldPen → Type 0
 GoesBy old event reply new = Goes old (event ∷ []) (reply ∷ []) new × (new.lost ≡ old.lost)
 
 -- ---- a mount that was lost
@@ -84,35 +84,36 @@ given_back None = []
 given_back (Some m) = Unmount m ∷ []
 
 -- the replies to events that are all done
-abbrev pub answered : Answer → Reply
-answered a = Ok a
+abbrev pub as_reply : Answer → Reply
+as_reply a = Ok a
 
-abbrev pub all_answered : List Answer → List Reply
-all_answered answers = map answered answers
+abbrev pub as_replies : List Answer → List Reply
+as_replies answers = map as_reply answers
 
 -- the lost mount is back
-pub record IsReady (old new : Held) : Type 0 where
+pub record IsReady (old new : HeldPen) : Type 0 where
   pub backs : List Answer
-  pub goes : Goes old (given_back old.lost) (all_answered backs) new
+  pub goes : Goes old (given_back old.lost) (as_replies backs) new
   pub lost : new.lost ≡ None
 
 -- the give-back was refused, and nothing else ran
-pub record IsStuck (old new : Held) : Type 0 where
+pub record IsStuck (old new : HeldPen) : Type 0 where
   pub number : ℕ
   pub error : VolError
   pub was : old.lost ≡ Some number
   pub goes : GoesBy old (Unmount number) (Err error) new
 
 -- what comes before a call's own event
-abbrev pub Begins : Held → Result (Unit {0}) VolError → Held → Type 0
+abbrev pub Begins : HeldPen → Result (Unit {0}) VolError → HeldPen → Type 0
 Begins old (Ok u) new = IsReady old new
 Begins old (Err e) new = (e ≡ Memory) × IsStuck old new
 
 -- ---- calls
 
 -- a lost mount is given back, and then the event runs; or the give-back is refused, and nothing else runs
-pub data Ran (old : Held) (event : Event) (reply : Reply) (new : Held) : Type 0 where
-  Done : (backs : List Answer) → Goes old (given_back old.lost ++ event ∷ []) (all_answered backs ++ reply ∷ []) new
+pub data Ran (old : HeldPen) (event : Event) (reply : Reply) (new : HeldPen) : Type 0 where
+  Done : (backs : List Answer)
+      → Goes old (given_back old.lost ++ event ∷ []) (as_replies backs ++ reply ∷ []) new
       → new.lost ≡ None → Ran old event reply new
   NotBegun : IsStuck old new → reply ≡ Err Memory → Ran old event reply new
 
@@ -129,30 +130,30 @@ IsMountReply (Ok a) = (m : ℕ) × (a ≡ answer.Mount m)
 IsMountReply (Err e) = Unit {0}
 
 -- a checkpoint was mounted in the pen alone, or that was refused
-abbrev pub MountGoes : Held → ℕ → MountReply → Held → Type 0
+abbrev pub MountGoes : HeldPen → ℕ → MountReply → HeldPen → Type 0
 MountGoes old n (Ok m) new = GoesBy old (Mount n) (mount_reply m) new
 MountGoes old n (Err e) new = GoesBy old (Mount n) (Err e) new
 
 -- a mount's commit is published, or its number is kept to be given back
-abbrev pub Finished : Held → ℕ → MountReply → Held → Type 0
+abbrev pub Finished : HeldPen → ℕ → MountReply → HeldPen → Type 0
 Finished old n (Ok m) new = (m ≡ n) × Goes old [] [] new × (new.published ≡ new.history) × (new.lost ≡ None)
 Finished old n (Err e) new = (e ≡ Memory) × Goes old [] [] new × (new.lost ≡ Some n)
 
 -- before a mount: a lost mount is back, and nothing is pending
-pub record IsClear (old new : Held) : Type 0 where
+pub record IsClear (old new : HeldPen) : Type 0 where
   pub ready : IsReady old new
   pub settled : new.published ≡ new.history
 
 -- What `mount` does: all is published, with the mount's own commit; or the mount was made, and its commit
 -- was not published; or the mount was refused; or something is pending still; or the give-back was refused
-pub data MountRan (old : Held) (checkpoint : ℕ) (reply : MountReply) (new : Held) : Type 0 where
-  Mounted : (clear : Held) (n : ℕ) → IsClear old clear
+pub data MountRan (old : HeldPen) (checkpoint : ℕ) (reply : MountReply) (new : HeldPen) : Type 0 where
+  Mounted : (clear : HeldPen) (n : ℕ) → IsClear old clear
       → Goes clear (Mount checkpoint ∷ []) (mount_reply n ∷ []) new → reply ≡ Ok n
       → new.published ≡ new.history → new.lost ≡ None → MountRan old checkpoint reply new
-  Lost : (clear : Held) (n : ℕ) → IsClear old clear
+  Lost : (clear : HeldPen) (n : ℕ) → IsClear old clear
       → Goes clear (Mount checkpoint ∷ []) (mount_reply n ∷ []) new → reply ≡ Err Memory
       → new.lost ≡ Some n → MountRan old checkpoint reply new
-  Refused : (clear : Held) (e : VolError) → IsClear old clear → GoesBy clear (Mount checkpoint) (Err e) new
+  Refused : (clear : HeldPen) (e : VolError) → IsClear old clear → GoesBy clear (Mount checkpoint) (Err e) new
       → reply ≡ Err e → MountRan old checkpoint reply new
   Pending : IsReady old new → new.published ≢ new.history → reply ≡ Err Memory
       → MountRan old checkpoint reply new

@@ -14,4 +14,5 @@ head_of b = record { tracked = true; key = 0; book = b }
 
 -- the commit was added to all that had been seen; or the history was longer, and was seen
 abbrev pub Adds : Step Commit → View Commit ℕ → ℕ → View Commit ℕ → Type 0
-Adds s v found w = MatchBool (found == s.old) ((w.0 ≡ v.0 ++ s.ask ∷ []) × IsBegun w.0) ((length w.0 ≡ found) × IsBegun w.0)
+Adds s v found w =
+    MatchBool (found == s.old) ((w.0 ≡ v.0 ++ s.ask ∷ []) × IsBegun w.0) ((length w.0 ≡ found) × IsBegun w.0)

@@ -4,7 +4,7 @@ use mathlib.Core.List.{IsPrefix}
 use Rattle.nl_types.specs.declared.event.Event.{Event}
 use Rattle.nl_types.specs.Trees.{Tree}
 use Rattle.nl_types.specs.Worlds.{Copy, Reply, World, copy_at}
-use Rattle.nl_cpfile.specs.Tables.{kept_at, root_in}
+use Rattle.nl_cpfile.specs.Tables.{kept_at, checkpoint_root}
 use Rattle.nl_cpfile.specs.declared.checkpoint.Checkpoint.{Checkpoint}
 use Rattle.nl_core.specs.Commits.{IsHistory, IsImage, image_of}
 use Rattle.nl_core.specs.Layout.{Runs}
@@ -12,14 +12,14 @@ use Rattle.nl_core.specs.Means.{RootMeans}
 use Rattle.nl_core.specs.Notes.{shared}
 use Rattle.nl_core.specs.Shown.{Shown, mounted_on, pages_shown}
 use Rattle.nl_core.specs.declared.commit.Commit.{Commit}
-use Rattle.nl_publish.specs.Locks.{Goes, Held}
+use Rattle.nl_publish.specs.Locks.{Goes, HeldPen}
 use Rattle.nl_publish.specs.Mounts.{Claim, IsClaim}
 
 -- a kept checkpoint means the tree
 pub record TreeOn (x : Shown) (n : ℕ) (t : Tree) : Type 0 where
   pub checkpoint : Checkpoint
   pub kept : kept_at n x.table ≡ Some checkpoint
-  pub means : RootMeans (pages_shown x) (root_in checkpoint) t
+  pub means : RootMeans (pages_shown x) (checkpoint_root checkpoint) t
 
 -- the copy of a number in a world is what an image shows under it
 pub record ShowsCopy (x : Shown) (n : ℕ) (w : World) : Type 0 where
@@ -43,5 +43,5 @@ MountsStay = (m : Claim) (log : List Commit) (n : ℕ) → IsClaim m → IsHisto
 
 -- what ran under the lock leads on beside each world that the pen meant
 abbrev pub LockedRunsLeadOn : Type 0
-LockedRunsLeadOn = (old new : Held) (events : List Event) (replies : List Reply)
+LockedRunsLeadOn = (old new : HeldPen) (events : List Event) (replies : List Reply)
     → Goes old events replies new → Runs shared old.layout events replies new.layout

@@ -20,8 +20,8 @@ use std::alloc::Global;
 use std::sync::Wait;
 
 impl<D: Device, J: Volumes, W: Press> Locked<Pen<D>, J, W> {
-    /// Does the next event of a round of cleaning, and notes the reply in the round; None where the round is over. Where the
-    /// give-back of a lost mount is refused, that is the reply to the event.
+    /// Does the next event of a round of cleaning, and notes the reply in the round; None where the round is
+    /// over. Where the give-back of a lost mount is refused, that is the reply to the event.
     pub fn clean_step<R: Wait>(&mut self, rt: &R, job: &mut Job) -> Option<Reply>
         ensures { CleanRan self.old job.old result self.new job.new }
     {
@@ -37,7 +37,8 @@ impl<D: Device, J: Volumes, W: Press> Locked<Pen<D>, J, W> {
         Some(reply)
     }
 
-    /// The round of cleaning that a configuration asks for at a moment. It only looks. Refused by `Memory` alone.
+    /// The round of cleaning that a configuration asks for at a moment. It only looks. Refused by `Memory`
+    /// alone.
     pub fn plan(&self, alloc: Global, config: &Config, now: u64) -> Result<Job, VolError>
         ensures plan { IfOk result (IsPlan self.now.layout config.now now) }
         ensures refused { IsOkUnless result VolError.Memory }
@@ -52,7 +53,8 @@ impl<D: Device, J: Volumes, W: Press> Locked<Pen<D>, J, W> {
         self.pen().segments().suinfo(segment)
     }
 
-    /// How many needed blocks a segment has. Refused by `BadRange` where there is no such segment. It takes no memory.
+    /// How many needed blocks a segment has. Refused by `BadRange` where there is no such segment. It takes
+    /// no memory.
     pub fn needed(&self, segment: Segment) -> Result<u32, VolError>
         ensures { result ≡ needed_told self.now.layout segment }
     {

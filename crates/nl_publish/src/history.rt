@@ -1,5 +1,5 @@
-//! The published history of a volume, which exists in proofs alone, and the beginnings of it that were seen. A book keeps it:
-//! in memory there is its length, one atomic word.
+//! The published history of a volume, which exists in proofs alone, and the beginnings of it that were seen.
+//! A book keeps it: in memory there is its length, one atomic word.
 ghost use Rattle.std.specs.Prelude.{◌≡◌, ◌≢◌, ◌<◌, ◌++◌, ◌∷◌, ◌⊎◌, [], length, MatchBool};
 ghost use mathlib.Core.List.{IsPrefix};
 ghost use Rattle.nl_publish.specs.Histories.{IsBegun, IsFull, Known};
@@ -210,8 +210,8 @@ impl<J: Volumes> Front<J> {
         other.count <= self.count
     }
 
-    /// Adds a commit to all that was seen, and says whether it did. It did not where the history is longer than what was seen,
-    /// or as long as one can be.
+    /// Adds a commit to all that was seen, and says whether it did. It did not where the history is longer
+    /// than what was seen, or as long as one can be.
     pub fn add(&mut self, log: &Record<J>, commit: &Commit) -> bool
         requires volume { log.now.volume ≡ self.old.volume }
         requires begun { IsBegun (self.old.commits ++ commit.now ∷ []) }

@@ -90,7 +90,8 @@ impl Absorb<Entry> for Image {
 /// What a seat knows of the book: nothing, or which one it is. No value of it is made.
 pub type Name = [u64; 0];
 
-/// The rule: the image is what its history makes, which is legal, and each seat knows nothing, or the image's book.
+/// The rule: the image is what its history makes, which is legal, and each seat knows nothing, or the image's
+/// book.
 pub struct Keeps;
 
 impl Protocol<Image, Name> for Keeps {

@@ -12,14 +12,14 @@ pub fn mounts_stay()
     ensures { MountsStay }
 {}
 
-/// A page of a file that was kept aside is right for good: numbers of checkpoints aren't given twice, and a checkpoint that is
-/// still kept has the tree that it had.
+/// A page of a file that was kept aside is right for good: numbers of checkpoints aren't given twice, and a
+/// checkpoint that is still kept has the tree that it had.
 pub fn cached_pages_stay()
     ensures { CachedPagesStay }
 {}
 
-/// What runs under the lock is a list of events, each done beside each world that the pen means, as on a pen alone but for
-/// want of memory.
+/// What runs under the lock is a list of events, each done beside each world that the pen means, as on a pen
+/// alone but for want of memory.
 pub fn locked_runs_lead_on()
     ensures { LockedRunsLeadOn }
 {}

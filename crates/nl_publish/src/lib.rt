@@ -1,5 +1,5 @@
-//! The published states of a shared volume: one legal history of commits, and what lies under the lock, the writer's pen with
-//! the commits that wait. Readers enter an image of what is published.
+//! The published states of a shared volume: one legal history of commits, and what lies under the lock, the
+//! writer's pen with the commits that wait. Readers enter an image of what is published.
 #![tactic(auto)]
 
 mod cleaning;

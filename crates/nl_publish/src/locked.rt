@@ -23,8 +23,9 @@ use std::alloc::Global;
 use std::marker::Model;
 use std::sync::Wait;
 
-/// The pen of a shared volume, and what of its commits is published. Contracts see the pen, the history of its commits, and
-/// how much of that is published; the type keeps that what readers see of the pen is what all of the history makes.
+/// The pen of a shared volume, and what of its commits is published. Contracts see the pen, the history of
+/// its commits, and how much of that is published; the type keeps that what readers see of the pen is what
+/// all of the history makes.
 pub struct Locked<P: NotingPen, J: Volumes, W: Press> {
     pen: P,
     log: Record<J>,
@@ -42,9 +43,9 @@ pub struct Locked<P: NotingPen, J: Volumes, W: Press> {
 impl<P: NotingPen, J: Volumes, W: Press> Model for Locked<P, J, W> {
     ghost use Rattle.std.specs.Prelude.{◌++◌};
     ghost use Rattle.nl_core.specs.Notes.{shown_of};
-    ghost use Rattle.nl_publish.specs.Locks.{Held, IsHeld, listed};
+    ghost use Rattle.nl_publish.specs.Locks.{HeldPen, IsHeld, listed};
 
-    ghost Value = { Held };
+    ghost Value = { HeldPen };
 
     ghost view = { λ l. record {
       volume = l.noted.volume;
@@ -143,7 +144,8 @@ impl<P: NotingPen, J: Volumes, W: Press> Locked<P, J, W> {
         true
     }
 
-    /// Publishes what is pending, as far as there is memory. It waits for readers only where something is pending.
+    /// Publishes what is pending, as far as there is memory. It waits for readers only where something is
+    /// pending.
     fn publish<R: Wait>(&mut self, rt: &R)
         ensures { Keeps self.old self.new }
     {
@@ -176,8 +178,8 @@ impl<P: NotingPen, J: Volumes, W: Press> Locked<P, J, W> {
         self.pen.means_a_world();
     }
 
-    /// What readers see of the pen is what its history makes, of which a beginning is published. This says so to its callers,
-    /// and does nothing.
+    /// What readers see of the pen is what its history makes, of which a beginning is published. This says so
+    /// to its callers, and does nothing.
     pub fn is_told(&self)
         ensures { IsTold self.now }
     {
@@ -216,7 +218,8 @@ impl<P: NotingPen, J: Volumes, W: Press> Locked<P, J, W> {
         }
     }
 
-    /// Publishes what is pending, and gives back a mount that was lost. Refused by `Memory` alone, where the give-back is.
+    /// Publishes what is pending, and gives back a mount that was lost. Refused by `Memory` alone, where the
+    /// give-back is.
     pub(crate) fn begin<R: Wait>(&mut self, rt: &R) -> Result<(), VolError>
         ensures { Begins self.old result self.new }
     {
@@ -224,8 +227,8 @@ impl<P: NotingPen, J: Volumes, W: Press> Locked<P, J, W> {
         self.give_back()
     }
 
-    /// Applies an event. It stands where its commit can't be published for want of memory, and the commit stays pending: each
-    /// later call publishes first. Mounts have calls of their own.
+    /// Applies an event. It stands where its commit can't be published for want of memory, and the commit
+    /// stays pending: each later call publishes first. Mounts have calls of their own.
     pub fn apply<R: Wait>(&mut self, rt: &R, event: &Event) -> Reply
         ensures { Ran self.old event.now result self.new }
     {
@@ -298,8 +301,9 @@ impl<P: NotingPen, J: Volumes, W: Press> Locked<P, J, W> {
         Front::of(self.writer.image(), self.noted.volume())
     }
 
-    /// Mounts a checkpoint. The mount is told of the history that ends with its own commit, all of which is published. Refused
-    /// by `Memory` while something is pending, and where its own commit can't be published: the next call gives that mount back.
+    /// Mounts a checkpoint. The mount is told of the history that ends with its own commit, all of which is
+    /// published. Refused by `Memory` while something is pending, and where its own commit can't be
+    /// published: the next call gives that mount back.
     pub fn mount<R: Wait>(
         &mut self,
         rt: &R,
@@ -342,7 +346,8 @@ impl<P: NotingPen, J: Volumes, W: Press> Locked<P, J, W> {
 // ---- beginning and end
 
 impl<P: NotingPen, J: Volumes, W: Press> Locked<P, J, W> {
-    /// A pen all of which the writer shows readers by the first commit. `new` makes a writer, and a seat for each reader.
+    /// A pen all of which the writer shows readers by the first commit. `new` makes a writer, and a seat for
+    /// each reader.
     pub fn begun(alloc: Global, pen: P, log: Record<J>, front: Front<J>, writer: W) -> Self
         requires volume { log.volume ≡ front.volume }
         requires pen { shown_of (P.layout pen) ≡ image_of front.commits }

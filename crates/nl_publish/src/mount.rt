@@ -6,7 +6,8 @@ use crate::history::{Front, Volumes};
 use nl_types::{CheckpointNumber, MountNumber};
 use std::marker::Model;
 
-/// A mount of a shared volume, with the history that it was told of. It is not `Drop`: `Locked::unmount` takes it.
+/// A mount of a shared volume, with the history that it was told of. It is not `Drop`: `Locked::unmount`
+/// takes it.
 pub struct Mount<J: Volumes> {
     number: MountNumber,
     checkpoint: CheckpointNumber,

@@ -76,8 +76,8 @@ pub fn publish<J: Volumes, R: Wait>(
 }
 
 impl<P: NotingPen, J: Volumes> Locked<P, J, Publisher> {
-    /// Publishes all that readers see of a pen as the first commit of the history that was opened, with a seat for each of so
-    /// many readers. Refused by `Memory` alone, which gives the pen back.
+    /// Publishes all that readers see of a pen as the first commit of the history that was opened, with a
+    /// seat for each of so many readers. Refused by `Memory` alone, which gives the pen back.
     pub fn new<R: Wait>(
         alloc: Global,
         rt: &R,

@@ -21,9 +21,11 @@ pub trait NotingPen: Drop {
     fn means_a_world(&self)
         ensures { IsPen (layout self.now) };
 
-    /// One event beside readers. Its commits are added to the notes. The room for them comes first, so a refusal adds none.
+    /// One event beside readers. Its commits are added to the notes. The room for them comes first, so a
+    /// refusal adds none.
     fn apply_noting(&mut self, event: &Event, notes: &mut Vec<Commit>) -> Reply
-        ensures { DoesNoting (layout self.old) event.now result (layout self.new) notes.old.items notes.new.items };
+        ensures { DoesNoting (layout self.old) event.now result
+            (layout self.new) notes.old.items notes.new.items };
 
     /// All that readers see of it, as the commit that begins a history. Refused by `Memory` alone.
     fn whole(&self) -> Result<Commit, VolError>
@@ -34,7 +36,8 @@ pub trait NotingPen: Drop {
 
     /// Gives all mounts back. It takes no memory.
     fn give_all_back(&mut self)
-        ensures { layout self.new ≡ layout_of (without_mounts (layout self.old).lists) (layout self.old).store };
+        ensures { layout self.new
+            ≡ layout_of (without_mounts (layout self.old).lists) (layout self.old).store };
 }
 
 impl<D: Device> NotingPen for Pen<D> {

@@ -7,13 +7,13 @@ ghost use Rattle.nl_core.specs.Commits.{IsHistory, IsNext, applied, image_of, nu
 
 use nl_core::{Commit, Mounted, Mounts, NewPage, ShownPage, Written};
 use nl_cpfile::{Checkpoint, Checkpoints};
-use nl_types::{CheckpointNumber, Mode, MountNumber, Page, Period, VirtualNumber};
+use nl_types::{CheckpointNumber, Mode, MountNumber, Page, Period, VirtualNumber, empty_places};
 use nl_vstore::VRead;
 use std::alloc::{AllocError, Global};
 use std::marker::Model;
 
-/// What readers see: the page and the period of each number in use, the kept checkpoints, and the mounts. Reads take no
-/// memory.
+/// What readers see: the page and the period of each number in use, the kept checkpoints, and the mounts.
+/// Reads take no memory.
 #[derive(Drop)]
 pub struct Tables {
     alloc: Global,
@@ -107,11 +107,7 @@ fn free_numbers(numbers: &mut [Option<ShownPage>], gone: &[VirtualNumber])
 fn unused(alloc: Global, count: usize) -> Result<Vec<Option<ShownPage>>, AllocError>
     ensures { IfOk result (λ unused. unused.items ≡ replicate count None) }
 {
-    let mut unused = Vec::with_capacity(alloc, count)?;
-    for _ in 0..count {
-        unused.push(None)?;
-    }
-    Ok(unused)
+    Ok(empty_places(alloc, count)?.into_vec())
 }
 
 /// The same births, whose pages have another owner.
@@ -189,8 +185,8 @@ fn shared_pages(
 
 // ---- checkpoints
 
-/// Keeps one more checkpoint, which is now the latest one. Refused by `Memory`, and by `NotNext` where it can't be behind the
-/// others.
+/// Keeps one more checkpoint, which is now the latest one. Refused by `Memory`, and by `NotNext` where it
+/// can't be behind the others.
 fn keep(checkpoints: &mut Checkpoints, checkpoint: &Checkpoint) -> Result<(), ApplyError>
     ensures changed { MatchResult result
         (λ _. checkpoints.new.table ≡ with_next checkpoint.now checkpoints.old.table)
@@ -286,8 +282,8 @@ impl Tables {
         Ok(())
     }
 
-    /// One commit. Its growth comes first, so a refusal leaves all as it was. Refused by `Memory`, and by `NotNext` where no
-    /// history goes on by such a commit.
+    /// One commit. Its growth comes first, so a refusal leaves all as it was. Refused by `Memory`, and by
+    /// `NotNext` where no history goes on by such a commit.
     pub fn apply(&mut self, commit: &Commit) -> Result<(), ApplyError>
         ensures changed { MatchResult result
             (λ _. self.new ≡ applied self.old commit.now)

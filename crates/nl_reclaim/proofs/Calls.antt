@@ -5,11 +5,11 @@ use Rattle.std.specs.List.{All}
 use Rattle.nl_types.specs.declared.error.VolError.{VolError}
 use Rattle.nl_types.specs.declared.error.VolError.TheVariants.{StillNeeded}
 use Rattle.nl_types.specs.Entries.{Entry}
-use Rattle.nl_types.proofs.PartialMaps.{is_one_of-get_or}
+use Rattle.nl_types.specs.Facts.PartialMaps.{is_one_of-get_or}
 use Rattle.nl_vstore.specs.Stores.{Store, IsStore, IsReclaimed, address_in, is_inside}
 use Rattle.nl_vstore.specs.Located.{needed_in, numbers_in}
-use Rattle.nl_vstore.proofs.NumberAt.{gone-is, needed-inside}
-use Rattle.nl_vstore.proofs.MovedNumbers.{among-front}
+use Rattle.nl_vstore.specs.Facts.NumberAt.{gone-is, needed-inside}
+use Rattle.nl_vstore.specs.Facts.MovedNumbers.{among-front}
 use Rattle.nl_reclaim.specs.Cleaning.{freed}
 
 pub front-inside : (s : Store) (needed : Entry → Bool) (segment n : ℕ) (numbers : List ℕ) → numbers ≡ take n (needed_in s needed segment) → All (λ v. is_inside s.segments segment (address_in s v) ≡ true) numbers

@@ -5,13 +5,12 @@ use Rattle.std.specs.Option.{option_map}
 use Rattle.std.proofs.lemmas.Bool.{cases_lt}
 use Rattle.std.proofs.lemmas.Bool.Decides.{nat_tests}
 use Rattle.std.proofs.lemmas.List.{take_all, take-append-le}
-use Rattle.nl_types.specs.Entries.{Entry}
+use Rattle.nl_types.specs.Entries.{Entry, period_of}
 use Rattle.nl_types.specs.declared.period.Period.{Period}
-use Rattle.nl_vstore.specs.Periods.{period_of}
 use Rattle.nl_vstore.specs.Stores.{Store, content_in}
 use Rattle.nl_vstore.specs.Located.{AreCounted, onto, picked, number_at, by_period, if_needed, needs, needed_at}
-use Rattle.nl_vstore.proofs.CountedRows.{counted-next, length-onto, row-grows}
-use Rattle.nl_reclaim.specs.Loops.{told, AreSeen}
+use Rattle.nl_vstore.specs.Facts.CountedRows.{counted-next, length-onto, row-grows}
+use Rattle.nl_reclaim.specs.Private.Loops.{told, AreSeen}
 
 pub counted-none : (f : ℕ → Option ℕ) (b : ℕ) → AreCounted f b 0 0
 counted-none f b = record { counts = refl; few = omega arith }

@@ -24,12 +24,12 @@ judged_info None = Err BadRange
 judged_info (Some i) = judged_by i.state i
 
 -- what is known of a segment that is dirty, or why it isn't cleaned
-abbrev pub judged : Segments → ℕ → Result SegmentInfo VolError
-judged s segment = judged_info (slice_get s.each segment)
+abbrev pub judged_segment : Segments → ℕ → Result SegmentInfo VolError
+judged_segment s segment = judged_info (slice_get s.each segment)
 
 -- the same for a move of up to so many pages
 abbrev pub judged_for : Segments → ℕ → ℕ → Result SegmentInfo VolError
-judged_for s segment limit = if limit == 0 then Err BadRange else judged s segment
+judged_for s segment limit = if limit == 0 then Err BadRange else judged_segment s segment
 
 -- ---- moves
 
@@ -44,7 +44,8 @@ pub record CanBeMoved (segment : ℕ) (numbers : List ℕ) (s : Store) : Type 0 
   pub inside : AreInside s segment numbers
 
 -- The segment may be cleaned. These are its first needed numbers, up to a limit, and it has so many in all.
-pub record HasListedFirst (needed : Entry → Bool) (segment limit : ℕ) (s : Store) (listed : List ℕ) (count : ℕ) : Type 0 where
+pub record HasListedFirst (needed : Entry → Bool) (segment limit : ℕ) (s : Store) (listed : List ℕ)
+    (count : ℕ) : Type 0 where
   pub judged : IsOk (judged_for s.segments segment limit)
   pub first : listed ≡ take limit (needed_in s needed segment)
   pub total : count ≡ needed_count s needed segment
@@ -55,7 +56,8 @@ HasListedNone segment limit s e =
     MatchResult (judged_for s.segments segment limit) (λ _. e ≡ Memory) (λ refusal. e ≡ refusal)
 
 -- The first needed numbers of a segment that may be cleaned are moved, up to a limit.
-pub record HasMovedFirst (needed : Entry → Bool) (segment limit checkpoint stamp : ℕ) (old new : Store) (answer : MoveCount) : Type 0 where
+pub record HasMovedFirst (needed : Entry → Bool) (segment limit checkpoint stamp : ℕ) (old new : Store)
+    (answer : MoveCount) : Type 0 where
   pub judged : IsOk (judged_for old.segments segment limit)
   pub answers : answer ≡ split limit (needed_count old needed segment)
   pub moved : IsMoved segment checkpoint stamp (take limit (needed_in old needed segment)) old new
@@ -69,7 +71,8 @@ HasMovedNone needed segment limit checkpoint stamp old new e =
 
 -- ---- retirements
 
--- what emptying a segment answers, of whose numbers so many are needed: how many have their pages there, if none is needed
+-- what emptying a segment answers, of whose numbers so many are needed: how many have their pages there, if
+-- none is needed
 abbrev pub freed : Store → (needed segment : ℕ) → Result ℕ VolError
 freed s needed segment = if needed == 0 then Ok (length (numbers_in s segment)) else Err StillNeeded
 
@@ -79,11 +82,11 @@ freed_with (Ok i) s needed segment = freed s needed segment
 
 -- what a retirement answers that is told the count of needed numbers
 abbrev pub retired_with : Store → (needed segment : ℕ) → Result ℕ VolError
-retired_with s needed segment = freed_with (judged s.segments segment) s needed segment
+retired_with s needed segment = freed_with (judged_segment s.segments segment) s needed segment
 
 abbrev pub freed_by : Result SegmentInfo VolError → Store → (Entry → Bool) → ℕ → Result ℕ VolError
-freed_by judged s needed segment = freed_with judged s (needed_count s needed segment) segment
+freed_by judged_segment s needed segment = freed_with judged_segment s (needed_count s needed segment) segment
 
 -- what a retirement answers
 abbrev pub retired : Store → (Entry → Bool) → ℕ → Result ℕ VolError
-retired s needed segment = freed_by (judged s.segments segment) s needed segment
+retired s needed segment = freed_by (judged_segment s.segments segment) s needed segment

@@ -1,5 +1,6 @@
 pub mod Cleaning
-pub mod Loops
 pub mod Moves
 pub mod Reclaims
 pub mod Rounds
+pub mod Facts
+pub mod Private

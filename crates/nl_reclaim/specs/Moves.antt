@@ -25,12 +25,13 @@ IsClosedIn s segment = IsClosed s.store.segments segment
 
 -- whether a number is needed has the same answer at every number in use
 abbrev pub KeepsNeeds : KeptStore → KeptStore → Type 0
-KeepsNeeds old new = (v : ℕ) (e : Entry) → content_in old.store v ≡ Some e → is_needed new.kept e ≡ is_needed old.kept e
+KeepsNeeds old new =
+    (v : ℕ) (e : Entry) → content_in old.store v ≡ Some e → is_needed new.kept e ≡ is_needed old.kept e
 
 -- ---- one move
 
 -- the first m needed numbers of a segment were moved
-pub record HasMoved (segment checkpoint stamp m : ℕ) (old new : KeptStore) : Type 0 where
+pub record HasMovedPages (segment checkpoint stamp m : ℕ) (old new : KeptStore) : Type 0 where
   pub needs : KeepsNeeds old new
   pub moved : IsMoved segment checkpoint stamp (take m (needed_now old segment)) old.store new.store
   pub store : IsStore new.store
@@ -47,7 +48,7 @@ pub record MovesOut (segment m : ℕ) (old new : KeptStore) : Type 0 where
 abbrev pub MoveTakesFirst : Type 0
 MoveTakesFirst =
     (segment checkpoint stamp m : ℕ) (old new : KeptStore) → IsStore old.store → IsClosedIn old segment
-    → HasMoved segment checkpoint stamp m old new → MovesOut segment m old new
+    → HasMovedPages segment checkpoint stamp m old new → MovesOut segment m old new
 
 -- ---- a move in two halves: first needed numbers are listed, and then moved
 
@@ -61,7 +62,8 @@ ListedMovesAreFirst =
 -- where the second half is refused, so is the move
 abbrev pub RefusedMovesAreNone : Type 0
 RefusedMovesAreNone =
-    (needed : Entry → Bool) (segment limit checkpoint stamp count : ℕ) (listed : List ℕ) (old new : Store) (e : VolError)
+    (needed : Entry → Bool) (segment limit checkpoint stamp count : ℕ) (listed : List ℕ) (old new : Store)
+    (e : VolError)
     → HasListedFirst needed segment limit old listed count → IsMoveRefused checkpoint stamp listed old new e
     → HasMovedNone needed segment limit checkpoint stamp old new e
 
@@ -106,8 +108,8 @@ abbrev pub Moves : ℕ → ℕ → ℕ → KeptStore → KeptStore → Type 0
 Moves segment m zero old new = new ≡ old
 Moves segment m (suc n) old new = (mid : KeptStore) × MovesOut segment m old mid × Moves segment m n mid new
 
--- After n moves of up to m numbers each, n times m being no less than the needed ones, a dirty segment can be retired: the
--- answer is how many numbers it still had, none of them needed, and it is clean then.
+-- After n moves of up to m numbers each, n times m being no less than the needed ones, a dirty segment can be
+-- retired: the answer is how many numbers it still had, none of them needed, and it is clean then.
 abbrev pub SegmentsComeClean : Type 0
 SegmentsComeClean =
     (segment m n : ℕ) (old mid new : KeptStore) (reply : Result ℕ VolError)
@@ -119,7 +121,7 @@ SegmentsComeClean =
 abbrev pub FullMoves : ℕ → ℕ → ℕ → KeptStore → KeptStore → Type 0
 FullMoves segment m zero old new = new ≡ old
 FullMoves segment m (suc n) old new =
-    (checkpoint : ℕ) × (stamp : ℕ) × (mid : KeptStore) × HasMoved segment checkpoint stamp m old mid
+    (checkpoint : ℕ) × (stamp : ℕ) × (mid : KeptStore) × HasMovedPages segment checkpoint stamp m old mid
     × FullMoves segment m n mid new
 
 abbrev pub FullMovesComeClean : Type 0

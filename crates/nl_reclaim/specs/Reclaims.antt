@@ -1,8 +1,8 @@
 -- What a retirement is to the kept checkpoints.
 use Rattle.std.specs.Prelude.{◌≡◌, ℕ, if◌then◌else◌, Bool, true, false, [], None, Some}
 use Rattle.nl_types.specs.Entries.{Place}
-use Rattle.nl_types.specs.Lifetimes.{Allowed, HasExactLifetimes, Ledger, Numbers, Reclaim}
-use Rattle.nl_types.specs.PartialMaps.{is_one_of}
+use Rattle.nl_types.specs.Lifetimes.{Allowed, HasExactLifetimes, Ledger, Numbers, Frees}
+use Rattle.nl_types.specs.NumberLists.{is_one_of}
 use Rattle.nl_vstore.specs.Stores.{Store, IsStore, IsReclaimed, address_in, content_in, is_inside}
 use Rattle.nl_reclaim.specs.Moves.{KeptStore, needed_now}
 
@@ -15,12 +15,13 @@ pub record IsLedgerOf (ledger : Ledger) (s : KeptStore) : Type 0 where
 abbrev pub stood_in : Store → ℕ → ℕ → Bool
 stood_in s segment v = is_inside s.segments segment (address_in s v)
 
--- Emptying a segment that has no needed number takes out numbers of which no kept checkpoint has one, and no others.
+-- Emptying a segment that has no needed number takes out numbers of which no kept checkpoint has one, and no
+-- others.
 abbrev pub RetiringIsAllowed : Type 0
 RetiringIsAllowed =
     (segment count : ℕ) (ledger : Ledger) (old new : KeptStore) → IsStore old.store → IsLedgerOf ledger old
     → needed_now old segment ≡ [] → IsReclaimed segment count old.store new.store
-    → Allowed (Reclaim (stood_in old.store segment)) ledger
+    → Allowed (Frees (stood_in old.store segment)) ledger
     × ((v : ℕ) → content_in new.store v
     ≡ (if stood_in old.store segment v then None else content_in old.store v))
 

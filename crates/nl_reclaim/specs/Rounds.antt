@@ -2,11 +2,11 @@
 use Rattle.std.specs.Prelude.{◌≡◌, ◌⊎◌, ℕ, zero, suc, Bool, true, false, List, [], ◌∷◌, Some}
 use Rattle.nl_types.specs.declared.segment.SegmentState.{SegmentState}
 use Rattle.nl_types.specs.declared.segment.SegmentState.TheVariants.{Clean, Dirty, Active, Error}
-use Rattle.nl_types.specs.PartialMaps.{is_one_of}
+use Rattle.nl_types.specs.NumberLists.{is_one_of}
 use Rattle.nl_types.specs.Entries.{is_needed}
 use Rattle.nl_vstore.specs.Stores.{IsStore, IsReclaimed, address_in, content_in, is_inside}
 use Rattle.nl_vstore.specs.Located.{needs}
-use Rattle.nl_reclaim.specs.Moves.{KeptStore, KeepsNeeds, HasMoved, info_now}
+use Rattle.nl_reclaim.specs.Moves.{KeptStore, KeepsNeeds, HasMovedPages, info_now}
 
 abbrev pub IsNeeded : KeptStore → ℕ → Type 0
 IsNeeded s v = needs (is_needed s.kept) (content_in s.store) v ≡ true
@@ -30,12 +30,13 @@ pub record IsEmptied (segment count : ℕ) (old new : KeptStore) : Type 0 where
   pub reclaimed : IsReclaimed segment count old.store new.store
   pub store : IsStore new.store
 
--- one event of a round: a move out of the segment whose turn it is, or its retirement, behind which the next one's comes
+-- one event of a round: a move out of the segment whose turn it is, or its retirement, behind which the next
+-- one's comes
 abbrev pub IsRoundEvent : List ℕ → KeptStore → List ℕ → KeptStore → Type 0
 IsRoundEvent [] old left new = ⊥
 IsRoundEvent (segment ∷ rest) old left new =
     ((left ≡ segment ∷ rest) × (checkpoint : ℕ) × (stamp : ℕ) × (m : ℕ)
-    × HasMoved segment checkpoint stamp m old new)
+    × HasMovedPages segment checkpoint stamp m old new)
     ⊎ ((left ≡ rest) × (count : ℕ) × IsEmptied segment count old new)
 
 -- n events, from the segments that are left to those that are left then
@@ -45,8 +46,8 @@ AreRoundEvents (suc n) before old left new =
     (between : List ℕ) × (mid : KeptStore) × IsRoundEvent before old between mid
     × AreRoundEvents n between mid left new
 
--- Checkpoints expire, and then a round goes over every segment that was dirty, to its end. Then each number in use is needed,
--- or its page stands in a segment that was active or in error.
+-- Checkpoints expire, and then a round goes over every segment that was dirty, to its end. Then each number
+-- in use is needed, or its page stands in a segment that was active or in error.
 abbrev pub RoundsLeaveNothingDead : Type 0
 RoundsLeaveNothingDead =
     (n : ℕ) (start old new : KeptStore) (victims : List ℕ) → IsStore start.store

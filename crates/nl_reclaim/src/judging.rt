@@ -1,6 +1,6 @@
 //! Which segments are cleaned.
 ghost use Rattle.std.specs.Prelude.{◌≡◌};
-ghost use Rattle.nl_reclaim.specs.Cleaning.{judged, judged_by};
+ghost use Rattle.nl_reclaim.specs.Cleaning.{judged_segment, judged_by};
 
 use nl_sufile::SegTable;
 use nl_types::{Segment, SegmentInfo, SegmentState, VolError};
@@ -16,11 +16,11 @@ fn judge_info(info: SegmentInfo) -> Result<SegmentInfo, VolError>
     }
 }
 
-/// What is known of a segment that may be cleaned: one with logs, which takes no more of them and has no error. Refused by
-/// `BadRange` where there is no such segment, and by `SegClean`, `SegActive` and `SegError` by its state. It takes no
-/// memory.
+/// What is known of a segment that may be cleaned: one with logs, which takes no more of them and has no
+/// error. Refused by `BadRange` where there is no such segment, and by `SegClean`, `SegActive` and `SegError`
+/// by its state. It takes no memory.
 pub fn judge(table: &SegTable, segment: Segment) -> Result<SegmentInfo, VolError>
-    ensures { result ≡ judged table.now segment }
+    ensures { result ≡ judged_segment table.now segment }
 {
     match table.suinfo(segment) {
         Ok(info) => judge_info(info),

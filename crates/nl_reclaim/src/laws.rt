@@ -3,14 +3,16 @@ ghost use Rattle.nl_reclaim.specs.Moves.{FullMovesComeClean, ListedMovesAreFirst
 ghost use Rattle.nl_reclaim.specs.Reclaims.{RetiredSegmentsAreUnreached, RetiringIsAllowed};
 ghost use Rattle.nl_reclaim.specs.Rounds.{RoundsLeaveNothingDead};
 
-/// A segment that takes no more logs stays as it is, whatever is moved, and each stays where another is retired.
+/// A segment that takes no more logs stays as it is, whatever is moved, and each stays where another is
+/// retired.
 pub fn closed_segments_stay()
     ensures moved { MovesKeepClosed }
     ensures refused { RefusedMovesKeepClosed }
     ensures retired { RetirementsKeepOthers }
 {}
 
-/// Listing the first needed numbers and then moving them is one move of them, which is refused where either half is.
+/// Listing the first needed numbers and then moving them is one move of them, which is refused where either
+/// half is.
 pub fn listed_moves_are_moves()
     ensures moved { ListedMovesAreFirst }
     ensures refused { RefusedMovesAreNone }
@@ -28,8 +30,8 @@ pub fn segments_come_clean()
     ensures full { FullMovesComeClean }
 {}
 
-/// A round over all dirty segments, to its end, leaves no number in use that isn't needed, but in segments that were active
-/// or in error.
+/// A round over all dirty segments, to its end, leaves no number in use that isn't needed, but in segments
+/// that were active or in error.
 pub fn rounds_leave_nothing_dead()
     ensures { RoundsLeaveNothingDead }
 {}

@@ -1,6 +1,6 @@
-//! Cleaning of segments, as the cleaner of a log has it (Rosenblum and Ousterhout 1992): the pages of a segment that are
-//! still needed are moved elsewhere, and then the segment is emptied. It works over any `Vstore`, and is told by a
-//! `Keeping` which numbers are needed.
+//! Cleaning of segments, as the cleaner of a log has it (Rosenblum and Ousterhout 1992): the pages of a
+//! segment that are still needed are moved elsewhere, and then the segment is emptied. It works over any
+//! `Vstore`, and is told by a `Keeping` which numbers are needed.
 #![tactic(auto)]
 
 mod judging;

@@ -55,10 +55,11 @@ fn list_first<V: Vstore, K: Keeping>(
     Ok(needed)
 }
 
-/// The first half of a move: it lists the first needed numbers of a segment, by block and up to a limit, and counts all of
-/// them. It looks at each block of the segment.
+/// The first half of a move: it lists the first needed numbers of a segment, by block and up to a limit, and
+/// counts all of them. It looks at each block of the segment.
 ///
-/// Refused by `BadRange` for a limit of 0, then as `judge` says, before anything is looked at. Then refused by `Memory`.
+/// Refused by `BadRange` for a limit of 0, then as `judge` says, before anything is looked at. Then refused
+/// by `Memory`.
 pub fn list_needed<V: Vstore, K: Keeping>(
     alloc: Global,
     store: &V,
@@ -80,12 +81,12 @@ pub fn list_needed<V: Vstore, K: Keeping>(
     }
 }
 
-/// The second half: the pages of the listed numbers are moved elsewhere, in that order, each read from the device and written
-/// again. It answers how many these are, and how many needed ones are left. The checkpoint is the one of the logs'
-/// summaries, and `now` their moment in whole seconds.
+/// The second half: the pages of the listed numbers are moved elsewhere, in that order, each read from the
+/// device and written again. It answers how many these are, and how many needed ones are left. The checkpoint
+/// is the one of the logs' summaries, and `now` their moment in whole seconds.
 ///
-/// Refused by `NoSpace` where no list of logs fits, by `Memory`, and by `Fault` where the device failed: no number has changed
-/// then.
+/// Refused by `NoSpace` where no list of logs fits, by `Memory`, and by `Fault` where the device failed: no
+/// number has changed then.
 pub fn move_listed<V: Vstore>(
     alloc: Global,
     store: &mut V,

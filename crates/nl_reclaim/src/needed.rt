@@ -3,7 +3,7 @@ ghost use Rattle.std.specs.Prelude.{◌≡◌, ℕ, ◌+◌, ◌*◌, ◌<◌, �
 ghost use Rattle.nl_vstore.specs.Located.{by_period, needed_at, needed_in, needed_count, onto};
 ghost use Rattle.nl_vstore.specs.Stores.{block_in};
 ghost use Rattle.nl_types.specs.declared.period.Period.{Period};
-ghost use Rattle.nl_reclaim.specs.Loops.{told};
+ghost use Rattle.nl_reclaim.specs.Private.Loops.{told};
 
 use nl_types::{Period, Segment, VirtualNumber};
 use nl_vstore::Vstore;
@@ -66,7 +66,8 @@ fn counted(found: Option<VirtualNumber>, count: u32) -> u32
     }
 }
 
-/// How many needed numbers have their pages in a segment. It looks at each block of the segment, and takes no memory.
+/// How many needed numbers have their pages in a segment. It looks at each block of the segment, and takes no
+/// memory.
 pub fn count_needed<V: Vstore, K: Keeping>(store: &V, keeping: &K, segment: Segment) -> u32
     requires { segment < length (V.store store.now).segments.each }
     ensures { result ≡ needed_count (V.store store.now) (by_period (K.test keeping.now)) segment }
@@ -107,7 +108,8 @@ fn noted(
     Ok(count + 1)
 }
 
-/// The first needed numbers of a segment, up to a limit, and how many there are. It looks at each block of the segment.
+/// The first needed numbers of a segment, up to a limit, and how many there are. It looks at each block of
+/// the segment.
 pub fn first_needed<V: Vstore, K: Keeping>(
     alloc: Global,
     store: &V,

@@ -23,8 +23,8 @@ fn free_unneeded<V: Vstore>(store: &mut V, needed: u32, segment: Segment) -> Res
     Ok(store.reclaim(segment))
 }
 
-/// Takes the numbers out of use whose pages stand in a segment, and makes the segment clean. It answers how many they were.
-/// The caller tells how many of them are needed: they are not counted here.
+/// Takes the numbers out of use whose pages stand in a segment, and makes the segment clean. It answers how
+/// many they were. The caller tells how many of them are needed: they are not counted here.
 ///
 /// Refused as `judge` says, and then by `StillNeeded` where one of the numbers is needed. It takes no memory.
 pub fn retire<V: Vstore>(store: &mut V, needed: u32, segment: Segment) -> Result<u32, VolError>

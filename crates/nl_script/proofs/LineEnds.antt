@@ -7,12 +7,12 @@ use Rattle.nl_types.specs.declared.event.Event.{Event}
 use Rattle.nl_commands.specs.declared.command.Command.{Command}
 use Rattle.nl_commands.specs.declared.command.Command.TheVariants.{Catm, Lssu}
 use Rattle.nl_cpfile.specs.declared.table.Cpstat.{Cpstat}
-use Rattle.nl_texts.proofs.Appending.{OnOk-same}
+use Rattle.nl_texts.specs.Facts.Appending.{OnOk-same}
 use Rattle.nl_texts.specs.Texts.{Text}
 use Rattle.nl_script.specs.ExitStatus.{status_of}
 use Rattle.nl_protect.specs.declared.config.Config.{Config}
 use Rattle.nl_script.specs.Habits.{Habits}
-use Rattle.nl_script.specs.Lines.{AreEventsDone, AreListed, AreOutcomesTold, AreFilesTold, ComesTo, IsCommandDone, IsListingRefused, LacksMemory, LineEnd, ended, refused}
+use Rattle.nl_script.specs.Lines.{AreEventsDone, AreListed, AreOutcomesTold, AreFilesTold, ComesTo, IsCommandDone, IsListingRefused, LacksMemory, LineEnd, line_end, refused}
 use Rattle.nl_script.specs.OutcomeTexts.{text_of}
 use Rattle.nl_script.specs.Outcomes.{is_quiet}
 use Rattle.nl_script.specs.declared.status.Status.{Status}
@@ -39,7 +39,7 @@ told_end does counts number moment command old new events es replies rs quiet re
         events = events;
         replies = replies;
         done = done;
-        end_is = ap (λ (s : Status). ended moment s text) (status_is ∙ status);
+        end_is = ap (λ (s : Status). line_end moment s text) (status_is ∙ status);
       });
       written = OnOk-same result.1 before after _ _ texts written;
     }
@@ -59,9 +59,9 @@ pub listing_end : {S J X E : Type 0} (habits : Habits S J) (config : Config) (nu
     → ComesTo (λ end. IsCommandDone habits config number moment command old old end ⊎ LacksMemory number moment old old end) moment result before after
 listing_end habits config number moment all long command old result before after is told = record {
   text = told.text;
-  does = subst (λ (c : Command). IsCommandDone habits config number moment c old old (ended moment result.0 told.text)
-      ⊎ LacksMemory number moment old old (ended moment result.0 told.text)) (sym is)
-      (listing_cases habits config number moment all long old (ended moment result.0 told.text) told.does);
+  does = subst (λ (c : Command). IsCommandDone habits config number moment c old old (line_end moment result.0 told.text)
+      ⊎ LacksMemory number moment old old (line_end moment result.0 told.text)) (sym is)
+      (listing_cases habits config number moment all long old (line_end moment result.0 told.text) told.does);
   written = told.written;
 }
 
@@ -71,7 +71,7 @@ pub files_told_end : {S J X E : Type 0} (habits : Habits S J) (config : Config) 
     → ComesTo (λ end. AreFilesTold habits.does number moment mount given old new end ⊎ LacksMemory number moment old new end) moment result before after
     → ComesTo (λ end. IsCommandDone habits config number moment command old new end ⊎ LacksMemory number moment old new end) moment result before after
 files_told_end habits config number moment mount given paths command old new result before after is same told =
-    let end = ended moment result.0 told.text in
+    let end = line_end moment result.0 told.text in
     let done = subst (λ (ps : List (List ℕ)). AreFilesTold habits.does number moment mount ps old new end ⊎ LacksMemory number moment old new end) same told.does in
     record {
       text = told.text;

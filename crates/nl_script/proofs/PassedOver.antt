@@ -9,7 +9,7 @@ use Rattle.std.specs.Io.BufRead.{drop_through, ends_with_byte, first_piece, take
 use Rattle.std.specs.Io.KnownBytes.{Consumes, IsAtEnd}
 use Rattle.std.specs.Prelude.{◌&&◌, ◌==◌, slice_index}
 use Rattle.std.specs.Io.Iter.{u64_saturate}
-use Rattle.nl_script.specs.Turns.{IsNextIn, IsNextLine}
+use Rattle.nl_script.specs.Private.Turns.{IsNextIn, IsNextLine}
 use Rattle.nl_script.specs.declared.reading.Next.{Next}
 use Rattle.nl_script.specs.declared.reading.Next.TheVariants.{End, Unheld}
 

@@ -13,8 +13,8 @@ use Rattle.nl_texts.specs.declared.streams.StandardStream.TheVariants as stream
 use Rattle.nl_protect.specs.declared.config.Config.{Config}
 use Rattle.nl_script.specs.Habits.{Habits}
 use Rattle.nl_script.specs.Lines.{IsLineAnswered, LineEnd}
-use Rattle.nl_script.specs.Scripts.{AreLinesDone, AreWritten, BeginsSo, BeginsWithLines, IsRunSoFar, IsScriptDone, is_misread, is_refused, last_moment, number_behind, text_of_line, texts_of}
-use Rattle.nl_script.specs.Turns.{HasDoneLine, HasNoLine, HasStopped, IsNextLine}
+use Rattle.nl_script.specs.Scripts.{AreLinesDone, AreWritten, BeginsSo, BeginsWithLines, IsRunSoFar, IsScriptDone, ends_misread, ends_refused, last_moment, number_behind, text_of_line, texts_of}
+use Rattle.nl_script.specs.Private.Turns.{HasDoneLine, HasNoLine, HasStopped, IsNextLine}
 use Rattle.nl_script.specs.declared.scripts.Done.{Done}
 use Rattle.nl_script.proofs.ScriptLines.{AreLinesDone-more, BeginsWithLines-more, last_moment-more}
 
@@ -140,13 +140,13 @@ module _ {S J O : Type 0} (habits : Habits S J) (config : Config) (moment : ℕ)
         moment-more : after_done.moment ≡ last_moment moment ends-now
         moment-more = done_line.counted.moment_is ∙ sym (last_moment-more moment so_far.ends done_line.end)
 
-        misread-more : after_done.misread ≡ list_any is_misread ends-now
-        misread-more = done_line.counted.misread_is ∙ ap (λ (b : Bool). b || is_misread done_line.end) so_far.misread_is
-            ∙ sym (any-more is_misread so_far.ends done_line.end)
+        misread-more : after_done.misread ≡ list_any ends_misread ends-now
+        misread-more = done_line.counted.misread_is ∙ ap (λ (b : Bool). b || ends_misread done_line.end) so_far.misread_is
+            ∙ sym (any-more ends_misread so_far.ends done_line.end)
 
-        refused-more : after_done.refused ≡ list_any is_refused ends-now
-        refused-more = done_line.counted.refused_is ∙ ap (λ (b : Bool). b || is_refused done_line.end) so_far.refused_is
-            ∙ sym (any-more is_refused so_far.ends done_line.end)
+        refused-more : after_done.refused ≡ list_any ends_refused ends-now
+        refused-more = done_line.counted.refused_is ∙ ap (λ (b : Bool). b || ends_refused done_line.end) so_far.refused_is
+            ∙ sym (any-more ends_refused so_far.ends done_line.end)
 
         read-more : BeginsSo input lines-now behind
         read-more = begins-more input left behind so_far.lines done_line.line so_far.read done_line.next

@@ -15,7 +15,8 @@ abbrev pub configured : Result Config VolError → ConfigurationRead
 configured (Ok config) = Ok config
 configured (Err error) = Err (Refused error)
 
--- there is a text, which is that of the input where this is known, and it means this, unless memory is refused
+-- there is a text, which is that of the input where this is known, and it means this, unless memory is
+-- refused
 abbrev pub IsTextRead : Option (List ℕ) → ConfigurationRead → Type 0
 IsTextRead input read =
     (text : List ℕ) × IfSome input (λ bytes. text ≡ bytes)

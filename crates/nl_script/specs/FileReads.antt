@@ -19,7 +19,8 @@ use Rattle.nl_script.specs.Events.{asked}
 
 -- what each tree says that the mount's checkpoint had when it was mounted, unless memory is refused
 abbrev pub IsToldThrough : Claim → Ask → Reply → Type 0
-IsToldThrough m ask reply = (t : Tree) → TreeOn (image_of m.told.commits) m.checkpoint t → IsUnlessMemory reply (reply_to t ask)
+IsToldThrough m ask reply =
+    (t : Tree) → TreeOn (image_of m.told.commits) m.checkpoint t → IsUnlessMemory reply (reply_to t ask)
 
 -- a port tells what a tree says, unless memory is refused, or it doesn't find the mount
 abbrev pub IsToldBy : Tree → Ask → Reply → Type 0
@@ -37,12 +38,14 @@ is_bad_mount _ = false
 -- the first files, each in its place
 abbrev pub AreFirstFiles : Claim → (paths : List (List ℕ)) → List Reply → Type 0
 AreFirstFiles m paths [] = Unit {0}
-AreFirstFiles m (path ∷ paths) (reply ∷ replies) = IsToldThrough m (asked Content path) reply × AreFirstFiles m paths replies
+AreFirstFiles m (path ∷ paths) (reply ∷ replies) =
+    IsToldThrough m (asked Content path) reply × AreFirstFiles m paths replies
 AreFirstFiles m [] (reply ∷ replies) = ⊥
 
 -- what the mount's tree says is what a volume answers to reads of the mount, and nothing changes
 abbrev pub AnswersReads : {S : Type 0} → (S → Event → Reply → S → Type 0) → S → (mount : ℕ) → Claim → Type 0
-AnswersReads does s mount m = (ask : Ask) (reply : Reply) → IsToldThrough m ask reply → does s (MountRead mount ask) reply s
+AnswersReads does s mount m =
+    (ask : Ask) (reply : Reply) → IsToldThrough m ask reply → does s (MountRead mount ask) reply s
 
 -- a read of a whole file
 abbrev pub job_of : List ℕ → ReadJob

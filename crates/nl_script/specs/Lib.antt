@@ -7,6 +7,6 @@ pub mod FileReads
 pub mod Habits
 pub mod Lines
 pub mod Scripts
-pub mod Turns
 pub mod Configurations
 pub mod Files
+pub mod Private

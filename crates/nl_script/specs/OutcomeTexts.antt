@@ -8,7 +8,7 @@ use Rattle.nl_texts.specs.AnswerTexts.{number_text, content_text, stat_text, nam
 use Rattle.nl_texts.specs.CheckpointLines.{cp_header, cp_texts}
 use Rattle.nl_texts.specs.RefusalTexts.{refusal_text}
 use Rattle.nl_texts.specs.Texts.{Text}
-use Rattle.nl_script.specs.Outcomes.{Outcome, Answered, Refused, event_outcomes, is_told, outcomes_of}
+use Rattle.nl_script.specs.Outcomes.{LineOutcome, Answered, Refused, is_told, outcomes_of}
 
 -- that a change is done prints nothing
 abbrev pub answer_text : Answer → Text
@@ -25,16 +25,12 @@ answer_text (answer.Checkpoint number) = number_text number
 answer_text (answer.Mount mount) = number_text mount
 answer_text (answer.Rows rows) = cp_header ++ cp_texts rows
 
-abbrev pub outcome_text : (line : ℕ) → Outcome → Text
+abbrev pub outcome_text : (line : ℕ) → LineOutcome → Text
 outcome_text line (Answered answer) = answer_text answer
 outcome_text line (Refused number error) = refusal_text line number error
 
-abbrev pub told_text : (line : ℕ) (quiet : Bool) → List Outcome → Text
+abbrev pub told_text : (line : ℕ) (quiet : Bool) → List LineOutcome → Text
 told_text line quiet outcomes = flat_map (outcome_text line) (filter (is_told quiet) outcomes)
-
--- what is printed of one event
-abbrev pub event_text : (line : ℕ) (quiet : Bool) → Event → Reply → Text
-event_text line quiet event reply = told_text line quiet (event_outcomes event reply)
 
 -- what is printed of the events of a line
 abbrev pub text_of : (line : ℕ) (quiet : Bool) → List Event → List Reply → Text

@@ -12,30 +12,30 @@ use Rattle.nl_commands.specs.declared.command.Command.{Command}
 use Rattle.nl_commands.specs.declared.command.Command.TheVariants.{Rmcp}
 
 -- an answer, or a refusal, with the checkpoint's number where a line may have several
-pub data Outcome : Type 0 where
-  Answered : Answer → Outcome
-  Refused : Option ℕ → VolError → Outcome
+pub data LineOutcome : Type 0 where
+  Answered : Answer → LineOutcome
+  Refused : Option ℕ → VolError → LineOutcome
 
-abbrev pub outcome : Option ℕ → Reply → Outcome
+abbrev pub outcome : Option ℕ → Reply → LineOutcome
 outcome number (Ok answer) = Answered answer
 outcome number (Err error) = Refused number error
 
-abbrev pub stays_outcome : Stays → Outcome
+abbrev pub stays_outcome : Stays → LineOutcome
 stays_outcome stays = Refused (Some stays.number) stays.reason
 
 -- a range is refused whole, or each checkpoint that stays is told of
-abbrev pub range_outcomes : Reply → List Outcome
+abbrev pub range_outcomes : Reply → List LineOutcome
 range_outcomes (Ok (Removed range)) = map stays_outcome range.stayed
 range_outcomes (Ok answer) = Answered answer ∷ []
 range_outcomes (Err error) = Refused None error ∷ []
 
-abbrev pub event_outcomes : Event → Reply → List Outcome
+abbrev pub event_outcomes : Event → Reply → List LineOutcome
 event_outcomes (ChangeMode number mode) reply = outcome (Some number) reply ∷ []
 event_outcomes (Remove number) reply = outcome (Some number) reply ∷ []
 event_outcomes (RemoveRange first last) reply = range_outcomes reply
 event_outcomes _ reply = outcome None reply ∷ []
 
-abbrev pub all_outcomes : List Event → List Reply → List Outcome
+abbrev pub all_outcomes : List Event → List Reply → List LineOutcome
 all_outcomes (e ∷ events) (r ∷ replies) = event_outcomes e r ++ all_outcomes events replies
 all_outcomes _ _ = []
 
@@ -45,7 +45,7 @@ may_be_left_out NoCheckpoint = true
 may_be_left_out IsSnapshot = true
 may_be_left_out _ = false
 
-abbrev pub is_told : (quiet : Bool) → Outcome → Bool
+abbrev pub is_told : (quiet : Bool) → LineOutcome → Bool
 is_told quiet (Answered answer) = true
 is_told quiet (Refused number error) = not (quiet && may_be_left_out error)
 
@@ -53,5 +53,5 @@ abbrev pub is_quiet : Command → Bool
 is_quiet (Rmcp quiet ranges) = quiet
 is_quiet _ = false
 
-abbrev pub outcomes_of : (quiet : Bool) → List Event → List Reply → List Outcome
+abbrev pub outcomes_of : (quiet : Bool) → List Event → List Reply → List LineOutcome
 outcomes_of quiet events replies = filter (is_told quiet) (all_outcomes events replies)

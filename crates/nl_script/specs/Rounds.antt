@@ -51,7 +51,8 @@ AreSteps {S = S} {J = K} steps job old (reply ∷ replies) later new =
     (mid : S) × (next : K) × steps old job (Some reply) mid next × AreSteps steps next mid replies later new
 
 -- the steps of a round are done until none is left, and came to this
-pub record IsRoundOver {S J : Type 0} (steps : Steps S J) (job : J) (old new : S) (sum : RoundSum) : Type 0 where
+pub record IsRoundOver {S J : Type 0} (steps : Steps S J) (job : J) (old new : S)
+    (sum : RoundSum) : Type 0 where
   pub replies : List Reply
   pub later : J
   pub mid : S

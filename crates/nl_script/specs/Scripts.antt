@@ -3,6 +3,7 @@ use Rattle.std.specs.Prelude.{◌≡◌, ◌+◌, ◌-◌, ◌^◌, ◌<◌, ◌
 use Rattle.std.specs.Io.BufRead.{first_piece, drop_through}
 use Rattle.std.specs.Io.KnownBytes.{Appends}
 use Rattle.std.specs.List.{list_any, flat_map}
+use Rattle.nl_types.specs.Characters.{line_feed}
 use Rattle.nl_texts.specs.Texts.{Text}
 use Rattle.nl_texts.specs.declared.streams.StandardStream.{StandardStream}
 use Rattle.nl_texts.specs.declared.streams.StandardStream.TheVariants.{Input, Output}
@@ -35,11 +36,11 @@ abbrev pub is_refused_status : Status → Bool
 is_refused_status Refused = true
 is_refused_status _ = false
 
-abbrev pub is_misread : LineEnd → Bool
-is_misread end = is_misread_status end.status
+abbrev pub ends_misread : LineEnd → Bool
+ends_misread end = is_misread_status end.status
 
-abbrev pub is_refused : LineEnd → Bool
-is_refused end = is_refused_status end.status
+abbrev pub ends_refused : LineEnd → Bool
+ends_refused end = is_refused_status end.status
 
 abbrev pub text_of_line : LineEnd → Text
 text_of_line end = end.text
@@ -53,11 +54,13 @@ last_moment moment (end ∷ ends) = last_moment end.moment ends
 abbrev pub BeginsWithLines : List ℕ → List (List ℕ) → List ℕ → Type 0
 BeginsWithLines bytes [] rest = bytes ≡ rest
 BeginsWithLines bytes (line ∷ lines) rest =
-    (0 < length bytes) × (line ≡ first_piece 10 bytes) × BeginsWithLines (drop_through 10 bytes) lines rest
+    (0 < length bytes) × (line ≡ first_piece line_feed bytes)
+    × BeginsWithLines (drop_through line_feed bytes) lines rest
 
 -- where the bytes of the input are known
 abbrev pub BeginsSo : Option (List ℕ) → List (List ℕ) → Option (List ℕ) → Type 0
-BeginsSo input lines left = IfSome input (λ bytes. (rest : List ℕ) × (left ≡ Some rest) × BeginsWithLines bytes lines rest)
+BeginsSo input lines left =
+    IfSome input (λ bytes. (rest : List ℕ) × (left ≡ Some rest) × BeginsWithLines bytes lines rest)
 
 -- ---- what is written
 
@@ -65,7 +68,8 @@ abbrev pub texts_of : List LineEnd → Text
 texts_of ends = flat_map text_of_line ends
 
 -- the writer fails at the last line: it got the texts of those before
-pub record FailsAtLast {O : Type 0} (contents : O → Option Text) (before : O) (ends : List LineEnd) : Type 0 where
+pub record FailsAtLast {O : Type 0} (contents : O → Option Text) (before : O)
+    (ends : List LineEnd) : Type 0 where
   pub written : List LineEnd
   pub last : LineEnd
   pub ends_are : ends ≡ written ++ last ∷ []
@@ -73,38 +77,44 @@ pub record FailsAtLast {O : Type 0} (contents : O → Option Text) (before : O) 
   pub got : Appends (contents before) (contents mid) (texts_of written)
 
 -- all texts of the lines are written, unless the writer fails
-abbrev pub AreWritten : {O : Type 0} → Option StandardStream → (O → Option Text) → (before after : O) → List LineEnd → Type 0
+abbrev pub AreWritten : {O : Type 0} → Option StandardStream → (O → Option Text) → (before after : O)
+    → List LineEnd → Type 0
 AreWritten (Some Output) contents before after ends = FailsAtLast contents before ends
-AreWritten (Some Input) contents before after ends = Appends (contents before) (contents after) (texts_of ends)
+AreWritten (Some Input) contents before after ends =
+    Appends (contents before) (contents after) (texts_of ends)
 AreWritten None contents before after ends = Appends (contents before) (contents after) (texts_of ends)
 
 -- ---- the whole
 
 -- the lines of a script so far, of which none failed
-pub record IsRunSoFar {S J : Type 0} (habits : Habits S J) (config : Config) (moment : ℕ) (old now : S) (done : Done)
+pub record IsRunSoFar {S J : Type 0} (habits : Habits S J) (config : Config) (moment : ℕ) (old now : S)
+    (done : Done)
     (number : ℕ) (input left before after : Option Text) : Type 0 where
   pub lines : List (List ℕ)
   pub ends : List LineEnd
   pub are_done : AreLinesDone habits config 0 moment lines old now ends
   pub number_is : number ≡ length lines + 1
   pub moment_is : done.moment ≡ last_moment moment ends
-  pub misread_is : done.misread ≡ list_any is_misread ends
-  pub refused_is : done.refused ≡ list_any is_refused ends
+  pub misread_is : done.misread ≡ list_any ends_misread ends
+  pub refused_is : done.refused ≡ list_any ends_refused ends
   pub written : Appends before after (texts_of ends)
   pub read : BeginsSo input lines left
 
--- What came of a script. Each flag is given by one of the lines. Unless a stream failed, they are all lines of the input. All
--- of their texts are written, but that of the last where the writer failed; so no line behind it is done.
-pub record IsScriptDone {S J O : Type 0} (habits : Habits S J) (config : Config) (moment : ℕ) (old new : S) (done : Done)
+-- What came of a script. Each flag is given by one of the lines. Unless a stream failed, they are all lines
+-- of the input. All of their texts are written, but that of the last where the writer failed; so no line
+-- behind it is done.
+pub record IsScriptDone {S J O : Type 0} (habits : Habits S J) (config : Config) (moment : ℕ) (old new : S)
+    (done : Done)
     (input : Option Text) (contents : O → Option Text) (before after : O) : Type 0 where
   pub lines : List (List ℕ)
   pub ends : List LineEnd
   pub are_done : AreLinesDone habits config 0 moment lines old new ends
   pub moment_is : done.moment ≡ last_moment moment ends
-  pub misread_is : done.misread ≡ list_any is_misread ends
-  pub refused_is : done.refused ≡ list_any is_refused ends
+  pub misread_is : done.misread ≡ list_any ends_misread ends
+  pub refused_is : done.refused ≡ list_any ends_refused ends
   pub written : AreWritten done.failed contents before after ends
-  pub read : IfSome input (λ bytes. (rest : List ℕ) × BeginsWithLines bytes lines rest × (done.failed ≡ None → rest ≡ []))
+  pub read : IfSome input
+      (λ bytes. (rest : List ℕ) × BeginsWithLines bytes lines rest × (done.failed ≡ None → rest ≡ []))
 
 -- what the process ends with
 abbrev pub exit_status : Done → ℕ

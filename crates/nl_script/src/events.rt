@@ -141,8 +141,8 @@ fn at_most_u32(segments: u64) -> u32
     segments.min(u32::MAX as u64) as u32
 }
 
-/// The events that a command asks for at a moment, in whole seconds. A range of checkpoints that is open to the right ends
-/// at the latest one. Refused by want of memory alone.
+/// The events that a command asks for at a moment, in whole seconds. A range of checkpoints that is open to
+/// the right ends at the latest one. Refused by want of memory alone.
 pub fn events_of(
     alloc: Global,
     moment: u64,

@@ -10,7 +10,8 @@ use std::path::{Path, PathBuf};
 use std::rt::Files;
 use std::{fs, io, str};
 
-/// What is put behind a file's name while the file that is to replace it is written. No other file has such a name.
+/// What is put behind a file's name while the file that is to replace it is written. No other file has such a
+/// name.
 const UNFINISHED: &str = "nlvol-save";
 
 /// Why what a file is to hold isn't there.
@@ -96,9 +97,8 @@ fn behind_links<R: AllocGlobal + Files>(rt: &R, path: &str) -> io::Result<PathBu
 /// What is told of the file at a path, or none where nothing is there yet.
 fn old_file<R: Files>(files: &R, path: Path<'_>) -> io::Result<Option<Metadata>> {
     match fs::metadata(files, path) {
-        Ok(old) => Ok(Some(old)),
         Err(error) if is_absent(&error) => Ok(None),
-        Err(error) => Err(error),
+        found => found.map(Some),
     }
 }
 
@@ -123,7 +123,8 @@ fn write_new<R: Files>(
     file.sync_all()
 }
 
-/// Writes a new file, and then puts it in the place of the old one, if there is one. Where that fails the old one stays.
+/// Writes a new file, and then puts it in the place of the old one, if there is one. Where that fails the old
+/// one stays.
 fn replace<R: Files>(
     files: &R,
     path: &str,
@@ -131,10 +132,9 @@ fn replace<R: Files>(
     old: Option<&Metadata>,
     bytes: &[u8],
 ) -> io::Result<()> {
-    let written = match write_new(files, unfinished, old, bytes) {
-        Ok(()) => fs::rename(files, unfinished, path),
-        Err(error) => Err(error),
-    };
+    let written = write_new(files, unfinished, old, bytes).and_then(|()| fs::rename(
+        files, unfinished, path,
+    ));
     if written.is_err() {
         // Where it can't be taken away either, it is written over the next time.
         let _ = fs::remove_file(files, unfinished);
@@ -142,9 +142,9 @@ fn replace<R: Files>(
     written
 }
 
-/// Writes a file. An old one at the path is replaced whole or not at all: the new one is written beside it, under its name
-/// with `.nlvol-save` behind, and renamed once all is stored. It has the old one's permissions. Links are followed. What is
-/// no file, such as a device, is written to as it is.
+/// Writes a file. An old one at the path is replaced whole or not at all: the new one is written beside it,
+/// under its name with `.nlvol-save` behind, and renamed once all is stored. It has the old one's
+/// permissions. Links are followed. What is no file, such as a device, is written to as it is.
 pub fn write_file<R: AllocGlobal + Files>(rt: &R, path: &[u8], bytes: &[u8]) -> io::Result<()> {
     let path = str::from_utf8(path).map_err(|_| io::Error::from(ErrorKind::InvalidInput))?;
     let target = behind_links(rt, path)?;

@@ -1,4 +1,8 @@
-//! Scripts over a volume: each line's command becomes events, and what these came to becomes text and a status.
+//! Scripts over a volume: each line's command becomes events, and what these came to becomes text and a
+//! status.
+//!
+//! What no other crate calls is public too, where its contract is one that docs/PROOFS.md names: a promise is
+//! kept by public contracts alone.
 #![tactic(auto)]
 
 mod configurations;
@@ -17,11 +21,11 @@ mod volume;
 pub use configurations::configuration;
 pub use events::{events_of, is_quiet};
 pub use files::{FileFault, read_file, write_file};
-pub use lines::{LineResult, run_line};
+pub use lines::run_line;
 pub use readers::{Readers, is_bad_mount, reply_of};
 pub use rounds::RoundSum;
 pub use running::run_events;
 pub use scripts::{Done, script};
-pub use status::Status;
-pub use telling::{line_status, tell_all};
+pub use status::{LineResult, Status};
+pub use telling::tell_all;
 pub use volume::Volume;

@@ -5,21 +5,20 @@ ghost use Rattle.std.specs.List.{list_all, list_any};
 ghost use Rattle.nl_texts.specs.RefusalTexts.{refusal_text};
 ghost use Rattle.nl_texts.specs.SegmentLines.{seg_header, seg_texts};
 ghost use Rattle.nl_types.specs.Worlds.{Reply};
-ghost use Rattle.nl_script.specs.ExitStatus.{refused_if, status_of};
+ghost use Rattle.nl_script.specs.ExitStatus.{status_if_refused};
 ghost use Rattle.nl_types.specs.Runs.{Run};
 ghost use Rattle.nl_script.specs.Events.{reading};
 ghost use Rattle.nl_script.specs.FileReads.{is_bad_mount};
-ghost use Rattle.nl_script.specs.Lines.{AreAllTold, AreEventsDone, AreFilesTold, AreListed, AreOutcomesTold, AreTold, ComesTo, IsCommandDone, IsLatestFor, IsLineDone, IsListingRefused, IsNeededRefused, IsNeededTold, IsRoundDone, IsRowRefused, IsRowTold, IsUntold, IsUntoldBelow, LacksMemory, ended, files_end, is_open, is_since, refused};
+ghost use Rattle.nl_script.specs.Lines.{AreAllTold, AreEventsDone, AreFilesTold, AreListed, AreOutcomesTold, AreTold, ComesTo, IsCommandDone, IsLatestFor, IsLineDone, IsListingRefused, IsNeededRefused, IsNeededTold, IsRoundDone, IsRowRefused, IsRowTold, IsUntold, IsUntoldBelow, LacksMemory, line_end, files_end, is_open, is_since, refused};
 ghost use Rattle.nl_script.specs.Rounds.{IsRoundOver, round_text};
 ghost use Rattle.nl_script.specs.declared.rounds.RoundSum.{RoundSum};
-ghost use Rattle.nl_script.specs.OutcomeTexts.{text_of};
 
 use crate::events::{events_of, is_quiet, readings};
 use crate::readers::{Readers, is_bad_mount};
 use crate::rounds::{RoundSum, run_steps, tell_round};
 use crate::running::{run_events, run_rest};
-use crate::status::Status;
-use crate::telling::{line_status, tell_all};
+use crate::status::{LineResult, Status};
+use crate::telling::tell_all;
 use crate::volume::Volume;
 use nl_commands::{CheckpointRange, Command, LineError, read_line};
 use nl_protect::Config;
@@ -30,9 +29,6 @@ use std::alloc::{AllocError, Global};
 use std::io;
 use std::io::Write;
 use std::thread::Threads;
-
-/// What a line makes of the status, and whether what is told of it was written.
-pub type LineResult = (Status, io::Result<()>);
 
 /// Tells that a line is refused as a whole.
 fn refused<W: Write>(number: u64, error: VolError, out: &mut W) -> LineResult
@@ -101,24 +97,6 @@ fn do_events<V: Volume>(
     Ok((events, replies))
 }
 
-fn tell_done<W: Write>(
-    number: u64,
-    quiet: bool,
-    events: &[Event],
-    replies: &[Reply],
-    out: &mut W,
-) -> LineResult
-    requires { length events.now ≡ length replies.now }
-    ensures status { result.0 ≡ status_of quiet events.now replies.now }
-    ensures written { OnOk result.1 (Appends (W.contents out.old) (W.contents out.new)
-        (text_of number quiet events.now replies.now)) }
-{
-    (
-        line_status(quiet, events, replies),
-        tell_all(number, quiet, events, replies, out),
-    )
-}
-
 fn run_all<V: Volume, W: Write>(
     alloc: Global,
     volume: &mut V,
@@ -135,7 +113,7 @@ fn run_all<V: Volume, W: Write>(
     let quiet = is_quiet(&command);
     match do_events(alloc, volume, moment, command) {
         Ok((events, replies)) => {
-            tell_done(number, quiet, events.as_slice(), replies.as_slice(), out)
+            tell_all(number, quiet, events.as_slice(), replies.as_slice(), out)
         }
         Err(_) => refused(number, VolError::Memory, out),
     }
@@ -239,7 +217,7 @@ fn tell_segments<W: Write>(
 }
 
 fn round_status(sum: RoundSum) -> Status
-    ensures { result ≡ refused_if (is_some sum.refusal) }
+    ensures { result ≡ status_if_refused (is_some sum.refusal) }
 {
     match sum.refusal {
         Some(_) => Status::Refused,
@@ -256,7 +234,7 @@ fn run_round<V: Volume, W: Write>(
 ) -> LineResult
     ensures { (moment : ℕ) → ComesTo (λ end. (sum : RoundSum)
         × IsRoundOver V.habits.steps job volume.old volume.new sum
-        × (end ≡ ended moment (refused_if (is_some sum.refusal)) (round_text number sum)))
+        × (end ≡ line_end moment (status_if_refused (is_some sum.refusal)) (round_text number sum)))
         moment result (W.contents out.old) (W.contents out.new) }
 {
     let sum = run_steps(volume, job);
@@ -338,7 +316,7 @@ fn tell_files<W: Write>(number: u64, events: &[Event], replies: &[Reply], out: &
     if are_bad_mounts(replies) {
         refused(number, VolError::BadMount, out)
     } else {
-        tell_done(number, false, events, replies, out)
+        tell_all(number, false, events, replies, out)
     }
 }
 
@@ -394,8 +372,8 @@ fn run_command<V: Volume, R: Threads + Sync, W: Write>(
     }
 }
 
-/// Runs a line, without its line break, and writes what is told of it. Rounds of cleaning go by the configuration, and files of
-/// a mount are read by the readers.
+/// Runs a line, without its line break, and writes what is told of it. Rounds of cleaning go by the
+/// configuration, and files of a mount are read by the readers.
 pub fn run_line<V: Volume, R: Threads + Sync, W: Write>(
     alloc: Global,
     volume: &mut V,

@@ -52,10 +52,7 @@ pub fn reply_of(answer: JobAnswer) -> Reply
     ensures shows { (expected : Reply) → ShowsUnlessMemory answered.Bytes answer expected
         → IsUnlessMemory result expected }
 {
-    match answer {
-        Ok(bytes) => Ok(Answer::Bytes(bytes)),
-        Err(refusal) => Err(refusal),
-    }
+    Ok(Answer::Bytes(answer?))
 }
 
 fn replies_of(alloc: Global, answers: Vec<JobAnswer>) -> Result<Vec<Reply>, AllocError>
@@ -84,8 +81,8 @@ fn count_found(replies: &[Reply]) -> usize
 }
 
 impl<J: Volumes + Send + Sync, R: Threads + Sync> Readers<'_, J, R> {
-    /// Reads whole files of a mount side by side, and answers the first of them: those before one whose port doesn't find the
-    /// mount, and none without ports.
+    /// Reads whole files of a mount side by side, and answers the first of them: those before one whose port
+    /// doesn't find the mount, and none without ports.
     ///
     /// # Errors
     /// `Memory`. Each file has refusals of its own.

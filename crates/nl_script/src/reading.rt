@@ -3,7 +3,7 @@ ghost use Rattle.std.specs.Prelude.{◌≡◌, ◌<◌, Option, List, length, �
 ghost use Rattle.std.specs.Io.{StopsAt};
 ghost use Rattle.std.specs.Io.BufRead.{ends_with_byte, strip_last};
 ghost use Rattle.std.specs.Io.KnownBytes.{Consumes};
-ghost use Rattle.nl_script.specs.Turns.{IsNextIn};
+ghost use Rattle.nl_script.specs.Private.Turns.{IsNextIn};
 
 use nl_types::Items;
 use std::alloc::Global;
@@ -52,7 +52,8 @@ fn at_end(begun: &[u8]) -> Next
     }
 }
 
-/// Passes over a line that begins so, up to its line feed, which may have been read already. It takes no memory.
+/// Passes over a line that begins so, up to its line feed, which may have been read already. It takes no
+/// memory.
 fn pass_over<I: BufRead>(begun: &[u8], input: &mut I) -> Next
     ensures { (whole : Option (List ℕ)) → Consumes whole (I.remaining input.old) begun.now
         → StopsAt begun.now 10 → IsNextIn whole (I.remaining input.new) result }

@@ -7,7 +7,8 @@ use crate::volume::Volume;
 use nl_types::{Event, Reply};
 use std::alloc::{AllocError, Global};
 
-/// Does the events that are not answered yet, in order. Refused by want of memory before the first of them, or not at all.
+/// Does the events that are not answered yet, in order. Refused by want of memory before the first of them,
+/// or not at all.
 pub(crate) fn run_rest<V: Volume>(
     volume: &mut V,
     events: &[Event],

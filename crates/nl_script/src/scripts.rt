@@ -4,12 +4,12 @@ ghost use Rattle.std.specs.Io.KnownBytes.{Appends};
 ghost use Rattle.nl_texts.specs.RefusalTexts.{refusal_text};
 ghost use Rattle.nl_script.specs.Lines.{ComesTo, IsLineDone, LineEnd, refused};
 ghost use Rattle.nl_script.specs.Scripts.{IsScriptDone, exit_status, is_misread_status, is_refused_status};
-ghost use Rattle.nl_script.specs.Turns.{HasDoneLine, HasStopped, IsCounted};
+ghost use Rattle.nl_script.specs.Private.Turns.{HasDoneLine, HasStopped, IsCounted};
 
-use crate::lines::{LineResult, run_line};
+use crate::lines::run_line;
 use crate::readers::Readers;
 use crate::reading::{Next, next_line};
-use crate::status::Status;
+use crate::status::{LineResult, Status};
 use crate::volume::Volume;
 use nl_protect::Config;
 use nl_texts::{self as texts, StandardStream};
@@ -33,7 +33,8 @@ pub struct Done {
 }
 
 impl Done {
-    /// What the process ends with: 2 where a line was no command, else 1 where one was refused or a stream failed, else 0.
+    /// What the process ends with: 2 where a line was no command, else 1 where one was refused or a stream
+    /// failed, else 0.
     pub fn exit_status(self) -> u8
         ensures { result ≡ exit_status self }
     {
@@ -95,7 +96,8 @@ fn run_flushed<V: Volume, R: Threads + Sync, W: Write>(
     }
 }
 
-/// Runs a line, and counts what it came to. Returns whether the script goes on: what is told of the line was written.
+/// Runs a line, and counts what it came to. Returns whether the script goes on: what is told of the line was
+/// written.
 fn run_counted<V: Volume, R: Threads + Sync, W: Write>(
     alloc: Global,
     volume: &mut V,
@@ -183,9 +185,10 @@ fn run_next<V: Volume, R: Threads + Sync, I: BufRead, O: Write>(
     }
 }
 
-/// Runs the lines up to the end of the input, or until a stream fails: a line that is read in part isn't done, and what
-/// follows one that can't be told of isn't done either. A line that there is no memory for is refused by `Memory`, and the
-/// script goes on behind it. Rounds of cleaning go by the configuration, and files of a mount are read by the readers.
+/// Runs the lines up to the end of the input, or until a stream fails: a line that is read in part isn't
+/// done, and what follows one that can't be told of isn't done either. A line that there is no memory for is
+/// refused by `Memory`, and the script goes on behind it. Rounds of cleaning go by the configuration, and
+/// files of a mount are read by the readers.
 pub fn script<V: Volume, R: Threads + Sync, I: BufRead + Drop, O: Write>(
     alloc: Global,
     volume: &mut V,

@@ -1,5 +1,7 @@
 //! What a line makes of the exit status.
 
+use std::io;
+
 /// What a line came to.
 #[derive(Clone, Copy, Debug, PartialEq, Eq)]
 pub enum Status {
@@ -10,3 +12,6 @@ pub enum Status {
     /// It was no command.
     Misread,
 }
+
+/// What a line makes of the status, and whether what is told of it was written.
+pub type LineResult = (Status, io::Result<()>);

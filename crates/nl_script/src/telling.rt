@@ -1,19 +1,19 @@
-//! What is told of events and their replies.
-ghost use Rattle.std.specs.Prelude.{◌≡◌, ◌∷◌, [], Ok, Some, map, length, OnOk};
+//! What is told of events and their replies. One pass tells of them, and counts the refusals.
+ghost use Rattle.std.specs.Prelude.{◌≡◌, ◌∷◌, [], ◌++◌, ◌&&◌, map, length, OnOk};
 ghost use Rattle.std.specs.Io.KnownBytes.{Appends};
-ghost use Rattle.std.specs.Prelude.{◌++◌, ◌&&◌, ℕ, Option, filter};
 ghost use Rattle.nl_texts.specs.CheckpointLines.{cp_header, cp_texts};
-ghost use Rattle.nl_script.specs.Outcomes.{Refused, is_told, may_be_left_out, outcome, range_outcomes, event_outcomes, all_outcomes, stays_outcome};
-ghost use Rattle.nl_script.specs.OutcomeTexts.{answer_text, event_text, told_text, text_of};
-ghost use Rattle.nl_script.specs.ExitStatus.{has_refusal, is_refused, status_of};
+ghost use Rattle.nl_script.specs.Outcomes.{Refused, all_outcomes, event_outcomes, may_be_left_out, outcome, range_outcomes, stays_outcome};
+ghost use Rattle.nl_script.specs.OutcomeTexts.{answer_text, text_of};
+ghost use Rattle.nl_script.specs.ExitStatus.{status_if_refused, status_of};
+ghost use Rattle.nl_script.specs.Private.Tellings.{HasTold};
 
-use crate::status::Status;
+use crate::status::{LineResult, Status};
 use nl_texts as texts;
-use nl_types::{Answer, CheckpointNumber, Event, Reply, Row, Stays, VolError};
+use nl_types::{Answer, Event, Reply, Row, Stays, VolError};
 use std::io;
 use std::io::Write;
 
-fn tell_rows<W: Write>(rows: &[Row], out: &mut W) -> io::Result<()>
+fn write_rows<W: Write>(rows: &[Row], out: &mut W) -> io::Result<()>
     ensures { OnOk result (Appends (W.contents out.old) (W.contents out.new)
         (cp_header ++ cp_texts rows.now)) }
 {
@@ -21,7 +21,7 @@ fn tell_rows<W: Write>(rows: &[Row], out: &mut W) -> io::Result<()>
     texts::cp_lines(rows, out)
 }
 
-fn tell_answer<W: Write>(answer: &Answer, out: &mut W) -> io::Result<()>
+fn write_answer<W: Write>(answer: &Answer, out: &mut W) -> io::Result<()>
     ensures { OnOk result (Appends (W.contents out.old) (W.contents out.new)
         (answer_text answer.now)) }
 {
@@ -33,8 +33,17 @@ fn tell_answer<W: Write>(answer: &Answer, out: &mut W) -> io::Result<()>
         Answer::Stat(stat) => texts::stat_text(*stat, out),
         Answer::Checkpoint(number) => texts::number_line(number.get(), out),
         Answer::Mount(mount) => texts::number_line(mount.get(), out),
-        Answer::Rows(rows) => tell_rows(rows.as_slice(), out),
+        Answer::Rows(rows) => write_rows(rows.as_slice(), out),
     }
+}
+
+/// What was told so far. Where the writer failed it is given nothing more, and refusals are counted on.
+#[derive(Drop)]
+struct Told {
+    /// A refusal is among it.
+    refused: bool,
+    /// All of it was written.
+    written: io::Result<()>,
 }
 
 fn may_be_left_out(error: VolError) -> bool
@@ -54,14 +63,22 @@ fn tell_refusal<W: Write>(
     quiet: bool,
     number: Option<u64>,
     error: VolError,
+    told: Told,
     out: &mut W,
-) -> io::Result<()>
-    ensures { OnOk result (Appends (W.contents out.old) (W.contents out.new)
-        (told_text line quiet (Refused number error ∷ []))) }
+) -> Told
+    ensures { HasTold line quiet (Refused number error ∷ []) told result
+        (W.contents out.old) (W.contents out.new) }
 {
-    match is_left_out(quiet, error) {
-        true => Ok(()),
-        false => texts::refusal_text(line, number, error, out),
+    if is_left_out(quiet, error) {
+        return told;
+    }
+    let written = match told.written {
+        Ok(()) => texts::refusal_text(line, number, error, out),
+        failed => failed,
+    };
+    Told {
+        refused: true,
+        written,
     }
 }
 
@@ -70,51 +87,60 @@ fn tell_reply<W: Write>(
     quiet: bool,
     number: Option<u64>,
     reply: &Reply,
+    told: Told,
     out: &mut W,
-) -> io::Result<()>
-    ensures { OnOk result (Appends (W.contents out.old) (W.contents out.new)
-        (told_text line quiet (outcome number reply.now ∷ []))) }
+) -> Told
+    ensures { HasTold line quiet (outcome number reply.now ∷ []) told result
+        (W.contents out.old) (W.contents out.new) }
 {
     match reply {
-        Ok(answer) => tell_answer(answer, out),
-        Err(error) => tell_refusal(line, quiet, number, *error, out),
+        Ok(answer) => {
+            let written = match told.written {
+                Ok(()) => write_answer(answer, out),
+                failed => failed,
+            };
+            Told {
+                refused: told.refused,
+                written,
+            }
+        }
+        Err(error) => tell_refusal(line, quiet, number, *error, told, out),
     }
 }
 
-fn tell_stays<W: Write>(line: u64, quiet: bool, stays: &Stays, out: &mut W) -> io::Result<()>
-    ensures { OnOk result (Appends (W.contents out.old) (W.contents out.new)
-        (told_text line quiet (stays_outcome stays.now ∷ []))) }
+fn tell_stays<W: Write>(line: u64, quiet: bool, stays: &Stays, told: Told, out: &mut W) -> Told
+    ensures { HasTold line quiet (stays_outcome stays.now ∷ []) told result
+        (W.contents out.old) (W.contents out.new) }
 {
-    tell_refusal(line, quiet, Some(stays.number.get()), stays.reason, out)
+    let number = stays.number.get();
+    tell_refusal(line, quiet, Some(number), stays.reason, told, out)
 }
 
-fn tell_stayed<W: Write>(line: u64, quiet: bool, stayed: &[Stays], out: &mut W) -> io::Result<()>
-    ensures { OnOk result (Appends (W.contents out.old) (W.contents out.new)
-        (told_text line quiet (map stays_outcome stayed.now))) }
+fn tell_stayed<W: Write>(
+    line: u64,
+    quiet: bool,
+    stayed: &[Stays],
+    mut told: Told,
+    out: &mut W,
+) -> Told
+    ensures { HasTold line quiet (map stays_outcome stayed.now) told result
+        (W.contents out.old) (W.contents out.new) }
 {
     for stays in stayed {
-        tell_stays(line, quiet, stays, out)?;
+        told = tell_stays(line, quiet, stays, told, out);
     }
-    Ok(())
+    told
 }
 
-fn tell_answered<W: Write>(line: u64, quiet: bool, answer: &Answer, out: &mut W) -> io::Result<()>
-    ensures { OnOk result (Appends (W.contents out.old) (W.contents out.new)
-        (told_text line quiet (range_outcomes (Ok answer.now)))) }
-{
-    match answer {
-        Answer::Removed(range) => tell_stayed(line, quiet, range.stayed.as_slice(), out),
-        _ => tell_answer(answer, out),
-    }
-}
-
-fn tell_range<W: Write>(line: u64, quiet: bool, reply: &Reply, out: &mut W) -> io::Result<()>
-    ensures { OnOk result (Appends (W.contents out.old) (W.contents out.new)
-        (told_text line quiet (range_outcomes reply.now))) }
+fn tell_range<W: Write>(line: u64, quiet: bool, reply: &Reply, told: Told, out: &mut W) -> Told
+    ensures { HasTold line quiet (range_outcomes reply.now) told result
+        (W.contents out.old) (W.contents out.new) }
 {
     match reply {
-        Ok(answer) => tell_answered(line, quiet, answer, out),
-        Err(error) => tell_refusal(line, quiet, None, *error, out),
+        Ok(Answer::Removed(range)) => {
+            tell_stayed(line, quiet, range.stayed.as_slice(), told, out)
+        }
+        _ => tell_reply(line, quiet, None, reply, told, out),
     }
 }
 
@@ -123,107 +149,68 @@ fn tell_event<W: Write>(
     quiet: bool,
     event: &Event,
     reply: &Reply,
+    told: Told,
     out: &mut W,
-) -> io::Result<()>
-    ensures { OnOk result (Appends (W.contents out.old) (W.contents out.new)
-        (event_text line quiet event.now reply.now)) }
+) -> Told
+    ensures { HasTold line quiet (event_outcomes event.now reply.now) told result
+        (W.contents out.old) (W.contents out.new) }
 {
     match event {
         Event::ChangeMode(number, _) | Event::Remove(number) => {
-            tell_reply(line, quiet, Some(number.get()), reply, out)
+            tell_reply(line, quiet, Some(number.get()), reply, told, out)
         }
-        Event::RemoveRange { .. } => tell_range(line, quiet, reply, out),
-        _ => tell_reply(line, quiet, None, reply, out),
+        Event::RemoveRange { .. } => tell_range(line, quiet, reply, told, out),
+        _ => tell_reply(line, quiet, None, reply, told, out),
     }
 }
 
-/// Writes what is told of the events of a line, in their order. Where `quiet`, refusals because a checkpoint is not kept or
-/// is a snapshot are left out.
+fn tell_events<W: Write>(
+    line: u64,
+    quiet: bool,
+    events: &[Event],
+    replies: &[Reply],
+    mut told: Told,
+    out: &mut W,
+) -> Told
+    requires { length events.now ≡ length replies.now }
+    ensures { HasTold line quiet (all_outcomes events.now replies.now) told result
+        (W.contents out.old) (W.contents out.new) }
+{
+    for (index, event) in events.iter().enumerate() {
+        told = tell_event(line, quiet, event, &replies[index], told, out);
+    }
+    told
+}
+
+fn status_if_refused(refused: bool) -> Status
+    ensures { result ≡ status_if_refused refused }
+{
+    if refused {
+        Status::Refused
+    } else {
+        Status::Fine
+    }
+}
+
+/// Writes what is told of the events of a line, in their order. Where `quiet`, refusals because a checkpoint
+/// is not kept or is a snapshot are left out. A refusal that is told of counts for the status, also where it
+/// isn't written because the writer fails.
 pub fn tell_all<W: Write>(
     line: u64,
     quiet: bool,
     events: &[Event],
     replies: &[Reply],
     out: &mut W,
-) -> io::Result<()>
+) -> LineResult
     requires { length events.now ≡ length replies.now }
-    ensures { OnOk result (Appends (W.contents out.old) (W.contents out.new)
+    ensures status { result.0 ≡ status_of quiet events.now replies.now }
+    ensures written { OnOk result.1 (Appends (W.contents out.old) (W.contents out.new)
         (text_of line quiet events.now replies.now)) }
 {
-    for (index, event) in events.iter().enumerate() {
-        tell_event(line, quiet, event, &replies[index], out)?;
-    }
-    Ok(())
-}
-
-fn is_reply_refused(quiet: bool, reply: &Reply) -> bool
-    ensures { (number : Option ℕ)
-        → result ≡ has_refusal (filter (is_told quiet) (outcome number reply.now ∷ [])) }
-{
-    match reply {
-        Ok(_) => false,
-        Err(error) => !is_left_out(quiet, *error),
-    }
-}
-
-fn has_refused_stay(quiet: bool, stayed: &[Stays]) -> bool
-    ensures { result ≡ has_refusal (filter (is_told quiet) (map stays_outcome stayed.now)) }
-{
-    for stays in stayed {
-        if !is_left_out(quiet, stays.reason) {
-            return true;
-        }
-    }
-    false
-}
-
-fn has_refused(quiet: bool, answer: &Answer) -> bool
-    ensures { result ≡ has_refusal (filter (is_told quiet) (range_outcomes (Ok answer.now))) }
-{
-    match answer {
-        Answer::Removed(range) => has_refused_stay(quiet, range.stayed.as_slice()),
-        _ => false,
-    }
-}
-
-fn is_range_refused(quiet: bool, reply: &Reply) -> bool
-    ensures { result ≡ has_refusal (filter (is_told quiet) (range_outcomes reply.now)) }
-{
-    match reply {
-        Ok(answer) => has_refused(quiet, answer),
-        Err(error) => !is_left_out(quiet, *error),
-    }
-}
-
-fn is_event_refused(quiet: bool, event: &Event, reply: &Reply) -> bool
-    ensures { result ≡ has_refusal (filter (is_told quiet) (event_outcomes event.now reply.now)) }
-{
-    match event {
-        Event::RemoveRange { .. } => is_range_refused(quiet, reply),
-        _ => is_reply_refused(quiet, reply),
-    }
-}
-
-/// Whether a refusal of the events of a line is told of.
-fn is_refused(quiet: bool, events: &[Event], replies: &[Reply]) -> bool
-    requires { length events.now ≡ length replies.now }
-    ensures { result ≡ is_refused quiet events.now replies.now }
-{
-    for (index, event) in events.iter().enumerate() {
-        if is_event_refused(quiet, event, &replies[index]) {
-            return true;
-        }
-    }
-    false
-}
-
-/// What the events of a line make of the status: a refusal that is told of counts.
-pub fn line_status(quiet: bool, events: &[Event], replies: &[Reply]) -> Status
-    requires { length events.now ≡ length replies.now }
-    ensures { result ≡ status_of quiet events.now replies.now }
-{
-    match is_refused(quiet, events, replies) {
-        true => Status::Refused,
-        false => Status::Fine,
-    }
+    let nothing = Told {
+        refused: false,
+        written: Ok(()),
+    };
+    let told = tell_events(line, quiet, events, replies, nothing, out);
+    (status_if_refused(told.refused), told.written)
 }

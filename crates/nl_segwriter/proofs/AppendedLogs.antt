@@ -4,15 +4,16 @@ use Rattle.std.proofs.lemmas.List.{length-map, map-append, length-take-le, take-
 use Rattle.std.specs.List.{AllByRecursion}
 use Rattle.nl_types.specs.declared.segment.Log.{Log}
 use Rattle.nl_types.specs.Segments.{Segments, AreTidy}
-use Rattle.nl_types.specs.Placing.{IsLog, AreNextLogs, LogsFit, first_block, addresses, payload_count, row_of, with_logs}
-use Rattle.nl_types.proofs.NextLogs.{placed}
-use Rattle.nl_types.proofs.UsedParts.{are_unused, payload_used}
+use Rattle.nl_types.specs.Placing.{IsLog, AreNextLogs, LogsFit, first_block, addresses, payload_count, blocks_from, with_logs}
+use Rattle.nl_types.specs.Facts.NextLogs.{placed}
+use Rattle.nl_types.specs.Facts.UsedParts.{are_unused, payload_used}
+use Rattle.nl_types.specs.PartialMaps.{Stands}
 use Rattle.nl_device.specs.Pages.{DevicePages}
 use Rattle.nl_segwriter.specs.declared.staging.Staged.{Staged}
-use Rattle.nl_space.specs.Content.{SpaceContent, Held, Payload, payload_page, StandAt}
+use Rattle.nl_space.specs.Content.{SpaceContent, HeldPayload, Payload, payload_page}
 use Rattle.nl_space.specs.Logs.{WholeLog, StandsFrom}
 use Rattle.nl_space.specs.Appended.{StandInLogs, KeepsOtherBlocks, IsAppended, IsBrokenOff}
-use Rattle.nl_segwriter.specs.Staging.{IsReady, AreStaged, AreSized, logs_of, whole_of}
+use Rattle.nl_segwriter.specs.Private.Staging.{IsReady, AreStaged, AreSized, logs_of, whole_of}
 use Rattle.nl_segwriter.specs.Writing.{LogsStand, BreaksOff}
 use Rattle.nl_segwriter.proofs.Rows.{stand_row, stand-append}
 
@@ -41,7 +42,7 @@ staged_stamps stamp checkpoint (log ∷ logs) items [] h = absurd h
 staged_stamps stamp checkpoint (log ∷ logs) items (x ∷ xs) h =
     (ap (λ (w : WholeLog). w.stamp) h.0.whole_is, staged_stamps stamp checkpoint logs (drop log.count items) xs h.1)
 
-stand_in_logs : (stamp checkpoint blocks : ℕ) (logs : List Log) (items : List Payload) (xs : List Staged) (held : Held) (stored : DevicePages) → AreStaged stamp checkpoint logs items xs → LogsStand blocks xs held stored
+stand_in_logs : (stamp checkpoint blocks : ℕ) (logs : List Log) (items : List Payload) (xs : List Staged) (held : HeldPayload) (stored : DevicePages) → AreStaged stamp checkpoint logs items xs → LogsStand blocks xs held stored
     → StandInLogs blocks stamp checkpoint logs items held stored
 stand_in_logs stamp checkpoint blocks [] items xs held stored h stand = tt
 stand_in_logs stamp checkpoint blocks (log ∷ logs) items [] held stored h stand = absurd h
@@ -51,7 +52,7 @@ stand_in_logs stamp checkpoint blocks (log ∷ logs) items (x ∷ xs) held store
     (subst (λ (w : WholeLog). StandsFrom (first_block blocks log) w held stored) h.0.whole_is at, stand_in_logs stamp checkpoint blocks logs (drop log.count items) xs held stored h.1 stand.1)
 
 -- the first of the logs that were staged
-stand_in_front : (stamp checkpoint blocks : ℕ) (logs : List Log) (items : List Payload) (xs rest : List Staged) (held : Held) (stored : DevicePages) → AreStaged stamp checkpoint logs items (xs ++ rest) → LogsStand blocks xs held stored
+stand_in_front : (stamp checkpoint blocks : ℕ) (logs : List Log) (items : List Payload) (xs rest : List Staged) (held : HeldPayload) (stored : DevicePages) → AreStaged stamp checkpoint logs items (xs ++ rest) → LogsStand blocks xs held stored
     → StandInLogs blocks stamp checkpoint (logs_of xs) items held stored
 stand_in_front stamp checkpoint blocks logs items [] rest held stored h stand = tt
 stand_in_front stamp checkpoint blocks [] items (x ∷ xs) rest held stored h stand = let e = h.1 in absurd (cc)
@@ -72,19 +73,19 @@ logs_of-append (y ∷ ys) x rest = ap (λ (l : List Log). y.log ∷ l) (logs_of-
 rest_count : (log : Log) (logs : List Log) (items : List Payload) → payload_count (log ∷ logs) ≡ length items → payload_count logs ≡ length (drop log.count items)
 rest_count log logs items e = let l = length-drop log.count items in omega (arith, l, e)
 
-held_at : (stamp checkpoint blocks : ℕ) (logs : List Log) (items : List Payload) (held : Held) (stored : DevicePages) → StandInLogs blocks stamp checkpoint logs items held stored → payload_count logs ≡ length items
-    → StandAt (addresses blocks logs) items held
+held_at : (stamp checkpoint blocks : ℕ) (logs : List Log) (items : List Payload) (held : HeldPayload) (stored : DevicePages) → StandInLogs blocks stamp checkpoint logs items held stored → payload_count logs ≡ length items
+    → Stands held (addresses blocks logs) items
 held_at stamp checkpoint blocks [] [] held stored h e = tt
 held_at stamp checkpoint blocks [] (item ∷ items) held stored h e = absurd (omega (arith, e))
 held_at stamp checkpoint blocks (log ∷ logs) items held stored h e =
     let long : length (take log.count items) ≡ log.count = length-take-le log.count items (omega (arith, e)) in
     let row = stand_row (first_block blocks log + 1) log.count (take log.count items) held long h.0.payload in
     let more = held_at stamp checkpoint blocks logs (drop log.count items) held stored h.1 (rest_count log logs items e) in
-    subst (λ (xs : List Payload). StandAt (row_of (first_block blocks log + 1) log.count ++ addresses blocks logs) xs held) (take-append-drop log.count items)
-    (stand-append (row_of (first_block blocks log + 1) log.count) (addresses blocks logs) _ _ held row more)
+    subst (λ (xs : List Payload). Stands held (blocks_from (first_block blocks log + 1) log.count ++ addresses blocks logs) xs) (take-append-drop log.count items)
+    (stand-append (blocks_from (first_block blocks log + 1) log.count) (addresses blocks logs) _ _ held row more)
 
-stored_at : (stamp checkpoint blocks : ℕ) (logs : List Log) (items : List Payload) (held : Held) (stored : DevicePages) → StandInLogs blocks stamp checkpoint logs items held stored → payload_count logs ≡ length items
-    → StandAt (addresses blocks logs) (map payload_page items) stored
+stored_at : (stamp checkpoint blocks : ℕ) (logs : List Log) (items : List Payload) (held : HeldPayload) (stored : DevicePages) → StandInLogs blocks stamp checkpoint logs items held stored → payload_count logs ≡ length items
+    → Stands stored (addresses blocks logs) (map payload_page items)
 stored_at stamp checkpoint blocks [] [] held stored h e = tt
 stored_at stamp checkpoint blocks [] (item ∷ items) held stored h e = absurd (omega (arith, e))
 stored_at stamp checkpoint blocks (log ∷ logs) items held stored h e =
@@ -93,9 +94,9 @@ stored_at stamp checkpoint blocks (log ∷ logs) items held stored h e =
     let long : length (map payload_page front) ≡ log.count = length-map front payload_page ∙ length-take-le log.count items (omega (arith, e)) in
     let row = stand_row (first_block blocks log + 1) log.count (map payload_page front) stored long h.0.pages in
     let more = stored_at stamp checkpoint blocks logs rest held stored h.1 (rest_count log logs items e) in
-    subst (λ (xs : List (List ℕ)). StandAt (row_of (first_block blocks log + 1) log.count ++ addresses blocks logs) xs stored)
+    subst (λ (xs : List (List ℕ)). Stands stored (blocks_from (first_block blocks log + 1) log.count ++ addresses blocks logs) xs)
     (sym (map-append payload_page front rest) ∙ ap (map payload_page) (take-append-drop log.count items))
-    (stand-append (row_of (first_block blocks log + 1) log.count) (addresses blocks logs) _ _ stored row more)
+    (stand-append (blocks_from (first_block blocks log + 1) log.count) (addresses blocks logs) _ _ stored row more)
 
 -- ---- what an append leaves
 

@@ -6,13 +6,13 @@ use Rattle.std.proofs.lemmas.List.{length-append, length-replicate}
 use Rattle.nl_types.specs.declared.segment.SegmentInfo.{SegmentInfo}
 use Rattle.nl_types.specs.Segments.{AreTidy, HaveLogs, Segments, clean_info, grown_to, has_logs, info_of, total_blocks}
 use Rattle.nl_types.specs.GrowingLaws.{InfosStay, UsedStays}
-use Rattle.nl_types.proofs.UsedParts.{used_inside}
+use Rattle.nl_types.specs.Facts.UsedParts.{used_inside}
 use Rattle.nl_device.specs.Pages.{DevicePages, KeepsBelow}
-use Rattle.nl_space.specs.Content.{Held, HoldsOnlyUsed, KeepsUsed, Payload, SpaceContent}
+use Rattle.nl_space.specs.Content.{HeldPayload, HoldsOnlyUsed, KeepsUsed, Payload, SpaceContent}
 use Rattle.nl_space.specs.Logs.{AreWholeLogs}
-use Rattle.nl_space.proofs.KeptLogs.{filled_same}
+use Rattle.nl_space.specs.Facts.KeptLogs.{filled_same}
 use Rattle.nl_segwriter.specs.Writing.{held_in}
-use Rattle.nl_segwriter.proofs.WholeLogs.{none_held}
+use Rattle.nl_segwriter.specs.Facts.WholeLogs.{none_held}
 
 -- blocks without payload behind others
 pub held-behind : (table : List (Option Payload)) (k b : ℕ) → held_in (table ++ replicate k None) b ≡ held_in table b
@@ -35,7 +35,7 @@ logs-grown n s infos logs i has =
     omega (arith, low, ap (λ (x : SegmentInfo). x.used) same)
 
 -- memory has what it had, and the device below its old end
-module _ (n : ℕ) (old : SpaceContent) (held : Held) (stored : DevicePages) (infos : InfosStay) (same : (b : ℕ) → held b ≡ old.held b)
+module _ (n : ℕ) (old : SpaceContent) (held : HeldPayload) (stored : DevicePages) (infos : InfosStay) (same : (b : ℕ) → held b ≡ old.held b)
     (below : KeepsBelow (total_blocks old.segments) old.stored stored) where
   abbrev pub grown : SpaceContent
   grown = record { segments = grown_to n old.segments; held = held; stored = stored }

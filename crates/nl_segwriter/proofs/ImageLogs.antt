@@ -6,14 +6,14 @@ use Rattle.std.proofs.lemmas.List.{get_or-set_same, get_or-set_other, length-map
 use Rattle.std.proofs.lemmas.Option.{slice_get-get_or}
 use Rattle.nl_device.specs.Pages.{DevicePages}
 use Rattle.nl_layout.specs.declared.tag.Tag.{Tag}
-use Rattle.nl_layout.specs.Summary.{Contents, SummaryFits, summary_bytes}
+use Rattle.nl_layout.specs.Summary.{Contents, SummaryHasSpelling, summary_bytes}
 use Rattle.nl_types.specs.Segments.{Segments}
-use Rattle.nl_space.specs.Content.{Held, Payload, SpaceContent, StandInRow, payload_page, payload_tag}
+use Rattle.nl_space.specs.Content.{HeldPayload, Payload, SpaceContent, StandInRow, payload_page, payload_tag}
 use Rattle.nl_space.specs.Logs.{FillDevice, FillUpTo, IsOnDevice, WholeLog, contents_of}
-use Rattle.nl_space.proofs.KeptLogs.{fill_kept}
+use Rattle.nl_space.specs.Facts.KeptLogs.{fill_kept}
 use Rattle.nl_segwriter.specs.Images.{IsFreeBetween, IsLogHeld, IsRowHeld, SameAround}
 use Rattle.nl_segwriter.specs.Writing.{held_in}
-use Rattle.nl_segwriter.proofs.WholeLogs.{fill_push}
+use Rattle.nl_segwriter.specs.Facts.WholeLogs.{fill_push}
 
 -- ---- a row of pages
 
@@ -36,7 +36,7 @@ stand_more first k values value old new count stand others there j within = elim
       ap new (sym at) ∙ (there ∙ (sym (slice_get_last values value) ∙ ap (slice_get (values ++ value ∷ [])) same))
 ]
 
-pub no_row : (first : ℕ) (held : Held) (device : DevicePages) → IsRowHeld first [] held device
+pub no_row : (first : ℕ) (held : HeldPayload) (device : DevicePages) → IsRowHeld first [] held device
 no_row first held device = record { items = []; tags_are = refl; payload = λ j low. absurd (omega arith); pages = λ j low. absurd (omega arith) }
 
 pub more_row : (first k : ℕ) (tags : List Tag) (tag : Tag) (page : List ℕ) (table : List (Option Payload)) (device : DevicePages) → k < length tags → tag ≡ get_or tags k tag → first + k < length table
@@ -55,7 +55,7 @@ more_row first k tags tag page table device within is inside there row =
           (stand_more first k (map payload_page items) page device device pages_count row.pages (λ b apart. refl) there);
     }
 
-pub same_one_more : (first k : ℕ) (old : Held) (table : List (Option Payload)) (value : Option Payload) → SameAround first (first + k) old (held_in table)
+pub same_one_more : (first k : ℕ) (old : HeldPayload) (table : List (Option Payload)) (value : Option Payload) → SameAround first (first + k) old (held_in table)
     → SameAround first (first + (k + 1)) old (held_in (set table (first + k) value))
 same_one_more first k old table value same = record {
   below = λ b low. get_or-set_other table (first + k) b value None (omega (arith, low)) ∙ same.below b low;
@@ -65,12 +65,12 @@ same_one_more first k old table value same = record {
 -- ---- one log
 
 -- behind its summary a row is held: that is the log
-log_held : (at end : ℕ) (s : Contents) (old new : Held) (device : DevicePages) → SummaryFits s → device at ≡ Some (summary_bytes s) → old at ≡ None
+log_held : (at end : ℕ) (s : Contents) (old new : HeldPayload) (device : DevicePages) → SummaryHasSpelling s → device at ≡ Some (summary_bytes s) → old at ≡ None
     → IsRowHeld (at + 1) s.tags new device → SameAround (at + 1) (at + 1 + length s.tags) old new → at + 1 + length s.tags ≤ end → IsLogHeld at (at + 1 + length s.tags) end new device
 log_held at end s old new device fits summary free row same inside = record {
   log = log;
   stands = record {
-    fits = subst SummaryFits (sym told) fits;
+    fits = subst SummaryHasSpelling (sym told) fits;
     summary = summary ∙ ap (λ (c : Contents). Some (summary_bytes c)) (sym told);
     no_payload = same.below at (omega arith) ∙ free;
     payload = row.payload;
@@ -89,7 +89,7 @@ log_held at end s old new device fits summary free row same inside = record {
     count : length row.items ≡ length s.tags
     count = sym (length-map row.items payload_tag) ∙ ap length row.tags_are
 
-pub log_held_with : (at end : ℕ) (s : Contents) (tags : List Tag) (old new : Held) (device : DevicePages) → tags ≡ s.tags → SummaryFits s → device at ≡ Some (summary_bytes s) → old at ≡ None
+pub log_held_with : (at end : ℕ) (s : Contents) (tags : List Tag) (old new : HeldPayload) (device : DevicePages) → tags ≡ s.tags → SummaryHasSpelling s → device at ≡ Some (summary_bytes s) → old at ≡ None
     → IsRowHeld (at + 1) tags new device → SameAround (at + 1) (at + 1 + length tags) old new → at + 1 + length tags ≤ end → IsLogHeld at (at + 1 + length tags) end new device
 log_held_with at end s tags old new device is fits summary free row same inside =
     subst (λ (ts : List Tag). IsLogHeld at (at + 1 + length ts) end new device) (sym is)
@@ -112,7 +112,7 @@ pages_there at log device is k within =
 -- ---- the logs between two blocks
 
 -- those up to a block are held, and the others go on from there
-pub record AreRead (first at end : ℕ) (old now : Held) (device : DevicePages) : Type 0 where
+pub record AreRead (first at end : ℕ) (old now : HeldPayload) (device : DevicePages) : Type 0 where
   pub low : first ≤ at
   pub high : at ≤ end
   pub logs : List WholeLog
@@ -120,7 +120,7 @@ pub record AreRead (first at end : ℕ) (old now : Held) (device : DevicePages) 
   pub others : SameAround first at old now
   pub only : (all : List WholeLog) → FillDevice first end all device → (rest : List WholeLog) × FillDevice at end rest device
 
-pub none_read : (first end : ℕ) (old : Held) (device : DevicePages) → first ≤ end → AreRead first first end old old device
+pub none_read : (first end : ℕ) (old : HeldPayload) (device : DevicePages) → first ≤ end → AreRead first first end old old device
 none_read first end old device order = record {
   low = omega arith;
   high = order;
@@ -140,10 +140,10 @@ pub next_log : (at end : ℕ) (rest : List WholeLog) (device : DevicePages) → 
 next_log at end [] device low fill = absurd (omega (arith, fill))
 next_log at end (log ∷ more) device low fill = (log, fill.0, fill_device_up (at + 1 + length log.payload) end more device fill.1, (more, fill.1))
 
-pub still_free : (first at end : ℕ) (old now : Held) (device : DevicePages) → IsFreeBetween first end old → AreRead first at end old now device → IsFreeBetween at end now
+pub still_free : (first at end : ℕ) (old now : HeldPayload) (device : DevicePages) → IsFreeBetween first end old → AreRead first at end old now device → IsFreeBetween at end now
 still_free first at end old now device free are b low high = are.others.above b low ∙ free b (omega (arith, are.low, low)) high
 
-pub more_read : (first at next end : ℕ) (s : Segments) (old now new : Held) (device : DevicePages) → AreRead first at end old now device → IsLogHeld at next end new device → SameAround at next now new
+pub more_read : (first at next end : ℕ) (s : Segments) (old now new : HeldPayload) (device : DevicePages) → AreRead first at end old now device → IsLogHeld at next end new device → SameAround at next now new
     → ((log : WholeLog) → IsOnDevice at log device → at + 1 + length log.payload ≤ end → next ≡ at + 1 + length log.payload) → at < end → AreRead first next end old new device
 more_read first at next end s old now new device are is same only before = record {
   low = omega (arith, are.low, is.behind);
@@ -162,5 +162,5 @@ more_read first at next end s old now new device are is same only before = recor
       (n.3.0, subst (λ (k : ℕ). FillDevice k end n.3.0 device) (sym at_next) n.3.1);
 }
   where
-    content : Held → SpaceContent
+    content : HeldPayload → SpaceContent
     content held = record { segments = s; held = held; stored = device }

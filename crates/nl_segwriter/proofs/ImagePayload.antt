@@ -6,14 +6,14 @@ use Rattle.std.proofs.lemmas.Bool.{cases_lt}
 use Rattle.std.proofs.lemmas.List.{get_or_past, length-replicate}
 use Rattle.nl_types.specs.declared.segment.SegmentInfo.{SegmentInfo}
 use Rattle.nl_types.specs.Segments.{Segments, AreTidy, IsUsed, clean_info, info_of, total_blocks}
-use Rattle.nl_types.proofs.SegmentChanges.{room_of}
+use Rattle.nl_types.specs.Facts.SegmentChanges.{room_of}
 use Rattle.nl_device.specs.Pages.{DevicePages}
-use Rattle.nl_space.specs.Content.{Held, Payload, SpaceContent}
+use Rattle.nl_space.specs.Content.{HeldPayload, Payload, SpaceContent}
 use Rattle.nl_space.specs.Logs.{AreWholeLogs, IsFilledBy, WholeLog}
-use Rattle.nl_space.proofs.KeptLogs.{fill_kept}
-use Rattle.nl_segwriter.specs.Images.{HoldLogs, IsHeld, SameAround, end_of, first_of, page_in}
+use Rattle.nl_space.specs.Facts.KeptLogs.{fill_kept}
+use Rattle.nl_segwriter.specs.Images.{HoldLogs, IsHeld, SameAround, used_end, used_start, page_in}
 use Rattle.nl_segwriter.specs.Writing.{held_in, space_content}
-use Rattle.nl_segwriter.proofs.WholeLogs.{fill_has, none_held}
+use Rattle.nl_segwriter.specs.Facts.WholeLogs.{fill_has, none_held}
 
 -- that of the first segments is held, and nothing else
 pub record AreHeldBelow (s : Segments) (device : DevicePages) (payload : List (Option Payload)) (n : ℕ) : Type 0 where
@@ -30,28 +30,28 @@ none_below s device n count = record {
   free = λ b _. none_held n b;
 }
 
-abbrev content : Segments → DevicePages → Held → SpaceContent
+abbrev content : Segments → DevicePages → HeldPayload → SpaceContent
 content s device held = record { segments = s; held = held; stored = device }
 
 -- the used part of an earlier segment ends before a later one
-ends_before : (s : Segments) (i n : ℕ) → AreTidy s → i < n → end_of s i ≤ n * s.blocks
+ends_before : (s : Segments) (i n : ℕ) → AreTidy s → i < n → used_end s i ≤ n * s.blocks
 ends_before s i n tidy low =
     let room = room_of s.blocks s.each tidy.each i in
     let m : (i + 1) * s.blocks ≤ n * s.blocks = mul-le-mul_right s.blocks (omega arith) in
     omega (arith, room, m)
 
 pub more_held : (s : Segments) (device : DevicePages) (payload new : List (Option Payload)) (n : ℕ) → AreTidy s → AreHeldBelow s device payload n → IsHeld s device (held_in new) n
-    → SameAround (first_of s n) (end_of s n) (held_in payload) (held_in new) → length new ≡ length payload → AreHeldBelow s device new (n + 1)
+    → SameAround (used_start s n) (used_end s n) (held_in payload) (held_in new) → length new ≡ length payload → AreHeldBelow s device new (n + 1)
 more_held s device payload new n tidy are is same size = record {
   count = size ∙ are.count;
   held = λ i low. elim (cases_lt i n) [
     | inl h ↦ kept i h (are.held i h)
     | inr h ↦ let at : n ≡ i = omega (arith, h, low) in subst (IsHeld s device (held_in new)) at is
   ];
-  unheld = λ b unused. elim (cases_lt b (first_of s n)) [
+  unheld = λ b unused. elim (cases_lt b (used_start s n)) [
     | inl h ↦ same.below b h ∙ are.unheld b unused
-    | inr h ↦ elim (cases_lt b (end_of s n)) [
-      | inl k ↦ absurd (unused (record { segment = n; block = b - first_of s n }, omega (arith, h), omega (arith, h, k)))
+    | inr h ↦ elim (cases_lt b (used_end s n)) [
+      | inl k ↦ absurd (unused (record { segment = n; block = b - used_start s n }, omega (arith, h), omega (arith, h, k)))
       | inr k ↦ same.above b k ∙ are.unheld b unused
     ]
   ];
@@ -64,7 +64,7 @@ more_held s device payload new n tidy are is same size = record {
     kept : (i : ℕ) → i < n → IsHeld s device (held_in payload) i → IsHeld s device (held_in new) i
     kept i low (logs, fill) =
         let before = ends_before s i n tidy low in
-        (logs, fill_kept (first_of s i) (end_of s i) logs (content s device (held_in payload)) (content s device (held_in new)) (λ c from to. (same.below c (omega (arith, to, before)), refl)) fill)
+        (logs, fill_kept (used_start s i) (used_end s i) logs (content s device (held_in payload)) (content s device (held_in new)) (λ c from to. (same.below c (omega (arith, to, before)), refl)) fill)
 
 pub all_held : (s : Segments) (device : DevicePages) (payload : List (Option Payload)) (n : ℕ) → length s.each ≤ n → AreHeldBelow s device payload n → HoldLogs s device payload
 all_held s device payload n all are = record { count = are.count; held = λ i low. are.held i (omega (arith, low, all)); unheld = are.unheld }
@@ -81,6 +81,6 @@ restored_whole s pages payload device logs put i = elim (cases_lt i (length s.ea
     moved : IsHeld s (page_in pages) (held_in payload) i → (ls : List WholeLog) × IsFilledBy (space_content s payload device) i ls
     moved (ls, fill) = (
       ls,
-      fill_kept (first_of s i) (end_of s i) ls (content s (page_in pages) (held_in payload)) (content s device (held_in payload))
-          (λ c low high. let p = fill_has (first_of s i) (end_of s i) c ls (held_in payload) (page_in pages) fill low high in (refl, put c p.0 p.1 ∙ sym p.1)) fill,
+      fill_kept (used_start s i) (used_end s i) ls (content s (page_in pages) (held_in payload)) (content s device (held_in payload))
+          (λ c low high. let p = fill_has (used_start s i) (used_end s i) c ls (held_in payload) (page_in pages) fill low high in (refl, put c p.0 p.1 ∙ sym p.1)) fill,
     )

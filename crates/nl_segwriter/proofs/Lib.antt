@@ -1,6 +1,5 @@
 pub mod Rows
 pub mod TakenSegment
-pub mod WholeLogs
 pub mod GrownSpace
 pub mod LogWritten
 pub mod LogsWritten

@@ -4,13 +4,13 @@ use Rattle.std.proofs.lemmas.List.{length-map}
 use Rattle.std.specs.Prelude.{slice_get}
 use Rattle.nl_types.specs.Segments.{AreTidy}
 use Rattle.nl_types.specs.Placing.{first_block, IsNextLog}
-use Rattle.nl_types.proofs.UsedParts.{outside_row}
+use Rattle.nl_types.specs.Facts.UsedParts.{outside_row}
 use Rattle.nl_device.specs.Pages.{DevicePages}
 use Rattle.nl_layout.specs.Summary.{summary_bytes}
 use Rattle.nl_segwriter.specs.declared.staging.Staged.{Staged}
-use Rattle.nl_space.specs.Content.{SpaceContent, Held, payload_page, SameOutside, StandInRow, HoldsOnlyUsed}
+use Rattle.nl_space.specs.Content.{SpaceContent, HeldPayload, payload_page, SameOutside, StandInRow, HoldsOnlyUsed}
 use Rattle.nl_space.specs.Logs.{StandsFrom, contents_of}
-use Rattle.nl_segwriter.specs.Staging.{IsReady, whole_of}
+use Rattle.nl_segwriter.specs.Private.Staging.{IsReady, whole_of}
 use Rattle.nl_segwriter.specs.Writing.{HasPut, HasTried}
 
 pages_long : (x : Staged) → IsReady x → length x.pages ≡ x.log.count + 1
@@ -30,12 +30,12 @@ tried_outside first tried x old new ready put =
     record { below = put.others.below; above = λ b h. put.others.above b (omega (arith, h, long, most)) }
 
 -- and its payload's in memory
-pub held_outside : (first : ℕ) (x : Staged) (old new : Held) → IsReady x → SameOutside (first + 1) (length x.payload) old new → SameOutside first (x.log.count + 1) old new
+pub held_outside : (first : ℕ) (x : Staged) (old new : HeldPayload) → IsReady x → SameOutside (first + 1) (length x.payload) old new → SameOutside first (x.log.count + 1) old new
 held_outside first x old new ready same =
     let n = ready.count in
     record { below = λ b h. same.below b (omega (arith, h)); above = λ b h. same.above b (omega (arith, h, n)) }
 
-pub log_stands : (old : SpaceContent) (x : Staged) (held : Held) (stored : DevicePages) → AreTidy old.segments → IsNextLog old.segments x.log → HoldsOnlyUsed old → IsReady x
+pub log_stands : (old : SpaceContent) (x : Staged) (held : HeldPayload) (stored : DevicePages) → AreTidy old.segments → IsNextLog old.segments x.log → HoldsOnlyUsed old → IsReady x
     → HasPut (first_block old.segments.blocks x.log) x.pages old.stored stored → StandInRow (first_block old.segments.blocks x.log + 1) x.payload held
     → SameOutside (first_block old.segments.blocks x.log + 1) (length x.payload) old.held held → StandsFrom (first_block old.segments.blocks x.log) (whole_of x) held stored
 log_stands old x held stored tidy next only ready put row same = record {

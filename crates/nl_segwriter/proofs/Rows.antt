@@ -3,8 +3,9 @@ use Rattle.std.proofs.Common.{◌≡◌, ◌≢◌, ℕ, zero, suc, ◌+◌, ◌
 use Rattle.std.proofs.Common.{inl, inr}
 use Rattle.std.proofs.lemmas.Bool.{cases_eq}
 use Rattle.std.specs.Prelude.{slice_get}
-use Rattle.nl_types.specs.Placing.{row_of}
-use Rattle.nl_space.specs.Content.{SameOutside, StandAt, StandInRow}
+use Rattle.nl_types.specs.Placing.{blocks_from}
+use Rattle.nl_types.specs.PartialMaps.{Stands}
+use Rattle.nl_space.specs.Content.{SameOutside, StandInRow}
 
 module _ {V : Type 0} where
   -- a put at the next number leaves what is outside one more number as it was
@@ -35,7 +36,7 @@ module _ {V : Type 0} where
       ap (λ xs. slice_get xs (suc j)) (sym first) ∙ same (suc j) ∙ ap (λ k. slice_get values k) behind
 
   -- a row of values stands at a row of numbers
-  pub stand_row : (b n : ℕ) (values : List V) (f : ℕ → Option V) → length values ≡ n → StandInRow b values f → StandAt (row_of b n) values f
+  pub stand_row : (b n : ℕ) (values : List V) (f : ℕ → Option V) → length values ≡ n → StandInRow b values f → Stands f (blocks_from b n) values
   stand_row b zero [] f e stands = tt
   stand_row b zero (v ∷ vs) f e stands = absurd (omega (arith, e))
   stand_row b (suc n) [] f e stands = absurd (omega (arith, e))
@@ -44,19 +45,19 @@ module _ {V : Type 0} where
     stand_row (suc b) n vs f (omega (arith, e)) (λ j h. let at : suc b + j ≡ b + suc j = omega arith in ap f at ∙ stands (suc j) (omega (arith, h))),
   )
 
-  pub stand-append : (a b : List ℕ) (vs ws : List V) (f : ℕ → Option V) → StandAt a vs f → StandAt b ws f → StandAt (a ++ b) (vs ++ ws) f
+  pub stand-append : (a b : List ℕ) (vs ws : List V) (f : ℕ → Option V) → Stands f a vs → Stands f b ws → Stands f (a ++ b) (vs ++ ws)
   stand-append [] b [] ws f h k = k
   stand-append [] b (v ∷ vs) ws f h k = absurd h
   stand-append (x ∷ a) b [] ws f h k = absurd h
   stand-append (x ∷ a) b (v ∷ vs) ws f h k = (h.0, stand-append a b vs ws f h.1 k)
 
 -- a row of numbers, with one more
-pub row_of-more : (b n : ℕ) → row_of b (n + 1) ≡ row_of b n ++ (b + n) ∷ []
+pub row_of-more : (b n : ℕ) → blocks_from b (n + 1) ≡ blocks_from b n ++ (b + n) ∷ []
 row_of-more b zero = ap (λ (x : ℕ). x ∷ []) (sym (add-zero b))
 row_of-more b (suc n) =
     let e : suc n + 1 ≡ suc (n + 1) = omega arith in
     let f : suc b + n ≡ b + suc n = omega arith in
-    ap (row_of b) e ∙ ap (λ (xs : List ℕ). b ∷ xs) (row_of-more (suc b) n ∙ ap (λ (x : ℕ). row_of (suc b) n ++ x ∷ []) f)
+    ap (blocks_from b) e ∙ ap (λ (xs : List ℕ). b ∷ xs) (row_of-more (suc b) n ∙ ap (λ (x : ℕ). blocks_from (suc b) n ++ x ∷ []) f)
 
 -- one more value put into a row, behind those that stand
 module _ {V : Type 0} where

@@ -5,8 +5,8 @@ use Rattle.nl_types.specs.declared.segment.Position.{Position}
 use Rattle.nl_types.specs.declared.segment.SegmentInfo.{SegmentInfo}
 use Rattle.nl_types.specs.declared.segment.SegmentState.TheVariants.{Active, Error}
 use Rattle.nl_types.specs.Segments.{Segments, at_rest, none_active, info_of, clean_info, clean_segments, active_place, lowest_clean, with_active, with_error, AreTidy}
-use Rattle.nl_types.proofs.SegmentChanges.{active-at_rest, info_same, tidy_at}
-use Rattle.nl_types.proofs.NextLogs.{HasLowest, has_lowest}
+use Rattle.nl_types.specs.Facts.SegmentChanges.{active-at_rest, info_same, tidy_at}
+use Rattle.nl_types.specs.Facts.NextLogs.{HasLowest, has_lowest}
 
 rest_again : (info : SegmentInfo) → at_rest (at_rest info) ≡ at_rest info
 rest_again info = rw (active-at_rest info) refl

@@ -4,7 +4,7 @@ use Rattle.nl_types.specs.declared.geometry.Geometry.{Geometry}
 use Rattle.nl_types.specs.Segments.{Segments, IsUsed, info_of, total_blocks}
 use Rattle.nl_device.specs.Pages.{DevicePages}
 use Rattle.nl_layout.specs.declared.tag.Tag.{Tag}
-use Rattle.nl_space.specs.Content.{Held, Payload, SpaceContent, StandInRow, payload_page, payload_tag}
+use Rattle.nl_space.specs.Content.{HeldPayload, Payload, SpaceContent, StandInRow, payload_page, payload_tag}
 use Rattle.nl_space.specs.Logs.{FillDevice, FillUpTo, StandsFrom, WholeLog}
 use Rattle.nl_segwriter.specs.declared.images.Restored.{Restored}
 use Rattle.nl_segwriter.specs.Writing.{held_in}
@@ -20,19 +20,21 @@ pub record AreUsedPages (s : Segments) (image : DevicePages) (pages : List (Opti
   pub unused : (b : ℕ) → (IsUsed s b → ⊥) → page_in pages b ≡ None
 
 -- where the used part of a segment begins and ends
-abbrev pub first_of : Segments → ℕ → ℕ
-first_of s i = i * s.blocks
+abbrev pub used_start : Segments → ℕ → ℕ
+used_start s i = i * s.blocks
 
-abbrev pub end_of : Segments → ℕ → ℕ
-end_of s i = i * s.blocks + (info_of s.each i).used
+abbrev pub used_end : Segments → ℕ → ℕ
+used_end s i = i * s.blocks + (info_of s.each i).used
 
 -- the used part of each segment is whole logs
 abbrev pub AreLogsIn : Segments → DevicePages → Type 0
-AreLogsIn s device = (i : ℕ) → i < length s.each → (logs : List WholeLog) × FillDevice (first_of s i) (end_of s i) logs device
+AreLogsIn s device =
+    (i : ℕ) → i < length s.each
+    → (logs : List WholeLog) × FillDevice (used_start s i) (used_end s i) logs device
 
 -- the payload of these logs is held
-abbrev pub IsHeld : Segments → DevicePages → Held → ℕ → Type 0
-IsHeld s device held i = (logs : List WholeLog) × FillUpTo (first_of s i) (end_of s i) logs held device
+abbrev pub IsHeld : Segments → DevicePages → HeldPayload → ℕ → Type 0
+IsHeld s device held i = (logs : List WholeLog) × FillUpTo (used_start s i) (used_end s i) logs held device
 
 -- that of all segments is, and nothing else
 pub record HoldLogs (s : Segments) (device : DevicePages) (payload : List (Option Payload)) : Type 0 where
@@ -43,38 +45,39 @@ pub record HoldLogs (s : Segments) (device : DevicePages) (payload : List (Optio
 -- ---- one log
 
 -- payload with these tags stands in a row in memory, and its pages on the device
-pub record IsRowHeld (first : ℕ) (tags : List Tag) (held : Held) (device : DevicePages) : Type 0 where
+pub record IsRowHeld (first : ℕ) (tags : List Tag) (held : HeldPayload) (device : DevicePages) : Type 0 where
   pub items : List Payload
   pub tags_are : map payload_tag items ≡ tags
   pub payload : StandInRow first items held
   pub pages : StandInRow first (map payload_page items) device
 
 -- what stands below a number, and from another one on, stays
-pub record SameAround (from to : ℕ) (old new : Held) : Type 0 where
+pub record SameAround (from to : ℕ) (old new : HeldPayload) : Type 0 where
   pub below : (b : ℕ) → b < from → new b ≡ old b
   pub above : (b : ℕ) → to ≤ b → new b ≡ old b
 
 -- a log stands from one number up to the next one
-pub record IsLogHeld (at next end : ℕ) (held : Held) (device : DevicePages) : Type 0 where
+pub record IsLogHeld (at next end : ℕ) (held : HeldPayload) (device : DevicePages) : Type 0 where
   pub log : WholeLog
   pub stands : StandsFrom at log held device
   pub behind : next ≡ at + 1 + length log.payload
   pub inside : next ≤ end
 
 -- no payload is held between two numbers
-abbrev pub IsFreeBetween : ℕ → ℕ → Held → Type 0
+abbrev pub IsFreeBetween : ℕ → ℕ → HeldPayload → Type 0
 IsFreeBetween from to held = (b : ℕ) → from ≤ b → b < to → held b ≡ None
 
 -- ---- what is read of an image
 
--- the pages are those of the used blocks, and the payload is that of the logs, as the pages have them, and as the image has
+-- the pages are those of the used blocks, and the payload is that of the logs, as the pages have them, and as
+-- the image has
 pub record IsRestored (s : Segments) (image : DevicePages) (r : Restored) : Type 0 where
   pub pages : AreUsedPages s image r.pages
   pub logs : HoldLogs s (page_in r.pages) r.payload
   pub of_image : HoldLogs s image r.payload
 
 -- the device is divided as the table says
-pub record IsShapeOf (g : Geometry) (s : Segments) : Type 0 where
+pub record IsTableShapeOf (g : Geometry) (s : Segments) : Type 0 where
   pub segments : length s.each ≡ g.segments
   pub blocks : s.blocks ≡ g.blocks
 

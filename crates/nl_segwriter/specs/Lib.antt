@@ -1,3 +1,4 @@
-pub mod Staging
 pub mod Writing
 pub mod Images
+pub mod Facts
+pub mod Private

@@ -9,13 +9,13 @@ use Rattle.nl_device.specs.declared.device.DeviceError.{DeviceError}
 use Rattle.nl_device.specs.declared.device.DeviceError.TheVariants as device
 use Rattle.nl_device.specs.Pages.{DevicePages}
 use Rattle.nl_segwriter.specs.declared.staging.Staged.{Staged}
-use Rattle.nl_space.specs.Content.{Payload, Held, SpaceContent, SameOutside, StandInRow}
+use Rattle.nl_space.specs.Content.{Payload, HeldPayload, SpaceContent, SameOutside, StandInRow}
 use Rattle.nl_space.specs.Logs.{StandsFrom}
 use Rattle.nl_space.specs.Appended.{KeepsOtherBlocks}
-use Rattle.nl_segwriter.specs.Staging.{logs_of, whole_of}
+use Rattle.nl_segwriter.specs.Private.Staging.{logs_of, whole_of}
 
 -- what a table of blocks has at a number
-abbrev pub held_in : List (Option Payload) → Held
+abbrev pub held_in : List (Option Payload) → HeldPayload
 held_in table b = slice_index_or table b None
 
 abbrev pub space_content : Segments → List (Option Payload) → DevicePages → SpaceContent
@@ -26,8 +26,8 @@ pub record HasPut (first : ℕ) (pages : List (List ℕ)) (old new : DevicePages
   pub stand : StandInRow first pages new
   pub others : SameOutside first (length pages) old new
 
--- A put failed: so many were tried, in order. The pages before the failed one stand, its block may have anything, and
--- all other blocks stay.
+-- A put failed: so many were tried, in order. The pages before the failed one stand, its block may have
+-- anything, and all other blocks stay.
 pub record HasTried (first tried : ℕ) (pages : List (List ℕ)) (old new : DevicePages) : Type 0 where
   pub some : 0 < tried
   pub most : tried ≤ length pages
@@ -39,7 +39,8 @@ pub record SameOutsideLog (blocks : ℕ) (log : Log) (old new : SpaceContent) : 
   pub held : SameOutside (first_block blocks log) (log.count + 1) old.held new.held
   pub stored : SameOutside (first_block blocks log) (log.count + 1) old.stored new.stored
 
--- The segment may have been taken. What becomes of the segments with a log in it, or with it in error, is the same.
+-- The segment may have been taken. What becomes of the segments with a log in it, or with it in error, is the
+-- same.
 pub record MayBeTaken (segment : ℕ) (old new : Segments) : Type 0 where
   pub logged : (stamp used : ℕ) → with_active new segment stamp used ≡ with_active old segment stamp used
   pub failed : with_error new segment ≡ with_error old segment
@@ -51,12 +52,13 @@ abbrev pub StagedStands : ℕ → Staged → SpaceContent → Type 0
 StagedStands blocks x c = StandsFrom (first_block blocks x.log) (whole_of x) c.held c.stored
 
 -- the logs stand
-abbrev pub LogsStand : ℕ → List Staged → Held → DevicePages → Type 0
+abbrev pub LogsStand : ℕ → List Staged → HeldPayload → DevicePages → Type 0
 LogsStand blocks [] held stored = Unit {0}
-LogsStand blocks (x ∷ xs) held stored = StandsFrom (first_block blocks x.log) (whole_of x) held stored × LogsStand blocks xs held stored
+LogsStand blocks (x ∷ xs) held stored =
+    StandsFrom (first_block blocks x.log) (whole_of x) held stored × LogsStand blocks xs held stored
 
--- One of the logs was not written, and its segment is in error. Those before it stand, and no block changed but theirs and
--- its own.
+-- One of the logs was not written, and its segment is in error. Those before it stand, and no block changed
+-- but theirs and its own.
 pub record BreaksOff (stamp : ℕ) (all : List Staged) (old new : SpaceContent) : Type 0 where
   pub written : List Staged
   pub failed : Staged

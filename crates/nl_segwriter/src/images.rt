@@ -1,8 +1,9 @@
 //! The logs of an image.
 ghost use Rattle.std.specs.Prelude.{◌≡◌, ◌⊎◌, ◌+◌, ◌*◌, ◌<◌, ◌≤◌, IfErr, IfOk, IfSome, IsSome, List, MatchResult, None, OnOk, Some, length, ℕ};
+ghost use Rattle.nl_types.specs.Limits as limits;
 ghost use Rattle.nl_types.specs.Segments.{IsUsed, total_blocks};
-ghost use Rattle.nl_layout.specs.Summary.{Contents, SummaryFits, summary_bytes};
-ghost use Rattle.nl_space.specs.Images.{pages_of};
+ghost use Rattle.nl_layout.specs.Summary.{Contents, SummaryHasSpelling, summary_bytes};
+ghost use Rattle.nl_space.specs.Images.{pages_of_bytes};
 ghost use Rattle.nl_space.specs.Logs.{FillDevice, FillUpTo, IsOnDevice, WholeLog};
 ghost use Rattle.nl_segwriter.specs.Images.{AreLogsIn, AreUsedPages, HoldLogs, IsFreeBetween, IsLogHeld, IsRowHeld, SameAround, page_in};
 ghost use Rattle.nl_segwriter.specs.Writing.{held_in};
@@ -30,12 +31,12 @@ pub struct Restored {
 impl Restored {
     ghost use Rattle.nl_segwriter.specs.Images.{IsRestored};
 
-    /// What the blocks of an image have in used parts. Refused by `BadImage(7)` where a used part isn't whole logs, one right
-    /// behind another, and by `Memory`: a page is taken for each used block.
+    /// What the blocks of an image have in used parts. Refused by `BadImage(7)` where a used part isn't whole
+    /// logs, one right behind another, and by `Memory`: a page is taken for each used block.
     pub fn read(alloc: Global, table: &SegTable, blocks: &[u8]) -> Result<Restored, VolError>
         requires { length blocks.now ≡ 1024 * total_blocks table.now }
-        ensures found { IfOk result (IsRestored table.now (pages_of blocks.now)) }
-        ensures only { AreLogsIn table.now (pages_of blocks.now)
+        ensures found { IfOk result (IsRestored table.now (pages_of_bytes blocks.now)) }
+        ensures only { AreLogsIn table.now (pages_of_bytes blocks.now)
             → IfErr result (λ e. e ≡ VolError.Memory) }
         ensures refused { IfErr result (λ e. (e ≡ VolError.BadImage 7) ⊎ (e ≡ VolError.Memory)) }
     {
@@ -54,7 +55,7 @@ fn read_pages(
     blocks: &[u8],
 ) -> Result<Items<Option<Page>>, AllocError>
     requires { length blocks.now ≡ 1024 * total_blocks table.now }
-    ensures { IfOk result (AreUsedPages table.now (pages_of blocks.now)) }
+    ensures { IfOk result (AreUsedPages table.now (pages_of_bytes blocks.now)) }
 {
     let count = table.sustat().segments * table.blocks() as usize;
     let mut pages = Vec::with_capacity(alloc, count)?;
@@ -72,8 +73,8 @@ fn read_page(
 ) -> Result<Option<Page>, AllocError>
     requires size { length blocks.now ≡ 1024 * total_blocks table.now }
     requires inside { number < total_blocks table.now }
-    requires few { total_blocks table.now ≤ 262144 }
-    ensures used { IfOk result (λ page. IsUsed table.now number → page ≡ pages_of blocks.now number) }
+    requires few { total_blocks table.now ≤ limits.volume_block_limit }
+    ensures used { IfOk result (λ page. IsUsed table.now number → page ≡ pages_of_bytes blocks.now number) }
     ensures unused { IfOk result (λ page. (IsUsed table.now number → ⊥) → page ≡ None) }
 {
     if !table.is_used(BlockNumber::new(number as u32)) {
@@ -93,8 +94,8 @@ fn page_of(alloc: Global, bytes: &[u8]) -> Result<Page, AllocError>
     Page::new(alloc, Block::new(block))
 }
 
-/// The payload of the logs in the used parts of segments, where these are the pages. Refused by `BadImage(7)` where a used
-/// part isn't whole logs, one right behind another, and by `Memory`.
+/// The payload of the logs in the used parts of segments, where these are the pages. Refused by `BadImage(7)`
+/// where a used part isn't whole logs, one right behind another, and by `Memory`.
 fn read_payload(
     alloc: Global,
     table: &SegTable,
@@ -174,9 +175,9 @@ fn read_log(
 }
 
 fn summary_at(pages: &[Option<Page>], at: usize) -> Option<Summary>
-    ensures fits { IfSome result SummaryFits }
+    ensures fits { IfSome result SummaryHasSpelling }
     ensures found { IfSome result (λ s. page_in pages.now at ≡ Some (summary_bytes s)) }
-    ensures only { (s : Contents) → SummaryFits s → page_in pages.now at ≡ Some (summary_bytes s)
+    ensures only { (s : Contents) → SummaryHasSpelling s → page_in pages.now at ≡ Some (summary_bytes s)
         → result ≡ Some s }
 {
     match pages.get(at) {

@@ -9,8 +9,8 @@ ghost use Rattle.nl_sufile.specs.Table.{IsSegTable};
 ghost use Rattle.nl_space.specs.Content.{HoldsOnlyUsed, KeepsUsed, new_content};
 ghost use Rattle.nl_space.specs.Logs.{AreWholeLogs, StandsFrom};
 ghost use Rattle.nl_space.specs.Appended.{KeepsOtherBlocks};
-ghost use Rattle.nl_segwriter.specs.Images.{HoldLogs, IsShapeOf, IsSpaceOf, page_in};
-ghost use Rattle.nl_segwriter.specs.Staging.{IsReady, logs_of, whole_of};
+ghost use Rattle.nl_segwriter.specs.Images.{HoldLogs, IsTableShapeOf, IsSpaceOf, page_in};
+ghost use Rattle.nl_segwriter.specs.Private.Staging.{IsReady, logs_of, whole_of};
 ghost use Rattle.nl_segwriter.specs.Writing.{held_in, space_content, SameOutsideLog, MayBeTaken, StagedStands, LogsStand, BreaksOff, refusal_of};
 
 use crate::images::Restored;
@@ -41,7 +41,8 @@ pub struct LogSpace<D: Device> {
 }
 
 impl<D: Device> LogSpace<D> {
-    /// A space of clean segments on a device of this geometry. Refused by `Memory` alone; the device is dropped then.
+    /// A space of clean segments on a device of this geometry. Refused by `Memory` alone; the device is
+    /// dropped then.
     pub fn new(alloc: Global, device: D, geometry: Geometry) -> Result<Self, VolError>
         requires { D.shape device ≡ geometry }
         ensures content { IfOk result (λ s.
@@ -58,10 +59,10 @@ impl<D: Device> LogSpace<D> {
         })
     }
 
-    /// The space of an image on a device of its geometry, which gets the pages, in the order of their numbers. Where the device
-    /// failed, it is given back. It takes no memory.
+    /// The space of an image on a device of its geometry, which gets the pages, in the order of their
+    /// numbers. Where the device failed, it is given back. It takes no memory.
     pub fn restore(device: D, table: SegTable, restored: Restored) -> Result<Self, D>
-        requires shape { IsShapeOf (D.shape device) table }
+        requires shape { IsTableShapeOf (D.shape device) table }
         requires pages { length restored.pages ≡ total_blocks table }
         requires logs { HoldLogs table (page_in restored.pages) restored.payload }
         requires have_logs { HaveLogs table }
@@ -138,7 +139,7 @@ impl<D: Device> LogSpace<D> {
         ensures counted { CountsWrites (D.failed self.old.device) (D.failed self.new.device) }
         ensures others { KeepsOtherBlocks self.old.table.blocks (logs_of all.items)
             (⟦<Self as Space>⟧.content self.old) (⟦<Self as Space>⟧.content self.new) }
-        ensures kept { KeepsUsed self.old.table
+        ensures used_stay { KeepsUsed self.old.table
             (⟦<Self as Space>⟧.content self.old) (⟦<Self as Space>⟧.content self.new) }
         ensures stays { StaysUsed self.old.table self.new.table }
     {

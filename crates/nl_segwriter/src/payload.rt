@@ -4,18 +4,14 @@ ghost use Rattle.nl_space.specs.Content.{StandInRow, SameOutside, IsEmptied};
 ghost use Rattle.nl_segwriter.specs.Writing.{held_in};
 
 use nl_space::Payload;
-use nl_types::Items;
+use nl_types::{Items, add_places, empty_places};
 use std::alloc::{AllocError, Global};
 
 /// A table of so many blocks without payload.
 pub fn no_payload(alloc: Global, total: u32) -> Result<Items<Option<Payload>>, AllocError>
     ensures { IfOk result (λ table. table ≡ replicate total None) }
 {
-    let mut blocks = Vec::with_capacity(alloc, total as usize)?;
-    for _ in 0..total {
-        blocks.push(None)?;
-    }
-    Ok(Items::from_vec(blocks))
+    empty_places(alloc, total as usize)
 }
 
 /// Adds blocks without payload, up to so many. Refused, the table stays as it is.
@@ -28,9 +24,7 @@ pub fn add_blocks(
     ensures added { OnOk result (table.new ≡ table.old ++ replicate (total - length table.old) None) }
     ensures refused { OnErr result (table.new ≡ table.old) }
 {
-    let more = total - table.len() as u32;
-    let blocks = no_payload(alloc, more)?;
-    table.append(blocks.into_vec())
+    add_places(table, alloc, total as usize)
 }
 
 /// Keeps payload in a row, the first at a number.

@@ -1,5 +1,6 @@
 //! DevicePages put on the device, one after another.
 ghost use Rattle.std.specs.Prelude.{◌≡◌, ◌+◌, ◌*◌, ◌<◌, ◌≤◌, ℕ, List, Some, length, OnOk, OnErr, IfErr};
+ghost use Rattle.nl_types.specs.Limits as limits;
 ghost use Rattle.nl_device.specs.Failures.{CountsWrites, FailsToWrite};
 ghost use Rattle.nl_device.specs.Pages.{KeepsOthers};
 ghost use Rattle.nl_segwriter.specs.Images.{page_in};
@@ -19,7 +20,8 @@ pub struct PutFailed {
 pub fn put_row<D: Device>(device: &mut D, first: u32, pages: Items<Page>) -> Result<(), PutFailed>
     requires { first + length pages ≤ (D.shape device.old).segments * (D.shape device.old).blocks }
     ensures put { OnOk result (HasPut first pages (D.pages device.old) (D.pages device.new)) }
-    ensures tried { IfErr result (λ e. HasTried first e.tried pages (D.pages device.old) (D.pages device.new)) }
+    ensures tried { IfErr result
+        (λ e. HasTried first e.tried pages (D.pages device.old) (D.pages device.new)) }
     ensures failed { OnErr result (FailsToWrite (D.failed device.old) (D.failed device.new)) }
     ensures counted { CountsWrites (D.failed device.old) (D.failed device.new) }
     ensures shape { D.shape device.new ≡ D.shape device.old }
@@ -38,7 +40,7 @@ pub fn put_row<D: Device>(device: &mut D, first: u32, pages: Items<Page>) -> Res
 /// Puts the pages that there are, each at its number.
 pub fn put_pages<D: Device>(device: &mut D, pages: Items<Option<Page>>) -> Result<(), Fault>
     requires inside { length pages ≤ (D.shape device.old).segments * (D.shape device.old).blocks }
-    requires few { length pages ≤ 262144 }
+    requires few { length pages ≤ limits.volume_block_limit }
     ensures put { OnOk result ((b : ℕ) (page : List ℕ) → page_in pages b ≡ Some page
         → D.pages device.new b ≡ Some page) }
     ensures failed { OnErr result (FailsToWrite (D.failed device.old) (D.failed device.new)) }

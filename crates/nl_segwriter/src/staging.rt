@@ -1,7 +1,8 @@
 //! Logs made ready to be written: all that needs memory is done here.
 ghost use Rattle.std.specs.Prelude.{◌≡◌, ◌≤◌, ◌∷◌, length, map, IfOk};
+ghost use Rattle.nl_types.specs.Limits as limits;
 ghost use Rattle.nl_types.specs.Placing.{payload_count};
-ghost use Rattle.nl_layout.specs.Summary.{Spells, SummaryFits, summary_bytes};
+ghost use Rattle.nl_layout.specs.Summary.{Spells, SummaryHasSpelling, summary_bytes};
 ghost use Rattle.nl_space.specs.Content.{payload_tag, payload_page};
 
 use nl_layout::{Summary, Tag};
@@ -21,7 +22,7 @@ pub struct Staged {
     pub payload: Items<Payload>,
 }
 
-ghost use Rattle.nl_segwriter.specs.Staging.{IsStaged, AreStaged, AreSized};
+ghost use Rattle.nl_segwriter.specs.Private.Staging.{IsStaged, AreStaged, AreSized};
 
 // What a summary says of the items.
 fn tags_of(alloc: Global, items: &[Payload]) -> Result<Vec<Tag>, AllocError>
@@ -42,7 +43,7 @@ fn summary_page(
     stamp: u64,
 ) -> Result<Page, AllocError>
     requires some { 1 ≤ length items.now }
-    requires most { length items.now ≤ 30 }
+    requires most { length items.now ≤ limits.log_limit }
     ensures { IfOk result (λ page.
         Spells page (record { stamp = stamp; checkpoint = checkpoint; tags = map payload_tag items.now })) }
 {
@@ -60,9 +61,9 @@ fn pages_of(
     stamp: u64,
 ) -> Result<Items<Page>, AllocError>
     requires some { 1 ≤ length items.now }
-    requires most { length items.now ≤ 30 }
-    ensures fits { IfOk result (λ _.
-        SummaryFits (record { stamp = stamp; checkpoint = checkpoint; tags = map payload_tag items.now })) }
+    requires most { length items.now ≤ limits.log_limit }
+    ensures fits { IfOk result (λ _. SummaryHasSpelling
+        (record { stamp = stamp; checkpoint = checkpoint; tags = map payload_tag items.now })) }
     ensures pages { IfOk result (λ pages. pages ≡ summary_bytes
         (record { stamp = stamp; checkpoint = checkpoint; tags = map payload_tag items.now })
         ∷ map payload_page items.now) }
@@ -96,8 +97,9 @@ fn stage_log(
 ) -> Result<Staged, AllocError>
     requires count { length items.now ≡ log.count }
     requires some { 1 ≤ log.count }
-    requires most { log.count ≤ 30 }
-    ensures { IfOk result (IsStaged log (record { stamp = stamp; checkpoint = checkpoint; payload = items.now })) }
+    requires most { log.count ≤ limits.log_limit }
+    ensures { IfOk result (IsStaged log
+        (record { stamp = stamp; checkpoint = checkpoint; payload = items.now })) }
 {
     let pages = pages_of(alloc, items, checkpoint, stamp)?;
     let payload = payload_of(alloc, items)?;

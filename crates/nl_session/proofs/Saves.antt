@@ -14,4 +14,4 @@ pub can_be_closed : (dirty : Bool) (moment : ℕ) (old new : Layout) → old.lis
 can_be_closed false moment old new clean unmounted same =
     subst (λ (l : Layout). CanBeClosed l.lists) (sym same) (record { clean = clean; unmounted = unmounted })
 can_be_closed true moment old new dirty unmounted (answer, does) =
-    subst CanBeClosed (sym does.touches.writes.lists) (record { clean = refl; unmounted = unmounted })
+    subst CanBeClosed (sym does.becomes.writes.lists) (record { clean = refl; unmounted = unmounted })

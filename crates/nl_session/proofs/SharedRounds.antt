@@ -8,12 +8,12 @@ use Rattle.nl_types.specs.Runs.{Run}
 use Rattle.nl_types.specs.Worlds.{Reply}
 use Rattle.nl_core.specs.Layout.{Does, IsPen, Layout}
 use Rattle.nl_core.specs.Notes.{shared}
-use Rattle.nl_cleaner.specs.Job.{JobView, next_event, noted, steps_left}
+use Rattle.nl_cleaner.specs.Job.{JobView, next_event, job_after_reply, steps_left}
 use Rattle.nl_cleaner.specs.Laws.{StepsEndRounds, UnmountsLeaveRounds}
 use Rattle.nl_cleaner.specs.declared.job.Stage.{Stage}
 use Rattle.nl_cleaner.specs.declared.job.Stage.TheVariants.{Cleaning, Ended, Expiring}
 use Rattle.nl_publish.specs.Cleaning.{CleanRan, NotBegun, Over, Stepped}
-use Rattle.nl_publish.specs.Locks.{GoesBy, Held, NotedStep, State, all_answered, given_back, state_of}
+use Rattle.nl_publish.specs.Locks.{GoesBy, HeldPen, NotedStep, State, as_replies, given_back, state_of}
 
 none_is_none : (event : Event) → None ≡ Some event → ⊥
 none_is_none event is = cc
@@ -21,7 +21,7 @@ none_is_none event is = cc
 -- a refusal for want of memory ends a round that goes on
 stuck_ends : (stage : Stage) (moment period : ℕ) (left : List ℕ) (old new : Layout) (event : Event)
     → next_event (record { stage = stage; moment = moment; period = period; left = left }) old ≡ Some event
-    → steps_left (noted (record { stage = stage; moment = moment; period = period; left = left }) (Err Memory)) new
+    → steps_left (job_after_reply (record { stage = stage; moment = moment; period = period; left = left }) (Err Memory)) new
     < steps_left (record { stage = stage; moment = moment; period = period; left = left }) old
 stuck_ends Expiring moment period left old new event next = omega arith
 stuck_ends Cleaning moment period [] old new event next = absurd (none_is_none event next)
@@ -34,7 +34,7 @@ record IsAsLong (job : JobView) (old new : Layout) : Type 0 where
   pub same : steps_left job new ≡ steps_left job old
 
 as_long : UnmountsLeaveRounds → (job : JobView) (old new : State) (lost : Option ℕ) (backs : List Answer) → IsPen old.0
-    → Run NotedStep old (given_back lost) (all_answered backs) new → IsAsLong job old.0 new.0
+    → Run NotedStep old (given_back lost) (as_replies backs) new → IsAsLong job old.0 new.0
 as_long leave job old new None [] pen run = subst (λ (s : State). IsAsLong job old.0 s.0) (sym run) (record { pen = pen; same = refl })
 as_long leave job old new None (a ∷ backs) pen run = absurd run
 as_long leave job old new (Some m) [] pen run = absurd run
@@ -44,11 +44,11 @@ as_long leave job old new (Some m) (a ∷ []) pen run =
 as_long leave job old new (Some m) (a ∷ b ∷ backs) pen run = absurd run.2
 
 -- the event of a step, alone
-does_one : (old new : Held) (event : Event) (reply : Reply) → GoesBy old event reply new → Does shared old.layout event reply new.layout
+does_one : (old new : HeldPen) (event : Event) (reply : Reply) → GoesBy old event reply new → Does shared old.layout event reply new.layout
 does_one old new event reply goes =
     let run = goes.0.runs in subst (λ (s : State). Does shared old.layout event reply s.0) (sym run.2) run.1.does
 
-pub fewer_left : StepsEndRounds → UnmountsLeaveRounds → (old new : Held) (job next : JobView) (first : Event) (reply : Option Reply) → IsPen old.layout
+pub fewer_left : StepsEndRounds → UnmountsLeaveRounds → (old new : HeldPen) (job next : JobView) (first : Event) (reply : Option Reply) → IsPen old.layout
     → next_event job old.layout ≡ Some first → CleanRan old job reply new next → OnSome reply (steps_left next new.layout < steps_left job old.layout)
 fewer_left end leave old new job next first reply pen there (Stepped begun event answer ready is_next goes replied noted_so) =
     let long = as_long leave job (state_of old) (state_of begun) old.lost ready.backs pen ready.goes.runs in

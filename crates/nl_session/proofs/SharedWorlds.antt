@@ -17,9 +17,9 @@ use Rattle.nl_types.specs.Laws.{CopiesStay, GivesBack, MountNumbersAreNew, Mount
 use Rattle.nl_types.specs.Limits.{mount_number_limit}
 use Rattle.nl_types.specs.Rows.{is_snapshot}
 use Rattle.nl_types.specs.Trees.{Tree}
-use Rattle.nl_types.specs.Worlds.{Copy, IsWorld, Outcome, Reply, World, copy_at, kept, mounted, step}
-use Rattle.nl_types.proofs.EventCases.{after_mount, either_gives, refused_if_gives}
-use Rattle.nl_types.proofs.NumberedLists.{AllBelow, find-push_same, list_all_weaken}
+use Rattle.nl_types.specs.Worlds.{Copy, IsWorld, Outcome, Reply, World, copy_at, kept_copy, mounted, step}
+use Rattle.nl_types.specs.Facts.EventCases.{after_mount, either_gives, refused_if_gives}
+use Rattle.nl_types.specs.Facts.NumberedLists.{AllBelow, find-push_same, list_all_weaken}
 use Rattle.nl_core.specs.Commits.{image_of}
 use Rattle.nl_core.specs.Layout.{DoesIn, Layout, cleaned}
 use Rattle.nl_core.specs.Notes.{shared}
@@ -121,7 +121,7 @@ made w k world n is =
 
 mount_is_made : (cleaned : Reply) (w : World) (k : ℕ) → IsWorld w → IsMade k (step cleaned w (Mount k))
 mount_is_made cleaned w k world =
-    either_gives (IsMade k) w (kept w k) _ (no_mount w k) (λ copy found.
+    either_gives (IsMade k) w (kept_copy w k) _ (no_mount w k) (λ copy found.
     refused_if_gives (IsMade k) (not (is_snapshot copy.mode)) error.NotSnapshot w _ (no_mount w k) (λ snapshot.
     refused_if_gives (IsMade k) (leb mount_number_limit (w.given + 1)) error.NumbersSpent w _ (no_mount w k) (λ fits. made w k world)))
 

@@ -31,7 +31,7 @@ use Rattle.nl_publish.specs.Mounts.{Claim}
 use Rattle.nl_mounts.specs.Sharing.{MountsCopy}
 use Rattle.nl_session.specs.SharedLaws.{Came, ComesBeside, DifferAll, IsBeside, IsDoneBeside, IsMountIn, IsReadBeside, IsSteppedBeside, KeptVolumesAreBeside, MountLost, NewVolumesAreBeside, Next, NoNext, SharedEventsFollowWorlds, SharedStepsFollowWorlds, Stayed, number_of}
 use Rattle.nl_session.specs.Sessions.{IsUnused}
-use Rattle.nl_session.specs.SharedVolumes.{IsHeldTold, IsRoundOver, MountComes, ReadComes, Sharing, left_by, mount_of, without_mount}
+use Rattle.nl_session.specs.SharedVolumes.{IsHeldTold, IsRoundOver, MountComes, ReadComes, Sharing, mounts_left_by, mount_of, without_mount}
 use Rattle.nl_session.specs.SharedVolumes as volume
 use Rattle.nl_script.specs.FileReads.{IsToldThrough}
 use Rattle.nl_session.proofs.SharedWorlds.{Beside, Laws, all_hold, back_refused, mount_found, mount_is_new}
@@ -91,7 +91,7 @@ module _ (laws : Laws) (w : World) (old new : Sharing) (reply : Reply) (before :
     held : AllByRecursion (IsMountIn behind.middle.1) old.mounts
     held = held_before laws w old new (Unmount n) reply before behind
 
-    mounts_left : (r : Reply) → reply ≡ r → AllByRecursion (IsMountIn behind.after) (left_by n r old.mounts)
+    mounts_left : (r : Reply) → reply ≡ r → AllByRecursion (IsMountIn behind.after) (mounts_left_by n r old.mounts)
     mounts_left (Ok answer) is =
         all_hold laws behind.middle (new.held.layout, behind.after) (Unmount n) reply (without_mount n old.mounts) behind.does
         (each_so (λ (m : Claim). m.number ≢ n) (λ (m : Claim). GivesBack (Unmount n) m.number → ⊥) (λ m other same. other (sym same))
@@ -102,21 +102,21 @@ module _ (laws : Laws) (w : World) (old new : Sharing) (reply : Reply) (before :
         (subst (λ (r : Reply). DoesIn shared behind.middle (Unmount n) r (new.held.layout, behind.after)) is behind.does) in
         subst (λ (v : World). AllByRecursion (IsMountIn v) old.mounts) (sym still) held
 
-    numbers_left : (r : Reply) → DifferAll (map number_of (left_by n r old.mounts))
+    numbers_left : (r : Reply) → DifferAll (map number_of (mounts_left_by n r old.mounts))
     numbers_left (Ok answer) = left_differ n old.mounts differ
     numbers_left (Err e) = differ
 
-    back_comes : new.held.lost ≡ None → new.mounts ≡ left_by n reply old.mounts → ComesBeside w old (Unmount n) reply new
+    back_comes : new.held.lost ≡ None → new.mounts ≡ mounts_left_by n reply old.mounts → ComesBeside w old (Unmount n) reply new
     back_comes none same =
         comes_clear laws w old new (Unmount n) reply before behind none
         (subst (AllByRecursion (IsMountIn behind.after)) (sym same) (mounts_left reply refl))
         (subst (λ (claims : List Claim). DifferAll (map number_of claims)) (sym same) (numbers_left reply))
 
-  ran_back : (n : ℕ) → Ran old.held (Unmount n) reply new.held → new.mounts ≡ left_by n reply old.mounts → IsDoneBeside w old (Unmount n) reply new
+  ran_back : (n : ℕ) → Ran old.held (Unmount n) reply new.held → new.mounts ≡ mounts_left_by n reply old.mounts → IsDoneBeside w old (Unmount n) reply new
   ran_back n (locks.Done backs goes none) same =
       Came (back_comes n (behind_whole laws w old.held new.held (Unmount n) reply backs before.means goes) none same)
   ran_back n (locks.NotBegun stuck is) same =
-      Stayed is (stays_stuck laws w old new before (same ∙ ap (λ (r : Reply). left_by n r old.mounts) is) stuck)
+      Stayed is (stays_stuck laws w old new before (same ∙ ap (λ (r : Reply). mounts_left_by n r old.mounts) is) stuck)
 
   -- ---- mounts
 

@@ -5,11 +5,12 @@ use Rattle.nl_types.specs.declared.event.Event.{Event}
 use Rattle.nl_types.specs.declared.event.Event.TheVariants.{Unmount}
 use Rattle.nl_types.specs.declared.reply.Answer.{Answer}
 use Rattle.nl_types.specs.Laws.{GivesBack}
-use Rattle.nl_types.specs.Runs.{Run, Run-more}
+use Rattle.nl_types.specs.Runs.{Run}
 use Rattle.nl_types.specs.Worlds.{Reply, World}
+use Rattle.nl_types.specs.Facts.Runs.{Run-more}
 use Rattle.nl_core.specs.Layout.{DoesIn, MeansWorld}
 use Rattle.nl_core.specs.Notes.{shared}
-use Rattle.nl_publish.specs.Locks.{Goes, Held, IsReady, IsStuck, all_answered, given_back, listed}
+use Rattle.nl_publish.specs.Locks.{Goes, HeldPen, IsReady, IsStuck, as_replies, given_back, listed}
 use Rattle.nl_publish.specs.Mounts.{Claim}
 use Rattle.nl_session.specs.SharedLaws.{ComesBeside, DifferAll, IsBeside, IsMountIn, LeadsBeside, StaysBeside, number_of}
 use Rattle.nl_session.specs.SharedVolumes.{Sharing}
@@ -49,11 +50,11 @@ back_holds laws (Some n) a b (r ∷ q ∷ rs) claims run differ before = absurd 
 -- ---- an event behind a give-back
 
 -- a run that gives a lost mount back, and then does an event
-pub record IsBehind (w : World) (old : Held) (event : Event) (reply : Reply) (new : Held) : Type 0 where
+pub record IsBehind (w : World) (old : HeldPen) (event : Event) (reply : Reply) (new : HeldPen) : Type 0 where
   pub backs : List Answer
   pub middle : Beside
   pub after : World
-  pub begins : RunsIn (old.layout, w) (given_back old.lost) (all_answered backs) middle
+  pub begins : RunsIn (old.layout, w) (given_back old.lost) (as_replies backs) middle
   pub does : DoesIn shared middle event reply (new.layout, after)
   -- the world before the event is one too
   pub means : MeansWorld middle.0 middle.1
@@ -65,25 +66,25 @@ back_means a b [] (r ∷ rs) run means = absurd run
 back_means a b (e ∷ es) [] run means = absurd run
 
 -- one run of both
-pub behind_whole : (laws : Laws) (w : World) (old new : Held) (event : Event) (reply : Reply) (backs : List Answer) → MeansWorld old.layout w
-    → Goes old (given_back old.lost ++ event ∷ []) (all_answered backs ++ reply ∷ []) new → IsBehind w old event reply new
+pub behind_whole : (laws : Laws) (w : World) (old new : HeldPen) (event : Event) (reply : Reply) (backs : List Answer) → MeansWorld old.layout w
+    → Goes old (given_back old.lost ++ event ∷ []) (as_replies backs ++ reply ∷ []) new → IsBehind w old event reply new
 behind_whole laws w old new event reply backs means goes =
-    let leads = laws.leads old new (given_back old.lost ++ event ∷ []) (all_answered backs ++ reply ∷ []) goes w means in
-    let parts = split (old.layout, w) (new.layout, leads.after) (given_back old.lost) event (all_answered backs) reply leads.run in
+    let leads = laws.leads old new (given_back old.lost ++ event ∷ []) (as_replies backs ++ reply ∷ []) goes w means in
+    let parts = split (old.layout, w) (new.layout, leads.after) (given_back old.lost) event (as_replies backs) reply leads.run in
     record {
       backs = backs;
       middle = parts.0;
       after = leads.after;
       begins = parts.1;
       does = parts.2;
-      means = back_means (old.layout, w) parts.0 (given_back old.lost) (all_answered backs) parts.1 means;
+      means = back_means (old.layout, w) parts.0 (given_back old.lost) (as_replies backs) parts.1 means;
     }
 
 -- a run of each
-pub behind_ready : (laws : Laws) (w : World) (old clear new : Held) (event : Event) (reply : Reply) → MeansWorld old.layout w → IsReady old clear
+pub behind_ready : (laws : Laws) (w : World) (old clear new : HeldPen) (event : Event) (reply : Reply) → MeansWorld old.layout w → IsReady old clear
     → Goes clear (event ∷ []) (reply ∷ []) new → IsBehind w old event reply new
 behind_ready laws w old clear new event reply means ready goes =
-    let first = laws.leads old clear (given_back old.lost) (all_answered ready.backs) ready.goes w means in
+    let first = laws.leads old clear (given_back old.lost) (as_replies ready.backs) ready.goes w means in
     let then = laws.leads clear new (event ∷ []) (reply ∷ []) goes first.after first.means in
     record {
       backs = ready.backs;
@@ -99,7 +100,7 @@ module _ (laws : Laws) (w : World) (old new : Sharing) (event : Event) (reply : 
   -- the mounts that were held are there before the event
   pub held_before : AllByRecursion (IsMountIn behind.middle.1) old.mounts
   held_before =
-      back_holds laws old.held.lost (old.held.layout, w) behind.middle (all_answered behind.backs) old.mounts behind.begins before.numbers before.mounts
+      back_holds laws old.held.lost (old.held.layout, w) behind.middle (as_replies behind.backs) old.mounts behind.begins before.numbers before.mounts
 
   -- so the event comes behind, where the mounts that are held then are there
   pub comes_behind : AllByRecursion (IsMountIn behind.after) new.mounts → DifferAll (listed new.held.lost ++ map number_of new.mounts)
@@ -109,7 +110,7 @@ module _ (laws : Laws) (w : World) (old new : Sharing) (event : Event) (reply : 
     record {
       after = behind.after;
       run = Run-more (DoesIn shared) (old.held.layout, w) behind.middle (new.held.layout, behind.after) (given_back old.held.lost)
-          (all_answered behind.backs) event reply behind.begins behind.does;
+          (as_replies behind.backs) event reply behind.begins behind.does;
       beside = record { means = behind.does.means; mounts = mounts; numbers = numbers };
     },
   )
@@ -151,8 +152,8 @@ module _ (laws : Laws) (w : World) (old new : Sharing) (before : IsBeside w old)
   -- the lost mount is back
   pub stays_ready : IsReady old.held new.held → StaysBeside w old new
   stays_ready ready = inr (
-    all_answered ready.backs,
-    leads_back (all_answered ready.backs) ready.goes
+    as_replies ready.backs,
+    leads_back (as_replies ready.backs) ready.goes
         (differ_none new.held.lost (map number_of old.mounts) ready.lost (differ_rest old.held.lost (map number_of old.mounts) before.numbers)),
   )
 

@@ -27,7 +27,8 @@ pub record IsNewPen (geometry : Geometry) (l : Layout) : Type 0 where
   pub is_formatted : IsFormatted geometry pages failures 0 l
   pub means : MeansWorld l (formatted 0)
 
--- the pen has this image under the present mark, nothing differs from its latest checkpoint, and nothing was mounted
+-- the pen has this image under the present mark, nothing differs from its latest checkpoint, and nothing was
+-- mounted
 pub record IsOpenedPen (image : List ℕ) (l : Layout) : Type 0 where
   pub image_is : IsPenImage l (with_present_mark image)
   pub pen : IsPen l
@@ -76,8 +77,8 @@ pub record IsNoImage (error : VolError) : Type 0 where
 abbrev pub IsGeometryJudged : Arguments → Type 0
 IsGeometryJudged arguments = IsSome arguments.open ⊎ IsGeometry arguments.segments arguments.blocks
 
--- why a step is refused behind the configuration and before the first line: the image is judged, or else the geometry, and
--- then the volume is made
+-- why a step is refused behind the configuration and before the first line: the image is judged, or else the
+-- geometry, and then the volume is made
 abbrev pub IsStartRefused : Arguments → StartStep → VolError → Type 0
 IsStartRefused arguments step.Configuration error = ⊥
 IsStartRefused arguments step.Image error = IsSome arguments.open × IsNoImage error

@@ -13,7 +13,8 @@ use Rattle.nl_script.specs.declared.scripts.Done.{Done}
 -- a plain checkpoint is made where something is dirty
 abbrev pub IsSettled : (dirty : Bool) → (moment : ℕ) → Layout → Layout → Type 0
 IsSettled false moment old new = new ≡ old
-IsSettled true moment old new = (answer : Answer) × Does unshared old (Checkpoint Plain moment) (Ok answer) new
+IsSettled true moment old new =
+    (answer : Answer) × Does unshared old (Checkpoint Plain moment) (Ok answer) new
 
 -- and then the image is that of the pen, which can be closed
 pub record SavesFrom (moment : ℕ) (left : Layout) (image : List ℕ) : Type 0 where
@@ -42,11 +43,12 @@ pub record IsQuietEnd {E : Type 0} (done : Done) (errors told : E) (status : ℕ
   pub status_is : status ≡ exit_status done
   pub silent : done.failed ≡ None → told ≡ errors
 
--- Nothing is to be saved; or the image of what the script left is, at its last moment; or that isn't, which is told. What is
--- in the file then is known to no contract.
+-- Nothing is to be saved; or the image of what the script left is, at its last moment; or that isn't, which
+-- is told. What is in the file then is known to no contract.
 pub data Ends {E : Type 0} (save : Option (List ℕ)) (left : Layout) (done : Done)
     (errors told : E) (status : ℕ) : Type 0 where
   Plainly : save ≡ None → IsQuietEnd done errors told status → Ends save left done errors told status
-  Saved : (image : List ℕ) → save ≢ None → SavesFrom done.moment left image → IsQuietEnd done errors told status
+  Saved : (image : List ℕ) → save ≢ None → SavesFrom done.moment left image
+      → IsQuietEnd done errors told status
       → Ends save left done errors told status
   Unsaved : save ≢ None → status ≡ exit_status (unsaved done) → Ends save left done errors told status

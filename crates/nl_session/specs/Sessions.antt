@@ -30,48 +30,61 @@ pub record IsVolumeOf (beginning : Beginning) (s : Sharing) : Type 0 where
   pub pen : IsPenOf beginning s.held.layout
   pub unused : IsUnused s
 
--- the streams of a session
-pub record Streams (O E : Type 0) : Type 0 where
+-- what is read and printed
+pub record Printing (O : Type 0) : Type 0 where
   -- the bytes of the input, where they are known
   pub input : Option Text
   -- what an output holds, where it is known
   pub contents : O → Option Text
-  -- the output before the session and behind it
+  -- the output before and behind it
   pub output : O
   pub printed : O
-  -- and the stream of errors
+
+abbrev pub printing_of : {O : Type 0} → Option Text → (O → Option Text) → (output printed : O) → Printing O
+printing_of input contents output printed = record {
+  input = input;
+  contents = contents;
+  output = output;
+  printed = printed;
+}
+
+-- this text is printed, and nothing else
+abbrev pub HasPrinted : {O : Type 0} → Text → Printing O → Type 0
+HasPrinted text p = Appends (p.contents p.output) (p.contents p.printed) text
+
+-- the streams of a session
+pub record Streams (O E : Type 0) : Type 0 where
+  pub printing : Printing O
+  -- the stream of errors before the session and behind it
   pub errors : E
   pub told : E
 
 abbrev pub streams : {O E : Type 0} → Option Text → (O → Option Text)
     → (output printed : O) → (errors told : E) → Streams O E
 streams input contents output printed errors told = record {
-  input = input;
-  contents = contents;
-  output = output;
-  printed = printed;
+  printing = printing_of input contents output printed;
   errors = errors;
   told = told;
 }
 
--- a script is done on a volume, from moment 0 on, with rounds by this configuration, and nothing but its texts is printed
-abbrev pub IsScriptRun : {O : Type 0} → Config → Option Text → (contents : O → Option Text)
-    → (output printed : O) → (old new : Sharing) → Done → Type 0
-IsScriptRun config input contents output printed old new done =
-    IsScriptDone shared_habits config 0 old new done input contents output printed
+-- a script is done on a volume, from moment 0 on, with rounds by this configuration, and nothing but its
+-- texts is printed
+abbrev pub IsScriptRun : {O : Type 0} → Config → Printing O → (old new : Sharing) → Done → Type 0
+IsScriptRun config p old new done =
+    IsScriptDone shared_habits config 0 old new done p.input p.contents p.output p.printed
 
 -- the volume's pen, without mounts
 abbrev pub pen_left : Sharing → Layout
 pen_left s = layout_of (without_mounts s.held.layout.lists) s.held.layout.store
 
 -- so on a volume of this pen, and this one is left
-pub record RunsOn {O : Type 0} (pen left : Layout) (config : Config) (input : Option Text)
-    (contents : O → Option Text) (output printed : O) (done : Done) : Type 0 where
+pub record RunsOn {O : Type 0} (pen left : Layout) (config : Config) (p : Printing O)
+    (done : Done) : Type 0 where
   pub old : Sharing
   pub unused : IsUnused old
   pub of_pen : old.held.layout ≡ pen
   pub new : Sharing
-  pub runs : IsScriptRun config input contents output printed old new done
+  pub runs : IsScriptRun config p old new done
   pub left_is : left ≡ pen_left new
 
 -- The script is done on the volume that was asked for, which is saved in the end where that was asked for.
@@ -81,14 +94,15 @@ pub record IsRunOf {O E : Type 0} (arguments : Arguments) (config : Config)
   pub begun : IsBegunBy arguments pen
   pub left : Layout
   pub done : Done
-  pub runs : RunsOn pen left config s.input s.contents s.output s.printed done
+  pub runs : RunsOn pen left config s.printing done
   pub ends : Ends arguments.save left done s.errors s.told status
 
 -- no line is run: the output is as it was
 abbrev pub RunsNoLine : {O E : Type 0} → Streams O E → Type 0
-RunsNoLine s = s.printed ≡ s.output
+RunsNoLine s = s.printing.printed ≡ s.printing.output
 
-pub record IsRefusedBefore {O E : Type 0} (arguments : Arguments) (s : Streams O E) (status : ℕ) : Type 0 where
+pub record IsRefusedBefore {O E : Type 0} (arguments : Arguments) (s : Streams O E)
+    (status : ℕ) : Type 0 where
   pub fault : StartFault
   pub is_fault : IsStartFault arguments fault
   pub no_line : RunsNoLine s
@@ -112,7 +126,7 @@ pub record RunsOrRefuses {O E : Type 0} (arguments : Arguments) (s : Streams O E
 -- the text is printed, which isn't empty, and no word is said of errors
 pub record IsTextPrinted {O E : Type 0} (text : Text) (s : Streams O E) : Type 0 where
   pub something : 0 < length text
-  pub written : Appends (s.contents s.output) (s.contents s.printed) text
+  pub written : HasPrinted text s.printing
   pub silent : s.told ≡ s.errors
 
 -- a text that was asked for is printed, unless the output fails

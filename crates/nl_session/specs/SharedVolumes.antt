@@ -23,7 +23,7 @@ use Rattle.nl_core.specs.CleanerViews.{needed_told}
 use Rattle.nl_core.specs.Layout.{Layout}
 use Rattle.nl_publish.specs.Begun.{HasBegun}
 use Rattle.nl_publish.specs.Cleaning.{CleanRan}
-use Rattle.nl_publish.specs.Locks.{Held, MountRan, Ran, mount_reply}
+use Rattle.nl_publish.specs.Locks.{HeldPen, MountRan, Ran, mount_reply}
 use Rattle.nl_publish.specs.Mounts.{Claim}
 use Rattle.nl_mounts.specs.Sharing.{MountsCopy}
 use Rattle.nl_script.specs.FileReads.{IsToldThrough}
@@ -31,7 +31,7 @@ use Rattle.nl_script.specs.Habits.{Habits}
 
 -- what lies under the lock, and the mounts that are held
 pub record Sharing : Type 0 where
-  pub held : Held
+  pub held : HeldPen
   pub mounts : List Claim
 
 -- it begins as a pen all of which is published, with no mounts
@@ -55,7 +55,8 @@ mount_of m claims = option_and_then (slice_get claims) (place_of m claims)
 
 -- ---- mounts
 
--- No place is left for the mount, and nothing is done; or the checkpoint is mounted, told of and held; or that is refused.
+-- No place is left for the mount, and nothing is done; or the checkpoint is mounted, told of and held; or
+-- that is refused.
 pub data MountComes (old : Sharing) (checkpoint : ℕ) (reply : Reply) (new : Sharing) : Type 0 where
   NoPlace : reply ≡ Err Memory → new ≡ old → MountComes old checkpoint reply new
   Mounted : (m : Claim) → reply ≡ mount_reply m.number → m.checkpoint ≡ checkpoint
@@ -75,9 +76,9 @@ abbrev pub without_mount : ℕ → List Claim → List Claim
 without_mount m claims = removed_at claims (place_of m claims)
 
 -- a mount that is given back is held no more
-abbrev pub left_by : ℕ → Reply → List Claim → List Claim
-left_by m (Ok answer) claims = without_mount m claims
-left_by m (Err e) claims = claims
+abbrev pub mounts_left_by : ℕ → Reply → List Claim → List Claim
+mounts_left_by m (Ok answer) claims = without_mount m claims
+mounts_left_by m (Err e) claims = claims
 
 -- ---- reads through mounts
 
@@ -96,7 +97,7 @@ ReadComes old mount ask reply new = (new ≡ old) × IsHeldTold (mount_of mount 
 abbrev pub shared_does : Sharing → Event → Reply → Sharing → Type 0
 shared_does old (Mount checkpoint) reply new = MountComes old checkpoint reply new
 shared_does old (Unmount m) reply new =
-    Ran old.held (Unmount m) reply new.held × (new.mounts ≡ left_by m reply old.mounts)
+    Ran old.held (Unmount m) reply new.held × (new.mounts ≡ mounts_left_by m reply old.mounts)
 shared_does old (MountRead m ask) reply new = ReadComes old m ask reply new
 shared_does old event reply new = Ran old.held event reply new.held × (new.mounts ≡ old.mounts)
 
@@ -110,12 +111,12 @@ stat_reply (Ok stat) = Ok (answer.Stat stat)
 stat_reply (Err e) = Err e
 
 -- nothing is left of the round, and nothing is done
-abbrev pub IsRoundOver : Held → JobView → Option Reply → Held → JobView → Type 0
+abbrev pub IsRoundOver : HeldPen → JobView → Option Reply → HeldPen → JobView → Type 0
 IsRoundOver old job reply new next =
     (next_event job old.layout ≡ None) × (reply ≡ None) × (new ≡ old) × (next ≡ job)
 
 -- or its next step is done
-abbrev pub IsRoundStep : Held → JobView → Option Reply → Held → JobView → Type 0
+abbrev pub IsRoundStep : HeldPen → JobView → Option Reply → HeldPen → JobView → Type 0
 IsRoundStep old job reply new next = IsRoundOver old job reply new next ⊎ CleanRan old job reply new next
 
 abbrev pub shared_steps : Sharing → JobView → Option Reply → Sharing → JobView → Type 0
@@ -135,7 +136,8 @@ shared_counts s stat = stat ≡ cpstat_of s.held.layout.lists.table
 -- all segments, the clean ones, and the rest
 abbrev pub shared_measures : Sharing → Sustat → Type 0
 shared_measures s stat = (stat.segments ≡ length s.held.layout.store.segments.each)
-    × (stat.clean ≡ length (clean_segments s.held.layout.store.segments)) × (stat.dirty + stat.clean ≡ stat.segments)
+    × (stat.clean ≡ length (clean_segments s.held.layout.store.segments))
+    × (stat.dirty + stat.clean ≡ stat.segments)
 
 -- a round is planned as the cleaner's own contract says
 abbrev pub shared_plans : Sharing → Config → (moment : ℕ) → JobView → Type 0

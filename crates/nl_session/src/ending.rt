@@ -114,8 +114,8 @@ fn save_path(arguments: &Arguments) -> Option<&[u8]>
     arguments.save.as_ref().map(Items::as_slice)
 }
 
-/// Ends a session: tells which stream failed, if one did, and saves what the script left where that was asked for. Answers
-/// the status.
+/// Ends a session: tells which stream failed, if one did, and saves what the script left where that was asked
+/// for. Answers the status.
 pub fn end<R: AllocGlobal + Files, D: Device, E: Write>(
     rt: &R,
     arguments: &Arguments,

@@ -7,14 +7,15 @@ use nl_image::laws::store_images_have_the_present_mark;
 use nl_publish::laws::locked_runs_lead_on;
 use nl_types::laws::{copies_stay, mounts_stay};
 
-/// A volume tells of each segment that there is, and of its needed blocks. So `lssu` is refused for memory alone.
+/// A volume tells of each segment that there is, and of its needed blocks. So `lssu` is refused for memory
+/// alone.
 pub fn volumes_tell_of_segments()
     ensures { VolumesTellOfSegments }
 {}
 
-/// Where a shared volume is beside a world, each event on it is answered as that of plain files with whole copies, and it is
-/// beside a world then too. So are steps of rounds. A new volume is beside a new world, and that of an image beside the world
-/// that its pen means, so all of this holds throughout a session.
+/// Where a shared volume is beside a world, each event on it is answered as that of plain files with whole
+/// copies, and it is beside a world then too. So are steps of rounds. A new volume is beside a new world, and
+/// that of an image beside the world that its pen means, so all of this holds throughout a session.
 pub fn shared_volumes_follow_worlds()
     ensures new { NewVolumesAreBeside }
     ensures kept { KeptVolumesAreBeside }

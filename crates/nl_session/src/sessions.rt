@@ -2,7 +2,7 @@
 ghost use Rattle.std.specs.Prelude.{◌≡◌, map, option_map, IfErr, IfOk, IsOkUnless, List, None, OnErr, OnOk, Option, ℕ};
 ghost use Rattle.std.specs.Io.KnownBytes.{Appends};
 ghost use Rattle.nl_arguments.specs.Statuses.{fault_status};
-ghost use Rattle.nl_session.specs.Sessions.{IsScriptRun, IsSession, Prints, RunsOn, RunsOrRefuses, RunsWith, streams};
+ghost use Rattle.nl_session.specs.Sessions.{IsScriptRun, IsSession, Prints, RunsOn, RunsOrRefuses, RunsWith, printing_of, streams};
 
 use crate::ending::{end, tell_failure};
 use crate::shared::SharedVolume;
@@ -33,8 +33,8 @@ fn run_on<J: Volumes + Send + Sync, R: Threads + Wait + Sync, I: Read + Drop, O:
     output: &mut O,
 ) -> Result<Done, VolError>
     ensures run { IfOk result (λ done.
-        IsScriptRun config.now (I.remaining input) O.contents
-        output.old output.new volume.old volume.new done) }
+        IsScriptRun config.now (printing_of (I.remaining input) O.contents output.old output.new)
+        volume.old volume.new done) }
     ensures refused { IsOkUnless result VolError.Memory }
     ensures unprinted { OnErr result (output.new ≡ output.old) }
 {
@@ -54,7 +54,8 @@ fn run_script<J: Volumes + Send + Sync, R: Threads + Wait + Sync, I: Read + Drop
 ) -> Result<(Done, Pen<MemDevice>), VolError>
     requires id { opened.seen.book ≡ J.book opened.id }
     ensures run { IfOk result (λ left.
-        RunsOn pen left.1 config.now (I.remaining input) O.contents output.old output.new left.0) }
+        RunsOn pen left.1 config.now (printing_of (I.remaining input) O.contents output.old output.new)
+        left.0) }
     ensures refused { IsOkUnless result VolError.Memory }
     ensures unprinted { OnErr result (output.new ≡ output.old) }
 {
@@ -187,12 +188,12 @@ fn run<R: AllocGlobal + Files + Threads + Wait + Sync, I: Read + Drop, O: Write,
     }
 }
 
-/// What the words behind the program's name ask for: a script on a volume in memory, or a text about the program. The volume
-/// is new, or that of an image in a file, and its image is saved in the end where that is asked for.
-/// Answers the exit status: 2 where the words or a line were no command, else 1 where anything was refused, or a stream or
-/// the configuration's file failed, else 0. What the lines answer goes to the output, which is best buffered: it is flushed
-/// behind each line. Only why no
-/// line was run, that a stream failed, and why the volume isn't saved goes to `errors`.
+/// What the words behind the program's name ask for: a script on a volume in memory, or a text about the
+/// program. The volume is new, or that of an image in a file, and its image is saved in the end where that is
+/// asked for. Answers the exit status: 2 where the words or a line were no command, else 1 where anything was
+/// refused, or a stream or the configuration's file failed, else 0. What the lines answer goes to the output,
+/// which is best buffered: it is flushed behind each line. Only why no line was run, that a stream failed,
+/// and why the volume isn't saved goes to `errors`.
 pub fn session<R: AllocGlobal + Files + Threads + Wait + Sync, I: Read + Drop, O: Write, E: Write>(
     rt: &R,
     words: &[&str],

@@ -4,7 +4,7 @@ ghost use Rattle.nl_cleaner.specs.Job.{steps_left};
 ghost use Rattle.nl_core.specs.Layout.{layout_of};
 ghost use Rattle.nl_core.specs.Volume.{without_mounts};
 ghost use Rattle.nl_publish.specs.Locks.{Ran};
-ghost use Rattle.nl_session.specs.SharedVolumes.{HasBegunShared, IsHeldTold, IsRoundStep, MountComes, ReadComes, left_by, mount_of, names_reply, place_of, reader_count, shared_habits, stat_reply, without_mount};
+ghost use Rattle.nl_session.specs.SharedVolumes.{HasBegunShared, IsHeldTold, IsRoundStep, MountComes, ReadComes, mounts_left_by, mount_of, names_reply, place_of, reader_count, shared_habits, stat_reply, without_mount};
 ghost use Rattle.nl_script.specs.FileReads.{IsPortReply};
 ghost use Rattle.nl_types.specs.declared.event.Ask.TheVariants as question;
 ghost use Rattle.nl_types.specs.declared.event.Event.TheVariants as event;
@@ -30,8 +30,8 @@ use std::sync::Wait;
 /// How many ports read files side by side.
 const READERS: usize = 4;
 
-/// A volume whose commits are published, a port of its own, and the mounts that are held. A contract sees what lies under
-/// the lock, and the mounts.
+/// A volume whose commits are published, a port of its own, and the mounts that are held. A contract sees
+/// what lies under the lock, and the mounts.
 pub struct SharedVolume<'a, D: Device, J: Volumes, R: Wait> {
     rt: &'a R,
     alloc: Global,
@@ -76,19 +76,13 @@ fn forget<J: Volumes>(mounts: &mut Vec<Mount<J>>, number: MountNumber)
 fn names_reply(names: Result<Items<Named>, VolError>) -> Reply
     ensures { result ≡ names_reply names }
 {
-    match names {
-        Ok(names) => Ok(Answer::Names(names)),
-        Err(refusal) => Err(refusal),
-    }
+    Ok(Answer::Names(names?))
 }
 
 fn stat_reply(stat: Result<Stat, VolError>) -> Reply
     ensures { result ≡ stat_reply stat }
 {
-    match stat {
-        Ok(stat) => Ok(Answer::Stat(stat)),
-        Err(refusal) => Err(refusal),
-    }
+    Ok(Answer::Stat(stat?))
 }
 
 fn bytes_through<J: Volumes>(
@@ -140,7 +134,8 @@ fn told<J: Volumes>(alloc: Global, port: &mut Port<J>, mount: &Mount<J>, ask: &A
 // ---- beginning and end
 
 impl<'a, D: Device, J: Volumes, R: Wait> SharedVolume<'a, D, J, R> {
-    /// Shares a volume with four ports beside its own, which are handed out. `opened` has its id, and an empty history.
+    /// Shares a volume with four ports beside its own, which are handed out. `opened` has its id, and an
+    /// empty history.
     ///
     /// # Errors
     /// `Memory`.
@@ -175,7 +170,8 @@ impl<'a, D: Device, J: Volumes, R: Wait> SharedVolume<'a, D, J, R> {
 
     /// Takes all mounts out, and gives the pen back. It takes no memory.
     pub fn end(self) -> Pen<D>
-        ensures { result ≡ layout_of (without_mounts self.entry.held.layout.lists) self.entry.held.layout.store }
+        ensures { result ≡ layout_of
+            (without_mounts self.entry.held.layout.lists) self.entry.held.layout.store }
     {
         let SharedVolume {
             rt,
@@ -198,7 +194,8 @@ fn step_round<D: Device, J: Volumes, R: Wait>(
     job: &mut Job,
 ) -> Option<Reply>
     ensures stepped { IsRoundStep locked.old job.old result locked.new job.new }
-    ensures fewer { OnSome result (steps_left job.new locked.new.layout < steps_left job.old locked.old.layout) }
+    ensures fewer { OnSome result
+        (steps_left job.new locked.new.layout < steps_left job.old locked.old.layout) }
 {
     steps_end_rounds();
     unmounts_leave_rounds();
@@ -217,6 +214,7 @@ impl<D: Device, J: Volumes, R: Wait> SharedVolume<'_, D, J, R> {
         if self.mounts.reserve(1).is_err() {
             return Err(VolError::Memory);
         }
+        // `match`, as behind `?` the refusal would need a lemma of its own
         match self.locked.mount(self.rt, checkpoint) {
             Err(refusal) => Err(refusal),
             Ok(mount) => {
@@ -230,7 +228,7 @@ impl<D: Device, J: Volumes, R: Wait> SharedVolume<'_, D, J, R> {
     /// Gives a mount back. Refused, it is held on.
     fn unmount(&mut self, number: MountNumber) -> Reply
         ensures ran { Ran self.old.held (event.Unmount number) result self.new.held }
-        ensures mounts { self.new.mounts ≡ left_by number result self.old.mounts }
+        ensures mounts { self.new.mounts ≡ mounts_left_by number result self.old.mounts }
     {
         let reply = self.locked.apply(self.rt, &Event::Unmount(number));
         if reply.is_ok() {

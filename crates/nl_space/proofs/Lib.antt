@@ -1,3 +1,0 @@
-pub mod KeptLogs
-pub mod LogNumbers
-pub mod ImageBlocks

@@ -7,15 +7,18 @@ use Rattle.nl_types.specs.declared.segment.Log.{Log}
 use Rattle.nl_types.specs.Segments.{IsUsed, with_error}
 use Rattle.nl_types.specs.Placing.{LogsFit, addresses, first_block, with_logs}
 use Rattle.nl_types.specs.PlacingLaws.{AreUnused}
+use Rattle.nl_types.specs.PartialMaps.{Stands}
 use Rattle.nl_device.specs.Pages.{DevicePages}
-use Rattle.nl_space.specs.Content.{Payload, Held, SpaceContent, payload_page, StandAt, IsSameAt}
+use Rattle.nl_space.specs.Content.{Payload, HeldPayload, SpaceContent, payload_page, IsSameAt}
 use Rattle.nl_space.specs.Logs.{StandsFrom}
 
--- The logs stand, with the payload shared out to them in order, each behind a summary of this moment and checkpoint number.
-abbrev pub StandInLogs : ℕ → ℕ → ℕ → List Log → List Payload → Held → DevicePages → Type 0
+-- The logs stand, with the payload shared out to them in order, each behind a summary of this moment and
+-- checkpoint number.
+abbrev pub StandInLogs : ℕ → ℕ → ℕ → List Log → List Payload → HeldPayload → DevicePages → Type 0
 StandInLogs blocks stamp checkpoint [] payload held stored = Unit {0}
 StandInLogs blocks stamp checkpoint (log ∷ logs) payload held stored =
-    StandsFrom (first_block blocks log) (record { stamp = stamp; checkpoint = checkpoint; payload = take log.count payload }) held stored
+    StandsFrom (first_block blocks log)
+    (record { stamp = stamp; checkpoint = checkpoint; payload = take log.count payload }) held stored
     × StandInLogs blocks stamp checkpoint logs (drop log.count payload) held stored
 
 -- the block is none of the log's
@@ -26,8 +29,10 @@ IsOutside blocks b log = (b < first_block blocks log) ⊎ (first_block blocks lo
 abbrev pub KeepsOtherBlocks : ℕ → List Log → SpaceContent → SpaceContent → Type 0
 KeepsOtherBlocks blocks logs old new = (b : ℕ) → AllByRecursion (IsOutside blocks b) logs → IsSameAt old new b
 
--- The payload was written in the one list of logs that fits, and stands at these numbers, none of which was used before.
-pub record IsAppended (old new : SpaceContent) (reserve : Bool) (stamp checkpoint : ℕ) (payload : List Payload) (numbers : List ℕ) : Type 0 where
+-- The payload was written in the one list of logs that fits, and stands at these numbers, none of which was
+-- used before.
+pub record IsAppended (old new : SpaceContent) (reserve : Bool) (stamp checkpoint : ℕ)
+    (payload : List Payload) (numbers : List ℕ) : Type 0 where
   pub logs : List Log
   pub fits : LogsFit old.segments reserve (length payload) logs
   pub segments : new.segments ≡ with_logs old.segments logs stamp
@@ -35,13 +40,14 @@ pub record IsAppended (old new : SpaceContent) (reserve : Bool) (stamp checkpoin
   pub at : numbers ≡ addresses old.segments.blocks logs
   pub unused_before : AreUnused old.segments (length payload) numbers
   pub used_now : AllByRecursion (IsUsed new.segments) numbers
-  pub held : StandAt numbers payload new.held
-  pub stored : StandAt numbers (map payload_page payload) new.stored
+  pub held : Stands new.held numbers payload
+  pub stored : Stands new.stored numbers (map payload_page payload)
   pub others : KeepsOtherBlocks old.segments.blocks logs old new
 
--- One of the logs that fit was not written whole: its segment is in error, and none is active. Those before it are written,
--- and no block changed but theirs and its own.
-pub record IsBrokenOff (old new : SpaceContent) (reserve : Bool) (stamp checkpoint : ℕ) (payload : List Payload) : Type 0 where
+-- One of the logs that fit was not written whole: its segment is in error, and none is active. Those before
+-- it are written, and no block changed but theirs and its own.
+pub record IsBrokenOff (old new : SpaceContent) (reserve : Bool) (stamp checkpoint : ℕ)
+    (payload : List Payload) : Type 0 where
   pub written : List Log
   pub failed : Log
   pub left : List Log

@@ -17,30 +17,23 @@ abbrev pub payload_page : Payload → List ℕ
 payload_page payload = payload.1
 
 -- the payload in memory, by block number
-abbrev pub Held : Type 0
-Held = ℕ → Option Payload
+abbrev pub HeldPayload : Type 0
+HeldPayload = ℕ → Option Payload
 
 pub record SpaceContent : Type 0 where
   pub segments : Segments
-  pub held : Held
+  pub held : HeldPayload
   -- what the device holds
   pub stored : DevicePages
 
 -- ---- what stands where
-
--- the values stand at these numbers, in order
-abbrev pub StandAt : {V : Type 0} → List ℕ → List V → (ℕ → Option V) → Type 0
-StandAt [] [] f = Unit {0}
-StandAt [] (v ∷ vs) f = ⊥
-StandAt (b ∷ bs) [] f = ⊥
-StandAt (b ∷ bs) (v ∷ vs) f = (f b ≡ Some v) × StandAt bs vs f
 
 -- the values stand in a row from a number on
 abbrev pub StandInRow : {V : Type 0} → ℕ → List V → (ℕ → Option V) → Type 0
 StandInRow first values f = (j : ℕ) → j < length values → f (first + j) ≡ slice_get values j
 
 -- a row has what is held from a number on
-abbrev pub IsRowOf : Held → ℕ → List (Option Payload) → Type 0
+abbrev pub IsRowOf : HeldPayload → ℕ → List (Option Payload) → Type 0
 IsRowOf held first row = (k : ℕ) → k < length row → slice_get row k ≡ Some (held (first + k))
 
 -- ---- what stays
@@ -72,7 +65,7 @@ new_content g pages = record { segments = all_clean g; held = λ b. None; stored
 pub record IsGrown (count : ℕ) (old new : SpaceContent) : Type 0 where
   pub segments : new.segments ≡ grown_to count old.segments
   pub held : (b : ℕ) → new.held b ≡ old.held b
-  pub kept : KeepsUsed old.segments old new
+  pub used_stay : KeepsUsed old.segments old new
 
 -- so many blocks from a number on are empty, and all others stay
 pub record IsEmptied {V : Type 0} (first count : ℕ) (old new : ℕ → Option V) : Type 0 where
@@ -84,5 +77,7 @@ pub record IsFreed (segment : ℕ) (old new : SpaceContent) : Type 0 where
   pub segments : new.segments ≡ with_clean old.segments segment
   pub held : IsEmptied (segment * old.segments.blocks) old.segments.blocks old.held new.held
   pub stored : IsEmptied (segment * old.segments.blocks) old.segments.blocks old.stored new.stored
-  pub kept : KeepsUsed new.segments old new
-  pub stays : (b : ℕ) → IsUsed old.segments b → (b < segment * old.segments.blocks) ⊎ (segment * old.segments.blocks + old.segments.blocks ≤ b) → IsUsed new.segments b
+  pub used_stay : KeepsUsed new.segments old new
+  pub stays : (b : ℕ) → IsUsed old.segments b
+      → (b < segment * old.segments.blocks) ⊎ (segment * old.segments.blocks + old.segments.blocks ≤ b)
+      → IsUsed new.segments b

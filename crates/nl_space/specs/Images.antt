@@ -8,8 +8,9 @@ abbrev pub zero_page : List ℕ
 zero_page = replicate 1024 0
 
 -- the block of a number, where there is such a block
-abbrev pub pages_of : List ℕ → DevicePages
-pages_of bytes b = if nat_lt b (length bytes / 1024) then Some (take 1024 (drop (1024 * b) bytes)) else None
+abbrev pub pages_of_bytes : List ℕ → DevicePages
+pages_of_bytes bytes b =
+    if nat_lt b (length bytes / 1024) then Some (take 1024 (drop (1024 * b) bytes)) else None
 
 -- a block that is not used is zero
 abbrev pub IsRestAt : Segments → DevicePages → ℕ → Type 0

@@ -2,8 +2,8 @@
 use Rattle.std.specs.Prelude.{◌≡◌, ℕ, ◌+◌, ◌*◌, List, [], ◌∷◌, ◌++◌, length, map, Option, Some, None}
 use Rattle.nl_types.specs.Segments.{info_of}
 use Rattle.nl_device.specs.Pages.{DevicePages}
-use Rattle.nl_layout.specs.Summary.{Contents, SummaryFits, summary_bytes}
-use Rattle.nl_space.specs.Content.{Payload, Held, SpaceContent, payload_tag, payload_page, StandInRow}
+use Rattle.nl_layout.specs.Summary.{Contents, SummaryHasSpelling, summary_bytes}
+use Rattle.nl_space.specs.Content.{Payload, HeldPayload, SpaceContent, payload_tag, payload_page, StandInRow}
 
 -- what a log says: its moment, a checkpoint number, and its payload
 pub record WholeLog : Type 0 where
@@ -13,25 +13,29 @@ pub record WholeLog : Type 0 where
 
 -- what its summary says
 abbrev pub contents_of : WholeLog → Contents
-contents_of log = record { stamp = log.stamp; checkpoint = log.checkpoint; tags = map payload_tag log.payload }
+contents_of log =
+    record { stamp = log.stamp; checkpoint = log.checkpoint; tags = map payload_tag log.payload }
 
--- The log stands from block b on. The device has its summary there, where memory has no payload. Behind it the payload
--- stands in memory, and its pages on the device.
-pub record StandsFrom (b : ℕ) (log : WholeLog) (held : Held) (stored : DevicePages) : Type 0 where
-  pub fits : SummaryFits (contents_of log)
+-- The log stands from block b on. The device has its summary there, where memory has no payload. Behind it
+-- the payload stands in memory, and its pages on the device.
+pub record StandsFrom (b : ℕ) (log : WholeLog) (held : HeldPayload) (stored : DevicePages) : Type 0 where
+  pub fits : SummaryHasSpelling (contents_of log)
   pub summary : stored b ≡ Some (summary_bytes (contents_of log))
   pub no_payload : held b ≡ None
   pub payload : StandInRow (b + 1) log.payload held
   pub pages : StandInRow (b + 1) (map payload_page log.payload) stored
 
 -- the logs stand one right behind another, from block b up to the end
-abbrev pub FillUpTo : ℕ → ℕ → List WholeLog → Held → DevicePages → Type 0
+abbrev pub FillUpTo : ℕ → ℕ → List WholeLog → HeldPayload → DevicePages → Type 0
 FillUpTo b end [] held stored = b ≡ end
-FillUpTo b end (log ∷ logs) held stored = StandsFrom b log held stored × FillUpTo (b + 1 + length log.payload) end logs held stored
+FillUpTo b end (log ∷ logs) held stored =
+    StandsFrom b log held stored × FillUpTo (b + 1 + length log.payload) end logs held stored
 
 -- the used part of a segment is these logs
 abbrev pub IsFilledBy : SpaceContent → ℕ → List WholeLog → Type 0
-IsFilledBy c i logs = FillUpTo (i * c.segments.blocks) (i * c.segments.blocks + (info_of c.segments.each i).used) logs c.held c.stored
+IsFilledBy c i logs =
+    FillUpTo (i * c.segments.blocks)
+    (i * c.segments.blocks + (info_of c.segments.each i).used) logs c.held c.stored
 
 -- the used part of each segment is whole logs
 abbrev pub AreWholeLogs : SpaceContent → Type 0
@@ -39,14 +43,15 @@ AreWholeLogs c = (i : ℕ) → ∥ ((logs : List WholeLog) × IsFilledBy c i log
 
 -- the device has the log from block b on: its summary, and right behind it its pages
 pub record IsOnDevice (b : ℕ) (log : WholeLog) (device : DevicePages) : Type 0 where
-  pub fits : SummaryFits (contents_of log)
+  pub fits : SummaryHasSpelling (contents_of log)
   pub summary : device b ≡ Some (summary_bytes (contents_of log))
   pub pages : StandInRow (b + 1) (map payload_page log.payload) device
 
 -- it has the logs one right behind another, from block b up to the end
 abbrev pub FillDevice : ℕ → ℕ → List WholeLog → DevicePages → Type 0
 FillDevice b end [] device = b ≡ end
-FillDevice b end (log ∷ logs) device = IsOnDevice b log device × FillDevice (b + 1 + length log.payload) end logs device
+FillDevice b end (log ∷ logs) device =
+    IsOnDevice b log device × FillDevice (b + 1 + length log.payload) end logs device
 
 -- the blocks of logs, in order: none for a summary, and the payload behind it
 abbrev pub slots_of : List WholeLog → List (Option Payload)

@@ -4,7 +4,7 @@ ghost use Rattle.nl_types.specs.Segments.{total_blocks};
 ghost use Rattle.nl_device.specs.Failures.{CountsReads, FailsToRead};
 ghost use Rattle.nl_sufile.specs.Table.{IsSegTable};
 ghost use Rattle.nl_space.specs.Appended.{IsLoadError};
-ghost use Rattle.nl_space.specs.Images.{AreBlocksOf, IsPageOf, IsRestAt, IsRestZero, pages_of, zero_page};
+ghost use Rattle.nl_space.specs.Images.{AreBlocksOf, IsPageOf, IsRestAt, IsRestZero, pages_of_bytes, zero_page};
 
 use crate::space::Space;
 use nl_sufile::SegTable;
@@ -13,7 +13,7 @@ use nl_types::{BLOCK_SIZE, BlockNumber, VolError};
 /// Whether all blocks outside the used parts of their segments are zero. Takes no memory.
 pub fn is_rest_zero(table: &SegTable, blocks: &[u8]) -> bool
     requires { length blocks.now ≡ 1024 * total_blocks table.now }
-    ensures { IsTrue result ↔ IsRestZero table.now (pages_of blocks.now) }
+    ensures { IsTrue result ↔ IsRestZero table.now (pages_of_bytes blocks.now) }
 {
     let count = table.sustat().segments * table.blocks() as usize;
     for number in 0..count {
@@ -28,7 +28,7 @@ fn is_rest_at(table: &SegTable, blocks: &[u8], number: usize) -> bool
     requires size { length blocks.now ≡ 1024 * total_blocks table.now }
     requires inside { number < total_blocks table.now }
     requires limits { IsSegTable table.now }
-    ensures { IsTrue result ↔ IsRestAt table.now (pages_of blocks.now) number }
+    ensures { IsTrue result ↔ IsRestAt table.now (pages_of_bytes blocks.now) number }
 {
     let from = BLOCK_SIZE * number;
     table.is_used(BlockNumber::new(number as u32)) || is_zero(&blocks[from..from + BLOCK_SIZE])
@@ -40,8 +40,9 @@ fn is_zero(page: &[u8]) -> bool
     page == [0; BLOCK_SIZE].as_slice()
 }
 
-/// Fills the place with the blocks of a space, 1,024 bytes for each: what the device has where one is used, else zeros. Each
-/// used block is loaded once, in order, and nothing else is. Refused by `Fault` where the device failed, and by `Memory`.
+/// Fills the place with the blocks of a space, 1,024 bytes for each: what the device has where one is used,
+/// else zeros. Each used block is loaded once, in order, and nothing else is. Refused by `Fault` where the
+/// device failed, and by `Memory`.
 pub fn dump<S: Space>(space: &mut S, out: &mut [u8]) -> Result<(), VolError>
     requires { length out.old ≡ 1024 * total_blocks (S.content space.old).segments }
     ensures blocks { OnOk result (AreBlocksOf (S.content space.old) out.new) }

@@ -15,22 +15,23 @@ use nl_sufile::SegTable;
 use nl_types::{BlockNumber, CheckpointNumber, Page, Segment, VolError};
 use std::alloc::Global;
 
-/// Numbered blocks in segments. Payload is appended in logs, is held in memory and stored on a device, and goes when its
-/// segment is freed.
+/// Numbered blocks in segments. Payload is appended in logs, is held in memory and stored on a device, and
+/// goes when its segment is freed.
 pub trait Space: Drop {
-    /// The segments, the payload in memory, and the pages on the device. Only what lies in used blocks is promised.
+    /// The segments, the payload in memory, and the pages on the device. Only what lies in used blocks is
+    /// promised.
     ghost content: { Self → SpaceContent };
 
     /// How often the device has failed in its reads, and how often in its writes.
     ghost failed: { Self → Failures };
 
-    /// Writes payload in logs and answers the numbers of its blocks, in order. The checkpoint number goes into the
-    /// summaries, and `now`, a moment in whole seconds, into them and the segments' stamps. With `reserve`, for a
-    /// checkpoint, two clean segments stay where any is taken.
+    /// Writes payload in logs and answers the numbers of its blocks, in order. The checkpoint number goes
+    /// into the summaries, and `now`, a moment in whole seconds, into them and the segments' stamps. With
+    /// `reserve`, for a checkpoint, two clean segments stay where any is taken.
     ///
-    /// Refused by `NoSpace` where no list of logs fits, by `Memory`, and by `Fault` where the device failed. All memory is
-    /// taken before the first block is put. So only a fault leaves a change: logs that were written before it stay, and
-    /// the segment of the log that was not is in error.
+    /// Refused by `NoSpace` where no list of logs fits, by `Memory`, and by `Fault` where the device failed.
+    /// All memory is taken before the first block is put. So only a fault leaves a change: logs that were
+    /// written before it stay, and the segment of the log that was not is in error.
     fn append(
         &mut self,
         alloc: Global,
@@ -43,7 +44,7 @@ pub trait Space: Drop {
             reserve now checkpoint items.now numbers.items) }
 
         // Whatever comes of it, what is used stays.
-        ensures kept { KeepsUsed (content self.old).segments (content self.old) (content self.new) }
+        ensures used_stay { KeepsUsed (content self.old).segments (content self.old) (content self.new) }
         ensures stays { StaysUsed (content self.old).segments (content self.new).segments }
         ensures counted { CountsWrites (failed self.old) (failed self.new) }
 
@@ -56,12 +57,13 @@ pub trait Space: Drop {
         ensures memory_same { IsErrOf result VolError.Memory → self.new ≡ self.old }
         ensures errors { IfErr result IsAppendError };
 
-    /// The page in memory at a block number. None at a summary block, and at a number that is none of the device's.
+    /// The page in memory at a block number. None at a summary block, and at a number that is none of the
+    /// device's.
     fn page(&self, number: BlockNumber) -> Option<&Page>
         ensures { option_copied result ≡ option_map payload_page ((content self.now).held number) };
 
-    /// Reads a used block from the device, a summary block too. Refused by `Fault` where the device failed, and by
-    /// `Memory`; nothing changes either way.
+    /// Reads a used block from the device, a summary block too. Refused by `Fault` where the device failed,
+    /// and by `Memory`; nothing changes either way.
     fn load(&mut self, number: BlockNumber) -> Result<Page, VolError>
         requires { IsUsed (content self.old).segments number }
         ensures page { IfOk result (λ page. (content self.old).stored number ≡ Some page) }
@@ -78,7 +80,8 @@ pub trait Space: Drop {
     fn summary(&self, segment: Segment) -> &[Option<Payload>]
         requires { segment < length (content self.now).segments.each }
         ensures count { length result.now ≡ (info_of (content self.now).segments.each segment).used }
-        ensures each { IsRowOf (content self.now).held (segment * (content self.now).segments.blocks) result.now };
+        ensures each { IsRowOf (content self.now).held
+            (segment * (content self.now).segments.blocks) result.now };
 
     /// Empties a segment, in memory and on the device. It is clean then.
     fn free(&mut self, segment: Segment)
@@ -86,8 +89,8 @@ pub trait Space: Drop {
         ensures freed { IsFreed segment (content self.old) (content self.new) }
         ensures counted { CountsWrites (failed self.old) (failed self.new) };
 
-    /// Makes it a space of so many segments, the new ones clean. Refused by `Fault` where the device failed, and by `Memory`; it
-    /// stays as it is then.
+    /// Makes it a space of so many segments, the new ones clean. Refused by `Fault` where the device failed,
+    /// and by `Memory`; it stays as it is then.
     fn grow(&mut self, alloc: Global, segments: u32) -> Result<(), VolError>
         requires more { length (content self.old).segments.each ≤ segments }
         requires limits { IsGeometry segments (content self.old).segments.blocks }

@@ -8,8 +8,8 @@ use Rattle.nl_types.specs.declared.segment.SegmentState.TheVariants.{Dirty, Acti
 use Rattle.nl_types.specs.GrowingLaws.{InfosStay, TidyStays}
 use Rattle.nl_types.specs.Limits.{IsGeometry}
 use Rattle.nl_types.specs.Segments.{Segments, is_active, clean_from, info_of, clean_info, none_active, active_from, active_place, with_active, with_error, with_clean, grown_to, IsTidy}
-use Rattle.nl_types.proofs.SegmentChanges.{length-none_active, info_same, active_alone, tidy_changed, tidy_cleaned, tidy_at, lowest_is_clean}
-use Rattle.nl_types.proofs.NextLogs.{has_active}
+use Rattle.nl_types.specs.Facts.SegmentChanges.{length-none_active, info_same, active_alone, tidy_changed, tidy_cleaned, tidy_at, lowest_is_clean}
+use Rattle.nl_types.specs.Facts.NextLogs.{has_active}
 use Rattle.std.proofs.Math.ListN.{replicate}
 use Rattle.std.proofs.lemmas.List.{length-append, length-replicate}
 use Rattle.std.specs.List.{AllByRecursion}

@@ -12,7 +12,7 @@ use Rattle.nl_types.specs.GrowingLaws.{CleanGrow, InfosStay}
 use Rattle.nl_types.specs.Segments.{Segments, at_rest, clean_from, clean_info, info_of, is_clean, none_active}
 use Rattle.nl_sufile.specs.declared.clean.CleanSegments.{CleanSegments}
 use Rattle.nl_sufile.specs.BySegment.{bit}
-use Rattle.nl_sufile.specs.Clean.{TellsClean}
+use Rattle.nl_sufile.specs.Private.Clean.{TellsClean}
 
 -- ---- which are clean, and how many
 

@@ -1,6 +1,5 @@
 pub mod NextLog
 pub mod ActiveSegment
-pub mod ImageEntries
 pub mod UsedTests
 pub mod CleanCounts
 pub mod FollowedBlocks

@@ -3,9 +3,9 @@ use Rattle.std.proofs.Common.{◌≡◌, ℕ, ◌+◌, ◌-◌, ◌<◌, ◌≤�
 use borrow.Author.Tests.{leb-true}
 use Rattle.nl_types.specs.declared.segment.Log.{Log}
 use Rattle.nl_types.specs.declared.segment.Position.{Position}
-use Rattle.nl_types.specs.Placing.{behind, has_room, GoOn}
-use Rattle.nl_types.proofs.GoingOn.{log_at, fill, Step, step_with_room, step_without_room, go_on_with_room, go_on_without_room, no_step}
-use Rattle.nl_sufile.specs.NextPlace.{IsNext, IsNowhere}
+use Rattle.nl_types.specs.Placing.{place_behind, has_room, GoOn}
+use Rattle.nl_types.specs.Facts.GoingOn.{log_at, fill, Step, step_with_room, step_without_room, go_on_with_room, go_on_without_room, no_step}
+use Rattle.nl_sufile.specs.Private.NextPlace.{IsNext, IsNowhere}
 
 -- the first log of a list that goes on is at the next place
 pub next_step : (b : Bool) (blocks : ℕ) (left : Option Position) (free : List ℕ) (place : Position) (others : List ℕ) (n : ℕ) (all : List Log)
@@ -21,14 +21,14 @@ next_step false blocks left free place others n all room h some g =
 -- and what goes on behind that log goes on from here
 pub go_next : (b : Bool) (blocks : ℕ) (left : Option Position) (free : List ℕ) (place : Position) (others : List ℕ) (n : ℕ) (tail : List Log)
     → has_room blocks left ≡ b → IsNext b blocks left free place others → 0 < n → 2 ≤ blocks
-    → GoOn blocks (Some (behind (log_at place (fill blocks place n)))) others (n - fill blocks place n) tail → GoOn blocks left free n (log_at place (fill blocks place n) ∷ tail)
+    → GoOn blocks (Some (place_behind (log_at place (fill blocks place n)))) others (n - fill blocks place n) tail → GoOn blocks left free n (log_at place (fill blocks place n) ∷ tail)
 go_next true blocks left free place others n tail room h some two g =
     let r : has_room blocks (Some place) ≡ true = subst (λ (l : Option Position). has_room blocks l ≡ true) h.there h.room in
     let all : GoOn blocks (Some place) others n (log_at place (fill blocks place n) ∷ tail) = go_on_with_room blocks place others n tail r (leb-true _ _ r) some g in
     rw (← h.same) (subst (λ (l : Option Position). GoOn blocks l others n (log_at place (fill blocks place n) ∷ tail)) (sym h.there) all)
 go_next false blocks left free place others n tail room h some two g =
     let e : record { segment = place.segment; block = 0 } ≡ place = ap (λ (b : ℕ). let p : Position = record { segment = place.segment; block = b } in p) (sym h.block) in
-    rw h.segment (subst (λ (p : Position). GoOn blocks (Some (behind (log_at p (fill blocks p n)))) others (n - fill blocks p n) tail → GoOn blocks left (p.segment ∷ others) n (log_at p (fill blocks p n) ∷ tail)) e
+    rw h.segment (subst (λ (p : Position). GoOn blocks (Some (place_behind (log_at p (fill blocks p n)))) others (n - fill blocks p n) tail → GoOn blocks left (p.segment ∷ others) n (log_at p (fill blocks p n) ∷ tail)) e
     (go_on_without_room blocks left place.segment others n tail h.room two some) g)
 
 -- there is nowhere to go on
@@ -39,10 +39,10 @@ nowhere_on blocks left free n all h some g = no_step blocks left n all h.room so
 pub onward_more : (blocks : ℕ) (left0 : Option Position) (free0 : List ℕ) (n : ℕ) (left : Option Position) (free : List ℕ) (rest : ℕ) (place : Position) (others : List ℕ) (logs more : List Log) (count : ℕ)
     → count ≡ fill blocks place rest → more ≡ logs ++ log_at place count ∷ [] → IsNext (has_room blocks left) blocks left free place others → 0 < rest → 2 ≤ blocks
     → ((tail : List Log) → GoOn blocks left free rest tail → GoOn blocks left0 free0 n (logs ++ tail))
-    → (tail : List Log) → GoOn blocks (Some (behind (log_at place count))) others (rest - count) tail → GoOn blocks left0 free0 n (more ++ tail)
+    → (tail : List Log) → GoOn blocks (Some (place_behind (log_at place count))) others (rest - count) tail → GoOn blocks left0 free0 n (more ++ tail)
 onward_more blocks left0 free0 n left free rest place others logs more count e pushed next some two kept tail g =
-    let h : GoOn blocks (Some (behind (log_at place (fill blocks place rest)))) others (rest - fill blocks place rest) tail
-    = subst (λ (k : ℕ). GoOn blocks (Some (behind (log_at place k))) others (rest - k) tail) e g in
+    let h : GoOn blocks (Some (place_behind (log_at place (fill blocks place rest)))) others (rest - fill blocks place rest) tail
+    = subst (λ (k : ℕ). GoOn blocks (Some (place_behind (log_at place k))) others (rest - k) tail) e g in
     let all = kept (log_at place (fill blocks place rest) ∷ tail) (go_next _ blocks left free place others rest tail refl next some two h) in
     let same : logs ++ (log_at place (fill blocks place rest) ∷ tail) ≡ more ++ tail =
     rw pushed (rw append_assoc (ap (λ (k : ℕ). logs ++ (log_at place k ∷ tail)) (sym e))) in
@@ -51,7 +51,7 @@ onward_more blocks left0 free0 n left free rest place others logs more count e p
 pub only_more : (blocks : ℕ) (left0 : Option Position) (free0 : List ℕ) (n : ℕ) (left : Option Position) (free : List ℕ) (rest : ℕ) (place : Position) (others : List ℕ) (logs more : List Log) (count : ℕ)
     → count ≡ fill blocks place rest → more ≡ logs ++ log_at place count ∷ [] → IsNext (has_room blocks left) blocks left free place others → 0 < rest
     → ((all : List Log) → GoOn blocks left0 free0 n all → (tail : List Log) × (all ≡ logs ++ tail) × GoOn blocks left free rest tail)
-    → (all : List Log) → GoOn blocks left0 free0 n all → (tail : List Log) × (all ≡ more ++ tail) × GoOn blocks (Some (behind (log_at place count))) others (rest - count) tail
+    → (all : List Log) → GoOn blocks left0 free0 n all → (tail : List Log) × (all ≡ more ++ tail) × GoOn blocks (Some (place_behind (log_at place count))) others (rest - count) tail
 only_more blocks left0 free0 n left free rest place others logs more count e pushed next some kept all g =
     let k = kept all g in
     let s = next_step _ blocks left free place others rest k.0 refl next some k.2 in
@@ -59,7 +59,7 @@ only_more blocks left0 free0 n left free rest place others logs more count e pus
     rw pushed (rw append_assoc (ap (λ (k : ℕ). logs ++ (log_at place k ∷ s.rest)) (sym e))) in (
       s.rest,
       k.1 ∙ ap (λ (l : List Log). logs ++ l) s.same ∙ same,
-      subst (λ (k : ℕ). GoOn blocks (Some (behind (log_at place k))) others (rest - k) s.rest) (sym e) s.goes_on,
+      subst (λ (k : ℕ). GoOn blocks (Some (place_behind (log_at place k))) others (rest - k) s.rest) (sym e) s.goes_on,
     )
 
 -- nothing goes on where nothing is left

@@ -28,7 +28,8 @@ count_in blocks n at segment = count_to (λ v. lies_in blocks segment (at v)) n
 
 -- the counts are those of the numbers 1 to n
 pub record AreCounts (blocks n : ℕ) (at : Partial ℕ) (counts : List ℕ) : Type 0 where
-  pub each : (segment : ℕ) → segment < length counts → slice_index_or counts segment 0 ≡ count_in blocks n at segment
+  pub each : (segment : ℕ) → segment < length counts
+      → slice_index_or counts segment 0 ≡ count_in blocks n at segment
 
 abbrev pub one_more : ℕ → List ℕ → List ℕ
 one_more segment counts = slice_set counts segment (slice_index_or counts segment 0 + 1)

@@ -1,14 +1,16 @@
 //! The clean segments of a table: how many they are, and where the lowest one is.
 ghost use Rattle.std.specs.Prelude.{◌≡◌, ◌+◌, ◌<◌, ◌≤◌, ◌∷◌, ◌++◌, [], List, replicate, MatchOption, Some, drop, false, length, slice_get, slice_set, take};
+ghost use Rattle.nl_types.specs.Limits as limits;
 ghost use Rattle.nl_types.specs.declared.segment.SegmentInfo.{SegmentInfo};
 ghost use Rattle.nl_types.specs.Segments.{clean_from, clean_info, info_of, is_clean, none_active};
-ghost use Rattle.nl_sufile.specs.Clean.{IsNextClean, TellsClean};
+ghost use Rattle.nl_sufile.specs.Private.Clean.{IsNextClean, TellsClean};
 
 use nl_types::laws::growing_keeps_segments;
 use nl_types::{Segment, SegmentInfo, SegmentState};
 use std::marker::Model;
 
-/// What a table keeps of its clean segments, so that they are not counted anew, nor looked for from the first segment on.
+/// What a table keeps of its clean segments, so that they are not counted anew, nor looked for from the first
+/// segment on.
 #[derive(Clone, Copy)]
 pub struct CleanSegments {
     /// How many there are.
@@ -31,7 +33,7 @@ impl CleanSegments {
     /// The first so many of them, ascending.
     pub fn first(self, each: &[SegmentInfo], count: usize) -> FreeSegments<'_>
         requires tells { TellsClean each.now self }
-        requires few { length each.now ≤ 4096 }
+        requires few { length each.now ≤ limits.segment_limit }
         requires some { count ≤ self.count }
         ensures { result ≡ take count (clean_from 0 each.now) }
     {
@@ -45,7 +47,7 @@ impl CleanSegments {
     /// The lowest one, looked for from the mark on.
     pub fn lowest(self, each: &[SegmentInfo]) -> Option<Segment>
         requires tells { TellsClean each.now self }
-        requires few { length each.now ≤ 4096 }
+        requires few { length each.now ≤ limits.segment_limit }
         ensures { result ≡ slice_get (clean_from 0 each.now) 0 }
     {
         let mut free = self.first(each, self.count);
@@ -84,7 +86,7 @@ impl CleanSegments {
 
     /// What is kept once so many clean segments come behind all others.
     pub fn with_more(self, more: usize) -> CleanSegments
-        requires few { self.count + more ≤ 4096 }
+        requires few { self.count + more ≤ limits.segment_limit }
         ensures { (each : List SegmentInfo) → TellsClean each self
             → TellsClean (each ++ replicate more clean_info) result }
     {
@@ -98,7 +100,7 @@ impl CleanSegments {
     /// What is kept once a segment is clean, if it wasn't. The mark goes down to it.
     pub fn with(self, each: &[SegmentInfo], segment: Segment) -> CleanSegments
         requires tells { TellsClean each.now self }
-        requires few { length each.now ≤ 4096 }
+        requires few { length each.now ≤ limits.segment_limit }
         requires segment { segment < length each.now }
         ensures { TellsClean (slice_set each.now segment clean_info) result }
     {
@@ -158,8 +160,8 @@ fn next_clean(each: &[SegmentInfo], from: usize) -> Option<usize>
     None
 }
 
-/// Clean segments of a table that may be taken, ascending. Contracts see the list of them. Nothing is looked for before it is
-/// asked for.
+/// Clean segments of a table that may be taken, ascending. Contracts see the list of them. Nothing is looked
+/// for before it is asked for.
 #[derive(Drop)]
 pub struct FreeSegments<'a> {
     each: &'a [SegmentInfo],
@@ -169,6 +171,7 @@ pub struct FreeSegments<'a> {
 
 impl<'a> Model for FreeSegments<'a> {
     ghost use Rattle.std.specs.Prelude.{ℕ, ◌≤◌, List, drop, length, take};
+    ghost use Rattle.nl_types.specs.Limits as limits;
     ghost use Rattle.nl_types.specs.Segments.{clean_from};
 
     ghost Value = { List ℕ };
@@ -176,14 +179,14 @@ impl<'a> Model for FreeSegments<'a> {
     ghost view = { λ free. take free.left (clean_from free.from (drop free.from free.each.now)) };
 
     ghost invariant = { λ free. (free.left ≤ length (clean_from free.from (drop free.from free.each.now)))
-        × (length free.each.now ≤ 4096) };
+        × (length free.each.now ≤ limits.segment_limit) };
 }
 
 impl FreeSegments<'_> {
     /// How many there are.
     pub fn len(&self) -> usize
         ensures count { result ≡ length self.now }
-        ensures few { result ≤ 4096 }
+        ensures few { result ≤ limits.segment_limit }
     {
         self.left
     }

@@ -1,10 +1,11 @@
 //! The table of segments in an image.
 ghost use Rattle.std.specs.Prelude.{◌≡◌, ◌+◌, ◌*◌, ◌≤◌, ◌⊎◌, ◌↔◌, IsTrue, IfOk, IfErr, IfSome, MatchResult, OnErr, length, flat_map, List, Some, All};
+ghost use Rattle.nl_types.specs.Limits as limits;
 ghost use Rattle.nl_types.specs.declared.segment.SegmentInfo.{SegmentInfo};
 ghost use Rattle.nl_types.specs.Segments.{Segments};
 ghost use Rattle.nl_types.specs.Segments as segments;
-ghost use Rattle.nl_layout.specs.Segment.{Fits, segment_bytes};
-ghost use Rattle.nl_sufile.specs.Images.{AreEntriesOf, HaveOneActive, IsEntryAt, IsSound, IsSufileOf, sufile_bytes};
+ghost use Rattle.nl_layout.specs.Segment.{HasSpelling, segment_bytes};
+ghost use Rattle.nl_sufile.specs.Images.{AreEntriesOf, HaveOneActive, IsEntryAt, IsSoundSegment, IsSufileOf, sufile_bytes};
 ghost use Rattle.nl_sufile.specs.Table.{IsActiveIn};
 
 use crate::table::SegTable;
@@ -16,9 +17,9 @@ use std::alloc::Global;
 const BAD_ENTRIES: VolError = VolError::BadImage(4);
 
 impl SegTable {
-    /// The table that the entries of an image tell, of a volume that is divided so. Refused by `BadImage(4)` where they
-    /// tell none, and by `Memory`: a clean entry is all zero, another has at most the blocks of a segment, and one at least
-    /// where it isn't in error, and one at most is active.
+    /// The table that the entries of an image tell, of a volume that is divided so. Refused by `BadImage(4)`
+    /// where they tell none, and by `Memory`: a clean entry is all zero, another has at most the blocks of a
+    /// segment, and one at least where it isn't in error, and one at most is active.
     pub fn restore(alloc: Global, geometry: Geometry, bytes: &[u8]) -> Result<SegTable, VolError>
         requires { length bytes.now ≡ 16 * geometry.segments }
         ensures found { IfOk result (IsSufileOf geometry bytes.now) }
@@ -37,7 +38,7 @@ impl SegTable {
     pub fn dump(&self, out: &mut [u8])
         requires { length out.old ≡ 16 * length self.now.each }
         ensures bytes { out.new ≡ sufile_bytes self.now }
-        ensures fit { All Fits self.now.each }
+        ensures fit { All HasSpelling self.now.each }
     {
         write_entries(self.entries(), out);
     }
@@ -46,7 +47,7 @@ impl SegTable {
 fn write_entries(each: &[SegmentInfo], out: &mut [u8])
     requires { length out.old ≡ 16 * length each.now }
     ensures bytes { out.new ≡ flat_map segment_bytes each.now }
-    ensures fit { All Fits each.now }
+    ensures fit { All HasSpelling each.now }
 {
     for (i, info) in each.iter().enumerate() {
         let from = SEGMENT_SIZE * i;
@@ -93,7 +94,7 @@ fn read_entry(bytes: &[u8], i: usize, blocks: u32) -> Option<SegmentInfo>
 }
 
 fn is_sound(info: SegmentInfo, blocks: u32) -> bool
-    ensures { IsTrue result ↔ IsSound blocks info }
+    ensures { IsTrue result ↔ IsSoundSegment blocks info }
 {
     match info.state {
         SegmentState::Clean => info.stamp == 0 && info.used == 0,
@@ -104,7 +105,7 @@ fn is_sound(info: SegmentInfo, blocks: u32) -> bool
 
 /// The segment that is active, if one is. Refused where two are.
 fn active_of(each: &[SegmentInfo]) -> Result<Option<Segment>, VolError>
-    requires { length each.now ≤ 4096 }
+    requires { length each.now ≤ limits.segment_limit }
     ensures found { IfOk result (IsActiveIn each.now) }
     ensures two { OnErr result (HaveOneActive each.now → ⊥) }
     ensures refused { OnErr result (result ≡ Err (VolError.BadImage 4)) }

@@ -1,8 +1,9 @@
 //! Which logs an event's payload goes into.
 ghost use Rattle.std.specs.Prelude.{◌≡◌, ◌+◌, ◌≤◌, IfOk, IfErr, IsErrOf, IfSome, MatchOption, List};
+ghost use Rattle.nl_types.specs.Limits as limits;
 ghost use Rattle.nl_types.specs.declared.segment.Log.{Log};
 ghost use Rattle.nl_types.specs.Placing.{GoOn, has_room};
-ghost use Rattle.nl_sufile.specs.NextPlace.{IsNowhere, IsNext};
+ghost use Rattle.nl_sufile.specs.Private.NextPlace.{IsNowhere, IsNext};
 ghost use Rattle.nl_sufile.specs.Table.{IsNoSpaceOrMemory};
 
 use crate::clean::FreeSegments;
@@ -24,8 +25,8 @@ fn next_place(blocks: u32, left: Option<Position>, free: &mut FreeSegments<'_>) 
     Some(Position { segment, block: 0 })
 }
 
-/// The logs that take `n` payload blocks, from the place left on and in the free segments. Refused by `NoSpace` where
-/// these end before the payload, and by `Memory`.
+/// The logs that take `n` payload blocks, from the place left on and in the free segments. Refused by
+/// `NoSpace` where these end before the payload, and by `Memory`.
 pub fn place_on(
     alloc: Global,
     blocks: u32,
@@ -34,10 +35,11 @@ pub fn place_on(
     n: usize,
 ) -> Result<Vec<Log>, VolError>
     requires few { 2 ≤ blocks }
-    requires many { blocks ≤ 2048 }
+    requires many { blocks ≤ limits.segment_block_limit }
     requires inside { IfSome left (λ place. place.block ≤ blocks) }
     ensures fits { IfOk result (λ logs. GoOn blocks left free.entry n logs.items) }
-    ensures none { IsErrOf result VolError.NoSpace → (logs : List Log) → GoOn blocks left free.entry n logs → ⊥ }
+    ensures none { IsErrOf result VolError.NoSpace → (logs : List Log) → GoOn blocks left free.entry n logs
+        → ⊥ }
     ensures errors { IfErr result IsNoSpaceOrMemory }
 {
     // A log that is shorter than the others ends its segment, or the list.

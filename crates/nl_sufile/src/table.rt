@@ -27,7 +27,7 @@ pub struct SegTable {
 
 impl Model for SegTable {
     ghost use Rattle.nl_types.specs.Segments.{Segments};
-    ghost use Rattle.nl_sufile.specs.Clean.{TellsClean};
+    ghost use Rattle.nl_sufile.specs.Private.Clean.{TellsClean};
     ghost use Rattle.nl_sufile.specs.Table.{IsSegTable, IsActiveIn};
 
     ghost Value = { Segments };
@@ -38,8 +38,8 @@ impl Model for SegTable {
         × IsActiveIn table.each table.active × TellsClean table.each table.clean };
 }
 
-/// How many segments there are, and of them how many are clean, and how many dirty. An active segment and one in error
-/// count as dirty.
+/// How many segments there are, and of them how many are clean, and how many dirty. An active segment and one
+/// in error count as dirty.
 #[derive(Clone, Copy, Debug, PartialEq, Eq)]
 pub struct Sustat {
     pub segments: usize,
@@ -163,12 +163,12 @@ impl SegTable {
         }
     }
 
-    /// The logs that `n` payload blocks go into: the active segment is filled, and then the lowest clean ones, by logs of
-    /// at most 30. A checkpoint, with `reserve`, leaves two clean segments where it takes any. Refused by `NoSpace` where
-    /// no list of logs fits, and by `Memory`.
+    /// The logs that `n` payload blocks go into: the active segment is filled, and then the lowest clean
+    /// ones, by logs of at most 30. A checkpoint, with `reserve`, leaves two clean segments where it takes
+    /// any. Refused by `NoSpace` where no list of logs fits, and by `Memory`.
     ///
-    /// It passes the segments from the mark (see `take_clean`) to the last clean one that it uses, once for all logs, also
-    /// where it is refused. Where the active segment has room for all, it passes none.
+    /// It passes the segments from the mark (see `take_clean`) to the last clean one that it uses, once for
+    /// all logs, also where it is refused. Where the active segment has room for all, it passes none.
     pub fn place(&self, alloc: Global, n: usize, reserve: bool) -> Result<Vec<Log>, VolError>
         ensures fits { IfOk result (λ logs. LogsFit self.now reserve n logs.items) }
         ensures no_space { IsErrOf result VolError.NoSpace → LacksSpace self.now reserve n }
@@ -181,10 +181,10 @@ impl SegTable {
 
     /// Takes the lowest clean segment, which alone is active then, if one is clean. It has no logs yet.
     ///
-    /// It is looked for from a mark on, below which no segment is clean, and the mark moves on behind it: where segments are
-    /// taken one after another, each is passed once. `mark_clean` moves the mark down, and the dirty ones behind it are passed
-    /// once more. So at worst a call passes all segments, and all calls together pass them once, and once more for each
-    /// segment that was emptied.
+    /// It is looked for from a mark on, below which no segment is clean, and the mark moves on behind it:
+    /// where segments are taken one after another, each is passed once. `mark_clean` moves the mark down, and
+    /// the dirty ones behind it are passed once more. So at worst a call passes all segments, and all calls
+    /// together pass them once, and once more for each segment that was emptied.
     pub fn take_clean(&mut self) -> Option<Segment>
         ensures lowest { result ≡ lowest_clean self.old }
         ensures taken { IfSome result (λ segment. self.new ≡ with_active self.old segment 0 0) }
@@ -255,8 +255,8 @@ impl SegTable {
         self.clean = clean;
     }
 
-    /// A segment was emptied: it is clean, whatever it was before. Where it lies below the mark (see `take_clean`), the mark
-    /// moves down to it.
+    /// A segment was emptied: it is clean, whatever it was before. Where it lies below the mark (see
+    /// `take_clean`), the mark moves down to it.
     pub fn mark_clean(&mut self, segment: Segment)
         requires { segment < length self.old.each }
         ensures clean { self.new ≡ with_clean self.old segment }

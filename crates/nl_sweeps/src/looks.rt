@@ -120,8 +120,8 @@ impl Look {
         }
     }
 
-    /// All that is told of a pen without memory: of each checkpoint, segment and number, whether it is dirty, and how many
-    /// mounts it has.
+    /// All that is told of a pen without memory: of each checkpoint, segment and number, whether it is dirty,
+    /// and how many mounts it has.
     pub(crate) fn add_pen<D: Device>(&mut self, pen: &Pen<D>) {
         self.add_checkpoints(pen);
         self.add_segments(pen);
@@ -137,8 +137,8 @@ pub(crate) fn look_at_pen<D: Device>(pen: &Pen<D>) -> u64 {
     look.get()
 }
 
-/// What is told of a shared volume without memory, and without publishing what is pending: of each segment, and how many
-/// checkpoints and snapshots there are.
+/// What is told of a shared volume without memory, and without publishing what is pending: of each segment,
+/// and how many checkpoints and snapshots there are.
 pub(crate) fn look_at_shared<D: Device, J: Volumes, R: Wait>(
     rt: &R,
     shared: &Shared<Pen<D>, J>,

@@ -1,5 +1,5 @@
-//! Runs rows of steps on volumes, the rows that its words name or all. A step that is refused for memory is done again between
-//! two looks. `tests/sweep` refuses each request for memory in turn.
+//! Runs rows of steps on volumes, the rows that its words name or all. A step that is refused for memory is
+//! done again between two looks. `tests/sweep` refuses each request for memory in turn.
 #![tactic(auto)]
 
 use crate::running::Tally;
@@ -38,7 +38,8 @@ fn is_asked(words: &[String], row: &Row) -> bool {
     words.len() < 2 || words.iter().skip(1).any(|word| word.as_str() == row.name)
 }
 
-/// Runs a row, prints its name, how often memory was refused to it and how it ends, and says whether it ends well.
+/// Runs a row, prints its name, how often memory was refused to it and how it ends, and says whether it ends
+/// well.
 fn runs_well<R: Wait>(rt: &HostRuntime, handles: &R, row: &Row) -> bool {
     let Ok(needs) = prepared(rt.alloc(), row) else {
         return false;

@@ -14,7 +14,8 @@ use nl_types::{Answer, Ask, CheckpointNumber, Event, MountNumber, Reply, VolErro
 use std::alloc::Global;
 use std::sync::Wait;
 
-/// A shared volume, its port, and what is mounted. A row numbers its mounts from 1 on, and gives back the last one alone.
+/// A shared volume, its port, and what is mounted. A row numbers its mounts from 1 on, and gives back the
+/// last one alone.
 struct Ported<'a, J: Volumes, R: Wait> {
     rt: &'a R,
     shared: Shared<Pen<MemDevice>, J>,
@@ -131,8 +132,8 @@ impl<J: Volumes, R: Wait> Volume for Ported<'_, J, R> {
     }
 }
 
-/// Does steps on a shared volume, and answers the first that doesn't come to what it has to, with the volume's pen as it is in
-/// the end. Where the pen can't be shared it comes back alone.
+/// Does steps on a shared volume, and answers the first that doesn't come to what it has to, with the
+/// volume's pen as it is in the end. Where the pen can't be shared it comes back alone.
 pub(crate) fn run_shared<J: Volumes, R: Wait>(
     rt: &R,
     alloc: Global,

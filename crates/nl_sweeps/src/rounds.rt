@@ -2,8 +2,8 @@
 use nl_protect::{Amount, Config};
 use nl_types::{Answer, Reply};
 
-/// What the events of a round come to: how many checkpoints expired, how many blocks were moved, and how many segments freed.
-/// An event that is refused adds nothing.
+/// What the events of a round come to: how many checkpoints expired, how many blocks were moved, and how many
+/// segments freed. An event that is refused adds nothing.
 #[derive(Clone, Copy, PartialEq, Eq)]
 pub(crate) struct Sum {
     pub expired: usize,

@@ -77,7 +77,8 @@ fn has_looked(pen: &mut Pen<MemDevice>, read: &Event, look: &mut Look) -> bool {
 }
 
 impl Volume for Alone {
-    /// All that is told without memory, and the bytes of the file. They take memory, and are read again where it is refused.
+    /// All that is told without memory, and the bytes of the file. They take memory, and are read again where
+    /// it is refused.
     fn look(&mut self) -> u64 {
         let mut look = Look::new();
         look.add_pen(&self.pen);
@@ -167,8 +168,8 @@ fn cleans<V: Volume>(volume: &mut V, job: &mut Job, tally: &mut Tally) -> Option
 /// More events than a round has.
 const EVENTS: u64 = 1_000;
 
-/// Does the events of a round. `spare` is the same round, and takes note of all replies but a refusal by `Memory`, which ends
-/// the first one: then it goes on in its place, with the event that was refused.
+/// Does the events of a round. `spare` is the same round, and takes note of all replies but a refusal by
+/// `Memory`, which ends the first one: then it goes on in its place, with the event that was refused.
 fn goes_round<V: Volume>(volume: &mut V, mut job: Job, mut spare: Job, tally: &mut Tally) -> Sum {
     let mut sum = Sum::new();
     for _ in 0..EVENTS {

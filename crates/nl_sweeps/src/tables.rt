@@ -32,7 +32,8 @@ pub(crate) enum View {
     Gone(u64),
 }
 
-/// The image that a volume closes to: how many bytes it has, and a change with the condition that it breaks then.
+/// The image that a volume closes to: how many bytes it has, and a change with the condition that it breaks
+/// then.
 #[derive(Clone, Copy)]
 pub(crate) struct Image {
     pub size: usize,
@@ -264,7 +265,8 @@ const FORMATTED: Row = Row {
     }),
 };
 
-/// A volume with plain checkpoints and a snapshot, as an image and opened again. Byte 1,392 begins the end of number 5.
+/// A volume with plain checkpoints and a snapshot, as an image and opened again. Byte 1,392 begins the end of
+/// number 5.
 const CLOSED: Row = Row {
     name: "closed",
     segments: 16,
@@ -292,8 +294,8 @@ const CLOSED: Row = Row {
     }),
 };
 
-/// A port reads a snapshot while a round moves its blocks. Some of its pages are kept, and another checkpoint is mounted in
-/// the end.
+/// A port reads a snapshot while a round moves its blocks. Some of its pages are kept, and another checkpoint
+/// is mounted in the end.
 const ROUND_UNDER_A_MOUNT: Row = Row {
     name: "round_under_a_mount",
     segments: 16,

@@ -15,10 +15,10 @@ use Rattle.nl_types.specs.Limits.{path_limit}
 use Rattle.nl_types.specs.Paths.{Path, path_cmp, path_of}
 use Rattle.nl_types.specs.Trees.{Tree, insert, lookup, remove}
 use Rattle.nl_types.specs.Calls.{Changed, and_then, change, create, file_at, file_in, node_at, refuse_if, tree_after, unlink, walk}
-use Rattle.nl_types.proofs.Booleans.{holds}
-use Rattle.nl_types.proofs.Inodes.TreeCounts.{length-insert_new, length-remove}
+use Rattle.nl_types.specs.Facts.Booleans.{holds}
+use Rattle.nl_types.specs.Facts.Inodes.TreeCounts.{length-insert_new, length-remove}
 use Rattle.nl_tree.specs.Became.{Current}
-use Rattle.nl_tree.specs.CurrentTrees.{CallsAs, LeadsOver, StandsOver}
+use Rattle.nl_tree.specs.CurrentTrees.{AnswersCall, LeavesTree, StandsOver}
 use Rattle.nl_tree.specs.Held.{Holding}
 
 -- a judgement that is not refused went on from what an earlier one found
@@ -72,24 +72,24 @@ unlinked-one_less tree path given after sorted is =
 -- ---- of the current tree
 
 module _ (old new : Current) (base : Holding) (tree : Tree) (over : StandsOver old base tree) where
-  create-counts : (given : Answer) (path : List ℕ) → LeadsOver (change tree (Create path)) given new base → new.names ≡ old.names + 1
+  create-counts : (given : Answer) (path : List ℕ) → LeavesTree (change tree (Create path)) given new base → new.names ≡ old.names + 1
   create-counts given path leads =
       let at = went_on (path_of path) (create tree (File [])) (given, leads.tree) leads.is in
       let more : length leads.tree ≡ length tree + 1 = created-one_more tree (File []) at.0 given leads.tree (holds _ over.stands.means.ordered) at.2 in
       omega (arith, more, over.stands.count, leads.stands.stands.count)
 
-  pub create-names : (result : Result Answer VolError) (call : Change) → CallsAs (λ a. a) result new base (change tree call)
+  pub create-names : (result : Result Answer VolError) (call : Change) → AnswersCall (λ a. a) result new base (change tree call)
       → OnOk result ((path : List ℕ) → call ≡ Create path → new.names ≡ old.names + 1)
-  create-names (Ok given) call calls = λ path is. create-counts given path (subst (λ (c : Change). LeadsOver (change tree c) given new base) is calls)
+  create-names (Ok given) call calls = λ path is. create-counts given path (subst (λ (c : Change). LeavesTree (change tree c) given new base) is calls)
   create-names (Err e) call calls = tt
 
-  unlink-counts : (given : Answer) (path : List ℕ) → LeadsOver (change tree (Unlink path)) given new base → new.names + 1 ≡ old.names
+  unlink-counts : (given : Answer) (path : List ℕ) → LeavesTree (change tree (Unlink path)) given new base → new.names + 1 ≡ old.names
   unlink-counts given path leads =
       let at = went_on (path_of path) (unlink tree) (given, leads.tree) leads.is in
       let less : length leads.tree + 1 ≡ length tree = unlinked-one_less tree at.0 given leads.tree (holds _ over.stands.means.ordered) at.2 in
       omega (arith, less, over.stands.count, leads.stands.stands.count)
 
-  pub unlink-names : (result : Result Answer VolError) (call : Change) → CallsAs (λ a. a) result new base (change tree call)
+  pub unlink-names : (result : Result Answer VolError) (call : Change) → AnswersCall (λ a. a) result new base (change tree call)
       → OnOk result ((path : List ℕ) → call ≡ Unlink path → new.names + 1 ≡ old.names)
-  unlink-names (Ok given) call calls = λ path is. unlink-counts given path (subst (λ (c : Change). LeadsOver (change tree c) given new base) is calls)
+  unlink-names (Ok given) call calls = λ path is. unlink-counts given path (subst (λ (c : Change). LeavesTree (change tree c) given new base) is calls)
   unlink-names (Err e) call calls = tt

@@ -11,11 +11,11 @@ use Rattle.nl_types.specs.Roots.{Root, pages_of}
 use Rattle.nl_types.specs.Trees.{Tree}
 use Rattle.nl_device.specs.Failures.{Failures}
 use Rattle.nl_space.specs.Content.{SpaceContent}
-use Rattle.nl_vstore.specs.Batches.{Changes, Fits}
+use Rattle.nl_vstore.specs.Batches.{Changes, CanBeTaken}
 use Rattle.nl_vstore.specs.Stores.{IsWriteRefused, Numbered, Store, content_in, entry_now, new_store}
 use Rattle.nl_tree.specs.Held.{Holding, IsHolding}
 use Rattle.nl_tree.specs.Became.{Became, Current, holding_over}
-use Rattle.nl_tree.specs.CurrentTrees.{CallsAs, StandsOver}
+use Rattle.nl_tree.specs.CurrentTrees.{AnswersCall, StandsOver}
 use Rattle.nl_tree.specs.Numbers.{CountsFree}
 use Rattle.nl_tree.specs.TreeMeaning.{StandsForTree}
 use Rattle.nl_files.specs.CheckpointRoots.{IsCheckpointRoot}
@@ -23,11 +23,11 @@ use Rattle.nl_files.specs.Settles.{IsCurrent, Settles}
 use Rattle.nl_files.specs.CheckpointTrees.{HoldsTree}
 use Rattle.nl_files.specs.Laws.{ledger_with}
 use Rattle.nl_files.specs.TreeLaws.{StandsOverLatest}
-use Rattle.nl_files.proofs.TreeLaws.{settled_trees-go_on, trees-can_be_settled}
+use Rattle.nl_files.specs.Facts.TreeLaws.{settled_trees-go_on, trees-can_be_settled}
 
 -- a call leaves a tree, be it refused or not
 pub call_leaves : (result : Result Answer VolError) (old now : Current) (b : Holding) (called : Changed) (t : Tree)
-    → CallsAs (λ a. a) result now b called → OnErr result (now ≡ old) → StandsOver old b t → (u : Tree) × StandsOver now b u
+    → AnswersCall (λ a. a) result now b called → OnErr result (now ≡ old) → StandsOver old b t → (u : Tree) × StandsOver now b u
 call_leaves (Ok a) old now b called t calls same stands = (calls.tree, calls.stands)
 call_leaves (Err e) old now b called t calls same stands = (t, subst (λ (c : Current). StandsOver c b t) (sym same) stands)
 
@@ -59,13 +59,13 @@ module _ (content : Content) (ledger : Ledger) (root : Root) (now : Current) (ba
   latest_current = subst (λ (c : Content). IsCurrent c root now.became base (holding_over now.became base)) same (trees-can_be_settled ledger root now base tree over).current
 
   -- once the batch is written the tree stands over the new checkpoint
-  pub written_goes_on : (room : ℕ) (new : Root) (batch : Changes) (after : Current) → Settles content root new now.became (holding_over now.became base) batch → Fits room content batch
+  pub written_goes_on : (room : ℕ) (new : Root) (batch : Changes) (after : Current) → Settles content root new now.became (holding_over now.became base) batch → CanBeTaken room content batch
       → after ≡ record now { became = [] } → StandsOverLatest (ledger_with batch ledger) new after (holding_over now.became base) tree
   written_goes_on room new batch after settles fits settled =
       subst (λ (c : Current). StandsOverLatest (ledger_with batch ledger) new c (holding_over now.became base) tree) (sym settled)
       (settled_trees-go_on room ledger root new now base tree batch over
       (subst (λ (c : Content). Settles c root new now.became (holding_over now.became base) batch) (sym same) settles)
-      (subst (λ (c : Content). Fits room c batch) (sym same) fits))
+      (subst (λ (c : Content). CanBeTaken room c batch) (sym same) fits))
 
   -- and the ledger has what the store has
   pub written_content : (checkpoint : ℕ) (batch : Changes) (after : Content) → ledger.latest ≡ checkpoint → after ≡ written batch.births batch.ends (checkpoint + 1) content

@@ -1,5 +1,5 @@
-//! A pen beside the plain program: the same events, and the same replies. Some are of a table, and the others random, with
-//! checkpoints and looks between them.
+//! A pen beside the plain program: the same events, and the same replies. Some are of a table, and the others
+//! random, with checkpoints and looks between them.
 ghost use Rattle.std.specs.Prelude.{◌<◌};
 
 use crate::events::{

@@ -114,8 +114,8 @@ fn all_calls<D: Device, J: Volumes, W: Press, R: Wait>(
     })
 }
 
-/// What the calls answer on a new volume with two readers, how many seats these have, and how many mounts the pen comes back
-/// with.
+/// What the calls answer on a new volume with two readers, how many seats these have, and how many mounts the
+/// pen comes back with.
 fn shared<J: Volumes, R: Wait>(
     rt: &R,
     alloc: Global,

@@ -114,6 +114,17 @@ const EXPIRED_AT_1000: &[Row<'static>] = &[
     (LISTING, Rows(&[(3, 100, Plain, 1)])),
 ];
 
+/// Those before a snapshot and behind it go.
+const EXPIRED_ROUND_A_SNAPSHOT: &[Row<'static>] = &[
+    (PLAIN, Checkpoint(2)),
+    (Call::Remove(1), Done),
+    (SNAPSHOT, Checkpoint(3)),
+    (PLAIN, Checkpoint(4)),
+    (PLAIN, Checkpoint(5)),
+    (Call::Expire(1, 0), Expired(&[2, 4])),
+    (LISTING, Rows(&[(3, 0, Snapshot, 1), (5, 0, Plain, 1)])),
+];
+
 /// Snapshots stay until they are plain, mounted or not.
 const EXPIRED_BUT_SNAPSHOTS: &[Row<'static>] = &[
     (Call::Create(b"/f"), Done),
@@ -168,7 +179,8 @@ const NONE: Shown = Shown {
     ..WHOLE
 };
 
-/// No stamp is below one before it. A row counts the paths that the checkpoint has, the root included, and not those of now.
+/// No stamp is below one before it. A row counts the paths that the checkpoint has, the root included, and
+/// not those of now.
 const LISTINGS: &[Row<'static>] = &[
     (LISTING, Rows(&[(1, 0, Plain, 1)])),
     (Call::CheckpointAt(Snapshot, 50), Checkpoint(2)),
@@ -208,6 +220,7 @@ const ON_CHECKPOINTS: Tables = &[
     EXPIRED_AT_100,
     EXPIRED_AT_99,
     EXPIRED_AT_1000,
+    EXPIRED_ROUND_A_SNAPSHOT,
     EXPIRED_BUT_SNAPSHOTS,
     LISTINGS,
 ];

@@ -1,5 +1,5 @@
-//! Readers who follow a pen by the commits of its events alone: their tables take each commit, and through them a mount reads
-//! as is due.
+//! Readers who follow a pen by the commits of its events alone: their tables take each commit, and through
+//! them a mount reads as is due.
 use crate::checkpoints::on_checkpoints;
 use crate::events::Row;
 use crate::file_calls::{on_directories, on_files};

@@ -1,6 +1,6 @@
 //! Blocks of directories byte by byte, and what is found in them.
 ghost use Rattle.std.specs.Prelude.{IsTrue};
-ghost use Rattle.nl_dirs.specs.Records.{AllFit, RecordFits};
+ghost use Rattle.nl_dirs.specs.Records.{AllHaveSpelling, RecordHasSpelling};
 
 use nl_dirs::{Record, find, first_name, pack, record_count, records};
 use nl_types::{Block, InodeNumber, Items, Kind, Page, VolError};
@@ -9,7 +9,7 @@ use std::test::Fail;
 
 /// Whether a record may be packed.
 fn fits(record: &Record) -> bool
-    ensures { IsTrue result → RecordFits record.now }
+    ensures { IsTrue result → RecordHasSpelling record.now }
 {
     let length = record.name.len();
     length > 0 && length <= 255 && record.inode.get() <= 0xffff_ffff
@@ -17,7 +17,7 @@ fn fits(record: &Record) -> bool
 
 /// Whether each record may be packed.
 fn all_fit(records: &[Record]) -> bool
-    ensures { IsTrue result → AllFit records.now }
+    ensures { IsTrue result → AllHaveSpelling records.now }
 {
     for record in records {
         if !fits(record) {

@@ -1,5 +1,5 @@
-//! Devices of which one put or one get fails, on 16 segments of 8 blocks: what a checkpoint and a round leave then, and what
-//! they come to when they are asked for again.
+//! Devices of which one put or one get fails, on 16 segments of 8 blocks: what a checkpoint and a round leave
+//! then, and what they come to when they are asked for again.
 ghost use Rattle.std.specs.Prelude.{◌≡◌};
 
 use crate::events::{ALL, Call, PLAIN, Row, Want};
@@ -37,12 +37,12 @@ fn volume(alloc: Global, put: u64, get: u64, torn: bool) -> Result<Pen<FaultDevi
 /// State, stamp and used blocks of a segment.
 type Info = (SegmentState, u64, u32);
 
-/// What comes of the puts of these numbers, the first one and the last one: the segments with logs or in error behind the
-/// refusal, and behind the same checkpoint once more, and how many segments are clean then.
+/// What comes of the puts of these numbers, the first one and the last one: the segments with logs or in
+/// error behind the refusal, and behind the same checkpoint once more, and how many segments are clean then.
 type FailedPuts = (u64, u64, &'static [Info], &'static [Info], usize);
 
-/// A format puts 3 blocks, and a file's first checkpoint 9: a summary and 4 behind them, and a summary and 3 in the next
-/// segment.
+/// A format puts 3 blocks, and a file's first checkpoint 9: a summary and 4 behind them, and a summary and 3
+/// in the next segment.
 const FAILED_PUTS: &[FailedPuts] = &[
     (4, 8, &[(Error, 0, 3)], &[(Error, 0, 3), (Active, 0, 8)], 14),
     (
@@ -118,7 +118,8 @@ fn opened(alloc: Global, image: &[u8]) -> Result<Pen<MemDevice>, VolError> {
     open(alloc, image, device)
 }
 
-/// Whether an image is zero behind the used part of each segment, and the file is read in the volume that is opened of it.
+/// Whether an image is zero behind the used part of each segment, and the file is read in the volume that is
+/// opened of it.
 fn is_opened(alloc: Global, image: &[u8], segments: &[Info]) -> Result<bool, VolError> {
     let mut pen = opened(alloc, image)?;
     Ok(is_rest_zero(image, segments) && first_unwanted(alloc, &mut pen, read())?.is_none())
@@ -134,7 +135,8 @@ fn leaves<D: Device>(
     Ok(first_unwanted(alloc, pen, rows)?.is_none() && are_segments(pen.segments(), segments))
 }
 
-/// The image of a volume behind a put that fails and the same checkpoint once more, empty where these come to something else.
+/// The image of a volume behind a put that fails and the same checkpoint once more, empty where these come to
+/// something else.
 fn image_behind(
     alloc: Global,
     put: u64,

@@ -1,4 +1,5 @@
-//! Volumes that get more segments on devices that fail, with the replies that are due and the segments that are left.
+//! Volumes that get more segments on devices that fail, with the replies that are due and the segments that
+//! are left.
 use crate::events::{ALL, Call, PLAIN, Row, Want};
 use crate::logs::{NONE_FAILS, are_segments};
 use crate::rows::first_unwanted;

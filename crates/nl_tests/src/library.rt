@@ -183,10 +183,10 @@ const WRITE_C: Step<'static> = Step::Does(Call::Write(b"/f", 0, b"C"), Want::Wri
 
 const WRITE_D: Step<'static> = Step::Does(Call::Write(b"/f", 0, b"D"), Want::Written(1));
 
-/// On 16 segments of 4 blocks, which take 3 blocks behind a summary, or 1 and 1 behind two. A byte is written over another
-/// twice. The format has the block of inodes and its node, of numbers 1 and 2. Checkpoint 2 adds the directory's block and
-/// node, the file's, two blocks of inodes and their node, of numbers 3 to 9; 3 and 4 the file's block and node, its block of
-/// inodes and their node, of numbers 10 to 13 and 14 to 17.
+/// On 16 segments of 4 blocks, which take 3 blocks behind a summary, or 1 and 1 behind two. A byte is written
+/// over another twice. The format has the block of inodes and its node, of numbers 1 and 2. Checkpoint 2 adds
+/// the directory's block and node, the file's, two blocks of inodes and their node, of numbers 3 to 9; 3 and
+/// 4 the file's block and node, its block of inodes and their node, of numbers 10 to 13 and 14 to 17.
 const OVERWRITTEN: &[Step<'static>] = &[
     Step::Sync(5, Ok(1)),
     CREATE,
@@ -248,9 +248,9 @@ const OVERWRITTEN: &[Step<'static>] = &[
     Step::Needed(4, Ok(0)),
 ];
 
-/// On 16 segments of 8 blocks, where the ninth put fails: the summary of the second log of a checkpoint, whose first one has 4
-/// of its 7 blocks behind the format's. That log stays, and its blocks are dead, first of numbers that are free, and then
-/// of numbers that the next checkpoint gave to other blocks.
+/// On 16 segments of 8 blocks, where the ninth put fails: the summary of the second log of a checkpoint,
+/// whose first one has 4 of its 7 blocks behind the format's. That log stays, and its blocks are dead, first
+/// of numbers that are free, and then of numbers that the next checkpoint gave to other blocks.
 const DEAD: &[Step<'static>] = &[
     CREATE,
     WRITE_A,
@@ -329,8 +329,8 @@ const CLEANED: &[Step<'static>] = &[
     Step::Does(Call::ReadMount(1, b"/f", 0, ALL), Want::Bytes(b"A")),
 ];
 
-/// On 8 segments of 4 blocks, the same two overwrites: the third checkpoint takes more logs than are left. With 16 segments it
-/// goes through, and there are numbers up to the new last block, 64.
+/// On 8 segments of 4 blocks, the same two overwrites: the third checkpoint takes more logs than are left.
+/// With 16 segments it goes through, and there are numbers up to the new last block, 64.
 const GROWN: &[Step<'static>] = &[
     CREATE,
     WRITE_A,

@@ -1,4 +1,5 @@
-//! Logs in 8 segments, mostly of 4 blocks: where appends go, what they leave when they are refused, and what the device has.
+//! Logs in 8 segments, mostly of 4 blocks: where appends go, what they leave when they are refused, and what
+//! the device has.
 use nl_device::{FaultDevice, MemDevice};
 use nl_layout::{Level, Summary, Tag};
 use nl_segwriter::LogSpace;
@@ -14,7 +15,8 @@ use std::test::Fail;
 /// What a row does to a space or finds there, with what is due.
 #[derive(Clone, Copy)]
 enum Step<'a> {
-    /// Appends so many pages, of the bytes 0, 1, .. throughout, with a reserve or without: the numbers of their blocks.
+    /// Appends so many pages, of the bytes 0, 1, .. throughout, with a reserve or without: the numbers of
+    /// their blocks.
     Append(u8, bool, Result<&'a [u32], VolError>),
     /// Empties a segment.
     Free(u32),
@@ -318,8 +320,8 @@ const THIRTEEN: &[Step<'static>] = &[
 
 const FOURTEEN: &[Step<'static>] = &[Step::Append(14, false, Err(VolError::NoSpace))];
 
-/// A log has 30 pages at most: in segments of 64 blocks 63 pages take three logs in the first segment, of 30, 30 and 1, and
-/// one in the next.
+/// A log has 30 pages at most: in segments of 64 blocks 63 pages take three logs in the first segment, of 30,
+/// 30 and 1, and one in the next.
 const LARGE: &[Step<'static>] = &[
     Step::Append(
         63,

@@ -1,7 +1,7 @@
-//! Virtual block numbers over logs in 8 segments of 4 blocks: their periods and blocks after checkpoints, moves and reclaims,
-//! and what a refusal leaves.
+//! Virtual block numbers over logs in 8 segments of 4 blocks: their periods and blocks after checkpoints,
+//! moves and reclaims, and what a refusal leaves.
 ghost use Rattle.std.specs.Prelude.{◌≡◌, OnOk, IfOk, IfSome, true};
-ghost use Rattle.nl_vstore.specs.Batches.{Fits, is_live};
+ghost use Rattle.nl_vstore.specs.Batches.{CanBeTaken, is_live};
 ghost use Rattle.nl_vstore.specs.Stores.{AreInside, capacity, content_in, is_inside, address_in};
 
 use crate::logs::{NONE_FAILS, Shape, are_segments, space};
@@ -19,10 +19,11 @@ use std::test::Fail;
 /// What a row does to a table of numbers or finds there, with what is due.
 #[derive(Clone, Copy)]
 enum Step<'a> {
-    /// A checkpoint at ten times its number, with births of pages of these bytes, under the lowest free numbers, and these
-    /// ends.
+    /// A checkpoint at ten times its number, with births of pages of these bytes, under the lowest free
+    /// numbers, and these ends.
     Checkpoint(u8, &'a [u8], &'a [u64], Result<(), VolError>),
-    /// Moves the numbers out of a segment whose pages stand at these blocks of it, in this order, at moment 50.
+    /// Moves the numbers out of a segment whose pages stand at these blocks of it, in this order, at moment
+    /// 50.
     Move(u32, &'a [u32], Result<(), VolError>),
     /// Takes the numbers out of use whose pages stand in a segment: how many they were.
     Reclaim(u32, u32),
@@ -67,8 +68,8 @@ fn bear<S: Space>(
     batch: &mut Batch,
     byte: u8,
 ) -> Result<(), VolError>
-    requires { Fits (capacity store.now.store) (content_in store.now.store) batch.old }
-    ensures { OnOk result (Fits (capacity store.now.store) (content_in store.now.store) batch.new) }
+    requires { CanBeTaken (capacity store.now.store) (content_in store.now.store) batch.old }
+    ensures { OnOk result (CanBeTaken (capacity store.now.store) (content_in store.now.store) batch.new) }
 {
     let number = next_number(store, batch);
     let page = page_of(alloc, byte)?;
@@ -94,8 +95,8 @@ fn is_live_in<S: Space>(store: &Dat<S>, number: VirtualNumber) -> bool
 
 /// Adds the end of a number. Refused by `BadRange` where it is not in use or has ended.
 fn end<S: Space>(store: &Dat<S>, batch: &mut Batch, number: u64) -> Result<(), VolError>
-    requires { Fits (capacity store.now.store) (content_in store.now.store) batch.old }
-    ensures { OnOk result (Fits (capacity store.now.store) (content_in store.now.store) batch.new) }
+    requires { CanBeTaken (capacity store.now.store) (content_in store.now.store) batch.old }
+    ensures { OnOk result (CanBeTaken (capacity store.now.store) (content_in store.now.store) batch.new) }
 {
     let number = VirtualNumber::new(number);
     if is_live_in(store, number) {
@@ -113,7 +114,8 @@ fn batch_of<S: Space>(
     bytes: &[u8],
     ends: &[u64],
 ) -> Result<Batch, VolError>
-    ensures { IfOk result (λ batch. Fits (capacity store.now.store) (content_in store.now.store) batch) }
+    ensures { IfOk result (λ batch. CanBeTaken (capacity store.now.store)
+        (content_in store.now.store) batch) }
 {
     let mut batch = Batch::new(alloc);
     for byte in bytes {
@@ -412,7 +414,8 @@ const FREED: &[Step<'static>] = &[
     Step::Page(5, Some(b'H')),
 ];
 
-/// Six segments of 3 pages each. One page more lacks space, and changes nothing; a move may take the last two segments.
+/// Six segments of 3 pages each. One page more lacks space, and changes nothing; a move may take the last two
+/// segments.
 const FULL: &[Step<'static>] = &[
     Step::Checkpoint(2, b"ABCDEFGHIJKLMNOPQR", &[], Ok(())),
     Step::Clean(2),
@@ -443,8 +446,8 @@ const FULL: &[Step<'static>] = &[
     Step::At(6, 3, Some(3)),
 ];
 
-/// The page of checkpoint 4 is the sixth put, after its summary. Its segment is in error, and the checkpoint made again goes
-/// to the next one.
+/// The page of checkpoint 4 is the sixth put, after its summary. Its segment is in error, and the checkpoint
+/// made again goes to the next one.
 const FAILED_WRITE: &[Step<'static>] = &[
     Step::Checkpoint(2, b"A", &[], Ok(())),
     Step::Checkpoint(3, b"B", &[1], Ok(())),
@@ -458,7 +461,8 @@ const FAILED_WRITE: &[Step<'static>] = &[
     Step::Segments(&[(Dirty, 30, 4), FAILED, (Active, 40, 2)]),
 ];
 
-/// Behind the row the first page that is moved goes to block 7, after a summary at 6. The second one's put fails.
+/// Behind the row the first page that is moved goes to block 7, after a summary at 6. The second one's put
+/// fails.
 const FAILED_MOVE: &[Step<'static>] = &[
     Step::Move(0, &[3, 1], Err(VolError::Fault)),
     Step::Entries(&[Ended(1, 2, 3), Ended(3, 3, 4), Live(5, 4)]),

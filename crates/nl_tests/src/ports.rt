@@ -1,5 +1,5 @@
-//! A shared volume beside a pen: on both the rows of events come out as is due, and what is told of both in the end is the
-//! same, and their images are. Mounts of the shared one are read through a port.
+//! A shared volume beside a pen: on both the rows of events come out as is due, and what is told of both in
+//! the end is the same, and their images are. Mounts of the shared one are read through a port.
 ghost use Rattle.std.specs.Prelude.{◌≡◌};
 
 use crate::checkpoints::on_checkpoints;
@@ -243,7 +243,8 @@ fn same_in_the_end<D: Device, J: Volumes, R: Wait>(
     Ok(same && close_alike(alloc, pen, &mut other)?)
 }
 
-/// Whether a pen and a shared volume with one port reply alike to calls, and the same is told of both in the end.
+/// Whether a pen and a shared volume with one port reply alike to calls, and the same is told of both in the
+/// end.
 fn is_twin<J: Volumes, R: Wait>(
     rt: &R,
     alloc: Global,
@@ -289,8 +290,8 @@ fn are_twins<J: Volumes, R: Wait>(
 
 // ---- calls
 
-/// One byte over another, each with a checkpoint behind it; then all but the latest are removed, and each segment that the
-/// latest doesn't lie in alone is cleaned.
+/// One byte over another, each with a checkpoint behind it; then all but the latest are removed, and each
+/// segment that the latest doesn't lie in alone is cleaned.
 const CLEANED: &[Call<'static>] = &[
     Call::Create(b"/f"),
     Call::Write(b"/f", 0, b"a"),
@@ -387,8 +388,8 @@ const FULL: &[Call<'static>] = &[
     PLAIN,
 ];
 
-/// A checkpoint that lacks space goes through once the volume has grown, and the mount of before reads on. Then checkpoints take
-/// numbers and segments that there were not, and what a mount needs is moved there.
+/// A checkpoint that lacks space goes through once the volume has grown, and the mount of before reads on.
+/// Then checkpoints take numbers and segments that there were not, and what a mount needs is moved there.
 const GROWN: &[Call<'static>] = &[
     Call::Create(b"/f"),
     Call::Write(b"/f", 0, b"A"),

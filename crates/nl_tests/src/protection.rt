@@ -1,13 +1,6 @@
-//! Odd configuration texts, and checkpoints that expire. What becomes of each is told by the rules, and not by the program.
-ghost use Rattle.std.specs.Prelude.{◌≡◌, false};
-ghost use Rattle.nl_layout.specs.declared.root.Root.TheVariants as root;
-
-use nl_cpfile::{Checkpoint, Checkpoints};
-use nl_layout::Root;
-use nl_protect::{Amount, Config, expired};
-use nl_types::{CheckpointNumber, Items, Mode, VolError};
-use std::alloc::Global;
-use std::test::Fail;
+//! Odd configuration texts. What becomes of each is told by the rules, and not by the program.
+use nl_protect::{Amount, Config};
+use nl_types::VolError;
 
 /// What becomes of a text.
 #[derive(Clone, Copy)]
@@ -189,43 +182,4 @@ fn other_values_are_set(rt: HostRuntime) {
         mc_min_reclaimable_blocks: Amount::Count(8),
     };
     assert_eq!(rt; Config::parse(rt.alloc(), OTHERS), Ok(others));
-}
-
-fn checkpoint(number: u64, mode: Mode) -> Checkpoint
-    ensures { result ≡ record {
-      number = number;
-      mode = mode;
-      minor = false;
-      stamp = 0;
-      root = root.Empty;
-      inodes = 1;
-    } }
-{
-    Checkpoint {
-        number: CheckpointNumber::new(number),
-        mode,
-        minor: false,
-        stamp: 0,
-        root: Root::Empty,
-        inodes: 1,
-    }
-}
-
-/// Which of the checkpoints 2 to 5 expire below 5, where 3 is a snapshot.
-fn expired_below_5(alloc: Global) -> Result<Items<CheckpointNumber>, VolError> {
-    let mut kept = Checkpoints::new(alloc, checkpoint(2, Mode::Plain));
-    kept.reserve()?;
-    kept.add(checkpoint(3, Mode::Snapshot));
-    kept.reserve()?;
-    kept.add(checkpoint(4, Mode::Plain));
-    kept.reserve()?;
-    kept.add(checkpoint(5, Mode::Plain));
-    expired(alloc, &kept, CheckpointNumber::new(5))
-}
-
-#[test]
-fn plain_checkpoints_expire(rt: HostRuntime) -> Result<(), Fail> {
-    let due = [CheckpointNumber::new(2), CheckpointNumber::new(4)];
-    assert_eq!(rt; expired_below_5(rt.alloc())?.as_slice(), due.as_slice());
-    Ok(())
 }

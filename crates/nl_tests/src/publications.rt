@@ -1,5 +1,5 @@
-//! Calls under the lock of a shared volume, where memory is refused to its writer or to the give-back of a mount: what is
-//! answered, how much is published, and what the next call does.
+//! Calls under the lock of a shared volume, where memory is refused to its writer or to the give-back of a
+//! mount: what is answered, how much is published, and what the next call does.
 ghost use Rattle.std.specs.Prelude.{◌≡◌};
 
 use crate::logs::{NONE_FAILS, Shape};
@@ -286,7 +286,8 @@ const CASES: &[Case] = &[
     ),
 ];
 
-/// The first step that comes out otherwise on a new volume, of whose writer's calls and give-backs some are refused.
+/// The first step that comes out otherwise on a new volume, of whose writer's calls and give-backs some are
+/// refused.
 fn unwanted<J: Volumes, R: Wait>(
     rt: &R,
     alloc: Global,

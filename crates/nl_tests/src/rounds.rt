@@ -32,9 +32,9 @@ fn write_byte<D: Device>(alloc: Global, pen: &mut Pen<D>, byte: u8) -> Result<()
     Ok(())
 }
 
-/// One byte of a file over another, with a checkpoint behind each, on 16 segments of 8 blocks. Three of them have logs then:
-/// the last one is active, and each of the others has 6 payload blocks. The latest checkpoint needs 2 of the first segment's
-/// and 1 of the second's.
+/// One byte of a file over another, with a checkpoint behind each, on 16 segments of 8 blocks. Three of them
+/// have logs then: the last one is active, and each of the others has 6 payload blocks. The latest checkpoint
+/// needs 2 of the first segment's and 1 of the second's.
 fn write_bytes<D: Device>(alloc: Global, pen: &mut Pen<D>) -> Result<(), VolError> {
     pen.apply(&create(alloc)?)?;
     write_byte(alloc, pen, b'A')?;

@@ -45,8 +45,8 @@ fn outcome<V: Volume>(
     Some(is_wanted(&reply, want))
 }
 
-/// Does an event between two looks, and answers whether its reply is the one that is due. Where it is refused by `Memory`,
-/// the looks have to be the same, and it is done once more.
+/// Does an event between two looks, and answers whether its reply is the one that is due. Where it is refused
+/// by `Memory`, the looks have to be the same, and it is done once more.
 fn comes_out<V: Volume>(
     alloc: Global,
     volume: &mut V,

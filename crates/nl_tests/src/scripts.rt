@@ -88,8 +88,9 @@ fn a_script_is_told_of_line_by_line(rt: HostRuntime) {
     let alloc = rt.alloc();
     let mut volume = Counting { latest: 1 };
     let mut output = Vec::new(alloc);
-    let input =
-        b"at 5\nmkcp\nrmcp 7\nrmcp -f 7\nrmcp 1..\nmkdir\n# no command\nlssu -a\nclean\ncatm 1 /f /g".as_slice();
+    let input = b"at 5\nmkcp\nrmcp 7\nrmcp -f 7\nrmcp 1..\nmkdir\n# no command\n\
+          lssu -a\nclean\ncatm 1 /f /g"
+        .as_slice();
     let config = Config::standard();
     let mut readers = Readers {
         rt: &rt,
@@ -104,8 +105,9 @@ fn a_script_is_told_of_line_by_line(rt: HostRuntime) {
         input,
         &mut output,
     );
-    let expected =
-        b"2\n3: 7: error 10 NoCheckpoint\n5: error 14 Latest\n6: usage\n  SEGNUM       MOMENT STAT  NBLOCKS\n       0            0 ---         0\n9: error 18 Memory\n10: error 19 BadMount\n";
+    let expected = b"2\n3: 7: error 10 NoCheckpoint\n5: error 14 Latest\n6: usage\n  \
+          SEGNUM       MOMENT STAT  NBLOCKS\n       \
+          0            0 ---         0\n9: error 18 Memory\n10: error 19 BadMount\n";
     assert!(rt; output.as_slice() == expected.as_slice());
     assert!(rt; done.moment == 5 && done.misread && done.refused && done.failed.is_none());
 }

@@ -23,8 +23,8 @@ fn unwanted(alloc: Global, rows: &[Row<'_>]) -> Result<Option<usize>, VolError> 
     first_unwanted(alloc, &mut pen, rows)
 }
 
-/// The blocks of the second content begin in segment 3 and fill segment 4. They are needed as long as checkpoint 3 is kept, be
-/// it a snapshot or not.
+/// The blocks of the second content begin in segment 3 and fill segment 4. They are needed as long as
+/// checkpoint 3 is kept, be it a snapshot or not.
 const RETIRED: &[Row<'static>] = &[
     (Call::Create(b"/f"), Want::Done),
     (Call::Write(b"/f", 0, b"A"), Want::Written(1)),
@@ -47,7 +47,8 @@ const RETIRED: &[Row<'static>] = &[
     (Call::Read(b"/f", 0, ALL), Want::Bytes(b"C")),
 ];
 
-/// The first get is that of a move, and fails. The format wrote 2 blocks, the first content 7 and the second 4.
+/// The first get is that of a move, and fails. The format wrote 2 blocks, the first content 7 and the second
+/// 4.
 const UNREAD: &[Row<'static>] = &[
     (Call::Create(b"/f"), Want::Done),
     (Call::Write(b"/f", 0, b"A"), Want::Written(1)),

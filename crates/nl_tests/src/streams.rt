@@ -1,4 +1,5 @@
-//! How a session ends where a stream fails, and that it begins at all. What it prints is shown by the scripts of tests/rows.
+//! How a session ends where a stream fails, and that it begins at all. What it prints is shown by the scripts
+//! of tests/rows.
 use nl_session::session;
 use std::io::{self, BufWriter, ErrorKind, Read, Write};
 use std::rt::Files;
@@ -111,9 +112,9 @@ const UNWRITTEN: &str = "standard output: cannot be written\n";
 /// What fails, a script, what it prints, what is told on standard error, and its status.
 type Row = (Failing, &'static str, &'static str, &'static str, u8);
 
-/// Where the reader fails, the line that is read in part is not done. Where the writer does, a line that can't be told of
-/// counts, and what follows it is not run. The output is flushed behind each line, a comment too. A line that there is no
-/// memory for is passed over, and what follows it is run.
+/// Where the reader fails, the line that is read in part is not done. Where the writer does, a line that
+/// can't be told of counts, and what follows it is not run. The output is flushed behind each line, a comment
+/// too. A line that there is no memory for is passed over, and what follows it is run.
 const ROWS: [Row; 29] = [
     (Reader, "", "", UNREAD, 1),
     (Reader, "# one\n# two\n", "", UNREAD, 1),
@@ -176,7 +177,8 @@ const ROWS: [Row; 29] = [
     ),
 ];
 
-/// The status of a row, where its reader gives at most so many bytes at a call. There is memory for the output's buffer.
+/// The status of a row, where its reader gives at most so many bytes at a call. There is memory for the
+/// output's buffer.
 fn status_of<R: AllocGlobal + Files + Threads + Wait + Sync>(
     rt: &R,
     row: &Row,

@@ -1,5 +1,5 @@
-//! The current tree over checkpoints: which inode numbers are given, what checkpoints write, and a new tree over a checkpoint
-//! that is there.
+//! The current tree over checkpoints: which inode numbers are given, what checkpoints write, and a new tree
+//! over a checkpoint that is there.
 ghost use Rattle.std.specs.Prelude.{◌≡◌, ◌+◌, List, ℕ, [], IfOk, OnOk};
 ghost use Rattle.nl_types.specs.declared.event.Change.TheVariants.{Create, Unlink};
 
@@ -30,8 +30,8 @@ enum Step<'a> {
     UnlinkTenths(u32),
     /// The inodes of names in the root.
     Inodes(&'a [(&'a [u8], Option<u64>)]),
-    /// A checkpoint: the number of the first block that it writes, how many it writes, some of them, and how many numbers it
-    /// ends.
+    /// A checkpoint: the number of the first block that it writes, how many it writes, some of them, and how
+    /// many numbers it ends.
     Checkpoint(u64, usize, &'a [Birth], usize),
     /// How many blocks the file of inodes has, nodes among them.
     InodeBlocks(usize),
@@ -42,8 +42,8 @@ enum Step<'a> {
 /// The place among the blocks that are written, inode, level and offset.
 type Birth = (usize, u64, u8, u64);
 
-/// The current tree over the latest checkpoint of a store, whose number is 0 where there is none yet. Contracts see the
-/// current tree.
+/// The current tree over the latest checkpoint of a store, whose number is 0 where there is none yet.
+/// Contracts see the current tree.
 #[derive(Drop)]
 struct Trees {
     store: Dat<LogSpace<FaultDevice>>,
@@ -225,8 +225,8 @@ impl Trees {
         true
     }
 
-    /// Makes a checkpoint, again where memory was refused, and answers whether it writes so many blocks, of which the first
-    /// one has this number, these among them, and ends so many numbers.
+    /// Makes a checkpoint, again where memory was refused, and answers whether it writes so many blocks, of
+    /// which the first one has this number, these among them, and ends so many numbers.
     fn writes(
         &mut self,
         alloc: Global,
@@ -292,7 +292,8 @@ impl Trees {
         Ok(None)
     }
 
-    /// Makes a checkpoint with the files `/a` and `/c`, and a free number between theirs. Goes on with a new tree over it.
+    /// Makes a checkpoint with the files `/a` and `/c`, and a free number between theirs. Goes on with a new
+    /// tree over it.
     fn go_on_with_two(&mut self, alloc: Global) -> Result<(), VolError>
         requires { self.old.names ≡ 0 }
     {
@@ -341,8 +342,8 @@ fn other(alloc: Global, start: Start, steps: &[Step<'_>]) -> Result<Option<usize
 
 // ---- rows
 
-/// Ten thousand names get the numbers from 11 on. Where each tenth is removed, a number that is free is given again, the
-/// lowest first.
+/// Ten thousand names get the numbers from 11 on. Where each tenth is removed, a number that is free is given
+/// again, the lowest first.
 const TEN_THOUSAND: &[Step<'static>] = &[
     Step::Create(10_000),
     Step::Inodes(&[(b"00000", Some(11)), (b"09999", Some(10_010))]),
@@ -361,8 +362,8 @@ const TEN_THOUSAND: &[Step<'static>] = &[
     ]),
 ];
 
-/// Of 1,006 names, each with a record of 11 bytes, 93 stand in a block, and take 11. Their inodes are those from 11 to 1,016,
-/// with 8 in a block: the blocks from 0 to 127, which fill one node.
+/// Of 1,006 names, each with a record of 11 bytes, 93 stand in a block, and take 11. Their inodes are those
+/// from 11 to 1,016, with 8 in a block: the blocks from 0 to 127, which fill one node.
 const THOUSAND: &[Step<'static>] = &[
     Step::Create(1_006),
     Step::Inodes(&[(b"01005", Some(1_016))]),
@@ -397,8 +398,8 @@ const ONE_FILE: &[Birth] = &[
     (6, 6, 1, 0),
 ];
 
-/// A write stores its block alone. Bytes that are the same, and a file that comes and goes between, write nothing. A removed
-/// file ends all its numbers.
+/// A write stores its block alone. Bytes that are the same, and a file that comes and goes between, write
+/// nothing. A removed file ends all its numbers.
 const FEW: &[Step<'static>] = &[
     Step::Checkpoint(1, 2, INODES, 0),
     Step::Calls(&[
@@ -416,10 +417,10 @@ const FEW: &[Step<'static>] = &[
     Step::Checkpoint(10, 2, INODES, 7),
 ];
 
-/// A tree of 300 blocks has 3 nodes, and a top above them. With its first block changed and one more written, both blocks, the
-/// nodes above them and the top are written, and what they replace ends. Where the last 47 blocks go, so does a node. Where 128
-/// blocks are left, their node is the top and keeps its number, and where all go the file is empty. Each time the file's block
-/// of inodes is written, and the node of that.
+/// A tree of 300 blocks has 3 nodes, and a top above them. With its first block changed and one more written,
+/// both blocks, the nodes above them and the top are written, and what they replace ends. Where the last 47
+/// blocks go, so does a node. Where 128 blocks are left, their node is the top and keeps its number, and
+/// where all go the file is empty. Each time the file's block of inodes is written, and the node of that.
 const TREE: &[Step<'static>] = &[
     Step::Calls(&[
         (Call::Create(b"/f"), Want::Done),
@@ -488,8 +489,9 @@ const TREE: &[Step<'static>] = &[
     Step::Checkpoint(327, 2, &[(0, 6, 0, 1), (1, 6, 1, 0)], 131),
 ];
 
-/// The last block that a file may have stands below three nodes. One at 0 takes two nodes and a new top. Without the last one
-/// the node above the first is the top and keeps its number; and so it does below another top, once there is a block at 128.
+/// The last block that a file may have stands below three nodes. One at 0 takes two nodes and a new top.
+/// Without the last one the node above the first is the top and keeps its number; and so it does below
+/// another top, once there is a block at 128.
 const HIGH: &[Step<'static>] = &[
     Step::Calls(&[
         (Call::Create(b"/f"), Want::Done),

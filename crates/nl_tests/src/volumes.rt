@@ -1,5 +1,5 @@
-//! Events on a pen, with the replies that are due: reads and limits, devices that are full or fail, and the numbers that
-//! checkpoints take.
+//! Events on a pen, with the replies that are due: reads and limits, devices that are full or fail, and the
+//! numbers that checkpoints take.
 use crate::checkpoints::on_checkpoints;
 use crate::events::{ALL, Call, PLAIN, Row, SNAPSHOT, Tables, Want};
 use crate::file_calls::{on_directories, on_files};
@@ -71,8 +71,8 @@ const READS: &[Row<'static>] = &[
 
 // ---- faults
 
-/// The fifth put fails, and no other. The first three are of the checkpoint that a format makes, and the first block of the
-/// next one is its second put.
+/// The fifth put fails, and no other. The first three are of the checkpoint that a format makes, and the
+/// first block of the next one is its second put.
 const FAULT: &[Row<'static>] = &[
     (Call::Create(b"/f"), Want::Done),
     (Call::Fill(b"/f", 0, b'A', 2000), Want::Written(2000)),
@@ -92,10 +92,10 @@ const FAULT: &[Row<'static>] = &[
 
 // ---- space
 
-/// On 8 segments of 4 blocks, each takes 3 blocks behind a summary. The first one has the file of inodes, and of the others a
-/// checkpoint leaves two clean: so 15 blocks fit. A file's first checkpoint writes its data and a node, a block of the
-/// directory and its node, two blocks of inodes and their node. So 9 blocks of data fit, and 10 don't. Then a changed block
-/// lacks space, and one with its old bytes doesn't.
+/// On 8 segments of 4 blocks, each takes 3 blocks behind a summary. The first one has the file of inodes, and
+/// of the others a checkpoint leaves two clean: so 15 blocks fit. A file's first checkpoint writes its data
+/// and a node, a block of the directory and its node, two blocks of inodes and their node. So 9 blocks of
+/// data fit, and 10 don't. Then a changed block lacks space, and one with its old bytes doesn't.
 const FULL: &[Row<'static>] = &[
     (Call::Create(b"/f"), Want::Done),
     (Call::Fill(b"/f", 0, b'A', 9216), Want::Written(9216)),
@@ -117,8 +117,9 @@ const TOO_FULL: &[Row<'static>] = &[
     (Call::Mount(2), Want::Refused(VolError::NoCheckpoint)),
 ];
 
-/// A block is there exactly where a byte was written: one at the end of what a node names takes one block. Behind the 7 of
-/// that checkpoint there is room for 7 more: a second file with one block of data, and not with two.
+/// A block is there exactly where a byte was written: one at the end of what a node names takes one block.
+/// Behind the 7 of that checkpoint there is room for 7 more: a second file with one block of data, and not
+/// with two.
 const FAR: &[Row<'static>] = &[
     (Call::Create(b"/f"), Want::Done),
     (Call::Write(b"/f", 130_047, b"x"), Want::Written(1)),
@@ -140,8 +141,8 @@ const TOO_FAR: &[Row<'static>] = &[
     (PLAIN, Want::Refused(VolError::NoSpace)),
 ];
 
-/// Zeros over a hole take a block too, with its node, its block of inodes and their node. After them there is room for 3
-/// blocks, and without them for 7, where a changed block takes 4.
+/// Zeros over a hole take a block too, with its node, its block of inodes and their node. After them there is
+/// room for 3 blocks, and without them for 7, where a changed block takes 4.
 const ZEROS: &[Row<'static>] = &[
     (Call::Create(b"/f"), Want::Done),
     (Call::Write(b"/f", 1024, b"x"), Want::Written(1)),
@@ -161,9 +162,9 @@ const NO_ZEROS: &[Row<'static>] = &[
     (PLAIN, Want::Checkpoint(4)),
 ];
 
-/// Of 64 segments a checkpoint leaves two clean. Each that it takes has 61 blocks: two logs of 30 and one of 1; behind the
-/// format's log the first one has 59 more. That is room for 3,744 blocks of a file, their 31 nodes, and 5 of the directory
-/// and the inodes.
+/// Of 64 segments a checkpoint leaves two clean. Each that it takes has 61 blocks: two logs of 30 and one of
+/// 1; behind the format's log the first one has 59 more. That is room for 3,744 blocks of a file, their 31
+/// nodes, and 5 of the directory and the inodes.
 const LARGE: &[Row<'static>] = &[
     (Call::Create(b"/f"), Want::Done),
     (
@@ -251,7 +252,8 @@ fn large_files_and_volumes_have_limits(rt: HostRuntime) -> Result<(), Fail> {
 
 // ---- numbers
 
-/// Rows on a new volume of 16 segments of 8 blocks, what becomes of the numbers from 1 on, and how many segments stay clean.
+/// Rows on a new volume of 16 segments of 8 blocks, what becomes of the numbers from 1 on, and how many
+/// segments stay clean.
 pub(crate) type Numbered = (&'static [Row<'static>], &'static [Entry], usize);
 
 /// Block, start and end of a number, 0 where it has not ended.
@@ -272,8 +274,8 @@ const UNCHANGED: Numbered = (
     15,
 );
 
-/// A first file takes the directory's block and node, its own block and node, two blocks of inodes and their node: 4 blocks
-/// behind the format's, and 3 in the next segment.
+/// A first file takes the directory's block and node, its own block and node, two blocks of inodes and their
+/// node: 4 blocks behind the format's, and 3 in the next segment.
 const FIRST_FILE: Numbered = (
     &[
         (Call::Create(b"/f"), Want::Done),
@@ -294,8 +296,8 @@ const FIRST_FILE: Numbered = (
     14,
 );
 
-/// One byte is written over another, with a checkpoint behind each, and one more of no change. Each other byte takes the
-/// file's block and node, its block of inodes and their node.
+/// One byte is written over another, with a checkpoint behind each, and one more of no change. Each other
+/// byte takes the file's block and node, its block of inodes and their node.
 const BYTES: Numbered = (
     &[
         (Call::Create(b"/f"), Want::Done),
@@ -360,8 +362,8 @@ fn has_entries<D: Device>(pen: &Pen<D>, entries: &[Entry]) -> bool {
     true
 }
 
-/// Whether the numbers are those of the device's 128 blocks, the next one and the last are free, and so many segments are
-/// clean.
+/// Whether the numbers are those of the device's 128 blocks, the next one and the last are free, and so many
+/// segments are clean.
 fn are_left<D: Device>(pen: &Pen<D>, entries: &[Entry], clean: usize) -> bool {
     has_entries(pen, entries)
         && has_entry(pen, entries.len() as u64 + 1, Ok(None))

@@ -2,6 +2,7 @@
 use Rattle.std.specs.Prelude.{Bool, true, false, List, [], ◌∷◌, ◌++◌, codes}
 use Rattle.std.specs.Fmt.{decimal}
 use Rattle.std.specs.List.{flat_map}
+use Rattle.nl_types.specs.Characters.{blank_space, line_feed}
 use Rattle.nl_types.specs.declared.event.Mode.{Mode}
 use Rattle.nl_types.specs.declared.event.Mode.TheVariants.{Plain, Snapshot}
 use Rattle.nl_types.specs.declared.row.Row.{Row}
@@ -17,13 +18,17 @@ minor_flag true = codes "i"
 minor_flag false = codes "-"
 
 abbrev pub cp_header : Text
-cp_header = codes "     CNO       MOMENT MODE FLG     ICNT" ++ (10 ∷ [])
+cp_header = codes "     CNO       MOMENT MODE FLG     ICNT" ++ (line_feed ∷ [])
 
 -- number, stamp, mode, flag, and inodes in use
 abbrev pub cp_text : Row → Text
 cp_text row =
-    right 8 (decimal row.number) ++ (32 ∷ (right 12 (decimal row.stamp) ++ (32 ∷ (left 4 (mode_name row.mode)
-    ++ (32 ∷ (left 3 (minor_flag row.minor) ++ (32 ∷ (right 8 (decimal row.inodes) ++ (10 ∷ [])))))))))
+    right 8 (decimal row.number)
+    ++ (blank_space ∷ (right 12 (decimal row.stamp)
+    ++ (blank_space ∷ (left 4 (mode_name row.mode)
+    ++ (blank_space ∷ (left 3 (minor_flag row.minor)
+    ++ (blank_space ∷ (right 8 (decimal row.inodes)
+    ++ (line_feed ∷ [])))))))))
 
 abbrev pub cp_texts : List Row → Text
 cp_texts rows = flat_map cp_text rows

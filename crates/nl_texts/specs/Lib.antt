@@ -4,3 +4,4 @@ pub mod SegmentLines
 pub mod RefusalTexts
 pub mod AnswerTexts
 pub mod StreamTexts
+pub mod Facts

@@ -1,6 +1,7 @@
 -- What is printed where a line is refused, or is no command.
 use Rattle.std.specs.Prelude.{ℕ, List, [], ◌∷◌, ◌++◌, codes, Option, None, Some}
 use Rattle.std.specs.Fmt.{decimal}
+use Rattle.nl_types.specs.Characters.{blank_space, line_feed}
 use Rattle.nl_types.specs.Refusals.{refusal_number, name_of}
 use Rattle.nl_types.specs.declared.error.VolError.{VolError}
 use Rattle.nl_types.specs.declared.error.VolError.TheVariants.{BadImage, BadConfig}
@@ -21,18 +22,18 @@ detail_of _ = None
 
 abbrev pub detail_text : Option ℕ → Text
 detail_text None = []
-detail_text (Some detail) = 32 ∷ decimal detail
+detail_text (Some detail) = blank_space ∷ decimal detail
 
 -- the number and the name of a refusal
 abbrev pub kind_text : VolError → Text
-kind_text error = codes "error " ++ (decimal (refusal_number error) ++ (32 ∷ name_of error))
+kind_text error = codes "error " ++ (decimal (refusal_number error) ++ (blank_space ∷ name_of error))
 
 abbrev pub refusal_text : (line : ℕ) → Option ℕ → VolError → Text
 refusal_text line number error =
-    place_text line number ++ (kind_text error ++ (detail_text (detail_of error) ++ (10 ∷ [])))
+    place_text line number ++ (kind_text error ++ (detail_text (detail_of error) ++ (line_feed ∷ [])))
 
 abbrev pub usage_text : (line : ℕ) → Text
-usage_text line = decimal line ++ (codes ": usage" ++ (10 ∷ []))
+usage_text line = decimal line ++ (codes ": usage" ++ (line_feed ∷ []))
 
 abbrev pub step_text : StartStep → Text
 step_text Configuration = codes "conf: "
@@ -42,14 +43,15 @@ step_text Start = codes "start: "
 
 -- what comes before the first line was refused
 abbrev pub start_text : StartStep → VolError → Text
-start_text step error = step_text step ++ (kind_text error ++ (detail_text (detail_of error) ++ (10 ∷ [])))
+start_text step error =
+    step_text step ++ (kind_text error ++ (detail_text (detail_of error) ++ (line_feed ∷ [])))
 
 -- the image of the volume isn't saved in the end
 abbrev pub save_text : VolError → Text
-save_text error = codes "save: " ++ (kind_text error ++ (detail_text (detail_of error) ++ (10 ∷ [])))
+save_text error = codes "save: " ++ (kind_text error ++ (detail_text (detail_of error) ++ (line_feed ∷ [])))
 
 abbrev pub unread_text : (path : List ℕ) → Text
-unread_text path = path ++ (codes ": cannot be read" ++ (10 ∷ []))
+unread_text path = path ++ (codes ": cannot be read" ++ (line_feed ∷ []))
 
 abbrev pub unwritten_text : (path : List ℕ) → Text
-unwritten_text path = path ++ (codes ": cannot be written" ++ (10 ∷ []))
+unwritten_text path = path ++ (codes ": cannot be written" ++ (line_feed ∷ []))

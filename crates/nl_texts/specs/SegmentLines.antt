@@ -2,6 +2,7 @@
 use Rattle.std.specs.Prelude.{ℕ, Bool, true, false, not, ◌||◌, if◌then◌else◌, List, [], ◌∷◌, ◌++◌, codes, Option, None, Some}
 use Rattle.std.specs.Fmt.{decimal}
 use Rattle.std.specs.List.{flat_map, enumerate_from}
+use Rattle.nl_types.specs.Characters.{blank_space, line_feed}
 use Rattle.nl_types.specs.Segments.{is_clean}
 use Rattle.nl_types.specs.declared.segment.SegmentInfo.{SegmentInfo}
 use Rattle.nl_types.specs.declared.segment.SegmentState.{SegmentState}
@@ -17,19 +18,23 @@ state_letters Active = codes "ad-"
 state_letters Error = codes "-de"
 
 abbrev pub seg_header : (long : Bool) → Text
-seg_header false = codes "  SEGNUM       MOMENT STAT  NBLOCKS" ++ (10 ∷ [])
-seg_header true = codes "  SEGNUM       MOMENT STAT  NBLOCKS   NEEDED" ++ (10 ∷ [])
+seg_header false = codes "  SEGNUM       MOMENT STAT  NBLOCKS" ++ (line_feed ∷ [])
+seg_header true = codes "  SEGNUM       MOMENT STAT  NBLOCKS   NEEDED" ++ (line_feed ∷ [])
 
 -- the blocks needed, where they are counted
 abbrev pub needed_column : Option ℕ → Text
 needed_column None = []
-needed_column (Some count) = 32 ∷ right 8 (decimal count)
+needed_column (Some count) = blank_space ∷ right 8 (decimal count)
 
 -- number, stamp, letters, blocks used, and blocks needed
 abbrev pub seg_text : ℕ → SegmentInfo → Option ℕ → Text
 seg_text segment info needed =
-    right 8 (decimal segment) ++ (32 ∷ (right 12 (decimal info.stamp) ++ (32 ∷ (left 4 (state_letters info.state)
-    ++ (32 ∷ (right 8 (decimal info.used) ++ (needed_column needed ++ (10 ∷ []))))))))
+    right 8 (decimal segment)
+    ++ (blank_space ∷ (right 12 (decimal info.stamp)
+    ++ (blank_space ∷ (left 4 (state_letters info.state)
+    ++ (blank_space ∷ (right 8 (decimal info.used)
+    ++ (needed_column needed
+    ++ (line_feed ∷ []))))))))
 
 -- a clean segment is listed among all alone
 abbrev pub is_listed : (all : Bool) → SegmentInfo → Bool
@@ -40,7 +45,8 @@ listed_seg_text all segment row = if is_listed all row.info then seg_text segmen
 
 -- those of a table, from a segment on
 abbrev pub seg_texts_from : (all : Bool) → ℕ → List SegmentRow → Text
-seg_texts_from all segment rows = flat_map (λ entry. listed_seg_text all entry.0 entry.1) (enumerate_from segment rows)
+seg_texts_from all segment rows =
+    flat_map (λ entry. listed_seg_text all entry.0 entry.1) (enumerate_from segment rows)
 
 abbrev pub seg_texts : (all : Bool) → List SegmentRow → Text
 seg_texts all rows = seg_texts_from all 0 rows

@@ -1,9 +1,10 @@
 -- What is said of a standard stream that fails.
 use Rattle.std.specs.Prelude.{[], ◌∷◌, ◌++◌, codes}
+use Rattle.nl_types.specs.Characters.{line_feed}
 use Rattle.nl_texts.specs.Texts.{Text}
 use Rattle.nl_texts.specs.declared.streams.StandardStream.{StandardStream}
 use Rattle.nl_texts.specs.declared.streams.StandardStream.TheVariants.{Input, Output}
 
 abbrev pub stream_text : StandardStream → Text
-stream_text Input = codes "standard input: cannot be read" ++ (10 ∷ [])
-stream_text Output = codes "standard output: cannot be written" ++ (10 ∷ [])
+stream_text Input = codes "standard input: cannot be read" ++ (line_feed ∷ [])
+stream_text Output = codes "standard output: cannot be written" ++ (line_feed ∷ [])

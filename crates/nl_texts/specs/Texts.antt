@@ -1,4 +1,5 @@
 -- Texts, and their places in columns.
+use Rattle.nl_types.specs.Characters.{blank_space}
 use Rattle.std.specs.Prelude.{ℕ, ◌-◌, List, ◌++◌, length, replicate}
 
 -- bytes as they are printed
@@ -7,7 +8,7 @@ Text = List ℕ
 
 -- so many blanks
 abbrev pub blanks : ℕ → Text
-blanks count = replicate count 32
+blanks count = replicate count blank_space
 
 -- the text with blanks before it up to a width; a longer one stays whole
 abbrev pub right : (width : ℕ) → Text → Text

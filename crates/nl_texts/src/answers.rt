@@ -34,8 +34,8 @@ pub fn stat_text<W: Write>(stat: Stat, out: &mut W) -> io::Result<()>
     }
 }
 
-/// Writes what a round of cleaning came to: how many checkpoints expired, how many blocks it moved, and how many segments it
-/// freed.
+/// Writes what a round of cleaning came to: how many checkpoints expired, how many blocks it moved, and how
+/// many segments it freed.
 pub fn clean_line<W: Write>(expired: u64, moved: u64, freed: u64, out: &mut W) -> io::Result<()>
     ensures { OnOk result (Appends (W.contents out.old) (W.contents out.new)
         (clean_text expired moved freed)) }

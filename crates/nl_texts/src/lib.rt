@@ -1,7 +1,11 @@
 //! What the program prints, to the byte.
 //!
-//! Each function writes one text of the program: a listing's header or line, an answer, a refusal. Its contract says which
-//! bytes the writer got, by a definition in `specs/`. Where the writer fails, a part of the text may be written.
+//! Each function writes one text of the program: a listing's header or line, an answer, a refusal. Its
+//! contract says which bytes the writer got, by a definition in `specs/`. Where the writer fails, a part of
+//! the text may be written.
+//!
+//! What no other crate calls is public too, where its contract is one that docs/PROOFS.md names: a promise is
+//! kept by public contracts alone.
 #![tactic(auto)]
 
 mod answers;

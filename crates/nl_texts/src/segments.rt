@@ -37,9 +37,10 @@ fn is_listed(info: &SegmentInfo, all: bool) -> bool
 pub fn seg_header<W: Write>(long: bool, out: &mut W) -> io::Result<()>
     ensures { OnOk result (Appends (W.contents out.old) (W.contents out.new) (seg_header long)) }
 {
-    match long {
-        true => out.write_all(b"  SEGNUM       MOMENT STAT  NBLOCKS   NEEDED\n"),
-        false => out.write_all(b"  SEGNUM       MOMENT STAT  NBLOCKS\n"),
+    if long {
+        out.write_all(b"  SEGNUM       MOMENT STAT  NBLOCKS   NEEDED\n")
+    } else {
+        out.write_all(b"  SEGNUM       MOMENT STAT  NBLOCKS\n")
     }
 }
 
@@ -86,9 +87,10 @@ pub fn listed_seg_line<W: Write>(
     ensures { OnOk result (Appends (W.contents out.old) (W.contents out.new)
         (listed_seg_text all segment row.now)) }
 {
-    match is_listed(&row.info, all) {
-        true => seg_line(segment, &row.info, row.needed, out),
-        false => Ok(()),
+    if is_listed(&row.info, all) {
+        seg_line(segment, &row.info, row.needed, out)
+    } else {
+        Ok(())
     }
 }
 

@@ -8,10 +8,10 @@ use Rattle.std.proofs.lemmas.Bool.{eqb-false, eqb-true}
 use Rattle.std.proofs.lemmas.List.Splits.{join_with_byte-slice_split, length-slice_split}
 use Rattle.nl_types.specs.Calls.{is_above}
 use Rattle.nl_types.specs.Paths.{Path, is_within, same_path}
-use Rattle.nl_types.proofs.Booleans.{not_true}
-use Rattle.nl_types.proofs.Lookups.{is_within-append, same_path-itself, within_is}
-use Rattle.nl_types.proofs.TreeLaws.{same_path-equal}
-use Rattle.nl_tree.specs.PathParts.{parts_of}
+use Rattle.nl_types.specs.Facts.Booleans.{not_true}
+use Rattle.nl_types.specs.Facts.Lookups.{is_within-append, same_path-itself, within_is}
+use Rattle.nl_types.specs.Facts.TreeLaws.{same_path-equal}
+use Rattle.nl_tree.specs.Private.PathParts.{parts_of}
 use Rattle.nl_tree.proofs.PathParts.{parts_of-injective}
 
 abbrev is_slash : ℕ → Bool

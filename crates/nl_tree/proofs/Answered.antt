@@ -6,7 +6,7 @@ use Rattle.nl_types.specs.declared.reply.Answer.{Answer}
 use Rattle.nl_types.specs.Calls.{Changed}
 use Rattle.nl_types.specs.Worlds.{Reply}
 use Rattle.nl_tree.specs.Became.{Current}
-use Rattle.nl_tree.specs.CurrentTrees.{CallsAs}
+use Rattle.nl_tree.specs.CurrentTrees.{AnswersCall}
 use Rattle.nl_tree.specs.Held.{Holding}
 
 -- the reply answers what the result gives, or is refused as it is
@@ -14,9 +14,9 @@ abbrev pub Answers : {A : Type 0} → (A → Answer) → Result A VolError → R
 Answers given result reply = MatchResult result (λ a. reply ≡ Ok (given a)) (λ e. reply ≡ Err e)
 
 pub calls-answered : {A : Type 0} (given : A → Answer) (result : Result A VolError) (reply : Reply) (now : Current) (base : Holding) (called : Changed) →
-    Answers given result reply → CallsAs given result now base called → CallsAs (λ answer. answer) reply now base called
-calls-answered given (Ok a) reply now base called is calls = subst (λ (r : Reply). CallsAs (λ answer. answer) r now base called) (sym is) calls
-calls-answered given (Err e) reply now base called is calls = subst (λ (r : Reply). CallsAs (λ answer. answer) r now base called) (sym is) calls
+    Answers given result reply → AnswersCall given result now base called → AnswersCall (λ answer. answer) reply now base called
+calls-answered given (Ok a) reply now base called is calls = subst (λ (r : Reply). AnswersCall (λ answer. answer) r now base called) (sym is) calls
+calls-answered given (Err e) reply now base called is calls = subst (λ (r : Reply). AnswersCall (λ answer. answer) r now base called) (sym is) calls
 
 pub ok-answered : {A : Type 0} (given : A → Answer) (result : Result A VolError) (reply : Reply) (Holds : Type 0) →
     Answers given result reply → OnOk result Holds → OnOk reply Holds

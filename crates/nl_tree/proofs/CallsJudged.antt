@@ -17,12 +17,12 @@ use Rattle.nl_types.specs.Calls.{and_then, create, is_root, refuse_if, rmdir, un
 use Rattle.nl_types.specs.Inodes.{Inodes, Link, MeansTree}
 use Rattle.nl_types.specs.Judging.{bytes_in, has_any, judge_create}
 use Rattle.nl_types.specs.Resolving.{IsNamed, as_dir, record_in, resolve, resolve_from, step_to}
-use Rattle.nl_types.proofs.Inodes.FullVolumes.{full_volumes_are_too_big}
-use Rattle.nl_types.proofs.Inodes.Judging.{creates_are_judged, files_are_judged, rmdirs_are_judged}
+use Rattle.nl_types.specs.Facts.Inodes.FullVolumes.{full_volumes_are_too_big}
+use Rattle.nl_types.specs.Facts.Inodes.Judging.{creates_are_judged, files_are_judged, rmdirs_are_judged}
 use Rattle.nl_tree.specs.Held.{Held, Holding, IsHolding, held_count, inode_content, inodes_of_holding}
 use Rattle.nl_tree.specs.Naming.{IsPlaceOf, IsPlaceRefused, listing_of}
 use Rattle.nl_tree.specs.Steps.{IsCreateRefused, IsFullOf}
-use Rattle.nl_tree.proofs.HeldContents.{held_count-listing, listing_of-IsListing}
+use Rattle.nl_tree.specs.Facts.HeldContents.{held_count-listing, listing_of-IsListing}
 
 -- ---- walks to the last name
 

@@ -17,12 +17,11 @@ use Rattle.nl_types.specs.InodeChanges.{Refills}
 use Rattle.nl_types.specs.Judging.{Listing, IsListing, bytes_of, has_any, judge_create, judge_rename}
 use Rattle.nl_types.specs.Resolving.{IsNamed, resolve}
 use Rattle.nl_types.specs.InodeCallLaws.{LeadsTo}
-use Rattle.nl_types.proofs.Inodes.CallsDone.{creates_lead, writes_lead, truncates_lead, unlinks_lead, rmdirs_lead, renames_lead, renames_onto_lead}
+use Rattle.nl_types.specs.Facts.Inodes.CallsDone.{creates_lead, writes_lead, truncates_lead, unlinks_lead, rmdirs_lead, renames_lead, renames_onto_lead}
 use Rattle.nl_dirs.specs.declared.record.Record.{Record}
 use Rattle.nl_dirs.specs.Records.{NamesAscend}
-use Rattle.nl_tree.specs.Held.{Held, Holding, Stored, Listed, bytes_stored, inode_content, inodes_of_holding}
+use Rattle.nl_tree.specs.Held.{Held, Holding, Stored, Listed, bytes_stored, inode_content, inodes_of_holding, new_node}
 use Rattle.nl_tree.specs.Steps.{with_held, with_link, with_new_inode, without_inode, without_link}
-use Rattle.nl_tree.specs.Limits.{new_node}
 use Rattle.nl_tree.specs.Bytes.{Overwrites, Resizes}
 use Rattle.nl_tree.specs.TreeMeaning.{StandsForTree, MakesTree}
 use Rattle.nl_tree.proofs.InodeSteps.{adds, drops, moves, moves_onto, refills}

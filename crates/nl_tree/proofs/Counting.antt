@@ -3,8 +3,9 @@ use Rattle.std.proofs.Common.{◌≡◌, ℕ, ◌+◌, ◌<◌, ◌≤◌, ◌==
 use Rattle.std.specs.Prelude.{cond, nat_le, is_some, if◌then◌else◌}
 use Rattle.std.proofs.lemmas.Bool.{cases_lt, eqb-true, eqb-false, eq-eqb, ne_eqb, leb-true, leb-false}
 use Rattle.nl_types.specs.Paths.{Name}
+use Rattle.nl_types.specs.Inodes.{IsLowestFreeInode}
 use Rattle.nl_dirs.specs.declared.record.Record.{Record}
-use Rattle.nl_tree.specs.Held.{Held, Holding, IsLowestUnheld, Listed}
+use Rattle.nl_tree.specs.Held.{Held, Holding, Listed}
 use Rattle.nl_tree.specs.Numbers.{CountsNumbers}
 use Rattle.nl_tree.specs.Steps.{with_held, with_link_moved}
 
@@ -53,7 +54,7 @@ module _ (old new : Holding) (k dir : ℕ) (what : Option Held) (all after : Lis
 
 -- the lowest free number is taken
 module _ (IsFree IsFreeNow : ℕ → Type 0) (mark now : ℕ) (old new base : Holding) (counts : CountsNumbers IsFree mark old base)
-    (k dir : ℕ) (held : Held) (all after : List Record) (is : IsLowestUnheld old 11 k) (there : old dir ≡ Some (Listed all))
+    (k dir : ℕ) (held : Held) (all after : List Record) (is : IsLowestFreeInode old 11 k) (there : old dir ≡ Some (Listed all))
     (shows : (i : ℕ) → new i ≡ with_held k (Some held) (with_held dir (Some (Listed after)) old) i)
     (freed_old : (m : ℕ) → IsFreeNow m → (m ≡ k → ⊥) × IsFree m) (freed_new : (m : ℕ) → (m ≡ k → ⊥) → IsFree m → IsFreeNow m)
     (moved : now ≡ (if nat_le mark k then k + 1 else mark)) where
@@ -64,7 +65,7 @@ module _ (IsFree IsFreeNow : ℕ → Type 0) (mark now : ℕ) (old new base : Ho
       by_test true t =
           let past : now ≡ k + 1 = moved ∙ rw t refl in
           let below : mark ≤ k = leb-true mark k t in
-          let high : k ≤ 524287 = is.high in
+          let high : k ≤ 524287 = is.last in
           (omega (arith, past, high), omega (arith, past, below), omega (arith, past), λ m h ne. inr (less m h ne past (cases_lt m k)))
         where
           less : (m : ℕ) → m < now → (m ≡ k → ⊥) → now ≡ k + 1 → (m < k) ⊎ (k ≤ m) → m < k

@@ -8,7 +8,7 @@ use Rattle.std.specs.Ordering.{nat_cmp}
 use Rattle.std.specs.BTreeMap as map
 use Rattle.nl_dirs.specs.declared.record.Record.{Record}
 use Rattle.nl_tree.specs.Held.{Held, Holding, IsHolding, Listed, Stored, held_count}
-use Rattle.nl_tree.specs.Overlays.{IsOrderly, current_of, holding_now, over_changed, over_place}
+use Rattle.nl_tree.specs.Overlays.{IsOrderly, current_of, holding_now, over_changed, over_if_slot}
 use Rattle.nl_tree.proofs.OneHolding.{one_holding}
 
 -- the maps hold what the lists do
@@ -21,7 +21,7 @@ holding_listed o now base orderly view =
 pub shown_live : (o : Overlay) (base : Holding) (i : ℕ) (slot : Slot) → map.get nat_cmp o.changed i ≡ Some slot → slot.live ≡ true
     → holding_now o base i ≡ over_changed slot.what (base i)
 shown_live o base i slot place live =
-    ap (λ (p : Option Slot). over_place p (base i)) place ∙ ap (λ b. cond b (over_changed slot.what (base i)) (base i)) live
+    ap (λ (p : Option Slot). over_if_slot p (base i)) place ∙ ap (λ b. cond b (over_changed slot.what (base i)) (base i)) live
 
 count_few : (held : Option Held) → ((records : List Record) → held ≡ Some (Listed records) → length records ≤ 524277) → held_count held < 2 ^ 64
 count_few None few = omega arith
@@ -30,4 +30,4 @@ count_few (Some (Listed records)) few = omega (arith, few records refl)
 
 -- the names of a directory can be counted
 pub names_countable : (held : Holding) → IsHolding held → (dir : ℕ) → held_count (held dir) < 2 ^ 64
-names_countable held sound dir = count_few (held dir) (sound.count dir)
+names_countable held sound dir = count_few (held dir) (λ records is. (sound.each dir (Listed records) is).count)

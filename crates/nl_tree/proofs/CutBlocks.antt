@@ -4,10 +4,9 @@ use Rattle.std.specs.Prelude.{◌&&◌, ◌%◌, MatchOption, is_some, nat_lt, s
 use Rattle.std.proofs.lemmas.Bool.{and_from, and_right, cases_lt, cond-false, cond-true, eq-eqb, le-ltb, lt-ltb}
 use Rattle.nl_types.specs.Roots.{Blocks}
 use Rattle.nl_tree.specs.Contents.{byte_in}
-use Rattle.nl_tree.specs.Held.{byte_stored}
+use Rattle.nl_tree.specs.Held.{byte_stored, IsFileHeld}
 use Rattle.nl_tree.specs.Bytes.{ArePagesCut, IsPageCut, Resizes}
-use Rattle.nl_tree.specs.Limits.{IsFileHeld}
-use Rattle.nl_tree.specs.Pages.{blocks_below, blocks_for, put_from}
+use Rattle.nl_tree.specs.Private.Pages.{blocks_below, blocks_for, put_from}
 use Rattle.nl_tree.proofs.StoredBytes.{resizes-end}
 use Rattle.nl_tree.proofs.WrittenBlocks.{put-before}
 

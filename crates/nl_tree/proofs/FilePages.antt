@@ -12,12 +12,12 @@ use Rattle.nl_tree.specs.declared.overlay.FileBlocks.{FileBlocks}
 use Rattle.nl_tree.specs.declared.overlay.Changed.{Changed}
 use Rattle.nl_tree.specs.declared.overlay.Changed.TheVariants.{Gone, File, Dir}
 use Rattle.nl_tree.specs.declared.overlay.Slot.{Slot}
-use Rattle.nl_tree.specs.Files.{ShowsFile, ShowsFileWith}
+use Rattle.nl_tree.specs.Private.Files.{ShowsFile, ShowsFileWith}
 use Rattle.nl_tree.specs.Held.{Held, Holding, Stored, held_block, held_size}
-use Rattle.nl_tree.specs.Overlays.{block_over, is_shown, new_page_at, over_changed, over_place, over_slot}
-use Rattle.nl_tree.specs.Pages.{IsSameFile, blocks_below, put_from}
+use Rattle.nl_tree.specs.Overlays.{block_over, is_shown, new_page_at, over_changed, over_if_slot, over_slot}
+use Rattle.nl_tree.specs.Private.Pages.{IsSameFile, blocks_below, put_from}
 use Rattle.nl_tree.specs.Steps.{with_held}
-use Rattle.nl_tree.proofs.Places.{tied}
+use Rattle.nl_tree.specs.Facts.Places.{tied}
 
 -- pages put over blocks are pages put over what the file shows
 or_put : (pages : List (List ℕ)) (first : ℕ) (f rest : Blocks) (b : ℕ) →
@@ -58,7 +58,7 @@ same_held file new base same = λ j. Some (Stored (same.size j) (λ b. same_over
 
 -- a place that shows a file has it
 pub live_file : (place : Option Slot) (base : Option Held) (size : ℕ) (blocks : Blocks) → is_shown place ≡ true →
-    over_place place base ≡ Some (Stored size blocks) → (slot : Slot) × (place ≡ Some slot) × ShowsFile slot.what base size blocks
+    over_if_slot place base ≡ Some (Stored size blocks) → (slot : Slot) × (place ≡ Some slot) × ShowsFile slot.what base size blocks
 live_file None base size blocks live is = absurd (true≢false (sym live))
 live_file (Some slot) base size blocks live is = (slot, refl, by_what slot.what slot.live live is)
   where
@@ -91,12 +91,12 @@ opened_file file base size blocks is past sized cut none = (file, refl, sized �
 -- one place is written, and shows this over the checkpoint's inode
 pub written_at : (m n : BTreeMap ℕ Slot) (j : ℕ) (w : Slot) (held : Option Held) (base : Holding) →
     WritesThrough nat_cmp (nat_cmp j) m w n → IsSome (map.get nat_cmp m j) → over_slot w (base j) ≡ held →
-    (i : ℕ) → over_place (map.get nat_cmp n i) (base i) ≡ cond (i == j) held (over_place (map.get nat_cmp m i) (base i))
+    (i : ℕ) → over_if_slot (map.get nat_cmp n i) (base i) ≡ cond (i == j) held (over_if_slot (map.get nat_cmp m i) (base i))
 written_at m n j w held base writes there shows i =
-    ap (λ (p : Option Slot). over_place p (base i)) ((writes.3 there).0 i ∙ ap (λ (t : Bool). cond t (Some w) (map.get nat_cmp m i)) (tied j i))
+    ap (λ (p : Option Slot). over_if_slot p (base i)) ((writes.3 there).0 i ∙ ap (λ (t : Bool). cond t (Some w) (map.get nat_cmp m i)) (tied j i))
     ∙ pick (i == j) refl
   where
-    pick : (t : Bool) → (i == j) ≡ t → over_place (cond t (Some w) (map.get nat_cmp m i)) (base i) ≡ cond t held (over_place (map.get nat_cmp m i) (base i))
+    pick : (t : Bool) → (i == j) ≡ t → over_if_slot (cond t (Some w) (map.get nat_cmp m i)) (base i) ≡ cond t held (over_if_slot (map.get nat_cmp m i) (base i))
     pick true t = ap (λ (k : ℕ). over_slot w (base k)) (eqb-true i j t) ∙ shows
     pick false t = refl
 

@@ -8,10 +8,10 @@ use Rattle.nl_types.specs.Paths.{Name, Path}
 use Rattle.nl_types.specs.Resolving.{as_dir, resolve, resolve_from, step_to}
 use Rattle.nl_tree.specs.Held.{Holding, held_record, inodes_of_holding}
 use Rattle.nl_tree.specs.Naming.{IsPlaceOf, IsPlaceRefused}
-use Rattle.nl_tree.specs.PathParts.{DividesAtSlash, IsOnePart, parts_of}
+use Rattle.nl_tree.specs.Private.PathParts.{DividesAtSlash, IsOnePart, parts_of}
 use Rattle.nl_tree.specs.Reading.{as_directory}
 use Rattle.nl_tree.proofs.AbovePaths.{some_part}
-use Rattle.nl_tree.proofs.HeldContents.{held_record-content}
+use Rattle.nl_tree.specs.Facts.HeldContents.{held_record-content}
 use Rattle.nl_tree.proofs.PathParts.{parts_of-more, parts_of-one}
 
 -- ---- steps

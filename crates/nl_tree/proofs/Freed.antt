@@ -9,9 +9,9 @@ use Rattle.std.specs.Map.{lookup, keys_of}
 use Rattle.std.specs.BTreeMap.{is_at}
 use Rattle.std.proofs.lemmas.Bool.{eqb-true, eq-eqb, ne_eqb}
 use Rattle.std.proofs.lemmas.Map.Keys.{sorted_head, sorted_tail}
-use Rattle.nl_types.specs.PartialMaps.{is_one_of}
+use Rattle.nl_types.specs.NumberLists.{is_one_of}
 use Rattle.nl_tree.specs.Shown.{if_true, key_alone, shown_entries}
-use Rattle.nl_tree.proofs.Places.{tied}
+use Rattle.nl_tree.specs.Facts.Places.{tied}
 
 abbrev freed : List (ℕ × Bool) → List ℕ
 freed es = shown_entries key_alone if_true es

@@ -12,13 +12,13 @@ use Rattle.nl_types.specs.Trees.{Tree, lookup, children, name_below, node_kind}
 use Rattle.nl_types.specs.Inodes.{Records, MeansTree}
 use Rattle.nl_types.specs.InodeChanges.{HasRecords}
 use Rattle.nl_types.specs.InodeLaws.{with_kind}
-use Rattle.nl_types.proofs.Inodes.Walks.{reached-pairs}
-use Rattle.nl_types.proofs.Inodes.ChildRecords.{children_are_records}
+use Rattle.nl_types.specs.Facts.Inodes.Walks.{reached-pairs}
+use Rattle.nl_types.specs.Facts.Inodes.ChildRecords.{children_are_records}
 use Rattle.nl_dirs.specs.declared.record.Record.{Record}
 use Rattle.nl_dirs.specs.Records.{NamesAscend, entry_of}
 use Rattle.nl_tree.specs.Held.{Holding, Listed, inode_content, inodes_of_holding}
 use Rattle.nl_tree.specs.Naming.{listed_record}
-use Rattle.nl_tree.proofs.HeldContents.{lists_records}
+use Rattle.nl_tree.specs.Facts.HeldContents.{lists_records}
 
 -- ---- how many names there are
 

@@ -9,66 +9,23 @@ use Rattle.nl_types.specs.Roots.{Blocks}
 use Rattle.nl_types.specs.declared.kind.Kind.{Kind}
 use Rattle.nl_types.specs.declared.kind.Kind.TheVariants as kind
 use Rattle.nl_dirs.specs.declared.record.Record.{Record}
-use Rattle.nl_tree.specs.Held.{Held, Holding, IsHolding, IsInodeNumber, Stored, Listed, new_held}
+use Rattle.nl_tree.specs.Held.{Held, Holding, IsHolding, IsInodeNumber, Stored, Listed, new_held, IsFileHeld, IsDirectoryHeld, MayHold}
 use Rattle.nl_tree.specs.Records.{with_record, without_record}
 use Rattle.nl_tree.specs.Steps.{with_held, with_link, without_link, with_new_inode, without_inode}
-use Rattle.nl_tree.specs.Limits.{IsFileHeld, IsDirectoryHeld, MayHold}
 use Rattle.nl_tree.proofs.RecordSteps.{all-with, all-without, ascend-with, ascend-without}
 use Rattle.nl_tree.proofs.InodeSteps.{with_held-there, with_held-other}
 
--- ---- as one inode after the other
-
--- each inode's number and what it holds
-pub record MayAllHold (holding : Holding) : Type 0 where
-  pub numbers : (i : ℕ) (held : Held) → holding i ≡ Some held → IsInodeNumber i
-  pub each : (i : ℕ) → MayHold (holding i)
-
-pub may-all : (holding : Holding) → IsHolding holding → MayAllHold holding
-may-all holding is = record { numbers = is.numbers; each = λ i. choose i (holding i) refl }
-  where
-    choose : (i : ℕ) (held : Option Held) → holding i ≡ held → MayHold (holding i)
-    choose i None e = rw e tt
-    choose i (Some (Stored size blocks)) e = rw e (record {
-      small = is.sizes i size blocks e;
-      none_past = λ b past. is.none_past i size blocks b e past;
-      zeros = λ k past. is.zeros i size blocks k e past;
-      whole = λ b page there. is.whole i size blocks b page e there;
-    })
-    choose i (Some (Listed records)) e = rw e (record {
-      ascending = is.ascending i records e;
-      names = is.names i records e;
-      count = is.count i records e;
-    })
-
-pub all-holding : (holding : Holding) → MayAllHold holding → IsHolding holding
-all-holding holding may = record {
-  numbers = may.numbers;
-  sizes = λ i size blocks e. (file i size blocks e).small;
-  none_past = λ i size blocks b e past. (file i size blocks e).none_past b past;
-  zeros = λ i size blocks k e past. (file i size blocks e).zeros k past;
-  whole = λ i size blocks b page e there. (file i size blocks e).whole b page there;
-  ascending = λ i records e. (directory i records e).ascending;
-  names = λ i records e. (directory i records e).names;
-  count = λ i records e. (directory i records e).count;
-}
-  where
-    file : (i size : ℕ) (blocks : Blocks) → holding i ≡ Some (Stored size blocks) → IsFileHeld size blocks
-    file i size blocks e = subst MayHold e (may.each i)
-
-    directory : (i : ℕ) (records : List Record) → holding i ≡ Some (Listed records) → IsDirectoryHeld records
-    directory i records e = subst MayHold e (may.each i)
-
 -- ---- one inode holds something else
 
-pub with_held-may : (i : ℕ) (held : Option Held) (holding : Holding) → MayAllHold holding → IsInodeNumber i → MayHold held → MayAllHold (with_held i held holding)
+pub with_held-may : (i : ℕ) (held : Option Held) (holding : Holding) → IsHolding holding → IsInodeNumber i → MayHold held → IsHolding (with_held i held holding)
 with_held-may i held holding may number here = record {
-  numbers = λ j x e. elim (cases_Bool (j == i)) [
+  inode_numbers = λ j x e. elim (cases_Bool (j == i)) [
     | inl t ↦ subst IsInodeNumber (sym (eqb-true j i t)) number
-    | inr f ↦ may.numbers j x (sym (with_held-other i j held holding f) ∙ e)
+    | inr f ↦ may.inode_numbers j x (sym (with_held-other i j held holding f) ∙ e)
   ];
-  each = λ j. elim (cases_Bool (j == i)) [
-    | inl t ↦ subst MayHold (sym (with_held-there i j held holding t)) here
-    | inr f ↦ subst MayHold (sym (with_held-other i j held holding f)) (may.each j)
+  each = λ j x e. elim (cases_Bool (j == i)) [
+    | inl t ↦ subst MayHold (sym (with_held-there i j held holding t) ∙ e) here
+    | inr f ↦ may.each j x (sym (with_held-other i j held holding f) ∙ e)
   ];
 }
 
@@ -113,24 +70,24 @@ without-may name records is = record {
   count = omega (arith, length-without name records, is.count);
 }
 
-module _ (holding : Holding) (may : MayAllHold holding) where
+module _ (holding : Holding) (may : IsHolding holding) where
   directory-may : (i : ℕ) (records : List Record) → holding i ≡ Some (Listed records) → IsDirectoryHeld records
-  directory-may i records e = subst MayHold e (may.each i)
+  directory-may i records e = may.each i (Listed records) e
 
-  pub new_inode-may : (dir : ℕ) (records : List Record) (r : Record) → holding dir ≡ Some (Listed records) → MayStand r → length (with_record r records) ≤ 524277 → MayAllHold (with_new_inode dir records r.name r.kind r.inode holding)
+  pub new_inode-may : (dir : ℕ) (records : List Record) (r : Record) → holding dir ≡ Some (Listed records) → MayStand r → length (with_record r records) ≤ 524277 → IsHolding (with_new_inode dir records r.name r.kind r.inode holding)
   new_inode-may dir records r here stand few =
-      with_held-may r.inode (Some (new_held r.kind)) _ (with_held-may dir (Some (Listed (with_record r records))) holding may (may.numbers dir _ here) (with-may r records (directory-may dir records here) stand few)) stand.1 (new-may r.kind)
+      with_held-may r.inode (Some (new_held r.kind)) _ (with_held-may dir (Some (Listed (with_record r records))) holding may (may.inode_numbers dir _ here) (with-may r records (directory-may dir records here) stand few)) stand.1 (new-may r.kind)
 
-  pub without_inode-may : (dir : ℕ) (records : List Record) (name : Name) (inode : ℕ) → holding dir ≡ Some (Listed records) → IsInodeNumber inode → MayAllHold (without_inode dir records name inode holding)
+  pub without_inode-may : (dir : ℕ) (records : List Record) (name : Name) (inode : ℕ) → holding dir ≡ Some (Listed records) → IsInodeNumber inode → IsHolding (without_inode dir records name inode holding)
   without_inode-may dir records name inode here number =
-      with_held-may inode None _ (with_held-may dir (Some (Listed (without_record name records))) holding may (may.numbers dir _ here) (without-may name records (directory-may dir records here))) number tt
+      with_held-may inode None _ (with_held-may dir (Some (Listed (without_record name records))) holding may (may.inode_numbers dir _ here) (without-may name records (directory-may dir records here))) number tt
 
-  pub with_blocks-may : (i size : ℕ) (blocks : Blocks) → IsInodeNumber i → IsFileHeld size blocks → MayAllHold (with_held i (Some (Stored size blocks)) holding)
+  pub with_blocks-may : (i size : ℕ) (blocks : Blocks) → IsInodeNumber i → IsFileHeld size blocks → IsHolding (with_held i (Some (Stored size blocks)) holding)
   with_blocks-may i size blocks number is = with_held-may i (Some (Stored size blocks)) holding may number is
 
   pub moved_link-may : (from : ℕ) (left : List Record) (name : Name) (to : ℕ) (records : List Record) (r : Record) → holding from ≡ Some (Listed left)
       → with_held from (Some (Listed (without_record name left))) holding to ≡ Some (Listed records) → MayStand r → length (with_record r records) ≤ 524277
-      → MayAllHold (with_link to records r (without_link from left name holding))
+      → IsHolding (with_link to records r (without_link from left name holding))
   moved_link-may from left name to records r here there stand few =
-      let taken = with_held-may from (Some (Listed (without_record name left))) holding may (may.numbers from _ here) (without-may name left (directory-may from left here)) in
-      with_held-may to (Some (Listed (with_record r records))) _ taken (taken.numbers to _ there) (with-may r records (subst MayHold there (taken.each to)) stand few)
+      let taken = with_held-may from (Some (Listed (without_record name left))) holding may (may.inode_numbers from _ here) (without-may name left (directory-may from left here)) in
+      with_held-may to (Some (Listed (with_record r records))) _ taken (taken.inode_numbers to _ there) (with-may r records (taken.each to (Listed records) there) stand few)

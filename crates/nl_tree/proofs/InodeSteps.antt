@@ -9,14 +9,13 @@ use Rattle.nl_types.specs.declared.kind.Kind.TheVariants as kind
 use Rattle.nl_types.specs.Trees.{node_kind}
 use Rattle.nl_types.specs.Inodes.{Link, InodeContent}
 use Rattle.nl_types.specs.InodeChanges.{HoldsChanged, put_record, move_record, fresh_content, Adds, Refills, Drops, Moves, MovesOnto}
-use Rattle.nl_types.proofs.Inodes.Recording.{put_record-there, put_record-name, holds_same, holds_both}
-use Rattle.nl_types.proofs.Inodes.Ways.{name_cases}
+use Rattle.nl_types.specs.Facts.Inodes.Recording.{put_record-there, put_record-name, holds_same, holds_both}
+use Rattle.nl_types.specs.Facts.Inodes.Ways.{name_cases}
 use Rattle.nl_dirs.specs.declared.record.Record.{Record}
 use Rattle.nl_dirs.specs.Records.{NamesAscend, entry_of}
-use Rattle.nl_tree.specs.Held.{Held, Holding, Stored, Listed, bytes_stored, inode_content, inodes_of_holding, new_held}
+use Rattle.nl_tree.specs.Held.{Held, Holding, Stored, Listed, bytes_stored, inode_content, inodes_of_holding, new_held, new_node}
 use Rattle.nl_tree.specs.Records.{with_record, without_record}
 use Rattle.nl_tree.specs.Steps.{with_held, with_link, without_link, with_new_inode, without_inode}
-use Rattle.nl_tree.specs.Limits.{new_node}
 use Rattle.nl_tree.proofs.RecordSteps.{said, entry_of-with, entry_of-without}
 
 -- ---- one inode

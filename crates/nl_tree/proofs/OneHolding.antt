@@ -15,15 +15,15 @@ use Rattle.nl_tree.specs.declared.overlay.Changed.{Changed}
 use Rattle.nl_tree.specs.declared.overlay.Changed.TheVariants.{Gone, File, Dir}
 use Rattle.nl_tree.specs.declared.overlay.Slot.{Slot}
 use Rattle.nl_tree.specs.declared.overlay.Overlay.{Overlay}
-use Rattle.nl_tree.specs.Became.{Current, holding_over, over_any}
+use Rattle.nl_tree.specs.Became.{Current, holding_over, over_if_became}
 use Rattle.nl_types.specs.Roots.{Blocks}
-use Rattle.nl_tree.specs.Files.{IsFileOf}
+use Rattle.nl_tree.specs.Private.Files.{IsFileOf}
 use Rattle.nl_tree.specs.Held.{Held, Holding, Stored, held_block}
 use Rattle.nl_tree.specs.Numbers.{CountsFree, CountsFreeNow, CountsNumbers, IsFreedIn, IsNumberFreed}
-use Rattle.nl_tree.specs.Overlays.{IsDirectoryOf, IsOrderly, KeepsRest, current_of, became_in, became_of, holding_now, new_page_at, new_pages, over_changed, over_place, slot_shows}
+use Rattle.nl_tree.specs.Overlays.{IsDirectoryOf, IsOrderly, KeepsRest, current_of, became_in, became_of, holding_now, new_page_at, new_pages, over_changed, over_if_slot, slot_shows}
 use Rattle.nl_tree.specs.Steps.{IsCreateRefused, IsCreated}
 use Rattle.nl_tree.specs.Shown.{itself}
-use Rattle.nl_tree.proofs.AsList.{shown_at}
+use Rattle.nl_tree.specs.Facts.AsList.{shown_at}
 use Rattle.nl_tree.proofs.Counting.{counts_kept}
 use Rattle.nl_tree.proofs.Freed.{freed_listed, listed_freed}
 
@@ -32,7 +32,7 @@ flat None = refl
 flat (Some None) = refl
 flat (Some (Some x)) = refl
 
-what_over : (what : Changed) (base : Option Held) → ((file : FileBlocks) → what ≡ File file → map.IsOrdered nat_cmp file.pages) → over_any (Some (became_of what)) base ≡ over_changed what base
+what_over : (what : Changed) (base : Option Held) → ((file : FileBlocks) → what ≡ File file → map.IsOrdered nat_cmp file.pages) → over_if_became (Some (became_of what)) base ≡ over_changed what base
 what_over Gone base h = refl
 what_over (Dir listing) base h = refl
 what_over (File file) base h =
@@ -40,17 +40,17 @@ what_over (File file) base h =
     ap (λ (blocks : ℕ → Option (List ℕ)). Some (Stored file.size blocks)) (λ k. λ b. option_or (page b k) (cond (nat_lt b file.cut) (held_block base b) None))
 
 place_shows : (place : Option Slot) (base : Option Held) → ((slot : Slot) (file : FileBlocks) → place ≡ Some slot → slot.what ≡ File file → map.IsOrdered nat_cmp file.pages) →
-    over_any (option_and_then slot_shows place) base ≡ over_place place base
+    over_if_became (option_and_then slot_shows place) base ≡ over_if_slot place base
 place_shows None base h = refl
 place_shows (Some slot) base h = by_live slot.live refl
   where
-    by_live : (b : Bool) → slot.live ≡ b → over_any (option_and_then slot_shows (Some slot)) base ≡ over_place (Some slot) base
+    by_live : (b : Bool) → slot.live ≡ b → over_if_became (option_and_then slot_shows (Some slot)) base ≡ over_if_slot (Some slot) base
     by_live false is = rw is refl
     by_live true is = rw is (what_over slot.what base (λ file e. h slot file refl e))
 
 pub one_holding : (o : Overlay) (base : Holding) → IsOrderly o → holding_over (became_in o) base ≡ holding_now o base
 one_holding o base orderly = λ k. λ i.
-    (ap (λ c. over_any c (base i)) (shown_at slot_shows o.changed.entries orderly.keys i) ∙ place_shows (map.get nat_cmp o.changed i) (base i) (λ slot file is what. orderly.files i slot file is what)) k
+    (ap (λ c. over_if_became c (base i)) (shown_at slot_shows o.changed.entries orderly.keys i) ∙ place_shows (map.get nat_cmp o.changed i) (base i) (λ slot file is what. orderly.files i slot file is what)) k
 
 -- a directory of the lists is one of the maps
 pub directory_inside : (o : Overlay) (now : Current) (base : Holding) (dir : ℕ) (records : List Record) →
@@ -80,7 +80,7 @@ freed_in : (o : Overlay) (m : ℕ) → IsNumberFreed o m → IsFreedIn (current_
 freed_in o m f = freed_listed o.freed.entries m f
 
 freed_out : (o : Overlay) → IsOrderly o → (m : ℕ) → IsFreedIn (current_of o) m → IsNumberFreed o m
-freed_out o orderly m f = listed_freed o.freed.entries m orderly.numbers f
+freed_out o orderly m f = listed_freed o.freed.entries m orderly.freed_numbers f
 
 -- the maps count as the lists do
 pub counts_inside : (o : Overlay) (now : Current) (base : Holding) → IsOrderly o → current_of o ≡ now →

@@ -14,19 +14,19 @@ use Rattle.nl_types.specs.Trees.{Tree, lookup}
 use Rattle.nl_types.specs.Calls.{and_then}
 use Rattle.nl_types.specs.Inodes.{Inodes, Link, MeansTree}
 use Rattle.nl_types.specs.Resolving.{record_in}
-use Rattle.nl_types.proofs.Inodes.Resolving.{child_record, dir_stands, inode}
-use Rattle.nl_types.proofs.Inodes.Standing.{zipped}
+use Rattle.nl_types.specs.Facts.Inodes.Resolving.{child_record, dir_stands, inode}
+use Rattle.nl_types.specs.Facts.Inodes.Standing.{zipped}
 use Rattle.nl_dirs.specs.declared.record.Record.{Record}
 use Rattle.nl_dirs.specs.Records.{entry_of}
 use Rattle.nl_tree.specs.Held.{Held, Holding, IsHolding, IsInodeNumber, Listed, inode_content, inodes_of_holding}
 use Rattle.nl_tree.specs.Naming.{IsPlaceOf}
 use Rattle.nl_tree.specs.Overlays.{IsDirectoryOf}
-use Rattle.nl_tree.specs.PathParts.{parts_of, path_behind}
+use Rattle.nl_tree.specs.Private.PathParts.{parts_of, path_behind}
 use Rattle.nl_tree.specs.Reading.{as_directory}
 use Rattle.nl_tree.specs.TreeMeaning.{StandsForTree}
 use Rattle.nl_tree.proofs.HeldListings.{records-few}
 use Rattle.nl_tree.proofs.HoldingSteps.{MayStand}
-use Rattle.nl_tree.proofs.ReadingCalls.{directory_is_listed}
+use Rattle.nl_tree.specs.Facts.ReadingCalls.{directory_is_listed}
 
 -- ---- names of paths
 
@@ -119,7 +119,7 @@ module _ (holding : Holding) (tree : Tree) (sound : IsHolding holding) (means : 
       let found : (records : List Record) × (holding directory ≡ Some (Listed records)) =
       directory_is_listed holding tree (record { sound = sound; means = means }) (Ok place.dir) directory
       (sym (ap (λ (r : Result Link VolError). and_then r as_directory) place.named.resolved)) in
-      (found.0, (found.1, sound.ascending directory found.0 found.1))
+      (found.0, (found.1, (sound.each directory (Listed found.0) found.1).ascending))
 
   -- a record is not of the root's inode
   place-not_root : (path : Path) (directory : ℕ) (name : Name) (link : Link) → IsPlaceOf holding path directory name (Some link) → link.0 ≡ 2 → ⊥
@@ -137,7 +137,7 @@ module _ (holding : Holding) (tree : Tree) (sound : IsHolding holding) (means : 
 
     -- its number is one of a tree's inodes
     pub record-number : IsInodeNumber link.0
-    record-number = entry-among IsInodeNumber records name link entry (inodes_of records (sound.names directory records here))
+    record-number = entry-among IsInodeNumber records name link entry (inodes_of records (sound.each directory (Listed records) here).names)
       where
         inodes_of : (records : List Record) → All MayStand records → All (λ (r : Record). IsInodeNumber r.inode) records
         inodes_of records all = All-weaker MayStand (λ (r : Record). IsInodeNumber r.inode) (λ r may. may.1) records all
@@ -152,7 +152,7 @@ module _ (holding : Holding) (tree : Tree) (sound : IsHolding holding) (means : 
     -- a record is a path beside the root
     record-counted : (names : ℕ) → length tree ≡ names + 1 → 1 ≤ names
     record-counted names count =
-        let few = records-few holding tree directory records means here (sound.ascending directory records here) in
+        let few = records-few holding tree directory records means here (sound.each directory (Listed records) here).ascending in
         let some = entry-some records name link entry in
         omega (arith, few, some, count)
 
@@ -178,7 +178,7 @@ taken-from holding tree names sound stands path directory name link i j k known 
       records = listed.0;
       is = listed.1;
       numbers = (
-        sound.numbers directory (Listed listed.0) listed.1.0,
+        sound.inode_numbers directory (Listed listed.0) listed.1.0,
         record-number holding tree sound stands.means path directory name (j, known) there listed.0 listed.1.0,
       );
       ordinary = record-ordinary holding tree sound stands.means path directory name (j, known) there listed.0 listed.1.0;

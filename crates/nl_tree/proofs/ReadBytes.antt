@@ -11,7 +11,7 @@ use Rattle.nl_tree.specs.Contents.{byte_in}
 use Rattle.nl_tree.specs.Bytes.{AreBytesOver, byte_over}
 use Rattle.nl_tree.specs.Held.{byte_stored}
 use Rattle.nl_tree.specs.Reading.{AreBytesFrom}
-use Rattle.nl_tree.proofs.PageBytes.{length-put, overwrote, written_below, written_in, zero_at}
+use Rattle.nl_tree.specs.Facts.PageBytes.{length-put, overwrote, written_below, written_in, zero_at}
 
 over_block : (new old : Option (List ℕ)) (k x : ℕ) → x ≡ byte_in old k → byte_over new k x ≡ byte_in (option_or new old) k
 over_block None old k x is = is

@@ -10,10 +10,10 @@ use Rattle.std.proofs.lemmas.List.Elements.{All-head, All-tail, All-cons, All-ni
 use Rattle.std.proofs.lemmas.List.Kept.{AllPairs-cons}
 use Rattle.nl_types.specs.Paths.{Name, name_cmp, same_name}
 use Rattle.nl_types.specs.declared.kind.Kind.{Kind}
-use Rattle.nl_types.proofs.Lookups.{names_equal, same_name-itself, same_name-equal}
+use Rattle.nl_types.specs.Facts.Lookups.{names_equal, same_name-itself, same_name-equal}
 use Rattle.nl_dirs.specs.declared.record.Record.{Record}
 use Rattle.nl_dirs.specs.Records.{NamesAscend, entry_of}
-use Rattle.nl_dirs.proofs.RecordOrder.{IsBeforeAll, ascending-head, ascending-tail, before_first, entry_of-before}
+use Rattle.nl_dirs.specs.Facts.RecordOrder.{IsBeforeAll, ascending-head, ascending-tail, before_first, entry_of-before}
 use Rattle.nl_tree.specs.Records.{with_record, without_record}
 
 -- what a record says of a name, over what was said

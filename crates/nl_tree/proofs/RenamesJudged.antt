@@ -19,17 +19,17 @@ use Rattle.nl_types.specs.Inodes.{Inodes, Link}
 use Rattle.nl_types.specs.InodeCallLaws.{tree_if_moved}
 use Rattle.nl_types.specs.Judging.{is_dir_kind, judge_rename, may_take}
 use Rattle.nl_types.specs.Resolving.{as_dir, record_in, resolve, resolve_from, step_to}
-use Rattle.nl_types.proofs.Booleans.{not_true}
-use Rattle.nl_types.proofs.Lookups.{same_path-itself}
-use Rattle.nl_types.proofs.TreeLaws.{same_path-equal}
-use Rattle.nl_types.proofs.Inodes.Judging.{renames_are_judged}
+use Rattle.nl_types.specs.Facts.Booleans.{not_true}
+use Rattle.nl_types.specs.Facts.Lookups.{same_path-itself}
+use Rattle.nl_types.specs.Facts.TreeLaws.{same_path-equal}
+use Rattle.nl_types.specs.Facts.Inodes.Judging.{renames_are_judged}
 use Rattle.nl_tree.specs.Held.{Holding, inodes_of_holding}
-use Rattle.nl_tree.specs.Moving.{IsMove, IsRenameRefused, IsSource, MovesNothing}
+use Rattle.nl_tree.specs.Private.Moving.{IsMove, IsRenameRefused, IsSource, MovesNothing}
 use Rattle.nl_tree.specs.Naming.{IsPlaceOf, IsPlaceRefused, listing_of}
-use Rattle.nl_tree.specs.PathParts.{parts_of, path_behind}
+use Rattle.nl_tree.specs.Private.PathParts.{parts_of, path_behind}
 use Rattle.nl_tree.specs.Reading.{HoldingMeans}
 use Rattle.nl_tree.proofs.PathParts.{parts_of-injective}
-use Rattle.nl_tree.proofs.HeldContents.{listing_of-IsListing}
+use Rattle.nl_tree.specs.Facts.HeldContents.{listing_of-IsListing}
 
 -- ---- the bytes of paths
 

@@ -14,16 +14,16 @@ use Rattle.nl_types.specs.Calls.{Changed, rename}
 use Rattle.nl_types.specs.Inodes.{Link, MeansTree, node_of}
 use Rattle.nl_types.specs.Judging.{judge_rename}
 use Rattle.nl_types.specs.Resolving.{record_in}
-use Rattle.nl_types.proofs.Inodes.Resolving.{child_record, dir_stands, inode, node_held}
-use Rattle.nl_types.proofs.Inodes.Standing.{zipped}
+use Rattle.nl_types.specs.Facts.Inodes.Resolving.{child_record, dir_stands, inode, node_held}
+use Rattle.nl_types.specs.Facts.Inodes.Standing.{zipped}
 use Rattle.nl_dirs.specs.declared.record.Record.{Record}
 use Rattle.nl_dirs.specs.Records.{NamesAscend, entry_of}
 use Rattle.nl_tree.specs.declared.overlay.Overlay.{Overlay}
 use Rattle.nl_tree.specs.declared.renames.Move.{Move}
 use Rattle.nl_tree.specs.Became.{Current, holding_over}
-use Rattle.nl_tree.specs.CurrentTrees.{CallsAs, HasRenamed, LeadsOver, StandsOver, without_replaced}
+use Rattle.nl_tree.specs.CurrentTrees.{AnswersCall, HasRenamed, LeavesTree, StandsOver, without_replaced}
 use Rattle.nl_tree.specs.Held.{Held, Holding, IsHolding, IsInodeNumber, Listed, inode_content, inodes_of_holding}
-use Rattle.nl_tree.specs.Moving.{AreDirectoriesOf, FindsMove, IsMove}
+use Rattle.nl_tree.specs.Private.Moving.{AreDirectoriesOf, FindsMove, IsMove}
 use Rattle.nl_tree.specs.Naming.{IsPlaceOf, listing_of}
 use Rattle.nl_tree.specs.Numbers.{CountsFree}
 use Rattle.nl_tree.specs.Overlays.{IsDirectoryOf, IsOrderly, current_of, holding_now}
@@ -31,9 +31,9 @@ use Rattle.nl_tree.specs.Records.{with_record, without_record}
 use Rattle.nl_tree.specs.Steps.{with_held, with_link_moved, without_link}
 use Rattle.nl_tree.specs.TreeMeaning.{MakesTree, StandsForTree}
 use Rattle.nl_tree.proofs.CallsLead.{renamed_makes, renamed_onto_makes}
-use Rattle.nl_tree.proofs.HeldContents.{listing_of-IsListing}
+use Rattle.nl_tree.specs.Facts.HeldContents.{listing_of-IsListing}
 use Rattle.nl_tree.proofs.HeldListings.{records-few}
-use Rattle.nl_tree.proofs.HoldingSteps.{MayAllHold, all-holding, may-all, moved_link-may, with_held-may}
+use Rattle.nl_tree.proofs.HoldingSteps.{moved_link-may, with_held-may}
 use Rattle.nl_tree.proofs.InodeSteps.{with_held-other, with_held-there}
 use Rattle.nl_tree.proofs.OneHolding.{directory_inside}
 use Rattle.nl_tree.proofs.PlacesFound.{place-listed}
@@ -52,7 +52,7 @@ module _ (held : Holding) (tree : Tree) (sound : IsHolding held) (means : MeansT
     (path : Path) (directory : ℕ) (name : Name) (link : Option Link) (place : IsPlaceOf held path directory name link) where
   -- a place's directory is one of a tree
   pub directory-number : IsInodeNumber directory
-  directory-number = let is = place-listed held tree sound means path directory name link place in sound.numbers directory (Listed is.0) is.1.0
+  directory-number = let is = place-listed held tree sound means path directory name link place in sound.inode_numbers directory (Listed is.0) is.1.0
 
 module _ (held : Holding) (tree : Tree) (sound : IsHolding held) (means : MeansTree (inodes_of_holding held) tree)
     (from to : Path) (m : Move) (is : FindsMove held from to m) where
@@ -93,7 +93,7 @@ module _ (held : Holding) (tree : Tree) (sound : IsHolding held) (means : MeansT
       let z = zipped (inode (inodes_of_holding held) tree means (place.dir ++ name ∷ [])) _ link is in
       let what = some_held (held link.0) z.1 (node_held (inodes_of_holding held) tree means (place.dir ++ name ∷ []) z.1 link.0 z.0 z.2) in
       record {
-        number = sound.numbers link.0 what.0 what.1;
+        number = sound.inode_numbers link.0 what.0 what.1;
         other = λ e. longer place.dir name (means.pairs.once (reverse (place.dir ++ name ∷ [])) (reverse place.dir) link.0 z.0 (s.1 ∙ ap Some (sym e)));
         not_root = λ e. no_name place.dir name (means.pairs.once (reverse (place.dir ++ name ∷ [])) [] link.0 z.0 (means.pairs.root ∙ ap Some (sym e)));
       }
@@ -167,8 +167,8 @@ module _ (old new : Current) (base : Holding) (tree : Tree) (over : StandsOver o
       let count = stands.count in
       omega (arith, few, count, low)
 
-  may_move : IsInodeNumber link.0 → length (with_record moved_record left) ≤ 524277 → MayAllHold moved
-  may_move number few = moved_link-may held (may-all held over.sound) directory all name target_directory left moved_record here.0 holds_left (spelled, number) few
+  may_move : IsInodeNumber link.0 → length (with_record moved_record left) ≤ 524277 → IsHolding moved
+  may_move number few = moved_link-may held over.sound directory all name target_directory left moved_record here.0 holds_left (spelled, number) few
 
   stands_over : (now : Holding) (names : ℕ) (after : Tree) → ((i : ℕ) → holding_over new.became base i ≡ now i) → new.names ≡ names → IsHolding now → StandsForTree now after names → names ≤ 524277
       → StandsOver new base after
@@ -193,18 +193,18 @@ module _ (old new : Current) (base : Holding) (tree : Tree) (over : StandsOver o
 
     leads : (now : Holding) (names : ℕ) → ((i : ℕ) → holding_over new.became base i ≡ now i) → new.names ≡ names → names ≤ 524277
         → MakesTree (rename tree (move.place.dir ++ name ∷ []) (move.target_place.dir ++ target_name ∷ [])) answer.Done now names
-        → now target_directory ≡ moved target_directory → (MayAllHold moved → MayAllHold now)
-        → LeadsOver (rename tree from to) answer.Done new base
+        → now target_directory ≡ moved target_directory → (IsHolding moved → IsHolding now)
+        → LeavesTree (rename tree from to) answer.Done new base
     leads now names same count low made at may =
         let few = few_records now made.tree names made.stands low at in
         record {
           tree = made.tree;
           is = paths ∙ made.called_is;
-          stands = stands_over now names made.tree same count (all-holding now (may (may_move number few))) made.stands low;
+          stands = stands_over now names made.tree same count (may (may_move number few)) made.stands low;
         }
 
   pub move-leads : IsMove held from to directory name link target_directory target_name None → ((i : ℕ) → holding_over new.became base i ≡ moved i) → new.names ≡ old.names
-      → LeadsOver (rename tree from to) answer.Done new base
+      → LeavesTree (rename tree from to) answer.Done new base
   move-leads move same count =
       leads None move moved old.names same count over.few
       (renamed_makes held tree old.names over.stands (listing_of held) move.place.dir name move.target_place.dir target_name directory target_directory link all left
@@ -213,7 +213,7 @@ module _ (old new : Current) (base : Holding) (tree : Tree) (over : StandsOver o
 
   pub move_onto-leads : (target : Link) → IsMove held from to directory name link target_directory target_name (Some target)
       → ((i : ℕ) → holding_over new.became base i ≡ with_held target.0 None moved i) → new.names + 1 ≡ old.names
-      → LeadsOver (rename tree from to) answer.Done new base
+      → LeavesTree (rename tree from to) answer.Done new base
   move_onto-leads target move same count =
       let ordinary = link-ordinary held tree over.sound over.stands.means to target_directory target_name target move.target_place in
       let low = over.few in
@@ -227,7 +227,7 @@ module _ (old new : Current) (base : Holding) (tree : Tree) (over : StandsOver o
 
 -- where memory alone can refuse
 pub calls-as : (result : Result (Unit {0}) VolError) (new : Current) (base : Holding) (called : Changed) {A B C : Type 0} → OnOk result A → OnOk result B → OnOk result C → IfErr result (λ e. e ≡ Memory)
-    → (A → B → C → LeadsOver called answer.Done new base) → CallsAs (λ _. answer.Done) result new base called
+    → (A → B → C → LeavesTree called answer.Done new base) → AnswersCall (λ _. answer.Done) result new base called
 calls-as (Ok u) new base called a b c memory leads = leads a b c
 calls-as (Err e) new base called a b c memory leads = λ other. absurd (other memory)
 

@@ -9,7 +9,7 @@ use Rattle.nl_types.specs.Calls.{overwritten, resized}
 use Rattle.nl_types.specs.Roots.{Blocks}
 use Rattle.nl_tree.specs.Held.{byte_stored, bytes_stored}
 use Rattle.nl_tree.specs.Bytes.{Overwrites, Resizes, byte_written}
-use Rattle.nl_tree.proofs.PageBytes.{written_above, written_below, written_in, zero_at}
+use Rattle.nl_tree.specs.Facts.PageBytes.{written_above, written_below, written_in, zero_at}
 
 -- ---- what a list of stored bytes has
 

@@ -4,7 +4,7 @@ use Rattle.nl_types.specs.declared.error.VolError.{VolError}
 use Rattle.nl_types.specs.Calls.{and_then}
 use Rattle.nl_types.specs.Inodes.{Inodes, Link}
 use Rattle.nl_types.specs.Resolving.{resolve_from, step_to}
-use Rattle.nl_tree.specs.PathParts.{DividesAtSlash, IsOnePart, parts_of}
+use Rattle.nl_tree.specs.Private.PathParts.{DividesAtSlash, IsOnePart, parts_of}
 use Rattle.nl_tree.proofs.PathParts.{parts_of-more, parts_of-one}
 
 module _ (inodes : Inodes) (from at : Link) (names rest : List ℕ)

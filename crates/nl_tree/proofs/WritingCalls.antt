@@ -17,42 +17,35 @@ use Rattle.nl_types.specs.Calls.{Changed, and_then, file_at, overwritten, refuse
 use Rattle.nl_types.specs.Inodes.{Bytes, Inodes, Link}
 use Rattle.nl_types.specs.Judging.{bytes_in, bytes_of}
 use Rattle.nl_types.specs.Resolving.{resolve}
-use Rattle.nl_types.proofs.Inodes.Judging.{files_are_judged}
-use Rattle.nl_types.proofs.Inodes.Resolving.{files_hold_bytes}
+use Rattle.nl_types.specs.Facts.Inodes.Judging.{files_are_judged}
+use Rattle.nl_types.specs.Facts.Inodes.Resolving.{files_hold_bytes}
 use Rattle.nl_tree.specs.Became.{Current, holding_over}
 use Rattle.nl_tree.specs.Bytes.{ArePagesCut, ArePagesWritten, IsFileChanged, IsFileIn, IsFileResized, IsFileWritten, end_of_blocks}
-use Rattle.nl_tree.specs.CurrentTrees.{CallsAs, HasTruncated, HasWritten, HasWrittenAny, LeadsOver, StandsOver}
-use Rattle.nl_tree.specs.Files.{IsFileOf}
-use Rattle.nl_tree.specs.Held.{Held, Holding, IsHolding, IsInodeNumber, Listed, Stored, held_block, held_size, inode_content, inodes_of_holding}
-use Rattle.nl_tree.specs.Limits.{IsFileHeld}
+use Rattle.nl_tree.specs.CurrentTrees.{AnswersCall, HasTruncated, HasOverwritten, HasOverwrittenAny, LeavesTree, StandsOver}
+use Rattle.nl_tree.specs.Private.Files.{IsFileOf}
+use Rattle.nl_tree.specs.Held.{Held, Holding, IsHolding, IsInodeNumber, Listed, Stored, held_block, held_size, inode_content, inodes_of_holding, IsFileHeld}
 use Rattle.nl_tree.specs.Numbers.{CountsFree}
-use Rattle.nl_tree.specs.Pages.{blocks_below, blocks_for, put_from}
+use Rattle.nl_tree.specs.Private.Pages.{blocks_below, blocks_for, put_from}
 use Rattle.nl_tree.specs.Reading.{as_file, link_at}
 use Rattle.nl_tree.specs.Steps.{with_held}
 use Rattle.nl_tree.specs.TreeMeaning.{MakesTree, StandsForTree}
 use Rattle.nl_tree.proofs.CallsLead.{truncated_makes, written_makes}
 use Rattle.nl_tree.proofs.CutBlocks.{cut-held, cut-resizes}
-use Rattle.nl_tree.proofs.HoldingSteps.{all-holding, may-all, with_blocks-may}
+use Rattle.nl_tree.proofs.HoldingSteps.{with_blocks-may}
 use Rattle.nl_tree.proofs.WrittenBlocks.{put-held, put-overwrites}
 
 -- ---- a file
 
-pub file_of : (holding : Holding) (i size : ℕ) (blocks : Blocks) → IsFileIn holding i size blocks → IsFileOf holding i size blocks
-file_of holding i size blocks is = (
-  is.here,
-  λ b past. is.sound.none_past i size blocks b is.here (omega (arith, past, is.sound.sizes i size blocks is.here)),
-)
-
 pub file_held : (holding : Holding) (i size : ℕ) (blocks : Blocks) → IsFileIn holding i size blocks → IsFileHeld size blocks
-file_held holding i size blocks is = record {
-  small = is.sound.sizes i size blocks is.here;
-  none_past = λ b past. is.sound.none_past i size blocks b is.here past;
-  zeros = λ k past. is.sound.zeros i size blocks k is.here past;
-  whole = λ b page there. is.sound.whole i size blocks b page is.here there;
-}
+file_held holding i size blocks is = is.sound.each i (Stored size blocks) is.here
+
+pub file_of : (holding : Holding) (i size : ℕ) (blocks : Blocks) → IsFileIn holding i size blocks → IsFileOf holding i size blocks
+file_of holding i size blocks is =
+    let file = file_held holding i size blocks is in
+    (is.here, λ b past. file.none_past b (omega (arith, past, file.small)))
 
 pub file_number : (holding : Holding) (i size : ℕ) (blocks : Blocks) → IsFileIn holding i size blocks → IsInodeNumber i
-file_number holding i size blocks is = is.sound.numbers i (Stored size blocks) is.here
+file_number holding i size blocks is = is.sound.inode_numbers i (Stored size blocks) is.here
 
 -- ---- what its blocks become
 
@@ -161,7 +154,7 @@ module _ (now : Current) (base : Holding) (tree : Tree) (stands : StandsOver now
   truncate_refused size path x e = refused_by (resize size) (path_of path) x e
 
   pub write_nothing : (offset : ℕ) (bytes path : List ℕ) (i : ℕ) → Ok i ≡ and_then (link_at held path) as_file → length bytes ≡ 0
-      → LeadsOver (and_then (path_of path) (write tree offset bytes)) (answer.Written 0) now base
+      → LeavesTree (and_then (path_of path) (write tree offset bytes)) (answer.Written 0) now base
   write_nothing offset bytes path i e none =
       let file = find path i e in
       record {
@@ -186,7 +179,7 @@ module _ (now : Current) (base : Holding) (tree : Tree) (stands : StandsOver now
   module _ (new : Current) (names : new.names ≡ now.names) where
     -- a file changed, and the call on the tree is known
     leads : (called : Changed) (given : Answer) (i was size : ℕ) (blocks changed : Blocks) → IsFileIn held i was blocks → IsFileChanged held (holding_over new.became base) i size changed
-        → CountsFree new base → MakesTree called given (with_held i (Some (Stored size changed)) held) now.names → LeadsOver called given new base
+        → CountsFree new base → MakesTree called given (with_held i (Some (Stored size changed)) held) now.names → LeavesTree called given new base
     leads called given i was size blocks changed is file counts made =
         let after : Holding = with_held i (Some (Stored size changed)) held in
         let same : after ≡ holding_over new.became base = λ j. λ n. sym (file.each n) j in
@@ -195,7 +188,7 @@ module _ (now : Current) (base : Holding) (tree : Tree) (stands : StandsOver now
           tree = made.tree;
           is = made.called_is;
           stands = record {
-            sound = subst IsHolding same (all-holding after (with_blocks-may held (may-all held stands.sound) i size changed (file_number held i was blocks is) file.held));
+            sound = subst IsHolding same (with_blocks-may held stands.sound i size changed (file_number held i was blocks is) file.held);
             counts = counts;
             stands = subst (λ (h : Holding). StandsForTree h made.tree new.names) same (subst (λ (n : ℕ). StandsForTree after made.tree n) (sym names) made.stands);
             few = few;
@@ -203,13 +196,13 @@ module _ (now : Current) (base : Holding) (tree : Tree) (stands : StandsOver now
         }
 
     -- the call by the path is the call by its names
-    by_names : (call : Path → Changed) (given : Answer) (path : List ℕ) (i : ℕ) (file : LeadsToFile held path i) → LeadsOver (call file.names) given new base
-        → LeadsOver (and_then (path_of path) call) given new base
+    by_names : (call : Path → Changed) (given : Answer) (path : List ℕ) (i : ℕ) (file : LeadsToFile held path i) → LeavesTree (call file.names) given new base
+        → LeavesTree (and_then (path_of path) call) given new base
     by_names call given path i file l = record { tree = l.tree; is = ap (λ (p : Result Path VolError). and_then p call) file.is_path ∙ l.is; stands = l.stands }
 
     pub write_leads : (offset : ℕ) (bytes path : List ℕ) (i : ℕ) (file : LeadsToFile held path i) → 0 < length bytes → offset + length bytes ≤ file_limit
         → IsFileWritten held (holding_over new.became base) i file.size file.blocks offset bytes → CountsFree new base
-        → LeadsOver (and_then (path_of path) (write tree offset bytes)) (answer.Written (length bytes)) new base
+        → LeavesTree (and_then (path_of path) (write tree offset bytes)) (answer.Written (length bytes)) new base
     write_leads offset bytes path i file more fits written counts =
         by_names (write tree offset bytes) (answer.Written (length bytes)) path i file
         (leads (write tree offset bytes file.names) (answer.Written (length bytes)) i file.size (max file.size (offset + length bytes)) file.blocks written.now file.is written.changed counts
@@ -218,7 +211,7 @@ module _ (now : Current) (base : Holding) (tree : Tree) (stands : StandsOver now
 
     pub truncate_leads : (size : ℕ) (path : List ℕ) (i : ℕ) (file : LeadsToFile held path i) → size ≤ file_limit
         → IsFileResized held (holding_over new.became base) i file.blocks size → CountsFree new base
-        → LeadsOver (and_then (path_of path) (truncate tree size)) answer.Done new base
+        → LeavesTree (and_then (path_of path) (truncate tree size)) answer.Done new base
     truncate_leads size path i file fits cut counts =
         by_names (truncate tree size) answer.Done path i file
         (leads (truncate tree size file.names) answer.Done i file.size size file.blocks cut.now file.is cut.changed counts
@@ -228,7 +221,7 @@ module _ (now : Current) (base : Holding) (tree : Tree) (stands : StandsOver now
     -- so it is where memory alone may refuse
     pub truncate_calls : (size : ℕ) (path : List ℕ) (i : ℕ) (file : LeadsToFile held path i) → size ≤ file_limit → (result : Result (Unit {0}) VolError)
         → OnOk result (IsFileResized held (holding_over new.became base) i file.blocks size) → OnOk result (CountsFree new base) → IfErr result (λ e. e ≡ Memory)
-        → CallsAs (λ _. answer.Done) result new base (and_then (path_of path) (truncate tree size))
+        → AnswersCall (λ _. answer.Done) result new base (and_then (path_of path) (truncate tree size))
     truncate_calls size path i file fits (Ok u) cut counts memory = truncate_leads size path i file fits cut counts
     truncate_calls size path i file fits (Err e) cut counts memory = λ other. absurd (other memory)
 
@@ -237,12 +230,12 @@ module _ (now : Current) (base : Holding) (tree : Tree) (stands : StandsOver now
   file_leads : (path : List ℕ) (i : ℕ) (file : LeadsToFile held path i) → link_at held path ≡ Ok (i, kind.File)
   file_leads path i file = ap (λ (p : Result Path VolError). and_then p (resolve inodes)) file.is_path ∙ file.found
 
-  written_more : (new : Holding) (offset : ℕ) (bytes path : List ℕ) → 0 < length bytes → HasWritten path offset bytes held new → HasWrittenAny path offset bytes held new
+  written_more : (new : Holding) (offset : ℕ) (bytes path : List ℕ) → 0 < length bytes → HasOverwritten path offset bytes held new → HasOverwrittenAny path offset bytes held new
   written_more new offset [] path more has = absurd (omega (arith, more))
   written_more new offset (b ∷ bytes) path more has = has
 
   pub has_written : (new : Holding) (offset : ℕ) (bytes path : List ℕ) (i : ℕ) (file : LeadsToFile held path i) → 0 < length bytes
-      → IsFileWritten held new i file.size file.blocks offset bytes → HasWrittenAny path offset bytes held new
+      → IsFileWritten held new i file.size file.blocks offset bytes → HasOverwrittenAny path offset bytes held new
   has_written new offset bytes path i file more written = written_more new offset bytes path more (record {
     inode = i;
     leads = file_leads path i file;
@@ -254,7 +247,7 @@ module _ (now : Current) (base : Holding) (tree : Tree) (stands : StandsOver now
     written = written.changed.each;
   })
 
-  pub has_written_nothing : (offset : ℕ) (bytes path : List ℕ) → length bytes ≡ 0 → HasWrittenAny path offset bytes held held
+  pub has_written_nothing : (offset : ℕ) (bytes path : List ℕ) → length bytes ≡ 0 → HasOverwrittenAny path offset bytes held held
   has_written_nothing offset [] path none = λ i. refl
   has_written_nothing offset (b ∷ bytes) path none = absurd (omega (arith, none))
 

@@ -8,11 +8,10 @@ use Rattle.std.proofs.lemmas.List.{get_or_append_left, length-append}
 use Rattle.std.proofs.lemmas.Option.{get_or_from_slice_get, slice_get-get_or, slice_get_within}
 use Rattle.nl_types.specs.Roots.{Blocks}
 use Rattle.nl_tree.specs.Contents.{byte_in}
-use Rattle.nl_tree.specs.Held.{byte_stored}
+use Rattle.nl_tree.specs.Held.{byte_stored, IsFileHeld}
 use Rattle.nl_tree.specs.Bytes.{ArePagesWritten, IsPageWritten, Overwrites, byte_written, end_of_blocks, is_touched}
-use Rattle.nl_tree.specs.Limits.{IsFileHeld}
-use Rattle.nl_tree.specs.Pages.{put_from}
-use Rattle.nl_tree.proofs.PageBytes.{touches, written_above, written_below}
+use Rattle.nl_tree.specs.Private.Pages.{put_from}
+use Rattle.nl_tree.specs.Facts.PageBytes.{touches, written_above, written_below}
 use Rattle.nl_tree.proofs.StoredBytes.{overwrites-end}
 
 -- ---- pages, by index

@@ -11,8 +11,8 @@ use Rattle.nl_tree.specs.declared.overlay.FileBlocks.{FileBlocks}
 use Rattle.nl_tree.specs.declared.overlay.Overlay.{Overlay}
 use Rattle.nl_tree.specs.declared.overlay.Slot.{Slot}
 use Rattle.nl_tree.specs.Held.{Held, Holding}
-use Rattle.nl_tree.specs.Overlays.{HasOrderedPages, IsOrderly, over_changed, over_place}
-use Rattle.nl_tree.proofs.Places.{one_slot, slot_kept, slot_written}
+use Rattle.nl_tree.specs.Overlays.{HasOrderedPages, IsOrderly, over_changed, over_if_slot}
+use Rattle.nl_tree.specs.Facts.Places.{one_slot, slot_kept, slot_written}
 
 module _ (m n : BTreeMap ℕ Slot) (j : ℕ) (slot w : Slot) (writes : WritesThrough nat_cmp (nat_cmp j) m w n) (there : Some slot ≡ map.get nat_cmp m j) where
   some : IsSome (map.get nat_cmp m j)
@@ -38,7 +38,7 @@ module _ (m n : BTreeMap ℕ Slot) (j : ℕ) (slot w : Slot) (writes : WritesThr
   pub written_orderly : (o : Overlay) → o.changed ≡ m → (HasOrderedPages slot.what → HasOrderedPages w.what) → IsOrderly o → IsOrderly (record o { changed = n })
   written_orderly o is keeps orderly = record {
     keys = writes.4;
-    numbers = orderly.numbers;
+    freed_numbers = orderly.freed_numbers;
     files = λ i s file at file_is. by_test i s file at file_is (cases_eq i j);
     inodes = λ i has. orderly.inodes i (ap (λ changed. is_some (map.get nat_cmp changed i)) is ∙ places_from i has);
   }
@@ -54,7 +54,7 @@ module _ (m n : BTreeMap ℕ Slot) (j : ℕ) (slot w : Slot) (writes : WritesThr
 -- what shows over any checkpoint stays where the written slot shows the same
 pub written_still : (m n : BTreeMap ℕ Slot) (j : ℕ) (slot : Slot) (what : Changed) → WritesThrough nat_cmp (nat_cmp j) m (record { live = slot.live; what = what }) n →
     Some slot ≡ map.get nat_cmp m j → ((base : Option Held) → over_changed what base ≡ over_changed slot.what base) →
-    (b : Holding) (i : ℕ) → over_place (map.get nat_cmp n i) (b i) ≡ over_place (map.get nat_cmp m i) (b i)
+    (b : Holding) (i : ℕ) → over_if_slot (map.get nat_cmp n i) (b i) ≡ over_if_slot (map.get nat_cmp m i) (b i)
 written_still m n j slot what writes there over b i = by_test (cases_eq i j)
   where
     written : Slot
@@ -63,9 +63,9 @@ written_still m n j slot what writes there over b i = by_test (cases_eq i j)
     some : IsSome (map.get nat_cmp m j)
     some = subst (λ (o : Option Slot). IsSome o) there refl
 
-    by_test : (i ≡ j) ⊎ (i ≡ j → ⊥) → over_place (map.get nat_cmp n i) (b i) ≡ over_place (map.get nat_cmp m i) (b i)
+    by_test : (i ≡ j) ⊎ (i ≡ j → ⊥) → over_if_slot (map.get nat_cmp n i) (b i) ≡ over_if_slot (map.get nat_cmp m i) (b i)
     by_test (inl e) =
-        ap (λ (p : Option Slot). over_place p (b i)) (ap (map.get nat_cmp n) e ∙ slot_written m n j written writes some)
+        ap (λ (p : Option Slot). over_if_slot p (b i)) (ap (map.get nat_cmp n) e ∙ slot_written m n j written writes some)
         ∙ ap (λ (h : Option Held). cond slot.live h (b i)) (over (b i))
-        ∙ ap (λ (p : Option Slot). over_place p (b i)) (there ∙ ap (map.get nat_cmp m) (sym e))
-    by_test (inr ne) = ap (λ (p : Option Slot). over_place p (b i)) (slot_kept m n j i written writes some ne)
+        ∙ ap (λ (p : Option Slot). over_if_slot p (b i)) (there ∙ ap (map.get nat_cmp m) (sym e))
+    by_test (inr ne) = ap (λ (p : Option Slot). over_if_slot p (b i)) (slot_kept m n j i written writes some ne)

@@ -3,17 +3,16 @@ use Rattle.std.specs.Prelude.{◌≡◌, ℕ, zero, suc, ◌/◌, ◌%◌, cond,
 use Rattle.std.specs.List.{slice_get}
 use Rattle.nl_types.specs.Roots.{Blocks}
 use Rattle.nl_tree.specs.Contents.{byte_in}
-use Rattle.nl_tree.specs.Held.{Holding, IsHolding, Stored, byte_stored}
-use Rattle.nl_tree.specs.Limits.{IsFileHeld}
+use Rattle.nl_tree.specs.Held.{Holding, IsHolding, Stored, byte_stored, IsFileHeld}
 use Rattle.nl_tree.specs.Steps.{with_held}
 
-abbrev pub is_between : ℕ → ℕ → ℕ → Bool
-is_between first end k = nat_le first k && nat_lt k end
+abbrev pub is_inside_bytes : ℕ → ℕ → ℕ → Bool
+is_inside_bytes first end k = nat_le first k && nat_lt k end
 
 -- the byte at k, once bytes are written at an offset
 abbrev pub byte_written : List ℕ → ℕ → ℕ → ℕ → ℕ
 byte_written bytes offset k old =
-    if is_between offset (offset + length bytes) k then slice_index bytes (k - offset) else old
+    if is_inside_bytes offset (offset + length bytes) k then slice_index bytes (k - offset) else old
 
 -- the byte at k, once those of a page are copied over others; where there is no page, they stay
 abbrev pub byte_over : Option (List ℕ) → ℕ → ℕ → ℕ
@@ -49,7 +48,8 @@ end_of_blocks offset (suc n) = (offset + n) / 1024 + 1
 -- the page of the block that begins at `start`, once bytes are written at an offset
 pub record IsPageWritten (old : Option (List ℕ)) (start offset : ℕ) (bytes page : List ℕ) : Type 0 where
   pub whole : length page ≡ 1024
-  pub bytes_at : (k : ℕ) → k < 1024 → slice_index page k ≡ byte_written bytes offset (start + k) (byte_in old k)
+  pub bytes_at : (k : ℕ) → k < 1024
+      → slice_index page k ≡ byte_written bytes offset (start + k) (byte_in old k)
 
 -- the pages of the blocks from one on
 abbrev pub ArePagesWritten : Blocks → ℕ → ℕ → List ℕ → List (List ℕ) → Type 0

@@ -7,7 +7,8 @@ abbrev pub byte_in : Option (List ℕ) → ℕ → ℕ
 byte_in None k = 0
 byte_in (Some page) k = slice_index page k
 
--- the blocks by index, and the size, of a file with these bytes: behind the end are zeros, and no block stands past it
+-- The blocks by index, and the size, of a file with these bytes: behind the end are zeros, and no block
+-- stands past it. For the file of an inode the bytes are `bytes_stored`.
 pub record HoldsBytes (blocks : Blocks) (size : ℕ) (bytes : List ℕ) : Type 0 where
   pub sized : size ≡ length bytes
   pub stored : (k : ℕ) → byte_in (blocks (k / 1024)) (k % 1024) ≡ slice_index bytes k

@@ -1,5 +1,6 @@
 -- The current tree over a checkpoint, and what calls make of it.
-use Rattle.std.specs.Prelude.{◌≡◌, ◌≢◌, ◌⊎◌, ℕ, ◌+◌, ◌≤◌, max, length, List, [], ◌∷◌, Option, None, Some, Result, Ok, Err, MatchResult}
+use Rattle.std.specs.Prelude.{◌≡◌, ◌≢◌, ◌⊎◌, ℕ, ◌+◌, ◌≤◌, max, length, List, [], ◌∷◌, Option, None, Some, Result, Ok, Err, MatchResult, OnOk}
+use Rattle.nl_types.specs.Limits.{path_limit}
 use Rattle.nl_types.specs.declared.error.VolError.{VolError}
 use Rattle.nl_types.specs.declared.error.VolError.TheVariants.{Memory}
 use Rattle.nl_types.specs.declared.kind.Kind.{Kind}
@@ -25,18 +26,39 @@ pub record StandsOver (now : Current) (base : Holding) (tree : Tree) : Type 0 wh
   pub sound : IsHolding (holding_over now.became base)
   pub counts : CountsFree now base
   pub stands : StandsForTree (holding_over now.became base) tree now.names
-  pub few : now.names ≤ 524277
+  pub few : now.names ≤ path_limit
 
 -- the call on the tree gives the answer, and leaves a tree that the current tree then stands for
-pub record LeadsOver (called : Changed) (given : Answer) (now : Current) (base : Holding) : Type 0 where
+pub record LeavesTree (called : Changed) (given : Answer) (now : Current) (base : Holding) : Type 0 where
   pub tree : Tree
   pub is : called ≡ Ok (given, tree)
   pub stands : StandsOver now base tree
 
 -- the result is that of the call on the tree, unless memory ran out
-abbrev pub CallsAs : {A : Type 0} → (A → Answer) → Result A VolError → Current → Holding → Changed → Type 0
-CallsAs given result now base called =
-    MatchResult result (λ a. LeadsOver called (given a) now base) (λ e. (e ≢ Memory) → called ≡ Err e)
+abbrev pub AnswersCall : {A : Type 0} → (A → Answer) → Result A VolError → Current → Holding → Changed
+    → Type 0
+AnswersCall given result now base called =
+    MatchResult result (λ a. LeavesTree called (given a) now base) (λ e. (e ≢ Memory) → called ≡ Err e)
+
+-- ---- a call, whatever the latest checkpoint holds
+
+-- the current tree over what the checkpoint holds stands for a tree
+abbrev pub CanCall : (holds : Holding → Type 0) → Current → Type 0
+CanCall holds now = (b : Holding) × (tree : Tree) × holds b × StandsOver now b tree
+
+-- the result is that of the call on the tree that the current tree stood for, unless memory ran out
+abbrev pub AnswersAs : {A : Type 0} → (holds : Holding → Type 0) → (A → Answer) → Result A VolError
+    → (old new : Current)
+    → (call : Tree → Changed) → Type 0
+AnswersAs holds given result old new call =
+    (b : Holding) (tree : Tree) → holds b → StandsOver old b tree → AnswersCall given result new b (call tree)
+
+-- where it is done, what inodes hold changes so
+abbrev pub AltersAs : {A : Type 0} → (holds : Holding → Type 0) → Result A VolError → (old new : Current)
+    → (how : Holding → Holding → Type 0) → Type 0
+AltersAs holds result old new how =
+    (b : Holding) (tree : Tree) → holds b → StandsOver old b tree
+    → OnOk result (how (holding_over old.became b) (holding_over new.became b))
 
 -- ---- which inodes and blocks change
 
@@ -65,7 +87,7 @@ pub record HasRemoved (path : List ℕ) (kind : Kind) (old new : Holding) : Type
   pub removed : (i : ℕ) → new i ≡ without_inode directory records name inode old i
 
 -- bytes are written into the file at a path, and no other inode changes
-pub record HasWritten (path : List ℕ) (offset : ℕ) (bytes : List ℕ) (old new : Holding) : Type 0 where
+pub record HasOverwritten (path : List ℕ) (offset : ℕ) (bytes : List ℕ) (old new : Holding) : Type 0 where
   pub inode : ℕ
   pub leads : link_at old path ≡ Ok (inode, kind.File)
   pub size : ℕ
@@ -76,9 +98,9 @@ pub record HasWritten (path : List ℕ) (offset : ℕ) (bytes : List ℕ) (old n
   pub written : (i : ℕ) → new i ≡ with_held inode (Some (Stored (max size (offset + length bytes)) now)) old i
 
 -- nothing changes where there are no bytes to write
-abbrev pub HasWrittenAny : List ℕ → ℕ → List ℕ → Holding → Holding → Type 0
-HasWrittenAny path offset [] old new = (i : ℕ) → new i ≡ old i
-HasWrittenAny path offset (b ∷ bytes) old new = HasWritten path offset (b ∷ bytes) old new
+abbrev pub HasOverwrittenAny : List ℕ → ℕ → List ℕ → Holding → Holding → Type 0
+HasOverwrittenAny path offset [] old new = (i : ℕ) → new i ≡ old i
+HasOverwrittenAny path offset (b ∷ bytes) old new = HasOverwritten path offset (b ∷ bytes) old new
 
 -- the file at a path has another size, and no other inode changes
 pub record HasTruncated (path : List ℕ) (to : ℕ) (old new : Holding) : Type 0 where
@@ -97,7 +119,7 @@ without_replaced None held i = held i
 without_replaced (Some link) held i = with_held link.0 None held i
 
 -- a record is moved from one path to another, with its inode, and what had its new name is gone
-pub record HasMoved (from to : List ℕ) (old new : Holding) : Type 0 where
+pub record HasMovedRecord (from to : List ℕ) (old new : Holding) : Type 0 where
   pub differ : from ≢ to
   pub names : Path
   pub target_names : Path
@@ -121,4 +143,4 @@ pub record HasMoved (from to : List ℕ) (old new : Holding) : Type 0 where
 
 -- nothing changes where a path is renamed to itself
 abbrev pub HasRenamed : List ℕ → List ℕ → Holding → Holding → Type 0
-HasRenamed from to old new = ((from ≡ to) × ((i : ℕ) → new i ≡ old i)) ⊎ HasMoved from to old new
+HasRenamed from to old new = ((from ≡ to) × ((i : ℕ) → new i ≡ old i)) ⊎ HasMovedRecord from to old new

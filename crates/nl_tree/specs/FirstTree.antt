@@ -1,5 +1,6 @@
 -- The tree of a new volume.
 use Rattle.std.specs.Prelude.{ℕ, List, [], ◌∷◌, None}
+use Rattle.nl_types.specs.Limits.{first_inode}
 use Rattle.nl_tree.specs.Held.{Holding}
 use Rattle.nl_tree.specs.Became.{Became, BecameDirectory, Current, holding_over}
 
@@ -17,4 +18,4 @@ first_holding = holding_over root_directory_alone nothing_held
 
 -- the current tree
 abbrev pub first_tree : Current
-first_tree = record { became = root_directory_alone; freed = []; mark = 11; names = 0 }
+first_tree = record { became = root_directory_alone; freed = []; mark = first_inode; names = 0 }

@@ -1,10 +1,13 @@
 -- What inodes in use hold, down to the blocks that are stored.
-use Rattle.std.specs.Prelude.{◌≡◌, ◌⊎◌, ℕ, IsTrue, ◌≤◌, ◌<◌, ◌*◌, ◌/◌, ◌%◌, List, [], length, map, IsSome, Option, None, Some}
+use Rattle.std.specs.Prelude.{◌≡◌, ◌⊎◌, ℕ, IsTrue, ◌≤◌, ◌*◌, ◌/◌, ◌%◌, List, [], length, map, Option, None, Some}
 use Rattle.std.specs.List.{All, range_with_len}
 use Rattle.std.specs.Option.{option_map}
+use Rattle.nl_types.specs.Limits.{file_limit, first_inode, last_inode, path_limit, root_inode}
 use Rattle.nl_types.specs.Paths.{Name, is_name}
 use Rattle.nl_types.specs.declared.kind.Kind.{Kind}
 use Rattle.nl_types.specs.declared.kind.Kind.TheVariants as kind
+use Rattle.nl_types.specs.declared.reply.Node.{Node}
+use Rattle.nl_types.specs.declared.reply.Node.TheVariants.{Dir, File}
 use Rattle.nl_types.specs.Roots.{Blocks}
 use Rattle.nl_types.specs.Inodes.{InodeContent, Bytes, Records, Inodes}
 use Rattle.nl_dirs.specs.declared.record.Record.{Record}
@@ -61,42 +64,41 @@ held_count None = 0
 held_count (Some (Stored size blocks)) = 0
 held_count (Some (Listed records)) = length records
 
--- a new file or directory
+-- a new file or directory, and what it is in the tree
 abbrev pub new_held : Kind → Held
 new_held kind.File = Stored 0 (λ _. None)
 new_held kind.Directory = Listed []
 
--- ---- numbers
-
--- all numbers from one up to, and without, another are in use
-abbrev pub AreHeldFrom : Holding → ℕ → ℕ → Type 0
-AreHeldFrom holding first end = (n : ℕ) → first ≤ n → n < end → IsSome (holding n)
-
--- the lowest free number from one on
-pub record IsLowestUnheld (holding : Holding) (first n : ℕ) : Type 0 where
-  pub low : first ≤ n
-  pub high : n ≤ 524287
-  pub free : holding n ≡ None
-  pub lowest : AreHeldFrom holding first n
+abbrev pub new_node : Kind → Node
+new_node kind.File = File []
+new_node kind.Directory = Dir
 
 -- ---- what is true of every tree's inodes
 
 -- the root directory's, or an ordinary one
 abbrev pub IsInodeNumber : ℕ → Type 0
-IsInodeNumber i = (i ≡ 2) ⊎ ((11 ≤ i) × (i ≤ 524287))
+IsInodeNumber i = (i ≡ root_inode) ⊎ ((first_inode ≤ i) × (i ≤ last_inode))
 
--- Files have at most 64 MiB, whole blocks, none of them past the end, and zeros behind it. Directories have names that may
--- stand in a path, ascending, of ordinary inodes.
+-- at most 64 MiB, whole blocks, none of them past the end, and zeros behind it
+pub record IsFileHeld (size : ℕ) (blocks : Blocks) : Type 0 where
+  pub small : size ≤ file_limit
+  pub none_past : (b : ℕ) → size ≤ 1024 * b → blocks b ≡ None
+  pub zeros : (k : ℕ) → size ≤ k → byte_stored blocks k ≡ 0
+  pub whole : (b : ℕ) (page : List ℕ) → blocks b ≡ Some page → length page ≡ 1024
+
+-- names that may stand in a path, ascending, of inodes with a number that one may have
+pub record IsDirectoryHeld (records : List Record) : Type 0 where
+  pub ascending : NamesAscend records
+  pub names : All (λ r. IsTrue (is_name r.name) × IsInodeNumber r.inode) records
+  pub count : length records ≤ path_limit
+
+-- what an inode may hold
+abbrev pub MayHold : Option Held → Type 0
+MayHold None = Unit {0}
+MayHold (Some (Stored size blocks)) = IsFileHeld size blocks
+MayHold (Some (Listed records)) = IsDirectoryHeld records
+
+-- each inode in use has a number that one may have, and holds what it may
 pub record IsHolding (holding : Holding) : Type 0 where
-  pub numbers : (i : ℕ) (held : Held) → holding i ≡ Some held → IsInodeNumber i
-  pub sizes : (i size : ℕ) (blocks : Blocks) → holding i ≡ Some (Stored size blocks) → size ≤ 67108864
-  pub none_past : (i size : ℕ) (blocks : Blocks) (b : ℕ) → holding i ≡ Some (Stored size blocks)
-      → size ≤ 1024 * b → blocks b ≡ None
-  pub zeros : (i size : ℕ) (blocks : Blocks) (k : ℕ) → holding i ≡ Some (Stored size blocks)
-      → size ≤ k → byte_stored blocks k ≡ 0
-  pub whole : (i size : ℕ) (blocks : Blocks) (b : ℕ) (page : List ℕ) → holding i ≡ Some (Stored size blocks)
-      → blocks b ≡ Some page → length page ≡ 1024
-  pub ascending : (i : ℕ) (records : List Record) → holding i ≡ Some (Listed records) → NamesAscend records
-  pub names : (i : ℕ) (records : List Record) → holding i ≡ Some (Listed records)
-      → All (λ r. IsTrue (is_name r.name) × IsInodeNumber r.inode) records
-  pub count : (i : ℕ) (records : List Record) → holding i ≡ Some (Listed records) → length records ≤ 524277
+  pub inode_numbers : (i : ℕ) (held : Held) → holding i ≡ Some held → IsInodeNumber i
+  pub each : (i : ℕ) (held : Held) → holding i ≡ Some held → MayHold (Some held)

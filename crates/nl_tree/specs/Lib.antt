@@ -6,15 +6,12 @@ pub mod Became
 pub mod Overlays
 pub mod Steps
 pub mod Numbers
-pub mod Pages
-pub mod Files
-pub mod PathParts
 pub mod Reading
 pub mod Naming
-pub mod Limits
 pub mod Bytes
 pub mod TreeMeaning
-pub mod Moving
 pub mod CurrentTrees
 pub mod FirstTree
 pub mod Changing
+pub mod Facts
+pub mod Private

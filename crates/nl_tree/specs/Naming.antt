@@ -10,7 +10,8 @@ use Rattle.nl_dirs.specs.declared.record.Record.{Record}
 use Rattle.nl_tree.specs.Held.{Held, Holding, Listed, Stored, inodes_of_holding}
 
 -- the last name of the path stands in this directory, where it has this record
-pub record IsPlaceOf (held : Holding) (path : Path) (directory : ℕ) (name : Name) (link : Option Link) : Type 0 where
+pub record IsPlaceOf (held : Holding) (path : Path) (directory : ℕ) (name : Name)
+    (link : Option Link) : Type 0 where
   pub dir : Path
   pub is_path : path ≡ dir ++ name ∷ []
   pub named : IsNamed (inodes_of_holding held) dir name directory link

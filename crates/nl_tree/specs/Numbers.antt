@@ -2,19 +2,20 @@
 use Rattle.std.specs.Prelude.{◌≡◌, ◌⊎◌, ℕ, ◌<◌, ◌≤◌, true, cond, nat_lt, is_some, IsSome, Option, Some, None}
 use Rattle.std.specs.Ordering.{nat_cmp}
 use Rattle.std.specs.BTreeMap as map
-use Rattle.nl_types.specs.PartialMaps.{is_one_of}
+use Rattle.nl_types.specs.Limits.{first_inode, inode_limit, last_inode}
+use Rattle.nl_types.specs.NumberLists.{is_one_of}
 use Rattle.nl_tree.specs.declared.overlay.Overlay.{Overlay}
 use Rattle.nl_tree.specs.Became.{Current, holding_over}
 use Rattle.nl_tree.specs.Held.{Holding}
 use Rattle.nl_tree.specs.Overlays.{holding_now}
 
--- Numbers below the mark are in use, but for those that are to be given first; from the mark on numbers are in use as in
--- the checkpoint, but for those.
+-- Numbers below the mark are in use, but for those that are to be given first; from the mark on numbers are
+-- in use as in the checkpoint, but for those.
 pub record CountsNumbers (IsGivenFirst : ℕ → Type 0) (mark : ℕ) (held base : Holding) : Type 0 where
-  pub first : 11 ≤ mark
-  pub last : mark ≤ 524288
-  pub freed : (n : ℕ) → IsGivenFirst n → (11 ≤ n) × (n ≤ 524287) × (held n ≡ None)
-  pub filled : (n : ℕ) → 11 ≤ n → n < mark → IsSome (held n) ⊎ IsGivenFirst n
+  pub first : first_inode ≤ mark
+  pub last : mark ≤ inode_limit
+  pub freed : (n : ℕ) → IsGivenFirst n → (first_inode ≤ n) × (n ≤ last_inode) × (held n ≡ None)
+  pub filled : (n : ℕ) → first_inode ≤ n → n < mark → IsSome (held n) ⊎ IsGivenFirst n
   pub beyond : (n : ℕ) → mark ≤ n → IsGivenFirst n ⊎ (is_some (held n) ≡ is_some (base n))
 
 -- ---- of the overlay

@@ -68,13 +68,13 @@ abbrev pub over_slot : Slot → Option Held → Option Held
 over_slot slot base = cond slot.live (over_changed slot.what base) base
 
 -- so does no place
-abbrev pub over_place : Option Slot → Option Held → Option Held
-over_place None base = base
-over_place (Some slot) base = over_slot slot base
+abbrev pub over_if_slot : Option Slot → Option Held → Option Held
+over_if_slot None base = base
+over_if_slot (Some slot) base = over_slot slot base
 
 -- what the inodes of the current tree hold
 abbrev pub holding_now : Overlay → Holding → Holding
-holding_now o base i = over_place (map.get nat_cmp o.changed i) (base i)
+holding_now o base i = over_if_slot (map.get nat_cmp o.changed i) (base i)
 
 -- the two show the same over any checkpoint
 abbrev pub ShowTheSame : Overlay → Overlay → Type 0
@@ -116,7 +116,8 @@ IsListedWith what records name =
 
 -- the inode has a place with these records
 abbrev pub HasListing : Overlay → ℕ → List Record → Type 0
-HasListing o i records = (slot : Slot) × (map.get nat_cmp o.changed i ≡ Some slot) × IsListed slot.what records
+HasListing o i records =
+    (slot : Slot) × (map.get nat_cmp o.changed i ≡ Some slot) × IsListed slot.what records
 
 -- with a place for the name
 abbrev pub HasName : Overlay → ℕ → List Record → Name → Type 0
@@ -129,11 +130,11 @@ HasName o i records name =
 abbrev pub HasOrderedPages : Changed → Type 0
 HasOrderedPages what = (file : FileBlocks) → what ≡ File file → map.IsOrdered nat_cmp file.pages
 
--- The inodes ascend, the numbers that are to be given first, and the new pages of each file. Each inode with a place is one
--- of a tree.
+-- The inodes ascend, the numbers that are to be given first, and the new pages of each file. Each inode with
+-- a place is one of a tree.
 pub record IsOrderly (o : Overlay) : Type 0 where
   pub keys : map.IsOrdered nat_cmp o.changed
-  pub numbers : map.IsOrdered nat_cmp o.freed
+  pub freed_numbers : map.IsOrdered nat_cmp o.freed
   pub files : (i : ℕ) (slot : Slot) (file : FileBlocks) → map.get nat_cmp o.changed i ≡ Some slot
       → slot.what ≡ File file → map.IsOrdered nat_cmp file.pages
   pub inodes : (i : ℕ) → HasSlot o i → IsInodeNumber i

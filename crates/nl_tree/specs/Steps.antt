@@ -1,11 +1,13 @@
 -- Changes of what inodes hold.
 use Rattle.std.specs.Prelude.{◌≡◌, ◌⊎◌, ◌≤◌, ℕ, ◌==◌, cond, List, Option, Some, None}
+use Rattle.nl_types.specs.Limits.{first_inode, inode_limit, path_limit}
 use Rattle.nl_types.specs.declared.error.VolError.{VolError}
 use Rattle.nl_types.specs.declared.error.VolError.TheVariants.{Memory, TooBig}
 use Rattle.nl_types.specs.Paths.{Name}
 use Rattle.nl_types.specs.declared.kind.Kind.{Kind}
+use Rattle.nl_types.specs.Inodes.{AreInUseFrom, IsLowestFreeInode}
 use Rattle.nl_dirs.specs.declared.record.Record.{Record}
-use Rattle.nl_tree.specs.Held.{AreHeldFrom, Held, Holding, IsLowestUnheld, Listed, new_held}
+use Rattle.nl_tree.specs.Held.{Held, Holding, Listed, new_held}
 use Rattle.nl_tree.specs.Records.{with_record, without_record}
 
 -- one inode holds something else
@@ -23,7 +25,8 @@ without_link dir records name held = with_held dir (Some (Listed (without_record
 -- a record of a directory of records is moved to another directory of records, or the same
 abbrev pub with_link_moved : ℕ → List Record → Name → ℕ → List Record → Record → Holding → Holding
 with_link_moved from records name to others r held =
-    with_link to (cond (to == from) (without_record name records) others) r (without_link from records name held)
+    with_link to (cond (to == from) (without_record name records) others) r
+    (without_link from records name held)
 
 -- an inode is new, with its record in a directory of records
 abbrev pub with_new_inode : ℕ → List Record → Name → Kind → ℕ → Holding → Holding
@@ -38,12 +41,12 @@ without_inode dir records name inode held = with_held inode None (without_link d
 -- an empty file or directory is new under a name, in the lowest free inode
 pub record IsCreated (old new : Holding) (dir : ℕ) (records : List Record) (name : Name) (kind : Kind)
     (inode : ℕ) : Type 0 where
-  pub lowest : IsLowestUnheld old 11 inode
+  pub lowest : IsLowestFreeInode old first_inode inode
   pub adds : (i : ℕ) → new i ≡ with_new_inode dir records name kind inode old i
 
 -- there are as many names as there may be, or no number is free
 abbrev pub IsFullOf : ℕ → Holding → Type 0
-IsFullOf names held = (524277 ≤ names) ⊎ AreHeldFrom held 11 524288
+IsFullOf names held = (path_limit ≤ names) ⊎ AreInUseFrom held first_inode inode_limit
 
 -- why nothing new is made
 abbrev pub IsCreateRefused : ℕ → Holding → VolError → Type 0

@@ -1,13 +1,10 @@
 //! Calls that make and take away names.
-ghost use Rattle.std.specs.Prelude.{◌≡◌, OnErr, OnOk};
+ghost use Rattle.std.specs.Prelude.{◌≡◌, OnErr};
 ghost use Rattle.nl_types.specs.Calls.{and_then, create, rmdir, unlink};
 ghost use Rattle.nl_types.specs.Paths.{path_of};
-ghost use Rattle.nl_types.specs.Trees.{Tree};
 ghost use Rattle.nl_types.specs.declared.kind.Kind.TheVariants as kind;
-ghost use Rattle.nl_tree.specs.Became.{holding_over};
-ghost use Rattle.nl_tree.specs.CurrentTrees.{CallsAs, HasCreated, HasRemoved, StandsOver};
-ghost use Rattle.nl_tree.specs.Held.{Holding};
-ghost use Rattle.nl_tree.specs.Limits.{new_node};
+ghost use Rattle.nl_tree.specs.CurrentTrees.{AltersAs, AnswersAs, CanCall, HasCreated, HasRemoved};
+ghost use Rattle.nl_tree.specs.Held.{new_node};
 
 use crate::current::CurrentTree;
 use crate::paths::{find_place, names_behind};
@@ -18,9 +15,9 @@ use std::alloc::Global;
 impl CurrentTree {
     /// Makes an empty file or directory at a path, in the lowest free inode from 11 on (open(2), mkdir(2)).
     ///
-    /// Refused by `BadPath` and `BadName` as the path's syntax is, by `NotDir` where a file is on the way, by `NotFound`
-    /// where nothing is, by `Exists` where something stands there, by `TooBig` where there are 524,277 paths beside the
-    /// root, and by `Memory`. Then the tree is as before.
+    /// Refused by `BadPath` and `BadName` as the path's syntax is, by `NotDir` where a file is on the way, by
+    /// `NotFound` where nothing is, by `Exists` where something stands there, by `TooBig` where there are
+    /// 524,277 paths beside the root, and by `Memory`. Then the tree is as before.
     pub fn create<B: Base>(
         &mut self,
         alloc: Global,
@@ -28,20 +25,19 @@ impl CurrentTree {
         path: &[u8],
         kind: Kind,
     ) -> Result<(), VolError>
-        requires { (b : Holding) × (tree : Tree) × B.TreeRead.holds base.now b × StandsOver self.old b tree }
-        ensures done { (b : Holding) (tree : Tree) → B.TreeRead.holds base.now b → StandsOver self.old b tree
-            → CallsAs (λ _. Answer.Done) result self.new b
-            (and_then (path_of path.now) (create tree (new_node kind))) }
-        ensures changes { (b : Holding) (tree : Tree) → B.TreeRead.holds base.now b
-            → StandsOver self.old b tree → OnOk result (HasCreated path.now kind
-            (holding_over self.old.became b) (holding_over self.new.became b)) }
+        requires { CanCall (B.TreeRead.holds base.now) self.old }
+        ensures done { AnswersAs (B.TreeRead.holds base.now) (λ _. Answer.Done) result self.old self.new
+            (λ tree. and_then (path_of path.now) (create tree (new_node kind))) }
+        ensures changes { AltersAs (B.TreeRead.holds base.now) result self.old self.new
+            (HasCreated path.now kind) }
         ensures same { OnErr result (self.new ≡ self.old) }
     {
         let names = names_behind(path)?;
         if names.is_empty() {
             return Err(VolError::Exists);
         }
-        // a match here and below, as `?` has no proof yet where a struct holds a reference beside a modelled number
+        // a match here and below, as `?` has no proof yet where a struct holds a reference beside a modelled
+        // number
         let place = match find_place(&self.view(base), names) {
             Ok(place) => place,
             Err(refusal) => return Err(refusal),
@@ -56,15 +52,15 @@ impl CurrentTree {
 
     /// Takes away the file at a path (unlink(2)).
     ///
-    /// Refused by `BadPath` and `BadName` as the path's syntax is, by `NotDir` where a file is on the way, by `NotFound`
-    /// where nothing stands, by `IsDir` where a directory does, and by `Memory`. Then the tree is as before.
+    /// Refused by `BadPath` and `BadName` as the path's syntax is, by `NotDir` where a file is on the way, by
+    /// `NotFound` where nothing stands, by `IsDir` where a directory does, and by `Memory`. Then the tree is
+    /// as before.
     pub fn unlink<B: Base>(&mut self, alloc: Global, base: &B, path: &[u8]) -> Result<(), VolError>
-        requires { (b : Holding) × (tree : Tree) × B.TreeRead.holds base.now b × StandsOver self.old b tree }
-        ensures done { (b : Holding) (tree : Tree) → B.TreeRead.holds base.now b → StandsOver self.old b tree
-            → CallsAs (λ _. Answer.Done) result self.new b (and_then (path_of path.now) (unlink tree)) }
-        ensures changes { (b : Holding) (tree : Tree) → B.TreeRead.holds base.now b
-            → StandsOver self.old b tree → OnOk result (HasRemoved path.now kind.File
-            (holding_over self.old.became b) (holding_over self.new.became b)) }
+        requires { CanCall (B.TreeRead.holds base.now) self.old }
+        ensures done { AnswersAs (B.TreeRead.holds base.now) (λ _. Answer.Done) result self.old self.new
+            (λ tree. and_then (path_of path.now) (unlink tree)) }
+        ensures changes { AltersAs (B.TreeRead.holds base.now) result self.old self.new
+            (HasRemoved path.now kind.File) }
         ensures same { OnErr result (self.new ≡ self.old) }
     {
         let names = names_behind(path)?;
@@ -87,16 +83,15 @@ impl CurrentTree {
 
     /// Takes away the empty directory at a path (rmdir(2)).
     ///
-    /// Refused by `BadPath` and `BadName` as the path's syntax is, by `BadPath` for the root, by `NotDir` where a file
-    /// stands there or is on the way, by `NotFound` where nothing stands, by `NotEmpty` where the directory has names, and
-    /// by `Memory`. Then the tree is as before.
+    /// Refused by `BadPath` and `BadName` as the path's syntax is, by `BadPath` for the root, by `NotDir`
+    /// where a file stands there or is on the way, by `NotFound` where nothing stands, by `NotEmpty` where
+    /// the directory has names, and by `Memory`. Then the tree is as before.
     pub fn rmdir<B: Base>(&mut self, alloc: Global, base: &B, path: &[u8]) -> Result<(), VolError>
-        requires { (b : Holding) × (tree : Tree) × B.TreeRead.holds base.now b × StandsOver self.old b tree }
-        ensures done { (b : Holding) (tree : Tree) → B.TreeRead.holds base.now b → StandsOver self.old b tree
-            → CallsAs (λ _. Answer.Done) result self.new b (and_then (path_of path.now) (rmdir tree)) }
-        ensures changes { (b : Holding) (tree : Tree) → B.TreeRead.holds base.now b
-            → StandsOver self.old b tree → OnOk result (HasRemoved path.now kind.Directory
-            (holding_over self.old.became b) (holding_over self.new.became b)) }
+        requires { CanCall (B.TreeRead.holds base.now) self.old }
+        ensures done { AnswersAs (B.TreeRead.holds base.now) (λ _. Answer.Done) result self.old self.new
+            (λ tree. and_then (path_of path.now) (rmdir tree)) }
+        ensures changes { AltersAs (B.TreeRead.holds base.now) result self.old self.new
+            (HasRemoved path.now kind.Directory) }
         ensures same { OnErr result (self.new ≡ self.old) }
     {
         let names = names_behind(path)?;

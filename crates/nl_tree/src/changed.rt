@@ -4,10 +4,10 @@ ghost use Rattle.nl_types.specs.declared.error.VolError;
 ghost use Rattle.nl_types.specs.Paths.{Name};
 ghost use Rattle.nl_dirs.specs.declared.record.Record.{Record};
 ghost use Rattle.nl_types.specs.Roots.{Blocks};
-ghost use Rattle.nl_tree.specs.Files.{ShowsFile, ShowsFileWith};
+ghost use Rattle.nl_tree.specs.Private.Files.{ShowsFile, ShowsFileWith};
 ghost use Rattle.nl_tree.specs.Held.{Held, Stored, held_record, new_held};
 ghost use Rattle.nl_tree.specs.Overlays.{HasOrderedPages, IsListed, IsListedWith, became_of, over_changed};
-ghost use Rattle.nl_tree.specs.Pages.{blocks_below, put_from};
+ghost use Rattle.nl_tree.specs.Private.Pages.{blocks_below, put_from};
 ghost use Rattle.nl_tree.specs.Records.{with_record, without_record};
 
 use crate::listing::Listing;
@@ -104,7 +104,8 @@ impl Changed {
         }
     }
 
-    /// Puts blocks of a file, one behind the other, to places that are kept for them, and gives the file a size.
+    /// Puts blocks of a file, one behind the other, to places that are kept for them, and gives the file a
+    /// size.
     pub(crate) fn put_pages(&mut self, size: u64, first: u64, pages: Vec<Page>)
         requires fits { first + length pages.items < 2 ^ 64 }
         requires places { (base : Option Held) × (was : ℕ) × (blocks : Blocks)

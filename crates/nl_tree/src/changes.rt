@@ -1,12 +1,9 @@
 //! All calls that change the tree, as one.
-ghost use Rattle.std.specs.Prelude.{◌≡◌, Err, MatchResult, Ok, OnErr, OnOk};
+ghost use Rattle.std.specs.Prelude.{◌≡◌, Err, MatchResult, Ok, OnErr};
 ghost use Rattle.nl_types.specs.declared.reply.Answer;
 ghost use Rattle.nl_types.specs.Calls.{change};
-ghost use Rattle.nl_types.specs.Trees.{Tree};
-ghost use Rattle.nl_tree.specs.Became.{holding_over};
 ghost use Rattle.nl_tree.specs.Changing.{HasChangedHolding};
-ghost use Rattle.nl_tree.specs.CurrentTrees.{CallsAs, StandsOver};
-ghost use Rattle.nl_tree.specs.Held.{Holding};
+ghost use Rattle.nl_tree.specs.CurrentTrees.{AltersAs, AnswersAs, CanCall};
 
 use crate::current::CurrentTree;
 use crate::tree_read::Base;
@@ -16,12 +13,11 @@ use std::alloc::Global;
 impl CurrentTree {
     /// A file call that changes the tree. Refused as the call is; then the tree is as before.
     pub fn change<B: Base>(&mut self, alloc: Global, base: &B, call: &Change) -> Reply
-        requires { (b : Holding) × (tree : Tree) × B.TreeRead.holds base.now b × StandsOver self.old b tree }
-        ensures done { (b : Holding) (tree : Tree) → B.TreeRead.holds base.now b → StandsOver self.old b tree
-            → CallsAs (λ answer. answer) result self.new b (change tree call.now) }
-        ensures changes { (b : Holding) (tree : Tree) → B.TreeRead.holds base.now b
-            → StandsOver self.old b tree → OnOk result (HasChangedHolding call.now
-            (holding_over self.old.became b) (holding_over self.new.became b)) }
+        requires { CanCall (B.TreeRead.holds base.now) self.old }
+        ensures done { AnswersAs (B.TreeRead.holds base.now) (λ answer. answer) result self.old self.new
+            (λ tree. change tree call.now) }
+        ensures changes { AltersAs (B.TreeRead.holds base.now) result self.old self.new
+            (HasChangedHolding call.now) }
         ensures same { OnErr result (self.new ≡ self.old) }
     {
         match call {

@@ -1,5 +1,6 @@
 //! The current tree.
 ghost use Rattle.std.specs.Prelude.{◌≡◌, [], IfErr, IfOk};
+ghost use Rattle.nl_types.specs.Limits as limits;
 ghost use Rattle.nl_types.specs.declared.error.VolError;
 ghost use Rattle.nl_tree.specs.Became.{holding_over};
 ghost use Rattle.nl_tree.specs.Held.{Holding};
@@ -32,7 +33,7 @@ impl Model for CurrentTree {
 impl CurrentTree {
     /// The tree in which nothing differs from a checkpoint that has so many paths beside the root.
     pub fn new(alloc: Global, names: u64) -> Self
-        ensures new { result ≡ record { became = []; freed = []; mark = 11; names = names } }
+        ensures new { result ≡ record { became = []; freed = []; mark = limits.first_inode; names = names } }
         ensures counts { (b : Holding) → CountsFree result b }
     {
         CurrentTree {
@@ -40,11 +41,11 @@ impl CurrentTree {
         }
     }
 
-    /// The tree of a new volume, over a checkpoint without files: the root directory, without names. Refused by `Memory`
-    /// alone.
+    /// The tree of a new volume, over a checkpoint without files: the root directory, without names. Refused
+    /// by `Memory` alone.
     pub fn first(alloc: Global) -> Result<Self, VolError>
         ensures first { IfOk result (λ tree. tree ≡
-            record { became = root_directory_alone; freed = []; mark = 11; names = 0 }) }
+            record { became = root_directory_alone; freed = []; mark = limits.first_inode; names = 0 }) }
         ensures counts { IfOk result (λ tree. CountsFree tree nothing_held) }
         ensures refused { IfErr result (λ e. e ≡ VolError.Memory) }
     {

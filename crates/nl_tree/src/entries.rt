@@ -2,6 +2,7 @@
 ghost use Rattle.std.specs.Prelude.{◌≡◌, ◌≢◌, ◌==◌, ◌+◌, ◌≤◌, ℕ, true, cond, List, Some, None, IsSome, IfErr, IfOk, OnErr, OnOk};
 ghost use Rattle.std.specs.BTreeMap as map;
 ghost use Rattle.std.specs.Ordering.{nat_cmp};
+ghost use Rattle.nl_types.specs.Limits as limits;
 ghost use Rattle.nl_types.specs.declared.error.VolError;
 ghost use Rattle.nl_types.specs.Paths.{Name};
 ghost use Rattle.nl_dirs.specs.declared.record.Record.{Record};
@@ -109,8 +110,8 @@ impl Overlay {
 
     /// Adds an empty file or directory under a new name, in the lowest free inode, which it answers.
     ///
-    /// Refused by `TooBig` where there are 524,277 names or no number is free, and by `Memory`; then nothing that shows has
-    /// changed.
+    /// Refused by `TooBig` where there are 524,277 names or no number is free, and by `Memory`; then nothing
+    /// that shows has changed.
     pub(crate) fn create<B: Base>(
         &mut self,
         alloc: Global,
@@ -130,7 +131,7 @@ impl Overlay {
             → IsDirectoryOf (holding_now self.old b) dir all → CountsFreeNow self.old b
             → OnOk result (CountsFreeNow self.new b) }
         ensures names { OnOk result (self.new.names ≡ self.old.names + 1) }
-        ensures limit { OnOk result (self.new.names ≤ 524277) }
+        ensures limit { OnOk result (self.new.names ≤ limits.path_limit) }
         ensures same { OnErr result (current_of self.new ≡ current_of self.old) }
         ensures refused { (b : Holding) → B.TreeRead.holds base.now b → CountsFreeNow self.old b
             → IfErr result (IsCreateRefused self.old.names (holding_now self.old b)) }
@@ -165,7 +166,8 @@ impl Overlay {
             without_inode dir all name.now inode (holding_now self.old b) i) }
         ensures counts { (b : Holding) (all : List Record) → B.TreeRead.holds base.now b
             → IsDirectoryOf (holding_now self.old b) dir all → CountsFreeNow self.old b
-            → 11 ≤ inode → inode ≤ 524287 → OnOk result (CountsFreeNow self.new b) }
+            → limits.first_inode ≤ inode → inode ≤ limits.last_inode
+            → OnOk result (CountsFreeNow self.new b) }
         ensures names { OnOk result (self.new.names + 1 ≡ self.old.names) }
         ensures same { OnErr result (current_of self.new ≡ current_of self.old) }
         ensures refused { IfErr result (λ e. e ≡ VolError.Memory) }

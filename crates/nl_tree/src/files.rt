@@ -1,12 +1,13 @@
 //! Blocks of files.
 ghost use Rattle.std.specs.Prelude.{◌≡◌, ◌+◌, ◌≤◌, ◌<◌, ◌^◌, ℕ, length, Some, IfErr, OnErr, OnOk};
+ghost use Rattle.nl_types.specs.Limits as limits;
 ghost use Rattle.nl_types.specs.Roots.{Blocks};
 ghost use Rattle.nl_types.specs.declared.error.VolError;
-ghost use Rattle.nl_tree.specs.Files.{HasFile, HasFileWith, IsFileOf};
+ghost use Rattle.nl_tree.specs.Private.Files.{HasFile, HasFileWith, IsFileOf};
 ghost use Rattle.nl_tree.specs.Held.{Holding, IsInodeNumber, Stored};
 ghost use Rattle.nl_tree.specs.Numbers.{CountsFreeNow};
 ghost use Rattle.nl_tree.specs.Overlays.{IsOrderly, KeepsRest, ShowTheSame, current_of, holding_now};
-ghost use Rattle.nl_tree.specs.Pages.{blocks_below, blocks_for, put_from};
+ghost use Rattle.nl_tree.specs.Private.Pages.{blocks_below, blocks_for, put_from};
 ghost use Rattle.nl_tree.specs.Steps.{with_held};
 
 use crate::overlay::{Changed, FileBlocks, Overlay};
@@ -57,7 +58,8 @@ impl Overlay {
         }
     }
 
-    /// Puts blocks of a file, one behind the other, to places that are kept for them, and gives the file a size.
+    /// Puts blocks of a file, one behind the other, to places that are kept for them, and gives the file a
+    /// size.
     fn put_pages(&mut self, inode: u64, size: u64, first: u64, pages: Vec<Page>)
         requires fits { first + length pages.items < 2 ^ 64 }
         requires places { (b : Holding) × (was : ℕ) × (blocks : Blocks)
@@ -132,7 +134,8 @@ impl Overlay {
         }
     }
 
-    /// Gives a file a size in bytes, and puts whole blocks into it, one behind the other. Blocks past the size are gone.
+    /// Gives a file a size in bytes, and puts whole blocks into it, one behind the other. Blocks past the
+    /// size are gone.
     ///
     /// Refused by `Memory` alone; then nothing that shows has changed.
     pub(crate) fn truncate_blocks<B: Base>(
@@ -147,7 +150,7 @@ impl Overlay {
         requires file { (b : Holding) × (was : ℕ) × (blocks : Blocks) × B.TreeRead.holds base.now b
             × IsFileOf (holding_now self.old b) inode was blocks }
         requires fits { first + length pages.items < 2 ^ 64 }
-        requires sized { size ≤ 67108864 }
+        requires sized { size ≤ limits.file_limit }
         ensures orderly { IsOrderly self.old → IsInodeNumber inode → IsOrderly self.new }
         ensures truncated { (b : Holding) (was : ℕ) (blocks : Blocks) → B.TreeRead.holds base.now b
             → IsFileOf (holding_now self.old b) inode was blocks

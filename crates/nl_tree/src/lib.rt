@@ -1,5 +1,5 @@
-//! Trees of files: reading of one by inode numbers and by paths, what changed in one since the latest checkpoint, and the calls
-//! that change it.
+//! Trees of files: reading of one by inode numbers and by paths, what changed in one since the latest
+//! checkpoint, and the calls that change it.
 #![tactic(auto)]
 
 mod calls;

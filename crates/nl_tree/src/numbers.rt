@@ -2,8 +2,10 @@
 ghost use Rattle.std.specs.Prelude.{◌≡◌, ◌≢◌, ◌==◌, ◌+◌, ◌≤◌, ◌<◌, ℕ, true, cond, nat_le, if◌then◌else◌, Some, None, IsSome, MatchOption, IfErr, OnOk};
 ghost use Rattle.std.specs.BTreeMap as map;
 ghost use Rattle.std.specs.Ordering.{nat_cmp};
+ghost use Rattle.nl_types.specs.Limits as limits;
 ghost use Rattle.nl_types.specs.declared.error.VolError;
-ghost use Rattle.nl_tree.specs.Held.{AreHeldFrom, Holding, IsLowestUnheld};
+ghost use Rattle.nl_types.specs.Inodes.{AreInUseFrom, IsLowestFreeInode};
+ghost use Rattle.nl_tree.specs.Held.{Holding};
 ghost use Rattle.nl_tree.specs.Numbers.{CountsFreeNow, IsNumberFreed, lesser_option};
 ghost use Rattle.nl_tree.specs.Steps.{IsFullOf};
 ghost use Rattle.nl_tree.specs.Overlays.{IsOrderly, current_of, holding_now};
@@ -12,8 +14,8 @@ use crate::overlay::Overlay;
 use crate::tree_read::Base;
 use nl_types::VolError;
 
-/// How many names a volume has at most, over all its directories.
-const NAME_LIMIT: u64 = 524_277;
+/// The most paths beside the root.
+const PATH_LIMIT: u64 = 524_277;
 
 impl Overlay {
     /// The lowest number that is free and is to be given first.
@@ -32,8 +34,8 @@ impl Overlay {
     /// The lowest free number of an ordinary inode. It takes no memory.
     pub(crate) fn free_number<B: Base>(&self, base: &B) -> Option<u64>
         ensures { (b : Holding) → B.TreeRead.holds base.now b → CountsFreeNow self.now b
-            → MatchOption result (AreHeldFrom (holding_now self.now b) 11 524288)
-            (IsLowestUnheld (holding_now self.now b) 11) }
+            → MatchOption result (AreInUseFrom (holding_now self.now b) limits.first_inode limits.inode_limit)
+            (IsLowestFreeInode (holding_now self.now b) limits.first_inode) }
     {
         let first = self.first_freed();
         match first {
@@ -42,15 +44,15 @@ impl Overlay {
         }
     }
 
-    /// The number of an inode that is to be new, or none where there is a name too many or no number is free. It takes no
-    /// memory.
+    /// The number of an inode that is to be new, or none where there is a name too many or no number is free.
+    /// It takes no memory.
     pub(crate) fn number_for_new<B: Base>(&self, base: &B) -> Option<u64>
         ensures number { (b : Holding) → B.TreeRead.holds base.now b → CountsFreeNow self.now b
             → MatchOption result (IsFullOf self.now.names (holding_now self.now b))
-            (IsLowestUnheld (holding_now self.now b) 11) }
-        ensures limit { IsSome result → self.now.names < 524277 }
+            (IsLowestFreeInode (holding_now self.now b) limits.first_inode) }
+        ensures limit { IsSome result → self.now.names < limits.path_limit }
     {
-        if self.names < NAME_LIMIT {
+        if self.names < PATH_LIMIT {
             self.free_number(base)
         } else {
             None
@@ -59,7 +61,7 @@ impl Overlay {
 
     /// Makes a number one in use: it isn't given again, and the search for others begins behind it.
     pub(crate) fn take_number(&mut self, inode: u64)
-        requires { inode < 524288 }
+        requires { inode < limits.inode_limit }
         ensures orderly { IsOrderly self.old → IsOrderly self.new }
         ensures freed { (n : ℕ) → map.get nat_cmp self.new.freed n ≡
             cond (n == inode) None (map.get nat_cmp self.old.freed n) }

@@ -2,6 +2,7 @@
 ghost use Rattle.std.specs.Prelude.{◌≡◌, ◌≢◌, ℕ, [], List, Some, false, IfErr, IfOk, OnOk};
 ghost use Rattle.std.specs.BTreeMap as map;
 ghost use Rattle.std.specs.Ordering.{nat_cmp};
+ghost use Rattle.nl_types.specs.Limits as limits;
 ghost use Rattle.nl_types.specs.declared.error.VolError;
 ghost use Rattle.nl_dirs.specs.declared.record.Record.{Record};
 ghost use Rattle.nl_tree.specs.Held.{Holding, IsInodeNumber, held_record};
@@ -10,7 +11,7 @@ ghost use Rattle.nl_tree.specs.Overlays.{HasListing, HasOrderedPages, HasSlot, I
 ghost use Rattle.nl_tree.specs.Steps.{with_held};
 
 use crate::listing::Listing;
-use crate::tree_read::{Base, Link};
+use crate::tree_read::{Base, Link, ROOT_INODE};
 use nl_types::{Page, VolError};
 use std::alloc::Global;
 use std::collections::BTreeMap;
@@ -42,8 +43,8 @@ pub struct Slot {
 
 /// What differs from the latest checkpoint.
 ///
-/// A call first keeps places, all of them hidden, and only then changes what shows: so a call that is refused changes
-/// nothing that shows.
+/// A call first keeps places, all of them hidden, and only then changes what shows: so a call that is refused
+/// changes nothing that shows.
 #[derive(Drop)]
 pub struct Overlay {
     /// By inode.
@@ -56,12 +57,10 @@ pub struct Overlay {
     pub names: u64,
 }
 
-/// The inode of the root directory, as in nilfs2.rst.
-const ROOT_INODE: u64 = 2;
-
 impl Overlay {
     pub(crate) fn new(alloc: Global, names: u64) -> Self
-        ensures none { current_of result ≡ record { became = []; freed = []; mark = 11; names = names } }
+        ensures none { current_of result
+            ≡ record { became = []; freed = []; mark = limits.first_inode; names = names } }
         ensures orderly { IsOrderly result }
     {
         let overlay = Overlay {
@@ -77,7 +76,7 @@ impl Overlay {
     /// The overlay in which inode 2 is a new directory. Refused by `Memory` alone.
     pub(crate) fn with_root(alloc: Global) -> Result<Self, VolError>
         ensures root { IfOk result (λ overlay. current_of overlay ≡
-            record { became = root_directory_alone; freed = []; mark = 11; names = 0 }) }
+            record { became = root_directory_alone; freed = []; mark = limits.first_inode; names = 0 }) }
         ensures orderly { IfOk result IsOrderly }
         ensures refused { IfErr result (λ e. e ≡ VolError.Memory) }
     {

@@ -1,5 +1,6 @@
 //! The pages that a write makes.
 ghost use Rattle.std.specs.Prelude.{◌≡◌, ℕ, ◌+◌, ◌*◌, ◌/◌, ◌<◌, ◌≤◌, IfOk, length, option_copied, slice_index};
+ghost use Rattle.nl_types.specs.Limits as limits;
 ghost use Rattle.nl_tree.specs.Contents.{byte_in};
 ghost use Rattle.nl_tree.specs.Held.{Holding, held_block};
 ghost use Rattle.nl_tree.specs.Bytes.{ArePagesCut, ArePagesWritten, IsPageCut, IsPageWritten, end_of_blocks};
@@ -11,7 +12,7 @@ use std::alloc::{AllocError, Global};
 const SIZE: u64 = BLOCK_SIZE as u64;
 
 /// The bytes of a block. One that isn't stored has zeros.
-#[tactic(auto, using(crate::proofs::PageBytes::zero_at))]
+#[tactic(auto, using(crate::specs::Facts::PageBytes::zero_at))]
 fn bytes_of_block(old: Option<&Page>) -> [u8; BLOCK_SIZE]
     ensures { (k : ℕ) → slice_index result k ≡ byte_in (option_copied old.entry) k }
 {
@@ -45,7 +46,7 @@ fn written_page(
     bytes: &[u8],
 ) -> Result<Page, AllocError>
     requires touched { (offset / 1024 ≤ index) × (index < end_of_blocks offset (length bytes.now)) }
-    requires end { offset + length bytes.now ≤ 67108864 }
+    requires end { offset + length bytes.now ≤ limits.file_limit }
     ensures { IfOk result (IsPageWritten (option_copied old.entry) (1024 * index) offset bytes.now) }
 {
     let start = index * SIZE;
@@ -55,8 +56,8 @@ fn written_page(
     overwritten_page(alloc, old, (from - start) as usize, part)
 }
 
-/// The page of a block of a file, once bytes are written at an offset that lie in it. The old page is asked for only where
-/// some of its bytes stay, since a checkpoint's is found by a walk from its file's first node.
+/// The page of a block of a file, once bytes are written at an offset that lie in it. The old page is asked
+/// for only where some of its bytes stay, since a checkpoint's is found by a walk from its file's first node.
 fn page_with<T: TreeRead>(
     alloc: Global,
     tree: &T,
@@ -66,7 +67,7 @@ fn page_with<T: TreeRead>(
     bytes: &[u8],
 ) -> Result<Page, AllocError>
     requires touched { (offset / 1024 ≤ index) × (index < end_of_blocks offset (length bytes.now)) }
-    requires end { offset + length bytes.now ≤ 67108864 }
+    requires end { offset + length bytes.now ≤ limits.file_limit }
     ensures { (held : Holding) → T.holds tree.now held → IfOk result (IsPageWritten
         (held_block (held file) index) (1024 * index) offset bytes.now) }
 {
@@ -86,7 +87,7 @@ pub(crate) fn written_pages<T: TreeRead>(
     offset: u64,
     bytes: &[u8],
 ) -> Result<Vec<Page>, AllocError>
-    requires end { offset + length bytes.now ≤ 67108864 }
+    requires end { offset + length bytes.now ≤ limits.file_limit }
     ensures count { IfOk result (λ pages.
         offset / 1024 + length pages.items ≡ end_of_blocks offset (length bytes.now)) }
     ensures pages { (held : Holding) → T.holds tree.now held → IfOk result (λ pages.
@@ -104,14 +105,15 @@ pub(crate) fn written_pages<T: TreeRead>(
     Ok(pages)
 }
 
-/// The page of the block that a size ends in, with zeros behind it, where that block is stored and goes on behind it.
+/// The page of the block that a size ends in, with zeros behind it, where that block is stored and goes on
+/// behind it.
 pub(crate) fn cut_pages<T: TreeRead>(
     alloc: Global,
     tree: &T,
     file: u64,
     size: u64,
 ) -> Result<Vec<Page>, AllocError>
-    requires { size ≤ 67108864 }
+    requires { size ≤ limits.file_limit }
     ensures { (held : Holding) → T.holds tree.now held → IfOk result (λ pages.
         ArePagesCut (held_block (held file)) size pages.items) }
 {

@@ -5,7 +5,7 @@ ghost use Rattle.std.specs.Ordering.{nat_cmp};
 ghost use Rattle.nl_types.specs.declared.error.VolError;
 ghost use Rattle.nl_tree.specs.Held.{Held};
 ghost use Rattle.nl_tree.specs.Overlays.{block_over, new_page_at};
-ghost use Rattle.nl_tree.specs.Pages.{HasPage, IsSameFile, blocks_below, put_from};
+ghost use Rattle.nl_tree.specs.Private.Pages.{HasPage, IsSameFile, blocks_below, put_from};
 
 use crate::overlay::FileBlocks;
 use nl_types::{Page, VolError};

@@ -1,45 +1,20 @@
 //! Paths as calls give them, and where they lead.
 ghost use Rattle.std.specs.Prelude.{◌≡◌, ◌==◌, ◌&&◌, ◌∷◌, [], not, Ok, Err, MatchOption, MatchResult};
-ghost use Rattle.std.specs.List.{list_all, list_any};
-ghost use Rattle.nl_types.specs.Paths.{is_name, path_of, same_name};
+ghost use Rattle.std.specs.List.{list_all};
+ghost use Rattle.nl_types.specs.Paths.{is_name, path_of};
 ghost use Rattle.nl_types.specs.Calls.{and_then, is_above};
 ghost use Rattle.nl_types.specs.declared.kind.Kind.TheVariants as kind;
 ghost use Rattle.nl_types.specs.Resolving.{resolve_from, step_to};
 ghost use Rattle.nl_tree.specs.Held.{Holding, inodes_of_holding};
-ghost use Rattle.nl_tree.specs.PathParts.{DividesAtSlash, IsOnePart, IsPartEnd, parts_of, path_behind};
+ghost use Rattle.nl_tree.specs.Private.PathParts.{DividesAtSlash, IsOnePart, IsPartEnd, parts_of, path_behind};
 ghost use Rattle.nl_tree.specs.Naming.{IsPlaceOf, IsPlaceRefused};
 ghost use Rattle.nl_tree.specs.Reading.{as_directory, as_file, link_at};
 
-use crate::tree_read::{Link, TreeRead};
-use nl_types::{InodeNumber, Kind, VolError};
-
-/// The inode of the root.
-const ROOT_INODE: u64 = 2;
+use crate::tree_read::{Link, ROOT_INODE, TreeRead};
+use nl_types::{InodeNumber, Kind, VolError, is_name};
 
 /// The most bytes of a path behind its first slash.
 const MAX_BEHIND: usize = 4_094;
-
-/// Whether a part is neither `.` nor `..`.
-fn is_not_dots(part: &[u8]) -> bool
-    ensures { result
-        ≡ (not (same_name part.now (46 ∷ [])) && not (same_name part.now (46 ∷ 46 ∷ []))) }
-{
-    part != b".".as_slice() && part != b"..".as_slice()
-}
-
-fn has_nul(part: &[u8]) -> bool
-    ensures { result ≡ list_any (λ b. b == 0) part.now }
-{
-    part.contains(&0)
-}
-
-/// Whether a part of a path is a name.
-fn is_name(part: &[u8]) -> bool
-    requires { IsOnePart part.now }
-    ensures { result ≡ is_name part.now }
-{
-    !part.is_empty() && part.len() <= 255 && !has_nul(part) && is_not_dots(part)
-}
 
 /// Where the first part ends, if others follow it.
 fn part_end(parts: &[u8]) -> Option<usize>
@@ -78,8 +53,9 @@ fn are_names(parts: &[u8]) -> bool
     is_name(rest)
 }
 
-/// The names of a path, by syntax alone: what stands behind its first slash. Refused by `BadPath` where it does not begin
-/// with a slash or has more than 4,095 bytes, and then by `BadName` where a part is no name (POSIX, "Pathname").
+/// The names of a path, by syntax alone: what stands behind its first slash. Refused by `BadPath` where it
+/// does not begin with a slash or has more than 4,095 bytes, and then by `BadName` where a part is no name
+/// (POSIX, "Pathname").
 pub(crate) fn names_behind(path: &[u8]) -> Result<&[u8], VolError>
     ensures { MatchResult result (λ names. path_of path.now ≡ Ok (path_behind names.now))
         (λ e. path_of path.now ≡ Err e) }
@@ -124,8 +100,8 @@ fn walk<T: TreeRead>(tree: &T, from: Link, names: &[u8]) -> Result<Link, VolErro
 
 /// Where a path leads: an inode and its kind. It takes no memory.
 ///
-/// Refused by `BadPath` and `BadName` as the path's syntax is, by `NotDir` where the walk comes to a file, and by
-/// `NotFound` where it comes to a name that isn't there.
+/// Refused by `BadPath` and `BadName` as the path's syntax is, by `NotDir` where the walk comes to a file,
+/// and by `NotFound` where it comes to a name that isn't there.
 pub(crate) fn find_path<T: TreeRead>(tree: &T, path: &[u8]) -> Result<Link, VolError>
     ensures { (held : Holding) → T.holds tree.now held
         → result ≡ link_at held path.now }
@@ -140,8 +116,8 @@ pub(crate) fn find_path<T: TreeRead>(tree: &T, path: &[u8]) -> Result<Link, VolE
 
 /// The file at a path. It takes no memory.
 ///
-/// Refused by `BadPath` and `BadName` as the path's syntax is, by `NotDir` where a file is on the way, by `NotFound`
-/// where nothing stands, and by `IsDir` where a directory does.
+/// Refused by `BadPath` and `BadName` as the path's syntax is, by `NotDir` where a file is on the way, by
+/// `NotFound` where nothing stands, and by `IsDir` where a directory does.
 pub fn find_file<T: TreeRead>(tree: &T, path: &[u8]) -> Result<InodeNumber, VolError>
     ensures { (held : Holding) → T.holds tree.now held
         → result ≡ and_then (link_at held path.now) as_file }

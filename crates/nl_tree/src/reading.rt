@@ -14,8 +14,8 @@ use nl_dirs::Record;
 use nl_types::{Answer, Ask, InodeNumber, Items, Kind, Named, Reply, Stat, VolError};
 use std::alloc::Global;
 
-/// Reads the bytes of a file from an offset on into the front of a slice, as many as there are and it takes, and answers how
-/// many. It takes no memory.
+/// Reads the bytes of a file from an offset on into the front of a slice, as many as there are and it takes,
+/// and answers how many. It takes no memory.
 pub fn read_file_into<T: TreeRead>(
     tree: &T,
     file: InodeNumber,
@@ -34,11 +34,11 @@ pub fn read_file_into<T: TreeRead>(
     count
 }
 
-/// Reads the bytes of the file at a path from an offset on into the front of a slice, as many as there are and it takes,
-/// and answers how many. It takes no memory.
+/// Reads the bytes of the file at a path from an offset on into the front of a slice, as many as there are
+/// and it takes, and answers how many. It takes no memory.
 ///
-/// Refused by `BadPath` and `BadName` as the path's syntax is, by `NotDir` where a file is on the way, by `NotFound`
-/// where nothing stands, and by `IsDir` where a directory does. Then the slice stays as it was.
+/// Refused by `BadPath` and `BadName` as the path's syntax is, by `NotDir` where a file is on the way, by
+/// `NotFound` where nothing stands, and by `IsDir` where a directory does. Then the slice stays as it was.
 pub fn read_into<T: TreeRead>(
     tree: &T,
     path: &[u8],
@@ -57,10 +57,11 @@ pub fn read_into<T: TreeRead>(
     Ok(read_file_into(tree, file, offset, into))
 }
 
-/// What stands at a path: a file with its size, or a directory with the number of its names. It takes no memory.
+/// What stands at a path: a file with its size, or a directory with the number of its names. It takes no
+/// memory.
 ///
-/// Refused by `BadPath` and `BadName` as the path's syntax is, by `NotDir` where a file is on the way, and by `NotFound`
-/// where nothing stands.
+/// Refused by `BadPath` and `BadName` as the path's syntax is, by `NotDir` where a file is on the way, and by
+/// `NotFound` where nothing stands.
 pub fn stat<T: TreeRead>(tree: &T, path: &[u8]) -> Result<Stat, VolError>
     ensures { (held : Holding) (shown : Tree) → T.holds tree.now held → HoldingMeans held shown
         → result ≡ and_then (path_of path.now) (stat shown) }
@@ -157,8 +158,8 @@ fn listed_names<T: TreeRead>(
 
 /// The names in the directory at a path with their kinds, ascending by bytes.
 ///
-/// Refused by `BadPath` and `BadName` as the path's syntax is, by `NotDir` where a file stands there or is on the way, by
-/// `NotFound` where nothing stands, and by `Memory`.
+/// Refused by `BadPath` and `BadName` as the path's syntax is, by `NotDir` where a file stands there or is on
+/// the way, by `NotFound` where nothing stands, and by `Memory`.
 pub fn list<T: TreeRead>(alloc: Global, tree: &T, path: &[u8]) -> Result<Items<Named>, VolError>
     ensures { (held : Holding) (shown : Tree) → T.holds tree.now held → HoldingMeans held shown
         → ShowsUnlessMemory (λ names. names) result (and_then (path_of path.now) (list shown)) }

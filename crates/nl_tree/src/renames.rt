@@ -1,9 +1,10 @@
 //! Records that get another name or directory.
 ghost use Rattle.std.specs.Prelude.{◌≡◌, ◌+◌, ◌≤◌, ℕ, List, None, IfErr, OnErr, OnOk};
+ghost use Rattle.nl_types.specs.Limits as limits;
 ghost use Rattle.nl_types.specs.declared.error.VolError;
 ghost use Rattle.nl_dirs.specs.declared.record.Record.{Record};
 ghost use Rattle.nl_tree.specs.Held.{Holding, IsInodeNumber};
-ghost use Rattle.nl_tree.specs.Moving.{AreDirectoriesOf, HasNamesOf, with_moved};
+ghost use Rattle.nl_tree.specs.Private.Moving.{AreDirectoriesOf, HasNamesOf, with_moved};
 ghost use Rattle.nl_tree.specs.Numbers.{CountsFreeNow};
 ghost use Rattle.nl_tree.specs.Overlays.{HasSlot, IsOrderly, KeepsRest, ShowTheSame, current_of, holding_now};
 ghost use Rattle.nl_tree.specs.Steps.{with_held};
@@ -53,8 +54,8 @@ impl Overlay {
         Ok(())
     }
 
-    /// Moves a record to a directory, another or the same, where another inode's record has the name: that inode is gone,
-    /// and its number is free.
+    /// Moves a record to a directory, another or the same, where another inode's record has the name: that
+    /// inode is gone, and its number is free.
     ///
     /// Refused by `Memory` alone; then nothing that shows has changed.
     pub(crate) fn rename_onto<B: Base>(
@@ -75,7 +76,7 @@ impl Overlay {
             with_held target None (with_moved found.now all others (holding_now self.old b)) i) }
         ensures counts { (b : Holding) (all others : List Record) → B.TreeRead.holds base.now b
             → AreDirectoriesOf found.now (holding_now self.old b) all others
-            → CountsFreeNow self.old b → 11 ≤ target → target ≤ 524287
+            → CountsFreeNow self.old b → limits.first_inode ≤ target → target ≤ limits.last_inode
             → OnOk result (CountsFreeNow self.new b) }
         ensures names { OnOk result (self.new.names + 1 ≡ self.old.names) }
         ensures same { OnErr result (current_of self.new ≡ current_of self.old) }

@@ -6,11 +6,11 @@ ghost use Rattle.nl_types.specs.Paths.{Path, is_name, path_of};
 ghost use Rattle.nl_types.specs.Trees.{Tree};
 ghost use Rattle.nl_dirs.specs.declared.record.Record.{Record};
 ghost use Rattle.nl_tree.specs.Became.{holding_over};
-ghost use Rattle.nl_tree.specs.CurrentTrees.{CallsAs, HasRenamed, StandsOver, without_replaced};
+ghost use Rattle.nl_tree.specs.CurrentTrees.{AltersAs, AnswersAs, AnswersCall, CanCall, HasRenamed, StandsOver, without_replaced};
 ghost use Rattle.nl_tree.specs.Held.{Holding};
-ghost use Rattle.nl_tree.specs.Moving.{AreDirectoriesOf, FindsMove, IsRenameRefused, IsSource, MovesNothing, with_moved};
+ghost use Rattle.nl_tree.specs.Private.Moving.{AreDirectoriesOf, FindsMove, IsRenameRefused, IsSource, MovesNothing, with_moved};
 ghost use Rattle.nl_tree.specs.Naming.{listing_of};
-ghost use Rattle.nl_tree.specs.PathParts.{parts_of};
+ghost use Rattle.nl_tree.specs.Private.PathParts.{parts_of};
 
 use crate::current::CurrentTree;
 use crate::paths::{Place, find_place, is_above, names_behind};
@@ -34,8 +34,8 @@ fn both_names<'p>(from: &'p [u8], to: &'p [u8]) -> Result<(&'p [u8], &'p [u8]), 
     Ok((names, target_names))
 }
 
-/// Whether what has one kind may take the place of what a record names: a file that of a file, a directory that of an
-/// empty directory.
+/// Whether what has one kind may take the place of what a record names: a file that of a file, a directory
+/// that of an empty directory.
 fn may_replace<T: TreeRead>(tree: &T, kind: Kind, target: Option<Link>) -> Result<(), VolError>
     ensures { (held : Holding) → T.holds tree.now held → result ≡ may_take (listing_of held) kind target }
 {
@@ -64,6 +64,7 @@ fn find_source<'p, T: TreeRead>(
         source.0.directory source.0.name.now source.1)
         (IsRenameRefused held (parts_of names.now) (parts_of target_names.now)) }
 {
+    // `match`, as `?` has no proof yet where a struct holds a reference beside a modelled number
     match find_place(tree, names) {
         Err(e) => Err(e),
         Ok(place) => match (place.link, is_above(names, target_names)) {
@@ -85,7 +86,7 @@ fn find_move<'p, T: TreeRead>(
         (FindsMove held (parts_of names.now) (parts_of target_names.now)))
         (IsRenameRefused held (parts_of names.now) (parts_of target_names.now)) }
 {
-    // `match`: the borrow checker doesn't cover `?` where the result holds a reference beside a modelled number.
+    // `match` here too, for what these hold
     let (place, link) = match find_source(tree, names, target_names) {
         Ok(source) => source,
         Err(e) => return Err(e),
@@ -119,7 +120,7 @@ impl CurrentTree {
         requires name { IsTrue (is_name found.now.target.name.now) }
         ensures done { (b : Holding) (tree : Tree) (from to : Path) → B.TreeRead.holds base.now b
             → StandsOver self.old b tree → FindsMove (holding_over self.old.became b) from to found.now
-            → CallsAs (λ _. Answer.Done) result self.new b (rename tree from to) }
+            → AnswersCall (λ _. Answer.Done) result self.new b (rename tree from to) }
         ensures moved { (b : Holding) (all others : List Record) → B.TreeRead.holds base.now b
             → AreDirectoriesOf found.now (holding_over self.old.became b) all others
             → OnOk result ((i : ℕ) → holding_over self.new.became b i ≡ without_replaced found.now.target.link
@@ -132,13 +133,15 @@ impl CurrentTree {
         }
     }
 
-    /// Gives what stands at a path another path, with all that lies below it (rename(2)). A file takes the place of a file
-    /// that stands there, and a directory that of an empty directory. Nothing changes where both paths are the same.
+    /// Gives what stands at a path another path, with all that lies below it (rename(2)). A file takes the
+    /// place of a file that stands there, and a directory that of an empty directory. Nothing changes where
+    /// both paths are the same.
     ///
-    /// Refused by `BadPath` and `BadName` as the syntax of the paths is, `from` first; by `BadPath` where one is the root;
-    /// by `NotDir` and `NotFound` as the walk by `from` is; by `IntoItself` where a directory would come to lie below
-    /// itself; by `NotDir` and `NotFound` as the walk to the directory of `to` is; by `IsDir`, `NotDir` and `NotEmpty`
-    /// where it can't take the place of what stands there; and by `Memory`. Then the tree is as before.
+    /// Refused by `BadPath` and `BadName` as the syntax of the paths is, `from` first; by `BadPath` where one
+    /// is the root; by `NotDir` and `NotFound` as the walk by `from` is; by `IntoItself` where a directory
+    /// would come to lie below itself; by `NotDir` and `NotFound` as the walk to the directory of `to` is; by
+    /// `IsDir`, `NotDir` and `NotEmpty` where it can't take the place of what stands there; and by `Memory`.
+    /// Then the tree is as before.
     pub fn rename<B: Base>(
         &mut self,
         alloc: Global,
@@ -146,16 +149,15 @@ impl CurrentTree {
         from: &[u8],
         to: &[u8],
     ) -> Result<(), VolError>
-        requires { (b : Holding) × (tree : Tree) × B.TreeRead.holds base.now b × StandsOver self.old b tree }
-        ensures done { (b : Holding) (tree : Tree) → B.TreeRead.holds base.now b → StandsOver self.old b tree
-            → CallsAs (λ _. Answer.Done) result self.new b
-            (and_then (path_of from.now) (λ names. and_then (path_of to.now) (rename tree names))) }
-        ensures changes { (b : Holding) (tree : Tree) → B.TreeRead.holds base.now b
-            → StandsOver self.old b tree → OnOk result (HasRenamed from.now to.now
-            (holding_over self.old.became b) (holding_over self.new.became b)) }
+        requires { CanCall (B.TreeRead.holds base.now) self.old }
+        ensures done { AnswersAs (B.TreeRead.holds base.now) (λ _. Answer.Done) result self.old self.new
+            (λ tree. and_then (path_of from.now) (λ names. and_then (path_of to.now) (rename tree names))) }
+        ensures changes { AltersAs (B.TreeRead.holds base.now) result self.old self.new
+            (HasRenamed from.now to.now) }
         ensures same { OnErr result (self.new ≡ self.old) }
     {
         let (names, target_names) = both_names(from, to)?;
+        // `match` here too, for what a move holds
         match find_move(&self.view(base), names, target_names) {
             Err(e) => Err(e),
             Ok(None) => Ok(()),

@@ -1,12 +1,17 @@
 //! Reading of trees by inode numbers.
 ghost use Rattle.std.specs.Prelude.{◌≡◌, ◌+◌, ◌<◌, ◌^◌, List, IfOk, IfErr, MatchOption, Some, length, option_copied};
+ghost use Rattle.nl_types.specs.Limits as limits;
+ghost use Rattle.nl_types.specs.Inodes.{AreInUseFrom, IsLowestFreeInode};
 ghost use Rattle.nl_dirs.specs.declared.record.Record.{Record};
-ghost use Rattle.nl_tree.specs.Held.{AreHeldFrom, Holding, IsLowestUnheld, Listed, held_block, held_count, held_record, held_size};
+ghost use Rattle.nl_tree.specs.Held.{Holding, Listed, held_block, held_count, held_record, held_size};
 ghost use Rattle.nl_tree.specs.Reading.{AreBytesFrom};
 
 use nl_dirs::Record;
 use nl_types::{InodeNumber, Kind, Page, VolError};
 use std::alloc::Global;
+
+/// The inode of the root directory.
+pub(crate) const ROOT_INODE: u64 = 2;
 
 /// What a name of a directory stands for: an inode and its kind.
 pub type Link = (InodeNumber, Kind);
@@ -51,5 +56,5 @@ pub trait Base: TreeRead {
     /// The lowest free inode number from one on.
     fn free_from(&self, from: u64) -> Option<u64>
         ensures { (held : Holding) → Self.holds self.now held
-            → MatchOption result (AreHeldFrom held from 524288) (IsLowestUnheld held from) };
+            → MatchOption result (AreInUseFrom held from limits.inode_limit) (IsLowestFreeInode held from) };
 }

@@ -1,13 +1,13 @@
 //! Calls that change the bytes of a file.
 ghost use Rattle.std.specs.Prelude.{◌≡◌, ◌+◌, ◌<◌, ◌≤◌, ℕ, length, IfErr, OnErr, OnOk};
+ghost use Rattle.nl_types.specs.Limits as limits;
 ghost use Rattle.nl_types.specs.Calls.{and_then, truncate, write};
 ghost use Rattle.nl_types.specs.Paths.{path_of};
 ghost use Rattle.nl_types.specs.Roots.{Blocks};
-ghost use Rattle.nl_types.specs.Trees.{Tree};
 ghost use Rattle.nl_types.specs.declared.error.VolError;
 ghost use Rattle.nl_tree.specs.Became.{holding_over};
 ghost use Rattle.nl_tree.specs.Bytes.{IsFileIn, IsFileResized, IsFileWritten};
-ghost use Rattle.nl_tree.specs.CurrentTrees.{CallsAs, HasTruncated, HasWrittenAny, StandsOver};
+ghost use Rattle.nl_tree.specs.CurrentTrees.{AltersAs, AnswersAs, CanCall, HasOverwrittenAny, HasTruncated};
 ghost use Rattle.nl_tree.specs.Held.{Holding};
 ghost use Rattle.nl_tree.specs.Numbers.{CountsFree};
 
@@ -22,7 +22,8 @@ use std::alloc::Global;
 const SIZE_LIMIT: u64 = 67_108_864;
 
 impl CurrentTree {
-    /// Writes bytes over those of a file from an offset on. Refused by `Memory` alone; then the tree is as before.
+    /// Writes bytes over those of a file from an offset on. Refused by `Memory` alone; then the tree is as
+    /// before.
     fn write_file<B: Base>(
         &mut self,
         alloc: Global,
@@ -34,7 +35,7 @@ impl CurrentTree {
         requires file { (b : Holding) × (size : ℕ) × (blocks : Blocks) × B.TreeRead.holds base.now b
             × IsFileIn (holding_over self.old.became b) file size blocks }
         requires more { 0 < length bytes.now }
-        requires fits { offset + length bytes.now ≤ 67108864 }
+        requires fits { offset + length bytes.now ≤ limits.file_limit }
         ensures written { (b : Holding) (size : ℕ) (blocks : Blocks) → B.TreeRead.holds base.now b
             → IsFileIn (holding_over self.old.became b) file size blocks → OnOk result
             (IsFileWritten (holding_over self.old.became b) (holding_over self.new.became b)
@@ -62,7 +63,7 @@ impl CurrentTree {
     ) -> Result<(), VolError>
         requires file { (b : Holding) × (was : ℕ) × (blocks : Blocks) × B.TreeRead.holds base.now b
             × IsFileIn (holding_over self.old.became b) file was blocks }
-        requires fits { size ≤ 67108864 }
+        requires fits { size ≤ limits.file_limit }
         ensures resized { (b : Holding) (was : ℕ) (blocks : Blocks) → B.TreeRead.holds base.now b
             → IsFileIn (holding_over self.old.became b) file was blocks → OnOk result (IsFileResized
             (holding_over self.old.became b) (holding_over self.new.became b) file blocks size) }
@@ -78,12 +79,13 @@ impl CurrentTree {
             .truncate_blocks(alloc, base, file, size, size / BLOCK_SIZE as u64, pages)
     }
 
-    /// Writes bytes over those of the file at a path from an offset on, and answers how many (pwrite(2)). Where the offset
-    /// is past the end, zeros stand between. The blocks that the bytes lie in are stored, and others as they were.
+    /// Writes bytes over those of the file at a path from an offset on, and answers how many (pwrite(2)).
+    /// Where the offset is past the end, zeros stand between. The blocks that the bytes lie in are stored,
+    /// and others as they were.
     ///
-    /// Refused by `BadPath` and `BadName` as the path's syntax is, by `NotDir` where a file is on the way, by `NotFound`
-    /// where nothing stands, by `IsDir` where a directory does, by `TooBig` where the bytes would end past 64 MiB, and by
-    /// `Memory`. Then the tree is as before.
+    /// Refused by `BadPath` and `BadName` as the path's syntax is, by `NotDir` where a file is on the way, by
+    /// `NotFound` where nothing stands, by `IsDir` where a directory does, by `TooBig` where the bytes would
+    /// end past 64 MiB, and by `Memory`. Then the tree is as before.
     pub fn write<B: Base>(
         &mut self,
         alloc: Global,
@@ -92,13 +94,11 @@ impl CurrentTree {
         offset: u64,
         bytes: &[u8],
     ) -> Result<u64, VolError>
-        requires { (b : Holding) × (tree : Tree) × B.TreeRead.holds base.now b × StandsOver self.old b tree }
-        ensures done { (b : Holding) (tree : Tree) → B.TreeRead.holds base.now b → StandsOver self.old b tree
-            → CallsAs Answer.Written result self.new b
-            (and_then (path_of path.now) (write tree offset bytes.now)) }
-        ensures changes { (b : Holding) (tree : Tree) → B.TreeRead.holds base.now b
-            → StandsOver self.old b tree → OnOk result (HasWrittenAny path.now offset bytes.now
-            (holding_over self.old.became b) (holding_over self.new.became b)) }
+        requires { CanCall (B.TreeRead.holds base.now) self.old }
+        ensures done { AnswersAs (B.TreeRead.holds base.now) Answer.Written result self.old self.new
+            (λ tree. and_then (path_of path.now) (write tree offset bytes.now)) }
+        ensures changes { AltersAs (B.TreeRead.holds base.now) result self.old self.new
+            (HasOverwrittenAny path.now offset bytes.now) }
         ensures same { OnErr result (self.new ≡ self.old) }
     {
         let file = find_file(&self.view(base), path)?.get();
@@ -113,12 +113,12 @@ impl CurrentTree {
         Ok(count)
     }
 
-    /// Gives the file at a path a size in bytes (truncate(2)). Blocks past the size are gone, and past the old end there
-    /// are zeros, none of them stored.
+    /// Gives the file at a path a size in bytes (truncate(2)). Blocks past the size are gone, and past the
+    /// old end there are zeros, none of them stored.
     ///
-    /// Refused by `BadPath` and `BadName` as the path's syntax is, by `NotDir` where a file is on the way, by `NotFound`
-    /// where nothing stands, by `IsDir` where a directory does, by `TooBig` past 64 MiB, and by `Memory`. Then the tree is
-    /// as before.
+    /// Refused by `BadPath` and `BadName` as the path's syntax is, by `NotDir` where a file is on the way, by
+    /// `NotFound` where nothing stands, by `IsDir` where a directory does, by `TooBig` past 64 MiB, and by
+    /// `Memory`. Then the tree is as before.
     pub fn truncate<B: Base>(
         &mut self,
         alloc: Global,
@@ -126,13 +126,11 @@ impl CurrentTree {
         path: &[u8],
         size: u64,
     ) -> Result<(), VolError>
-        requires { (b : Holding) × (tree : Tree) × B.TreeRead.holds base.now b × StandsOver self.old b tree }
-        ensures done { (b : Holding) (tree : Tree) → B.TreeRead.holds base.now b → StandsOver self.old b tree
-            → CallsAs (λ _. Answer.Done) result self.new b
-            (and_then (path_of path.now) (truncate tree size)) }
-        ensures changes { (b : Holding) (tree : Tree) → B.TreeRead.holds base.now b
-            → StandsOver self.old b tree → OnOk result (HasTruncated path.now size
-            (holding_over self.old.became b) (holding_over self.new.became b)) }
+        requires { CanCall (B.TreeRead.holds base.now) self.old }
+        ensures done { AnswersAs (B.TreeRead.holds base.now) (λ _. Answer.Done) result self.old self.new
+            (λ tree. and_then (path_of path.now) (truncate tree size)) }
+        ensures changes { AltersAs (B.TreeRead.holds base.now) result self.old self.new
+            (HasTruncated path.now size) }
         ensures same { OnErr result (self.new ≡ self.old) }
     {
         let file = find_file(&self.view(base), path)?.get();

@@ -11,7 +11,7 @@ use Rattle.nl_types.specs.declared.reply.Stat.TheVariants as status
 use Rattle.nl_types.specs.Paths.{Path, path_of}
 use Rattle.nl_types.specs.Trees.{Tree, root_alone}
 use Rattle.nl_types.specs.Calls.{Changed, and_then, tree_after, create, mkdir, write, overwritten, truncate, unlink, rmdir, rename, read, list, stat, named}
-use Rattle.nl_types.proofs.FileSizes.{written_sizes}
+use Rattle.nl_types.specs.Facts.FileSizes.{written_sizes}
 
 -- ---- calls on the paths that bytes spell
 

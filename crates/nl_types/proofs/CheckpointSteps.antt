@@ -3,7 +3,7 @@ use Rattle.std.proofs.Common.{◌≡◌, ℕ, Bool, true, false, cond, ◌&&◌,
 use Rattle.std.specs.Prelude.{◌==◌, IfOk}
 use Rattle.std.specs.List.{filter}
 use Rattle.std.specs.Option.{option_map, option_map_or}
-use Rattle.std.proofs.lemmas.Bool.{and_parts, and_from, or_left, not-true}
+use Rattle.std.proofs.lemmas.Bool.{and_parts, or_left}
 use Rattle.std.specs.Ordering.{nat_cmp}
 use Rattle.std.specs.FinMap.{find, is_sorted}
 use Rattle.nl_types.specs.declared.error.VolError.TheVariants as error
@@ -12,15 +12,16 @@ use Rattle.nl_types.specs.declared.event.Event.TheVariants as event
 use Rattle.nl_types.specs.declared.event.Mode.{Mode}
 use Rattle.nl_types.specs.declared.reply.Answer.TheVariants as answer
 use Rattle.nl_types.specs.declared.row.Range.{Range}
-use Rattle.nl_types.specs.Rows.{is_among, kept_row, removal, range_removal}
+use Rattle.nl_types.specs.NumberLists.{is_one_of, NoneTwice}
+use Rattle.nl_types.specs.Rows.{kept_row, removal, range_removal}
 use Rattle.nl_types.specs.Worlds.{World, Copy, Reply, Outcome, copy_at, latest, rows, moded, copies_without, is_given_up, is_mounted, take_out, either, change_mode, remove, remove_range, mounted, unmount, step}
 use Rattle.nl_types.specs.Runs.{Run}
 use Rattle.nl_types.specs.CheckpointLaws.{where_passes, is_removable, ModesAreSet, RemovalsTakeOne, RangesTakeRemovable, RangesAnswerRemovable, RangesAreRemovals, UnmountsTakeOne}
-use Rattle.nl_types.proofs.Booleans.{not_true, or_right}
-use Rattle.nl_types.proofs.NumberedParts.{find-kept, find-valued, is_among-find, find_below, is_sorted-filter}
-use Rattle.nl_types.proofs.ToldCopies.{IsTold, kept_row-told, may_go-removal, range_of, range_removal-is}
-use Rattle.nl_types.proofs.TakenOut.{AllMayGo, among_one, copy_at-take_out, turned, same_latest, latest-take_out, goes, removable-goes, among-range, range_may_go}
-use Rattle.nl_types.proofs.EventCases.{either_gives, refused_if_gives, after_mode}
+use Rattle.nl_types.specs.Facts.Booleans.{not_true, or_right}
+use Rattle.nl_types.specs.Facts.NumberedParts.{find-kept, find-valued, is_one_of-find, find_below, is_sorted-filter}
+use Rattle.nl_types.specs.Facts.ToldCopies.{IsTold, kept_row-told, may_go-removal, range_of, range_removal-is}
+use Rattle.nl_types.specs.Facts.TakenOut.{AllMayGo, among_one, copy_at-take_out, turned, same_latest, latest-take_out, goes, removable-goes, among-range, range_may_go}
+use Rattle.nl_types.specs.Facts.EventCases.{either_gives, refused_if_gives, after_mode}
 
 -- ---- modes
 
@@ -51,11 +52,11 @@ pub removals_take_one : RemovalsTakeOne
 removals_take_one cleaned old new n answer is = subst TakesOne is done
   where
     TakesOne : Outcome → Type 0
-    TakesOne outcome = IfOk outcome.0 (λ _. (k : ℕ) → copy_at outcome.1 k ≡ cond (n == k) None (copy_at old k))
+    TakesOne outcome = IfOk outcome.0 (λ _. (k : ℕ) → copy_at outcome.1 k ≡ cond (k == n) None (copy_at old k))
 
     done : TakesOne (remove old n)
     done = either_gives TakesOne old (removal n (latest old) (rows old)) _ (λ _. tt) (λ _ _ k.
-        copy_at-take_out old (n ∷ []) k ∙ ap (λ b. cond b None (copy_at old k)) (or_none (n == k)))
+        copy_at-take_out old (n ∷ []) k ∙ ap (λ b. cond b None (copy_at old k)) (or_none (k == n)))
 
 -- ---- one unmount
 
@@ -95,7 +96,7 @@ range_done cleaned old new first last range is = subst IsDone is done range refl
 pub ranges_answer_removable : RangesAnswerRemovable
 ranges_answer_removable cleaned old new first last range world is n =
     let done = range_done cleaned old new first last range is in
-    ap (λ (g : Range). is_among g.removed n) done.answered ∙ among-range old first last n world.numbers_rise
+    ap (λ (g : Range). is_one_of g.removed n) done.answered ∙ among-range old first last n world.numbers_rise
 
 pub ranges_take_removable : RangesTakeRemovable
 ranges_take_removable cleaned old new first last range world is n =
@@ -110,27 +111,20 @@ ranges_take_removable cleaned old new first last range world is n =
 
 -- ---- a range is one removal after another
 
--- no number stands twice
-abbrev are_once : List ℕ → Bool
-are_once [] = true
-are_once (n ∷ ns) = not (is_among ns n) && are_once ns
-
-once-sorted : {X : Type 0} (es : List (ℕ × X)) → is_sorted nat_cmp es ≡ true → are_once (map (λ e. e.0) es) ≡ true
-once-sorted [] sorted = refl
+once-sorted : {X : Type 0} (es : List (ℕ × X)) → is_sorted nat_cmp es ≡ true → NoneTwice (map (λ e. e.0) es)
+once-sorted [] sorted = tt
 once-sorted (e ∷ es) sorted =
     let parts = and_parts _ (is_sorted nat_cmp es) sorted in
-    and_from (not (is_among (map (λ d. d.0) es) e.0)) (are_once (map (λ d. d.0) es))
-    (ap not (is_among-find es e.0 ∙ ap is_some (find_below es e.0 parts.0)))
-    (once-sorted es parts.1)
+    (is_one_of-find es e.0 ∙ ap is_some (find_below es e.0 parts.0), once-sorted es parts.1)
 
 -- copies are taken out one after another
 without-more : (n : ℕ) (ns : List ℕ) (copies : List (ℕ × Copy)) → copies_without ns (copies_without (n ∷ []) copies) ≡ copies_without (n ∷ ns) copies
 without-more n ns [] = refl
 without-more n ns (c ∷ copies) =
     let rest = without-more n ns copies in
-    elim (n == c.0) as (λ b. copies_without ns (cond (not (b || false)) (c ∷ copies_without (n ∷ []) copies) (copies_without (n ∷ []) copies)) ≡ cond (not (b || is_among ns c.0)) (c ∷ copies_without (n ∷ ns) copies) (copies_without (n ∷ ns) copies)) [
+    elim (c.0 == n) as (λ b. copies_without ns (cond (not (b || false)) (c ∷ copies_without (n ∷ []) copies) (copies_without (n ∷ []) copies)) ≡ cond (not (b || is_one_of ns c.0)) (c ∷ copies_without (n ∷ ns) copies) (copies_without (n ∷ ns) copies)) [
       | true ↦ rest
-      | false ↦ ap (λ (xs : List (ℕ × Copy)). cond (not (is_among ns c.0)) (c ∷ xs) xs) rest
+      | false ↦ ap (λ (xs : List (ℕ × Copy)). cond (not (is_one_of ns c.0)) (c ∷ xs) xs) rest
     ]
 
 without-none : (copies : List (ℕ × Copy)) → copies_without [] copies ≡ copies
@@ -141,30 +135,29 @@ abbrev StepsTo : Reply → World → Event → Reply → World → Type 0
 StepsTo cleaned before asked reply after = step cleaned before asked ≡ (reply, after)
 
 -- a copy that may go may still go once another one has gone
-may_go-later : (w : World) (n : ℕ) (ns : List ℕ) → is_some (copy_at w (latest w)) ≡ true → AllMayGo w (n ∷ ns) → is_among ns n ≡ false → AllMayGo (take_out (n ∷ []) w) ns
+may_go-later : (w : World) (n : ℕ) (ns : List ℕ) → is_some (copy_at w (latest w)) ≡ true → AllMayGo w (n ∷ ns) → is_one_of ns n ≡ false → AllMayGo (take_out (n ∷ []) w) ns
 may_go-later w n ns kept may once m among =
-    let here = may m (or_right (n == m) among) in
-    let one : AllMayGo w (n ∷ []) = λ k is. may k (or_left (n == k) (is_among ns k) (sym (or_none (n == k)) ∙ is)) in
+    let here = may m (or_right (m == n) among) in
+    let one : AllMayGo w (n ∷ []) = λ k is. may k (or_left (k == n) (is_one_of ns k) (sym (or_none (k == n)) ∙ is)) in
     record {
       copy = here.copy;
-      kept = copy_at-take_out w (n ∷ []) m ∙ ap (λ b. cond b None (copy_at w m)) (not_true (is_among (n ∷ []) m) apart) ∙ here.kept;
+      kept = copy_at-take_out w (n ∷ []) m ∙ ap (λ b. cond b None (copy_at w m)) (not_true (is_one_of (n ∷ []) m) apart) ∙ here.kept;
       plain = here.plain;
       earlier = ap (λ l. m == l) (same_latest w (n ∷ []) kept one) ∙ here.earlier;
     }
   where
-    apart : is_among (n ∷ []) m ≡ true → ⊥
-    apart is = true≢false (sym among ∙ ap (is_among ns) (sym (among_one n m is)) ∙ once)
+    apart : is_one_of (n ∷ []) m ≡ true → ⊥
+    apart is = true≢false (sym among ∙ ap (is_one_of ns) (sym (among_one n m is)) ∙ once)
 
-removals_run : (cleaned : Reply) (gone : List ℕ) (w : World) → is_some (copy_at w (latest w)) ≡ true → AllMayGo w gone → are_once gone ≡ true
+removals_run : (cleaned : Reply) (gone : List ℕ) (w : World) → is_some (copy_at w (latest w)) ≡ true → AllMayGo w gone → NoneTwice gone
     → Run (StepsTo cleaned) w (map event.Remove gone) (map (λ _. Ok answer.Done) gone) (take_out gone w)
 removals_run cleaned [] w kept may once = ap (λ (copies : List (ℕ × Copy)). (let v : World = record w { copies = copies } in v)) (without-none w.copies)
 removals_run cleaned (n ∷ ns) w kept may once =
-    let parts = and_parts (not (is_among ns n)) (are_once ns) once in
     let mid = take_out (n ∷ []) w in
-    let one : AllMayGo w (n ∷ []) = λ k is. may k (or_left (n == k) (is_among ns k) (sym (or_none (n == k)) ∙ is)) in
+    let one : AllMayGo w (n ∷ []) = λ k is. may k (or_left (k == n) (is_one_of ns k) (sym (or_none (k == n)) ∙ is)) in
     let first : StepsTo cleaned w (event.Remove n) (Ok answer.Done) mid =
-    ap (λ r. either w r (λ _. (Ok answer.Done, take_out (n ∷ []) w))) (may_go-removal w n (may n (or_left (n == n) (is_among ns n) (eq-eqb n n refl)))) in
-    let later = removals_run cleaned ns mid (ap is_some (latest-take_out w (n ∷ []) kept one) ∙ kept) (may_go-later w n ns kept may (not-true (is_among ns n) parts.0)) parts.1 in (
+    ap (λ r. either w r (λ _. (Ok answer.Done, take_out (n ∷ []) w))) (may_go-removal w n (may n (or_left (n == n) (is_one_of ns n) (eq-eqb n n refl)))) in
+    let later = removals_run cleaned ns mid (ap is_some (latest-take_out w (n ∷ []) kept one) ∙ kept) (may_go-later w n ns kept may once.0) once.1 in (
       mid,
       first,
       subst (λ (v : World). Run (StepsTo cleaned) mid (map event.Remove ns) (map (λ _. Ok answer.Done) ns) v)
@@ -179,7 +172,7 @@ ranges_are_removals cleaned old new first last range world is =
     subst (λ (g : Range). Run (StepsTo cleaned) old (map event.Remove g.removed) (map (λ _. Ok answer.Done) g.removed) new) (sym done.answered)
     (subst (λ (v : World). Run (StepsTo cleaned) old (map event.Remove gone) (map (λ _. Ok answer.Done) gone) v) (sym done.left) run)
   where
-    answered_once : are_once (range_of old first last).removed ≡ true
+    answered_once : NoneTwice (range_of old first last).removed
     answered_once =
-        ap are_once (removable-goes (latest old) first last old.copies)
-        ∙ once-sorted (filter (λ (c : ℕ × Copy). goes (latest old) first last c.0 c.1) old.copies) (is_sorted-filter (λ c. goes (latest old) first last c.0 c.1) old.copies world.numbers_rise)
+        subst NoneTwice (sym (removable-goes (latest old) first last old.copies))
+        (once-sorted (filter (λ (c : ℕ × Copy). goes (latest old) first last c.0 c.1) old.copies) (is_sorted-filter (λ c. goes (latest old) first last c.0 c.1) old.copies world.numbers_rise))

@@ -9,16 +9,16 @@ use Rattle.nl_types.specs.declared.event.Event.{Event}
 use Rattle.nl_types.specs.declared.event.Event.TheVariants as event
 use Rattle.nl_types.specs.declared.event.Mode.{Mode}
 use Rattle.nl_types.specs.declared.reply.Answer.TheVariants as answer
-use Rattle.nl_types.specs.Rows.{is_among}
+use Rattle.nl_types.specs.NumberLists.{is_one_of}
 use Rattle.nl_types.specs.Worlds.{World, Copy, Reply, Outcome, copy_at, expiry_of, latest, minor_copies, moded, take_out}
 use Rattle.nl_types.specs.Laws.{TakesOut, ChangesMode, GivesBack, CopiesStay, ModesStay, CopiesAreKept, MountsStay, MountNumbersAreNew, GivenNeverFalls}
-use Rattle.nl_types.proofs.ChangeLaws.{IsNoMount, change_gives_no_mount}
-use Rattle.nl_types.proofs.NumberedLists.{find_stays}
-use Rattle.nl_types.proofs.NumberedParts.{find-kept, find-valued}
-use Rattle.nl_types.proofs.ToldCopies.{range_of}
-use Rattle.nl_types.proofs.TakenOut.{among_one, copy_at-take_out}
-use Rattle.nl_types.proofs.WorldLaws.{tree-moded, stamp-moded, minor-moded}
-use Rattle.nl_types.proofs.EventCases.{EachEvent, step_gives, after_change, new_copy, after_mode, after_unmount}
+use Rattle.nl_types.specs.Facts.ChangeLaws.{IsNoMount, change_gives_no_mount}
+use Rattle.nl_types.specs.Facts.NumberedLists.{find_stays}
+use Rattle.nl_types.specs.Facts.NumberedParts.{find-kept, find-valued}
+use Rattle.nl_types.specs.Facts.ToldCopies.{range_of}
+use Rattle.nl_types.specs.Facts.TakenOut.{among_one, copy_at-take_out}
+use Rattle.nl_types.specs.Facts.WorldLaws.{tree-moded, stamp-moded, minor-moded}
+use Rattle.nl_types.specs.Facts.EventCases.{EachEvent, step_gives, after_change, new_copy, after_mode, after_unmount}
 
 -- ---- copies
 
@@ -36,7 +36,7 @@ module _ (cleaned : Reply) (w : World) (n : ℕ) (before : Copy) (was : copy_at 
   -- what stays once some are taken out
   found-left : (gone : List ℕ) (now : Copy) → copy_at (take_out gone w) n ≡ Some now → now ≡ before
   found-left gone now is =
-      elim (is_among gone n) as (λ b. cond b None (copy_at w n) ≡ Some now → now ≡ before) [
+      elim (is_one_of gone n) as (λ b. cond b None (copy_at w n) ≡ Some now → now ≡ before) [
         | true ↦ λ none. absurd (true≢false (sym (ap is_some none)))
         | false ↦ λ there. same_Some now before (sym there ∙ was)
       ] (sym (copy_at-take_out w gone n) ∙ is)
@@ -112,9 +112,9 @@ module _ (cleaned : Reply) (w : World) (n : ℕ) (before : Copy) (was : copy_at 
   IsKept asked done = (is_some (copy_at done.1 n) ≡ true) ⊎ TakesOut asked done.0 n
 
   -- a copy stays unless it is among those that go
-  kept-unless : (gone : List ℕ) → (is_some (copy_at (take_out gone w) n) ≡ true) ⊎ (is_among gone n ≡ true)
+  kept-unless : (gone : List ℕ) → (is_some (copy_at (take_out gone w) n) ≡ true) ⊎ (is_one_of gone n ≡ true)
   kept-unless gone =
-      elim (is_among gone n) as (λ b. is_among gone n ≡ b → (is_some (copy_at (take_out gone w) n) ≡ true) ⊎ (is_among gone n ≡ true)) [
+      elim (is_one_of gone n) as (λ b. is_one_of gone n ≡ b → (is_some (copy_at (take_out gone w) n) ≡ true) ⊎ (is_one_of gone n ≡ true)) [
         | true ↦ λ goes. inr goes
         | false ↦ λ left. inl (ap is_some (copy_at-take_out w gone n ∙ ap (λ b. cond b None (copy_at w n)) left ∙ was))
       ] refl

@@ -1,9 +1,9 @@
 -- Segments that are grown.
-use Rattle.std.proofs.Common.{◌≡◌, ℕ, zero, suc, ◌+◌, ◌-◌, ◌<◌, ◌≤◌, Bool, true, false, cond, List, [], ◌∷◌, ◌++◌, get_or, length, replicate, Option, Some, None, inl, inr, refl, ap, sym, subst, ◌∙◌, arith}
+use Rattle.std.proofs.Common.{◌≡◌, ℕ, zero, suc, ◌+◌, ◌-◌, Bool, true, false, cond, List, [], ◌∷◌, ◌++◌, length, replicate, Option, Some, refl, ap, sym, ◌∙◌, arith}
 use Rattle.std.specs.List.{AllByRecursion, range_with_len}
 use Rattle.nl_types.specs.declared.segment.Position.{Position}
 use Rattle.nl_types.specs.declared.segment.SegmentInfo.{SegmentInfo}
-use Rattle.nl_types.specs.Segments.{AreTidy, IsTidy, IsUsed, Segments, active_from, active_place, clean_from, clean_info, clean_segments, grown_to, info_of, is_active, is_clean}
+use Rattle.nl_types.specs.Segments.{IsTidy, active_from, clean_from, clean_info, info_of, is_active, is_clean}
 use Rattle.nl_types.specs.GrowingLaws.{ActiveStays, CleanGrow, InfosStay, TidyStays, UsedStays}
 
 -- ---- clean segments behind others

@@ -2,18 +2,18 @@
 use Rattle.std.proofs.Common.{◌≡◌, ℕ, ◌+◌, ◌≤◌, ◌<◌, List, [], ◌∷◌, Some, None, inl, inr, sym, refl, ap, ◌∙◌, arith}
 use Rattle.std.specs.Prelude.{◌⊎◌}
 use Rattle.std.proofs.lemmas.Bool.{cases_Bool}
-use Rattle.nl_types.specs.PartialMaps.{is_one_of}
+use Rattle.nl_types.specs.NumberLists.{is_one_of}
 use Rattle.nl_types.specs.Entries.{Entry, birth_of}
-use Rattle.nl_types.proofs.WrittenEntries.{written-at}
-use Rattle.nl_types.specs.Lifetimes.{Ledger, LedgerEvent, IsLedger, EndsOnceSince, EndsSince, Write, Remove, Reclaim, numbers_at, Allowed, EachAllowed, ledger_after, ledger_after_all}
-use Rattle.nl_types.proofs.ExactLifetimes.{origin, end-Write, end-same, latest_grows, ledger_after-IsLedger}
+use Rattle.nl_types.specs.Facts.WrittenEntries.{written-at}
+use Rattle.nl_types.specs.Lifetimes.{Ledger, LedgerEvent, IsLedger, EndsOnceSince, EndsSince, Makes, Forgets, Frees, numbers_at, Allowed, EachAllowed, ledger_after, ledger_after_all}
+use Rattle.nl_types.specs.Facts.ExactLifetimes.{origin, end-Write, end-same, latest_grows, ledger_after-IsLedger}
 
 -- a number in use was in use before, from the same start, or has started since
 abbrev ComesFrom : Ledger → ℕ → Entry → Type 0
 ComesFrom old v f = ((e : Entry) × (old.content v ≡ Some e) × (e.start ≡ f.start)) ⊎ (old.latest < f.start)
 
 comes_from : (event : LedgerEvent) (ledger : Ledger) → Allowed event ledger → (v : ℕ) (f : Entry) → (ledger_after event ledger).content v ≡ Some f → ComesFrom ledger v f
-comes_from (Write births ends) ledger batch v f is =
+comes_from (Makes births ends) ledger batch v f is =
     let c = ledger.latest + 1 in
     elim (origin c (birth_of births v) (is_one_of ends v) (ledger.content v) f (sym (written-at births ends c ledger.content v batch.once) ∙ is)) [
       | inl born ↦ let start : c ≡ f.start = ap (λ (x : Entry). x.start) born.2 in inr (omega (arith, start))
@@ -22,8 +22,8 @@ comes_from (Write births ends) ledger batch v f is =
         | inr same ↦ inl (f, same.2, refl)
       ]
     ]
-comes_from (Remove c) ledger other v f is = inl (f, is, refl)
-comes_from (Reclaim gone) ledger unneeded v f is = elim (cases_Bool (gone v)) [
+comes_from (Forgets c) ledger other v f is = inl (f, is, refl)
+comes_from (Frees gone) ledger unneeded v f is = elim (cases_Bool (gone v)) [
   | inl t ↦ let none : None ≡ Some f = sym (rw t refl) ∙ is in absurd (cc)
   | inr t ↦ inl (f, sym (rw t refl) ∙ is, refl)
 ]
@@ -45,13 +45,13 @@ latest_grows_all (event ∷ events) ledger = omega (arith, latest_grows event le
 -- at one event
 ends_at : (event : LedgerEvent) (ledger : Ledger) → Allowed event ledger → (v : ℕ) (e f : Entry) → ledger.content v ≡ Some e
     → (ledger_after event ledger).content v ≡ Some f → (f.end ≡ e.end) ⊎ ((e.end ≡ None) × EndsSince ledger (ledger_after event ledger) f)
-ends_at (Write births ends) ledger batch v e f was is =
+ends_at (Makes births ends) ledger batch v e f was is =
     elim (end-Write ledger.content (numbers_at ledger ledger.latest) births ends (ledger.latest + 1) v e f batch was is) [
       | inl same ↦ inl same
       | inr ended ↦ inr (ended.0, record { checkpoint = ledger.latest + 1; is = ended.1; made = omega arith; there = omega arith })
     ]
-ends_at (Remove c) ledger other v e f was is = inl (end-same ledger.content v e f was is)
-ends_at (Reclaim gone) ledger unneeded v e f was is = elim (cases_Bool (gone v)) [
+ends_at (Forgets c) ledger other v e f was is = inl (end-same ledger.content v e f was is)
+ends_at (Frees gone) ledger unneeded v e f was is = elim (cases_Bool (gone v)) [
   | inl t ↦ let none : None ≡ Some f = sym (rw t refl) ∙ is in absurd (cc)
   | inr t ↦ inl (end-same ledger.content v e f was (sym (rw t refl) ∙ is))
 ]

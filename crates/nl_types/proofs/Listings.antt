@@ -10,29 +10,30 @@ use Rattle.std.specs.Ordering.{nat_cmp, is_lt}
 use Rattle.std.specs.FinMap.{is_sorted}
 use Rattle.std.specs.FinMap.Entries.{below_all}
 use Rattle.nl_types.specs.declared.row.Row.{Row}
-use Rattle.nl_types.specs.Rows.{find_row, is_shown, in_direction, at_most, is_among, row_with_mode, with_mode, without}
+use Rattle.nl_types.specs.NumberLists.{is_one_of}
+use Rattle.nl_types.specs.Rows.{find_row, is_shown, in_direction, at_most, row_with_mode, with_mode, without}
 use Rattle.nl_types.specs.declared.event.Mode.{Mode}
-use Rattle.nl_types.specs.Worlds.{Copy, row_of, rows, moded, copies_with_mode, copies_without}
+use Rattle.nl_types.specs.Worlds.{Copy, copy_row, rows, moded, copies_with_mode, copies_without}
 use Rattle.nl_types.specs.CheckpointLaws.{where_passes, are_numbers_rising, RowsTellOfCopies, ListingsShowSelected, ListingsAreInOrder, ListingsEndAtCount, RowsFollowRemovals, RowsFollowModes}
-use Rattle.nl_types.proofs.NumberedLists.{before-is}
-use Rattle.nl_types.proofs.NumberedParts.{list_all-filter}
-use Rattle.nl_types.proofs.ToldCopies.{find_row-copies}
+use Rattle.nl_types.specs.Facts.NumberedLists.{before-is}
+use Rattle.nl_types.specs.Facts.NumberedParts.{list_all-filter}
+use Rattle.nl_types.specs.Facts.ToldCopies.{find_row-copies}
 
 -- all rows have numbers above one
 abbrev AllAbove : ℕ → List Row → Type 0
 AllAbove n rs = list_all (λ later. ltb n later.number) rs ≡ true
 
-above-rows : (x : ℕ) (copies : List (ℕ × Copy)) → below_all nat_cmp x copies ≡ true → AllAbove x (map row_of copies)
+above-rows : (x : ℕ) (copies : List (ℕ × Copy)) → below_all nat_cmp x copies ≡ true → AllAbove x (map copy_row copies)
 above-rows x [] below = refl
 above-rows x (c ∷ copies) below =
     let parts = and_parts (is_lt (nat_cmp x c.0)) (below_all nat_cmp x copies) below in
-    and_from (ltb x c.0) (list_all (λ later. ltb x later.number) (map row_of copies)) (sym (before-is x c.0) ∙ parts.0) (above-rows x copies parts.1)
+    and_from (ltb x c.0) (list_all (λ later. ltb x later.number) (map copy_row copies)) (sym (before-is x c.0) ∙ parts.0) (above-rows x copies parts.1)
 
-rising-rows : (copies : List (ℕ × Copy)) → is_sorted nat_cmp copies ≡ true → are_numbers_rising (map row_of copies) ≡ true
+rising-rows : (copies : List (ℕ × Copy)) → is_sorted nat_cmp copies ≡ true → are_numbers_rising (map copy_row copies) ≡ true
 rising-rows [] sorted = refl
 rising-rows (c ∷ copies) sorted =
     let parts = and_parts (below_all nat_cmp c.0 copies) (is_sorted nat_cmp copies) sorted in
-    and_from (list_all (λ later. ltb c.0 later.number) (map row_of copies)) (are_numbers_rising (map row_of copies)) (above-rows c.0 copies parts.0) (rising-rows copies parts.1)
+    and_from (list_all (λ later. ltb c.0 later.number) (map copy_row copies)) (are_numbers_rising (map copy_row copies)) (above-rows c.0 copies parts.0) (rising-rows copies parts.1)
 
 -- those that pass a test rise too
 rising-filter : (p : Row → Bool) (rs : List Row) → are_numbers_rising rs ≡ true → are_numbers_rising (filter p rs) ≡ true
@@ -115,24 +116,24 @@ filter-reverse p (r ∷ rs) =
 same_front : {a b : Row} {xs ys : List Row} → a ≡ b → xs ≡ ys → a ∷ xs ≡ b ∷ ys
 same_front p q = cc
 
-rows-without : (gone : List ℕ) (copies : List (ℕ × Copy)) → map row_of (copies_without gone copies) ≡ without gone (map row_of copies)
+rows-without : (gone : List ℕ) (copies : List (ℕ × Copy)) → map copy_row (copies_without gone copies) ≡ without gone (map copy_row copies)
 rows-without gone [] = refl
 rows-without gone (c ∷ copies) =
     let rest = rows-without gone copies in
     let left = copies_without gone copies in
-    elim (is_among gone c.0) as (λ b. map row_of (cond (not b) (c ∷ left) left) ≡ cond (not b) (row_of c ∷ without gone (map row_of copies)) (without gone (map row_of copies))) [
+    elim (is_one_of gone c.0) as (λ b. map copy_row (cond (not b) (c ∷ left) left) ≡ cond (not b) (copy_row c ∷ without gone (map copy_row copies)) (without gone (map copy_row copies))) [
       | true ↦ rest
       | false ↦ same_front refl rest
     ]
 
-row-moded : (n : ℕ) (mode : Mode) (c : ℕ × Copy) → row_of (c.0, moded n mode c.0 c.1) ≡ row_with_mode n mode (row_of c)
+row-moded : (n : ℕ) (mode : Mode) (c : ℕ × Copy) → copy_row (c.0, moded n mode c.0 c.1) ≡ row_with_mode n mode (copy_row c)
 row-moded n mode c =
-    elim (c.0 == n) as (λ b. row_of (c.0, (let d : Copy = cond b (record c.1 { mode = mode }) c.1 in d)) ≡ cond b (let r : Row = record (row_of c) { mode = mode } in r) (row_of c)) [
+    elim (c.0 == n) as (λ b. copy_row (c.0, (let d : Copy = cond b (record c.1 { mode = mode }) c.1 in d)) ≡ cond b (let r : Row = record (copy_row c) { mode = mode } in r) (copy_row c)) [
       | true ↦ refl
       | false ↦ refl
     ]
 
-rows-moded : (n : ℕ) (mode : Mode) (copies : List (ℕ × Copy)) → map row_of (copies_with_mode n mode copies) ≡ with_mode n mode (map row_of copies)
+rows-moded : (n : ℕ) (mode : Mode) (copies : List (ℕ × Copy)) → map copy_row (copies_with_mode n mode copies) ≡ with_mode n mode (map copy_row copies)
 rows-moded n mode [] = refl
 rows-moded n mode (c ∷ copies) = same_front (row-moded n mode c) (rows-moded n mode copies)
 

@@ -5,13 +5,12 @@ use Rattle.std.specs.Option.{option_map, option_map_or}
 use Rattle.std.specs.Ordering.{nat_cmp, eq_by_cmp}
 use Rattle.std.specs.Cmp.{unsigned_tied}
 use Rattle.std.specs.FinMap.{find}
-use Rattle.nl_types.specs.declared.error.VolError.{VolError}
 use Rattle.nl_types.specs.declared.error.VolError.TheVariants as error
 use Rattle.nl_types.specs.Limits.{checkpoint_number_limit}
 use Rattle.nl_types.specs.Worlds.{World, Copy, IsWorld, Outcome, Reply, copy_at, latest, minor_copy, refused_if, with_minor}
 use Rattle.nl_types.specs.CheckpointLaws.{IdleMovesStay, MakesMinor, MovesMakeMinors}
-use Rattle.nl_types.proofs.NumberedLists.{AllBelow-top, find-push, find-push_same}
-use Rattle.nl_types.proofs.EventCases.{refused_if_gives}
+use Rattle.nl_types.specs.Facts.NumberedLists.{AllBelow-top, find-push, find-push_same}
+use Rattle.nl_types.specs.Facts.EventCases.{refused_if_gives}
 
 module _ (w : World) (now : ℕ) (world : IsWorld w) where
   made : (copy : Copy) → copy_at w (latest w) ≡ Some copy → MakesMinor now w (record w { copies = w.copies ++ (latest w + 1, minor_copy w now copy) ∷ [] })

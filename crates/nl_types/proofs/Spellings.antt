@@ -10,9 +10,9 @@ use Rattle.nl_types.specs.declared.error.VolError.{VolError}
 use Rattle.nl_types.specs.declared.error.VolError.TheVariants as error
 use Rattle.nl_types.specs.Paths.{Path, path_of, names_of, is_name, same_path}
 use Rattle.nl_types.specs.Laws.{PathsHaveOneSpelling, RenamesOfTwoPathsCount}
-use Rattle.nl_types.proofs.Booleans.{not_true}
-use Rattle.nl_types.proofs.TreeLaws.{same_path-equal}
-use Rattle.nl_types.proofs.Lookups.{same_path-itself}
+use Rattle.nl_types.specs.Facts.Booleans.{not_true}
+use Rattle.nl_types.specs.Facts.TreeLaws.{same_path-equal}
+use Rattle.nl_types.specs.Facts.Lookups.{same_path-itself}
 
 -- the names of a path spell it
 names_spell : (bytes : List ℕ) → IfOk (names_of bytes) (λ path. bytes ≡ join_with_byte 47 path)

@@ -22,7 +22,8 @@ MkdirsKeepTrees = (path : List ℕ) → KeepsTrees (λ tree. and_then (path_of p
 
 abbrev pub WritesKeepTrees : Type 0
 WritesKeepTrees =
-    (path : List ℕ) (offset : ℕ) (bytes : List ℕ) → KeepsTrees (λ tree. and_then (path_of path) (write tree offset bytes))
+    (path : List ℕ) (offset : ℕ) (bytes : List ℕ)
+    → KeepsTrees (λ tree. and_then (path_of path) (write tree offset bytes))
 
 abbrev pub TruncatesKeepTrees : Type 0
 TruncatesKeepTrees =
@@ -36,7 +37,8 @@ RmdirsKeepTrees = (path : List ℕ) → KeepsTrees (λ tree. and_then (path_of p
 
 abbrev pub RenamesKeepTrees : Type 0
 RenamesKeepTrees =
-    (from to : List ℕ) → KeepsTrees (λ tree. and_then (path_of from) (λ f. and_then (path_of to) (rename tree f)))
+    (from to : List ℕ)
+    → KeepsTrees (λ tree. and_then (path_of from) (λ f. and_then (path_of to) (rename tree f)))
 
 -- ---- what stands at every path
 
@@ -48,8 +50,8 @@ LeavesNodes nodes changed = IfOk changed (λ done. (q : Path) → lookup done.1 
 abbrev pub with_one : Tree → Path → Option Node → Path → Option Node
 with_one tree path node q = if same_path q path then node else lookup tree q
 
--- Every path that begins with `to` has what the path with `from` in its place had, however deep it is. None begins with
--- `from` any more, and every other path has what it had.
+-- Every path that begins with `to` has what the path with `from` in its place had, however deep it is. None
+-- begins with `from` any more, and every other path has what it had.
 abbrev pub with_moved : Tree → Path → Path → Path → Option Node
 with_moved tree from to q =
     if is_within to q then lookup tree (from ++ drop (length to) q)
@@ -59,7 +61,8 @@ with_moved tree from to q =
 -- a new node stands at its path
 abbrev pub CreatesAddOne : Type 0
 CreatesAddOne =
-    (tree : Tree) (node : Node) (path : Path) → LeavesNodes (with_one tree path (Some node)) (create tree node path)
+    (tree : Tree) (node : Node) (path : Path)
+    → LeavesNodes (with_one tree path (Some node)) (create tree node path)
 
 -- a write of at least one byte leaves the new bytes over the old ones, with zeros between
 abbrev pub WritesChangeOne : Type 0
@@ -76,7 +79,8 @@ WrittenSizes =
 
 -- a write of no bytes changes nothing
 abbrev pub EmptyWritesStay : Type 0
-EmptyWritesStay = (tree : Tree) (offset : ℕ) (path : Path) → tree_after tree (write tree offset [] path) ≡ tree
+EmptyWritesStay =
+    (tree : Tree) (offset : ℕ) (path : Path) → tree_after tree (write tree offset [] path) ≡ tree
 
 abbrev pub TruncatesChangeOne : Type 0
 TruncatesChangeOne =
@@ -104,7 +108,8 @@ RenamesMoveSubtree =
 abbrev pub RenamedIsBelow : Type 0
 RenamedIsBelow =
     (tree : Tree) (from to : Path) → IsTree tree
-    → IfOk (rename tree from to) (λ done. (rest : Path) → lookup done.1 (to ++ rest) ≡ lookup tree (from ++ rest))
+    → IfOk (rename tree from to)
+    (λ done. (rest : Path) → lookup done.1 (to ++ rest) ≡ lookup tree (from ++ rest))
 
 -- a rename to the same path changes nothing
 abbrev pub RenamesOntoThemselvesStay : Type 0

@@ -1,4 +1,5 @@
--- What moves, changes of modes, removals, expiries, unmounts and listings do, in words that do not speak of how copies are listed.
+-- What moves, changes of modes, removals, expiries, unmounts and listings do, in words that do not speak of
+-- how copies are listed.
 use Rattle.std.specs.Prelude.{◌≡◌, ◌≢◌, ℕ, ◌+◌, ◌-◌, ◌≤◌, ◌==◌, Bool, true, false, ◌&&◌, ◌||◌, not, if◌then◌else◌, nat_le, nat_lt, IsTrue, List, [], ◌∷◌, map, take, Option, None, Some, Result, Ok, Err}
 use Rattle.nl_types.specs.declared.error.VolError.{VolError}
 use Rattle.std.specs.Option.{option_map, option_map_or}
@@ -12,8 +13,9 @@ use Rattle.nl_types.specs.declared.reply.Answer.TheVariants.{Done, Expired, Remo
 use Rattle.nl_types.specs.declared.row.ListOptions.{ListOptions}
 use Rattle.nl_types.specs.declared.row.Range.{Range}
 use Rattle.nl_types.specs.declared.row.Row.{Row}
-use Rattle.nl_types.specs.Rows.{is_snapshot, is_among, find_row, is_shown, in_direction, listing, range_removal, with_mode, without}
-use Rattle.nl_types.specs.Worlds.{World, Copy, IsWorld, Reply, step, boundary_of, copy_at, expiry_of, is_moving, latest, minor_copy, row_of, rows, take_out, copies_with_mode}
+use Rattle.nl_types.specs.NumberLists.{is_one_of}
+use Rattle.nl_types.specs.Rows.{is_snapshot, find_row, is_shown, in_direction, listing, range_removal, with_mode, without}
+use Rattle.nl_types.specs.Worlds.{World, Copy, IsWorld, Reply, step, boundary_of, copy_at, expiry_of, is_moving, latest, minor_copy, copy_row, rows, take_out, copies_with_mode}
 use Rattle.nl_types.specs.Runs.{Run}
 
 -- what there is, if it passes the test
@@ -23,7 +25,8 @@ where_passes test (Some x) = if test x then Some x else None
 
 -- ---- minor copies
 
--- there is one copy more, under the next number: the latest one once more, plain and minor, with the raised stamp
+-- there is one copy more, under the next number: the latest one once more, plain and minor, with the raised
+-- stamp
 pub record MakesMinor (now : ℕ) (old new : World) : Type 0 where
   pub made : copy_at new (latest old + 1) ≡ option_map (minor_copy old now) (copy_at old (latest old))
   pub others : (n : ℕ) → n ≢ latest old + 1 → copy_at new n ≡ copy_at old n
@@ -61,7 +64,7 @@ abbrev pub RemovalsTakeOne : Type 0
 RemovalsTakeOne =
     (cleaned : Reply) (old new : World) (n : ℕ) (answer : Answer)
     → step cleaned old (Remove n) ≡ (Ok answer, new)
-    → (k : ℕ) → copy_at new k ≡ (if n == k then None else copy_at old k)
+    → (k : ℕ) → copy_at new k ≡ (if k == n then None else copy_at old k)
 
 -- a plain copy between two numbers that is not the latest one
 abbrev pub is_removable : World → (first last n : ℕ) → Copy → Bool
@@ -73,14 +76,16 @@ abbrev pub RangesTakeRemovable : Type 0
 RangesTakeRemovable =
     (cleaned : Reply) (old new : World) (first last : ℕ) (range : Range)
     → IsWorld old → step cleaned old (RemoveRange first last) ≡ (Ok (Removed range), new)
-    → (n : ℕ) → copy_at new n ≡ where_passes (λ copy. not (is_removable old first last n copy)) (copy_at old n)
+    → (n : ℕ) → copy_at new n
+    ≡ where_passes (λ copy. not (is_removable old first last n copy)) (copy_at old n)
 
 -- and answers exactly their numbers
 abbrev pub RangesAnswerRemovable : Type 0
 RangesAnswerRemovable =
     (cleaned : Reply) (old new : World) (first last : ℕ) (range : Range)
     → IsWorld old → step cleaned old (RemoveRange first last) ≡ (Ok (Removed range), new)
-    → (n : ℕ) → is_among range.removed n ≡ option_map_or (is_removable old first last n) (copy_at old n) false
+    → (n : ℕ)
+    → is_one_of range.removed n ≡ option_map_or (is_removable old first last n) (copy_at old n) false
 
 -- it is the removal of each number that it answers, one after another, and none of these is refused
 abbrev pub RangesAreRemovals : Type 0
@@ -98,7 +103,8 @@ is_protected_at w now period n = option_map_or (λ copy. nat_lt now (copy.stamp 
 
 -- where the period protects copies, it is the least number of these, and else the latest number
 pub record IsBoundary (w : World) (now period b : ℕ) : Type 0 where
-  pub protects : (n : ℕ) → IsTrue (is_protected_at w now period n) → IsTrue (is_protected_at w now period b) × (b ≤ n)
+  pub protects : (n : ℕ) → IsTrue (is_protected_at w now period n)
+      → IsTrue (is_protected_at w now period b) × (b ≤ n)
   pub falls_back : ((n : ℕ) → is_protected_at w now period n ≡ false) → b ≡ latest w
 
 abbrev pub BoundariesAreLeastProtected : Type 0
@@ -122,7 +128,7 @@ abbrev pub ExpiriesAnswerExpiring : Type 0
 ExpiriesAnswerExpiring =
     (cleaned : Reply) (old new : World) (now period : ℕ) (gone : List ℕ)
     → IsWorld old → step cleaned old (Expire now period) ≡ (Ok (Expired gone), new)
-    → (n : ℕ) → is_among gone n ≡ option_map_or (is_expiring old now period n) (copy_at old n) false
+    → (n : ℕ) → is_one_of gone n ≡ option_map_or (is_expiring old now period n) (copy_at old n) false
 
 -- what the removal of a range takes out: nothing where it is refused
 abbrev pub removed_by : Result Range VolError → List ℕ
@@ -148,7 +154,8 @@ UnmountsTakeOne =
 
 -- there is a row of each copy
 abbrev pub RowsTellOfCopies : Type 0
-RowsTellOfCopies = (w : World) (n : ℕ) → find_row n (rows w) ≡ option_map (λ copy. row_of (n, copy)) (copy_at w n)
+RowsTellOfCopies =
+    (w : World) (n : ℕ) → find_row n (rows w) ≡ option_map (λ copy. copy_row (n, copy)) (copy_at w n)
 
 -- rows change as copies do
 abbrev pub RowsFollowRemovals : Type 0
@@ -168,7 +175,8 @@ ListingsShowSelected =
 -- each row has a smaller number than all later ones
 abbrev pub are_numbers_rising : List Row → Bool
 are_numbers_rising [] = true
-are_numbers_rising (row ∷ rows) = list_all (λ later. nat_lt row.number later.number) rows && are_numbers_rising rows
+are_numbers_rising (row ∷ rows) =
+    list_all (λ later. nat_lt row.number later.number) rows && are_numbers_rising rows
 
 -- and its numbers rise, or fall where it is reversed
 abbrev pub ListingsAreInOrder : Type 0

@@ -11,7 +11,8 @@ IsDecimal word = IsNumeral 10 word × (digits_value 10 word < 2 ^ 64)
 -- the same as a test
 abbrev pub is_decimal : List ℕ → Bool
 is_decimal word =
-    nat_lt 0 (length word) && (list_all (λ d. nat_lt (digit_value d) 10) word && nat_lt (digits_value 10 word) (2 ^ 64))
+    nat_lt 0 (length word)
+    && (list_all (λ d. nat_lt (digit_value d) 10) word && nat_lt (digits_value 10 word) (2 ^ 64))
 
 abbrev pub decimal_in : List ℕ → Option ℕ
 decimal_in word = cond (is_decimal word) (Some (digits_value 10 word)) None

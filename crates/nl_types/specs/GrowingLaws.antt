@@ -8,7 +8,8 @@ abbrev pub InfosStay : Type 0
 InfosStay = (n i : ℕ) (s : Segments) → info_of (grown_to n s).each i ≡ info_of s.each i
 
 abbrev pub UsedStays : Type 0
-UsedStays = (n b : ℕ) (s : Segments) → (IsUsed s b → IsUsed (grown_to n s) b) × (IsUsed (grown_to n s) b → IsUsed s b)
+UsedStays =
+    (n b : ℕ) (s : Segments) → (IsUsed s b → IsUsed (grown_to n s) b) × (IsUsed (grown_to n s) b → IsUsed s b)
 
 abbrev pub TidyStays : Type 0
 TidyStays = (n : ℕ) (s : Segments) → AreTidy s → AreTidy (grown_to n s)

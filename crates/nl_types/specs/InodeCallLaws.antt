@@ -1,5 +1,5 @@
--- What file calls have to do with inodes: each call is judged by these as by the tree, and what it does to these is what
--- it does to the tree.
+-- What file calls have to do with inodes: each call is judged by these as by the tree, and what it does to
+-- these is what it does to the tree.
 use Rattle.std.specs.Prelude.{◌≡◌, ℕ, Bool, false, ◌+◌, ◌-◌, true, ◌<◌, ◌≤◌, if◌then◌else◌, List, [], ◌∷◌, ◌++◌, length, Some, None, Ok, Err}
 use Rattle.nl_types.specs.declared.error.VolError.TheVariants.{Exists, BadPath}
 use Rattle.nl_types.specs.declared.reply.Answer.{Answer}
@@ -121,7 +121,8 @@ RenamesLead =
     → judge_rename old listing (from_dir ++ from_name ∷ []) to_dir to_name ≡ Ok true
     → IsNamed old from_dir from_name from (Some link) → IsNamed old to_dir to_name to None
     → Moves old new from from_name to to_name link
-    → LeadsTo (rename tree (from_dir ++ from_name ∷ []) (to_dir ++ to_name ∷ [])) answer.Done new (length tree)
+    → LeadsTo (rename tree (from_dir ++ from_name ∷ []) (to_dir ++ to_name ∷ [])) answer.Done new
+    (length tree)
 
 -- the same, where it takes the place of another inode
 abbrev pub RenamesOntoLead : Type 0
@@ -132,4 +133,5 @@ RenamesOntoLead =
     → judge_rename old listing (from_dir ++ from_name ∷ []) to_dir to_name ≡ Ok true
     → IsNamed old from_dir from_name from (Some link) → IsNamed old to_dir to_name to (Some target)
     → MovesOnto old new from from_name to to_name link target.0
-    → LeadsTo (rename tree (from_dir ++ from_name ∷ []) (to_dir ++ to_name ∷ [])) answer.Done new (length tree - 1)
+    → LeadsTo (rename tree (from_dir ++ from_name ∷ []) (to_dir ++ to_name ∷ [])) answer.Done new
+    (length tree - 1)

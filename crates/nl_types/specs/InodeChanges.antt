@@ -15,17 +15,20 @@ use Rattle.nl_types.specs.Inodes.{Link, InodeContent, Bytes, Records, Inodes, re
 -- ---- changes of records
 
 -- the inode holds what it held, its records changed
-abbrev pub HoldsChanged : (Name → Option Link → Option Link) → Option InodeContent → Option InodeContent → Type 0
+abbrev pub HoldsChanged : (Name → Option Link → Option Link) → Option InodeContent → Option InodeContent
+    → Type 0
 HoldsChanged change None new = new ≡ None
 HoldsChanged change (Some (Bytes bytes)) new = new ≡ Some (Bytes bytes)
 HoldsChanged change (Some (Records records)) new =
-    (changed : Name → Option Link) × (new ≡ Some (Records changed)) × ((n : Name) → changed n ≡ change n (records n))
+    (changed : Name → Option Link) × (new ≡ Some (Records changed))
+    × ((n : Name) → changed n ≡ change n (records n))
 
 -- the record of a name in a directory
 unfoldable pub put_record : ℕ → Name → Option Link → ℕ → Name → Option Link → Option Link
 put_record dir name link i n old = if (i == dir) && same_name n name then link else old
 
--- the record of one name taken out of a directory, and put under another name into a directory, maybe the same
+-- the record of one name taken out of a directory, and put under another name into a directory, maybe the
+-- same
 abbrev pub move_record : ℕ → Name → ℕ → Name → Option Link → ℕ → Name → Option Link → Option Link
 move_record from from_name to to_name link i n old =
     put_record to to_name link i n (put_record from from_name None i n old)
@@ -75,7 +78,8 @@ Moves old new from from_name to to_name link =
     (i : ℕ) → HoldsChanged (move_record from from_name to to_name (Some link) i) (old i) (new i)
 
 -- the same, where the record at `to` was another inode's, which is gone
-pub record MovesOnto (old new : Inodes) (from : ℕ) (from_name : Name) (to : ℕ) (to_name : Name) (link : Link) (inode : ℕ) : Type 0 where
+pub record MovesOnto (old new : Inodes) (from : ℕ) (from_name : Name) (to : ℕ) (to_name : Name) (link : Link)
+    (inode : ℕ) : Type 0 where
   pub gone : new inode ≡ None
   pub others : (i : ℕ) → (i ≡ inode → ⊥)
       → HoldsChanged (move_record from from_name to to_name (Some link) i) (old i) (new i)
@@ -103,7 +107,8 @@ pub record Removes (old new : Inodes) (dir : Path) (name : Name) : Type 0 where
   pub bare : IsBare held
   pub drops : Drops old new parent.inode name link.0
 
-pub record Renames (old new : Inodes) (from_dir : Path) (from_name : Name) (to_dir : Path) (to_name : Name) : Type 0 where
+pub record Renames (old new : Inodes) (from_dir : Path) (from_name : Name) (to_dir : Path)
+    (to_name : Name) : Type 0 where
   pub from : HasRecords old from_dir
   pub to : HasRecords old to_dir
   pub link : Link
@@ -112,7 +117,8 @@ pub record Renames (old new : Inodes) (from_dir : Path) (from_name : Name) (to_d
   pub outside : is_within (reverse (from_name ∷ from_dir)) (reverse (to_name ∷ to_dir)) ≡ false
   pub moves : Moves old new from.inode from_name to.inode to_name link
 
-pub record Replaces (old new : Inodes) (from_dir : Path) (from_name : Name) (to_dir : Path) (to_name : Name) : Type 0 where
+pub record Replaces (old new : Inodes) (from_dir : Path) (from_name : Name) (to_dir : Path)
+    (to_name : Name) : Type 0 where
   pub from : HasRecords old from_dir
   pub to : HasRecords old to_dir
   pub link : Link

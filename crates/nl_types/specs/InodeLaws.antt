@@ -10,7 +10,7 @@ use Rattle.nl_types.specs.Limits.{file_limit, path_limit, root_inode, first_inod
 use Rattle.nl_types.specs.Paths.{Name, Path, is_name}
 use Rattle.nl_types.specs.Calls.{and_then, walk, node_at}
 use Rattle.nl_types.specs.Trees.{Tree, IsTree, root_alone, lookup, insert, remove, move_subtree, children}
-use Rattle.nl_types.specs.Inodes.{Link, InodeContent, Bytes, Records, Inodes, MeansTree, found, reached}
+use Rattle.nl_types.specs.Inodes.{Link, InodeContent, Bytes, Records, Inodes, MeansTree, found_node, reached}
 use Rattle.nl_types.specs.InodeChanges.{HasRecords, ListsRecords, Creates, Rewrites, Removes, Renames, Replaces}
 use Rattle.nl_types.specs.Resolving.{resolve, record_in, as_dir, node_in}
 
@@ -85,7 +85,7 @@ FullVolumesAreTooBig =
 abbrev pub WalksFind : Type 0
 WalksFind =
     (inodes : Inodes) (tree : Tree) → MeansTree inodes tree
-    → (path : Path) → found inodes path ≡ lookup tree (reverse path)
+    → (path : Path) → found_node inodes path ≡ lookup tree (reverse path)
 
 -- the walk over inodes to a path finds what the tree has there, or is refused as the tree refuses
 abbrev pub NodesByInodes : Type 0
@@ -138,7 +138,7 @@ InodesMeanOneTree =
 
 -- the numbers, names and sizes that inodes may have
 pub record AreWithinLimits (inodes : Inodes) : Type 0 where
-  pub numbers : (i : ℕ) (held : InodeContent) → inodes i ≡ Some held
+  pub inode_numbers : (i : ℕ) (held : InodeContent) → inodes i ≡ Some held
       → (i ≡ root_inode) ⊎ ((first_inode ≤ i) × (i ≤ last_inode))
   pub names : (i : ℕ) (records : Name → Option Link) (n : Name) (link : Link)
       → inodes i ≡ Some (Records records) → records n ≡ Some link → IsTrue (is_name n)

@@ -1,12 +1,13 @@
--- What a volume's inodes hold, and the tree that they stand for. An upward path is the list of its names with the last
--- one first, so that the parent of `n ∷ p` is `p`.
-use Rattle.std.specs.Prelude.{◌≡◌, ℕ, IsTrue, List, [], ◌∷◌, reverse, Option, Some, None}
+-- What a volume's inodes hold, and the tree that they stand for. An upward path is the list of its names with
+-- the last one first, so that the parent of `n ∷ p` is `p`.
+use Rattle.std.specs.Prelude.{◌≡◌, ◌≤◌, ◌<◌, ℕ, IsTrue, IsSome, List, [], ◌∷◌, reverse, Option, Some, None}
 use Rattle.std.specs.Option.{is_some, option_map, option_and_then, option_zip}
 use Rattle.std.specs.FinMap.{is_sorted}
 use Rattle.nl_types.specs.declared.kind.Kind.{Kind}
 use Rattle.nl_types.specs.declared.reply.Node.{Node}
 use Rattle.nl_types.specs.declared.reply.Node.TheVariants.{Dir, File}
-use Rattle.nl_types.specs.Limits.{root_inode}
+use Rattle.nl_types.specs.Limits.{last_inode, root_inode}
+use Rattle.nl_types.specs.PartialMaps.{Partial}
 use Rattle.nl_types.specs.Paths.{Name, Path, path_cmp}
 use Rattle.nl_types.specs.Trees.{Tree, lookup, node_kind}
 
@@ -21,6 +22,19 @@ pub data InodeContent : Type 0 where
 
 abbrev pub Inodes : Type 0
 Inodes = ℕ → Option InodeContent
+
+-- ---- free numbers
+
+-- all numbers from one up to, and without, another are in use
+abbrev pub AreInUseFrom : {X : Type 0} → Partial X → (from end : ℕ) → Type 0
+AreInUseFrom inodes from end = (n : ℕ) → from ≤ n → n < end → IsSome (inodes n)
+
+-- the lowest number from one on that is free
+pub record IsLowestFreeInode {X : Type 0} (inodes : Partial X) (from n : ℕ) : Type 0 where
+  pub first : from ≤ n
+  pub last : n ≤ last_inode
+  pub free : inodes n ≡ None
+  pub lowest : AreInUseFrom inodes from n
 
 -- ---- a walk by directories
 
@@ -39,8 +53,8 @@ node_of (Bytes bytes) = File bytes
 node_of (Records records) = Dir
 
 -- what a walk finds
-abbrev pub found : Inodes → Path → Option Node
-found inodes p = option_map node_of (option_and_then inodes (reached inodes p))
+abbrev pub found_node : Inodes → Path → Option Node
+found_node inodes p = option_map node_of (option_and_then inodes (reached inodes p))
 
 -- ---- the tree that they stand for
 
@@ -57,8 +71,8 @@ pub record IsRooted (tree : Path → Option Node) : Type 0 where
 abbrev pub record_of : (Path → Option Node) → (Path → Option ℕ) → Path → Option Link
 record_of tree inode_of p = option_zip (inode_of p) (option_map node_kind (tree p))
 
--- the paths of the tree and the inodes in use are paired one to one, the root with its own number, such that a directory's
--- inode has its children's names as records and a file's inode has its bytes
+-- the paths of the tree and the inodes in use are paired one to one, the root with its own number, such that
+-- a directory's inode has its children's names as records and a file's inode has its bytes
 pub record Pairs (inodes : Inodes) (tree : Path → Option Node) (inode_of : Path → Option ℕ) : Type 0 where
   pub root : inode_of [] ≡ Some root_inode
   pub paths : (p : Path) → is_some (inode_of p) ≡ is_some (tree p)

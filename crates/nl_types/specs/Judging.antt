@@ -1,5 +1,6 @@
--- How calls are judged by inodes alone. Each answers what the call on the tree answers, with the same refusals in the
--- same order. A path that is not the root is given as its directory and its last name, where calls look there.
+-- How calls are judged by inodes alone. Each answers what the call on the tree answers, with the same
+-- refusals in the same order. A path that is not the root is given as its directory and its last name, where
+-- calls look there.
 use Rattle.std.specs.Prelude.{◌≡◌, ℕ, Bool, true, false, ◌&&◌, ◌||◌, if◌then◌else◌, nat_lt, List, [], ◌∷◌, ◌++◌, map, length, is_some, Option, None, Some, Result, Ok, Err}
 use Rattle.nl_types.specs.declared.error.VolError.{VolError}
 use Rattle.nl_types.specs.declared.error.VolError.TheVariants.{NotDir, IsDir, Exists, NotEmpty, BadPath, IntoItself, TooBig}
@@ -22,7 +23,8 @@ Listing = ℕ → List (Name × Link)
 -- the lists of directories have their records, ascending
 abbrev pub IsListing : Inodes → Listing → Type 0
 IsListing inodes listing =
-    (i : ℕ) (records : Name → Option Link) → inodes i ≡ Some (Records records) → ListsRecords records (listing i)
+    (i : ℕ) (records : Name → Option Link) → inodes i ≡ Some (Records records)
+    → ListsRecords records (listing i)
 
 -- ---- files
 
@@ -93,7 +95,8 @@ abbrev pub shown : Name × Link → Named
 shown r = record { name = r.0; kind = r.1.1 }
 
 abbrev pub judge_list : Inodes → Listing → Path → Result (List Named) VolError
-judge_list inodes listing path = and_then (resolve inodes path) (λ at. and_then (as_dir at) (λ _. Ok (map shown (listing at.0))))
+judge_list inodes listing path =
+    and_then (resolve inodes path) (λ at. and_then (as_dir at) (λ _. Ok (map shown (listing at.0))))
 
 abbrev pub stat_in : Inodes → Listing → Link → Stat
 stat_in inodes listing (i, kind.Directory) = status.Dir (length (listing i))

@@ -1,10 +1,11 @@
 -- What checkpoints and their removal do to needs.
 use Rattle.std.specs.Prelude.{◌≡◌, ◌⊎◌, ℕ, ◌+◌, ◌<◌, ◌≤◌, true, false, List, [], ◌∷◌, ◌++◌, None, Some}
-use Rattle.nl_types.specs.PartialMaps.{is_one_of}
+use Rattle.nl_types.specs.NumberLists.{is_one_of}
 use Rattle.nl_types.specs.Entries.{Birth, Content, Entry, GivenOnce, birth_of, is_needed, written}
 use Rattle.nl_types.specs.Lifetimes.{IsBounded}
 
--- A checkpoint leaves every number in use as needed as it was: what ends is needed by the one before it, which is kept.
+-- A checkpoint leaves every number in use as needed as it was: what ends is needed by the one before it,
+-- which is kept.
 abbrev pub CheckpointsKeepNeeds : Type 0
 CheckpointsKeepNeeds =
     (births : List Birth) (ends kept : List ℕ) (latest v : ℕ) (content : Content) (e f : Entry)
@@ -26,8 +27,8 @@ RemovalsNeedNoMore =
     (first next : ℕ) (kept stay : List ℕ) (e : Entry) → AreGone first next kept stay
     → is_needed stay e ≡ true → is_needed kept e ≡ true
 
--- What was needed and isn't any more has ended in one run: behind the first removed checkpoint, and not behind the next one
--- that stays.
+-- What was needed and isn't any more has ended in one run: behind the first removed checkpoint, and not
+-- behind the next one that stays.
 abbrev pub LostNumbersEndInTheRun : Type 0
 LostNumbersEndInTheRun =
     (first next : ℕ) (kept stay : List ℕ) (e : Entry) → AreGone first next kept stay

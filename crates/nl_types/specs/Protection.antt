@@ -37,5 +37,5 @@ expired boundary latest rows = removable latest (filter (is_below boundary) rows
 abbrev pub is_staying : (below : ℕ) → Row → Bool
 is_staying below row = is_snapshot row.mode || nat_le below row.number
 
-abbrev pub staying : (below : ℕ) → List Row → List ℕ
-staying below rows = map number_of (filter (is_staying below) rows)
+abbrev pub staying_numbers : (below : ℕ) → List Row → List ℕ
+staying_numbers below rows = map number_of (filter (is_staying below) rows)

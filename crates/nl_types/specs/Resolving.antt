@@ -24,7 +24,8 @@ step_to inodes (i, kind.Directory) name = ok_or (record_in (inodes i) name) NotF
 -- the walk by these names from an inode
 abbrev pub resolve_from : Inodes → Link → Path → Result Link VolError
 resolve_from inodes at [] = Ok at
-resolve_from inodes at (name ∷ names) = and_then (step_to inodes at name) (λ next. resolve_from inodes next names)
+resolve_from inodes at (name ∷ names) =
+    and_then (step_to inodes at name) (λ next. resolve_from inodes next names)
 
 -- the walk from the root
 abbrev pub resolve : Inodes → Path → Result Link VolError
@@ -40,6 +41,7 @@ abbrev pub node_in : Inodes → Link → Option Node
 node_in inodes at = option_map node_of (inodes at.0)
 
 -- the walk to a directory comes to this inode, where the name has this record
-pub record IsNamed (inodes : Inodes) (dir : Path) (name : Name) (inode : ℕ) (link : Option Link) : Type 0 where
+pub record IsNamed (inodes : Inodes) (dir : Path) (name : Name) (inode : ℕ)
+    (link : Option Link) : Type 0 where
   pub resolved : resolve inodes dir ≡ Ok (inode, kind.Directory)
   pub has : record_in (inodes inode) name ≡ link

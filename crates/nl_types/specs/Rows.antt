@@ -1,5 +1,5 @@
 -- What is told of kept checkpoints, and which of them may be removed. Rows ascend by their numbers.
-use Rattle.std.specs.Prelude.{ℕ, ◌==◌, Bool, true, false, ◌&&◌, ◌||◌, not, if◌then◌else◌, nat_lt, nat_le, List, [], ◌∷◌, map, length, reverse, take, Option, None, Some, Result, Ok, Err}
+use Rattle.std.specs.Prelude.{ℕ, ◌==◌, Bool, true, false, ◌&&◌, ◌||◌, not, if◌then◌else◌, nat_lt, nat_le, List, map, length, reverse, take, Option, None, Some, Result, Ok, Err}
 use Rattle.std.specs.Option.{is_none, ok_or, option_map, option_map_or}
 use Rattle.std.specs.List.{filter, filter_map, list_any}
 use Rattle.std.specs.List as list
@@ -8,6 +8,7 @@ use Rattle.nl_types.specs.declared.error.VolError.TheVariants as error
 use Rattle.nl_types.specs.declared.event.Mode.{Mode}
 use Rattle.nl_types.specs.declared.event.Mode.TheVariants.{Plain, Snapshot}
 use Rattle.nl_types.specs.Calls.{and_then, ok_unless}
+use Rattle.nl_types.specs.NumberLists.{is_one_of}
 use Rattle.nl_types.specs.declared.row.ListOptions.{ListOptions}
 use Rattle.nl_types.specs.declared.row.Range.{Range}
 use Rattle.nl_types.specs.declared.row.Row.{Row}
@@ -41,18 +42,15 @@ mode_change n rows = and_then (kept_row n rows) (λ _. Ok tt)
 
 -- ---- removals
 
-abbrev pub is_among : List ℕ → ℕ → Bool
-is_among [] n = false
-is_among (m ∷ ms) n = m == n || is_among ms n
-
 -- the rows without those of some numbers
 abbrev pub without : List ℕ → List Row → List Row
-without gone rows = filter (λ row. not (is_among gone row.number)) rows
+without gone rows = filter (λ row. not (is_one_of gone row.number)) rows
 
 -- why a kept checkpoint can't be removed: a snapshot stays, and so does the latest
 abbrev pub reason_to_stay : (latest : ℕ) → Row → Option VolError
 reason_to_stay latest row =
-    if is_snapshot row.mode then Some error.IsSnapshot else (if row.number == latest then Some error.Latest else None)
+    if is_snapshot row.mode then Some error.IsSnapshot
+    else (if row.number == latest then Some error.Latest else None)
 
 abbrev pub may_go : (latest : ℕ) → Row → Bool
 may_go latest row = is_none (reason_to_stay latest row)
@@ -64,22 +62,23 @@ removal n latest rows = and_then (kept_row n rows) (λ row. ok_unless (reason_to
 abbrev pub is_between : (first last : ℕ) → Row → Bool
 is_between first last row = nat_le first row.number && nat_le row.number last
 
-abbrev pub between : (first last : ℕ) → List Row → List Row
-between first last rows = filter (is_between first last) rows
+abbrev pub rows_between : (first last : ℕ) → List Row → List Row
+rows_between first last rows = filter (is_between first last) rows
 
 -- the numbers of those that may go
 abbrev pub removable : (latest : ℕ) → List Row → List ℕ
 removable latest rows = map number_of (filter (may_go latest) rows)
 
 abbrev pub stay_of : (latest : ℕ) → Row → Option Stays
-stay_of latest row = option_map (λ reason. record { number = row.number; reason = reason }) (reason_to_stay latest row)
+stay_of latest row =
+    option_map (λ reason. record { number = row.number; reason = reason }) (reason_to_stay latest row)
 
 -- each that stays, with the reason
-abbrev pub staying : (latest : ℕ) → List Row → List Stays
-staying latest rows = filter_map (stay_of latest) rows
+abbrev pub stays_of : (latest : ℕ) → List Row → List Stays
+stays_of latest rows = filter_map (stay_of latest) rows
 
-abbrev pub judged : (latest : ℕ) → List Row → Range
-judged latest found = record { removed = removable latest found; stayed = staying latest found }
+abbrev pub judged_range : (latest : ℕ) → List Row → Range
+judged_range latest found = record { removed = removable latest found; stayed = stays_of latest found }
 
 abbrev pub is_empty_range : Range → Bool
 is_empty_range range = length range.removed == 0 && length range.stayed == 0
@@ -92,7 +91,7 @@ abbrev pub range_removal : (first last latest : ℕ) → List Row → Result Ran
 range_removal first last latest rows =
     if is_no_range first last then Err error.BadRange else (
     if not (list_any (is_between first last) rows) then Err error.NoCheckpoint else (
-    Ok (judged latest (between first last rows))))
+    Ok (judged_range latest (rows_between first last rows))))
 
 -- ---- listings
 
@@ -102,7 +101,8 @@ in_direction reversed rows = if reversed then reverse rows else rows
 
 abbrev pub is_from : ListOptions → Row → Bool
 is_from options row =
-    option_map_or (λ n. if options.reverse then nat_le row.number n else nat_le n row.number) options.from true
+    option_map_or
+    (λ n. if options.reverse then nat_le row.number n else nat_le n row.number) options.from true
 
 -- a plain minor checkpoint is shown only where minor ones are asked for
 abbrev pub is_wanted : ListOptions → Row → Bool

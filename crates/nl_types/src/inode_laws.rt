@@ -1,4 +1,5 @@
-//! What inodes and the tree that they stand for have to do with one another, as contracts of functions that do nothing.
+//! What inodes and the tree that they stand for have to do with one another, as contracts of functions that
+//! do nothing.
 ghost use Rattle.nl_types.specs.InodeLaws.{CreatesInsert, RewritesInsert, RemovesRemove, RenamesMove, ReplacesMove, ChildrenAreRecords, FullVolumesAreTooBig, WalksFind, NodesByInodes, ParentsByInodes, ChildrenByRecords, DirectoriesHoldRecords, FilesHoldBytes, InodesMeanOneTree, NewInodesMeanTheRoot, LimitedInodesMeanTrees};
 ghost use Rattle.nl_types.specs.InodeCallLaws.{FilesAreJudged, CreatesAreJudged, RmdirsAreJudged, RenamesAreJudged, ListsAreJudged, StatsAreJudged, RootIsThere, RootStays, CreatesLead, WritesLead, TruncatesLead, UnlinksLead, RmdirsLead, RenamesLead, RenamesOntoLead};
 

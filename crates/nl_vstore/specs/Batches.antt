@@ -2,7 +2,7 @@
 use Rattle.std.specs.Prelude.{◌≡◌, ℕ, zero, suc, ◌+◌, ◌-◌, ◌≤◌, ◌<◌, ◌==◌, ◌||◌, Bool, true, false, List, [], ◌∷◌, ◌++◌, length, map, is_some, is_none, slice_get, Option, None, Some}
 use Rattle.std.specs.List.{list_any}
 use Rattle.std.specs.Option.{option_map_or}
-use Rattle.nl_types.specs.PartialMaps.{is_one_of}
+use Rattle.nl_types.specs.NumberLists.{is_one_of}
 use Rattle.nl_types.specs.Segments.{Segments}
 use Rattle.nl_types.specs.Placing.{LacksSpace}
 use Rattle.nl_types.specs.Entries.{Place, Birth, Entry, Content, number_of, GivenOnce}
@@ -66,7 +66,8 @@ pub record IsLowestFree (content : Content) (births : List Birth) (v : ℕ) : Ty
 -- each birth has the lowest number that is free when its turn comes, behind the births before it
 abbrev pub TakeLowestFree : Content → List Birth → List Birth → Type 0
 TakeLowestFree content before [] = Unit {0}
-TakeLowestFree content before (b ∷ births) = IsLowestFree content before b.number × TakeLowestFree content (before ++ b ∷ []) births
+TakeLowestFree content before (b ∷ births) =
+    IsLowestFree content before b.number × TakeLowestFree content (before ++ b ∷ []) births
 
 -- no list of logs fits so many blocks, or more
 abbrev pub LacksSpaceFrom : Segments → ℕ → Type 0
@@ -80,7 +81,7 @@ is_live None = false
 is_live (Some e) = is_none e.end
 
 -- births take the lowest free numbers, none above the capacity; the numbers that end are live
-pub record Fits (capacity : ℕ) (content : Content) (changes : Changes) : Type 0 where
+pub record CanBeTaken (capacity : ℕ) (content : Content) (changes : Changes) : Type 0 where
   pub inside : last_number changes.births ≤ capacity + length changes.births
   pub once : GivenOnce changes.births
   pub taken : (v : ℕ) → 1 ≤ v → v ≤ last_number changes.births → is_taken content changes.births v ≡ true

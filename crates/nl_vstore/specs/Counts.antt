@@ -1,7 +1,8 @@
 -- How many needed numbers have their pages in each segment.
 use Rattle.std.specs.Prelude.{◌≡◌, ℕ, ◌<◌, if◌then◌else◌, Bool, true, List, length, map, MatchOption, Option, None}
 use Rattle.std.specs.List.{range_with_len}
-use Rattle.nl_types.specs.PartialMaps.{NoneTwice, Partial, is_one_of}
+use Rattle.nl_types.specs.NumberLists.{NoneTwice, is_one_of}
+use Rattle.nl_types.specs.PartialMaps.{Partial}
 use Rattle.nl_types.specs.Entries.{Entry}
 use Rattle.nl_sufile.specs.BySegment.{count_to}
 use Rattle.nl_vstore.specs.Stores.{IsStore, Store, address_in, capacity, content_in, is_inside}
@@ -15,7 +16,8 @@ needed_places s needed v = if needs needed (content_in s) v then address_in s v 
 
 -- how many of them stand in a segment
 abbrev pub standing : Store → (Entry → Bool) → ℕ → ℕ
-standing s needed segment = count_to (λ v. is_inside s.segments segment (needed_places s needed v)) (capacity s)
+standing s needed segment =
+    count_to (λ v. is_inside s.segments segment (needed_places s needed v)) (capacity s)
 
 -- that many are found block by block
 abbrev pub NeededAreStanding : Type 0
@@ -25,8 +27,10 @@ NeededAreStanding = (s : Store) (needed : Entry → Bool) (segment : ℕ) → Is
 -- the needed numbers of a segment are there once each, and have their pages in it
 pub record StandOnce (s : Store) (needed : Entry → Bool) (segment : ℕ) : Type 0 where
   pub once : NoneTwice (needed_in s needed segment)
-  pub inside : (v : ℕ) → is_one_of (needed_in s needed segment) v ≡ true → is_inside s.segments segment (address_in s v) ≡ true
-  pub passes : (v : ℕ) → is_one_of (needed_in s needed segment) v ≡ true → needs needed (content_in s) v ≡ true
+  pub inside : (v : ℕ) → is_one_of (needed_in s needed segment) v ≡ true
+      → is_inside s.segments segment (address_in s v) ≡ true
+  pub passes : (v : ℕ) → is_one_of (needed_in s needed segment) v ≡ true
+      → needs needed (content_in s) v ≡ true
 
 abbrev pub NeededStandOnce : Type 0
 NeededStandOnce = (s : Store) (needed : Entry → Bool) (segment : ℕ) → StandOnce s needed segment

@@ -4,3 +4,4 @@ pub mod Stores
 pub mod Located
 pub mod Counts
 pub mod Summaries
+pub mod Facts

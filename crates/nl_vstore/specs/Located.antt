@@ -2,10 +2,9 @@
 use Rattle.std.specs.Prelude.{◌≡◌, ◌≢◌, ℕ, suc, ◌*◌, ◌≤◌, ◌==◌, if◌then◌else◌, Bool, false, List, [], ◌∷◌, length, map, slice_index_or, MatchOption, Option, None, Some}
 use Rattle.std.specs.Option.{option_map}
 use Rattle.nl_types.specs.Segments.{info_of}
-use Rattle.nl_types.specs.Placing.{row_of}
-use Rattle.nl_types.specs.Entries.{Content, Entry}
+use Rattle.nl_types.specs.Placing.{blocks_from}
+use Rattle.nl_types.specs.Entries.{Content, Entry, period_of}
 use Rattle.nl_types.specs.declared.period.Period.{Period}
-use Rattle.nl_vstore.specs.Periods.{period_of}
 use Rattle.nl_vstore.specs.Stores.{Numbered, Store, address_in, content_in, payload_in}
 
 -- whether a page stands at the block
@@ -39,7 +38,7 @@ pick (o ∷ os) = onto o (pick os)
 
 -- what f gives of the n blocks from b on
 abbrev pub picked : (ℕ → Option ℕ) → ℕ → ℕ → List ℕ
-picked f b n = pick (map f (row_of b n))
+picked f b n = pick (map f (blocks_from b n))
 
 -- the numbers whose pages stand in a segment, by block
 abbrev pub numbers_in : Store → ℕ → List ℕ
@@ -66,7 +65,8 @@ pub record AreCounted (f : ℕ → Option ℕ) (b position count : ℕ) : Type 0
 
 -- how many blocks of the logs of a segment have payload, be it a number's or not
 abbrev pub payload_count_in : Store → ℕ → ℕ
-payload_count_in s segment = length (picked (payload_block s) (segment * s.segments.blocks) (info_of s.segments.each segment).used)
+payload_count_in s segment =
+    length (picked (payload_block s) (segment * s.segments.blocks) (info_of s.segments.each segment).used)
 
 -- ---- those that are needed
 

@@ -1,12 +1,8 @@
 -- The period of each virtual number.
 use Rattle.std.specs.Option.{option_map}
 use Rattle.nl_types.specs.PartialMaps.{Partial}
-use Rattle.nl_types.specs.Entries.{Entry, Content}
+use Rattle.nl_types.specs.Entries.{Content, period_of}
 use Rattle.nl_types.specs.declared.period.Period.{Period}
-
--- the period of what a number stands for
-abbrev pub period_of : Entry → Period
-period_of e = record { start = e.start; end = e.end }
 
 -- the period of each number in use
 abbrev pub Periods : Type 0

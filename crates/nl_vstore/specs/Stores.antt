@@ -6,7 +6,8 @@ use Rattle.nl_types.specs.declared.error.VolError.{VolError}
 use Rattle.nl_types.specs.declared.error.VolError.TheVariants.{NoSpace, Fault, Memory}
 use Rattle.nl_types.specs.Segments.{HaveLogs, IsUsed, Segments, grown_to, total_blocks}
 use Rattle.nl_types.specs.Placing.{LacksSpace}
-use Rattle.nl_types.specs.PartialMaps.{Partial, put_each, adjust_each, is_one_of, NoneTwice}
+use Rattle.nl_types.specs.NumberLists.{is_one_of, NoneTwice}
+use Rattle.nl_types.specs.PartialMaps.{Partial, put_each, adjust_each}
 use Rattle.nl_types.specs.Entries.{Birth, Entry, Content, number_of, written}
 use Rattle.nl_device.specs.Failures.{Failures, failure_count}
 use Rattle.nl_layout.specs.declared.tag.Tag.{Tag}
@@ -102,17 +103,18 @@ HasNoneFree s births = (v : ℕ) → 1 ≤ v → v ≤ capacity s → is_taken (
 
 -- ---- what is true of every store
 
--- There is a place for each number, and for 0, which is never used. Each number in use has a used block of its own, where
--- the device holds its page, and its log's summary tells its number and place. The used part of each segment is whole
--- logs, and no other block has payload. The segments are tidy, and within the limits of a volume. Each failure of the device
--- is one of a read or one of a write.
+-- There is a place for each number, and for 0, which is never used. Each number in use has a used block of
+-- its own, where the device holds its page, and its log's summary tells its number and place. The used part
+-- of each segment is whole logs, and no other block has payload. The segments are tidy, and within the limits
+-- of a volume. Each failure of the device is one of a read or one of a write.
 pub record IsStore (s : Store) : Type 0 where
   pub full : length s.numbers ≡ capacity s + 1
   pub numbers : (v b : ℕ) → address_in s v ≡ Some b → (1 ≤ v) × (v ≤ capacity s)
   pub used : (v b : ℕ) → address_in s v ≡ Some b → IsUsed s.segments b
   pub apart : (v w b : ℕ) → address_in s v ≡ Some b → address_in s w ≡ Some b → v ≡ w
   pub on_device : (v : ℕ) (n : Numbered) → numbered_in s v ≡ Some n → device_in s n.block ≡ Some n.entry.page
-  pub own_payload : (v : ℕ) (n : Numbered) → numbered_in s v ≡ Some n → payload_in s n.block ≡ Some (payload_for v n.entry)
+  pub own_payload : (v : ℕ) (n : Numbered) → numbered_in s v ≡ Some n
+      → payload_in s n.block ≡ Some (payload_for v n.entry)
   pub whole_logs : AreWholeLogs (space_in s)
   pub only_used : HoldsOnlyUsed (space_in s)
   pub have_logs : HaveLogs s.segments
@@ -140,8 +142,8 @@ left_outside s segment address m v = if is_inside s segment (address v) then Non
 
 -- ---- what the calls do
 
--- The births are written in logs of this moment and checkpoint number, and stand at the blocks that placing gives, in their
--- order. Numbers end, and all else stays where it was.
+-- The births are written in logs of this moment and checkpoint number, and stand at the blocks that placing
+-- gives, in their order. Numbers end, and all else stays where it was.
 pub record IsWritten (checkpoint stamp : ℕ) (changes : Changes) (old new : Store) : Type 0 where
   pub content : content_in new ≡ written changes.births changes.ends checkpoint (content_in old)
   pub at : List ℕ
@@ -152,28 +154,32 @@ pub record IsWritten (checkpoint stamp : ℕ) (changes : Changes) (old new : Sto
 abbrev pub moved_to : ℕ → ℕ → ℕ
 moved_to new old = new
 
--- A write of the device failed before all logs with the payload were written. Those before it stand, and what was used
--- stays as it was. No number has changed.
-pub record IsFaulted (reserve : Bool) (checkpoint stamp : ℕ) (payload : List Payload) (old new : Store) : Type 0 where
+-- A write of the device failed before all logs with the payload were written. Those before it stand, and what
+-- was used stays as it was. No number has changed.
+pub record IsFaulted (reserve : Bool) (checkpoint stamp : ℕ) (payload : List Payload)
+    (old new : Store) : Type 0 where
   pub failures : old.failures < new.failures
   pub writes : old.failed.writes < new.failed.writes
   pub numbers : new.numbers ≡ old.numbers
   pub broken_off : IsBrokenOff (space_in old) (space_in new) reserve stamp checkpoint payload
-  pub kept : KeepsUsed old.segments (space_in old) (space_in new)
+  pub used_stay : KeepsUsed old.segments (space_in old) (space_in new)
 
 -- why a batch is not written, and what is left then
 abbrev pub IsWriteRefused : ℕ → ℕ → Changes → Store → Store → VolError → Type 0
-IsWriteRefused checkpoint stamp changes old new NoSpace = LacksSpace old.segments true (length changes.births) × (new ≡ old)
+IsWriteRefused checkpoint stamp changes old new NoSpace =
+    LacksSpace old.segments true (length changes.births) × (new ≡ old)
 IsWriteRefused checkpoint stamp changes old new Memory = new ≡ old
-IsWriteRefused checkpoint stamp changes old new Fault = IsFaulted true checkpoint stamp (items_of changes.births) old new
+IsWriteRefused checkpoint stamp changes old new Fault =
+    IsFaulted true checkpoint stamp (items_of changes.births) old new
 IsWriteRefused checkpoint stamp changes old new e = ⊥
 
 -- the payload is that of the numbers, in their order
 abbrev pub IsPayloadOf : Store → List ℕ → List Payload → Type 0
 IsPayloadOf s numbers payload = map (payload_under s) numbers ≡ map Some payload
 
--- The payload of numbers is written anew in logs of this moment and checkpoint number, at the blocks that placing gives, in
--- their order, outside of the segment. All else stays where it was, and what numbers stand for stays.
+-- The payload of numbers is written anew in logs of this moment and checkpoint number, at the blocks that
+-- placing gives, in their order, outside of the segment. All else stays where it was, and what numbers stand
+-- for stays.
 pub record IsMoved (segment checkpoint stamp : ℕ) (numbers : List ℕ) (old new : Store) : Type 0 where
   pub content : content_in new ≡ content_in old
   pub payload : List Payload
@@ -195,12 +201,13 @@ pub record KeepsStored (old new : Store) : Type 0 where
 pub record IsUnread (old new : Store) : Type 0 where
   pub failures : old.failures < new.failures
   pub reads : old.failed.reads < new.failed.reads
-  pub kept : KeepsStored old new
+  pub stored_stays : KeepsStored old new
 
 -- a write failed while the payload of these numbers was moved
 abbrev pub IsMoveBrokenOff : ℕ → ℕ → List ℕ → Store → Store → Type 0
 IsMoveBrokenOff checkpoint stamp numbers old new =
-    (payload : List Payload) × IsPayloadOf old numbers payload × IsFaulted false checkpoint stamp payload old new
+    (payload : List Payload) × IsPayloadOf old numbers payload
+    × IsFaulted false checkpoint stamp payload old new
 
 -- a fault comes of a read or of a write: the failed writes tell which
 abbrev pub IsMoveFaulted : ℕ → ℕ → List ℕ → Store → Store → Type 0
@@ -209,23 +216,25 @@ IsMoveFaulted checkpoint stamp numbers old new =
 
 -- why numbers are not moved, and what is left then
 abbrev pub IsMoveRefused : ℕ → ℕ → List ℕ → Store → Store → VolError → Type 0
-IsMoveRefused checkpoint stamp numbers old new NoSpace = LacksSpace old.segments false (length numbers) × KeepsStored old new
+IsMoveRefused checkpoint stamp numbers old new NoSpace =
+    LacksSpace old.segments false (length numbers) × KeepsStored old new
 IsMoveRefused checkpoint stamp numbers old new Memory = KeepsStored old new
 IsMoveRefused checkpoint stamp numbers old new Fault = IsMoveFaulted checkpoint stamp numbers old new
 IsMoveRefused checkpoint stamp numbers old new e = ⊥
 
--- The segment is clean and empty. The numbers whose page stood in it are taken out, and counted; all others stay as they
--- were, and so do all other blocks.
+-- The segment is clean and empty. The numbers whose page stood in it are taken out, and counted; all others
+-- stay as they were, and so do all other blocks.
 pub record IsReclaimed (segment count : ℕ) (old new : Store) : Type 0 where
-  pub numbers : (v : ℕ) → numbered_in new v ≡ left_outside old.segments segment (address_in old) (numbered_in old) v
+  pub numbers : (v : ℕ)
+      → numbered_in new v ≡ left_outside old.segments segment (address_in old) (numbered_in old) v
   pub freed : IsFreed segment (space_in old) (space_in new)
   pub gone : List ℕ
   pub each_once : NoneTwice gone
   pub gone_are : (v : ℕ) → is_one_of gone v ≡ is_inside old.segments segment (address_in old v)
   pub count_is : count ≡ length gone
 
--- The segments are grown, and there are as many numbers as blocks. Each number stands for what it stood for, at its block;
--- memory and the used blocks of the device have what they had.
+-- The segments are grown, and there are as many numbers as blocks. Each number stands for what it stood for,
+-- at its block; memory and the used blocks of the device have what they had.
 pub record HasGrown (count : ℕ) (old new : Store) : Type 0 where
   pub segments : new.segments ≡ grown_to count old.segments
   pub numbers : (v : ℕ) → numbered_in new v ≡ numbered_in old v
@@ -241,6 +250,7 @@ pub record StaysStored (old new : Store) : Type 0 where
 
 -- why a store doesn't grow, and what is left then
 abbrev pub IsGrowthRefused : Store → Store → VolError → Type 0
-IsGrowthRefused old new Fault = (old.failures < new.failures) × (old.failed.writes < new.failed.writes) × StaysStored old new
+IsGrowthRefused old new Fault =
+    (old.failures < new.failures) × (old.failed.writes < new.failed.writes) × StaysStored old new
 IsGrowthRefused old new Memory = StaysStored old new
 IsGrowthRefused old new e = ⊥

@@ -1,18 +1,21 @@
 -- What the logs on the device say of the blocks of a segment.
 use Rattle.std.specs.Prelude.{◌≡◌, ℕ, ◌+◌, ◌*◌, List, map, Option}
 use Rattle.nl_types.specs.Segments.{info_of}
-use Rattle.nl_types.specs.Placing.{row_of}
+use Rattle.nl_types.specs.Placing.{blocks_from}
 use Rattle.nl_space.specs.Content.{Payload}
 use Rattle.nl_space.specs.Logs.{FillDevice, WholeLog, slots_of}
 use Rattle.nl_vstore.specs.Stores.{Store, IsStore, device_in, payload_in}
 
 -- the used part of a segment is these logs, on the device alone
 abbrev pub StandOnDevice : Store → ℕ → List WholeLog → Type 0
-StandOnDevice s segment logs = FillDevice (segment * s.segments.blocks) (segment * s.segments.blocks + (info_of s.segments.each segment).used) logs (device_in s)
+StandOnDevice s segment logs =
+    FillDevice (segment * s.segments.blocks)
+    (segment * s.segments.blocks + (info_of s.segments.each segment).used) logs (device_in s)
 
 -- the payload in memory of each block in the used part of a segment
 abbrev pub payload_row : Store → ℕ → List (Option Payload)
-payload_row s segment = map (payload_in s) (row_of (segment * s.segments.blocks) (info_of s.segments.each segment).used)
+payload_row s segment =
+    map (payload_in s) (blocks_from (segment * s.segments.blocks) (info_of s.segments.each segment).used)
 
 -- the row is the blocks of the logs that the device has in a segment
 pub record IsOfLogs (s : Store) (segment : ℕ) (row : List (Option Payload)) : Type 0 where
@@ -24,7 +27,9 @@ pub record IsOfLogs (s : Store) (segment : ℕ) (row : List (Option Payload)) : 
 
 -- two lists of logs that the device has in one segment are one
 abbrev pub SummariesAreOne : Type 0
-SummariesAreOne = (s : Store) (segment : ℕ) (logs others : List WholeLog) → StandOnDevice s segment logs → StandOnDevice s segment others → logs ≡ others
+SummariesAreOne =
+    (s : Store) (segment : ℕ) (logs others : List WholeLog) → StandOnDevice s segment logs
+    → StandOnDevice s segment others → logs ≡ others
 
 -- the device has logs in each segment of a store, and memory has their blocks
 abbrev pub RowsAreOfLogs : Type 0

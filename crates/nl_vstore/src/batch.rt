@@ -8,8 +8,8 @@ use nl_types::{Page, VirtualNumber, VolError};
 use std::alloc::Global;
 use std::marker::Model;
 
-/// The changes that one checkpoint makes: the pages that are born, in the order in which they are written, and the
-/// numbers that end. `Vstore::fresh` gives the number for the next birth.
+/// The changes that one checkpoint makes: the pages that are born, in the order in which they are written,
+/// and the numbers that end. `Vstore::fresh` gives the number for the next birth.
 #[derive(Drop)]
 pub struct Batch {
     births: Vec<Payload>,
@@ -26,13 +26,13 @@ impl Model for Batch {
 
 impl Batch {
     ghost use Rattle.nl_types.specs.Entries.{Content};
-    ghost use Rattle.nl_vstore.specs.Batches.{Changes, Fits, IsLowestFree, births_of, birth_of_item, last_number, is_live, with_page};
+    ghost use Rattle.nl_vstore.specs.Batches.{Changes, CanBeTaken, IsLowestFree, births_of, birth_of_item, last_number, is_live, with_page};
 
     /// No change.
     pub fn new(alloc: Global) -> Batch
         ensures births { result.births ≡ [] }
         ensures ends { result.ends ≡ [] }
-        ensures fits { (capacity : ℕ) (content : Content) → Fits capacity content result }
+        ensures fits { (capacity : ℕ) (content : Content) → CanBeTaken capacity content result }
     {
         let births = Vec::new(alloc);
         let ends = Vec::new(alloc);
@@ -77,14 +77,14 @@ impl Batch {
         }
     }
 
-    /// Adds the birth of a page behind the others. A batch that fits a store still does where the number is the lowest
-    /// free one. Refused by `Memory` alone.
+    /// Adds the birth of a page behind the others. A batch that fits a store still does where the number is
+    /// the lowest free one. Refused by `Memory` alone.
     pub fn add_birth(&mut self, tag: Tag, page: Page) -> Result<(), VolError>
         ensures ok { OnOk result (self.new ≡
             record self.old { births = self.old.births ++ birth_of_item (tag, page) ∷ [] }) }
-        ensures fits { OnOk result ((capacity : ℕ) (content : Content) → Fits capacity content self.old
+        ensures fits { OnOk result ((capacity : ℕ) (content : Content) → CanBeTaken capacity content self.old
             → IsLowestFree content self.old.births tag.number
-            → tag.number ≤ capacity + length self.old.births + 1 → Fits capacity content self.new) }
+            → tag.number ≤ capacity + length self.old.births + 1 → CanBeTaken capacity content self.new) }
         ensures err { OnErr result (self.new ≡ self.old) }
         ensures memory { OnErr result (result ≡ Err VolError.Memory) }
     {
@@ -103,12 +103,12 @@ impl Batch {
         }
     }
 
-    /// Adds the end of a number. A batch that fits a store still does where the number is in use and has not ended.
-    /// Refused by `Memory` alone.
+    /// Adds the end of a number. A batch that fits a store still does where the number is in use and has not
+    /// ended. Refused by `Memory` alone.
     pub fn add_end(&mut self, number: VirtualNumber) -> Result<(), VolError>
         ensures ok { OnOk result (self.new ≡ record self.old { ends = self.old.ends ++ number ∷ [] }) }
-        ensures fits { OnOk result ((capacity : ℕ) (content : Content) → Fits capacity content self.old
-            → is_live (content number) ≡ true → Fits capacity content self.new) }
+        ensures fits { OnOk result ((capacity : ℕ) (content : Content) → CanBeTaken capacity content self.old
+            → is_live (content number) ≡ true → CanBeTaken capacity content self.new) }
         ensures err { OnErr result (self.new ≡ self.old) }
         ensures memory { OnErr result (result ≡ Err VolError.Memory) }
     {
@@ -119,8 +119,8 @@ impl Batch {
     pub fn set_page(&mut self, index: usize, page: Page)
         requires { index < length self.old.births }
         ensures page { self.new ≡ record self.old { births = with_page index page self.old.births } }
-        ensures fits { (capacity : ℕ) (content : Content) → Fits capacity content self.old
-            → Fits capacity content self.new }
+        ensures fits { (capacity : ℕ) (content : Content) → CanBeTaken capacity content self.old
+            → CanBeTaken capacity content self.new }
     {
         self.replace_page(index, page);
     }

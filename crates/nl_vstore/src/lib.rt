@@ -1,5 +1,5 @@
-//! Pages under virtual block numbers, as the layers above know them: each number names a page, wherever the page is moved,
-//! and a period of checkpoints.
+//! Pages under virtual block numbers, as the layers above know them: each number names a page, wherever the
+//! page is moved, and a period of checkpoints.
 #![tactic(auto)]
 
 mod batch;

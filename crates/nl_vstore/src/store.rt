@@ -3,7 +3,7 @@ ghost use Rattle.std.specs.Prelude.{◌≡◌, ◌+◌, ◌<◌, ◌≤◌, ◌^
 ghost use Rattle.nl_types.specs.Limits.{IsGeometry};
 ghost use Rattle.nl_types.specs.Segments.{IsClosed};
 ghost use Rattle.nl_types.specs.Roots.{Pages, pages_of};
-ghost use Rattle.nl_vstore.specs.Batches.{Fits, IsLowestFree, LacksSpaceFrom, last_number};
+ghost use Rattle.nl_vstore.specs.Batches.{CanBeTaken, IsLowestFree, LacksSpaceFrom, last_number};
 ghost use Rattle.nl_vstore.specs.Periods.{Periods, periods_of};
 ghost use Rattle.nl_vstore.specs.Located.{IsNumberAt, number_at, payload_count_in};
 ghost use Rattle.nl_vstore.specs.Counts.{IsSegmentOf};
@@ -34,8 +34,8 @@ pub trait VRead {
         ensures { result ≡ periods self.now number };
 }
 
-/// Pages under virtual block numbers, changed by a whole batch at a time. A number stays the same however often its page
-/// is moved, as in the DAT of nilfs2.rst.
+/// Pages under virtual block numbers, changed by a whole batch at a time. A number stays the same however
+/// often its page is moved, as in the DAT of nilfs2.rst.
 pub trait Vstore: VRead {
     /// The numbers in use, the segments, and what the device holds.
     ghost store: { Self → Store };
@@ -49,19 +49,20 @@ pub trait Vstore: VRead {
         ensures count { result ≡ capacity (store self.now) }
         ensures small { result < 2 ^ 32 };
 
-    /// The lowest number that is neither in use nor given to a birth of the batch. Refused by `NoSpace` alone, where no
-    /// list of logs fits one block more than the batch has, or yet more. It takes no memory.
+    /// The lowest number that is neither in use nor given to a birth of the batch. Refused by `NoSpace`
+    /// alone, where no list of logs fits one block more than the batch has, or yet more. It takes no memory.
     fn fresh(&self, batch: &Batch) -> Result<VirtualNumber, VolError>
-        requires { Fits (capacity (store self.now)) (content_in (store self.now)) batch.now }
+        requires { CanBeTaken (capacity (store self.now)) (content_in (store self.now)) batch.now }
         ensures lowest { IfOk result (IsLowestFree (content_in (store self.now)) batch.now.births) }
         ensures inside { IfOk result (λ v. v ≤ capacity (store self.now)) }
         ensures all_taken { OnErr result (HasNoneFree (store self.now) batch.now.births) }
         ensures no_space { OnErr result (result ≡ Err VolError.NoSpace) }
-        ensures lacks_space { OnErr result (LacksSpaceFrom (store self.now).segments (length batch.now.births + 1)) };
+        ensures lacks_space { OnErr result
+            (LacksSpaceFrom (store self.now).segments (length batch.now.births + 1)) };
 
-    /// Writes the births of a batch, which begin at the checkpoint, and sets its ends there, or changes no number. `now` is
-    /// the moment in whole seconds that the segments get as their stamp. It goes into the logs' summaries with the
-    /// checkpoint's number.
+    /// Writes the births of a batch, which begin at the checkpoint, and sets its ends there, or changes no
+    /// number. `now` is the moment in whole seconds that the segments get as their stamp. It goes into the
+    /// logs' summaries with the checkpoint's number.
     ///
     /// Refused by `NoSpace` where no list of logs fits, by `Memory`, and by `Fault` where the device failed.
     fn write(
@@ -71,9 +72,10 @@ pub trait Vstore: VRead {
         checkpoint: CheckpointNumber,
         now: u64,
     ) -> Result<(), VolError>
-        requires { Fits (capacity (store self.old)) (content_in (store self.old)) batch.now }
+        requires { CanBeTaken (capacity (store self.old)) (content_in (store self.old)) batch.now }
         ensures written { OnOk result (IsWritten checkpoint now batch.now (store self.old) (store self.new)) }
-        ensures refused { IfErr result (IsWriteRefused checkpoint now batch.now (store self.old) (store self.new)) }
+        ensures refused { IfErr result
+            (IsWriteRefused checkpoint now batch.now (store self.old) (store self.new)) }
         ensures counted { (store self.old).failures ≤ (store self.new).failures };
 
     /// The number whose page stands at a position of a segment, counted from 0 with the summary blocks.
@@ -87,15 +89,16 @@ pub trait Vstore: VRead {
     fn segment_of(&self, number: VirtualNumber) -> Option<Segment>
         ensures { IsSegmentOf (store self.now) number result };
 
-    /// What the summary of its log says of the block at a position of a segment, be its number in use or not. None where
-    /// the block has no payload.
+    /// What the summary of its log says of the block at a position of a segment, be its number in use or not.
+    /// None where the block has no payload.
     fn tag(&self, segment: Segment, position: u32) -> Option<Tag>
         requires segment { segment < length (store self.now).segments.each }
         requires position { position < (store self.now).segments.blocks }
         ensures { result ≡ tag_in (store self.now) (block_in (store self.now) segment position) };
 
-    /// The blocks in the used part of a segment, in order: none at a summary block, and at a payload block what the summary of
-    /// its log says of it, with its page, be its number in use or not. It takes no memory.
+    /// The blocks in the used part of a segment, in order: none at a summary block, and at a payload block
+    /// what the summary of its log says of it, with its page, be its number in use or not. It takes no
+    /// memory.
     fn payload(&self, segment: Segment) -> &[Option<Payload>]
         requires { segment < length (store self.now).segments.each }
         ensures row { result.now ≡ payload_row (store self.now) segment }
@@ -106,9 +109,9 @@ pub trait Vstore: VRead {
         requires { segment < length (store self.now).segments.each }
         ensures { result ≡ payload_count_in (store self.now) segment };
 
-    /// Moves the pages of numbers out of a segment that takes no more logs, in their order: each is read from the device and
-    /// written elsewhere. The checkpoint is the latest one, and `now` the moment in whole seconds: both go into the logs'
-    /// summaries.
+    /// Moves the pages of numbers out of a segment that takes no more logs, in their order: each is read from
+    /// the device and written elsewhere. The checkpoint is the latest one, and `now` the moment in whole
+    /// seconds: both go into the logs' summaries.
     ///
     /// Refused by `NoSpace` where no list of logs fits, by `Memory`, and by `Fault` where the device failed.
     fn relocate(
@@ -122,18 +125,21 @@ pub trait Vstore: VRead {
         requires segment { segment < length (store self.old).segments.each }
         requires closed { IsClosed (store self.old).segments segment }
         requires inside { AreInside (store self.old) segment numbers.now }
-        ensures moved { OnOk result (IsMoved segment checkpoint now numbers.now (store self.old) (store self.new)) }
-        ensures refused { IfErr result (IsMoveRefused checkpoint now numbers.now (store self.old) (store self.new)) }
+        ensures moved { OnOk result
+            (IsMoved segment checkpoint now numbers.now (store self.old) (store self.new)) }
+        ensures refused { IfErr result
+            (IsMoveRefused checkpoint now numbers.now (store self.old) (store self.new)) }
         ensures counted { (store self.old).failures ≤ (store self.new).failures };
 
-    /// Takes the numbers out of use whose pages stand in a segment, and empties the segment. It answers how many they were.
-    /// It takes no memory.
+    /// Takes the numbers out of use whose pages stand in a segment, and empties the segment. It answers how
+    /// many they were. It takes no memory.
     fn reclaim(&mut self, segment: Segment) -> u32
         requires { segment < length (store self.old).segments.each }
         ensures reclaimed { IsReclaimed segment result (store self.old) (store self.new) }
         ensures counted { (store self.old).failures ≤ (store self.new).failures };
 
-    /// Makes it a store of so many segments, the new ones clean, and of as many numbers as there are blocks then.
+    /// Makes it a store of so many segments, the new ones clean, and of as many numbers as there are blocks
+    /// then.
     ///
     /// Refused by `Fault` where the device failed to grow, and by `Memory`. What is stored stays then.
     fn grow(&mut self, alloc: Global, segments: u32) -> Result<(), VolError>
@@ -152,10 +158,10 @@ pub trait Vstore: VRead {
     ghost reads_periods: { (s : Self) → Self.periods s ≡ periods_of (content_in (store s)) };
 }
 
-/// The lowest number that is neither in use nor given to a birth of the batch, be it one that there is or one above: no
-/// store takes a batch with such a one.
+/// The lowest number that is neither in use nor given to a birth of the batch, be it one that there is or one
+/// above: no store takes a batch with such a one.
 pub fn next_number<V: Vstore>(store: &V, batch: &Batch) -> VirtualNumber
-    requires { Fits (capacity (V.store store.now)) (content_in (V.store store.now)) batch.now }
+    requires { CanBeTaken (capacity (V.store store.now)) (content_in (V.store store.now)) batch.now }
     ensures lowest { IsLowestFree (content_in (V.store store.now)) batch.now.births result }
     ensures low { result ≤ capacity (V.store store.now) + length batch.now.births + 1 }
 {

@@ -25,7 +25,8 @@ fn arguments<'a>(rt: &HostRuntime, words: &'a [String]) -> io::Result<Vec<&'a st
     Ok(arguments)
 }
 
-/// Answers the exit status. `handles` is the system too, with what `main` alone may hand on: threads, and that a call may wait.
+/// Answers the exit status. `handles` is the system too, with what `main` alone may hand on: threads, and
+/// that a call may wait.
 fn run<R: AllocGlobal + Files + Threads + Wait + Sync>(
     rt: &HostRuntime,
     handles: &R,

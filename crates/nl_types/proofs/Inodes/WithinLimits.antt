@@ -16,15 +16,15 @@ use Rattle.nl_types.specs.declared.reply.Node.{Node}
 use Rattle.nl_types.specs.declared.reply.Node.TheVariants.{Dir, File}
 use Rattle.nl_types.specs.Limits.{file_limit, path_limit}
 use Rattle.nl_types.specs.Paths.{Name, Path, path_cmp, same_path, is_name}
-use Rattle.nl_types.specs.Placing.{row_of}
+use Rattle.nl_types.specs.Placing.{blocks_from}
 use Rattle.nl_types.specs.Trees.{Tree, lookup, node_kind}
 use Rattle.nl_types.specs.Inodes.{Link, InodeContent, Bytes, Records, Inodes, MeansTree, upward}
 use Rattle.nl_types.specs.InodeLaws.{AreWithinLimits, LimitedInodesMeanTrees}
-use Rattle.nl_types.proofs.TreeLaws.{path_total}
-use Rattle.nl_types.proofs.Lookups.{same_path-itself}
-use Rattle.nl_types.proofs.Booleans.{holds, or_right, first, second}
-use Rattle.nl_types.proofs.Inodes.FullVolumes.{row_length}
-use Rattle.nl_types.proofs.Inodes.Walks.{present}
+use Rattle.nl_types.specs.Facts.TreeLaws.{path_total}
+use Rattle.nl_types.specs.Facts.Lookups.{same_path-itself}
+use Rattle.nl_types.specs.Facts.Booleans.{holds, or_right, first, second}
+use Rattle.nl_types.specs.Facts.Inodes.FullVolumes.{row_length}
+use Rattle.nl_types.specs.Facts.Inodes.Walks.{present}
 
 -- a record of what is there
 zipped_there : (a : Option ℕ) (x : Option Node) → is_some a ≡ is_some x → is_some x ≡ true → (link : Link) × (option_zip a (option_map node_kind x) ≡ Some link)
@@ -145,10 +145,10 @@ module _ (inodes : Inodes) (tree : Tree) (m : MeansTree inodes tree) (w : AreWit
       (λ later. used entries all.1 q later)
       (or_cases (nat_eq q (number_of e)) (is_member nat_eq (map number_of entries) q) h)
 
-  in_row : (b n q : ℕ) → b ≤ q → q < b + n → is_member nat_eq (row_of b n) q ≡ true
+  in_row : (b n q : ℕ) → b ≤ q → q < b + n → is_member nat_eq (blocks_from b n) q ≡ true
   in_row b zero q low high = absurd (omega (arith, low, high))
   in_row b (suc n) q low high =
-      elim (nat_eq q b) as (λ t. nat_eq q b ≡ t → (t || is_member nat_eq (row_of (suc b) n) q) ≡ true) [
+      elim (nat_eq q b) as (λ t. nat_eq q b ≡ t → (t || is_member nat_eq (blocks_from (suc b) n) q) ≡ true) [
         | true ↦ λ _. refl
         | false ↦ λ is. let other = eqb-false q b is in in_row (suc b) n q (above b q low other) (omega (arith, high))
       ] refl
@@ -158,19 +158,19 @@ module _ (inodes : Inodes) (tree : Tree) (m : MeansTree inodes tree) (w : AreWit
 
   paths_at_most : (n : ℕ) → ((i : ℕ) (held : InodeContent) → inodes i ≡ Some held → (i ≡ 2) ⊎ ((11 ≤ i) × (i < 11 + n))) → length tree ≤ n + 1
   paths_at_most n within =
-      let few = length-le_from_is_member nat_eq_equiv (map number_of tree) (2 ∷ row_of 11 n) (distinct tree (holds _ m.ordered) all_numbered) member in
+      let few = length-le_from_is_member nat_eq_equiv (map number_of tree) (2 ∷ blocks_from 11 n) (distinct tree (holds _ m.ordered) all_numbered) member in
       omega (arith, few, length-map tree number_of, row_length 11 n)
     where
-      member : (q : ℕ) → is_member nat_eq (map number_of tree) q ≡ true → is_member nat_eq (2 ∷ row_of 11 n) q ≡ true
+      member : (q : ℕ) → is_member nat_eq (map number_of tree) q ≡ true → is_member nat_eq (2 ∷ blocks_from 11 n) q ≡ true
       member q h =
           let held = used tree all_numbered q h in
           ⊎_elim
-          (λ root. ap (λ b. b || is_member nat_eq (row_of 11 n) q) (eq-eqb q 2 root))
+          (λ root. ap (λ b. b || is_member nat_eq (blocks_from 11 n) q) (eq-eqb q 2 root))
           (λ range. or_right (nat_eq q 2) (in_row 11 n q range.0 range.1))
           (within q held.0 held.1)
 
   counted : length tree ≤ path_limit + 1
-  counted = paths_at_most 524277 (λ i held is. ⊎_elim (λ root. inl root) (λ range. inr (range.0, omega (arith, range.1))) (w.numbers i held is))
+  counted = paths_at_most 524277 (λ i held is. ⊎_elim (λ root. inl root) (λ range. inr (range.0, omega (arith, range.1))) (w.inode_numbers i held is))
 
 pub limited_inodes_mean_trees : LimitedInodesMeanTrees
 limited_inodes_mean_trees inodes tree m w = record {

@@ -2,7 +2,7 @@ use Rattle.std.proofs.Common.{◌≡◌, ◌∙◌, arith, ap, sym}
 use Rattle.nl_types.specs.Roots.{OfChain, OfTree, kind_of}
 use Rattle.nl_layout.specs.Root.{root_of}
 use Rattle.nl_layout.specs.declared.root.Root.{Root}
-use Rattle.nl_blocktree.proofs.Reading.{place-behind}
+use Rattle.nl_blocktree.specs.Facts.Reading.{place-behind}
 use Rattle.nl_blocktree.proofs.cursor.node_from.Goals as goal
 
 pub returns-in-Chain : goal.returns-in-Chain

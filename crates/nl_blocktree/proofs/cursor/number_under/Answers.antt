@@ -1,7 +1,7 @@
 use Rattle.std.proofs.Common.{◌∙◌, ◌%◌, ℕ, ap, sym}
 use Rattle.nl_types.specs.Roots.{Pages, child}
 use Rattle.nl_layout.specs.Root.{root_of}
-use Rattle.nl_blocktree.specs.Chains.{slots_below}
+use Rattle.nl_blocktree.specs.Private.Chains.{slots_below}
 use Rattle.nl_blocktree.proofs.TreeReading.{data_under}
 use Rattle.nl_blocktree.proofs.cursor.number_under.Goals as goal
 

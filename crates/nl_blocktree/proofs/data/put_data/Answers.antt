@@ -5,12 +5,12 @@ use Rattle.nl_layout.specs.Root.{root_of}
 use Rattle.nl_vstore.specs.Stores.{content_in}
 use Rattle.nl_blocktree.specs.declared.change.BlockChange.{BlockChange}
 use Rattle.nl_blocktree.specs.declared.tree.Edit.{Edit}
-use Rattle.nl_blocktree.specs.Edits.{TellsAbove}
-use Rattle.nl_blocktree.specs.TreeLevels.{kept_levels}
-use Rattle.nl_blocktree.specs.Writing.{PutsData, PutsOne}
+use Rattle.nl_blocktree.specs.Private.Edits.{TellsAbove}
+use Rattle.nl_blocktree.specs.Private.TreeLevels.{kept_levels}
+use Rattle.nl_blocktree.specs.Private.Writing.{PutsData, PutsOne}
 use Rattle.nl_blocktree.proofs.Kept.{goes_on-append, goes_on-more}
 use Rattle.nl_blocktree.proofs.TreeAbove.{chain_begins, know_edit, know_none, know_same}
-use Rattle.nl_blocktree.proofs.TreeData.{below-here, data_more, puts_none}
+use Rattle.nl_blocktree.specs.Facts.TreeData.{below-here, data_more, puts_none}
 use Rattle.nl_blocktree.proofs.data.put_data.Goals as goal
 
 pub loop-change-init : goal.loop-change-init

@@ -1,11 +1,11 @@
 use Rattle.std.proofs.Common.{take}
 use Rattle.nl_types.specs.Roots.{pages_of, place_at}
 use Rattle.nl_layout.specs.Root.{root_of}
-use Rattle.nl_vstore.specs.Batches.{Fits}
+use Rattle.nl_vstore.specs.Batches.{CanBeTaken}
 use Rattle.nl_vstore.specs.Stores.{capacity, content_in}
-use Rattle.nl_blocktree.specs.Edits.{KnowAbove}
-use Rattle.nl_blocktree.specs.TreeLevels.{IsNodeOf, kept_levels}
-use Rattle.nl_blocktree.specs.Writing.{PutsData}
+use Rattle.nl_blocktree.specs.Private.Edits.{KnowAbove}
+use Rattle.nl_blocktree.specs.Private.TreeLevels.{IsNodeOf, kept_levels}
+use Rattle.nl_blocktree.specs.Private.Writing.{PutsData}
 use Rattle.nl_blocktree.proofs.data.put_data.Given as goal
 
 abbrev pub invariant-loop-change : goal.invariant-loop-change
@@ -14,6 +14,6 @@ invariant-loop-change g l = record {
       (place_at (pages_of (content_in (g.V.Vstore.store l.store))) (root_of l.root) 0) l.edits.items
       l.fn.batch.births l.batch.births l.fn.batch.ends l.batch.ends;
   above : KnowAbove (kept_levels (pages_of (content_in (g.V.Vstore.store l.store))) (root_of l.root)) 0 l.edits.items;
-  fits : Fits (capacity (g.V.Vstore.store l.store)) (content_in (g.V.Vstore.store l.store)) l.batch;
+  fits : CanBeTaken (capacity (g.V.Vstore.store l.store)) (content_in (g.V.Vstore.store l.store)) l.batch;
   node : IsNodeOf (g.V.VRead.pages l.store) (root_of l.root) l.known l.node;
 }

@@ -1,4 +1,4 @@
-use Rattle.nl_blocktree.proofs.RootByRoot.{writes-what-differs}
+use Rattle.nl_blocktree.specs.Facts.RootByRoot.{writes-what-differs}
 use Rattle.nl_blocktree.proofs.laws.checkpoints_write_what_differs.Goals as goal
 
 pub returns : goal.returns

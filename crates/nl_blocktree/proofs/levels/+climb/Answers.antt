@@ -3,8 +3,8 @@ use Rattle.std.proofs.lemmas.Result.{IfOk-weaker}
 use Rattle.nl_types.specs.Roots.{pages_of}
 use Rattle.nl_layout.specs.Root.{root_of}
 use Rattle.nl_vstore.specs.Stores.{content_in}
-use Rattle.nl_blocktree.specs.Edits.{top_edits}
-use Rattle.nl_blocktree.specs.TreeLevels.{kept_levels}
+use Rattle.nl_blocktree.specs.Private.Edits.{top_edits}
+use Rattle.nl_blocktree.specs.Private.TreeLevels.{kept_levels}
 use Rattle.nl_blocktree.proofs.TreeAbove.{know_same}
 use Rattle.nl_blocktree.proofs.TreeClimbing.{at_top, climb_up, small_of, told_ascends, told_narrow, told_some, told_told}
 use Rattle.nl_blocktree.proofs.levels.+climb.Goals as goal

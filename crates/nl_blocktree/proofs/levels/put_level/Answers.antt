@@ -3,8 +3,8 @@ use Rattle.std.proofs.lemmas.List.{length-take}
 use Rattle.nl_types.specs.Roots.{numbered, pages_of}
 use Rattle.nl_layout.specs.Root.{root_of}
 use Rattle.nl_vstore.specs.Stores.{content_in}
-use Rattle.nl_blocktree.specs.TreeLevels.{kept_levels}
-use Rattle.nl_blocktree.specs.Writing.{PutsLevel}
+use Rattle.nl_blocktree.specs.Private.TreeLevels.{kept_levels}
+use Rattle.nl_blocktree.specs.Private.Writing.{PutsLevel}
 use Rattle.nl_blocktree.specs.declared.tree.Edit.{Edit}
 use Rattle.nl_blocktree.proofs.Kept.{goes_on-append, goes_on-more}
 use Rattle.nl_blocktree.proofs.TreeAbove.{know_none, know_same, know_top, know_up, old_above}

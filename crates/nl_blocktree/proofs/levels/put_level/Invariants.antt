@@ -1,11 +1,11 @@
 use Rattle.std.proofs.Common.{◌≤◌, ◌<◌, ◌+◌, ◌/◌, ◌-◌, ℕ, suc, length, slice_index_or, take}
 use Rattle.nl_types.specs.Roots.{pages_of}
 use Rattle.nl_layout.specs.Root.{root_of}
-use Rattle.nl_vstore.specs.Batches.{Fits}
+use Rattle.nl_vstore.specs.Batches.{CanBeTaken}
 use Rattle.nl_vstore.specs.Stores.{capacity, content_in}
-use Rattle.nl_blocktree.specs.Edits.{KnowAbove}
-use Rattle.nl_blocktree.specs.TreeLevels.{kept_levels}
-use Rattle.nl_blocktree.specs.Writing.{PutsLevel}
+use Rattle.nl_blocktree.specs.Private.Edits.{KnowAbove}
+use Rattle.nl_blocktree.specs.Private.TreeLevels.{kept_levels}
+use Rattle.nl_blocktree.specs.Private.Writing.{PutsLevel}
 use Rattle.nl_blocktree.specs.declared.tree.Edit.{Edit}
 use Rattle.nl_blocktree.proofs.levels.put_level.Given as goal
 
@@ -15,7 +15,7 @@ invariant-loop-at g l = record {
       (kept_levels (pages_of (content_in (g.V.Vstore.store l.store))) (root_of l.root) (suc l.below))
       (kept_levels (pages_of (content_in (g.V.Vstore.store l.store))) (root_of l.root) l.below)
       (take l.at l.edits) l.ups.items l.fn.batch.births l.batch.births l.fn.batch.ends l.batch.ends;
-  fits : Fits (capacity (g.V.Vstore.store l.store)) (content_in (g.V.Vstore.store l.store)) l.batch;
+  fits : CanBeTaken (capacity (g.V.Vstore.store l.store)) (content_in (g.V.Vstore.store l.store)) l.batch;
   above : KnowAbove (kept_levels (pages_of (content_in (g.V.Vstore.store l.store))) (root_of l.root)) (l.below + 1) l.ups.items;
   within : l.at ≤ length l.edits;
   edge : (i j : ℕ) (d e : Edit) → i < l.at → l.at ≤ j → j < length l.edits →

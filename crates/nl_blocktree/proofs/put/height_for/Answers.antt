@@ -1,6 +1,6 @@
 use Rattle.std.proofs.Common.{◌^◌, ap, arith}
 use Rattle.nl_blocktree.specs.declared.tree.Edit.{Edit}
-use Rattle.nl_blocktree.proofs.TreeLevels.{pow_rises}
+use Rattle.nl_blocktree.specs.Facts.TreeLevels.{pow_rises}
 use Rattle.nl_blocktree.proofs.TreeSlots.{all_below}
 use Rattle.nl_blocktree.proofs.put.height_for.Goals as goal
 

@@ -5,11 +5,11 @@ use Rattle.std.proofs.lemmas.Result.{IfOk-weaker}
 use Rattle.nl_types.specs.Roots.{pages_of}
 use Rattle.nl_layout.specs.Root.{root_of}
 use Rattle.nl_vstore.specs.Stores.{capacity, content_in}
-use Rattle.nl_blocktree.specs.Renewing.{IsFileRenewed}
-use Rattle.nl_blocktree.specs.TreeLevels.{kept_levels}
+use Rattle.nl_blocktree.specs.Private.Renewing.{IsFileRenewed}
+use Rattle.nl_blocktree.specs.Private.TreeLevels.{kept_levels}
 use Rattle.nl_blocktree.specs.declared.tree.Edit.{Edit}
 use Rattle.nl_blocktree.proofs.TreeAbove.{know_same}
-use Rattle.nl_blocktree.proofs.TreeData.{indexes-below}
+use Rattle.nl_blocktree.specs.Facts.TreeData.{indexes-below}
 use Rattle.nl_blocktree.proofs.TreeRoots.{asked_small, puts_nothing, puts_renewed, some_first}
 use Rattle.nl_blocktree.proofs.put.put_tree.Goals as goal
 

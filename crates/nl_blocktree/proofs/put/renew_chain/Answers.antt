@@ -5,18 +5,18 @@ use Rattle.nl_types.specs.Roots.{Pages, Root, pages_of}
 use Rattle.nl_layout.specs.Root.{root_of}
 use Rattle.nl_vstore.specs.Batches.{Changes, is_live}
 use Rattle.nl_vstore.specs.Stores.{capacity, content_in}
-use Rattle.nl_blocktree.specs.Chains.{Lists}
-use Rattle.nl_blocktree.specs.Edits.{IsToldFrom}
-use Rattle.nl_blocktree.specs.Renewing.{IsRootRenewed}
-use Rattle.nl_blocktree.specs.TreeLevels.{kept_levels}
+use Rattle.nl_blocktree.specs.Private.Chains.{ChainAsLists}
+use Rattle.nl_blocktree.specs.Private.Edits.{IsToldFrom}
+use Rattle.nl_blocktree.specs.Private.Renewing.{IsRootRenewed}
+use Rattle.nl_blocktree.specs.Private.TreeLevels.{kept_levels}
 use Rattle.nl_blocktree.specs.declared.tree.Edit.{Edit}
 use Rattle.nl_blocktree.proofs.TreeAbove.{chain_knows, know_same}
 use Rattle.nl_blocktree.proofs.TreeRoots.{chain_root, told_from}
 use Rattle.nl_blocktree.proofs.put.renew_chain.Goals as goal
 
 -- what is read of a chain is what is stored
-stored_lists : {read stored : Pages} {root : Root} {nodes slots : List ℕ} → read ≡ stored → Lists read root nodes slots → Lists stored root nodes slots
-stored_lists {root = root} {nodes} {slots} e l = subst (λ (pages : Pages). Lists pages root nodes slots) e l
+stored_lists : {read stored : Pages} {root : Root} {nodes slots : List ℕ} → read ≡ stored → ChainAsLists read root nodes slots → ChainAsLists stored root nodes slots
+stored_lists {root = root} {nodes} {slots} e l = subst (λ (pages : Pages). ChainAsLists pages root nodes slots) e l
 
 pub renew_tree-requires-clause-told : goal.renew_tree-requires-clause-told
 renew_tree-requires-clause-told g c =

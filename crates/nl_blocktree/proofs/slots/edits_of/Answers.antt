@@ -1,6 +1,6 @@
 use Rattle.std.proofs.Common.{◌≡◌, ◌∙◌, ◌<◌, ◌+◌, ◌++◌, ◌∷◌, [], ℕ, List, length, take, arith, ap, sym}
 use Rattle.std.proofs.lemmas.List.{length-take, take_more}
-use Rattle.nl_blocktree.specs.Edits.{edit_alone, edits_from}
+use Rattle.nl_blocktree.specs.Private.Edits.{edit_alone, edits_from}
 use Rattle.nl_blocktree.specs.declared.tree.Edit.{Edit}
 use Rattle.nl_blocktree.proofs.TreeSlots.{edits_from-none, edits_from-push}
 use Rattle.nl_blocktree.proofs.slots.edits_of.Goals as goal

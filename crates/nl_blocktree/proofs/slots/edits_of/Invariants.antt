@@ -1,5 +1,5 @@
 use Rattle.std.proofs.Common.{◌≡◌, take}
-use Rattle.nl_blocktree.specs.Edits.{edits_from}
+use Rattle.nl_blocktree.specs.Private.Edits.{edits_from}
 use Rattle.nl_blocktree.proofs.slots.edits_of.Given as goal
 
 abbrev pub invariant-loop-offset : goal.invariant-loop-offset

@@ -2,7 +2,7 @@ use Rattle.std.proofs.Common.{◌≡◌, ◌∙◌, ◌++◌, ℕ, List, length,
 use Rattle.std.proofs.lemmas.List.{take_at}
 use Rattle.std.proofs.lemmas.Result.{IfOk-weaker}
 use Rattle.nl_types.specs.Roots.{numbered}
-use Rattle.nl_blocktree.specs.Edits.{TellsAll, edited, edits_from}
+use Rattle.nl_blocktree.specs.Private.Edits.{TellsAll, edited, edits_from}
 use Rattle.nl_blocktree.specs.declared.tree.Edit.{Edit}
 use Rattle.nl_blocktree.proofs.TreeSlots.{all_below, tells_made}
 use Rattle.nl_blocktree.proofs.slots.told_edits.Goals as goal

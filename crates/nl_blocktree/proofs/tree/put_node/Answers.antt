@@ -5,11 +5,11 @@ use Rattle.nl_types.specs.Entries.{Birth}
 use Rattle.nl_types.specs.Roots.{Pages, child, numbered}
 use Rattle.nl_vstore.specs.Stores.{content_in}
 use Rattle.nl_vstore.specs.Batches.{Changes, IsLowestFree}
-use Rattle.nl_blocktree.specs.Writing as shapes
-use Rattle.nl_blocktree.specs.Edits.{edited}
+use Rattle.nl_blocktree.specs.Private.Writing as shapes
+use Rattle.nl_blocktree.specs.Private.Edits.{edited}
 use Rattle.nl_blocktree.specs.declared.tree.Edit.{Edit}
-use Rattle.nl_blocktree.proofs.Staying.{some-is}
-use Rattle.nl_blocktree.proofs.Numbers.{numbered-nonzero}
+use Rattle.nl_blocktree.specs.Facts.Staying.{some-is}
+use Rattle.nl_blocktree.specs.Facts.Numbers.{numbered-nonzero}
 use Rattle.nl_blocktree.proofs.tree.put_node.Goals as goal
 
 -- what is read is what is stored

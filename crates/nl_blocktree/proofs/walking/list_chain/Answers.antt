@@ -3,7 +3,7 @@ use Rattle.std.specs.Option.{is_some}
 use Rattle.nl_layout.specs.Root.{root_of}
 use Rattle.nl_blocktree.specs.Walked.{AreAllBlocks, level_from}
 use Rattle.nl_blocktree.specs.declared.walking.PlacedBlock.{PlacedBlock}
-use Rattle.nl_blocktree.proofs.Frames.{data-places}
+use Rattle.nl_blocktree.specs.Facts.Frames.{data-places}
 use Rattle.nl_blocktree.proofs.WalkedBlocks.{all-blocks, bounded, empty-last, node-places, out-of-range, short-enough, too-long}
 use Rattle.nl_blocktree.proofs.walking.list_chain.Goals as goal
 

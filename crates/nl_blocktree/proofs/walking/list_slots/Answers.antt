@@ -14,7 +14,7 @@ loop-node-preserved g c =
     let within : k < length c.args.nodes.now = omega arith in
     slots_next (g.V.VRead.pages c.args.store.now) c.args.nodes.now c.loop-node.slots.items c.add_slots.new.slots.items k n c.loop-node.invariant
     (any_default c.args.nodes.now k 0 n within ∙ sym c.node-item.is)
-    c.in_ok-add_slots.ensures.ok.count c.in_ok-add_slots.ensures.ok.kept c.in_ok-add_slots.ensures.ok.added c.in_ok-add_slots.ensures.ok.full
+    c.in_ok-add_slots.ensures.ok.count c.in_ok-add_slots.ensures.ok.slots_stay c.in_ok-add_slots.ensures.ok.added c.in_ok-add_slots.ensures.ok.full
 
 pub returns-clause-slots : goal.returns-clause-slots
 returns-clause-slots g c = slots_done (g.V.VRead.pages c.args.store.now) c.args.nodes.now c.loop-node.slots.items c.trim.new.slots.items c.loop-node.node-index c.loop-node.invariant (omega arith) c.trim.ensures.same

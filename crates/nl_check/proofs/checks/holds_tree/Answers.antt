@@ -2,7 +2,7 @@ use Rattle.std.proofs.Common.{◌≡◌, Bool, false}
 use Rattle.std.specs.Prelude.{IsTrue}
 use Rattle.nl_layout.specs.Root.{root_of}
 use Rattle.nl_check.specs.Trees.{IsTreeOf}
-use Rattle.nl_check.proofs.Below.{both, ok-then}
+use Rattle.nl_check.specs.Facts.Below.{both, ok-then}
 use Rattle.nl_check.proofs.JudgedCheckpoints.{holding-of, holds-of, limits-of, stores-of, tells-kinds, tree-holds, tree-of, tree-told}
 use Rattle.nl_check.proofs.checks.holds_tree.Goals as goal
 

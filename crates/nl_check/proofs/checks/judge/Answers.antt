@@ -1,7 +1,7 @@
 use Rattle.std.proofs.Common.{◌∙◌, Option, sym, subst}
 use Rattle.std.specs.Prelude.{IfSome}
 use Rattle.nl_layout.specs.Root.{root_of}
-use Rattle.nl_check.specs.Walks.{IsWalk}
+use Rattle.nl_check.specs.Private.Walks.{IsWalk}
 use Rattle.nl_check.specs.declared.shape.Walk.{Walk}
 use Rattle.nl_check.proofs.JudgedCheckpoints.{judged}
 use Rattle.nl_check.proofs.checks.judge.Goals as goal

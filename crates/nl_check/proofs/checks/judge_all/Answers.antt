@@ -4,7 +4,7 @@ use Rattle.std.proofs.lemmas.Option.{slice_get_read}
 use Rattle.nl_check.specs.Conditions.{FirstFault}
 use Rattle.nl_check.specs.Judging.{IsJudged, told}
 use Rattle.nl_check.specs.declared.checks.Judged.{Judged}
-use Rattle.nl_check.proofs.Below.{none-from}
+use Rattle.nl_check.specs.Facts.Below.{none-from}
 use Rattle.nl_check.proofs.JudgedCheckpoints.{judged-all, judged-more, judged-none, shape-fails}
 use Rattle.nl_check.proofs.checks.judge_all.Goals as goal
 

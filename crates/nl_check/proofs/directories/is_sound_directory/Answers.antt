@@ -3,7 +3,7 @@ use Rattle.std.specs.Prelude.{IfSome, MatchOption}
 use Rattle.nl_types.specs.Roots.{page_at}
 use Rattle.nl_layout.specs.Root.{root_of}
 use Rattle.nl_dirs.specs.Listings.{HoldsRecords}
-use Rattle.nl_check.specs.SoundFiles.{AreSoundRecords}
+use Rattle.nl_check.specs.Private.SoundFiles.{AreSoundRecords}
 use Rattle.nl_check.proofs.directories.is_sound_directory.Goals as goal
 
 pub returns-in-Some-clause-is : goal.returns-in-Some-clause-is

@@ -1,5 +1,5 @@
 use Rattle.std.proofs.Common.{◌≡◌, ◌+◌, ◌≤◌, drop}
-use Rattle.nl_check.specs.Naming.{awaited_count}
+use Rattle.nl_check.specs.Private.Naming.{awaited_count}
 use Rattle.nl_check.proofs.inodes.count_of.Given as goal
 
 abbrev pub invariant-loop-kind : goal.invariant-loop-kind

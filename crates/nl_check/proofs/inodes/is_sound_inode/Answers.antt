@@ -2,9 +2,9 @@ use Rattle.std.proofs.Common.{◌≡◌, ◌↔◌, Bool, Some, false}
 use Rattle.std.specs.Prelude.{IsTrue}
 use Rattle.nl_types.specs.Roots.{page_at}
 use Rattle.nl_layout.specs.Root.{root_of}
-use Rattle.nl_check.specs.SoundFiles.{IsSoundDirectory}
-use Rattle.nl_check.specs.SoundInodes.{IsSoundInode}
-use Rattle.nl_check.proofs.Below.{both, ok-map}
+use Rattle.nl_check.specs.Private.SoundFiles.{IsSoundDirectory}
+use Rattle.nl_check.specs.Private.SoundInodes.{IsSoundInode}
+use Rattle.nl_check.specs.Facts.Below.{both, ok-map}
 use Rattle.nl_check.proofs.SoundOnes.{directory-sound, file-sound, sound-directory-of, sound-file-of}
 use Rattle.nl_check.proofs.inodes.is_sound_inode.Goals as goal
 

@@ -1,4 +1,4 @@
-use Rattle.nl_check.proofs.Checkpoints.{exact_periods_are_exact, sound_trees_are_meant}
+use Rattle.nl_check.specs.Facts.Checkpoints.{exact_periods_are_exact, sound_trees_are_meant}
 use Rattle.nl_check.proofs.laws.checked_checkpoints_are_sound.Goals as goal
 
 pub returns-clause-trees : goal.returns-clause-trees

@@ -1,4 +1,4 @@
-use Rattle.nl_check.proofs.Forming.{formed_trees_are_meant, meant_trees_are_formed}
+use Rattle.nl_check.specs.Facts.Forming.{formed_trees_are_meant, meant_trees_are_formed}
 use Rattle.nl_check.proofs.laws.inodes_form_trees.Goals as goal
 
 pub returns-clause-meant : goal.returns-clause-meant

@@ -1,4 +1,4 @@
-use Rattle.nl_check.proofs.Checkpoints.{sound_checkpoints_are_shaped}
+use Rattle.nl_check.specs.Facts.Checkpoints.{sound_checkpoints_are_shaped}
 use Rattle.nl_check.proofs.laws.sound_checkpoints_are_shaped.Goals as goal
 
 pub returns : goal.returns

@@ -1,4 +1,4 @@
-use Rattle.nl_check.proofs.Checkpoints.{sound_checkpoints_meet_all}
+use Rattle.nl_check.specs.Facts.Checkpoints.{sound_checkpoints_meet_all}
 use Rattle.nl_check.proofs.laws.sound_checkpoints_meet_all.Goals as goal
 
 pub returns : goal.returns

@@ -1,6 +1,6 @@
 use Rattle.std.proofs.Common.{refl, arith}
-use Rattle.nl_check.specs.InodeBlocks.{IsSpelled}
-use Rattle.nl_check.proofs.Below.{below-more, none-by_none, some-by_none}
+use Rattle.nl_check.specs.Private.InodeBlocks.{IsSpelled}
+use Rattle.nl_check.specs.Facts.Below.{below-more, none-by_none, some-by_none}
 use Rattle.nl_check.proofs.InodeBlocks.{not-spelled, read-spelled}
 use Rattle.nl_check.proofs.shape.are_entries.Goals as goal
 

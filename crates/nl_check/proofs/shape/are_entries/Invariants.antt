@@ -1,5 +1,5 @@
 use Rattle.std.proofs.Common.{◌<◌, ℕ}
-use Rattle.nl_check.specs.InodeBlocks.{IsSpelled}
+use Rattle.nl_check.specs.Private.InodeBlocks.{IsSpelled}
 use Rattle.nl_check.proofs.shape.are_entries.Given as goal
 
 abbrev pub invariant-loop-place : goal.invariant-loop-place

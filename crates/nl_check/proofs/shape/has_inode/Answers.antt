@@ -1,6 +1,6 @@
 use Rattle.std.proofs.Common.{◌≡◌, ◌∙◌, ℕ, None, sym}
 use Rattle.nl_ifile.specs.Inodes.{inode_in}
-use Rattle.nl_check.proofs.Below.{below-more, none-by, some-by}
+use Rattle.nl_check.specs.Facts.Below.{below-more, none-by, some-by}
 use Rattle.nl_check.proofs.shape.has_inode.Goals as goal
 
 pub returns-then-is_some-clause-yes : goal.returns-then-is_some-clause-yes

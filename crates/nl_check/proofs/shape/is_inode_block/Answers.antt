@@ -1,6 +1,6 @@
 use Rattle.std.proofs.Common.{◌≡◌, ◌∙◌, Bool, true, false, refl, sym, ap, length}
 use Rattle.nl_check.proofs.InodeBlocks.{block-spelled, block-used, block-yes}
-use Rattle.nl_check.proofs.Below.{both}
+use Rattle.nl_check.specs.Facts.Below.{both}
 use Rattle.nl_check.proofs.shape.is_inode_block.Goals as goal
 
 pub returns-then-are_entries : goal.returns-then-are_entries

@@ -1,7 +1,7 @@
 use Rattle.std.proofs.Common.{◌≡◌, ◌+◌, ◌*◌, ℕ, Ok, ap, arith, refl, subst, ◌∙◌}
 use Rattle.nl_types.specs.Roots.{Pages}
-use Rattle.nl_check.specs.Walks.{AreKnown}
-use Rattle.nl_check.proofs.Below.{both, found-at, none-from}
+use Rattle.nl_check.specs.Private.Walks.{AreKnown}
+use Rattle.nl_check.specs.Facts.Below.{both, found-at, none-from}
 use Rattle.nl_check.proofs.KnownInodes.{inode-at-place, page-is-block}
 use Rattle.nl_check.proofs.shape.walk_block.Goals as goal
 

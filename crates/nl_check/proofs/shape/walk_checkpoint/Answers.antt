@@ -1,7 +1,7 @@
 use Rattle.nl_types.specs.Roots.{Pages}
 use Rattle.nl_layout.specs.Root.{root_of}
 use Rattle.nl_check.specs.declared.shape.Walk.{Walk}
-use Rattle.nl_check.proofs.Below.{found-at, missing-at, none-from}
+use Rattle.nl_check.specs.Facts.Below.{found-at, missing-at, none-from}
 use Rattle.nl_check.proofs.KnownInodes.{known-first, walk-of}
 use Rattle.nl_check.proofs.WalkedFiles.{first-can}
 use Rattle.nl_check.proofs.shape.walk_checkpoint.Goals as goal

@@ -1,8 +1,8 @@
 use Rattle.std.proofs.Common.{◌∙◌, ◌+◌, subst}
 use Rattle.nl_types.specs.Roots.{Pages}
 use Rattle.nl_layout.specs.Root.{root_of}
-use Rattle.nl_check.specs.Walks.{AreKnown}
-use Rattle.nl_check.proofs.Below.{both-first, both-second, missing-at, none-from}
+use Rattle.nl_check.specs.Private.Walks.{AreKnown}
+use Rattle.nl_check.specs.Facts.Below.{both-first, both-second, missing-at, none-from}
 use Rattle.nl_check.proofs.KnownInodes.{known-can, known-more, known-none, measured}
 use Rattle.nl_check.proofs.shape.walk_inode.Goals as goal
 

@@ -1,8 +1,8 @@
 use Rattle.std.proofs.Common.{Ok, ap, arith, refl, ◌∙◌}
 use Rattle.nl_types.specs.Roots.{Pages}
 use Rattle.nl_layout.specs.Root.{root_of}
-use Rattle.nl_check.specs.Walks.{IsBlockOf}
-use Rattle.nl_check.proofs.Below.{below-more, found-at, none-from}
+use Rattle.nl_check.specs.Private.Walks.{IsBlockOf}
+use Rattle.nl_check.specs.Facts.Below.{below-more, found-at, none-from}
 use Rattle.nl_check.proofs.shape.walk_inodes.Goals as goal
 
 pub loop-index-init : goal.loop-index-init

@@ -1,7 +1,7 @@
 use Rattle.std.proofs.Common.{◌≡◌, ◌*◌, ◌<◌, ℕ, length}
 use Rattle.std.specs.Option.{IsSome}
 use Rattle.nl_layout.specs.Root.{root_of}
-use Rattle.nl_check.specs.Walks.{AreKnown, IsBlockOf}
+use Rattle.nl_check.specs.Private.Walks.{AreKnown, IsBlockOf}
 use Rattle.nl_check.proofs.shape.walk_inodes.Given as goal
 
 abbrev pub invariant-loop-index : goal.invariant-loop-index

@@ -2,7 +2,7 @@ use Rattle.std.proofs.Common.{◌≡◌, ◌+◌, ◌-◌, ◌*◌, ◌^◌, ◌
 use Rattle.std.specs.Option.{IsSome}
 use Rattle.std.specs.Prelude.{IfSome}
 use Rattle.nl_types.specs.Roots.{Tree, place_at}
-use Rattle.nl_check.specs.TreePlaces.{IsMetUnder}
+use Rattle.nl_check.specs.Private.TreePlaces.{IsMetUnder}
 use Rattle.nl_check.proofs.tree_nodes.+walk_below.Given as goal
 
 abbrev pub decreases-walk_below : goal.decreases-walk_below

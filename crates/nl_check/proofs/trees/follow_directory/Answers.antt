@@ -1,7 +1,7 @@
 use Rattle.std.proofs.Common.{◌≡◌, ◌<◌, ◌∙◌, ℕ, List, Some, length, get_or, ap, refl, sym}
 use Rattle.std.specs.List.{slice_get}
 use Rattle.std.proofs.lemmas.Option.{slice_get_read}
-use Rattle.nl_check.proofs.Below.{ok-then}
+use Rattle.nl_check.specs.Facts.Below.{ok-then}
 use Rattle.nl_check.proofs.NamesFollowed.{next-records}
 use Rattle.nl_check.proofs.trees.follow_directory.Goals as goal
 

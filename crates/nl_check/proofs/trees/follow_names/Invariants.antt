@@ -1,6 +1,6 @@
 use Rattle.std.proofs.Common.{◌-◌, ◌+◌, ◌≤◌, [], ◌∷◌, length}
 use Rattle.nl_tree.specs.Held.{Holding, IsHolding}
-use Rattle.nl_check.specs.Naming.{IsNaming, awaited_count}
+use Rattle.nl_check.specs.Private.Naming.{IsNaming, awaited_count}
 use Rattle.nl_check.proofs.trees.follow_names.Given as goal
 
 abbrev pub invariant-loop-turn : goal.invariant-loop-turn

@@ -1,7 +1,7 @@
 use Rattle.std.proofs.Common.{◌≡◌, ◌+◌, ◌≤◌, ℕ, Some, length}
 use Rattle.std.specs.List.{slice_get}
 use Rattle.nl_tree.specs.Held.{Holding, IsHolding}
-use Rattle.nl_check.specs.Naming.{IsNaming, awaited_count, records_in}
+use Rattle.nl_check.specs.Private.Naming.{IsNaming, awaited_count, records_in}
 use Rattle.nl_check.proofs.trees.follow_records.Given as goal
 
 abbrev pub invariant-loop-record : goal.invariant-loop-record

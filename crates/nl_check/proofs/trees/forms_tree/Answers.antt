@@ -1,4 +1,4 @@
-use Rattle.nl_check.proofs.Below.{both}
+use Rattle.nl_check.specs.Facts.Below.{both}
 use Rattle.nl_check.proofs.NamesFollowed.{forms, naming-first, none-awaited, root-awaited}
 use Rattle.nl_check.proofs.trees.forms_tree.Goals as goal
 

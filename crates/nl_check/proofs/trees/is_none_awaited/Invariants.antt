@@ -1,5 +1,5 @@
 use Rattle.std.proofs.Common.{◌≡◌, ◌<◌, ℕ, None}
-use Rattle.nl_check.specs.SoundInodes.{kind_in}
+use Rattle.nl_check.specs.Private.SoundInodes.{kind_in}
 use Rattle.nl_check.proofs.trees.is_none_awaited.Given as goal
 
 abbrev pub invariant-loop-number : goal.invariant-loop-number

@@ -1,6 +1,6 @@
 use Rattle.std.proofs.Common.{rules, tests}
 use Rattle.std.proofs.lemmas.List.Sorted.{IsNonDecreasingBy-from_sort_by_key, answers_always}
-use Rattle.nl_cleaner.specs.Choice.{stamp_of}
+use Rattle.nl_cleaner.specs.Private.Choice.{stamp_of}
 use Rattle.nl_cleaner.proofs.Ages.{in-order}
 use Rattle.nl_cleaner.proofs.choice.by_age.Goals as goal
 

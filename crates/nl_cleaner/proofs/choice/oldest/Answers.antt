@@ -1,5 +1,5 @@
 use Rattle.std.proofs.Common.{sym, subst}
-use Rattle.nl_cleaner.specs.Choice.{AreFirst}
+use Rattle.nl_cleaner.specs.Private.Choice.{AreFirst}
 use Rattle.nl_cleaner.proofs.Ages.{are-first}
 use Rattle.nl_cleaner.proofs.choice.oldest.Goals as goal
 

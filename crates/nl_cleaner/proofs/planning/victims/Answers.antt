@@ -2,7 +2,7 @@ use Rattle.std.proofs.Common.{◌≡◌, ℕ, List, subst, sym}
 use Rattle.std.proofs.lemmas.Result.{IfOk-weaker}
 use Rattle.nl_core.specs.CleanerViews.{counts_after}
 use Rattle.nl_cleaner.specs.Plan.{AreVictims}
-use Rattle.nl_cleaner.specs.Choice.{AreChosen, Ascend}
+use Rattle.nl_cleaner.specs.Private.Choice.{AreChosen, Ascend}
 use Rattle.nl_cleaner.specs.declared.choice.Candidate.{Candidate}
 use Rattle.nl_cleaner.proofs.Victims.{are-victims, ascends}
 use Rattle.nl_cleaner.proofs.planning.victims.Goals as goal

@@ -1,12 +1,13 @@
 use Rattle.std.proofs.Common.{◌≡◌, ◌∙◌, ap, subst, true, map, List}
 use Rattle.clap.specs.Words.{App, Rule, Text}
+use Rattle.nl_types.specs.Calls.{IsUnless}
+use Rattle.nl_commands.specs.declared.error.LineError.TheVariants.{Memory}
 use Rattle.nl_commands.specs.Grammars.{argument_rule, is_readable, parsed, with_rules}
-use Rattle.nl_commands.specs.Outcomes.{IsUnlessMemory}
 use Rattle.nl_commands.proofs.grammar.read.Goals as goal
 
 pub returns : goal.returns
 returns c =
     let words : List Text = map (λ w. w.now) c.args.words.now in
     let own : List Rule = map argument_rule c.args.arguments.now in
-    subst (λ (app : App). is_readable app ≡ true → IsUnlessMemory c.read_by.result (parsed app words))
+    subst (λ (app : App). is_readable app ≡ true → IsUnless Memory c.read_by.result (parsed app words))
     (c.in_ok-command.ensures ∙ ap (λ (app : App). with_rules app own) c.bare-bare.ensures) c.read_by.ensures

@@ -1,6 +1,6 @@
 use Rattle.std.proofs.Common.{Err, refl}
 use Rattle.nl_core.specs.CleanerViews.{needed_from}
-use Rattle.nl_core.proofs.Outside.{needed-outside, no-segment}
+use Rattle.nl_core.specs.Facts.Outside.{needed-outside, no-segment}
 use Rattle.nl_core.proofs.cleaner_views.needed_in.Goals as goal
 
 pub returns-in-Err : goal.returns-in-Err

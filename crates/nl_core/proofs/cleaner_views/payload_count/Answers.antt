@@ -1,5 +1,5 @@
 use Rattle.std.proofs.Common.{Err, refl}
-use Rattle.nl_core.proofs.Outside.{no-segment, payload-outside}
+use Rattle.nl_core.specs.Facts.Outside.{no-segment, payload-outside}
 use Rattle.nl_core.proofs.cleaner_views.payload_count.Goals as goal
 
 pub returns-in-Err : goal.returns-in-Err

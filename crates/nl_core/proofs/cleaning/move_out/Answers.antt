@@ -7,8 +7,8 @@ use Rattle.nl_reclaim.specs.Cleaning.{HasListedFirst}
 use Rattle.nl_core.specs.CleaningEvents.{needed_by}
 use Rattle.nl_core.specs.Layout.{Does, layout_of, unshared}
 use Rattle.nl_core.specs.Volume.{Lists}
-use Rattle.nl_core.proofs.CleaningEvents.{does-idle, does-not-moved}
-use Rattle.nl_core.proofs.CountedPens.{listed-first, not-drafted, not-listed}
+use Rattle.nl_core.specs.Facts.CleaningEvents.{does-idle, does-not-moved}
+use Rattle.nl_core.specs.Facts.CountedPens.{listed-first, not-drafted, not-listed}
 use Rattle.nl_core.proofs.cleaning.move_out.Goals as goal
 
 pub returns-in_err-listed-clause-does : goal.returns-in_err-listed-clause-does

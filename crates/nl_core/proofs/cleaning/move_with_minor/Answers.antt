@@ -8,8 +8,8 @@ use Rattle.nl_core.specs.CleaningEvents.{kept_numbers, moved_answer}
 use Rattle.nl_core.specs.Layout.{Does, layout_of, unshared}
 use Rattle.nl_core.specs.NeededBlocks.{AreNeededCounts}
 use Rattle.nl_core.specs.Volume.{Lists, with_minor}
-use Rattle.nl_core.proofs.CleaningEvents.{does-moved, does-not-moved, stays}
-use Rattle.nl_core.proofs.CountedPens.{minor-counted, moved-listed, moved-needed, moved-some, not-moved}
+use Rattle.nl_core.specs.Facts.CleaningEvents.{does-moved, does-not-moved, stays}
+use Rattle.nl_core.specs.Facts.CountedPens.{minor-counted, moved-listed, moved-needed, moved-some, not-moved}
 use Rattle.nl_core.proofs.cleaning.move_with_minor.Goals as goal
 
 pub returns-in_err-count-clause-does : goal.returns-in_err-count-clause-does

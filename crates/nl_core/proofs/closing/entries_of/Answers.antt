@@ -2,7 +2,7 @@ use Rattle.std.proofs.Common.{arith, sym}
 use Rattle.std.proofs.lemmas.List.{take_more}
 use Rattle.nl_types.specs.Roots.{pages_of}
 use Rattle.nl_vstore.specs.Stores.{content_in}
-use Rattle.nl_cpfile.proofs.ImageEntries.{zip_push}
+use Rattle.nl_cpfile.specs.Facts.ImageEntries.{zip_push}
 use Rattle.nl_image.specs.StoreImages.{IsSizedEntry}
 use Rattle.nl_core.proofs.closing.entries_of.Goals as goal
 

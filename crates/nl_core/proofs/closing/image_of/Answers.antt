@@ -2,7 +2,7 @@ use Rattle.std.proofs.Common.{subst, sym}
 use Rattle.nl_types.specs.Roots.{pages_of}
 use Rattle.nl_vstore.specs.Stores.{content_in}
 use Rattle.nl_cpfile.specs.Tables.{Table, all}
-use Rattle.nl_core.specs.Closed.{HaveSizes}
+use Rattle.nl_core.specs.Private.Closed.{HaveSizes}
 use Rattle.nl_core.specs.Layout.{layout_of}
 use Rattle.nl_core.proofs.Closed.{have-sizes, numbers-fit, pen-read}
 use Rattle.nl_core.proofs.closing.image_of.Goals as goal

@@ -6,7 +6,7 @@ use Rattle.nl_cpfile.specs.Tables.{all}
 use Rattle.nl_vstore.specs.Stores.{content_in}
 use Rattle.nl_core.specs.CleaningEvents.{kept_numbers}
 use Rattle.nl_core.specs.Layout.{layout_of}
-use Rattle.nl_core.proofs.CountedPens.{latest-of, tells-needs}
+use Rattle.nl_core.specs.Facts.CountedPens.{latest-of, tells-needs}
 use Rattle.nl_core.proofs.OpenedImages.{is-opened, kept-rooted, latest-was-checked, own-read}
 use Rattle.nl_core.proofs.RestoredImages.{image-opened}
 use Rattle.nl_core.proofs.image.open_read.Goals as goal

@@ -1,5 +1,5 @@
 use Rattle.nl_core.specs.Layout.{unshared}
-use Rattle.nl_core.proofs.Refusals.{no_space_is_true, no_space_is_said}
+use Rattle.nl_core.specs.Facts.Refusals.{no_space_is_true, no_space_is_said}
 use Rattle.nl_core.proofs.laws.space_is_judged_exactly.Goals as goal
 
 pub returns-clause-only : goal.returns-clause-only

@@ -1,6 +1,6 @@
 use Rattle.std.proofs.Common.{◌*◌, ◌++◌, [], List, Option, ℕ, ap, sym, ◌∙◌}
 use Rattle.nl_vstore.specs.Located.{number_at, onto, picked}
-use Rattle.nl_vstore.proofs.CountedRows.{row-grows}
+use Rattle.nl_vstore.specs.Facts.CountedRows.{row-grows}
 use Rattle.nl_core.proofs.noting.listed_numbers.Goals as goal
 
 pub loop-position-preserved : goal.loop-position-preserved

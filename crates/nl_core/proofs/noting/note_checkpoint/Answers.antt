@@ -8,8 +8,8 @@ use Rattle.nl_counts.specs.Events.{IsNextWritten}
 use Rattle.nl_core.specs.CleaningEvents.{kept_numbers}
 use Rattle.nl_core.specs.Layout.{layout_of}
 use Rattle.nl_core.specs.Notes.{DoesNoting}
-use Rattle.nl_core.proofs.CountedPens.{next-written, numbers-next, refused-counts}
-use Rattle.nl_core.proofs.Ledgers.{can_be-drafted, has_few-names}
+use Rattle.nl_core.specs.Facts.CountedPens.{next-written, numbers-next, refused-counts}
+use Rattle.nl_core.specs.Facts.Ledgers.{can_be-drafted, has_few-names}
 use Rattle.nl_core.proofs.NotedEvents.{noting-unwritten, noting-written, written-batch}
 use Rattle.nl_core.proofs.noting.note_checkpoint.Goals as goal
 

@@ -11,8 +11,8 @@ use Rattle.nl_core.specs.CleaningEvents.{needed_by}
 use Rattle.nl_core.specs.Layout.{Does, layout_of, unshared}
 use Rattle.nl_core.specs.Volume.{Lists}
 use Rattle.nl_core.specs.declared.commit.Commit.{Commit}
-use Rattle.nl_core.proofs.CleaningEvents.{does-idle, does-not-moved}
-use Rattle.nl_core.proofs.CountedPens.{listed-first, not-drafted, not-listed}
+use Rattle.nl_core.specs.Facts.CleaningEvents.{does-idle, does-not-moved}
+use Rattle.nl_core.specs.Facts.CountedPens.{listed-first, not-drafted, not-listed}
 use Rattle.nl_core.proofs.NotedEvents.{noting-moved, noting-not_moved}
 use Rattle.nl_core.proofs.noting.note_move.Goals as goal
 

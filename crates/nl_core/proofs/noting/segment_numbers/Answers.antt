@@ -1,7 +1,7 @@
 use Rattle.std.proofs.Common.{◌≡◌, Err, refl, arith}
 use Rattle.std.proofs.lemmas.Result.{IfOk-weaker}
 use Rattle.nl_vstore.specs.Located.{numbers_in}
-use Rattle.nl_core.proofs.Outside.{no-segment}
+use Rattle.nl_core.specs.Facts.Outside.{no-segment}
 use Rattle.nl_core.proofs.noting.segment_numbers.Goals as goal
 
 pub returns-in-Ok : goal.returns-in-Ok

@@ -2,11 +2,12 @@ use Rattle.std.proofs.Common.{◌≡◌, ◌+◌, [], ◌∷◌, ◌++◌, sym, 
 use Rattle.std.specs.Prelude.{List}
 use Rattle.std.proofs.lemmas.Grind.{common_steps}
 use Rattle.std.proofs.lemmas.List.{take_more, take_all}
-use Rattle.nl_types.specs.Runs.{Run, Run-more}
+use Rattle.nl_types.specs.Runs.{Run}
 use Rattle.nl_types.specs.Worlds.{Reply}
 use Rattle.nl_types.specs.declared.event.Event.{Event}
+use Rattle.nl_types.specs.Facts.Runs.{Run-more}
 use Rattle.nl_core.specs.Layout.{Does, unshared}
-use Rattle.nl_core.proofs.Leading.{runs_lead_on}
+use Rattle.nl_core.specs.Facts.Leading.{runs_lead_on}
 use Rattle.nl_core.proofs.pen.run.Goals as goal
 
 pub loop-event-preserved : goal.loop-event-preserved

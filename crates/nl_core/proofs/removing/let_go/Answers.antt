@@ -1,4 +1,4 @@
-use Rattle.nl_core.proofs.CountedPens.{lost-between, lost-none}
+use Rattle.nl_core.specs.Facts.CountedPens.{lost-between, lost-none}
 use Rattle.nl_core.proofs.removing.let_go.Goals as goal
 
 pub returns-in-Some : goal.returns-in-Some

@@ -1,6 +1,6 @@
 use Rattle.std.specs.Prelude.{Ok, Err}
 use Rattle.std.proofs.lemmas.Result.{err_from_is_err_and}
-use Rattle.nl_core.proofs.CountedPens.{lost-one}
+use Rattle.nl_core.specs.Facts.CountedPens.{lost-one}
 use Rattle.nl_core.proofs.Moving.{does-Remove, pages_under}
 use Rattle.nl_core.proofs.removing.remove.Goals as goal
 

@@ -8,8 +8,8 @@ use Rattle.nl_counts.specs.Events.{IsNextWritten}
 use Rattle.nl_core.specs.CleaningEvents.{kept_numbers}
 use Rattle.nl_core.specs.Layout.{Does, layout_of, unshared}
 use Rattle.nl_core.proofs.Checkpointing.{does-refused, does-written}
-use Rattle.nl_core.proofs.CountedPens.{next-written, numbers-next, refused-counts}
-use Rattle.nl_core.proofs.Ledgers.{can_be-drafted, has_few-names}
+use Rattle.nl_core.specs.Facts.CountedPens.{next-written, numbers-next, refused-counts}
+use Rattle.nl_core.specs.Facts.Ledgers.{can_be-drafted, has_few-names}
 use Rattle.nl_core.proofs.writing.checkpoint.Goals as goal
 
 pub write_checkpoint-requires-clause-base : goal.write_checkpoint-requires-clause-base

@@ -3,8 +3,8 @@ use Rattle.std.specs.Prelude.{map}
 use Rattle.nl_types.specs.PartialMaps.{Partial}
 use Rattle.nl_vstore.specs.Batches.{number_of_payload}
 use Rattle.nl_vstore.specs.Stores.{address_in}
-use Rattle.nl_counts.specs.Adding.{GetBlocks, mixed}
-use Rattle.nl_counts.specs.Places.{AreCountsIn}
+use Rattle.nl_counts.specs.Private.Adding.{GetBlocks, mixed}
+use Rattle.nl_counts.specs.Private.Places.{AreCountsIn}
 use Rattle.nl_counts.proofs.counting.count_births.Given as goal
 
 abbrev pub invariant-loop-birth : goal.invariant-loop-birth

@@ -1,8 +1,8 @@
 use Rattle.std.proofs.Common.{ℕ, take}
 use Rattle.nl_types.specs.PartialMaps.{Partial}
 use Rattle.nl_vstore.specs.Stores.{address_in}
-use Rattle.nl_counts.specs.Adding.{LeaveSegment, mixed}
-use Rattle.nl_counts.specs.Places.{AreCountsIn}
+use Rattle.nl_counts.specs.Private.Adding.{LeaveSegment, mixed}
+use Rattle.nl_counts.specs.Private.Places.{AreCountsIn}
 use Rattle.nl_counts.proofs.counting.count_moves.Given as goal
 
 abbrev pub invariant-loop-number : goal.invariant-loop-number

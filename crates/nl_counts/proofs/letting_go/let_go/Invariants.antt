@@ -1,7 +1,7 @@
 use Rattle.std.proofs.Common.{◌≡◌, ◌≤◌}
 use Rattle.nl_vstore.specs.Located.{by_period, needs}
 use Rattle.nl_vstore.specs.Stores.{content_in}
-use Rattle.nl_counts.specs.Listed.{AreListed, HasLetGoAll}
+use Rattle.nl_counts.specs.Private.Listed.{AreListed, HasLetGoAll}
 use Rattle.nl_counts.proofs.letting_go.let_go.Given as goal
 
 abbrev pub invariant-loop-index : goal.invariant-loop-index

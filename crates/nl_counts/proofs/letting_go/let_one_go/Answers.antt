@@ -1,8 +1,8 @@
 use Rattle.std.proofs.Common.{subst, sym, ◌∙◌}
 use Rattle.nl_vstore.specs.Located.{by_period, needs}
 use Rattle.nl_vstore.specs.Stores.{content_in}
-use Rattle.nl_counts.specs.EndLists.{Roomy}
-use Rattle.nl_counts.specs.Listed.{AreListed}
+use Rattle.nl_counts.specs.EndLists.{RoomyEnds}
+use Rattle.nl_counts.specs.Private.Listed.{AreListed}
 use Rattle.nl_counts.proofs.LetGo.{taken-listed}
 use Rattle.nl_counts.proofs.SegmentsOf.{follow-laws}
 use Rattle.nl_counts.proofs.letting_go.let_one_go.Goals as goal
@@ -10,7 +10,7 @@ use Rattle.nl_counts.proofs.letting_go.let_one_go.Goals as goal
 pub returns-then-take_off-clause-listed : goal.returns-then-take_off-clause-listed
 returns-then-take_off-clause-listed g c =
     let store = g.V.Vstore.store c.args.store.now in
-    subst (λ (r : Roomy). AreListed store c.take_off.new.counts r.ended) (sym c.blank.ensures)
+    subst (λ (r : RoomyEnds). AreListed store c.take_off.new.counts r.ended) (sym c.blank.ensures)
     (taken-listed (follow-laws c.counts_follow_blocks.ensures.added c.counts_follow_blocks.ensures.taken c.counts_follow_blocks.ensures.few c.counts_follow_blocks.ensures.some)
     store (g.met.V.Vstore.is_store c.args.store.now) (needs (by_period (g.K.Keeping.test c.args.keeping.now)) (content_in store)) c.args.counts.now c.take_off.new.counts
     c.args.ends.now.ended c.args.index c.in-Some.number c.requires.listed (record { within = c.requires.index; there = sym c.number.ensures ∙ c.in-Some.is }) c.if-take_off.ensures.taken)

@@ -1,5 +1,5 @@
 use Rattle.nl_vstore.specs.Located.{by_period}
-use Rattle.nl_counts.specs.Walked.{HasWalked}
+use Rattle.nl_counts.specs.Private.Walked.{HasWalked}
 use Rattle.nl_counts.proofs.walking.walk.Given as goal
 
 abbrev pub invariant-loop-below : goal.invariant-loop-below

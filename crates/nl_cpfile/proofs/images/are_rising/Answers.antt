@@ -1,5 +1,5 @@
 use Rattle.std.proofs.Common.{refl, subst, arith, length, ◌≡◌}
-use Rattle.nl_cpfile.proofs.ImageEntries.{AreRisingBelow, all_rise}
+use Rattle.nl_cpfile.specs.Facts.ImageEntries.{AreRisingBelow, all_rise}
 use Rattle.nl_cpfile.proofs.images.are_rising.Goals as goal
 
 pub returns : goal.returns

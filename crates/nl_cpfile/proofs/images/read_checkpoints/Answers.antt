@@ -1,4 +1,4 @@
-use Rattle.nl_cpfile.proofs.ImageEntries.{count_told}
+use Rattle.nl_cpfile.specs.Facts.ImageEntries.{count_told}
 use Rattle.nl_cpfile.proofs.images.read_checkpoints.Goals as goal
 
 pub returns-then-are_known_to-clause-count : goal.returns-then-are_known_to-clause-count

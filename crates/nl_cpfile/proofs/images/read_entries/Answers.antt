@@ -1,9 +1,9 @@
 use Rattle.std.proofs.Common.{◌≡◌, ◌*◌, ◌<◌, ◌∙◌, length, get_or, arith, length-append}
 use Rattle.std.proofs.lemmas.List.{take_all}
 use Rattle.std.proofs.lemmas.List.Elements.{All-push}
-use Rattle.nl_types.proofs.EqualPieces.{take_piece}
-use Rattle.nl_layout.specs.Checkpoints.{Fits, checkpoint_bytes}
-use Rattle.nl_cpfile.proofs.ImageEntries.{blank, count_told, entry_in_place, one_more}
+use Rattle.nl_types.specs.Facts.EqualPieces.{take_piece}
+use Rattle.nl_layout.specs.Checkpoints.{HasSpelling, checkpoint_bytes}
+use Rattle.nl_cpfile.specs.Facts.ImageEntries.{blank, count_told, entry_in_place, one_more}
 use Rattle.nl_cpfile.proofs.images.read_entries.Goals as goal
 
 pub returns-in_default-clause-only : goal.returns-in_default-clause-only
@@ -19,7 +19,7 @@ loop-i-preserved c =
     rw items (record {
       read = take_piece checkpoint_bytes 160 bytes c.loop-i.kept.items c.in-Some.entry c.loop-i.i c.loop-i.invariant.read c.in-Some.ensures.found.spelling;
       count = simp length-append (omega (arith, c.loop-i.invariant.count));
-      fit = All-push Fits c.loop-i.kept.items c.in-Some.entry c.loop-i.invariant.fit c.in-Some.ensures.found.fits;
+      fit = All-push HasSpelling c.loop-i.kept.items c.in-Some.entry c.loop-i.invariant.fit c.in-Some.ensures.found.fits;
       only = λ kept spelled fit.
           let count : length bytes ≡ 160 * length kept = count_told bytes kept spelled in
           let within : c.loop-i.i < length kept = omega (arith, count) in

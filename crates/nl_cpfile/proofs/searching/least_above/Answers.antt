@@ -9,7 +9,7 @@ use Rattle.nl_cpfile.specs.declared.checkpoint.Checkpoint.{Checkpoint}
 use Rattle.nl_cpfile.specs.Searching.{IsLeastAbove, NoneAbove}
 use Rattle.nl_cpfile.specs.Tables.{kept_numbers}
 use Rattle.nl_cpfile.proofs.Numbers.{IsPlaceAbove, least_above, none_above}
-use Rattle.nl_cpfile.proofs.Rising.{IsRising-numbers}
+use Rattle.nl_cpfile.specs.Facts.Rising.{IsRising-numbers}
 use Rattle.nl_cpfile.proofs.searching.least_above.Goals as goal
 
 pub returns : goal.returns

@@ -6,8 +6,8 @@ use Rattle.nl_layout.specs.declared.root.Root.TheVariants.{Empty}
 use Rattle.nl_types.specs.declared.event.Mode.TheVariants.{Plain}
 use Rattle.nl_cpfile.specs.declared.checkpoint.Checkpoint.{Checkpoint}
 use Rattle.nl_cpfile.specs.Searching.{IsPlaceOf}
-use Rattle.nl_cpfile.proofs.Found.{IsPlace, found-not_here}
-use Rattle.nl_cpfile.proofs.Rising.{IsRising-numbers}
+use Rattle.nl_cpfile.specs.Facts.Found.{IsPlace, found-not_here}
+use Rattle.nl_cpfile.specs.Facts.Rising.{IsRising-numbers}
 use Rattle.nl_cpfile.proofs.searching.place_of.Goals as goal
 
 pub returns-else-eq : goal.returns-else-eq

@@ -1,5 +1,5 @@
 use Rattle.std.proofs.Common.{sym, ap, ◌∙◌}
-use Rattle.nl_types.proofs.PartialMaps.{adjust-some}
+use Rattle.nl_types.specs.Facts.PartialMaps.{adjust-some}
 use Rattle.nl_dat.specs.Table.{entry_in, ended_entry}
 use Rattle.nl_dat.proofs.entries.end_entry.Goals as goal
 

@@ -1,10 +1,10 @@
 use Rattle.std.proofs.Common.{◌*◌, ◌∙◌, None, get_or, sym, arith, length-append}
 use Rattle.std.proofs.lemmas.List.{take_all}
 use Rattle.std.proofs.lemmas.List.Elements.{All-push}
-use Rattle.nl_types.proofs.EqualPieces.{take_piece}
-use Rattle.nl_dat.specs.EntryBytes.{Fits, number_bytes}
-use Rattle.nl_dat.specs.Images.{IsSound}
-use Rattle.nl_dat.proofs.ImageEntries.{entry_in_place, one_more}
+use Rattle.nl_types.specs.Facts.EqualPieces.{take_piece}
+use Rattle.nl_dat.specs.EntryBytes.{HasSpelling, number_bytes}
+use Rattle.nl_dat.specs.Images.{IsSoundNumber}
+use Rattle.nl_dat.specs.Facts.ImageEntries.{entry_in_place, one_more}
 use Rattle.nl_dat.proofs.images.read_entries.Goals as goal
 
 pub returns-in_default-clause-only : goal.returns-in_default-clause-only
@@ -19,8 +19,8 @@ loop-i-preserved c =
     rw items (record {
       read = take_piece number_bytes 24 bytes c.loop-i.numbers.items c.in-Some.entry c.loop-i.i c.loop-i.invariant.read found.spells.spelling;
       count = simp length-append (omega (arith, c.loop-i.invariant.count));
-      fit = All-push Fits c.loop-i.numbers.items c.in-Some.entry c.loop-i.invariant.fit found.spells.fits;
-      sound = All-push (IsSound c.args.segments.now c.args.latest) c.loop-i.numbers.items c.in-Some.entry c.loop-i.invariant.sound found.sound;
+      fit = All-push HasSpelling c.loop-i.numbers.items c.in-Some.entry c.loop-i.invariant.fit found.spells.fits;
+      sound = All-push (IsSoundNumber c.args.segments.now c.args.latest) c.loop-i.numbers.items c.in-Some.entry c.loop-i.invariant.sound found.sound;
       only = λ numbers are. one_more numbers c.loop-i.i c.loop-i.numbers.items c.in-Some.entry (omega (arith, are.count)) (c.loop-i.invariant.only numbers are)
           (c.in-Some.ensures.only (get_or numbers c.loop-i.i None) (entry_in_place c.args.segments.now c.args.latest bytes numbers c.loop-i.i are (omega arith)));
     })

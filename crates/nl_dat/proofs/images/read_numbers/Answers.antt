@@ -5,7 +5,7 @@ use Rattle.nl_dat.specs.declared.entries.DatEntry.{DatEntry}
 use Rattle.nl_dat.specs.Images.{entry_told, table_of}
 use Rattle.nl_dat.specs.Table.{addresses_of}
 use Rattle.nl_dat.specs.TakenOut.{HaveOwnBlocks}
-use Rattle.nl_dat.proofs.ImageEntries.{blocks_inside, entries_told, told_numbers, told_over}
+use Rattle.nl_dat.specs.Facts.ImageEntries.{blocks_inside, entries_told, told_numbers, told_over}
 use Rattle.nl_dat.proofs.images.read_numbers.Goals as goal
 
 pub returns-in_err-numbers-clause-only : goal.returns-in_err-numbers-clause-only

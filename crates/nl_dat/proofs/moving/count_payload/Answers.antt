@@ -1,4 +1,4 @@
-use Rattle.nl_vstore.proofs.CountedRows.{row-next}
+use Rattle.nl_vstore.specs.Facts.CountedRows.{row-next}
 use Rattle.nl_dat.proofs.moving.count_payload.Goals as goal
 
 pub loop-position-preserved : goal.loop-position-preserved

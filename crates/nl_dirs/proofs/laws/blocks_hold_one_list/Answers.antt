@@ -1,6 +1,6 @@
 use Rattle.std.proofs.Common.{length, arith}
 use Rattle.nl_dirs.proofs.Holding.{some_list}
-use Rattle.nl_dirs.proofs.Spelling.{blocks_hold_their_records, bytes_hold_one_list}
+use Rattle.nl_dirs.specs.Facts.Spelling.{blocks_hold_their_records, bytes_hold_one_list}
 use Rattle.nl_dirs.proofs.laws.blocks_hold_one_list.Goals as goal
 
 pub returns-clause-some : goal.returns-clause-some

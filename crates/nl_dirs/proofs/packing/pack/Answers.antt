@@ -3,7 +3,7 @@ use Rattle.std.proofs.lemmas.Bool.{eqb-false, eqb-true, leb-false}
 use Rattle.std.proofs.lemmas.List.{take_all, take_more}
 use Rattle.nl_dirs.specs.declared.packing.Filling.{Filling}
 use Rattle.nl_dirs.specs.declared.record.Record.{Record}
-use Rattle.nl_dirs.specs.Records.{RecordFits, size_of}
+use Rattle.nl_dirs.specs.Records.{RecordHasSpelling, size_of}
 use Rattle.nl_dirs.specs.Packing.{IsFilled, Packs}
 use Rattle.nl_dirs.proofs.Packings.{IsPackedSoFar, so_far-added, so_far-begun, so_far-closed, so_far-ends, so_far-ends_with, so_far-same}
 use Rattle.nl_dirs.proofs.packing.pack.Goals as goal
@@ -18,8 +18,8 @@ loop-record-preserved c =
     let more : take (c.loop-record.record-index + 1) c.args.records.now ≡ take c.loop-record.record-index c.args.records.now ++ c.record-item.result ∷ [] =
     take_more c.args.records.now c.loop-record.record-index c.record-item.result within
     ∙ ap (λ (r : Record). take c.loop-record.record-index c.args.records.now ++ r ∷ []) (sym c.record-item.is) in
-    let fits : RecordFits c.record-item.result =
-    subst RecordFits (sym c.record-item.is) (c.requires c.loop-record.record-index c.record-item.result within) in
+    let fits : RecordHasSpelling c.record-item.result =
+    subst RecordHasSpelling (sym c.record-item.is) (c.requires c.loop-record.record-index c.record-item.result within) in
     let most : length c.record-item.result.name ≤ 255 = fits.most in
     elim c.if-not-has_room.branch [
       | then-not-has_room+in_ok-push w ↦

@@ -1,5 +1,5 @@
 use Rattle.std.proofs.Common.{sym, ◌∙◌}
-use Rattle.nl_dirs.specs.Stored.{stored}
+use Rattle.nl_dirs.specs.Private.Stored.{stored}
 use Rattle.nl_dirs.proofs.Holding.{found_at, found_nowhere, not_found-more, not_found-none}
 use Rattle.nl_dirs.proofs.reading.find.Goals as goal
 

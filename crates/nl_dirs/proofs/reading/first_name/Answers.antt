@@ -1,5 +1,5 @@
 use Rattle.std.proofs.Common.{◌≡◌, List, ℕ, subst}
-use Rattle.nl_dirs.specs.Stored.{stored}
+use Rattle.nl_dirs.specs.Private.Stored.{stored}
 use Rattle.nl_dirs.specs.Records.{AreBytes, Begins}
 use Rattle.nl_dirs.proofs.Holding.{first_at}
 use Rattle.nl_dirs.proofs.reading.first_name.Goals as goal

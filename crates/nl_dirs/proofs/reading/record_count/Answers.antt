@@ -1,4 +1,4 @@
-use Rattle.nl_dirs.specs.Stored.{stored}
+use Rattle.nl_dirs.specs.Private.Stored.{stored}
 use Rattle.nl_dirs.proofs.Counting.{all_counted, counted_more, counted_none}
 use Rattle.nl_dirs.proofs.reading.record_count.Goals as goal
 

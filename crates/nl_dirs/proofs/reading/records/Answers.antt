@@ -2,7 +2,7 @@ use Rattle.std.proofs.Common.{Bool, ◌≡◌, ◌≢◌, ◌++◌, ◌∷◌, [
 use Rattle.std.proofs.Math.ListN.{replicate}
 use Rattle.std.proofs.lemmas.Grind.{common_steps}
 use Rattle.nl_dirs.specs.declared.record.Record.{Record}
-use Rattle.nl_dirs.specs.Stored.{stored}
+use Rattle.nl_dirs.specs.Private.Stored.{stored}
 use Rattle.nl_dirs.proofs.Ascending.{IsBehind}
 use Rattle.nl_dirs.proofs.PageReading.{IsReadSoFar, all_read, all_read-IsPageOf, all_read-zeros, later_is_behind, read_more, read_none}
 use Rattle.nl_dirs.proofs.reading.records.Goals as goal

@@ -2,7 +2,7 @@ use Rattle.std.proofs.Common.{ℕ, ◌+◌, ◌-◌, ◌/◌, ◌≤◌, length,
 use Rattle.std.specs.Prelude.{◌%◌}
 use Rattle.nl_types.specs.Roots.{page_at}
 use Rattle.nl_layout.specs.Root.{root_of}
-use Rattle.nl_tree.proofs.CopiedBytes.{more_copied, put_fits}
+use Rattle.nl_tree.specs.Facts.CopiedBytes.{more_copied, put_fits}
 use Rattle.nl_files.proofs.copying.copy_bytes.Goals as goal
 
 pub loop-done-preserved : goal.loop-done-preserved

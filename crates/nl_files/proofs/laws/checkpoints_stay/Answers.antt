@@ -1,4 +1,4 @@
-use Rattle.nl_files.proofs.Staying.{checkpoints-stay, kept_pages-agree}
+use Rattle.nl_files.specs.Facts.Staying.{checkpoints-stay, kept_pages-agree}
 use Rattle.nl_files.proofs.laws.checkpoints_stay.Goals as goal
 
 pub returns-clause-stay : goal.returns-clause-stay

@@ -1,4 +1,4 @@
-use Rattle.nl_files.proofs.TreeLaws.{empty_roots-hold_nothing, first_trees-stand}
+use Rattle.nl_files.specs.Facts.TreeLaws.{empty_roots-hold_nothing, first_trees-stand}
 use Rattle.nl_files.proofs.laws.first_trees_stand.Goals as goal
 
 pub returns-clause-tree : goal.returns-clause-tree

@@ -1,4 +1,4 @@
-use Rattle.nl_files.proofs.TreeLaws.{settled_trees-go_on, trees-can_be_settled}
+use Rattle.nl_files.specs.Facts.TreeLaws.{settled_trees-go_on, trees-can_be_settled}
 use Rattle.nl_files.proofs.laws.settled_trees_go_on.Goals as goal
 
 pub returns-clause-before : goal.returns-clause-before

@@ -1,4 +1,4 @@
-use Rattle.nl_files.proofs.OneSettling.{clean-write_nothing, settlings-alike}
+use Rattle.nl_files.specs.Facts.OneSettling.{clean-write_nothing, settlings-alike}
 use Rattle.nl_files.proofs.laws.settlings_are_alike.Goals as goal
 
 pub returns-clause-alike : goal.returns-clause-alike

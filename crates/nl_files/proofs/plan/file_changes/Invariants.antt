@@ -1,7 +1,7 @@
 use Rattle.std.proofs.Common.{◌≡◌, ◌++◌}
 use Rattle.nl_tree.specs.Overlays.{new_pages}
 use Rattle.nl_tree.specs.Shown.{itself, pair, shown_entries}
-use Rattle.nl_files.specs.Planned.{merged}
+use Rattle.nl_files.specs.Private.Planned.{merged}
 use Rattle.nl_files.proofs.plan.file_changes.Given as goal
 
 abbrev pub invariant-loop-index : goal.invariant-loop-index

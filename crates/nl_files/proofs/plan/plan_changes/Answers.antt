@@ -4,7 +4,7 @@ use Rattle.nl_tree.specs.Became.{MayBecome}
 use Rattle.nl_tree.specs.Overlays.{became_of, new_pages}
 use Rattle.nl_tree.specs.Records.{records_of}
 use Rattle.nl_tree.specs.declared.overlay.Changed.{Changed}
-use Rattle.nl_files.specs.Planned.{IsPlanned, file_cut, merged, packed_over, removals}
+use Rattle.nl_files.specs.Private.Planned.{IsPlanned, file_cut, merged, packed_over, removals}
 use Rattle.nl_files.proofs.Planning.{directory-planned, directory-rises, file-planned, file-rises, ok-both, removal-planned, removal-rises}
 use Rattle.nl_files.proofs.plan.plan_changes.Goals as goal
 

@@ -1,6 +1,6 @@
 use Rattle.std.proofs.Common.{◌≡◌, ◌≤◌, ◌+◌, ◌++◌, length}
 use Rattle.std.specs.Vec.Iter.{into_iter_items}
-use Rattle.nl_files.specs.Planned.{placed}
+use Rattle.nl_files.specs.Private.Planned.{placed}
 use Rattle.nl_files.proofs.plan.put_pages.Given as goal
 
 abbrev pub invariant-loop-page : goal.invariant-loop-page

@@ -1,5 +1,5 @@
 use Rattle.std.proofs.Common.{◌<◌, ◌∙◌, arith}
-use Rattle.nl_tree.proofs.Rising.{push-moves}
+use Rattle.nl_tree.specs.Facts.Rising.{push-moves}
 use Rattle.nl_files.proofs.Merging.{removals-next}
 use Rattle.nl_files.proofs.plan.remove.Goals as goal
 

@@ -1,5 +1,5 @@
 use Rattle.std.proofs.Common.{◌≡◌, ◌-◌, ◌++◌, ◌<◌}
-use Rattle.nl_files.specs.Planned.{removals}
+use Rattle.nl_files.specs.Private.Planned.{removals}
 use Rattle.nl_files.proofs.plan.remove.Given as goal
 
 abbrev pub invariant-loop-index : goal.invariant-loop-index

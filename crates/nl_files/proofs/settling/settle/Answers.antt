@@ -12,7 +12,7 @@ use Rattle.nl_tree.specs.Overlays.{became_in, current_of}
 use Rattle.nl_files.specs.Settles.{IsCurrent, Settles, Settling}
 use Rattle.nl_files.specs.CheckpointRoots.{Stores, roots_at}
 use Rattle.nl_blocktree.specs.Checkpoints.{no_changes}
-use Rattle.nl_tree.proofs.Becoming.{became-may, became-rises}
+use Rattle.nl_tree.specs.Facts.Becoming.{became-may, became-rises}
 use Rattle.nl_files.proofs.Planning.{ok-both}
 use Rattle.nl_files.proofs.Storing.{inodes-ascend, inodes-within, settles}
 use Rattle.nl_files.proofs.settling.settle.Goals.{in-Ok, in-Err}

@@ -7,10 +7,10 @@ use Rattle.nl_vstore.specs.Stores.{content_in}
 use Rattle.nl_tree.specs.Became.{Became, EachMayBecome}
 use Rattle.nl_tree.specs.Overlays.{became_in, slot_shows}
 use Rattle.nl_tree.specs.Shown.{pair, shown_entries}
-use Rattle.nl_tree.proofs.Refusals.{passed_on}
+use Rattle.nl_tree.specs.Facts.Refusals.{passed_on}
 use Rattle.nl_files.specs.CheckpointRoots.{roots_at}
 use Rattle.nl_files.specs.Settles.{Settling}
-use Rattle.nl_files.proofs.Slots.{changes-rest, shown-split}
+use Rattle.nl_files.specs.Facts.Slots.{changes-rest, shown-split}
 use Rattle.nl_files.proofs.settling.settle_inodes.Goals as goal
 
 pub loop-number-preserved : goal.loop-number-preserved

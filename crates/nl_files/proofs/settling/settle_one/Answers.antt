@@ -4,9 +4,9 @@ use Rattle.nl_vstore.specs.Stores.{content_in}
 use Rattle.nl_blocktree.specs.declared.change.BlockChange.{BlockChange}
 use Rattle.nl_blocktree.specs.Changed.{IndexesAreInRange, IndexesAscend}
 use Rattle.nl_tree.specs.Overlays.{became_of}
-use Rattle.nl_tree.proofs.Rising.{rises-below, rises-pairs}
-use Rattle.nl_files.specs.Planned.{index_of}
-use Rattle.nl_files.proofs.Ones.{settled-one}
+use Rattle.nl_tree.specs.Facts.Rising.{rises-below, rises-pairs}
+use Rattle.nl_files.specs.Private.Planned.{index_of}
+use Rattle.nl_files.specs.Facts.Ones.{settled-one}
 use Rattle.nl_files.proofs.settling.settle_one.Goals as goal
 
 pub put_all-requires-clause-ascending : goal.put_all-requires-clause-ascending

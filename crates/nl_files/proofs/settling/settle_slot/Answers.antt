@@ -10,13 +10,13 @@ use Rattle.nl_ifile.specs.Inodes.{inode_at}
 use Rattle.nl_tree.specs.Became.{Became, EachMayBecome}
 use Rattle.nl_tree.specs.Overlays.{became_of}
 use Rattle.nl_tree.specs.Shown.{pair}
-use Rattle.nl_files.specs.CheckpointRoots.{IsRootInUse, root_in, roots_at}
-use Rattle.nl_files.specs.Planned.{inode_size}
+use Rattle.nl_files.specs.CheckpointRoots.{IsRootInUse, inode_root, roots_at}
+use Rattle.nl_files.specs.Private.Planned.{inode_size}
 use Rattle.nl_files.specs.Settles.{Settling}
-use Rattle.nl_files.proofs.Bases.{small-in}
+use Rattle.nl_files.specs.Facts.Bases.{small-in}
 use Rattle.nl_types.specs.declared.error.VolError.TheVariants.{Memory}
-use Rattle.nl_tree.proofs.Refusals.{passed_on}
-use Rattle.nl_files.proofs.Slots.{live-shown, slot-settled}
+use Rattle.nl_tree.specs.Facts.Refusals.{passed_on}
+use Rattle.nl_files.specs.Facts.Slots.{live-shown, slot-settled}
 use Rattle.nl_files.proofs.settling.settle_slot.Goals as goal
 
 pub settle_one-requires-clause-in_use : goal.settle_one-requires-clause-in_use
@@ -26,7 +26,7 @@ settle_one-requires-clause-in_use g c =
     let old : c.inode-old.result ≡ inode_at (pages_of content) (root_of c.args.root.now) number =
     c.inode-old.ensures
     ∙ ap (λ (pages : Pages). inode_at pages (root_of c.args.root.now) number) (g.met.V.Vstore.reads_pages c.args.store.now) in
-    subst (λ (o : Option Inode). IsRootInUse content (root_in o)) (sym old) (c.requires.checkpoint.each number)
+    subst (λ (o : Option Inode). IsRootInUse content (inode_root o)) (sym old) (c.requires.checkpoint.each number)
 
 pub settle_one-requires-clause-sized : goal.settle_one-requires-clause-sized
 settle_one-requires-clause-sized g c =

@@ -1,6 +1,7 @@
 use Rattle.std.proofs.Common.{option_copied}
+use Rattle.nl_types.specs.Inodes.{AreInUseFrom}
 use Rattle.nl_ifile.specs.Changing.{inodes_with}
-use Rattle.nl_ifile.specs.Free.{AreInUseFrom, inode_of_page}
+use Rattle.nl_ifile.specs.Free.{inode_of_page}
 use Rattle.nl_ifile.proofs.free.free_on_page.Given as goal
 
 abbrev pub invariant-loop-number : goal.invariant-loop-number

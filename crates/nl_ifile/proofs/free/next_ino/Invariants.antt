@@ -1,9 +1,9 @@
 use Rattle.std.proofs.Common.{◌≡◌, ◌*◌}
 use Rattle.std.specs.Prelude.{max}
+use Rattle.nl_types.specs.Inodes.{AreInUseFrom}
 use Rattle.nl_layout.specs.Root.{root_of}
 use Rattle.nl_ifile.specs.Inodes.{inode_at}
 use Rattle.nl_ifile.specs.Changing.{inodes_with}
-use Rattle.nl_ifile.specs.Free.{AreInUseFrom}
 use Rattle.nl_ifile.proofs.free.next_ino.Given as goal
 
 abbrev pub invariant-loop-block : goal.invariant-loop-block

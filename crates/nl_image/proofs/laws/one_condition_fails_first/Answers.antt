@@ -1,4 +1,4 @@
-use Rattle.nl_image.proofs.ConditionOrder.{images_have_no_fault, one_fails_first}
+use Rattle.nl_image.specs.Facts.ConditionOrder.{images_have_no_fault, one_fails_first}
 use Rattle.nl_image.proofs.laws.one_condition_fails_first.Goals as goal
 
 pub returns-clause-none : goal.returns-clause-none

@@ -1,5 +1,5 @@
 use Rattle.std.proofs.Common.{◌≡◌, false, inr, refl, sym, true}
-use Rattle.nl_image.proofs.ReadParts.{has-logs, own-fails, own-same}
+use Rattle.nl_image.specs.Facts.ReadParts.{has-logs, own-fails, own-same}
 use Rattle.nl_image.proofs.logs.read_logs.Goals as goal
 
 pub returns-then-have_own-clause-meets : goal.returns-then-have_own-clause-meets

@@ -1,4 +1,4 @@
-use Rattle.nl_image.proofs.ReadParts.{whole-refused}
+use Rattle.nl_image.specs.Facts.ReadParts.{whole-refused}
 use Rattle.nl_image.proofs.logs.read_whole.Goals as goal
 
 pub returns-clause-refused : goal.returns-clause-refused

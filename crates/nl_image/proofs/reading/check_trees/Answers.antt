@@ -1,5 +1,5 @@
 use Rattle.std.proofs.Common.{None, Some, inr, refl}
-use Rattle.nl_image.proofs.ReadParts.{fault-refuses, fault-same, have-both-same, no-fault}
+use Rattle.nl_image.specs.Facts.ReadParts.{fault-refuses, fault-same, have-both-same, no-fault}
 use Rattle.nl_image.proofs.reading.check_trees.Goals as goal
 
 pub first_fault-requires-clause-each : goal.first_fault-requires-clause-each

@@ -1,7 +1,7 @@
 use Rattle.std.proofs.Common.{◌≡◌, false, inr, refl, true}
 use Rattle.nl_image.specs.Reading.{parts_read}
-use Rattle.nl_image.proofs.LaterConditions.{meets-all, zeros-fail}
-use Rattle.nl_image.proofs.ReadParts.{are-zeros, has-zeros}
+use Rattle.nl_image.specs.Facts.LaterConditions.{meets-all, zeros-fail}
+use Rattle.nl_image.specs.Facts.ReadParts.{are-zeros, has-zeros}
 use Rattle.nl_image.proofs.reading.read_checked.Goals as goal
 
 pub returns-then-has_zeros-clause-image : goal.returns-then-has_zeros-clause-image

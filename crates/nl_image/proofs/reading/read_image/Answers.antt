@@ -1,4 +1,4 @@
-use Rattle.nl_image.proofs.ReadParts.{are-read}
+use Rattle.nl_image.specs.Facts.ReadParts.{are-read}
 use Rattle.nl_image.proofs.Restoring.{can-be-restored}
 use Rattle.nl_image.proofs.reading.read_image.Goals as goal
 

@@ -3,7 +3,7 @@ use Rattle.std.proofs.lemmas.List.{take_more_set}
 use Rattle.std.proofs.lemmas.List.Elements.{All-push}
 use Rattle.nl_layout.specs.declared.tag.Tag.{Tag}
 use Rattle.nl_layout.specs.Summary.{HaveLevels, tags_at}
-use Rattle.nl_layout.proofs.Reading.{level_at, read_fields, read_tag}
+use Rattle.nl_layout.specs.Facts.Reading.{level_at, read_fields, read_tag}
 use Rattle.nl_layout.proofs.summary.from_fields.Goals as goal
 
 pub returns-in_err-tags : goal.returns-in_err-tags

@@ -1,6 +1,6 @@
 use Rattle.std.proofs.Common.{◌+◌, arith}
 use Rattle.std.proofs.lemmas.Grind.{common_steps}
-use Rattle.nl_lib.specs.CleanedSegments.{ended, one_more, refused_by}
+use Rattle.nl_lib.specs.CleanedSegments.{none_cleaned, one_more, refused_by}
 use Rattle.nl_lib.proofs.CleanedLists.{none-left, one-cleaned, one-refused, with-count}
 use Rattle.nl_lib.proofs.cleaning.clean_segments.Goals as goal
 
@@ -29,5 +29,5 @@ pub returns : goal.returns
 returns g c =
     let l = c.loop-segment in
     let segments = c.args.segments.now in
-    with-count c.args.now segments c.args.pen.now l.pen ended (l.retired + 0) l.retired (omega arith)
-    (l.invariant.so_far ended l.pen (none-left c.args.now l.segment-index segments l.pen (omega arith)))
+    with-count c.args.now segments c.args.pen.now l.pen none_cleaned (l.retired + 0) l.retired (omega arith)
+    (l.invariant.so_far none_cleaned l.pen (none-left c.args.now l.segment-index segments l.pen (omega arith)))

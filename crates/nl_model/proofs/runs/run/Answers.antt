@@ -1,7 +1,7 @@
 use Rattle.std.proofs.Common.{◌≡◌, ◌+◌, [], ◌∷◌, ◌++◌, take, arith, sym, ap, ◌∙◌}
 use Rattle.std.proofs.lemmas.Grind.{common_steps}
 use Rattle.std.proofs.lemmas.List.{take_more}
-use Rattle.nl_types.specs.Runs.{Run-more}
+use Rattle.nl_types.specs.Facts.Runs.{Run-more}
 use Rattle.nl_model.specs.Model.{ModelStep}
 use Rattle.nl_model.proofs.runs.run.Goals as goal
 

@@ -1,6 +1,6 @@
 use Rattle.std.proofs.Common.{length}
 use Rattle.std.proofs.lemmas.Result.{err_from_is_err_and}
-use Rattle.nl_tree.proofs.ReadingCalls.{read_file, read_refused}
+use Rattle.nl_tree.specs.Facts.ReadingCalls.{read_file, read_refused}
 use Rattle.nl_mounts.specs.Caching.{HoldsWith}
 use Rattle.nl_mounts.proofs.Stored.{touched_by_file}
 use Rattle.nl_mounts.proofs.cached_reads.read_cached.Goals as goal

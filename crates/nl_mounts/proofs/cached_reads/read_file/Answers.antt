@@ -1,6 +1,6 @@
 use Rattle.std.proofs.Common.{◌≡◌, ℕ, ◌/◌, ◌∙◌, ap, arith, length, take}
 use Rattle.std.proofs.lemmas.List.{length-take, take_at}
-use Rattle.nl_tree.proofs.ReadingCalls.{are_bytes_from}
+use Rattle.nl_tree.specs.Facts.ReadingCalls.{are_bytes_from}
 use Rattle.nl_mounts.specs.Caching.{block_count, touched}
 use Rattle.nl_mounts.proofs.cached_reads.read_file.Goals as goal
 

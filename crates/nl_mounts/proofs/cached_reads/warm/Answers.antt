@@ -1,6 +1,6 @@
 use Rattle.std.proofs.Common.{◌∙◌, ap, refl, Err}
 use Rattle.std.proofs.lemmas.Result.{err_from_is_err_and}
-use Rattle.nl_tree.proofs.ReadingCalls.{read_refused}
+use Rattle.nl_tree.specs.Facts.ReadingCalls.{read_refused}
 use Rattle.nl_mounts.specs.Warming.Warms.{Nothing}
 use Rattle.nl_mounts.proofs.Warming.{warming_found, warming_refused, warms}
 use Rattle.nl_mounts.proofs.cached_reads.warm.Goals as goal

@@ -16,6 +16,6 @@ returns-in-Some-clause-run c =
 pub returns-in-None-clause-run : goal.returns-in-None-clause-run
 returns-in-None-clause-run c =
     let t = c.args.kept.now.table in
-    subst (λ (x : Checkpoint). AreGone x.number x.number (tables.kept_numbers (tables.all t)) (protection.staying c.args.below (tables.rows t)))
+    subst (λ (x : Checkpoint). AreGone x.number x.number (tables.kept_numbers (tables.all t)) (protection.staying_numbers c.args.below (tables.rows t)))
     (sym c.latest.ensures.latest)
     (run-none t c.args.below c.requires (sym c.first_expiring.ensures.first ∙ c.in-None.is))

@@ -18,4 +18,4 @@ answered c =
 pub returns : goal.returns
 returns c =
     let t = c.args.kept.now.table in
-    subst (λ (first : ℕ). AllByRecursion (λ n. first ≤ n) (protection.staying c.args.below (rows t))) (sym (answered c)) (stay-behind c.args.below t.earlier t.latest c.earlier.ensures.table.rising)
+    subst (λ (first : ℕ). AllByRecursion (λ n. first ≤ n) (protection.staying_numbers c.args.below (rows t))) (sym (answered c)) (stay-behind c.args.below t.earlier t.latest c.earlier.ensures.table.rising)

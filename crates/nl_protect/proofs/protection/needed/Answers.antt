@@ -1,7 +1,7 @@
 use Rattle.std.proofs.Common.{◌≡◌, ◌∙◌, ◌&&◌, ◌||◌, [], ◌∷◌, false, sym, ap, subst}
 use Rattle.nl_cpfile.specs.declared.checkpoint.Checkpoint.{Checkpoint}
 use Rattle.nl_cpfile.specs.Tables.{IsRising}
-use Rattle.nl_protect.specs.Keeping.{found, is_before, is_from, is_staying}
+use Rattle.nl_protect.specs.Keeping.{stays_within, is_before, is_from, is_staying}
 use Rattle.nl_protect.proofs.Kept.{needed_is, rising-front}
 use Rattle.nl_protect.proofs.protection.needed.Goals as goal
 
@@ -18,6 +18,6 @@ returns c =
     let end = c.in-Some.end in
     let latest : ((is_from start t.latest && is_before end t.latest) && is_staying below t.latest) ≡ false =
     sym (c.latest_stays.ensures ∙ ap (λ (x : Checkpoint). (is_from start x && is_before end x) && is_staying below x) c.latest.ensures.latest) ∙ c.if-latest_stays.false in
-    c.earlier_stays.ensures ∙ ap (found below start end) c.earlier.ensures.earlier
-    ∙ ap (λ b. b || found below start end t.earlier) (sym latest)
+    c.earlier_stays.ensures ∙ ap (stays_within below start end) c.earlier.ensures.earlier
+    ∙ ap (λ b. b || stays_within below start end t.earlier) (sym latest)
     ∙ sym (needed_is below c.args.period end t.earlier t.latest c.in-Some.is)

@@ -1,4 +1,4 @@
-use Rattle.nl_reclaim.proofs.ClosedSegments.{moves-keep-closed, refused-moves-keep-closed, retirements-keep-others}
+use Rattle.nl_reclaim.specs.Facts.ClosedSegments.{moves-keep-closed, refused-moves-keep-closed, retirements-keep-others}
 use Rattle.nl_reclaim.proofs.laws.closed_segments_stay.Goals as goal
 
 pub returns-clause-moved : goal.returns-clause-moved

@@ -1,4 +1,4 @@
-use Rattle.nl_reclaim.proofs.Moves.{segments-come-clean, full-moves-come-clean}
+use Rattle.nl_reclaim.specs.Facts.Moves.{segments-come-clean, full-moves-come-clean}
 use Rattle.nl_reclaim.proofs.laws.segments_come_clean.Goals as goal
 
 pub returns-clause-plain : goal.returns-clause-plain

@@ -1,6 +1,6 @@
 use Rattle.std.proofs.Common.{◌*◌}
 use Rattle.nl_vstore.specs.Located.{by_period, needed_at}
-use Rattle.nl_vstore.proofs.CountedRows.{counted-next}
+use Rattle.nl_vstore.specs.Facts.CountedRows.{counted-next}
 use Rattle.nl_reclaim.proofs.needed.count_needed.Goals as goal
 
 pub loop-position-preserved : goal.loop-position-preserved

@@ -1,6 +1,6 @@
 use Rattle.std.proofs.Common.{◌*◌}
 use Rattle.nl_vstore.specs.Located.{by_period, needed_at}
-use Rattle.nl_reclaim.specs.Loops.{AreSeen}
+use Rattle.nl_reclaim.specs.Private.Loops.{AreSeen}
 use Rattle.nl_reclaim.proofs.needed.first_needed.Given as goal
 
 abbrev pub invariant-loop-position : goal.invariant-loop-position

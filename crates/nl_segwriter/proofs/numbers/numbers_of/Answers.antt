@@ -1,7 +1,7 @@
 use Rattle.std.proofs.Common.{◌≡◌, ◌≤◌, ◌+◌, ◌<◌, ◌∷◌, ◌++◌, ℕ, suc, List, length, drop, arith, ap, sym, subst, ◌∙◌, append_assoc, add-one, drop-cons}
 use Rattle.std.specs.List.{AllByRecursion}
 use Rattle.nl_types.specs.declared.segment.Log.{Log}
-use Rattle.nl_types.specs.Placing.{addresses, first_block, row_of}
+use Rattle.nl_types.specs.Placing.{addresses, first_block, blocks_from}
 use Rattle.nl_segwriter.proofs.numbers.numbers_of.Goals as goal
 
 pub loop-log-preserved : goal.loop-log-preserved
@@ -16,7 +16,7 @@ loop-log-preserved c =
     let inside = subst (λ (ls : List Log). AllByRecursion (λ log. first_block blocks log + 1 + log.count ≤ 262144) ls) rest c.loop-log.invariant.inside in
     record {
       numbers = ap (λ (ns : List ℕ). ns ++ addresses blocks (drop (k + 1) logs)) c.in_ok-push_row.ensures
-          ∙ (append_assoc before (row_of (first_block blocks log + 1) log.count) (addresses blocks (drop (k + 1) logs))
+          ∙ (append_assoc before (blocks_from (first_block blocks log + 1) log.count) (addresses blocks (drop (k + 1) logs))
           ∙ (ap (λ (ls : List Log). before ++ addresses blocks ls) (sym rest) ∙ c.loop-log.invariant.numbers));
       inside = inside.1;
     }

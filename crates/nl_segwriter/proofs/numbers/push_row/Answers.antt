@@ -1,5 +1,5 @@
 use Rattle.std.proofs.Common.{◌≡◌, ◌+◌, ◌*◌, ◌∷◌, ◌++◌, [], ap, sym, ◌∙◌, append_assoc, arith, ℕ, List}
-use Rattle.nl_types.specs.Placing.{row_of, first_block}
+use Rattle.nl_types.specs.Placing.{blocks_from, first_block}
 use Rattle.nl_segwriter.proofs.Rows.{row_of-more}
 use Rattle.nl_segwriter.proofs.numbers.push_row.Goals as goal
 
@@ -9,4 +9,4 @@ loop-k-preserved c =
     let before : List ℕ = c.args.numbers.now.items in
     let start : c.get.result * c.args.blocks ≡ c.args.log.segment * c.args.blocks = ap (λ (n : ℕ). n * c.args.blocks) c.get.ensures in
     let number : c.new.result ≡ b + c.loop-k.k = omega (arith, c.new.ensures, start) in
-    c.in_ok-push.ensures.items ∙ rw (c.loop-k.invariant, number) (append_assoc before (row_of b c.loop-k.k) ((b + c.loop-k.k) ∷ []) ∙ ap (λ (xs : List ℕ). before ++ xs) (sym (row_of-more b c.loop-k.k)))
+    c.in_ok-push.ensures.items ∙ rw (c.loop-k.invariant, number) (append_assoc before (blocks_from b c.loop-k.k) ((b + c.loop-k.k) ∷ []) ∙ ap (λ (xs : List ℕ). before ++ xs) (sym (row_of-more b c.loop-k.k)))

@@ -1,6 +1,6 @@
 use Rattle.std.proofs.Common.{◌≡◌, ◌∷◌, length, ap, ◌∙◌, sym, arith}
 use Rattle.std.specs.Vec.Iter.{into_iter_items}
-use Rattle.nl_device.proofs.Counting.{counts-writes}
+use Rattle.nl_device.specs.Facts.Counting.{counts-writes}
 use Rattle.nl_segwriter.proofs.PutPages.{all_put, more_put}
 use Rattle.nl_segwriter.proofs.Rows.{rest_behind, value_next}
 use Rattle.nl_segwriter.proofs.put.put_pages.Goals as goal

@@ -1,7 +1,7 @@
 use Rattle.std.proofs.Common.{◌≡◌, ◌+◌, ◌∷◌, length, ap, ◌∙◌, sym, arith, rules}
 use Rattle.std.specs.Prelude.{Some}
 use Rattle.std.specs.Vec.Iter.{into_iter_items}
-use Rattle.nl_device.proofs.Counting.{counts-writes}
+use Rattle.nl_device.specs.Facts.Counting.{counts-writes}
 use Rattle.nl_device.specs.Pages.{KeepsOthers}
 use Rattle.nl_segwriter.proofs.Rows.{keeps_put, stand_put, value_next, rest_behind}
 use Rattle.nl_segwriter.proofs.put.put_row.Goals as goal

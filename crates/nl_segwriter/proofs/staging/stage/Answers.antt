@@ -4,7 +4,7 @@ use Rattle.nl_types.specs.declared.segment.Log.{Log}
 use Rattle.nl_types.specs.Placing.{payload_count}
 use Rattle.nl_space.specs.Content.{Payload}
 use Rattle.nl_segwriter.specs.declared.staging.Staged.{Staged}
-use Rattle.nl_segwriter.specs.Staging.{AreStaged}
+use Rattle.nl_segwriter.specs.Private.Staging.{AreStaged}
 use Rattle.nl_segwriter.proofs.staging.stage.Goals as goal
 
 none_left : (payload : List Payload) → 0 ≡ length payload → payload ≡ []

@@ -1,7 +1,7 @@
 use Rattle.std.proofs.Common.{◌≡◌, ◌++◌, List, length, drop}
 use Rattle.nl_types.specs.Placing.{payload_count}
 use Rattle.nl_segwriter.specs.declared.staging.Staged.{Staged}
-use Rattle.nl_segwriter.specs.Staging.{AreStaged, AreSized}
+use Rattle.nl_segwriter.specs.Private.Staging.{AreStaged, AreSized}
 use Rattle.nl_segwriter.proofs.staging.stage.Given as goal
 
 abbrev pub invariant-loop-log : goal.invariant-loop-log

@@ -1,5 +1,5 @@
 use Rattle.std.proofs.Common.{◌≡◌, ◌∷◌, List, length, map, refl, ap, sym, subst, ◌∙◌}
-use Rattle.nl_layout.specs.Summary.{SummaryFits, summary_bytes}
+use Rattle.nl_layout.specs.Summary.{SummaryHasSpelling, summary_bytes}
 use Rattle.nl_space.specs.Content.{Payload, payload_tag, payload_page}
 use Rattle.nl_space.specs.Logs.{WholeLog}
 use Rattle.nl_segwriter.proofs.staging.stage_log.Goals as goal
@@ -11,7 +11,7 @@ returns c =
       log_is = refl;
       whole_is = ap (λ (p : List Payload). let whole : WholeLog = record { stamp = c.args.stamp; checkpoint = c.args.checkpoint; payload = p } in whole) same;
       ready = record {
-        fits = subst (λ (p : List Payload). SummaryFits (record { stamp = c.args.stamp; checkpoint = c.args.checkpoint; tags = map payload_tag p })) (sym same) c.in_ok-pages.ensures.fits;
+        fits = subst (λ (p : List Payload). SummaryHasSpelling (record { stamp = c.args.stamp; checkpoint = c.args.checkpoint; tags = map payload_tag p })) (sym same) c.in_ok-pages.ensures.fits;
         pages = subst (λ (p : List Payload). c.in_ok-pages.pages ≡ summary_bytes (record { stamp = c.args.stamp; checkpoint = c.args.checkpoint; tags = map payload_tag p }) ∷ map payload_page p) (sym same) c.in_ok-pages.ensures.pages;
         count = ap length same ∙ c.requires.count;
       };

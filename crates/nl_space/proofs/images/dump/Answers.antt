@@ -1,8 +1,8 @@
 use Rattle.std.proofs.Common.{◌∙◌, arith, subst}
-use Rattle.nl_device.proofs.Counting.{counts-reads}
+use Rattle.nl_device.specs.Facts.Counting.{counts-reads}
 use Rattle.nl_space.specs.Content.{SpaceContent}
 use Rattle.nl_space.specs.Images.{IsPageOf}
-use Rattle.nl_space.proofs.ImageBlocks.{more_dumped}
+use Rattle.nl_space.specs.Facts.ImageBlocks.{more_dumped}
 use Rattle.nl_space.proofs.images.dump.Goals as goal
 
 pub loop-number-preserved : goal.loop-number-preserved

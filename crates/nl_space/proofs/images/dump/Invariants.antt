@@ -1,6 +1,6 @@
 use Rattle.std.proofs.Common.{◌≡◌}
 use Rattle.nl_device.specs.Failures.{CountsReads}
-use Rattle.nl_space.proofs.ImageBlocks.{AreDumped}
+use Rattle.nl_space.specs.Facts.ImageBlocks.{AreDumped}
 use Rattle.nl_space.proofs.images.dump.Given as goal
 
 abbrev pub invariant-loop-number : goal.invariant-loop-number

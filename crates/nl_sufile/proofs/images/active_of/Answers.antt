@@ -1,5 +1,5 @@
 use Rattle.std.proofs.Common.{◌≡◌, ◌∙◌, false, is_some, sym, subst, arith}
-use Rattle.nl_sufile.proofs.ImageEntries.{IsActiveBelow, below_all, below_other, below_this, none_below, none_from, two_active}
+use Rattle.nl_sufile.specs.Facts.ImageEntries.{IsActiveBelow, below_all, below_other, below_this, none_below, none_from, two_active}
 use Rattle.nl_sufile.proofs.images.active_of.Goals.{then-is_active+else-is_some, else-is_active}
 use Rattle.nl_sufile.proofs.images.active_of.Goals as goal
 

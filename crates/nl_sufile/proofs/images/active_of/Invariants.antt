@@ -1,4 +1,4 @@
-use Rattle.nl_sufile.proofs.ImageEntries.{IsActiveBelow}
+use Rattle.nl_sufile.specs.Facts.ImageEntries.{IsActiveBelow}
 use Rattle.nl_sufile.proofs.images.active_of.Given as goal
 
 abbrev pub invariant-loop-number : goal.invariant-loop-number

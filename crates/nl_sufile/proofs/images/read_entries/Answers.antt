@@ -2,10 +2,10 @@ use Rattle.std.proofs.Common.{◌*◌, ◌∙◌, sym, arith, length-append}
 use Rattle.std.proofs.lemmas.List.{take_all}
 use Rattle.std.proofs.lemmas.List.Elements.{All-push}
 use Rattle.nl_types.specs.Segments.{info_of}
-use Rattle.nl_types.proofs.EqualPieces.{take_piece}
-use Rattle.nl_layout.specs.Segment.{Fits, segment_bytes}
-use Rattle.nl_sufile.specs.Images.{IsSound}
-use Rattle.nl_sufile.proofs.ImageEntries.{entry_in_place, one_more}
+use Rattle.nl_types.specs.Facts.EqualPieces.{take_piece}
+use Rattle.nl_layout.specs.Segment.{HasSpelling, segment_bytes}
+use Rattle.nl_sufile.specs.Images.{IsSoundSegment}
+use Rattle.nl_sufile.specs.Facts.ImageEntries.{entry_in_place, one_more}
 use Rattle.nl_sufile.proofs.images.read_entries.Goals as goal
 
 pub returns-in_default-clause-only : goal.returns-in_default-clause-only
@@ -19,8 +19,8 @@ loop-i-preserved c =
     rw items (record {
       read = take_piece segment_bytes 16 bytes c.loop-i.each.items c.in-Some.info c.loop-i.i c.loop-i.invariant.read c.in-Some.ensures.found.spells.spelling;
       count = simp length-append (omega (arith, c.loop-i.invariant.count));
-      fit = All-push Fits c.loop-i.each.items c.in-Some.info c.loop-i.invariant.fit c.in-Some.ensures.found.spells.fits;
-      sound = All-push (IsSound c.args.geometry.blocks) c.loop-i.each.items c.in-Some.info c.loop-i.invariant.sound c.in-Some.ensures.found.sound;
+      fit = All-push HasSpelling c.loop-i.each.items c.in-Some.info c.loop-i.invariant.fit c.in-Some.ensures.found.spells.fits;
+      sound = All-push (IsSoundSegment c.args.geometry.blocks) c.loop-i.each.items c.in-Some.info c.loop-i.invariant.sound c.in-Some.ensures.found.sound;
       only = λ each are. one_more each c.loop-i.i c.loop-i.each.items c.in-Some.info (omega (arith, are.count)) (c.loop-i.invariant.only each are)
           (c.in-Some.ensures.only (info_of each c.loop-i.i) (entry_in_place c.args.geometry bytes each c.loop-i.i are (omega arith)));
     })

@@ -1,5 +1,5 @@
 use Rattle.std.proofs.Common.{◌≡◌, [], arith, append-nil, refl}
-use Rattle.nl_types.proofs.GoingOn.{fill}
+use Rattle.nl_types.specs.Facts.GoingOn.{fill}
 use Rattle.nl_sufile.proofs.NextLog.{onward_more, only_more, nowhere_on, next_fits, go_on_nil}
 use Rattle.nl_sufile.proofs.placing.place_on.Goals as goal
 

@@ -1,4 +1,4 @@
-use Rattle.nl_texts.proofs.Appending.{Appends-same, OnOk-same, OnOk-then}
+use Rattle.nl_texts.specs.Facts.Appending.{Appends-same, OnOk-same, OnOk-then}
 use Rattle.nl_texts.proofs.answers.name_line.Goals as goal
 
 pub returns : goal.returns

@@ -1,5 +1,5 @@
 use Rattle.nl_texts.specs.AnswerTexts.{name_text}
-use Rattle.nl_texts.proofs.Appending.{goes_on-more, flat_map-drop}
+use Rattle.nl_texts.specs.Facts.Appending.{goes_on-more, flat_map-drop}
 use Rattle.nl_texts.proofs.answers.name_lines.Goals as goal
 
 pub loop-named-preserved : goal.loop-named-preserved

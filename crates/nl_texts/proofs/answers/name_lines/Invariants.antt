@@ -1,6 +1,6 @@
 use Rattle.std.proofs.Common.{drop}
 use Rattle.nl_texts.specs.AnswerTexts.{name_texts}
-use Rattle.nl_texts.proofs.Appending.{GoesOn}
+use Rattle.nl_texts.specs.Facts.Appending.{GoesOn}
 use Rattle.nl_texts.proofs.answers.name_lines.Given as goal
 
 -- the writer got the lines so far

@@ -1,5 +1,5 @@
 use Rattle.nl_texts.specs.CheckpointLines.{cp_text}
-use Rattle.nl_texts.proofs.Appending.{goes_on-more, flat_map-drop}
+use Rattle.nl_texts.specs.Facts.Appending.{goes_on-more, flat_map-drop}
 use Rattle.nl_texts.proofs.checkpoints.cp_lines.Goals as goal
 
 pub loop-row-preserved : goal.loop-row-preserved

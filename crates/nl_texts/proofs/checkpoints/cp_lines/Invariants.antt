@@ -1,6 +1,6 @@
 use Rattle.std.proofs.Common.{drop}
 use Rattle.nl_texts.specs.CheckpointLines.{cp_texts}
-use Rattle.nl_texts.proofs.Appending.{GoesOn}
+use Rattle.nl_texts.specs.Facts.Appending.{GoesOn}
 use Rattle.nl_texts.proofs.checkpoints.cp_lines.Given as goal
 
 -- the writer got the lines so far

@@ -1,7 +1,7 @@
 use Rattle.std.proofs.Common.{◌∙◌, ap, []}
 use Rattle.std.specs.Fmt.{styled_text}
 use Rattle.nl_texts.proofs.Alignment.{blanks-are}
-use Rattle.nl_texts.proofs.Appending.{OnOk-same}
+use Rattle.nl_texts.specs.Facts.Appending.{OnOk-same}
 use Rattle.nl_texts.proofs.columns.blanks.Goals as goal
 
 pub returns : goal.returns

@@ -1,6 +1,6 @@
 use Rattle.std.proofs.Common.{◌≡◌, ◌-◌, ap, arith, length}
 use Rattle.nl_texts.specs.Texts.{blanks}
-use Rattle.nl_texts.proofs.Appending.{Appends-same, OnOk-same, OnOk-then}
+use Rattle.nl_texts.specs.Facts.Appending.{Appends-same, OnOk-same, OnOk-then}
 use Rattle.nl_texts.proofs.columns.left.Goals as goal
 
 pub returns : goal.returns

@@ -1,7 +1,7 @@
 use Rattle.std.proofs.Common.{◌∙◌, ap}
 use Rattle.std.specs.Fmt.{styled_decimal}
 use Rattle.nl_texts.proofs.Alignment.{right-is}
-use Rattle.nl_texts.proofs.Appending.{OnOk-same}
+use Rattle.nl_texts.specs.Facts.Appending.{OnOk-same}
 use Rattle.nl_texts.proofs.columns.right.Goals as goal
 
 pub returns : goal.returns

@@ -1,6 +1,6 @@
 use Rattle.std.proofs.Common.{ap}
 use Rattle.nl_texts.specs.RefusalTexts.{detail_text}
-use Rattle.nl_texts.proofs.Appending.{Appends-same, OnOk-then}
+use Rattle.nl_texts.specs.Facts.Appending.{Appends-same, OnOk-then}
 use Rattle.nl_texts.proofs.refusals.refusal_text.Goals as goal
 
 pub returns : goal.returns

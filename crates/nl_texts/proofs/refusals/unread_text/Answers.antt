@@ -1,4 +1,4 @@
-use Rattle.nl_texts.proofs.Appending.{OnOk-then}
+use Rattle.nl_texts.specs.Facts.Appending.{OnOk-then}
 use Rattle.nl_texts.proofs.refusals.unread_text.Goals as goal
 
 pub returns : goal.returns

@@ -1,7 +1,7 @@
 use Rattle.std.proofs.Common.{ap, ◌∙◌}
 use Rattle.std.specs.Fmt.{decimal}
 use Rattle.nl_texts.specs.Texts.{right, left}
-use Rattle.nl_texts.proofs.Appending.{Appends-same, OnOk-then}
+use Rattle.nl_texts.specs.Facts.Appending.{Appends-same, OnOk-then}
 use Rattle.nl_texts.proofs.segments.seg_line.Goals as goal
 
 pub returns : goal.returns

@@ -3,7 +3,7 @@ use Rattle.std.proofs.lemmas.List.{at_drop_more}
 use Rattle.nl_types.specs.Segments.{clean_info}
 use Rattle.nl_texts.specs.declared.segments.SegmentRow.{SegmentRow}
 use Rattle.nl_texts.specs.SegmentLines.{listed_seg_text, seg_texts_from}
-use Rattle.nl_texts.proofs.Appending.{goes_on-more}
+use Rattle.nl_texts.specs.Facts.Appending.{goes_on-more}
 use Rattle.nl_texts.proofs.segments.seg_lines.Goals as goal
 
 -- stands for the row of a segment that there isn't

@@ -1,7 +1,7 @@
 use Rattle.std.proofs.Common.{◌+◌, ◌-◌, ◌≤◌, length, ◌∙◌, arith}
 use Rattle.std.specs.Prelude.{◌%◌}
 use Rattle.nl_tree.specs.Overlays.{new_page_at}
-use Rattle.nl_tree.proofs.CopiedBytes.{more_copied_over, put_behind, put_fits}
+use Rattle.nl_tree.specs.Facts.CopiedBytes.{more_copied_over, put_behind, put_fits}
 use Rattle.nl_tree.proofs.copying.copy_new_pages.Goals as goal
 
 pub loop-done-preserved : goal.loop-done-preserved

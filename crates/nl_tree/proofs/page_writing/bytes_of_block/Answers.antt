@@ -1,4 +1,4 @@
-use Rattle.nl_tree.proofs.PageBytes.{zero_at}
+use Rattle.nl_tree.specs.Facts.PageBytes.{zero_at}
 use Rattle.nl_tree.proofs.page_writing.bytes_of_block.Goals as goal
 
 pub returns-in-None : goal.returns-in-None

@@ -1,6 +1,6 @@
 use Rattle.std.proofs.Common.{◌+◌, ◌-◌, get_or, length, sym, ◌∙◌, ap, arith}
 use Rattle.std.proofs.lemmas.Result.{IfOk-weaker}
-use Rattle.nl_tree.proofs.PageBytes.{from_zero, length-put, overwrote}
+use Rattle.nl_tree.specs.Facts.PageBytes.{from_zero, length-put, overwrote}
 use Rattle.nl_tree.proofs.page_writing.overwritten_page.Goals as goal
 
 pub returns : goal.returns

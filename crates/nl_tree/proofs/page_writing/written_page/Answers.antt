@@ -3,7 +3,7 @@ use Rattle.std.proofs.lemmas.Result.{IfOk-weaker}
 use Rattle.std.specs.Prelude.{IfOk}
 use Rattle.std.specs.Option.{option_copied}
 use Rattle.nl_tree.specs.Bytes.{IsPageWritten}
-use Rattle.nl_tree.proofs.PageBytes.{from_zero, part_written, touches}
+use Rattle.nl_tree.specs.Facts.PageBytes.{from_zero, part_written, touches}
 use Rattle.nl_tree.proofs.page_writing.written_page.Goals as goal
 
 pub returns : goal.returns

@@ -1,7 +1,7 @@
 use Rattle.std.proofs.Common.{◌≡◌, length}
 use Rattle.std.specs.List.{list_all}
 use Rattle.nl_types.specs.Paths.{is_name}
-use Rattle.nl_tree.specs.PathParts.{parts_of}
+use Rattle.nl_tree.specs.Private.PathParts.{parts_of}
 use Rattle.nl_tree.proofs.paths.are_names.Given as goal
 
 abbrev pub invariant-loop-part : goal.invariant-loop-part

@@ -3,7 +3,7 @@ use Rattle.nl_types.specs.declared.kind.Kind.TheVariants as kind
 use Rattle.nl_types.specs.Paths.{Path}
 use Rattle.nl_types.specs.Resolving.{resolve}
 use Rattle.nl_tree.specs.Held.{Holding, inodes_of_holding}
-use Rattle.nl_tree.specs.PathParts.{parts_of}
+use Rattle.nl_tree.specs.Private.PathParts.{parts_of}
 use Rattle.nl_tree.proofs.paths.find_place.Given as goal
 
 -- the names so far lead to the directory

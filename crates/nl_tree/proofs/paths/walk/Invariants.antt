@@ -1,7 +1,7 @@
 use Rattle.std.proofs.Common.{◌≡◌, length}
 use Rattle.nl_types.specs.Resolving.{resolve_from}
 use Rattle.nl_tree.specs.Held.{Holding, inodes_of_holding}
-use Rattle.nl_tree.specs.PathParts.{parts_of}
+use Rattle.nl_tree.specs.Private.PathParts.{parts_of}
 use Rattle.nl_tree.proofs.paths.walk.Given as goal
 
 -- the walk from here by the names that are left is the whole walk

@@ -1,5 +1,5 @@
 use Rattle.std.proofs.Common.{sym}
-use Rattle.nl_tree.proofs.ReadingCalls.{unless_memory}
+use Rattle.nl_tree.specs.Facts.ReadingCalls.{unless_memory}
 use Rattle.nl_tree.proofs.reading.answer_bytes.Goals as goal
 
 pub returns-in_err-bytes : goal.returns-in_err-bytes

@@ -1,5 +1,5 @@
 use Rattle.nl_types.specs.declared.reply.Answer.TheVariants as answer
-use Rattle.nl_tree.proofs.ReadingCalls.{answered, not_answered, unless_memory}
+use Rattle.nl_tree.specs.Facts.ReadingCalls.{answered, not_answered, unless_memory}
 use Rattle.nl_tree.proofs.reading.answer_names.Goals as goal
 
 pub returns-in_err-names : goal.returns-in_err-names

@@ -1,7 +1,7 @@
 use Rattle.std.proofs.Common.{sym}
 use Rattle.std.proofs.lemmas.Result.{err_from_is_err_and}
 use Rattle.nl_types.specs.declared.reply.Answer.TheVariants as answer
-use Rattle.nl_tree.proofs.ReadingCalls.{answered, not_answered}
+use Rattle.nl_tree.specs.Facts.ReadingCalls.{answered, not_answered}
 use Rattle.nl_tree.proofs.reading.answer_stat.Goals as goal
 
 pub returns-in_err-found : goal.returns-in_err-found

@@ -1,6 +1,6 @@
 use Rattle.std.proofs.Common.{◌≡◌, ℕ, ap, arith, length, ◌∙◌}
 use Rattle.std.proofs.lemmas.List.{take_at}
-use Rattle.nl_tree.proofs.ReadingCalls.{are_bytes_from}
+use Rattle.nl_tree.specs.Facts.ReadingCalls.{are_bytes_from}
 use Rattle.nl_tree.proofs.reading.file_bytes.Goals as goal
 
 pub returns-clause-bytes : goal.returns-clause-bytes

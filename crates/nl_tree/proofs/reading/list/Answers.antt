@@ -1,5 +1,5 @@
 use Rattle.std.proofs.lemmas.Result.{err_from_is_err_and}
-use Rattle.nl_tree.proofs.ReadingCalls.{list_refused, list_shown}
+use Rattle.nl_tree.specs.Facts.ReadingCalls.{list_refused, list_shown}
 use Rattle.nl_tree.proofs.reading.list.Goals as goal
 
 pub returns-in_err-directory : goal.returns-in_err-directory

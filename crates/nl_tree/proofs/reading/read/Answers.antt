@@ -1,5 +1,5 @@
 use Rattle.std.proofs.lemmas.Result.{err_from_is_err_and}
-use Rattle.nl_tree.proofs.ReadingCalls.{read_refused, read_shown}
+use Rattle.nl_tree.specs.Facts.ReadingCalls.{read_refused, read_shown}
 use Rattle.nl_tree.proofs.reading.read.Goals as goal
 
 pub returns-in_err-file : goal.returns-in_err-file

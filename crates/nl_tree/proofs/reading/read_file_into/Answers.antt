@@ -1,6 +1,6 @@
 use Rattle.std.proofs.Common.{arith, ◌≡◌, length}
 use Rattle.std.proofs.lemmas.List.{length-take, take_at}
-use Rattle.nl_tree.proofs.ReadingCalls.{are_bytes_from}
+use Rattle.nl_tree.specs.Facts.ReadingCalls.{are_bytes_from}
 use Rattle.nl_tree.proofs.reading.read_file_into.Goals as goal
 
 pub returns-clause-reads : goal.returns-clause-reads

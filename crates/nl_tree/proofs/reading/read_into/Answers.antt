@@ -1,6 +1,6 @@
 use Rattle.std.proofs.Common.{length}
 use Rattle.std.proofs.lemmas.Result.{err_from_is_err_and}
-use Rattle.nl_tree.proofs.ReadingCalls.{read_file, read_refused}
+use Rattle.nl_tree.specs.Facts.ReadingCalls.{read_file, read_refused}
 use Rattle.nl_tree.proofs.reading.read_into.Goals as goal
 
 pub returns-in_err-file-clause-reads : goal.returns-in_err-file-clause-reads

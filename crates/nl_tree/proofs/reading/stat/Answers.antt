@@ -1,5 +1,5 @@
 use Rattle.std.proofs.lemmas.Result.{err_from_is_err_and}
-use Rattle.nl_tree.proofs.ReadingCalls.{stat_directory, stat_file, stat_refused}
+use Rattle.nl_tree.specs.Facts.ReadingCalls.{stat_directory, stat_file, stat_refused}
 use Rattle.nl_tree.proofs.reading.stat.Goals as goal
 
 pub returns-in_err-inode : goal.returns-in_err-inode

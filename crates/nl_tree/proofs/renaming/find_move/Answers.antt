@@ -1,7 +1,7 @@
 use Rattle.std.proofs.Common.{ap, sym}
 use Rattle.std.specs.Cmp.Lexicographic.{other_text, same_text}
 use Rattle.std.proofs.lemmas.Result.{err_from_is_err_and}
-use Rattle.nl_tree.specs.PathParts.{parts_of}
+use Rattle.nl_tree.specs.Private.PathParts.{parts_of}
 use Rattle.nl_tree.proofs.PathParts.{parts_of-injective}
 use Rattle.nl_tree.proofs.RenamesJudged.{is-move, moves-nothing, place-taken, target-refused}
 use Rattle.nl_tree.proofs.renaming.find_move.Goals as goal

@@ -2,7 +2,7 @@ use Rattle.std.proofs.Common.{◌≡◌, Some, sym}
 use Rattle.std.specs.Option.{option_map}
 use Rattle.nl_types.specs.declared.kind.Kind.TheVariants as kind
 use Rattle.nl_types.specs.Inodes.{Link}
-use Rattle.nl_tree.specs.PathParts.{parts_of}
+use Rattle.nl_tree.specs.Private.PathParts.{parts_of}
 use Rattle.nl_tree.proofs.RenamesJudged.{parts_of-last, source-above, source-none, source-refused}
 use Rattle.nl_tree.proofs.renaming.find_source.Goals as goal
 

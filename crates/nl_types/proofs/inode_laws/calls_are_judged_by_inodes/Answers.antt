@@ -1,4 +1,4 @@
-use Rattle.nl_types.proofs.Inodes.Judging.{files_are_judged, creates_are_judged, rmdirs_are_judged, renames_are_judged, lists_are_judged, stats_are_judged}
+use Rattle.nl_types.specs.Facts.Inodes.Judging.{files_are_judged, creates_are_judged, rmdirs_are_judged, renames_are_judged, lists_are_judged, stats_are_judged}
 use Rattle.nl_types.proofs.inode_laws.calls_are_judged_by_inodes.Goals as goal
 
 pub returns-clause-files : goal.returns-clause-files

@@ -1,4 +1,4 @@
-use Rattle.nl_types.proofs.Inodes.CallsDone.{creates_lead, writes_lead, truncates_lead, unlinks_lead, rmdirs_lead, renames_lead, renames_onto_lead}
+use Rattle.nl_types.specs.Facts.Inodes.CallsDone.{creates_lead, writes_lead, truncates_lead, unlinks_lead, rmdirs_lead, renames_lead, renames_onto_lead}
 use Rattle.nl_types.proofs.inode_laws.calls_change_trees_by_inodes.Goals as goal
 
 pub returns-clause-creates : goal.returns-clause-creates

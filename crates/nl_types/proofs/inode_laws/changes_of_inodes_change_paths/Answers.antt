@@ -1,4 +1,4 @@
-use Rattle.nl_types.proofs.Inodes.Changed.{creates_insert, rewrites_insert, removes_remove, renames_move, replaces_move}
+use Rattle.nl_types.specs.Facts.Inodes.Changed.{creates_insert, rewrites_insert, removes_remove, renames_move, replaces_move}
 use Rattle.nl_types.proofs.inode_laws.changes_of_inodes_change_paths.Goals as goal
 
 pub returns-clause-creates : goal.returns-clause-creates

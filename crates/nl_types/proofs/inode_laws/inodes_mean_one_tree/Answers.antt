@@ -1,4 +1,4 @@
-use Rattle.nl_types.proofs.Inodes.Means.{inodes_mean_one_tree}
+use Rattle.nl_types.specs.Facts.Inodes.Means.{inodes_mean_one_tree}
 use Rattle.nl_types.proofs.inode_laws.inodes_mean_one_tree.Goals as goal
 
 pub returns : goal.returns

@@ -1,4 +1,4 @@
-use Rattle.nl_types.proofs.Inodes.RootAlone.{root_is_there, root_stays}
+use Rattle.nl_types.specs.Facts.Inodes.RootAlone.{root_is_there, root_stays}
 use Rattle.nl_types.proofs.inode_laws.roots_stay.Goals as goal
 
 pub returns-clause-there : goal.returns-clause-there

@@ -1,4 +1,4 @@
-use Rattle.nl_types.proofs.Inodes.Resolving.{nodes_by_inodes, parents_by_inodes, children_by_records, directories_hold_records, files_hold_bytes}
+use Rattle.nl_types.specs.Facts.Inodes.Resolving.{nodes_by_inodes, parents_by_inodes, children_by_records, directories_hold_records, files_hold_bytes}
 use Rattle.nl_types.proofs.inode_laws.walks_over_inodes_are_walks.Goals as goal
 
 pub returns-clause-nodes : goal.returns-clause-nodes

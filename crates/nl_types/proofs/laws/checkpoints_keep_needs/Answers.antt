@@ -1,4 +1,4 @@
-use Rattle.nl_types.proofs.Needs.{checkpoints-keep}
+use Rattle.nl_types.specs.Facts.Needs.{checkpoints-keep}
 use Rattle.nl_types.proofs.laws.checkpoints_keep_needs.Goals as goal
 
 pub returns : goal.returns

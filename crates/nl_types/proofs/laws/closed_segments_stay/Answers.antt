@@ -1,4 +1,4 @@
-use Rattle.nl_types.proofs.ClosedSegments.{closed-no-log, closed-stay, closed-stay-at-faults}
+use Rattle.nl_types.specs.Facts.ClosedSegments.{closed-no-log, closed-stay, closed-stay-at-faults}
 use Rattle.nl_types.proofs.laws.closed_segments_stay.Goals as goal
 
 pub returns-clause-no_log : goal.returns-clause-no_log

@@ -1,4 +1,4 @@
-use Rattle.nl_types.proofs.Expiries.{expiries_answer_expiring, expiries_are_removals, expiries_take_expiring}
+use Rattle.nl_types.specs.Facts.Expiries.{expiries_answer_expiring, expiries_are_removals, expiries_take_expiring}
 use Rattle.nl_types.proofs.laws.expiries_are_removals.Goals as goal
 
 pub returns-clause-taken : goal.returns-clause-taken

@@ -1,4 +1,4 @@
-use Rattle.nl_types.proofs.KeptTrees.{creates_keep_trees, mkdirs_keep_trees, writes_keep_trees, truncates_keep_trees, unlinks_keep_trees, rmdirs_keep_trees, renames_keep_trees}
+use Rattle.nl_types.specs.Facts.KeptTrees.{creates_keep_trees, mkdirs_keep_trees, writes_keep_trees, truncates_keep_trees, unlinks_keep_trees, rmdirs_keep_trees, renames_keep_trees}
 use Rattle.nl_types.proofs.laws.file_calls_keep_trees.Goals as goal
 
 pub returns-clause-create : goal.returns-clause-create

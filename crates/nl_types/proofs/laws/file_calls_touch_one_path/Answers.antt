@@ -1,4 +1,4 @@
-use Rattle.nl_types.proofs.CallLookups.{creates_add_one, writes_change_one, truncates_change_one, unlinks_remove_one, rmdirs_remove_one}
+use Rattle.nl_types.specs.Facts.CallLookups.{creates_add_one, writes_change_one, truncates_change_one, unlinks_remove_one, rmdirs_remove_one}
 use Rattle.nl_types.proofs.laws.file_calls_touch_one_path.Goals as goal
 
 pub returns-clause-create : goal.returns-clause-create

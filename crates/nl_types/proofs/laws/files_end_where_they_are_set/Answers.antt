@@ -1,5 +1,5 @@
-use Rattle.nl_types.proofs.CallLookups.{empty_writes_stay}
-use Rattle.nl_types.proofs.FileSizes.{written_sizes, truncated_sizes}
+use Rattle.nl_types.specs.Facts.CallLookups.{empty_writes_stay}
+use Rattle.nl_types.specs.Facts.FileSizes.{written_sizes, truncated_sizes}
 use Rattle.nl_types.proofs.laws.files_end_where_they_are_set.Goals as goal
 
 pub returns-clause-written : goal.returns-clause-written

@@ -1,4 +1,4 @@
-use Rattle.nl_types.proofs.Needs.{lost-ends, needs-no-more}
+use Rattle.nl_types.specs.Facts.Needs.{lost-ends, needs-no-more}
 use Rattle.nl_types.proofs.laws.removals_let_a_run_go.Goals as goal
 
 pub returns-clause-fewer : goal.returns-clause-fewer

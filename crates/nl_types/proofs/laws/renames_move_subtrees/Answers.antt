@@ -1,4 +1,4 @@
-use Rattle.nl_types.proofs.CallLookups.{renames_move_subtree, renamed_is_below, renames_onto_themselves_stay}
+use Rattle.nl_types.specs.Facts.CallLookups.{renames_move_subtree, renamed_is_below, renames_onto_themselves_stay}
 use Rattle.nl_types.proofs.laws.renames_move_subtrees.Goals as goal
 
 pub returns-clause-every : goal.returns-clause-every

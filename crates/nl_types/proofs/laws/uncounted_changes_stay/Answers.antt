@@ -1,4 +1,4 @@
-use Rattle.nl_types.proofs.ChangeLaws.{uncounted_changes_stay}
+use Rattle.nl_types.specs.Facts.ChangeLaws.{uncounted_changes_stay}
 use Rattle.nl_types.proofs.Spellings.{renames_of_two_paths_count}
 use Rattle.nl_types.proofs.laws.uncounted_changes_stay.Goals as goal
 

@@ -1,4 +1,4 @@
-use Rattle.nl_types.proofs.WrittenEntries.{written-at}
+use Rattle.nl_types.specs.Facts.WrittenEntries.{written-at}
 use Rattle.nl_types.proofs.laws.writes_are_by_number.Goals as goal
 
 pub returns : goal.returns

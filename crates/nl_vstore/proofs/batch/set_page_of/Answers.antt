@@ -1,6 +1,6 @@
 use Rattle.std.proofs.Common.{get_or}
 use Rattle.std.proofs.lemmas.List.{get_or_default}
-use Rattle.nl_vstore.proofs.BatchLaws.{set_page_births}
+use Rattle.nl_vstore.specs.Facts.BatchLaws.{set_page_births}
 use Rattle.nl_vstore.proofs.batch.set_page_of.Goals as goal
 
 pub returns : goal.returns

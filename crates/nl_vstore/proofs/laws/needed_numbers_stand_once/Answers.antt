@@ -1,4 +1,4 @@
-use Rattle.nl_vstore.proofs.NumberAt.{needed-inside, needed-needs, needed-once}
+use Rattle.nl_vstore.specs.Facts.NumberAt.{needed-inside, needed-needs, needed-once}
 use Rattle.nl_vstore.proofs.laws.needed_numbers_stand_once.Goals as goal
 
 pub returns : goal.returns

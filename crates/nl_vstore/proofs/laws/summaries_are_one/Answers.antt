@@ -1,4 +1,4 @@
-use Rattle.nl_vstore.proofs.StoredLogs.{one_list_stands, row-of_logs}
+use Rattle.nl_vstore.specs.Facts.StoredLogs.{one_list_stands, row-of_logs}
 use Rattle.nl_vstore.proofs.laws.summaries_are_one.Goals as goal
 
 pub returns-clause-one : goal.returns-clause-one

@@ -2,7 +2,7 @@ use Rattle.std.proofs.Common.{◌≡◌, ℕ, ◌+◌, ◌<◌, ◌≤◌, true,
 use Rattle.std.specs.Prelude.{Bool, ◌||◌}
 use Rattle.std.specs.Option.{option_map}
 use Rattle.std.proofs.lemmas.Bool.{cases_Bool, cases_lt}
-use Rattle.nl_vstore.specs.Batches.{Changes, Fits, IsLowestFree, is_born, is_taken, last_number}
+use Rattle.nl_vstore.specs.Batches.{Changes, CanBeTaken, IsLowestFree, is_born, is_taken, last_number}
 use Rattle.nl_vstore.specs.Stores.{Numbered, Store, IsStore, block_now, entry_now, numbered_in, content_in, capacity}
 use Rattle.nl_vstore.proofs.store.next_number.Goals as goal
 
@@ -13,7 +13,7 @@ nothing_above s v is above = of (numbered_in s v) refl
     of None e = refl
     of (Some n) e = absurd (let k = is.numbers v n.block (ap (option_map block_now) e) in omega (arith, k.1, above))
 
-lowest_above : (s : Store) (changes : Changes) → IsStore s → Fits (capacity s) (content_in s) changes
+lowest_above : (s : Store) (changes : Changes) → IsStore s → CanBeTaken (capacity s) (content_in s) changes
     → ((v : ℕ) → 1 ≤ v → v ≤ capacity s → is_taken (content_in s) changes.births v ≡ true) → IsLowestFree (content_in s) changes.births (max (capacity s) (last_number changes.births) + 1)
 lowest_above s changes is fits taken = record {
   positive = omega arith;

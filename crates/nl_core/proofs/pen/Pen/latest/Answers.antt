@@ -1,9 +1,9 @@
 use Rattle.std.proofs.Common.{ap, ◌∙◌}
-use Rattle.nl_core.specs.Layout.{Layout, pages_in}
-use Rattle.nl_core.proofs.CheckpointEvents.{latest-same}
+use Rattle.nl_core.specs.Layout.{Layout, layout_pages}
+use Rattle.nl_core.specs.Facts.CheckpointEvents.{latest-same}
 use Rattle.nl_core.proofs.pen.Pen.latest.Goals as goal
 
 pub returns-clause-world : goal.returns-clause-world
 returns-clause-world g c = λ w m.
     c.latest.ensures ∙ (ap (λ (l : Layout). l.lists.table.latest.number) c.self.view_is
-    ∙ latest-same (pages_in c.args.self.now) c.args.self.now.lists w m)
+    ∙ latest-same (layout_pages c.args.self.now) c.args.self.now.lists w m)

@@ -10,10 +10,10 @@ use Rattle.nl_tree.specs.Held.{Holding}
 use Rattle.nl_files.specs.CheckpointTrees.{HoldsTree}
 use Rattle.nl_core.specs.Changes.{HasChanged}
 use Rattle.nl_core.specs.Inside.{lists_of}
-use Rattle.nl_core.specs.Means.{FollowsOver, Means}
-use Rattle.nl_core.specs.Tables.{Roomy}
+use Rattle.nl_core.specs.Means.{StepsWorldsOver, Means}
+use Rattle.nl_core.specs.Tables.{RoomyLists}
 use Rattle.nl_core.specs.Volume.{Lists, latest_root}
-use Rattle.nl_core.proofs.Events.{change-follows, refused_change-follows}
+use Rattle.nl_core.specs.Facts.Events.{change-follows, refused_change-follows}
 use Rattle.nl_core.proofs.tables.Tables.change.Goals as goal
 use Rattle.nl_core.proofs.tables.Tables.change.Goals.{then-self, else-self}
 
@@ -22,24 +22,24 @@ returns-in_err-answer-clause-follows g c =
     let p = err_from_is_err_and c.from_residual.result c.from_residual.ensures.1 in
     let pages = g.V.VRead.pages c.args.store.now in
     let inside = lists_of c.self.inside in
-    let before : inside ≡ c.args.self.now.lists = ap (λ (r : Roomy). r.lists) c.self.view_is in
+    let before : inside ≡ c.args.self.now.lists = ap (λ (r : RoomyLists). r.lists) c.self.view_is in
     let root : c.base_root.result ≡ latest_root inside = c.base_root.ensures ∙ ap latest_root (sym before) in
     let over : (base : Holding) → HoldsTree pages (root_of (latest_root inside)) base → HoldsTree pages (root_of c.base_root.result) base =
     λ base holds. subst (λ (r : Root). HoldsTree pages (root_of r) base) (sym root) holds in
     let call = c.args.change.now in
     let e = c.in_err-answer.field-0.0 in
-    let refused : FollowsOver pages inside (Apply call) (Err e) inside =
+    let refused : StepsWorldsOver pages inside (Apply call) (Err e) inside =
     refused_change-follows pages inside call e (λ base tree holds stands. c.in_err-answer.ensures.done base tree (c.new-base.ensures base (over base holds)) stands) in
-    let follows : FollowsOver pages c.args.self.now.lists (Apply call) (Err e) (record inside { current = c.change.new.self }) =
-    subst (λ (now : Current). FollowsOver pages c.args.self.now.lists (Apply call) (Err e) (record inside { current = now })) (sym c.in_err-answer.ensures.same)
-    (subst (λ (lists : Lists). FollowsOver pages lists (Apply call) (Err e) inside) before refused) in
+    let follows : StepsWorldsOver pages c.args.self.now.lists (Apply call) (Err e) (record inside { current = c.change.new.self }) =
+    subst (λ (now : Current). StepsWorldsOver pages c.args.self.now.lists (Apply call) (Err e) (record inside { current = now })) (sym c.in_err-answer.ensures.same)
+    (subst (λ (lists : Lists). StepsWorldsOver pages lists (Apply call) (Err e) inside) before refused) in
     λ cleaned w m. rw (p.1, p.2) (follows cleaned w m)
 
 pub returns-clause-follows : goal.returns-clause-follows
 returns-clause-follows g c =
     let pages = g.V.VRead.pages c.args.store.now in
     let inside = lists_of c.self.inside in
-    let before : inside ≡ c.args.self.now.lists = ap (λ (r : Roomy). r.lists) c.self.view_is in
+    let before : inside ≡ c.args.self.now.lists = ap (λ (r : RoomyLists). r.lists) c.self.view_is in
     let root : c.base_root.result ≡ latest_root inside = c.base_root.ensures ∙ ap latest_root (sym before) in
     let over : (base : Holding) → HoldsTree pages (root_of (latest_root inside)) base → HoldsTree pages (root_of c.base_root.result) base =
     λ base holds. subst (λ (r : Root). HoldsTree pages (root_of r) base) (sym root) holds in
@@ -49,15 +49,15 @@ returns-clause-follows g c =
       | then-self w ↦ w.self-is ∙ (w.if-self.true ∙ ap (λ (b : Bool). b || calls.is_dirtying call) (sym w.if-self.true))
       | else-self w ↦ w.self-is ∙ (w.is_dirtying-self-inside.ensures ∙ ap (λ (b : Bool). b || calls.is_dirtying call) (sym w.if-self.false))
     ] in
-    subst (λ (lists : Lists). FollowsOver pages lists (Apply call) (Ok c.in_ok-answer.answer) (record inside { current = now; dirty = c.if-self.self })) before
-    (subst (λ (b : Bool). FollowsOver pages inside (Apply call) (Ok c.in_ok-answer.answer) (record inside { current = now; dirty = b })) (sym dirty)
+    subst (λ (lists : Lists). StepsWorldsOver pages lists (Apply call) (Ok c.in_ok-answer.answer) (record inside { current = now; dirty = c.if-self.self })) before
+    (subst (λ (b : Bool). StepsWorldsOver pages inside (Apply call) (Ok c.in_ok-answer.answer) (record inside { current = now; dirty = b })) (sym dirty)
     (change-follows pages inside call c.in_ok-answer.answer now (λ base tree holds stands. c.in_ok-answer.ensures.done base tree (c.new-base.ensures base (over base holds)) stands)))
 
 pub returns-clause-changed : goal.returns-clause-changed
 returns-clause-changed g c =
     let pages = g.V.VRead.pages c.args.store.now in
     let inside = lists_of c.self.inside in
-    let before : inside ≡ c.args.self.now.lists = ap (λ (r : Roomy). r.lists) c.self.view_is in
+    let before : inside ≡ c.args.self.now.lists = ap (λ (r : RoomyLists). r.lists) c.self.view_is in
     let root : c.base_root.result ≡ latest_root inside = c.base_root.ensures ∙ ap latest_root (sym before) in
     let over : (base : Holding) → HoldsTree pages (root_of (latest_root inside)) base → HoldsTree pages (root_of c.base_root.result) base =
     λ base holds. subst (λ (r : Root). HoldsTree pages (root_of r) base) (sym root) holds in

@@ -3,13 +3,13 @@ use Rattle.std.specs.Prelude.{Ok}
 use Rattle.nl_types.specs.declared.reply.Answer.TheVariants as answer
 use Rattle.nl_types.specs.Rows as told
 use Rattle.nl_cpfile.specs.Tables as tables
-use Rattle.nl_core.specs.Tables.{Roomy}
-use Rattle.nl_core.proofs.CheckpointEvents.{listing-follows}
+use Rattle.nl_core.specs.Tables.{RoomyLists}
+use Rattle.nl_core.specs.Facts.CheckpointEvents.{listing-follows}
 use Rattle.nl_core.proofs.tables.Tables.listing.Goals as goal
 
 pub returns : goal.returns
 returns c = λ pages.
     let rows = c.in_ok-rows.ensures
-    ∙ ap (λ (r : Roomy). told.listing c.args.options.now (tables.rows r.lists.table)) c.self.view_is in
+    ∙ ap (λ (r : RoomyLists). told.listing c.args.options.now (tables.rows r.lists.table)) c.self.view_is in
     listing-follows pages c.args.self.now.lists c.args.options.now (Ok (answer.Rows c.in_ok-rows.rows))
     (λ other. ap (λ rs. Ok (answer.Rows rs)) rows)

@@ -5,19 +5,19 @@ use Rattle.nl_layout.specs.Root.{root_of}
 use Rattle.nl_layout.specs.declared.root.Root.{Root}
 use Rattle.nl_files.specs.CheckpointTrees.{HoldsTree}
 use Rattle.nl_core.specs.Inside.{lists_of}
-use Rattle.nl_core.specs.Means.{FollowsOver}
-use Rattle.nl_core.specs.Tables.{Roomy}
+use Rattle.nl_core.specs.Means.{StepsWorldsOver}
+use Rattle.nl_core.specs.Tables.{RoomyLists}
 use Rattle.nl_core.specs.Volume.{Lists, latest_root}
-use Rattle.nl_core.proofs.Events.{read-follows}
+use Rattle.nl_core.specs.Facts.Events.{read-follows}
 use Rattle.nl_core.proofs.tables.Tables.read.Goals as goal
 
 pub returns : goal.returns
 returns g c =
     let pages = g.V.VRead.pages c.args.store.now in
     let inside = lists_of c.self.inside in
-    let before : inside ≡ c.args.self.now.lists = ap (λ (r : Roomy). r.lists) c.self.view_is in
+    let before : inside ≡ c.args.self.now.lists = ap (λ (r : RoomyLists). r.lists) c.self.view_is in
     let root : c.base_root.result ≡ latest_root inside = c.base_root.ensures ∙ ap latest_root (sym before) in
-    subst (λ (lists : Lists). FollowsOver pages lists (Read c.args.ask.now) c.answer.result lists) before
+    subst (λ (lists : Lists). StepsWorldsOver pages lists (Read c.args.ask.now) c.answer.result lists) before
     (read-follows pages inside c.args.ask.now c.answer.result
     (λ base tree holds stands. c.answer.ensures (holding_over inside.current.became base) tree
     (c.view.ensures base (c.new-base.ensures base (subst (λ (r : Root). HoldsTree pages (root_of r) base) (sym root) holds)) stands.sound)

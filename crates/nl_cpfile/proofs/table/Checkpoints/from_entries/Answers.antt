@@ -1,7 +1,7 @@
 use Rattle.std.proofs.Common.{arith, sym}
 use Rattle.std.proofs.lemmas.List.{take_all, take_more}
 use Rattle.nl_cpfile.specs.Images.{HasRoot, IsEntryOf}
-use Rattle.nl_cpfile.proofs.ImageEntries.{last_of, told_table, zip_push}
+use Rattle.nl_cpfile.specs.Facts.ImageEntries.{last_of, told_table, zip_push}
 use Rattle.nl_cpfile.proofs.table.Checkpoints.from_entries.Goals as goal
 
 pub loop-entry-preserved : goal.loop-entry-preserved

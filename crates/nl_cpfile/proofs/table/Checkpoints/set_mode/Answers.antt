@@ -3,9 +3,9 @@ use Rattle.nl_cpfile.specs.declared.checkpoint.Checkpoint.{Checkpoint}
 use Rattle.nl_cpfile.specs.Inside.{table_of}
 use Rattle.nl_types.specs.Rows.{mode_change}
 use Rattle.nl_cpfile.specs.Searching.{HasNumberAt}
-use Rattle.nl_cpfile.specs.Tables.{IsTable, Roomy, RoomyList, rows, with_mode}
-use Rattle.nl_cpfile.proofs.Found.{earlier-IsRising, kept-earlier, kept-last, kept-none, with_mode-earlier, with_mode-latest}
-use Rattle.nl_cpfile.proofs.Rising.{same_table, with_mode-IsTable}
+use Rattle.nl_cpfile.specs.Tables.{IsTable, RoomyTable, RoomyList, rows, with_mode}
+use Rattle.nl_cpfile.specs.Facts.Found.{earlier-IsRising, kept-earlier, kept-last, kept-none, with_mode-earlier, with_mode-latest}
+use Rattle.nl_cpfile.specs.Facts.Rising.{same_table, with_mode-IsTable}
 use Rattle.nl_cpfile.proofs.Told.{mode_change-kept, mode_change-none}
 use Rattle.nl_cpfile.proofs.ToldChanges.{rows-with_mode}
 use Rattle.nl_cpfile.proofs.table.Checkpoints.set_mode.Goals as goal
@@ -19,13 +19,13 @@ pub returns-then-eq-clause-judged : goal.returns-then-eq-clause-judged
 returns-then-eq-clause-judged c =
     let t = table_of c.self.inside in
     mode_change-kept c.args.number t t.latest (kept-last t c.self.invariant c.args.number (sym c.if-eq.ensures))
-    ∙ ap (λ (r : Roomy). mode_change c.args.number (rows r.table)) c.self.view_is
+    ∙ ap (λ (r : RoomyTable). mode_change c.args.number (rows r.table)) c.self.view_is
 
 pub returns-then-eq-clause-changed : goal.returns-then-eq-clause-changed
 returns-then-eq-clause-changed c =
     let t = table_of c.self.inside in
     sym (with_mode-latest t c.self.invariant c.args.number c.args.mode (sym c.if-eq.ensures))
-    ∙ ap (λ (r : Roomy). with_mode c.args.number c.args.mode r.table) c.self.view_is
+    ∙ ap (λ (r : RoomyTable). with_mode c.args.number c.args.mode r.table) c.self.view_is
 
 pub place_of-requires : goal.place_of-requires
 place_of-requires c = earlier-IsRising (table_of c.self.inside) c.self.invariant c.args.number _ c.as_slice-earlier.ensures.value
@@ -49,17 +49,17 @@ returns-in-Some-clause-judged c =
     let t = table_of c.self.inside in
     let found = c.index-earlier-index.result in
     mode_change-kept c.args.number t found (kept-earlier t c.self.invariant c.args.number _ c.in-Some.index found c.as_slice-earlier.ensures.value c.in-Some.ensures c.index-earlier-index.is)
-    ∙ ap (λ (r : Roomy). mode_change c.args.number (rows r.table)) c.self.view_is
+    ∙ ap (λ (r : RoomyTable). mode_change c.args.number (rows r.table)) c.self.view_is
 
 pub returns-in-Some-clause-changed : goal.returns-in-Some-clause-changed
 returns-in-Some-clause-changed c =
-    sym (left c) ∙ ap (λ (r : Roomy). with_mode c.args.number c.args.mode r.table) c.self.view_is
+    sym (left c) ∙ ap (λ (r : RoomyTable). with_mode c.args.number c.args.mode r.table) c.self.view_is
 
 pub returns-in-None-clause-judged : goal.returns-in-None-clause-judged
 returns-in-None-clause-judged c =
     let t = table_of c.self.inside in
     mode_change-none c.args.number t (kept-none t c.self.invariant c.args.number _ c.as_slice-earlier.ensures.value c.in-None.ensures (sym c.if-eq.ensures))
-    ∙ ap (λ (r : Roomy). mode_change c.args.number (rows r.table)) c.self.view_is
+    ∙ ap (λ (r : RoomyTable). mode_change c.args.number (rows r.table)) c.self.view_is
 
 pub returns-then-eq-clause-told : goal.returns-then-eq-clause-told
 returns-then-eq-clause-told c = ap rows (returns-then-eq-clause-changed c) ∙ rows-with_mode c.args.number c.args.mode c.args.self.now.table

@@ -3,9 +3,9 @@ use Rattle.std.specs.List.{filter}
 use Rattle.nl_cpfile.specs.declared.checkpoint.Checkpoint.{Checkpoint}
 use Rattle.nl_cpfile.specs.Inside.{table_of}
 use Rattle.nl_cpfile.specs.Searching.{HasNumberAt}
-use Rattle.nl_cpfile.specs.Tables.{IsTable, Roomy, is_kept_without, without}
-use Rattle.nl_cpfile.proofs.Found.{earlier-IsRising, filter-absent, found, remove-filter}
-use Rattle.nl_cpfile.proofs.Rising.{filter-IsTable, same_table}
+use Rattle.nl_cpfile.specs.Tables.{IsTable, RoomyTable, is_kept_without, without}
+use Rattle.nl_cpfile.specs.Facts.Found.{earlier-IsRising, filter-absent, found, remove-filter}
+use Rattle.nl_cpfile.specs.Facts.Rising.{filter-IsTable, same_table}
 use Rattle.nl_cpfile.proofs.table.Checkpoints.take_out.Goals as goal
 
 pub place_of-requires : goal.place_of-requires
@@ -25,12 +25,12 @@ invariant_of-self c =
     subst IsTable (sym (same_table (left c) refl)) (filter-IsTable (is_kept_without (c.args.number ∷ [])) t c.self.invariant)
 
 pub returns-in-Some : goal.returns-in-Some
-returns-in-Some c = same_table (left c) refl ∙ ap (λ (r : Roomy). without (c.args.number ∷ []) r.table) c.self.view_is
+returns-in-Some c = same_table (left c) refl ∙ ap (λ (r : RoomyTable). without (c.args.number ∷ []) r.table) c.self.view_is
 
 -- there is none
 pub returns-in_default : goal.returns-in_default
 returns-in_default c =
     let absent = ap (found c.args.number) (sym c.as_slice.ensures.value) ∙ c.in_default.ensures in
-    ap (λ (r : Roomy). r.table) (sym c.self.view_is)
+    ap (λ (r : RoomyTable). r.table) (sym c.self.view_is)
     ∙ same_table (sym (filter-absent c.args.number c.self.inside.earlier.items absent)) refl
-    ∙ ap (λ (r : Roomy). without (c.args.number ∷ []) r.table) c.self.view_is
+    ∙ ap (λ (r : RoomyTable). without (c.args.number ∷ []) r.table) c.self.view_is

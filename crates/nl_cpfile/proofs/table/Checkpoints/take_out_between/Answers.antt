@@ -2,10 +2,11 @@ use Rattle.std.proofs.Common.{◌≡◌, ◌∙◌, List, ℕ, ap, refl, rules, 
 use Rattle.std.proofs.lemmas.Fn.{filter_same}
 use Rattle.std.specs.List.{filter}
 use Rattle.nl_cpfile.specs.Inside.{table_of}
-use Rattle.nl_types.specs.Rows.{between, is_among, judged}
-use Rattle.nl_cpfile.specs.Tables.{IsTable, Roomy, Table, rows, without}
+use Rattle.nl_types.specs.NumberLists.{is_one_of}
+use Rattle.nl_types.specs.Rows.{rows_between, judged_range}
+use Rattle.nl_cpfile.specs.Tables.{IsTable, RoomyTable, Table, rows, without}
 use Rattle.nl_cpfile.proofs.Ranges.{latest-not_removed, stays_in, stays-removed}
-use Rattle.nl_cpfile.proofs.Rising.{filter-IsTable, same_table}
+use Rattle.nl_cpfile.specs.Facts.Rising.{filter-IsTable, same_table}
 use Rattle.nl_cpfile.proofs.ToldChanges.{rows-without}
 use Rattle.nl_cpfile.proofs.table.Checkpoints.take_out_between.Goals as goal
 
@@ -20,12 +21,12 @@ invariant_of-self c =
 pub returns-clause-taken : goal.returns-clause-taken
 returns-clause-taken c =
     same_table (left c ∙ stays-removed c.args.first c.args.last (table_of c.self.inside) c.self.invariant) refl
-    ∙ ap (λ (r : Roomy). without (judged r.table.latest.number (between c.args.first c.args.last (rows r.table))).removed r.table) c.self.view_is
+    ∙ ap (λ (r : RoomyTable). without (judged_range r.table.latest.number (rows_between c.args.first c.args.last (rows r.table))).removed r.table) c.self.view_is
 
 pub returns-clause-told : goal.returns-clause-told
 returns-clause-told c =
     let t = table_of c.self.inside in
-    let gone : Table → List ℕ = λ u. (judged u.latest.number (between c.args.first c.args.last (rows u))).removed in
-    let stays = ap (λ (r : Roomy). is_among (gone r.table) r.table.latest.number) (sym c.self.view_is)
+    let gone : Table → List ℕ = λ u. (judged_range u.latest.number (rows_between c.args.first c.args.last (rows u))).removed in
+    let stays = ap (λ (r : RoomyTable). is_one_of (gone r.table) r.table.latest.number) (sym c.self.view_is)
     ∙ latest-not_removed c.args.first c.args.last t c.self.invariant in
     ap rows (returns-clause-taken c) ∙ rows-without (gone c.args.self.now.table) c.args.self.now.table stays

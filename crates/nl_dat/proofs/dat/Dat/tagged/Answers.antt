@@ -2,7 +2,7 @@ use Rattle.std.proofs.Common.{◌≡◌, ℕ, ◌+◌, ◌*◌, ◌<◌, Some, s
 use Rattle.nl_types.specs.PartialMaps.{Partial}
 use Rattle.nl_vstore.specs.Stores.{Store, address_in}
 use Rattle.nl_dat.proofs.StoreOf.{address_in-store_of, same_store}
-use Rattle.nl_dat.proofs.Positions.{tagged-row}
+use Rattle.nl_dat.specs.Facts.Positions.{tagged-row}
 use Rattle.nl_dat.proofs.dat.Dat.tagged.Goals as goal
 
 pub returns : goal.returns

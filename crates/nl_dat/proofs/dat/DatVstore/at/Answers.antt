@@ -4,7 +4,7 @@ use Rattle.nl_types.specs.Segments.{Segments}
 use Rattle.nl_types.specs.PartialMaps.{Partial}
 use Rattle.nl_dat.specs.Table.{entry_in, addresses_of}
 use Rattle.nl_vstore.specs.Stores.{address_in}
-use Rattle.nl_vstore.proofs.NumberAt.{at-is}
+use Rattle.nl_vstore.specs.Facts.NumberAt.{at-is}
 use Rattle.nl_dat.proofs.StoreOf.{address_in-store_of, same_store}
 use Rattle.nl_dat.proofs.dat.DatVstore.at.Goals as goal
 

@@ -3,7 +3,7 @@ use Rattle.std.specs.Prelude.{MatchOption, max}
 use Rattle.std.specs.Option.{ok_or}
 use Rattle.nl_types.specs.declared.error.VolError.{VolError}
 use Rattle.nl_types.specs.declared.error.VolError.TheVariants.{NoSpace}
-use Rattle.nl_vstore.specs.Batches.{Fits, LacksSpaceFrom, IsLowestFree, is_taken, last_number}
+use Rattle.nl_vstore.specs.Batches.{CanBeTaken, LacksSpaceFrom, IsLowestFree, is_taken, last_number}
 use Rattle.nl_dat.specs.Table.{AreInUse, IsFirstFree}
 use Rattle.nl_vstore.specs.Stores.{Store, content_in, capacity}
 use Rattle.nl_dat.proofs.FreeNumbers.{all-taken, lowest-free, no_number-no_space}
@@ -27,7 +27,7 @@ returns-clause-lowest g c =
     let found : MatchOption c.first_free.result (AreInUse table (max lowest (last_number changes.births + 1)) (length table)) (IsFirstFree table (max lowest (last_number changes.births + 1))) =
     subst (λ f. MatchOption c.first_free.result (AreInUse table f (length table)) (IsFirstFree table f)) first
     (subst (λ t. MatchOption c.first_free.result (AreInUse t (c.max-first.result + 1) (length t)) (IsFirstFree t (c.max-first.result + 1))) c.as_slice.ensures c.first_free.ensures) in
-    let fits = subst (λ (s : Store). Fits (capacity s) (content_in s) changes) (sym (same_store c.self.view_is)) c.requires in
+    let fits = subst (λ (s : Store). CanBeTaken (capacity s) (content_in s) changes) (sym (same_store c.self.view_is)) c.requires in
     subst (λ r. IfOk r (IsLowestFree (content_in c.args.self.now.store) changes.births)) (sym c.ok_or.ensures.value)
     (subst (λ s. IfOk (ok_or c.first_free.result NoSpace) (IsLowestFree (content_in s) changes.births)) (same_store c.self.view_is)
     (found_or _ _ _ c.first_free.result NoSpace found
@@ -43,7 +43,7 @@ returns-clause-lacks_space g c =
     let found : MatchOption c.first_free.result (AreInUse table (max lowest (last_number changes.births + 1)) (length table)) (IsFirstFree table (max lowest (last_number changes.births + 1))) =
     subst (λ f. MatchOption c.first_free.result (AreInUse table f (length table)) (IsFirstFree table f)) first
     (subst (λ t. MatchOption c.first_free.result (AreInUse t (c.max-first.result + 1) (length t)) (IsFirstFree t (c.max-first.result + 1))) c.as_slice.ensures c.first_free.ensures) in
-    let fits = subst (λ (s : Store). Fits (capacity s) (content_in s) changes) (sym (same_store c.self.view_is)) c.requires in
+    let fits = subst (λ (s : Store). CanBeTaken (capacity s) (content_in s) changes) (sym (same_store c.self.view_is)) c.requires in
     let tidy = (g.met.S.Space.limits c.self.inside.space).tidy in
     subst (λ r. OnErr r (LacksSpaceFrom c.args.self.now.store.segments (length changes.births + 1))) (sym c.ok_or.ensures.value)
     (subst (λ (s : Store). OnErr (ok_or c.first_free.result NoSpace) (LacksSpaceFrom s.segments (length changes.births + 1))) (same_store c.self.view_is)
@@ -60,7 +60,7 @@ returns-clause-all_taken g c =
     let found : MatchOption c.first_free.result (AreInUse table (max lowest (last_number changes.births + 1)) (length table)) (IsFirstFree table (max lowest (last_number changes.births + 1))) =
     subst (λ f. MatchOption c.first_free.result (AreInUse table f (length table)) (IsFirstFree table f)) first
     (subst (λ t. MatchOption c.first_free.result (AreInUse t (c.max-first.result + 1) (length t)) (IsFirstFree t (c.max-first.result + 1))) c.as_slice.ensures c.first_free.ensures) in
-    let fits = subst (λ (s : Store). Fits (capacity s) (content_in s) changes) (sym (same_store c.self.view_is)) c.requires in
+    let fits = subst (λ (s : Store). CanBeTaken (capacity s) (content_in s) changes) (sym (same_store c.self.view_is)) c.requires in
     subst (λ r. OnErr r ((v : ℕ) → 1 ≤ v → v ≤ capacity c.args.self.now.store → is_taken (content_in c.args.self.now.store) changes.births v ≡ true)) (sym c.ok_or.ensures.value)
     (subst (λ (s : Store). OnErr (ok_or c.first_free.result NoSpace) ((v : ℕ) → 1 ≤ v → v ≤ capacity s → is_taken (content_in s) changes.births v ≡ true)) (same_store c.self.view_is)
     (none_or _ _ _ c.first_free.result NoSpace found

@@ -1,7 +1,7 @@
 use Rattle.std.proofs.Common.{◌≡◌, ◌<◌, length, subst, sym}
 use Rattle.nl_vstore.specs.Stores.{Store}
 use Rattle.nl_vstore.specs.Summaries.{IsOfLogs, payload_row}
-use Rattle.nl_vstore.proofs.StoredLogs.{row-of_logs}
+use Rattle.nl_vstore.specs.Facts.StoredLogs.{row-of_logs}
 use Rattle.nl_dat.proofs.ShownRows.{row-store_of}
 use Rattle.nl_dat.proofs.StoreOf.{same_store}
 use Rattle.nl_dat.proofs.dat.DatVstore.payload.Goals as goal

@@ -1,6 +1,6 @@
 use Rattle.std.proofs.Common.{◌≡◌, ℕ, ◌+◌, ◌*◌, ◌≤◌, Some, List, Option, ap, subst, ◌∙◌, length, arith}
 use Rattle.nl_types.specs.Segments.{Segments, info_of}
-use Rattle.nl_types.proofs.SegmentChanges.{room_of}
+use Rattle.nl_types.specs.Facts.SegmentChanges.{room_of}
 use Rattle.nl_space.specs.Content.{SpaceContent}
 use Rattle.nl_dat.specs.declared.entries.DatEntry.{DatEntry}
 use Rattle.nl_dat.specs.declared.reclaim.TakenOut.{TakenOut}
@@ -9,7 +9,7 @@ use Rattle.nl_vstore.specs.Stores.{IsReclaimed}
 use Rattle.nl_dat.specs.Inside.{births_in, store_of}
 use Rattle.nl_dat.specs.TakenOut.{HasTakenOut}
 use Rattle.nl_dat.proofs.SoundTable.{HaveOwnPayload-apart}
-use Rattle.nl_dat.proofs.Positions.{tagged-row}
+use Rattle.nl_dat.specs.Facts.Positions.{tagged-row}
 use Rattle.nl_dat.proofs.Reclaiming.{table-reclaimed, is_reclaimed}
 use Rattle.nl_dat.proofs.StoreOf.{is_store, same_store}
 use Rattle.nl_dat.proofs.dat.DatVstore.reclaim.Goals as goal

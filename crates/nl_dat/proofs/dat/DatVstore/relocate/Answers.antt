@@ -29,7 +29,7 @@ invariant_of-self-inside-in-Break-branch-2 g c =
     let mid = g.S.Space.content c.load_all.new.space in
     let later = g.S.Space.content c.append.new.self in
     let e = c.in_err-blocks.ensures in
-    let tabled = table-kept c.self.inside.table (c.self.inside.filled + 1) mid later (subst (IsTable c.self.inside.table (c.self.inside.filled + 1)) (sym c.in_ok-payload.ensures.same) c.self.inside.tabled) e.kept e.stays
+    let tabled = table-kept c.self.inside.table (c.self.inside.filled + 1) mid later (subst (IsTable c.self.inside.table (c.self.inside.filled + 1)) (sym c.in_ok-payload.ensures.same) c.self.inside.tabled) e.used_stay e.stays
     (total-refused mid later false c.args.now c.args.checkpoint c.deref.result.now c.in_err-blocks.field-0.0 e.errors (λ is. ap g.S.Space.content (e.no_space_same (ap Err is))) (λ is. ap g.S.Space.content (e.memory_same (ap Err is))) (λ is. e.broken_off (ap Err is))) in
     (is_store c.self.inside.table (c.self.inside.filled + 1) later (g.S.Space.failed c.append.new.self) tabled (g.met.S.Space.limits c.append.new.self) (g.met.S.Space.whole_logs c.append.new.self) (g.met.S.Space.holds_only_used c.append.new.self) (g.met.S.Space.have_logs c.append.new.self), (tabled, tt))
 
@@ -61,7 +61,7 @@ returns-in_err-blocks-clause-refused g c =
     rw (p.1, p.2) (subst (λ s. IsMoveRefused c.args.checkpoint c.args.now c.args.numbers.now s (store_of table later after) c.in_err-blocks.field-0.0) (same_store c.self.view_is)
     (move-refused table (c.self.inside.filled + 1) old later before (g.S.Space.failed c.load_all.new.space) after c.args.checkpoint c.args.now c.args.numbers.now c.deref.result.now c.in_err-blocks.field-0.0
     (g.met.S.Space.limits c.self.inside.space).tidy c.self.inside.tabled (theirs-of table (c.self.inside.filled + 1) old before c.args.numbers.now c.deref.result.now c.self.inside.tabled loaded)
-    (subst (λ (m : SpaceContent). KeepsUsed m.segments m later) same e.kept) c.load_all.ensures.counted
+    (subst (λ (m : SpaceContent). KeepsUsed m.segments m later) same e.used_stay) c.load_all.ensures.counted
     (subst (λ (m : SpaceContent). IsRelocationRefusal false c.args.now c.args.checkpoint c.deref.result.now c.in_err-blocks.field-0.0 m later (g.S.Space.failed c.load_all.new.space) after) same refused)))
 
 -- as many blocks were answered as there are numbers
@@ -82,7 +82,7 @@ invariant_of-self-inside-2 g c =
     let loaded = ap (λ t. map (stored_at (entry_in t) (births_in old)) c.args.numbers.now) (sym c.as_slice.ensures) ∙ c.in_ok-payload.ensures.payload ∙ ap (λ items. map Some (births_of items)) (sym c.deref.ensures.value) in
     let tabled = table-moved table c.move_entries.new.table (c.self.inside.filled + 1) old later (g.S.Space.failed c.self.inside.space) (g.S.Space.failed c.append.new.self) c.args.checkpoint c.args.now c.args.segment c.args.numbers.now c.in_ok-blocks.blocks.items c.deref.result.now
     c.self.inside.tabled loaded (subst (λ m. IsAppended m later false c.args.now c.args.checkpoint c.deref.result.now c.in_ok-blocks.blocks.items) same e.appended)
-    (subst (λ (m : SpaceContent). KeepsUsed m.segments m later) same e.kept) (subst (λ (m : SpaceContent). StaysUsed m.segments later.segments) same e.stays)
+    (subst (λ (m : SpaceContent). KeepsUsed m.segments m later) same e.used_stay) (subst (λ (m : SpaceContent). StaysUsed m.segments later.segments) same e.stays)
     (c.move_entries.ensures.entries ∙ ap (λ bs. adjust_each moved_entry c.args.numbers.now bs (entry_in table)) c.deref-2.ensures.value) c.move_entries.ensures.length in
     (is_store c.move_entries.new.table (c.self.inside.filled + 1) later (g.S.Space.failed c.append.new.self) tabled (g.met.S.Space.limits c.append.new.self) (g.met.S.Space.whole_logs c.append.new.self) (g.met.S.Space.holds_only_used c.append.new.self) (g.met.S.Space.have_logs c.append.new.self), (tabled, tt))
 
@@ -97,7 +97,7 @@ returns-clause-moved g c =
     subst (λ s. IsMoved c.args.segment c.args.checkpoint c.args.now c.args.numbers.now s (store_of c.move_entries.new.table later (g.S.Space.failed c.append.new.self))) (same_store c.self.view_is)
     (is_moved table c.move_entries.new.table (c.self.inside.filled + 1) old later (g.S.Space.failed c.self.inside.space) (g.S.Space.failed c.append.new.self) c.args.checkpoint c.args.now c.args.segment c.args.numbers.now c.in_ok-blocks.blocks.items c.deref.result.now
     c.self.inside.tabled loaded (subst (λ m. IsAppended m later false c.args.now c.args.checkpoint c.deref.result.now c.in_ok-blocks.blocks.items) same e.appended)
-    (subst (λ (m : SpaceContent). KeepsUsed m.segments m later) same e.kept) (subst (λ (m : SpaceContent). StaysUsed m.segments later.segments) same e.stays)
+    (subst (λ (m : SpaceContent). KeepsUsed m.segments m later) same e.used_stay) (subst (λ (m : SpaceContent). StaysUsed m.segments later.segments) same e.stays)
     (c.move_entries.ensures.entries ∙ ap (λ bs. adjust_each moved_entry c.args.numbers.now bs (entry_in table)) c.deref-2.ensures.value) c.move_entries.ensures.length
     (g.met.S.Space.limits c.self.inside.space).tidy (subst (λ (s : Store). IsClosed s.segments c.args.segment) (sym (same_store c.self.view_is)) c.requires.closed)
     (subst (λ (s : Store). All (λ v. is_inside s.segments c.args.segment (address_in s v) ≡ true) c.args.numbers.now) (sym (same_store c.self.view_is)) c.requires.inside))

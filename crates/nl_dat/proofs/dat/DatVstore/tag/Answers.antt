@@ -1,6 +1,6 @@
 use Rattle.std.proofs.Common.{◌≡◌, ◌+◌, ◌*◌, ◌<◌, length, sym, subst, ◌∙◌}
 use Rattle.nl_vstore.specs.Stores.{Store, tag_in}
-use Rattle.nl_dat.proofs.Positions.{tag-row}
+use Rattle.nl_dat.specs.Facts.Positions.{tag-row}
 use Rattle.nl_dat.proofs.StoreOf.{same_store}
 use Rattle.nl_dat.proofs.dat.DatVstore.tag.Goals as goal
 

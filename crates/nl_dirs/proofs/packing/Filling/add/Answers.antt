@@ -1,5 +1,5 @@
 use Rattle.std.proofs.Common.{◌+◌, ◌-◌, ap, refl}
-use Rattle.nl_dirs.proofs.Filling.{put_record}
+use Rattle.nl_dirs.specs.Facts.Filling.{put_record}
 use Rattle.nl_dirs.proofs.packing.Filling.add.Goals as goal
 
 pub returns : goal.returns

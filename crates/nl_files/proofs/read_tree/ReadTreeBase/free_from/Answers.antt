@@ -1,7 +1,7 @@
 use Rattle.std.proofs.Common.{subst}
+use Rattle.nl_types.specs.Inodes.{AreInUseFrom, IsLowestFreeInode}
 use Rattle.nl_layout.specs.Root.{root_of}
 use Rattle.nl_ifile.specs.Inodes.{inode_at}
-use Rattle.nl_ifile.specs.Free.{AreInUseFrom, IsLowestFreeFrom}
 use Rattle.nl_files.proofs.CheckpointTrees.{all_held, lowest_free}
 use Rattle.nl_files.proofs.read_tree.ReadTreeBase.free_from.Goals as goal
 
@@ -15,4 +15,4 @@ pub returns : goal.returns
 returns g c = λ held h.
     let inodes = inode_at (g.V.VRead.pages c.args.self.now.store.now) (root_of c.args.self.now.root) in
     rw c.get.ensures (lowest_free _ _ held h c.args.from c.in_ok-number.number
-    (subst (λ first. IsLowestFreeFrom inodes first c.in_ok-number.number) c.new.ensures c.in_ok-number.ensures))
+    (subst (λ first. IsLowestFreeInode inodes first c.in_ok-number.number) c.new.ensures c.in_ok-number.ensures))

@@ -2,7 +2,7 @@ use Rattle.std.proofs.Common.{◌≡◌, ◌∙◌, ap, sym, Some, false, true}
 use Rattle.std.proofs.lemmas.Slice.Eq.{slice_eq-Decides}
 use Rattle.std.proofs.lemmas.Bool.Decides.{Decides-eqb}
 use Rattle.nl_layout.specs.Inode.{entry_bytes}
-use Rattle.nl_layout.proofs.Inodes.{entry_at-Spells}
+use Rattle.nl_layout.specs.Facts.Inodes.{entry_at-Spells}
 use Rattle.nl_layout.proofs.inode.InodeEntry.read.Goals as goal
 
 pub returns-else-eq-clause-only : goal.returns-else-eq-clause-only

@@ -2,7 +2,7 @@ use Rattle.std.proofs.Common.{◌≡◌, ◌∙◌, ap, sym, Some, false, true}
 use Rattle.std.proofs.lemmas.Slice.Eq.{slice_eq-Decides}
 use Rattle.std.proofs.lemmas.Bool.Decides.{Decides-eqb}
 use Rattle.nl_layout.specs.Summary.{summary_bytes}
-use Rattle.nl_layout.proofs.Reading.{contents-Spells, length-Spells, levels-Spells}
+use Rattle.nl_layout.specs.Facts.Reading.{contents-Spells, length-Spells, levels-Spells}
 use Rattle.nl_layout.proofs.summary.Summary.read.Goals as goal
 
 pub returns-then-bytes-ne-BLOCK_SIZE-clause-only :

@@ -2,7 +2,7 @@ use Rattle.std.proofs.Common.{◌≡◌, ap, sym, ◌∙◌}
 use Rattle.std.specs.Prelude.{Ok, map}
 use Rattle.nl_types.specs.declared.reply.Answer.TheVariants.{Expired}
 use Rattle.nl_types.specs.Protection.{boundary, expired}
-use Rattle.nl_types.specs.Worlds.{World, boundary_of, expiry_of, greatest, latest, numbers, row_of, rows, take_out}
+use Rattle.nl_types.specs.Worlds.{World, boundary_of, expiry_of, greatest, latest, numbers, copy_row, rows, take_out}
 use Rattle.nl_model.proofs.world.World.expire.Goals as goal
 
 pub returns : goal.returns
@@ -11,7 +11,7 @@ returns c =
     let copies : c.self.inside.copies ≡ w.copies = ap (λ (v : World). v.copies) c.self.view_is in
     let last : c.greatest_number-latest.result ≡ latest w =
     c.greatest_number-latest.ensures ∙ ap (λ cs. greatest (numbers cs)) (c.as_slice.ensures ∙ copies) in
-    let told : c.in_ok-told.told ≡ rows w = c.in_ok-told.ensures ∙ ap (map row_of) (c.as_slice-2.ensures ∙ copies) in
+    let told : c.in_ok-told.told ≡ rows w = c.in_ok-told.ensures ∙ ap (map copy_row) (c.as_slice-2.ensures ∙ copies) in
     let judged = c.as_slice-3.ensures ∙ told in
     let below : c.boundary-boundary.result ≡ boundary_of w c.args.now c.args.period =
     c.boundary-boundary.ensures ∙ (λ i. boundary c.args.now c.args.period (last i) (judged i)) in

@@ -1,22 +1,22 @@
 use Rattle.std.proofs.Common.{◌≡◌, sym, ap, subst, ◌∙◌, refl, None, Some}
-use Rattle.nl_publish.specs.Locks.{Held, IsReady}
+use Rattle.nl_publish.specs.Locks.{HeldPen, IsReady}
 use Rattle.nl_publish.proofs.Running.{gave, ready_none, stuck}
 use Rattle.nl_publish.proofs.locked.Locked.give_back.Goals as goal
 
 pub returns-in-None : goal.returns-in-None
 returns-in-None g c =
-    let old : Held = c.args.self.now in
-    ready_none old (sym (ap (λ (h : Held). h.lost) c.self.view_is) ∙ c.in-None.is)
+    let old : HeldPen = c.args.self.now in
+    ready_none old (sym (ap (λ (h : HeldPen). h.lost) c.self.view_is) ∙ c.in-None.is)
 
 pub returns-in-Ok : goal.returns-in-Ok
 returns-in-Ok g c =
-    let old : Held = c.args.self.now in
-    let was : old.lost ≡ Some c.in-Some.number = sym (ap (λ (h : Held). h.lost) c.self.view_is) ∙ c.in-Some.is in
-    subst (λ (h : Held). IsReady old (record { volume = h.volume; published = h.published; history = h.history; lost = None; layout = h.layout })) (sym c.self-in-Some.view_is)
+    let old : HeldPen = c.args.self.now in
+    let was : old.lost ≡ Some c.in-Some.number = sym (ap (λ (h : HeldPen). h.lost) c.self.view_is) ∙ c.in-Some.is in
+    subst (λ (h : HeldPen). IsReady old (record { volume = h.volume; published = h.published; history = h.history; lost = None; layout = h.layout })) (sym c.self-in-Some.view_is)
     (gave old c.run.new.self c.in-Some.number c.in-Ok.field-0 c.run.result was c.in-Ok.is c.run.ensures)
 
 pub returns : goal.returns
 returns g c =
-    let old : Held = c.args.self.now in
-    let was : old.lost ≡ Some c.in-Some.number = sym (ap (λ (h : Held). h.lost) c.self.view_is) ∙ c.in-Some.is in
+    let old : HeldPen = c.args.self.now in
+    let was : old.lost ≡ Some c.in-Some.number = sym (ap (λ (h : HeldPen). h.lost) c.self.view_is) ∙ c.in-Some.is in
     (refl, stuck old c.run.new.self c.in-Some.number c.in-Err.field-0 c.run.result was c.in-Err.is c.run.ensures)

@@ -7,7 +7,7 @@ use Rattle.nl_publish.specs.Histories.{Known, IsBegun}
 use Rattle.nl_publish.specs.Locks.{IsHeld, listed}
 use Rattle.std.proofs.lemmas.List.{append-nil}
 use Rattle.nl_publish.proofs.Holding.{notes, headed, same_head}
-use Rattle.nl_publish.proofs.Growing.{history_start}
+use Rattle.nl_publish.specs.Facts.Growing.{history_start}
 use Rattle.nl_publish.proofs.locked.Locked.note.Goals as goal
 
 pub add-requires-clause-begun : goal.add-requires-clause-begun

@@ -6,7 +6,7 @@ use Rattle.nl_types.specs.Segments.{HaveLogs, Segments, clean_info}
 use Rattle.nl_space.specs.Content.{Payload}
 use Rattle.nl_space.specs.Logs.{AreWholeLogs}
 use Rattle.nl_segwriter.specs.Writing.{space_content, held_in}
-use Rattle.nl_segwriter.proofs.WholeLogs.{whole_new, logs_new, none_held}
+use Rattle.nl_segwriter.specs.Facts.WholeLogs.{whole_new, logs_new, none_held}
 use Rattle.nl_segwriter.proofs.log_space.LogSpace.new.Goals as goal
 
 pub invariant_of-result : goal.invariant_of-result

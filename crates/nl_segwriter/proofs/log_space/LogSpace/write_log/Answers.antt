@@ -3,13 +3,13 @@ use Rattle.nl_types.specs.declared.geometry.Geometry.{Geometry}
 use Rattle.nl_types.specs.declared.segment.Log.{Log}
 use Rattle.nl_types.specs.Segments.{HaveLogs, Segments, with_error}
 use Rattle.nl_types.specs.Placing.{end_of, first_block, with_log}
-use Rattle.nl_types.proofs.NextLogs.{length-with_log}
+use Rattle.nl_types.specs.Facts.NextLogs.{length-with_log}
 use Rattle.nl_segwriter.specs.declared.staging.Staged.{Staged}
 use Rattle.nl_space.specs.Content.{SpaceContent, Payload, SameOutside, StandInRow, HoldsOnlyUsed}
 use Rattle.nl_space.specs.Logs.{AreWholeLogs}
-use Rattle.nl_segwriter.specs.Staging.{whole_of}
+use Rattle.nl_segwriter.specs.Private.Staging.{whole_of}
 use Rattle.nl_segwriter.specs.Writing.{HasPut, HasTried, held_in, space_content}
-use Rattle.nl_segwriter.proofs.WholeLogs.{whole_with_log, whole_with_error, held_with_log, held_with_error, logs_with_log, logs_with_error, length-with_error}
+use Rattle.nl_segwriter.specs.Facts.WholeLogs.{whole_with_log, whole_with_error, held_with_log, held_with_error, logs_with_log, logs_with_error, length-with_error}
 use Rattle.nl_segwriter.proofs.LogWritten.{put_outside, tried_outside, held_outside, log_stands}
 use Rattle.nl_segwriter.proofs.log_space.LogSpace.write_log.Goals as goal
 

@@ -4,14 +4,14 @@ use Rattle.std.specs.Vec.Iter.{into_iter_items}
 use Rattle.std.proofs.lemmas.Result.{err_from_is_err_and}
 use Rattle.nl_types.specs.Segments.{Segments, StaysUsed, AreTidy}
 use Rattle.nl_types.specs.Placing.{AreNextLogs, IsNextLog, first_block, with_log, with_logs}
-use Rattle.nl_types.proofs.NextLogs.{tidy_with_log}
-use Rattle.nl_types.proofs.UsedParts.{stays_with_log, stays_with_error}
-use Rattle.nl_device.proofs.Counting.{counts-writes, fails-to-write}
+use Rattle.nl_types.specs.Facts.NextLogs.{tidy_with_log}
+use Rattle.nl_types.specs.Facts.UsedParts.{stays_with_log, stays_with_error}
+use Rattle.nl_device.specs.Facts.Counting.{counts-writes, fails-to-write}
 use Rattle.nl_space.specs.Content.{SpaceContent, KeepsUsed, IsSameAt}
 use Rattle.nl_space.specs.Logs.{StandsFrom}
 use Rattle.nl_space.specs.Appended.{IsOutside}
 use Rattle.nl_segwriter.specs.declared.staging.Staged.{Staged}
-use Rattle.nl_segwriter.specs.Staging.{IsReady, logs_of, whole_of}
+use Rattle.nl_segwriter.specs.Private.Staging.{IsReady, logs_of, whole_of}
 use Rattle.nl_segwriter.specs.Writing.{space_content, LogsStand, BreaksOff}
 use Rattle.nl_segwriter.proofs.LogsWritten.{same_outside, log_keeps, keeps_on, stays_on, log_stays, breaks_here, breaks_on}
 use Rattle.nl_segwriter.proofs.log_space.LogSpace.write_logs.Goals as goal
@@ -20,8 +20,8 @@ no_items : (xs : List Staged) → length xs ≡ 0 → xs ≡ []
 no_items [] e = refl
 no_items (x ∷ xs) e = absurd (omega (arith, e))
 
-pub returns-in_err-write_log-clause-kept : goal.returns-in_err-write_log-clause-kept
-returns-in_err-write_log-clause-kept g c =
+pub returns-in_err-write_log-clause-used_stay : goal.returns-in_err-write_log-clause-used_stay
+returns-in_err-write_log-clause-used_stay g c =
     let inv = c.loop-staged.invariant in
     let s : Segments = c.loop-staged.self.table in
     let next = subst (λ (r : List Staged). AreNextLogs s c.args.now (logs_of r)) c.in-Some.ensures.steps.0 inv.next in
@@ -29,7 +29,7 @@ returns-in_err-write_log-clause-kept g c =
     let before : SpaceContent = space_content c.args.self.now.table c.args.self.now.payload (device.pages c.args.self.now.device) in
     let then : SpaceContent = space_content s c.loop-staged.self.payload (device.pages c.loop-staged.self.device) in
     let now : SpaceContent = space_content c.write_log.new.self.table c.write_log.new.self.payload (device.pages c.write_log.new.self.device) in
-    keeps_on c.args.self.now.table s before then now inv.kept inv.stays (log_keeps s c.in-Some.staged.log then now inv.tidy next.0 c.in_err-write_log.ensures.others)
+    keeps_on c.args.self.now.table s before then now inv.used_stay inv.stays (log_keeps s c.in-Some.staged.log then now inv.tidy next.0 c.in_err-write_log.ensures.others)
 
 pub returns-in_err-write_log-clause-broken : goal.returns-in_err-write_log-clause-broken
 returns-in_err-write_log-clause-broken g c =
@@ -98,8 +98,8 @@ returns-clause-counted g c = c.loop-staged.invariant.counted
 pub returns-clause-others : goal.returns-clause-others
 returns-clause-others g c = λ b outside. (c.loop-staged.invariant.others b outside).1
 
-pub returns-clause-kept : goal.returns-clause-kept
-returns-clause-kept g c = c.loop-staged.invariant.kept
+pub returns-clause-used_stay : goal.returns-clause-used_stay
+returns-clause-used_stay g c = c.loop-staged.invariant.used_stay
 
 pub returns-clause-stays : goal.returns-clause-stays
 returns-clause-stays g c = c.loop-staged.invariant.stays
@@ -140,7 +140,7 @@ loop-staged-preserved g c =
       broken = λ later keeps h. inv.broken later (keeps_on s t then now later kept stays keeps) (subst (λ (r : List Staged). BreaksOff stamp r then later) (sym first)
           (breaks_on stamp x rest then now later next.0 table ready.0.count c.in_ok-write_log.ensures.stands c.in_ok-write_log.ensures.others keeps h));
       counted = counts-writes (device.failed c.args.self.now.device) (device.failed c.loop-staged.self.device) (device.failed c.write_log.new.self.device) inv.counted c.in_ok-write_log.ensures.counted;
-      kept = keeps_on start s before then now inv.kept inv.stays kept;
+      used_stay = keeps_on start s before then now inv.used_stay inv.stays kept;
       stays = stays_on start s t inv.stays stays;
       others = λ b outside.
           let o = inv.others b outside in

@@ -6,7 +6,7 @@ use Rattle.nl_types.specs.Placing.{AreNextLogs, with_logs}
 use Rattle.nl_device.specs.Failures.{CountsWrites}
 use Rattle.nl_space.specs.Content.{SpaceContent, KeepsUsed, IsSameAt}
 use Rattle.nl_space.specs.Appended.{IsOutside}
-use Rattle.nl_segwriter.specs.Staging.{IsReady, logs_of}
+use Rattle.nl_segwriter.specs.Private.Staging.{IsReady, logs_of}
 use Rattle.nl_segwriter.specs.Writing.{space_content, LogsStand, BreaksOff}
 use Rattle.nl_segwriter.proofs.log_space.LogSpace.write_logs.Given as goal
 
@@ -32,7 +32,7 @@ invariant-loop-staged g l =
       table : with_logs l.self.table (logs_of rest) l.now ≡ with_logs start.table (logs_of all) l.now;
       broken : (later : SpaceContent) → KeepsUsed l.self.table now later → BreaksOff l.now rest now later → BreaksOff l.now all before later;
       counted : CountsWrites (device.failed start.device) (device.failed l.self.device);
-      kept : KeepsUsed start.table before now;
+      used_stay : KeepsUsed start.table before now;
       stays : StaysUsed start.table l.self.table;
       others : (b : ℕ) → AllByRecursion (IsOutside start.table.blocks b) (logs_of all) → AllByRecursion (IsOutside start.table.blocks b) (logs_of rest) × IsSameAt before now b;
       stand : (later : SpaceContent) → KeepsUsed l.self.table now later → LogsStand start.table.blocks rest later.held later.stored → LogsStand start.table.blocks all later.held later.stored;

@@ -4,12 +4,12 @@ use Rattle.nl_types.specs.declared.geometry.Geometry.{Geometry}
 use Rattle.nl_types.specs.declared.segment.Log.{Log}
 use Rattle.nl_types.specs.Segments.{Segments, total_blocks}
 use Rattle.nl_types.specs.Placing.{AreNextLogs, first_block, addresses}
-use Rattle.nl_types.proofs.NextLogs.{placed}
+use Rattle.nl_types.specs.Facts.NextLogs.{placed}
 use Rattle.nl_space.specs.Content.{SpaceContent}
-use Rattle.nl_segwriter.specs.Staging.{AreStaged, AreSized}
+use Rattle.nl_segwriter.specs.Private.Staging.{AreStaged, AreSized}
 use Rattle.nl_segwriter.specs.Writing.{space_content}
 use Rattle.nl_segwriter.proofs.AppendedLogs.{sized, next_staged, staged_ready, staged_stamps, is_appended, is_broken_off}
-use Rattle.nl_space.proofs.LogNumbers.{logs_inside}
+use Rattle.nl_space.specs.Facts.LogNumbers.{logs_inside}
 use Rattle.nl_segwriter.proofs.log_space.LogSpaceSpace.append.Goals as goal
 
 pub numbers_of-requires : goal.numbers_of-requires
@@ -60,8 +60,8 @@ returns-clause-broken_off g c = λ _.
     is_broken_off old new c.args.reserve c.args.now c.args.checkpoint c.args.items.now logs c.in_ok-all.all.items
     (record { tidy = c.args.self.now.limits.tidy; fits = c.in_ok-planned.ensures.fits; staged = staged }) c.in-Err.ensures.broken
 
-pub returns-in-Ok-clause-kept : goal.returns-in-Ok-clause-kept
-returns-in-Ok-clause-kept g c = c.in-Ok.ensures.kept
+pub returns-in-Ok-clause-used_stay : goal.returns-in-Ok-clause-used_stay
+returns-in-Ok-clause-used_stay g c = c.in-Ok.ensures.used_stay
 
 pub returns-in-Ok-clause-stays : goal.returns-in-Ok-clause-stays
 returns-in-Ok-clause-stays g c = c.in-Ok.ensures.stays
@@ -69,8 +69,8 @@ returns-in-Ok-clause-stays g c = c.in-Ok.ensures.stays
 pub returns-in-Ok-clause-counted : goal.returns-in-Ok-clause-counted
 returns-in-Ok-clause-counted g c = c.in-Ok.ensures.counted
 
-pub returns-clause-kept : goal.returns-clause-kept
-returns-clause-kept g c = c.in-Err.ensures.kept
+pub returns-clause-used_stay : goal.returns-clause-used_stay
+returns-clause-used_stay g c = c.in-Err.ensures.used_stay
 
 pub returns-clause-stays : goal.returns-clause-stays
 returns-clause-stays g c = c.in-Err.ensures.stays

@@ -5,7 +5,7 @@ use Rattle.nl_types.specs.Segments.{HaveLogs, Segments, clean_info, with_clean}
 use Rattle.nl_space.specs.Content.{SpaceContent, Payload, HoldsOnlyUsed, IsEmptied, IsFreed}
 use Rattle.nl_space.specs.Logs.{AreWholeLogs}
 use Rattle.nl_segwriter.specs.Writing.{space_content, held_in}
-use Rattle.nl_segwriter.proofs.WholeLogs.{whole_with_clean, logs_with_clean, held_with_clean, is_freed, cleared}
+use Rattle.nl_segwriter.specs.Facts.WholeLogs.{whole_with_clean, logs_with_clean, held_with_clean, is_freed, cleared}
 use Rattle.nl_segwriter.proofs.log_space.LogSpaceSpace.free.Goals as goal
 
 pub invariant_of-self : goal.invariant_of-self
@@ -27,7 +27,7 @@ invariant_of-self g c =
       sized = c.drop_row.ensures.size ∙ c.args.self.now.sized ∙ ap (λ (x : Geometry). x.segments * x.blocks) shape;
       unheld = subst (λ (t : Segments). HoldsOnlyUsed (space_content t table stored)) (sym is) (held_with_clean old k (held_in table) stored c.args.self.now.limits.tidy c.args.self.now.unheld held);
       logged = subst HaveLogs (sym is) (logs_with_clean s k c.requires c.args.self.now.logged);
-      whole = subst (λ (t : Segments). AreWholeLogs (space_content t table stored)) (sym is) (whole_with_clean old k (held_in table) stored c.requires c.args.self.now.whole freed.kept);
+      whole = subst (λ (t : Segments). AreWholeLogs (space_content t table stored)) (sym is) (whole_with_clean old k (held_in table) stored c.requires c.args.self.now.whole freed.used_stay);
     }
 
 pub returns-clause-freed : goal.returns-clause-freed

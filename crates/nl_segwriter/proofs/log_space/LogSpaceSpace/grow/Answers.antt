@@ -102,5 +102,5 @@ returns-in-Ok-clause-grown g c =
     record {
       segments = table;
       held = same;
-      kept = kept-grown n old (held_in c.add_blocks.new.table) pages c.growing_keeps_segments.ensures.infos same below s.limits.tidy;
+      used_stay = kept-grown n old (held_in c.add_blocks.new.table) pages c.growing_keeps_segments.ensures.infos same below s.limits.tidy;
     }

@@ -1,11 +1,11 @@
 use Rattle.std.proofs.Common.{◌≡◌, ◌*◌, ◌<◌, length, ap, sym, ◌∙◌, subst}
 use Rattle.nl_types.specs.declared.geometry.Geometry.{Geometry}
 use Rattle.nl_types.specs.Segments.{Segments}
-use Rattle.nl_types.proofs.UsedParts.{used_inside}
+use Rattle.nl_types.specs.Facts.UsedParts.{used_inside}
 use Rattle.nl_device.specs.Pages.{DevicePages}
 use Rattle.nl_space.specs.Logs.{AreWholeLogs}
 use Rattle.nl_segwriter.specs.Writing.{space_content}
-use Rattle.nl_segwriter.proofs.WholeLogs.{used_stored}
+use Rattle.nl_segwriter.specs.Facts.WholeLogs.{used_stored}
 use Rattle.nl_segwriter.proofs.log_space.LogSpaceSpace.load.Goals as goal
 
 pub get-requires : goal.get-requires

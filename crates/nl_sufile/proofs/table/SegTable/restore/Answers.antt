@@ -1,6 +1,6 @@
 use Rattle.std.proofs.Common.{◌∙◌}
 use Rattle.std.proofs.lemmas.Result.{err_from_is_err_and}
-use Rattle.nl_sufile.proofs.ImageEntries.{entries_told, same_segments, told_seg_table, told_table}
+use Rattle.nl_sufile.specs.Facts.ImageEntries.{entries_told, same_segments, told_seg_table, told_table}
 use Rattle.nl_sufile.proofs.table.SegTable.restore.Goals as goal
 
 pub returns-in_err-each-clause-only : goal.returns-in_err-each-clause-only

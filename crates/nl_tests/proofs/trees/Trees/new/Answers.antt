@@ -5,7 +5,7 @@ use Rattle.nl_types.specs.Trees.{root_alone}
 use Rattle.nl_tree.specs.Became.{Current}
 use Rattle.nl_tree.specs.FirstTree.{nothing_held}
 use Rattle.nl_files.specs.TreeLaws.{StandsOverLatest}
-use Rattle.nl_files.proofs.TreeLaws.{first_trees-stand}
+use Rattle.nl_files.specs.Facts.TreeLaws.{first_trees-stand}
 use Rattle.nl_tests.proofs.TreesStand.{new_content-blank}
 use Rattle.nl_tests.proofs.trees.Trees.new.Goals as goal
 

@@ -4,10 +4,9 @@ use Rattle.nl_types.specs.declared.reply.Answer.TheVariants as answer
 use Rattle.nl_types.specs.Calls.{create}
 use Rattle.nl_types.specs.Paths.{Path}
 use Rattle.nl_tree.specs.Became.{Current, holding_over}
-use Rattle.nl_tree.specs.Held.{Listed}
-use Rattle.nl_tree.specs.Limits.{new_node}
+use Rattle.nl_tree.specs.Held.{Listed, new_node}
 use Rattle.nl_tree.specs.Overlays.{current_of}
-use Rattle.nl_tree.specs.PathParts.{parts_of}
+use Rattle.nl_tree.specs.Private.PathParts.{parts_of}
 use Rattle.nl_tree.proofs.CallsJudged.{create-exists, create-not_made, create-refused}
 use Rattle.nl_tree.proofs.CallsStand.{created-leads, leads-at}
 use Rattle.nl_tree.proofs.OneHolding.{counts_inside, counts_outside, created_outside, directory_inside, refused_outside}
@@ -78,7 +77,7 @@ returns-clause-done g c = λ b tree holds is.
     let o = c.self.inside.overlay in
     let there = directory_inside o c.args.self.now b place.directory listed.0 c.self.invariant c.self.view_is listed.1 in
     let counts = counts_inside o c.args.self.now b c.self.invariant c.self.view_is is.counts in
-    let orderly = c.create.ensures.orderly c.self.invariant (is.sound.numbers place.directory (Listed listed.0) listed.1.0) in
+    let orderly = c.create.ensures.orderly c.self.invariant (is.sound.inode_numbers place.directory (Listed listed.0) listed.1.0) in
     leads-at (create tree node) c.args.path.now names answer.Done (current_of c.create.new.self) b
     c.in_ok-names.ensures c.if-is_empty.ensures
     (created-leads c.args.self.now b tree is c.args.kind (parts_of names) place.directory place.name.now listed.0
@@ -99,7 +98,7 @@ returns-clause-changes g c = λ b tree holds is.
     let o = c.self.inside.overlay in
     let there = directory_inside o c.args.self.now b place.directory listed.0 c.self.invariant c.self.view_is listed.1 in
     let counts = counts_inside o c.args.self.now b c.self.invariant c.self.view_is is.counts in
-    let orderly = c.create.ensures.orderly c.self.invariant (is.sound.numbers place.directory (Listed listed.0) listed.1.0) in
+    let orderly = c.create.ensures.orderly c.self.invariant (is.sound.inode_numbers place.directory (Listed listed.0) listed.1.0) in
     record {
       names = parts_of names;
       is_path = spells-parts c.args.path.now names c.in_ok-names.ensures c.if-is_empty.ensures;

@@ -3,7 +3,7 @@ use Rattle.std.proofs.lemmas.Result.{on_ok_weaker}
 use Rattle.nl_types.specs.Calls.{rename}
 use Rattle.nl_tree.specs.Became.{Current, holding_over}
 use Rattle.nl_tree.specs.Held.{Holding, IsInodeNumber}
-use Rattle.nl_tree.specs.Moving.{with_moved}
+use Rattle.nl_tree.specs.Private.Moving.{with_moved}
 use Rattle.nl_tree.specs.Overlays.{current_of}
 use Rattle.nl_tree.specs.Steps.{with_held}
 use Rattle.nl_tree.proofs.OneHolding.{as_lists, counts_inside, counts_outside}

@@ -2,10 +2,10 @@ use Rattle.std.proofs.Common.{inl, refl}
 use Rattle.std.proofs.lemmas.Result.{IfOk-from_err, err_from_is_err_and, on_ok_weaker}
 use Rattle.nl_tree.specs.Became.{holding_over}
 use Rattle.nl_tree.specs.Held.{Holding}
-use Rattle.nl_tree.specs.PathParts.{parts_of}
+use Rattle.nl_tree.specs.Private.PathParts.{parts_of}
 use Rattle.nl_tree.proofs.RenamesJudged.{path_of-injective, path_of-last}
 use Rattle.nl_tree.proofs.PlacesFound.{place-listed}
-use Rattle.nl_tree.proofs.Refusals.{holds_on_err}
+use Rattle.nl_tree.specs.Facts.Refusals.{holds_on_err}
 use Rattle.nl_tree.proofs.RenamesMake.{has-renamed}
 use Rattle.nl_tree.proofs.current.CurrentTree.rename.Goals as goal
 

@@ -5,7 +5,7 @@ use Rattle.nl_types.specs.Calls.{rmdir}
 use Rattle.nl_tree.specs.Became.{Current, holding_over}
 use Rattle.nl_tree.specs.Held.{held_count}
 use Rattle.nl_tree.specs.Overlays.{current_of}
-use Rattle.nl_tree.specs.PathParts.{parts_of}
+use Rattle.nl_tree.specs.Private.PathParts.{parts_of}
 use Rattle.nl_tree.specs.Steps.{without_inode}
 use Rattle.nl_tree.proofs.CallsJudged.{rmdir-absent, rmdir-file, rmdir-not_empty, rmdir-refused}
 use Rattle.nl_tree.proofs.CallsStand.{removed-changes, rmdired-calls}

@@ -3,7 +3,7 @@ use Rattle.std.proofs.lemmas.Result.{on_ok_weaker}
 use Rattle.nl_tree.specs.Became.{holding_over}
 use Rattle.nl_tree.specs.Held.{Holding, Stored}
 use Rattle.nl_tree.specs.Overlays.{became_in}
-use Rattle.nl_tree.specs.Pages.{blocks_below, blocks_for, put_from}
+use Rattle.nl_tree.specs.Private.Pages.{blocks_below, blocks_for, put_from}
 use Rattle.nl_tree.specs.Steps.{with_held}
 use Rattle.nl_tree.proofs.OneHolding.{as_lists, counts_inside, counts_outside, file_inside}
 use Rattle.nl_tree.proofs.WritingCalls.{file_number, file_of, is_resized}

@@ -4,7 +4,7 @@ use Rattle.nl_types.specs.declared.kind.Kind.TheVariants as kind
 use Rattle.nl_types.specs.Calls.{unlink}
 use Rattle.nl_tree.specs.Became.{Current, holding_over}
 use Rattle.nl_tree.specs.Overlays.{current_of}
-use Rattle.nl_tree.specs.PathParts.{parts_of}
+use Rattle.nl_tree.specs.Private.PathParts.{parts_of}
 use Rattle.nl_tree.specs.Steps.{without_inode}
 use Rattle.nl_tree.proofs.CallsJudged.{unlink-absent, unlink-directory, unlink-refused}
 use Rattle.nl_tree.proofs.CallsStand.{removed-changes, unlinked-calls}

@@ -3,7 +3,7 @@ use Rattle.std.specs.Vec.Iter.{into_iter_items}
 use Rattle.nl_tree.specs.Overlays.{new_page_at}
 use Rattle.std.specs.Ordering.{nat_cmp}
 use Rattle.std.specs.BTreeMap as map
-use Rattle.nl_tree.specs.Pages.{HasPage, put_from}
+use Rattle.nl_tree.specs.Private.Pages.{HasPage, put_from}
 use Rattle.nl_tree.proofs.overlay.FileBlocks.put_all.Given as goal
 
 abbrev pub invariant-loop-page : goal.invariant-loop-page

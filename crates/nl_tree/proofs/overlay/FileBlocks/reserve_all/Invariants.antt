@@ -1,7 +1,7 @@
 use Rattle.std.proofs.Common.{ℕ, ◌<◌, ◌≤◌}
 use Rattle.std.specs.Ordering.{nat_cmp}
 use Rattle.std.specs.BTreeMap as map
-use Rattle.nl_tree.specs.Pages.{HasPage, IsSameFile}
+use Rattle.nl_tree.specs.Private.Pages.{HasPage, IsSameFile}
 use Rattle.nl_tree.proofs.overlay.FileBlocks.reserve_all.Given as goal
 
 abbrev pub invariant-loop-index : goal.invariant-loop-index

@@ -1,9 +1,9 @@
 use Rattle.std.proofs.Common.{rules, ◌∙◌}
 use Rattle.nl_tree.specs.Overlays.{HasName, IsDirectoryOf, holding_now, over_changed}
-use Rattle.nl_tree.proofs.Places.{added}
+use Rattle.nl_tree.specs.Facts.Places.{added}
 use Rattle.std.proofs.lemmas.Result.{IfOk-from_err}
 use Rattle.nl_types.specs.declared.error.VolError.TheVariants.{Memory}
-use Rattle.nl_tree.proofs.Refusals.{holds_on_err, passed_on}
+use Rattle.nl_tree.specs.Facts.Refusals.{holds_on_err, passed_on}
 use Rattle.nl_tree.proofs.overlay.Overlay.add.Goals as goal
 
 pub link-requires : goal.link-requires

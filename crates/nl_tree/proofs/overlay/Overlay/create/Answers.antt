@@ -5,18 +5,18 @@ use Rattle.std.specs.BTreeMap as map
 use Rattle.nl_dirs.specs.declared.record.Record.{Record}
 use Rattle.nl_tree.specs.Held.{new_held}
 use Rattle.nl_tree.specs.Numbers.{IsNumberFreed}
-use Rattle.nl_tree.specs.Overlays.{holding_now, over_place}
+use Rattle.nl_tree.specs.Overlays.{holding_now, over_if_slot}
 use Rattle.nl_tree.specs.Records.{with_record}
 use Rattle.nl_tree.specs.Steps.{with_new_inode}
 use Rattle.nl_tree.proofs.Counting.{counts_taken, taken_new, taken_old}
 use Rattle.std.proofs.lemmas.Result.{IfOk-from_err}
-use Rattle.nl_tree.proofs.Refusals.{holds_on_err}
+use Rattle.nl_tree.specs.Facts.Refusals.{holds_on_err}
 use Rattle.nl_tree.proofs.overlay.Overlay.create.Goals as goal
 
 pub returns-clause-created : goal.returns-clause-created
 returns-clause-created g c = λ b all holds is counts. record {
   lowest = c.in-Some.ensures.number b holds counts;
-  adds = λ i. ap (λ m. over_place (map.get nat_cmp m i) (b i)) c.take_number.ensures.changed
+  adds = λ i. ap (λ m. over_if_slot (map.get nat_cmp m i) (b i)) c.take_number.ensures.changed
       ∙ c.in_ok-add.ensures.added b all holds is i;
 }
 
@@ -33,7 +33,7 @@ returns-clause-counts g c = λ b all holds is counts.
     counts_taken (IsNumberFreed old) (IsNumberFreed new) old.mark new.mark (holding_now old b) (holding_now new b) b counts
     inode c.args.dir (new_held c.args.kind) all (with_record r all) (c.in-Some.ensures.number b holds counts) is.0
     (λ i. ◌∙◌ {c = with_new_inode c.args.dir all c.args.name.now c.args.kind inode (holding_now old b) i}
-    (ap (λ m. over_place (map.get nat_cmp m i) (b i)) c.take_number.ensures.changed)
+    (ap (λ m. over_if_slot (map.get nat_cmp m i) (b i)) c.take_number.ensures.changed)
     (c.in_ok-add.ensures.added b all holds is i))
     (taken_old get now inode taken) (taken_new get now inode taken)
     (c.take_number.ensures.mark ∙ ap (λ (k : ℕ). if nat_le k inode then inode + 1 else k) c.add.ensures.rest.mark)
@@ -87,14 +87,14 @@ pub returns-in_err-add-clause-orderly : goal.returns-in_err-add-clause-orderly
 returns-in_err-add-clause-orderly g c = λ is dir.
     let asked = c.requires in
     let number = c.in-Some.ensures.number asked.0 asked.2 asked.4 in
-    c.in_err-add.ensures.orderly is dir (inr (number.low, number.high))
+    c.in_err-add.ensures.orderly is dir (inr (number.first, number.last))
 
 pub returns-clause-orderly : goal.returns-clause-orderly
 returns-clause-orderly g c = λ is dir.
     let asked = c.requires in
     let number = c.in-Some.ensures.number asked.0 asked.2 asked.4 in
-    let now = c.take_number.ensures.orderly (c.in_ok-add.ensures.orderly is dir (inr (number.low, number.high))) in
-    record { keys = now.keys; numbers = now.numbers; files = now.files; inodes = now.inodes }
+    let now = c.take_number.ensures.orderly (c.in_ok-add.ensures.orderly is dir (inr (number.first, number.last))) in
+    record { keys = now.keys; freed_numbers = now.freed_numbers; files = now.files; inodes = now.inodes }
 
 pub returns-clause-names : goal.returns-clause-names
 returns-clause-names g c = ap (λ n. n + 1) (c.take_number.ensures.names ∙ c.in_ok-add.ensures.rest.names)

@@ -1,11 +1,11 @@
 use Rattle.std.proofs.Common.{true, Some, refl, sym, ap, subst}
 use Rattle.std.specs.Option.{is_some}
 use Rattle.nl_tree.specs.declared.overlay.Slot.{Slot}
-use Rattle.nl_tree.specs.Files.{ShowsFile}
+use Rattle.nl_tree.specs.Private.Files.{ShowsFile}
 use Rattle.nl_tree.specs.Held.{Stored}
-use Rattle.nl_tree.specs.Pages.{blocks_below}
+use Rattle.nl_tree.specs.Private.Pages.{blocks_below}
 use Rattle.nl_tree.proofs.FilePages.{written_at}
-use Rattle.nl_tree.proofs.Places.{one_slot}
+use Rattle.nl_tree.specs.Facts.Places.{one_slot}
 use Rattle.nl_tree.proofs.WrittenSlots.{written_orderly}
 use Rattle.nl_tree.proofs.overlay.Overlay.cut_blocks.Goals as goal
 

@@ -1,6 +1,6 @@
 use Rattle.std.proofs.Common.{◌≡◌, ℕ, Option, sym, subst, ap, ◌∙◌}
 use Rattle.std.specs.Prelude.{MatchOption}
-use Rattle.nl_tree.specs.Held.{AreHeldFrom, IsLowestUnheld}
+use Rattle.nl_types.specs.Inodes.{AreInUseFrom, IsLowestFreeInode}
 use Rattle.nl_tree.specs.Numbers.{IsNumberFreed, lesser_option}
 use Rattle.nl_tree.specs.Overlays.{holding_now}
 use Rattle.nl_tree.proofs.Lowest.{free_is, freed_below}
@@ -17,5 +17,5 @@ returns-in_default g c = λ b holds counts.
       | in_default-via-in-Some+else-freed-self w ↦ w.first-is ∙ sym w.in-Some.is
       | in_default-via-in_default w ↦ w.first-is
     ] in
-    subst (λ (o : Option ℕ). MatchOption o (AreHeldFrom (holding_now c.args.self.now b) 11 524288) (IsLowestUnheld (holding_now c.args.self.now b) 11)) (sym (c.lesser.ensures ∙ ap (λ (o : Option ℕ). lesser_option o c.free_from.result) first))
+    subst (λ (o : Option ℕ). MatchOption o (AreInUseFrom (holding_now c.args.self.now b) 11 524288) (IsLowestFreeInode (holding_now c.args.self.now b) 11)) (sym (c.lesser.ensures ∙ ap (λ (o : Option ℕ). lesser_option o c.free_from.result) first))
     (free_is (IsNumberFreed c.args.self.now) c.args.self.now.mark (holding_now c.args.self.now b) b counts c.first_freed-first.result c.free_from.result c.first_freed-first.ensures (c.free_from.ensures b holds))

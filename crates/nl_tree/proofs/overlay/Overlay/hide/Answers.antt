@@ -4,7 +4,7 @@ use Rattle.std.specs.Map.{lookup}
 use Rattle.std.proofs.lemmas.Result.{IfOk-from_err}
 use Rattle.nl_tree.specs.Became.{Current}
 use Rattle.nl_tree.specs.declared.overlay.Slot.{Slot}
-use Rattle.nl_tree.specs.Overlays.{over_place, slot_shows}
+use Rattle.nl_tree.specs.Overlays.{over_if_slot, slot_shows}
 use Rattle.nl_tree.specs.Shown.{if_true, key_alone, pair, shown_entries}
 use Rattle.nl_tree.proofs.KeptPlaces.{place_inserted}
 use Rattle.nl_tree.proofs.overlay.Overlay.hide.Goals as goal
@@ -12,7 +12,7 @@ use Rattle.nl_tree.proofs.overlay.Overlay.hide.Goals as goal
 pub returns-in_err-insert-clause-orderly : goal.returns-in_err-insert-clause-orderly
 returns-in_err-insert-clause-orderly c = λ is _ _. record {
   keys = c.in_err-insert.ensures.ordered;
-  numbers = is.numbers;
+  freed_numbers = is.freed_numbers;
   files = λ i s file at file_is. is.files i s file (sym (ap (λ (es : List (ℕ × Slot)). lookup (is_at (nat_cmp i)) es) c.in_err-insert.ensures.err) ∙ at) file_is;
   inodes = λ i has. is.inodes i (subst (λ (es : List (ℕ × Slot)). IsSome (lookup (is_at (nat_cmp i)) es)) c.in_err-insert.ensures.err has);
 }
@@ -31,7 +31,7 @@ pub returns-in_err-insert-clause-rest : goal.returns-in_err-insert-clause-rest
 returns-in_err-insert-clause-rest c = record { freed = refl; mark = refl; names = refl }
 
 pub returns-in_err-insert-clause-still : goal.returns-in_err-insert-clause-still
-returns-in_err-insert-clause-still c = λ b i. ap (λ (es : List (ℕ × Slot)). over_place (lookup (is_at (nat_cmp i)) es) (b i)) c.in_err-insert.ensures.err
+returns-in_err-insert-clause-still c = λ b i. ap (λ (es : List (ℕ × Slot)). over_if_slot (lookup (is_at (nat_cmp i)) es) (b i)) c.in_err-insert.ensures.err
 
 pub returns-in_err-insert-clause-places : goal.returns-in_err-insert-clause-places
 returns-in_err-insert-clause-places c = λ i has. subst (λ (es : List (ℕ × Slot)). IsSome (lookup (is_at (nat_cmp i)) es)) (sym c.in_err-insert.ensures.err) has

@@ -4,7 +4,7 @@ use Rattle.nl_dirs.specs.declared.record.Record.{Record}
 use Rattle.nl_tree.specs.Held.{Held, Listed}
 use Rattle.nl_tree.specs.Overlays.{HasName}
 use Rattle.nl_tree.specs.Records.{with_record, without_record}
-use Rattle.nl_tree.proofs.Places.{name_left}
+use Rattle.nl_tree.specs.Facts.Places.{name_left}
 use Rattle.nl_tree.proofs.overlay.Overlay.move_link.Goals as goal
 
 pub link-requires : goal.link-requires

@@ -2,7 +2,7 @@ use Rattle.std.proofs.Common.{refl, sym, ◌∙◌}
 use Rattle.std.specs.Ordering.{nat_cmp}
 use Rattle.std.specs.BTreeMap as map
 use Rattle.std.proofs.lemmas.Result.{IfOk-from_err}
-use Rattle.nl_tree.proofs.Places.{live_listing}
+use Rattle.nl_tree.specs.Facts.Places.{live_listing}
 use Rattle.nl_tree.proofs.overlay.Overlay.open_directory.Goals as goal
 
 pub returns-then-is_live-clause-open : goal.returns-then-is_live-clause-open

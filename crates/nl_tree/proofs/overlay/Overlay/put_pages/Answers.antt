@@ -1,11 +1,11 @@
 use Rattle.std.proofs.Common.{◌+◌, length, true, Some, refl, sym, ap, subst}
 use Rattle.std.specs.Option.{is_some}
 use Rattle.nl_tree.specs.declared.overlay.Slot.{Slot}
-use Rattle.nl_tree.specs.Files.{ShowsFileWith}
+use Rattle.nl_tree.specs.Private.Files.{ShowsFileWith}
 use Rattle.nl_tree.specs.Held.{Stored}
-use Rattle.nl_tree.specs.Pages.{put_from}
+use Rattle.nl_tree.specs.Private.Pages.{put_from}
 use Rattle.nl_tree.proofs.FilePages.{written_at}
-use Rattle.nl_tree.proofs.Places.{one_slot, slot_written}
+use Rattle.nl_tree.specs.Facts.Places.{one_slot, slot_written}
 use Rattle.nl_tree.proofs.WrittenSlots.{written_orderly}
 use Rattle.nl_tree.proofs.overlay.Overlay.put_pages.Goals as goal
 

@@ -4,19 +4,19 @@ use Rattle.std.specs.Ordering.{nat_cmp}
 use Rattle.std.specs.BTreeMap as map
 use Rattle.nl_tree.specs.Numbers.{CountsNumbers, IsNumberFreed}
 use Rattle.nl_tree.specs.Records.{without_record}
-use Rattle.nl_tree.specs.Overlays.{HasName, IsDirectoryOf, holding_now, over_place}
+use Rattle.nl_tree.specs.Overlays.{HasName, IsDirectoryOf, holding_now, over_if_slot}
 use Rattle.nl_tree.proofs.Counting.{as_before, counts_given, here, given_here, given_new}
-use Rattle.nl_tree.proofs.Places.{removed}
+use Rattle.nl_tree.specs.Facts.Places.{removed}
 use Rattle.std.proofs.lemmas.Result.{IfOk-from_err}
 use Rattle.nl_types.specs.declared.error.VolError.TheVariants.{Memory}
-use Rattle.nl_tree.proofs.Refusals.{holds_on_err, passed_on}
+use Rattle.nl_tree.specs.Facts.Refusals.{holds_on_err, passed_on}
 use Rattle.nl_tree.proofs.overlay.Overlay.remove.Goals as goal
 
 pub unlink-requires : goal.unlink-requires
 unlink-requires g c =
     let there = c.requires.directory in
     let same : holding_now c.reserve_number.new.self there.0 c.args.dir ≡ holding_now c.args.self.now there.0 c.args.dir =
-    ap (λ m. over_place (map.get nat_cmp m c.args.dir) (there.0 c.args.dir)) c.in_ok-reserve_number.ensures.changed in
+    ap (λ m. over_if_slot (map.get nat_cmp m c.args.dir) (there.0 c.args.dir)) c.in_ok-reserve_number.ensures.changed in
     let is : IsDirectoryOf (holding_now c.reserve.new.self there.0) c.args.dir there.1 =
     (c.in_ok-reserve.ensures.still there.0 c.args.dir ∙ same ∙ there.3.0, there.3.1) in (
       there.1,
@@ -28,7 +28,7 @@ pub returns-clause-removed : goal.returns-clause-removed
 returns-clause-removed g c = λ b all holds there.
     let old = holding_now c.args.self.now b in
     let same : (i : ℕ) → holding_now c.reserve_number.new.self b i ≡ old i =
-    λ i. ap (λ m. over_place (map.get nat_cmp m i) (b i)) c.in_ok-reserve_number.ensures.changed in
+    λ i. ap (λ m. over_if_slot (map.get nat_cmp m i) (b i)) c.in_ok-reserve_number.ensures.changed in
     let is : IsDirectoryOf (holding_now c.reserve.new.self b) c.args.dir all =
     (c.in_ok-reserve.ensures.still b c.args.dir ∙ same c.args.dir ∙ there.0, there.1) in
     let has : HasName c.reserve_name.new.self c.args.dir all c.args.name.now =
@@ -98,7 +98,7 @@ pub open_directory-requires : goal.open_directory-requires
 open_directory-requires g c =
     let there = c.requires.directory in
     let same : holding_now c.reserve_number.new.self there.0 c.args.dir ≡ holding_now c.args.self.now there.0 c.args.dir =
-    ap (λ m. over_place (map.get nat_cmp m c.args.dir) (there.0 c.args.dir)) c.in_ok-reserve_number.ensures.changed in
+    ap (λ m. over_if_slot (map.get nat_cmp m c.args.dir) (there.0 c.args.dir)) c.in_ok-reserve_number.ensures.changed in
     (there.0, there.1, there.2, (c.in_ok-reserve.ensures.still there.0 c.args.dir ∙ same ∙ there.3.0, there.3.1))
 
 pub returns-clause-same : goal.returns-clause-same

@@ -8,7 +8,7 @@ use Rattle.nl_tree.proofs.Counting.{moved_kept}
 use Rattle.nl_tree.proofs.OneHolding.{counts_still}
 use Rattle.std.proofs.lemmas.Result.{IfOk-from_err}
 use Rattle.nl_types.specs.declared.error.VolError.TheVariants.{Memory}
-use Rattle.nl_tree.proofs.Refusals.{holds_on_err, passed_on}
+use Rattle.nl_tree.specs.Facts.Refusals.{holds_on_err, passed_on}
 use Rattle.nl_tree.proofs.overlay.Overlay.rename.Goals as goal
 
 pub move_link-requires : goal.move_link-requires

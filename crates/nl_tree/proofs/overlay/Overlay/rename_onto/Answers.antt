@@ -5,12 +5,12 @@ use Rattle.std.specs.BTreeMap as map
 use Rattle.nl_dirs.specs.declared.record.Record.{Record}
 use Rattle.nl_tree.specs.Held.{Holding}
 use Rattle.nl_tree.specs.Numbers.{CountsNumbers, IsNumberFreed}
-use Rattle.nl_tree.specs.Overlays.{IsDirectoryOf, holding_now, over_place}
+use Rattle.nl_tree.specs.Overlays.{IsDirectoryOf, holding_now, over_if_slot}
 use Rattle.nl_tree.specs.Steps.{with_held, with_link_moved}
 use Rattle.nl_tree.proofs.Counting.{counts_given, given_here, given_new, held_here, held_others, moved_kept}
 use Rattle.std.proofs.lemmas.Result.{IfOk-from_err}
 use Rattle.nl_types.specs.declared.error.VolError.TheVariants.{Memory}
-use Rattle.nl_tree.proofs.Refusals.{holds_on_err, passed_on}
+use Rattle.nl_tree.specs.Facts.Refusals.{holds_on_err, passed_on}
 use Rattle.nl_tree.proofs.overlay.Overlay.rename_onto.Goals as goal
 
 pub move_link-requires : goal.move_link-requires
@@ -18,7 +18,7 @@ move_link-requires g c =
     let asked = c.requires.directories in
     let b = asked.0 in
     let same : holding_now c.reserve_number.new.self b ≡ holding_now c.args.self.now b =
-    ap (λ m. λ (i : ℕ). over_place (map.get nat_cmp m i) (b i)) c.in_ok-reserve_number.ensures.changed in
+    ap (λ m. λ (i : ℕ). over_if_slot (map.get nat_cmp m i) (b i)) c.in_ok-reserve_number.ensures.changed in
     let still : holding_now c.reserve.new.self b ≡ holding_now c.args.self.now b =
     (λ k. λ i. c.in_ok-reserve.ensures.still b i k) ∙ same in
     let from : IsDirectoryOf (holding_now c.reserve.new.self b) c.args.found.now.directory asked.1 =
@@ -31,7 +31,7 @@ move_link-requires g c =
 pub returns-clause-moved : goal.returns-clause-moved
 returns-clause-moved g c = λ b all others holds are i.
     let same : holding_now c.reserve_number.new.self b ≡ holding_now c.args.self.now b =
-    ap (λ m. λ (i : ℕ). over_place (map.get nat_cmp m i) (b i)) c.in_ok-reserve_number.ensures.changed in
+    ap (λ m. λ (i : ℕ). over_if_slot (map.get nat_cmp m i) (b i)) c.in_ok-reserve_number.ensures.changed in
     let still : holding_now c.reserve.new.self b ≡ holding_now c.args.self.now b =
     (λ k. λ i. c.in_ok-reserve.ensures.still b i k) ∙ same in
     let from : IsDirectoryOf (holding_now c.reserve.new.self b) c.args.found.now.directory all =
@@ -150,7 +150,7 @@ reserve_move-requires g c =
     let asked = c.requires.directories in
     let b = asked.0 in
     let same : holding_now c.reserve_number.new.self b ≡ holding_now c.args.self.now b =
-    ap (λ m. λ (i : ℕ). over_place (map.get nat_cmp m i) (b i)) c.in_ok-reserve_number.ensures.changed in
+    ap (λ m. λ (i : ℕ). over_if_slot (map.get nat_cmp m i) (b i)) c.in_ok-reserve_number.ensures.changed in
     let still : holding_now c.reserve.new.self b ≡ holding_now c.args.self.now b =
     (λ k. λ i. c.in_ok-reserve.ensures.still b i k) ∙ same in
     let from : IsDirectoryOf (holding_now c.reserve.new.self b) c.args.found.now.directory asked.1 =

@@ -1,9 +1,9 @@
 use Rattle.std.proofs.Common.{sym, ap, ◌∙◌}
 use Rattle.std.proofs.lemmas.Result.{IfOk-from_err, on_ok_weaker}
 use Rattle.nl_tree.specs.Overlays.{HasListing, HasName, IsDirectoryOf, holding_now}
-use Rattle.nl_tree.proofs.Places.{stays_open}
+use Rattle.nl_tree.specs.Facts.Places.{stays_open}
 use Rattle.nl_types.specs.declared.error.VolError.TheVariants.{Memory}
-use Rattle.nl_tree.proofs.Refusals.{passed_on}
+use Rattle.nl_tree.specs.Facts.Refusals.{passed_on}
 use Rattle.nl_tree.proofs.overlay.Overlay.reserve_move.Goals as goal
 
 pub returns-clause-names : goal.returns-clause-names

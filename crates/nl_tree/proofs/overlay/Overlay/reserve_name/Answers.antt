@@ -5,9 +5,9 @@ use Rattle.std.specs.BTreeMap as map
 use Rattle.std.proofs.lemmas.Result.{on_ok_weaker}
 use Rattle.nl_tree.specs.declared.overlay.Slot.{Slot}
 use Rattle.nl_tree.specs.Became.{Became, Current}
-use Rattle.nl_tree.specs.Overlays.{HasListing, HasName, HasSlot, IsListed, IsListedWith, IsOrderly, current_of, over_place, slot_shows}
+use Rattle.nl_tree.specs.Overlays.{HasListing, HasName, HasSlot, IsListed, IsListedWith, IsOrderly, current_of, over_if_slot, slot_shows}
 use Rattle.nl_tree.specs.Shown.{pair, shown_entries}
-use Rattle.nl_tree.proofs.Places.{kept_change, one_slot, slot_still}
+use Rattle.nl_tree.specs.Facts.Places.{kept_change, one_slot, slot_still}
 use Rattle.nl_tree.proofs.WrittenSlots.{places_stay, written_orderly, written_still}
 use Rattle.nl_tree.proofs.overlay.Overlay.reserve_name.Goals as goal
 
@@ -90,7 +90,7 @@ returns-in-None-clause-rest c = record { freed = refl; mark = refl; names = refl
 
 pub returns-in-None-clause-still : goal.returns-in-None-clause-still
 returns-in-None-clause-still c = λ b i.
-    ap (λ changed. over_place (map.get nat_cmp changed i) (b i)) c.get_mut.follows.holds-at-none
+    ap (λ changed. over_if_slot (map.get nat_cmp changed i) (b i)) c.get_mut.follows.holds-at-none
 
 pub returns-in-None-clause-refused : goal.returns-in-None-clause-refused
 returns-in-None-clause-refused c = tt

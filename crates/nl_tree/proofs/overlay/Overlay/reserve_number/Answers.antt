@@ -32,7 +32,7 @@ returns-else-is_none-clause-refused c = tt
 pub returns-in_err-insert-clause-orderly : goal.returns-in_err-insert-clause-orderly
 returns-in_err-insert-clause-orderly c = λ is. record {
   keys = is.keys;
-  numbers = c.in_err-insert.ensures.ordered;
+  freed_numbers = c.in_err-insert.ensures.ordered;
   files = is.files;
   inodes = is.inodes;
 }
@@ -65,7 +65,7 @@ returns-in_err-insert-clause-freed c = λ n ne. ap (λ (es : List (ℕ × Bool))
 pub returns-in_ok-insert-clause-orderly : goal.returns-in_ok-insert-clause-orderly
 returns-in_ok-insert-clause-orderly c = λ is. record {
   keys = is.keys;
-  numbers = c.in_ok-insert.ensures.ordered;
+  freed_numbers = c.in_ok-insert.ensures.ordered;
   files = is.files;
   inodes = is.inodes;
 }

@@ -1,14 +1,14 @@
 use Rattle.std.proofs.Common.{◌≡◌, Some, ap, ◌∙◌}
 use Rattle.nl_tree.specs.Held.{Held, Holding, Stored}
 use Rattle.nl_tree.specs.Overlays.{holding_now}
-use Rattle.nl_tree.specs.Pages.{blocks_below, blocks_for, put_from}
+use Rattle.nl_tree.specs.Private.Pages.{blocks_below, blocks_for, put_from}
 use Rattle.nl_tree.specs.Steps.{with_held}
 use Rattle.nl_tree.proofs.Counting.{held_kept}
 use Rattle.nl_tree.proofs.FilePages.{held_twice}
 use Rattle.nl_tree.proofs.OneHolding.{counts_still}
 use Rattle.std.proofs.lemmas.Result.{IfOk-from_err}
 use Rattle.nl_types.specs.declared.error.VolError.TheVariants.{Memory}
-use Rattle.nl_tree.proofs.Refusals.{holds_on_err, passed_on}
+use Rattle.nl_tree.specs.Facts.Refusals.{holds_on_err, passed_on}
 use Rattle.nl_tree.proofs.overlay.Overlay.truncate_blocks.Goals as goal
 
 pub cut_blocks-requires : goal.cut_blocks-requires

@@ -5,7 +5,7 @@ use Rattle.nl_tree.specs.declared.overlay.Slot.{Slot}
 use Rattle.nl_tree.specs.Held.{Listed}
 use Rattle.nl_tree.specs.Overlays.{IsListedWith}
 use Rattle.nl_tree.specs.Records.{without_record}
-use Rattle.nl_tree.proofs.Places.{listed_over, one_slot, slot_kept, slot_written, written_over}
+use Rattle.nl_tree.specs.Facts.Places.{listed_over, one_slot, slot_kept, slot_written, written_over}
 use Rattle.nl_tree.proofs.WrittenSlots.{places_stay, written_orderly}
 use Rattle.nl_tree.proofs.overlay.Overlay.unlink.Goals as goal
 

@@ -1,14 +1,14 @@
 use Rattle.std.proofs.Common.{◌≡◌, ◌+◌, ℕ, length, Some, ap, subst, ◌∙◌}
-use Rattle.nl_tree.specs.Files.{HasFileWith}
+use Rattle.nl_tree.specs.Private.Files.{HasFileWith}
 use Rattle.nl_tree.specs.Held.{Holding, Stored}
 use Rattle.nl_tree.specs.Overlays.{holding_now}
-use Rattle.nl_tree.specs.Pages.{put_from}
+use Rattle.nl_tree.specs.Private.Pages.{put_from}
 use Rattle.nl_tree.specs.Steps.{with_held}
 use Rattle.nl_tree.proofs.Counting.{held_kept}
 use Rattle.nl_tree.proofs.OneHolding.{counts_still}
 use Rattle.std.proofs.lemmas.Result.{IfOk-from_err}
 use Rattle.nl_types.specs.declared.error.VolError.TheVariants.{Memory}
-use Rattle.nl_tree.proofs.Refusals.{holds_on_err, passed_on}
+use Rattle.nl_tree.specs.Facts.Refusals.{holds_on_err, passed_on}
 use Rattle.nl_tree.proofs.overlay.Overlay.write_blocks.Goals as goal
 
 pub put_pages-requires-clause-places : goal.put_pages-requires-clause-places

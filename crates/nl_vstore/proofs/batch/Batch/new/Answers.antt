@@ -1,4 +1,4 @@
-use Rattle.nl_vstore.proofs.BatchLaws.{Fits-none}
+use Rattle.nl_vstore.specs.Facts.BatchLaws.{Fits-none}
 use Rattle.nl_vstore.proofs.batch.Batch.new.Goals as goal
 
 pub returns-clause-fits : goal.returns-clause-fits

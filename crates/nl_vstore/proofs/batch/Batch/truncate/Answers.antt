@@ -1,6 +1,6 @@
 use Rattle.std.proofs.Common.{◌∙◌, ap, take}
 use Rattle.nl_vstore.specs.Batches.{Changes, births_of}
-use Rattle.nl_vstore.proofs.BatchLaws.{births_of-take}
+use Rattle.nl_vstore.specs.Facts.BatchLaws.{births_of-take}
 use Rattle.nl_vstore.proofs.batch.Batch.truncate.Goals as goal
 
 pub returns-clause-births : goal.returns-clause-births

@@ -1,0 +1,12 @@
+-- Facts about the definitions, for proofs of other crates.
+pub mod Chains
+pub mod Ended
+pub mod Frames
+pub mod HeldPages
+pub mod Numbers
+pub mod Pairwise
+pub mod Reading
+pub mod RootByRoot
+pub mod Staying
+pub mod TreeData
+pub mod TreeLevels

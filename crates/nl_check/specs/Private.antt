@@ -1,0 +1,8 @@
+-- What contracts of private functions and proofs name. No public contract stands on it.
+pub mod DirectoryBlocks
+pub mod InodeBlocks
+pub mod Naming
+pub mod SoundFiles
+pub mod SoundInodes
+pub mod TreePlaces
+pub mod Walks

@@ -1,0 +1,5 @@
+-- What contracts of private functions and proofs name. No public contract stands on it.
+pub mod Adding
+pub mod Listed
+pub mod Places
+pub mod Walked

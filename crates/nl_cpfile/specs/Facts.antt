@@ -1,0 +1,4 @@
+-- Facts about the definitions, for proofs of other crates.
+pub mod Found
+pub mod ImageEntries
+pub mod Rising

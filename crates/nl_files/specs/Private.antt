@@ -1,0 +1,3 @@
+-- What contracts of private functions and proofs name. No public contract stands on it.
+pub mod Directories
+pub mod Planned

@@ -1,0 +1,4 @@
+-- Facts about the definitions, for proofs of other crates.
+pub mod CachedPages
+pub mod Growing
+pub mod Staying

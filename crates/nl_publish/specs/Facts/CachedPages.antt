@@ -1,0 +1,167 @@
+-- Why pages that are kept aside stay right.
+use Rattle.std.proofs.Common.{◌≡◌, ℕ, ◌<◌, ◌≤◌, Bool, true, false, cond, eqb, List, [], ◌∷◌, ◌++◌, map, fold, Option, Some, None, refl, ap, sym, subst, ◌∙◌, arith, inl, inr}
+use Rattle.std.specs.List.{filter}
+use Rattle.std.specs.Option.{option_or}
+use Rattle.std.specs.Ordering.{nat_cmp, eq_by_cmp}
+use Rattle.std.proofs.lemmas.Bool.{cases_Bool, cond-false, cond-true, ne_eqb}
+use mathlib.Core.List.{IsPrefix}
+use Rattle.nl_types.specs.declared.event.Mode.{Mode}
+use Rattle.nl_types.specs.Roots.{Root}
+use Rattle.nl_layout.specs.Root.{root_of}
+use Rattle.nl_layout.specs.declared.root.Root.{Root as RootBlock}
+use Rattle.nl_tree.specs.Held.{Holding, held_block}
+use Rattle.nl_files.specs.CheckpointRoots.{Stores}
+use Rattle.nl_files.specs.CheckpointTrees.{HoldsTree}
+use Rattle.nl_files.specs.Staying.{AgreeAtCheckpoint}
+use Rattle.nl_files.specs.Facts.Holdings.{roots-hold_one}
+use Rattle.nl_files.specs.Facts.Staying.{checkpoints-stay}
+use Rattle.nl_cpfile.specs.Tables.{Table, all, is_kept_without, kept_at, moded, range_in, checkpoint_root}
+use Rattle.nl_cpfile.specs.declared.checkpoint.Checkpoint.{Checkpoint}
+use Rattle.nl_cpfile.specs.Facts.Found.{found, found-push}
+use Rattle.nl_core.specs.Commits.{AllNext, IsHistory, IsImage, IsNext, applied, image_of}
+use Rattle.nl_core.specs.Shown.{Shown, nothing, pages_shown}
+use Rattle.nl_core.specs.declared.commit.Commit.{Commit}
+use Rattle.nl_core.specs.declared.commit.Commit.TheVariants.{Freed, GivenBack, ModeSet, Mounted, RangeRemoved, Removed, Resized, Whole, Written}
+use Rattle.nl_publish.specs.Cached.{CachedPagesStay, IsCachedPage}
+use Rattle.nl_publish.specs.Histories.{IsBegun}
+use Rattle.nl_publish.specs.Facts.Growing.{fold-grows}
+use Rattle.nl_publish.specs.Facts.Staying.{history_image, rest_of}
+
+-- ---- what is kept behind a commit under a number that was given was kept before it
+
+abbrev WasFound : ℕ → List Checkpoint → Type 0
+WasFound k kept = (c : Checkpoint) × (found k kept ≡ Some c)
+
+found_more : (k : ℕ) (x : Checkpoint) (kept : List Checkpoint) → WasFound k kept → WasFound k (x ∷ kept)
+found_more k x kept (c, is) = elim (cases_Bool (eq_by_cmp nat_cmp k x.number)) [
+  | inl t ↦ (x, cond-true (eq_by_cmp nat_cmp k x.number) (Some x) (found k kept) t)
+  | inr t ↦ (c, cond-false (eq_by_cmp nat_cmp k x.number) (Some x) (found k kept) t ∙ is)
+]
+
+found_filter : (p : Checkpoint → Bool) (k : ℕ) (kept last : List Checkpoint) (d : Checkpoint)
+    → found k (filter p kept ++ last) ≡ Some d → WasFound k (kept ++ last)
+found_filter p k [] last d is = (d, is)
+found_filter p k (x ∷ kept) last d is = by (p x) (eq_by_cmp nat_cmp k x.number) refl is (found_filter p k kept last)
+  where
+    by : (b t : Bool) → eq_by_cmp nat_cmp k x.number ≡ t
+        → found k (cond b (x ∷ filter p kept) (filter p kept) ++ last) ≡ Some d
+        → ((e : Checkpoint) → found k (filter p kept ++ last) ≡ Some e → WasFound k (kept ++ last)) → WasFound k (x ∷ (kept ++ last))
+    by false t h is rest = found_more k x (kept ++ last) (rest d is)
+    by true true h is rest = (x, cond-true (eq_by_cmp nat_cmp k x.number) (Some x) (found k (kept ++ last)) h)
+    by true false h is rest = found_more k x (kept ++ last) (rest d
+        (sym (cond-false (eq_by_cmp nat_cmp k x.number) (Some x) (found k (filter p kept ++ last)) h) ∙ is))
+
+moded_number : (n : ℕ) (mode : Mode) (c : Checkpoint) → (moded n mode c).number ≡ c.number
+moded_number n mode c = elim (eqb c.number n) as (λ b. (cond b (record c { mode = mode }) c).number ≡ c.number) [ true ↦ refl | false ↦ refl ]
+
+found_moded : (n : ℕ) (mode : Mode) (k : ℕ) (kept : List Checkpoint) (d : Checkpoint) → found k (map (moded n mode) kept) ≡ Some d → WasFound k kept
+found_moded n mode k [] d is = cc
+found_moded n mode k (x ∷ kept) d is = by (eq_by_cmp nat_cmp k x.number) refl (found_moded n mode k kept)
+  where
+    by : (t : Bool) → eq_by_cmp nat_cmp k x.number ≡ t
+        → ((e : Checkpoint) → found k (map (moded n mode) kept) ≡ Some e → WasFound k kept) → WasFound k (x ∷ kept)
+    by true h rest = (x, cond-true (eq_by_cmp nat_cmp k x.number) (Some x) (found k kept) h)
+    by false h rest = found_more k x kept (rest d
+        (sym (cond-false (eq_by_cmp nat_cmp k (moded n mode x).number) (Some (moded n mode x)) (found k (map (moded n mode) kept))
+        (ap (eq_by_cmp nat_cmp k) (moded_number n mode x) ∙ h)) ∙ is))
+
+map_push : {A B : Type 0} (f : A → B) (xs : List A) (x : A) → map f (xs ++ x ∷ []) ≡ map f xs ++ f x ∷ []
+map_push f [] x = refl
+map_push f (y ∷ xs) x = ap (λ ys. f y ∷ ys) (map_push f xs x)
+
+record IsBehind (x : Shown) (c : Commit) (n : ℕ) : Type 0 where
+  latest : x.table.latest.number ≤ (applied x c).table.latest.number
+  kept : (d : Checkpoint) → kept_at n (applied x c).table ≡ Some d → WasFound n (all x.table)
+
+behind : (x : Shown) (c : Commit) (n : ℕ) → n ≤ x.table.latest.number → IsNext x c → IsBehind x c n
+behind x (Whole w) n given next = absurd next.new
+behind x (Written w) n given next =
+    let above : x.table.latest.number < w.checkpoint.number = next.new in
+    record {
+      latest = omega (arith, above);
+      kept = λ d is. (
+        d,
+        or_none (found n (all x.table))
+            ∙ (sym (ap (option_or (found n (all x.table)))
+            (cond-false (eqb w.checkpoint.number n) (Some w.checkpoint) None (ne_eqb w.checkpoint.number n (λ same. omega (arith, above, given, same)))))
+            ∙ (found-push n (all x.table) w.checkpoint (found n (all x.table)) refl ∙ is)),
+      );
+    }
+  where
+    or_none : (o : Option Checkpoint) → o ≡ option_or o None
+    or_none None = refl
+    or_none (Some c) = refl
+behind x (ModeSet m mode) n given next =
+    let same = moded_number m mode x.table.latest in
+    record {
+      latest = omega (arith, same);
+      kept = λ d is. found_moded m mode n (all x.table) d (ap (found n) (map_push (moded m mode) x.table.earlier x.table.latest) ∙ is);
+    }
+behind x (Removed m) n given next = record {
+  latest = omega arith;
+  kept = λ d is. found_filter (is_kept_without (m ∷ [])) n x.table.earlier (x.table.latest ∷ []) d is;
+}
+behind x (RangeRemoved first last) n given next = record {
+  latest = omega arith;
+  kept = λ d is. found_filter (is_kept_without (range_in first last x.table)) n x.table.earlier (x.table.latest ∷ []) d is;
+}
+behind x (Mounted mount) n given next = record { latest = omega arith; kept = λ d is. (d, is) }
+behind x (GivenBack m) n given next = record { latest = omega arith; kept = λ d is. (d, is) }
+behind x (Freed gone) n given next = record { latest = omega arith; kept = λ d is. (d, is) }
+behind x (Resized segments blocks) n given next = record { latest = omega arith; kept = λ d is. (d, is) }
+
+-- ---- one commit
+
+module _ (n inode index : ℕ) (page : List ℕ) where
+  -- an image has the page, where it keeps the checkpoint
+  record Shows (x : Shown) : Type 0 where
+    given : n ≤ x.table.latest.number
+    block : (c : Checkpoint) (held : Holding) → kept_at n x.table ≡ Some c
+        → HoldsTree (pages_shown x) (root_of (checkpoint_root c)) held → held_block (held inode) index ≡ Some page
+
+  step : (x : Shown) (c : Commit) → IsImage x → IsNext x c → Shows x → Shows (applied x c)
+  step x c image next shows =
+      let at = behind x c n shows.given next in
+      record {
+        given = let given = shows.given in let more = at.latest in omega (arith, given, more);
+        block = λ d held is holds. block d held is holds (at.kept d is);
+      }
+    where
+      block : (d : Checkpoint) (held : Holding) → kept_at n (applied x c).table ≡ Some d
+          → HoldsTree (pages_shown (applied x c)) (root_of (checkpoint_root d)) held → WasFound n (all x.table) → held_block (held inode) index ≡ Some page
+      block d held is holds (e, was) =
+          let pages = pages_shown x in
+          let more = pages_shown (applied x c) in
+          let keeps = next.keeps n e d was is in
+          let tree = image.trees n e was in
+          let root = root_of (checkpoint_root e) in
+          let agree : AgreeAtCheckpoint pages more root = λ i level offset v at. keeps.pages (record { inode = i; level = level; offset = offset }) v at in
+          let stay = checkpoints-stay pages more root tree.means.held tree.sound tree.means.holds agree in
+          let stores : Stores more root held = subst (λ (r : RootBlock). Stores more (root_of r) held) keeps.root holds.stores in
+          let one : held ≡ tree.means.held = roots-hold_one more root held tree.means.held stores (stay.stores tree.means.held tree.means.holds.stores) in
+          ap (λ (h : Holding). held_block (h inode) index) one ∙ shows.block e tree.means.held was tree.means.holds
+
+  -- ---- all that come
+
+  steps : (x : Shown) (more : List Commit) → IsImage x → AllNext x more → Shows x → Shows (fold applied x more)
+  steps x [] image next shows = shows
+  steps x (c ∷ more) image next shows = steps (applied x c) more next.0.image next.1 (step x c image next.0 shows)
+
+  page_stays : (log later : List Commit) → IsHistory later → IsPrefix log later → IsCachedPage log n inode index page → IsCachedPage later n inode index page
+  page_stays log later history prefix cached =
+      let whole : IsHistory (log ++ prefix.0) = subst IsHistory (sym prefix.1) history in
+      let shows : Shows (image_of log) = record { given = cached.given; block = cached.block } in
+      let after = steps (image_of log) prefix.0 (history_image log cached.history) (rest_of log prefix.0 whole cached.history) shows in
+      let at : fold applied (image_of log) prefix.0 ≡ image_of later = sym (fold-grows nothing log prefix.0) ∙ ap image_of prefix.1 in
+      let now = subst Shows at after in
+      record { history = history; given = now.given; block = now.block }
+
+-- what goes on from a history is one
+begun_on : (log later : List Commit) → IsBegun later → IsPrefix log later → IsHistory log → IsHistory later
+begun_on [] later begun prefix history = absurd history
+begun_on (c ∷ log) [] begun prefix history = absurd (cc (prefix.1))
+begun_on (c ∷ log) (d ∷ later) begun prefix history = begun
+
+pub cached_pages_stay : CachedPagesStay
+cached_pages_stay log later n inode index page begun prefix cached =
+    page_stays n inode index page log later (begun_on log later begun prefix cached.history) prefix cached

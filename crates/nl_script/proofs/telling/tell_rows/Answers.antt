@@ -1,5 +1,0 @@
-use Rattle.nl_texts.proofs.Appending.{OnOk-then}
-use Rattle.nl_script.proofs.telling.tell_rows.Goals as goal
-
-pub returns : goal.returns
-returns g c = OnOk-then c.cp_lines.result _ _ _ _ _ c.in_ok-cp_header.ensures c.cp_lines.ensures

@@ -1,7 +1,0 @@
-use Rattle.std.proofs.Common.{[], ◌∷◌, arith}
-use Rattle.std.proofs.lemmas.Grind.{common_steps}
-use Rattle.std.proofs.lemmas.Map.Text.{is_eq-slice_cmp}
-use Rattle.nl_tree.proofs.paths.is_not_dots.Goals as goal
-
-pub returns-then-ne : goal.returns-then-ne
-returns-then-ne c = rw (is_eq-slice_cmp c.args.part.now (46 ∷ []), is_eq-slice_cmp c.args.part.now (46 ∷ 46 ∷ [])) (grind (arith, common_steps))

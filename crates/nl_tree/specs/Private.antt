@@ -1,0 +1,5 @@
+-- What contracts of private functions and proofs name. No public contract stands on it.
+pub mod Files
+pub mod Moving
+pub mod Pages
+pub mod PathParts

@@ -1,0 +1,17 @@
+pub mod CallsDone
+pub mod Changed
+pub mod ChildRecords
+pub mod Creating
+pub mod FullVolumes
+pub mod Judging
+pub mod Means
+pub mod Recording
+pub mod Removing
+pub mod Renaming
+pub mod Resolving
+pub mod Rewriting
+pub mod RootAlone
+pub mod Standing
+pub mod TreeCounts
+pub mod Walks
+pub mod Ways
