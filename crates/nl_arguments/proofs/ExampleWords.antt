@@ -73,11 +73,14 @@ letter_of_an_option = refl
 
 -- ---- a configuration
 
-configuration_alone : two (codes "--conf") (codes "a.conf") ≡ run (divided 64 64 (Some (codes "a.conf")) None None)
+configuration_alone : two (codes "--conf") (codes "a.conf")
+    ≡ run (divided 64 64 (Some (codes "a.conf")) None None)
 unfolding clap_on_literals
 configuration_alone = refl
 
-configuration_before_a_number : four (codes "--conf=/a b") (codes "--blocks") (codes "8") (codes "--segments=9") ≡ run (divided 9 8 (Some (codes "/a b")) None None)
+configuration_before_a_number : four (codes "--conf=/a b") (codes "--blocks") (codes "8")
+    (codes "--segments=9")
+    ≡ run (divided 9 8 (Some (codes "/a b")) None None)
 unfolding clap_on_literals
 configuration_before_a_number = refl
 
@@ -103,11 +106,13 @@ image_saved : one (codes "--save=/a b") ≡ run (divided 64 64 None None (Some (
 unfolding clap_on_literals
 image_saved = refl
 
-image_saved_before_it_is_opened : four (codes "--save") (codes "b") (codes "--conf=c") (codes "--open=a") ≡ run (divided 64 64 (Some (codes "c")) (Some (codes "a")) (Some (codes "b")))
+image_saved_before_it_is_opened : four (codes "--save") (codes "b") (codes "--conf=c") (codes "--open=a")
+    ≡ run (divided 64 64 (Some (codes "c")) (Some (codes "a")) (Some (codes "b")))
 unfolding clap_on_literals
 image_saved_before_it_is_opened = refl
 
-numbers_with_an_image : two (codes "--open=a") (codes "--segments=8") ≡ run (divided 8 64 None (Some (codes "a")) None)
+numbers_with_an_image : two (codes "--open=a") (codes "--segments=8")
+    ≡ run (divided 8 64 None (Some (codes "a")) None)
 unfolding clap_on_literals
 numbers_with_an_image = refl
 

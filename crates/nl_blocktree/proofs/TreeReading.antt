@@ -6,10 +6,12 @@ use Rattle.nl_types.specs.Roots.{Pages, below_top, chain_node, child, numbered, 
 use Rattle.nl_blocktree.specs.Private.Chains.{slots_below}
 use Rattle.nl_blocktree.specs.Facts.TreeLevels.{tree_above, tree_child, tree_place}
 
-pub place-tree_low : (pages : Pages) (height top level offset : ℕ) → level ≤ height → place_at pages (roots.Tree height top) level offset ≡ below_top pages top (height - level) offset
+pub place-tree_low : (pages : Pages) (height top level offset : ℕ) → level ≤ height
+    → place_at pages (roots.Tree height top) level offset ≡ below_top pages top (height - level) offset
 place-tree_low pages height top level offset l = tree_place pages height top level offset l
 
-pub place-tree_far : (pages : Pages) (height top level offset : ℕ) → height < level → place_at pages (roots.Tree height top) level offset ≡ None
+pub place-tree_far : (pages : Pages) (height top level offset : ℕ) → height < level
+    → place_at pages (roots.Tree height top) level offset ≡ None
 place-tree_far pages height top level offset l = tree_above pages height top level offset l
 
 pub ruleset tree_places = (place-tree_low, place-tree_far)
@@ -18,7 +20,8 @@ pub ruleset tree_places = (place-tree_low, place-tree_far)
 
 -- the data at an index is what its node names, but for a tree of no level
 pub data_under : (pages : Pages) (root : roots.Root) (index : ℕ) → ((top : ℕ) → root ≡ roots.Tree 0 top → ⊥) →
-    place_at pages root 0 index ≡ child pages (index % slots_below root) (place_at pages root 1 (index / slots_below root))
+    place_at pages root 0 index
+    ≡ child pages (index % slots_below root) (place_at pages root 1 (index / slots_below root))
 unfolding place_at
 data_under pages roots.Empty index n = refl
 data_under pages (roots.Chain top) index n = refl

@@ -35,29 +35,36 @@ use Rattle.nl_check.proofs.MetNumbers.{tell-periods}
 
 -- ---- how many are in use
 
-used-first : (inodes : Inodes) (n : ℕ) → used_below inodes (suc n) ≡ cond (is_some (inodes 0)) 1 0 + used_below (λ i. inodes (suc i)) n
+used-first : (inodes : Inodes) (n : ℕ)
+    → used_below inodes (suc n) ≡ cond (is_some (inodes 0)) 1 0 + used_below (λ i. inodes (suc i)) n
 used-first inodes zero = refl
 used-first inodes (suc n) = let rest = used-first inodes n in omega (arith, rest)
 
-count-used : (kinds : List (Option Kind)) (inodes : Inodes) → ((i : ℕ) → i < length kinds → is_some (kind_in kinds i) ≡ is_some (inodes i)) → awaited_count kinds ≡ used_below inodes (length kinds)
+count-used : (kinds : List (Option Kind)) (inodes : Inodes)
+    → ((i : ℕ) → i < length kinds → is_some (kind_in kinds i) ≡ is_some (inodes i))
+    → awaited_count kinds ≡ used_below inodes (length kinds)
 count-used [] inodes same = refl
 count-used (k ∷ kinds) inodes same =
     let rest = count-used kinds (λ i. inodes (suc i)) (λ i low. same (suc i) (omega (arith, low))) in
-    let first : ◌≡◌ {A = ℕ} (cond (is_some k) 1 0) (cond (is_some (inodes 0)) 1 0) = ap (λ (b : Bool). cond b 1 0) (same 0 (omega arith)) in
+    let first : ◌≡◌ {A = ℕ} (cond (is_some k) 1 0) (cond (is_some (inodes 0)) 1 0) =
+    ap (λ (b : Bool). cond b 1 0) (same 0 (omega arith)) in
     let all = used-first inodes (length kinds) in
     omega (arith, rest, first, all)
 
 -- ---- a file's size is one
 
-not-less : (pages : Pages) (root : Root) (a b : ℕ) → HasShape pages root → (s : IsSizeOf pages root a) → (t : IsSizeOf pages root b) → s.count < t.count → ⊥
+not-less : (pages : Pages) (root : Root) (a b : ℕ) → HasShape pages root → (s : IsSizeOf pages root a)
+    → (t : IsSizeOf pages root b) → s.count < t.count → ⊥
 not-less pages root a b shape s t less = elim t.last [
   | inl none ↦ omega (arith, none, less)
   | inr (i, is, has) ↦ (let v = some-by (place_at pages root 0 i) has in
       let p = some-by (pages v.0) (shape.stored 0 i v.0 v.1) in
-      not-none (page_at pages root i) p.0 (s.none_past i (omega (arith, is, less))) (ap (option_and_then pages) v.1 ∙ p.1))
+      not-none (page_at pages root i) p.0 (s.none_past i (omega (arith, is, less)))
+      (ap (option_and_then pages) v.1 ∙ p.1))
 ]
 
-one-size : (pages : Pages) (root : Root) (a b : ℕ) → HasShape pages root → IsSizeOf pages root a → IsSizeOf pages root b → a ≡ b
+one-size : (pages : Pages) (root : Root) (a b : ℕ) → HasShape pages root → IsSizeOf pages root a
+    → IsSizeOf pages root b → a ≡ b
 one-size pages root a b shape s t = elim (cases_lt s.count t.count) [
   | inl less ↦ absurd (not-less pages root a b shape s t less)
   | inr high ↦ elim (cases_lt t.count s.count) [
@@ -68,31 +75,38 @@ one-size pages root a b shape s t = elim (cases_lt s.count t.count) [
 
 -- ---- the tree of a checkpoint
 
-stands-kind : (pages : Pages) (o : Option Inode) (held : Option Held) → StandsFor pages o held → kind_told o ≡ kind_held held
+stands-kind : (pages : Pages) (o : Option Inode) (held : Option Held) → StandsFor pages o held
+    → kind_told o ≡ kind_held held
 stands-kind pages None held is = sym (ap kind_held is)
 stands-kind pages (Some inode) held is = by inode.kind refl is
   where
-    by : (k : InodeKind) → inode.kind ≡ k → StandsAs (page_at pages (root_of inode.root)) k inode.size held → kind_told (Some inode) ≡ kind_held held
+    by : (k : InodeKind) → inode.kind ≡ k → StandsAs (page_at pages (root_of inode.root)) k inode.size held
+        → kind_told (Some inode) ≡ kind_held held
     by File e s = ap kind_for e ∙ sym (ap kind_held s)
     by Directory e (records, holds, s) = ap kind_for e ∙ sym (ap kind_held s)
     by InodeFile e s = absurd s
 
-module _ (pages : Pages) (root : Root) (numbers : List Bool) (kinds : List (Option Kind)) (walk : Walk) (w : IsWalk pages root numbers kinds walk) where
+module _ (pages : Pages) (root : Root) (numbers : List Bool) (kinds : List (Option Kind)) (walk : Walk)
+    (w : IsWalk pages root numbers kinds walk) where
   pub tells-kinds : (held : Holding) → Stores pages root held → TellsKinds held kinds
   tells-kinds held stores = record {
     count = w.told.count;
     told = λ i low. w.told.told i low ∙ stands-kind pages (inode_at pages root i) (held i) (stores i);
   }
 
-  counted : (held : Holding) → Stores pages root held → awaited_count kinds ≡ used_below (inodes_of_holding held) 524288
-  counted held stores = count-used kinds (inodes_of_holding held) same ∙ ap (used_below (inodes_of_holding held)) w.told.count
+  counted : (held : Holding) → Stores pages root held
+      → awaited_count kinds ≡ used_below (inodes_of_holding held) 524288
+  counted held stores =
+      count-used kinds (inodes_of_holding held) same ∙ ap (used_below (inodes_of_holding held)) w.told.count
     where
       some-held : (o : Option Held) → is_some (kind_held o) ≡ is_some (option_map inode_content o)
       some-held None = refl
       some-held (Some x) = refl
 
       same : (i : ℕ) → i < length kinds → is_some (kind_in kinds i) ≡ is_some (inodes_of_holding held i)
-      same i low = ap is_some ((tells-kinds held stores).told i (let c = w.told.count in omega (arith, low, c))) ∙ some-held (held i)
+      same i low =
+          ap is_some ((tells-kinds held stores).told i (let c = w.told.count in omega (arith, low, c)))
+          ∙ some-held (held i)
 
   module _ (sound : walk.sound ≡ true) where
     pub holding-of : Holding
@@ -113,7 +127,8 @@ module _ (pages : Pages) (root : Root) (numbers : List Bool) (kinds : List (Opti
     holds-of = record { stores = stores-of; sound = limits-of }
 
   -- the tree that is told, and formed
-  pub tree-of : (entry : CheckpointEntry) (t : IsTold kinds walk entry) → FormTree (inodes_of_holding (holding-of t.sound)) → IsTreeOf pages root entry.size entry.inodes
+  pub tree-of : (entry : CheckpointEntry) (t : IsTold kinds walk entry)
+      → FormTree (inodes_of_holding (holding-of t.sound)) → IsTreeOf pages root entry.size entry.inodes
   tree-of entry t forms = record {
     holding = holding-of t.sound;
     stores = stores-of t.sound;
@@ -124,7 +139,8 @@ module _ (pages : Pages) (root : Root) (numbers : List Bool) (kinds : List (Opti
   }
 
   -- what is a tree is told
-  pub tree-told : (entry : CheckpointEntry) → IsTreeOf pages root entry.size entry.inodes → IsTold kinds walk entry
+  pub tree-told : (entry : CheckpointEntry) → IsTreeOf pages root entry.size entry.inodes
+      → IsTold kinds walk entry
   tree-told entry t = record {
     sound = by walk.sound refl;
     size = one-size pages root entry.size (1024 * walk.count) (w.shaped.files Itself) t.sized w.sized;
@@ -133,30 +149,44 @@ module _ (pages : Pages) (root : Root) (numbers : List Bool) (kinds : List (Opti
     where
       by : (b : Bool) → walk.sound ≡ b → walk.sound ≡ true
       by true e = e
-      by false e = let u = w.told.some_not e in absurd (u.1 (record { holding = t.holding; stands = t.stores u.0; limits = t.limits }))
+      by false e =
+          let u = w.told.some_not e in
+          absurd (u.1 (record { holding = t.holding; stands = t.stores u.0; limits = t.limits }))
 
   pub tree-holds : (size inodes : ℕ) (t : IsTreeOf pages root size inodes) → HoldsTree pages root t.holding
   tree-holds size inodes t = record { stores = t.stores; sound = t.limits }
 
 -- ---- one checkpoint
 
-module _ (pages : Pages) (periods : Periods) (entry : CheckpointEntry) (root : CodeRoot) (root_is : Some root ≡ root_told entry.root) where
+module _ (pages : Pages) (periods : Periods) (entry : CheckpointEntry) (root : CodeRoot)
+    (root_is : Some root ≡ root_told entry.root) where
   told-root : (told entry).root ≡ Some (root_of root)
   told-root = ap (option_map root_of) (sym root_is)
 
   same-root : (r : Root) → (told entry).root ≡ Some r → root_of root ≡ r
   same-root r e = let both : Some (root_of root) ≡ Some r = sym told-root ∙ e in cc
 
-  pub judged : (numbers : List Bool) (kinds : List (Option Kind)) (walk : Walk) (formed exact : Bool) → IsWalk pages (root_of root) numbers kinds walk
-      → (formed ≡ true → IsTreeOf pages (root_of root) entry.size entry.inodes) → (formed ≡ false → IsTreeOf pages (root_of root) entry.size entry.inodes → ⊥)
-      → (exact ≡ true → AreOfPeriods periods entry.number numbers) → (AreOfPeriods periods entry.number numbers → exact ≡ true)
+  pub judged : (numbers : List Bool) (kinds : List (Option Kind)) (walk : Walk) (formed exact : Bool)
+      → IsWalk pages (root_of root) numbers kinds walk
+      → (formed ≡ true → IsTreeOf pages (root_of root) entry.size entry.inodes)
+      → (formed ≡ false → IsTreeOf pages (root_of root) entry.size entry.inodes → ⊥)
+      → (exact ≡ true → AreOfPeriods periods entry.number numbers)
+      → (AreOfPeriods periods entry.number numbers → exact ≡ true)
       → IsJudged pages periods (told entry) (record { tree = formed; periods = exact })
   judged numbers kinds walk formed exact w holds unless are of = record {
     shape = (root_of root, told-root, w.shaped);
     tree = λ e. (root_of root, told-root, holds e);
-    no_tree = λ e (r, is, t). unless e (subst (λ (x : Root). IsTreeOf pages x entry.size entry.inodes) (sym (same-root r is)) t);
-    exact = λ e. (root_of root, told-root, tell-periods.yes pages periods entry.number (root_of root) numbers w.met_in (are e));
-    not_exact = λ e (r, is, m). by exact (of (tell-periods.no pages periods entry.number (root_of root) numbers w.met_in (subst (MeetsItsNumbers pages periods entry.number) (sym (same-root r is)) m))) e;
+    no_tree = λ e (r, is, t).
+        unless e (subst (λ (x : Root). IsTreeOf pages x entry.size entry.inodes) (sym (same-root r is)) t);
+    exact = λ e. (
+      root_of root,
+      told-root,
+      tell-periods.yes pages periods entry.number (root_of root) numbers w.met_in (are e),
+    );
+    not_exact = λ e (r, is, m).
+        by exact (of (tell-periods.no pages periods entry.number (root_of root) numbers w.met_in
+        (subst (MeetsItsNumbers pages periods entry.number) (sym (same-root r is)) m)))
+        e;
   }
     where
       by : (b : Bool) → b ≡ true → b ≡ false → ⊥
@@ -164,21 +194,28 @@ module _ (pages : Pages) (periods : Periods) (entry : CheckpointEntry) (root : C
 
 -- ---- all of them
 
-all-from : {A B : Type 0} (P : B → Type 0) (f : A → B) (xs : List A) → ((k : ℕ) (x : A) → slice_get xs k ≡ Some x → P (f x)) → All P (map f xs)
+all-from : {A B : Type 0} (P : B → Type 0) (f : A → B) (xs : List A)
+    → ((k : ℕ) (x : A) → slice_get xs k ≡ Some x → P (f x)) → All P (map f xs)
 all-from P f [] h = All-nil P
-all-from P f (x ∷ xs) h = All-cons P (f x) (map f xs) (h 0 x refl) (all-from P f xs (λ k y at. h (suc k) y at))
+all-from P f (x ∷ xs) h =
+    All-cons P (f x) (map f xs) (h 0 x refl) (all-from P f xs (λ k y at. h (suc k) y at))
 
-all-at : {A B : Type 0} (P : B → Type 0) (f : A → B) (xs : List A) (k : ℕ) (x : A) → All P (map f xs) → slice_get xs k ≡ Some x → P (f x)
+all-at : {A B : Type 0} (P : B → Type 0) (f : A → B) (xs : List A) (k : ℕ) (x : A) → All P (map f xs)
+    → slice_get xs k ≡ Some x → P (f x)
 all-at P f [] k x h at = cc
-all-at {A} {B} P f (y ∷ xs) zero x h at = let e : y ≡ x = cc in subst (λ (z : A). P (f z)) e (All-head P (f y) (map f xs) h)
+all-at {A} {B} P f (y ∷ xs) zero x h at =
+    let e : y ≡ x = cc in subst (λ (z : A). P (f z)) e (All-head P (f y) (map f xs) h)
 all-at P f (y ∷ xs) (suc k) x h at = all-at P f xs k x (All-tail P (f y) (map f xs) h) at
 
 -- the checkpoints so far have their shape, and it is known whether all of them meet the other conditions
-pub record AreJudged (pages : Pages) (periods : Periods) (kept : List CheckpointEntry) (n : ℕ) (trees exact : Bool) : Type 0 where
+pub record AreJudged (pages : Pages) (periods : Periods) (kept : List CheckpointEntry) (n : ℕ)
+    (trees exact : Bool) : Type 0 where
   pub shapes : (k : ℕ) (e : CheckpointEntry) → k < n → slice_get kept k ≡ Some e → IsSoundShape pages (told e)
-  pub all_trees : trees ≡ true → (k : ℕ) (e : CheckpointEntry) → k < n → slice_get kept k ≡ Some e → IsSoundTree pages (told e)
+  pub all_trees : trees ≡ true → (k : ℕ) (e : CheckpointEntry) → k < n → slice_get kept k ≡ Some e
+      → IsSoundTree pages (told e)
   pub no_tree : trees ≡ false → AreTrees pages (map told kept) → ⊥
-  pub all_exact : exact ≡ true → (k : ℕ) (e : CheckpointEntry) → k < n → slice_get kept k ≡ Some e → HasExactPeriods pages periods (told e)
+  pub all_exact : exact ≡ true → (k : ℕ) (e : CheckpointEntry) → k < n → slice_get kept k ≡ Some e
+      → HasExactPeriods pages periods (told e)
   pub not_exact : exact ≡ false → AreExact pages periods (map told kept) → ⊥
 
 module _ (pages : Pages) (periods : Periods) (kept : List CheckpointEntry) where
@@ -201,18 +238,22 @@ module _ (pages : Pages) (periods : Periods) (kept : List CheckpointEntry) where
   either true false c e f = inr refl
   either true true c e f = cc
 
-  pub judged-more : (n : ℕ) (entry : CheckpointEntry) (trees exact trees_now exact_now : Bool) (j : Judged) → AreJudged pages periods kept n trees exact → slice_get kept n ≡ Some entry
-      → IsJudged pages periods (told entry) j → trees_now ≡ (trees && j.tree) → exact_now ≡ (exact && j.periods) → AreJudged pages periods kept (n + 1) trees_now exact_now
+  pub judged-more : (n : ℕ) (entry : CheckpointEntry) (trees exact trees_now exact_now : Bool) (j : Judged)
+      → AreJudged pages periods kept n trees exact → slice_get kept n ≡ Some entry
+      → IsJudged pages periods (told entry) j → trees_now ≡ (trees && j.tree)
+      → exact_now ≡ (exact && j.periods) → AreJudged pages periods kept (n + 1) trees_now exact_now
   judged-more n entry trees exact trees_now exact_now j so_far here is trees_is exact_is = record {
     shapes = λ k e low at. elim (cases_lt k n) [
       | inl less ↦ so_far.shapes k e less at
-      | inr high ↦ subst (λ (x : CheckpointEntry). IsSoundShape pages (told x)) (same k e low high at) is.shape
+      | inr high ↦
+          subst (λ (x : CheckpointEntry). IsSoundShape pages (told x)) (same k e low high at) is.shape
     ];
     all_trees = λ t k e low at.
         let b = both-parts trees j.tree trees_now trees_is t in
         elim (cases_lt k n) [
           | inl less ↦ so_far.all_trees b.0 k e less at
-          | inr high ↦ subst (λ (x : CheckpointEntry). IsSoundTree pages (told x)) (same k e low high at) (is.tree b.1)
+          | inr high ↦
+              subst (λ (x : CheckpointEntry). IsSoundTree pages (told x)) (same k e low high at) (is.tree b.1)
         ];
     no_tree = λ f all. elim (either trees j.tree trees_now trees_is f) [
       | inl before ↦ so_far.no_tree before all
@@ -222,7 +263,9 @@ module _ (pages : Pages) (periods : Periods) (kept : List CheckpointEntry) where
         let b = both-parts exact j.periods exact_now exact_is t in
         elim (cases_lt k n) [
           | inl less ↦ so_far.all_exact b.0 k e less at
-          | inr high ↦ subst (λ (x : CheckpointEntry). HasExactPeriods pages periods (told x)) (same k e low high at) (is.exact b.1)
+          | inr high ↦
+              subst (λ (x : CheckpointEntry). HasExactPeriods pages periods (told x)) (same k e low high at)
+              (is.exact b.1)
         ];
     not_exact = λ f all. elim (either exact j.periods exact_now exact_is f) [
       | inl before ↦ so_far.not_exact before all
@@ -236,17 +279,21 @@ module _ (pages : Pages) (periods : Periods) (kept : List CheckpointEntry) where
           let both : Some entry ≡ Some e = sym here ∙ (ap (slice_get kept) now ∙ at) in cc
 
   -- a shape that fails
-  pub shape-fails : (n : ℕ) (entry : CheckpointEntry) → slice_get kept n ≡ Some entry → (IsSoundShape pages (told entry) → ⊥) → FirstFault pages periods (map told kept) (Some 8)
-  shape-fails n entry here never = shapes_fail (λ all. never (all-at (IsSoundShape pages) told kept n entry all here))
+  pub shape-fails : (n : ℕ) (entry : CheckpointEntry) → slice_get kept n ≡ Some entry
+      → (IsSoundShape pages (told entry) → ⊥) → FirstFault pages periods (map told kept) (Some 8)
+  shape-fails n entry here never =
+      shapes_fail (λ all. never (all-at (IsSoundShape pages) told kept n entry all here))
 
   -- all are judged
-  pub judged-all : (n : ℕ) (trees exact : Bool) → length kept ≤ n → AreJudged pages periods kept n trees exact → FirstFault pages periods (map told kept) (fault_told trees exact)
+  pub judged-all : (n : ℕ) (trees exact : Bool) → length kept ≤ n → AreJudged pages periods kept n trees exact
+      → FirstFault pages periods (map told kept) (fault_told trees exact)
   judged-all n trees exact past j = by trees exact refl refl
     where
       inside : (k : ℕ) (e : CheckpointEntry) → slice_get kept k ≡ Some e → k < n
       inside k e at = let low = within kept k e at in omega (arith, low, past)
         where
-          within : (xs : List CheckpointEntry) (k : ℕ) (e : CheckpointEntry) → slice_get xs k ≡ Some e → k < length xs
+          within : (xs : List CheckpointEntry) (k : ℕ) (e : CheckpointEntry) → slice_get xs k ≡ Some e
+              → k < length xs
           within [] k e at = cc
           within (x ∷ xs) zero e at = omega arith
           within (x ∷ xs) (suc k) e at = let low = within xs k e at in omega (arith, low)
@@ -258,7 +305,8 @@ module _ (pages : Pages) (periods : Periods) (kept : List CheckpointEntry) where
       are_trees t = all-from (IsSoundTree pages) told kept (λ k e at. j.all_trees t k e (inside k e at) at)
 
       are_exact : exact ≡ true → AreExact pages periods (map told kept)
-      are_exact t = all-from (HasExactPeriods pages periods) told kept (λ k e at. j.all_exact t k e (inside k e at) at)
+      are_exact t =
+          all-from (HasExactPeriods pages periods) told kept (λ k e at. j.all_exact t k e (inside k e at) at)
 
       by : (a b : Bool) → trees ≡ a → exact ≡ b → FirstFault pages periods (map told kept) (fault_told a b)
       by false b p q = trees_fail shaped (j.no_tree p)

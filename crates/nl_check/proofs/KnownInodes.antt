@@ -21,7 +21,8 @@ use Rattle.nl_check.proofs.ToldInodes.{told-all, told-hole, told-more, told-none
 use Rattle.nl_check.proofs.WalkedFiles.{inode-there, next-can, none-in, walked-first, walked-hole, walked-met, walked-more, walked-shaped}
 
 -- a walked file is measured
-pub measured : (pages : Pages) (root : Root) (old new : List Bool) (count : ℕ) → IsWalked pages root old new count → IsMeasured pages root count
+pub measured : (pages : Pages) (root : Root) (old new : List Bool) (count : ℕ)
+    → IsWalked pages root old new count → IsMeasured pages root count
 measured pages root old new count w = record {
   sized = w.sized;
   stored = λ i has.
@@ -31,36 +32,51 @@ measured pages root old new count w = record {
   whole = λ i page is. by i page (place_at pages root 0 i) refl is;
 }
   where
-    by : (i : ℕ) (page : List ℕ) (o : Option ℕ) → place_at pages root 0 i ≡ o → option_and_then pages o ≡ Some page → length page ≡ 1024
+    by : (i : ℕ) (page : List ℕ) (o : Option ℕ) → place_at pages root 0 i ≡ o
+        → option_and_then pages o ≡ Some page → length page ≡ 1024
     by i page None at is = cc
     by i page (Some v) at is = w.met.whole (0, i) v page tt at is
 
 module _ (pages : Pages) (root : Root) where
   -- an inode that is walked
-  pub known-more : (n count : ℕ) (inode : Inode) (o : Option Inode) (old new : List Bool) (kinds kinds_new : List (Option Kind)) (before sound : Bool)
+  pub known-more : (n count : ℕ) (inode : Inode) (o : Option Inode) (old new : List Bool)
+      (kinds kinds_new : List (Option Kind)) (before sound : Bool)
       → o ≡ Some inode → IsWalked pages (root_of inode.root) old new count
-      → length kinds_new ≡ 524288 → (n < 524288 → kind_in kinds_new n ≡ kind_for inode.kind) → ((i : ℕ) → (i ≡ n → ⊥) → kind_in kinds_new i ≡ kind_in kinds i)
-      → (sound ≡ true → IsSoundInode pages n (Some inode)) → (sound ≡ false → IsSoundInode pages n (Some inode) → ⊥)
-      → inode_at pages root n ≡ o → AreKnown pages root n old kinds before → AreKnown pages root (n + 1) new kinds_new (before && sound)
-  known-more n count inode o old new kinds kinds_new before sound is w len here others when unless at k = record {
-    walked = walked-more pages root n (root_of inode.root) old new count (ap inode_root (at ∙ is)) k.walked w;
-    told = told-more pages root n inode kinds kinds_new before sound (at ∙ is) k.told len here others when unless;
-  }
+      → length kinds_new ≡ 524288 → (n < 524288 → kind_in kinds_new n ≡ kind_for inode.kind)
+      → ((i : ℕ) → (i ≡ n → ⊥) → kind_in kinds_new i ≡ kind_in kinds i)
+      → (sound ≡ true → IsSoundInode pages n (Some inode))
+      → (sound ≡ false → IsSoundInode pages n (Some inode) → ⊥)
+      → inode_at pages root n ≡ o → AreKnown pages root n old kinds before
+      → AreKnown pages root (n + 1) new kinds_new (before && sound)
+  known-more n count inode o old new kinds kinds_new before sound is w len here others when unless at k =
+      record {
+        walked =
+            walked-more pages root n (root_of inode.root) old new count (ap inode_root (at ∙ is)) k.walked w;
+        told =
+            told-more pages root n inode kinds kinds_new before sound
+            (at ∙ is) k.told len here others when unless;
+      }
 
   -- and one that isn't in use
-  pub known-none : (n : ℕ) (o : Option Inode) (old : List Bool) (kinds : List (Option Kind)) (sound : Bool) → o ≡ None → inode_at pages root n ≡ o
+  pub known-none : (n : ℕ) (o : Option Inode) (old : List Bool) (kinds : List (Option Kind)) (sound : Bool)
+      → o ≡ None → inode_at pages root n ≡ o
       → AreKnown pages root n old kinds sound → AreKnown pages root (n + 1) old kinds sound
   known-none n o old kinds sound is at k = record {
-    walked = walked-more pages root n Empty old old 0 (ap inode_root (at ∙ is)) k.walked (walked-empty pages old);
+    walked =
+        walked-more pages root n Empty old old 0 (ap inode_root (at ∙ is)) k.walked (walked-empty pages old);
     told = told-none pages root n kinds sound (at ∙ is) k.told;
   }
 
-  pub known-can : (n : ℕ) (inode : Inode) (o : Option Inode) (old : List Bool) (kinds : List (Option Kind)) (sound : Bool) → o ≡ Some inode → inode_at pages root n ≡ o
+  pub known-can : (n : ℕ) (inode : Inode) (o : Option Inode) (old : List Bool) (kinds : List (Option Kind))
+      (sound : Bool)
+      → o ≡ Some inode → inode_at pages root n ≡ o
       → AreKnown pages root n old kinds sound → IsShaped pages root → CanBeMet pages (root_of inode.root) old
-  known-can n inode o old kinds sound is at k s = next-can pages root n (root_of inode.root) old (ap inode_root (at ∙ is)) k.walked s
+  known-can n inode o old kinds sound is at k s =
+      next-can pages root n (root_of inode.root) old (ap inode_root (at ∙ is)) k.walked s
 
   -- a block that isn't there
-  pub known-hole : (b : ℕ) (old : List Bool) (kinds : List (Option Kind)) (sound : Bool) → None ≡ page_at pages root b
+  pub known-hole : (b : ℕ) (old : List Bool) (kinds : List (Option Kind)) (sound : Bool)
+      → None ≡ page_at pages root b
       → AreKnown pages root (8 * b) old kinds sound → AreKnown pages root (8 * (b + 1)) old kinds sound
   known-hole b old kinds sound none k = record {
     walked = walked-hole pages root b old (sym none) k.walked;
@@ -68,28 +84,43 @@ module _ (pages : Pages) (root : Root) where
   }
 
   pub block-of-hole : (b : ℕ) → page_at pages root b ≡ None → IsBlockOf pages root b
-  block-of-hole b none = none ∙ sym (block_for-none (in_block (inode_at pages root) b) (λ p low. none-in pages root b (8 * b + p) none (omega (arith, low))))
+  block-of-hole b none =
+      none
+      ∙ sym (block_for-none (in_block (inode_at pages root) b)
+      (λ p low. none-in pages root b (8 * b + p) none (omega (arith, low))))
 
-  same-block : (b : ℕ) (page : List ℕ) → page_at pages root b ≡ Some page → block_for (in_block (inode_at pages root) b) ≡ block_for (inode_in page)
-  same-block b page at = block_for-cong (in_block (inode_at pages root) b) (inode_in page) (λ p low. inode-there pages root b p page at low)
+  same-block : (b : ℕ) (page : List ℕ) → page_at pages root b ≡ Some page
+      → block_for (in_block (inode_at pages root) b) ≡ block_for (inode_in page)
+  same-block b page at =
+      block_for-cong (in_block (inode_at pages root) b) (inode_in page)
+      (λ p low. inode-there pages root b p page at low)
 
-  pub block-of-page : (b : ℕ) (page : List ℕ) → page_at pages root b ≡ Some page → Some page ≡ block_for (inode_in page) → IsBlockOf pages root b
+  pub block-of-page : (b : ℕ) (page : List ℕ) → page_at pages root b ≡ Some page
+      → Some page ≡ block_for (inode_in page) → IsBlockOf pages root b
   block-of-page b page at is = at ∙ (is ∙ sym (same-block b page at))
 
-  pub page-is-block : (b : ℕ) (page : List ℕ) → page_at pages root b ≡ Some page → IsShaped pages root → Some page ≡ block_for (inode_in page)
+  pub page-is-block : (b : ℕ) (page : List ℕ) → page_at pages root b ≡ Some page → IsShaped pages root
+      → Some page ≡ block_for (inode_in page)
   page-is-block b page at s = sym at ∙ (s.inodes b ∙ same-block b page at)
 
   -- the inode at a place of the block
-  pub inode-at-place : (b p n : ℕ) (page : List ℕ) (o : Option Inode) → n ≡ 8 * b + p → p < 8 → o ≡ inode_in page p → page_at pages root b ≡ Some page → inode_at pages root n ≡ o
-  inode-at-place b p n page o number low is at = ap (inode_at pages root) number ∙ (inode-there pages root b p page at low ∙ sym is)
+  pub inode-at-place : (b p n : ℕ) (page : List ℕ) (o : Option Inode) → n ≡ 8 * b + p → p < 8
+      → o ≡ inode_in page p → page_at pages root b ≡ Some page → inode_at pages root n ≡ o
+  inode-at-place b p n page o number low is at =
+      ap (inode_at pages root) number ∙ (inode-there pages root b p page at low ∙ sym is)
 
   -- before the first inode
-  pub known-first : (old new : List Bool) (count : ℕ) (kinds : List (Option Kind)) → ((v : ℕ) → is_met old v ≡ false) → IsWalked pages root old new count → TellsInodes pages root 0 kinds true → AreKnown pages root 0 new kinds true
-  known-first old new count kinds none w t = record { walked = walked-first pages root old new count none w; told = t }
+  pub known-first : (old new : List Bool) (count : ℕ) (kinds : List (Option Kind))
+      → ((v : ℕ) → is_met old v ≡ false) → IsWalked pages root old new count
+      → TellsInodes pages root 0 kinds true → AreKnown pages root 0 new kinds true
+  known-first old new count kinds none w t =
+      record { walked = walked-first pages root old new count none w; told = t }
 
   -- all of them
-  pub walk-of : (walk : Walk) (old met new : List Bool) (kinds : List (Option Kind)) → IsWalked pages root old met walk.count
-      → ((i : ℕ) → i < walk.count → IsBlockOf pages root i) → AreKnown pages root (8 * walk.count) new kinds walk.sound → IsWalk pages root new kinds walk
+  pub walk-of : (walk : Walk) (old met new : List Bool) (kinds : List (Option Kind))
+      → IsWalked pages root old met walk.count
+      → ((i : ℕ) → i < walk.count → IsBlockOf pages root i)
+      → AreKnown pages root (8 * walk.count) new kinds walk.sound → IsWalk pages root new kinds walk
   walk-of walk old met new kinds w blocks k = record {
     shaped = walked-shaped pages root walk.count new past k.walked inodes;
     met_in = walked-met pages root walk.count new past k.walked;
@@ -101,4 +132,5 @@ module _ (pages : Pages) (root : Root) where
       past b high = w.sized.none_past b (let same = w.sized.is in omega (arith, same, high))
 
       inodes : IsInodeFile pages root
-      inodes b = elim (cases_lt b walk.count) [ inl low ↦ blocks b low | inr high ↦ block-of-hole b (past b high) ]
+      inodes b =
+          elim (cases_lt b walk.count) [ inl low ↦ blocks b low | inr high ↦ block-of-hole b (past b high) ]

@@ -36,7 +36,8 @@ past-met (b ∷ numbers) zero high = absurd (omega (arith, high))
 past-met (b ∷ numbers) (suc v) high = past-met numbers v (omega (arith, high))
 
 -- and no number is in use
-pub past-used : (periods : Periods) (c v count : ℕ) → ((w : ℕ) → IsSome (periods w) → w < count) → count ≤ v → has_in c (periods v) ≡ false
+pub past-used : (periods : Periods) (c v count : ℕ) → ((w : ℕ) → IsSome (periods w) → w < count) → count ≤ v
+    → has_in c (periods v) ≡ false
 past-used periods c v count within high = by (periods v) refl
   where
     by : (o : Option Period) → periods v ≡ o → has_in c o ≡ false

@@ -28,10 +28,12 @@ met-data pages height top level offset number old new zero_is stands meets = rec
   ends = record {
     last = offset;
     is = omega arith;
-    visited = subst (λ (k : ℕ). IsUnder level offset (suc offset) (k, offset)) zero_is (here (level, offset) refl);
+    visited =
+        subst (λ (k : ℕ). IsUnder level offset (suc offset) (k, offset)) zero_is (here (level, offset) refl);
     has_data = subst (λ (o : Option ℕ). IsSome o) (sym stands ∙ ap
         (λ (k : ℕ). place_at pages root k offset) zero_is) refl;
-    none_past = λ i high n. absurd (let at = ap (λ (x : ℕ × ℕ). x.1) (only (0, i) n) in omega (arith, at, high));
+    none_past = λ i high n.
+        absurd (let at = ap (λ (x : ℕ × ℕ). x.1) (only (0, i) n) in omega (arith, at, high));
   };
 }
   where
@@ -54,7 +56,9 @@ met-data pages height top level offset number old new zero_is stands meets = rec
 pub under-start : (pages : Pages) (height top below first : ℕ) (now : List Bool)
     → IsMetUnder pages (Tree height top) below first first now now None
 under-start pages height top below first now = record {
-  met = met-nowhere pages (Tree height top) (IsUnder below first first) now (λ b n. absurd (range-none below first b n));
+  met =
+      met-nowhere pages (Tree height top) (IsUnder below first first) now
+      (λ b n. absurd (range-none below first b n));
   above_data = λ k q v n is. absurd (range-none below first (suc k, q) n);
   ends = λ i n. absurd (range-none below first (0, i) n);
 }
@@ -66,7 +70,9 @@ pub under-none : (pages : Pages) (height top below first last : ℕ) (old now : 
     → IsMetUnder pages (Tree height top) below first last old now count
     → IsMetUnder pages (Tree height top) below first (last + 1) old now count
 under-none pages height top below first last old now count low rises none m = record {
-  met = joined pages root (IsUnder below first last) (IsUnder below last (suc last)) (IsUnder below first (last + 1))
+  met =
+      joined pages root (IsUnder below first last) (IsUnder below last (suc last))
+      (IsUnder below first (last + 1))
       (range-step below first last)
       (range-left below first last) (range-right below first last rises) old now now m.met
       (met-nowhere pages root (IsUnder below last (suc last)) now nothing);
@@ -86,13 +92,16 @@ under-none pages height top below first last old now count low rises none m = re
     nothing = one-under pages height top below last low none
 
 -- a slot whose block is met, and all under it
-pub under-some : (pages : Pages) (height top below first last : ℕ) (old now new : List Bool) (before : Option ℕ)
+pub under-some : (pages : Pages) (height top below first last : ℕ) (old now new : List Bool)
+    (before : Option ℕ)
     (count : ℕ) → first ≤ last
     → IsMetUnder pages (Tree height top) below first last old now before
     → IsMetUnder pages (Tree height top) below last (suc last) now new (Some count)
     → IsMetUnder pages (Tree height top) below first (last + 1) old new (Some count)
 under-some pages height top below first last old now new before count rises m k = record {
-  met = joined pages root (IsUnder below first last) (IsUnder below last (suc last)) (IsUnder below first (last + 1))
+  met =
+      joined pages root (IsUnder below first last) (IsUnder below last (suc last))
+      (IsUnder below first (last + 1))
       (range-step below first last)
       (range-left below first last) (range-right below first last rises) old now new m.met k.met;
   above_data = λ l q v n is. elim (range-step below first last (suc l, q) n) [
@@ -131,19 +140,22 @@ module _ (pages : Pages) (height top level below offset number : ℕ) (e : level
   next-none s page old now count low stored within none m =
       let next : 128 * offset + s + 1 ≡ 128 * offset + (s + 1) = omega arith in
       subst (λ (bound : ℕ). IsMetUnder pages root below (128 * offset) bound old now count) next
-      (under-none pages height top below (128 * offset) (128 * offset + s) old now count (omega (arith, low, e))
+      (under-none pages height top below (128 * offset) (128 * offset + s) old now count
+      (omega (arith, low, e))
       (omega arith)
       (slot-child pages height top level below offset number s page e low stands stored within ∙ none) m)
 
   -- it names a block, which is met, and all under it
   pub next-some : (s : ℕ) (old now new : List Bool) (before : Option ℕ) (count : ℕ)
       → IsMetUnder pages (Tree height top) below (128 * offset) (128 * offset + s) old now before
-      → IsMetUnder pages (Tree height top) below (128 * offset + s) (suc (128 * offset + s)) now new (Some count)
+      → IsMetUnder pages (Tree height top) below (128 * offset + s) (suc (128 * offset + s)) now new
+      (Some count)
       → IsMetUnder pages (Tree height top) below (128 * offset) (128 * offset + (s + 1)) old new (Some count)
   next-some s old now new before count m k =
       let next : 128 * offset + s + 1 ≡ 128 * offset + (s + 1) = omega arith in
       subst (λ (bound : ℕ). IsMetUnder pages root below (128 * offset) bound old new (Some count)) next
-      (under-some pages height top below (128 * offset) (128 * offset + s) old now new before count (omega arith) m k)
+      (under-some pages height top below (128 * offset) (128 * offset + s) old now new before count
+      (omega arith) m k)
 
   -- a node is met, and then all under it
   pub met-node : (old mid new : List Bool) (count : ℕ) → Meets pages number old mid
@@ -158,7 +170,8 @@ module _ (pages : Pages) (height top level below offset number : ℕ) (e : level
       | inl here ↦ (
         m.ends.last,
         (
-            let over = above-next level below 0 m.ends.last e (omega arith) in let from = m.ends.visited.from in
+            let over = above-next level below 0 m.ends.last e (omega arith) in
+            let from = m.ends.visited.from in
             let under = m.ends.visited.below in
             let at : suc k ≡ level = ap (λ (x : ℕ × ℕ). x.0) here in
             let place : q ≡ offset = ap (λ (x : ℕ × ℕ). x.1) here in
@@ -193,7 +206,8 @@ module _ (pages : Pages) (height top level below offset number : ℕ) (e : level
       nothing : (i : ℕ) → i / 128 ^ suc below ≡ offset → HasData pages root i → ⊥
       nothing i over has_data =
           let up = above-next level below 0 i e (omega arith) in
-          let power : i / 128 ^ suc below ≡ i / 128 ^ (level - 0) = ap (λ (x : ℕ). i / 128 ^ x) (omega (arith, e)) in
+          let power : i / 128 ^ suc below ≡ i / 128 ^ (level - 0) =
+          ap (λ (x : ℕ). i / 128 ^ x) (omega (arith, e)) in
           no-some (place_at pages root 0 i) has_data
           (m.ends i (record {
             low = omega arith;
@@ -203,14 +217,16 @@ module _ (pages : Pages) (height top level below offset number : ℕ) (e : level
           }))
 
   -- a child that can't be met
-  pub child-can-be-met : (old mid now : List Bool) (s : ℕ) (count : Option ℕ) → s < 128 → Meets pages number old mid
+  pub child-can-be-met : (old mid now : List Bool) (s : ℕ) (count : Option ℕ) → s < 128
+      → Meets pages number old mid
       → IsMetUnder pages (Tree height top) below (128 * offset) (128 * offset + s) mid now count
       → CanMeet pages (Tree height top) (IsUnder level offset (suc offset)) old
       → CanMeet pages (Tree height top) (IsUnder below (128 * offset + s) (suc (128 * offset + s))) now
   child-can-be-met old mid now s count within meets m can =
       narrowed pages root (IsUnder below (128 * offset) (128 * offset + s)) Child Slots-to (range-step below
       (128 * offset) (128 * offset + s))
-      (range-left below (128 * offset) (128 * offset + s)) (range-right below (128 * offset) (128 * offset + s)
+      (range-left below (128 * offset) (128 * offset + s))
+      (range-right below (128 * offset) (128 * offset + s)
       (omega arith)) mid now
       (range-apart below (128 * offset) (128 * offset + s)) m.met
       (narrowed pages root Node Slots-to Both (λ b n. n) (λ b n. inl n) (λ b n. inr n) old mid
@@ -241,13 +257,16 @@ module _ (pages : Pages) (height top level below offset number : ℕ) (e : level
 module _ (pages : Pages) (level offset number slots : ℕ) (old mid new : List Bool) (high : level ≡ 0 → ⊥)
     (all : slots ≡ 128) where
   abbrev Walked : Option ℕ → Type 0
-  Walked count = (height top : ℕ) → level ≤ height → place_at pages (Tree height top) level offset ≡ Some number
+  Walked count =
+      (height top : ℕ) → level ≤ height → place_at pages (Tree height top) level offset ≡ Some number
       → IsMetUnder pages (Tree height top) (level - 1) (128 * offset) (128 * offset + slots) mid new count
 
-  whole-node : (height top : ℕ) (count : Option ℕ) → IsMetUnder pages (Tree height top) (level - 1) (128 * offset)
+  whole-node : (height top : ℕ) (count : Option ℕ)
+      → IsMetUnder pages (Tree height top) (level - 1) (128 * offset)
       (128 * offset + slots) mid new count
       → IsMetUnder pages (Tree height top) (level - 1) (128 * offset) (128 * offset + 128) mid new count
-  whole-node height top count m = subst (λ (s : ℕ). IsMetUnder pages (Tree height top) (level - 1) (128 * offset)
+  whole-node height top count m =
+      subst (λ (s : ℕ). IsMetUnder pages (Tree height top) (level - 1) (128 * offset)
       (128 * offset + s) mid new count) all m
 
   -- a node whose slots are all looked at
@@ -257,7 +276,8 @@ module _ (pages : Pages) (level offset number slots : ℕ) (old mid new : List B
       → IsMetUnder pages (Tree height top) level offset (suc offset) old new (Some n))
   node-yes meets None walked = tt
   node-yes meets (Some count) walked = λ height top low stands.
-      met-node pages height top level (level - 1) offset number (omega (arith, high)) stands old mid new count meets
+      met-node pages height top level (level - 1) offset number
+      (omega (arith, high)) stands old mid new count meets
       (whole-node height top (Some count) (walked height top low stands))
 
   pub node-no : (count : Option ℕ) → Walked count → IfNone count ((height top : ℕ) → level ≤ height
@@ -271,7 +291,8 @@ module _ (pages : Pages) (level offset number slots : ℕ) (old mid new : List B
 -- the block itself can't be met
 pub no-block-there : (pages : Pages) (height top level offset number : ℕ) (old : List Bool)
     → place_at pages (Tree height top) level offset ≡ Some number
-    → CanNotMeet pages number old → CanMeet pages (Tree height top) (IsUnder level offset (suc offset)) old → ⊥
+    → CanNotMeet pages number old → CanMeet pages (Tree height top) (IsUnder level offset (suc offset)) old
+    → ⊥
 no-block-there pages height top level offset number old stands why can =
     let over : offset / 128 ^ (level - level) ≡ offset = above-same level level offset refl in
     can-not-meet pages (Tree height top) (IsUnder level offset (suc offset)) (level, offset) number old
@@ -296,15 +317,18 @@ under-there pages height top b v is = elim (under-top pages height top b) [
   | inr none ↦ absurd (cc)
 ]
 
-pub top-place : (pages : Pages) (height top : ℕ) → (top ≡ 0 → ⊥) → place_at pages (Tree height top) height 0 ≡ Some top
+pub top-place : (pages : Pages) (height top : ℕ) → (top ≡ 0 → ⊥)
+    → place_at pages (Tree height top) height 0 ≡ Some top
 top-place pages height top some = tree-top pages height top ∙ numbered-some top some
 
-pub no-tree-top : (pages : Pages) (height top : ℕ) (old : List Bool) → top ≡ 0 → CanBeMet pages (Tree height top) old → ⊥
+pub no-tree-top : (pages : Pages) (height top : ℕ) (old : List Bool) → top ≡ 0
+    → CanBeMet pages (Tree height top) old → ⊥
 no-tree-top pages height top old zero_is can =
     no-some (place_at pages (Tree height top) height 0) (can.shape.has_top (λ e. cc))
     (tree-top pages height top ∙ ap numbered zero_is)
 
-pub no-level : (pages : Pages) (height top : ℕ) (old : List Bool) → height ≡ 0 → CanBeMet pages (Tree height top) old → ⊥
+pub no-level : (pages : Pages) (height top : ℕ) (old : List Bool) → height ≡ 0
+    → CanBeMet pages (Tree height top) old → ⊥
 no-level pages height top old zero_is can = let shape = can.shape.tree_shape refl in let low = shape.low in
     omega (arith, low, zero_is)
 
@@ -318,9 +342,11 @@ can-meet-tree pages height top old can = record {
 }
 
 -- all data stands below the first child of the top
-pub no-lower-tree : (pages : Pages) (height lower top count : ℕ) (old new : List Bool) → height ≡ suc lower → 1 ≤ lower
+pub no-lower-tree : (pages : Pages) (height lower top count : ℕ) (old new : List Bool) → height ≡ suc lower
+    → 1 ≤ lower
     → count ≤ 128 ^ lower
-    → IsMetUnder pages (Tree height top) height 0 1 old new (Some count) → CanBeMet pages (Tree height top) old → ⊥
+    → IsMetUnder pages (Tree height top) height 0 1 old new (Some count)
+    → CanBeMet pages (Tree height top) old → ⊥
 no-lower-tree pages height lower top count old new e one few m can =
     let least = (can.shape.tree_shape refl).least in past least.0 least.1 least.2
   where
@@ -333,9 +359,11 @@ no-lower-tree pages height lower top count old new e one few m can =
       ]
     ]
 
-pub walked-tree : (pages : Pages) (height lower top count : ℕ) (old new : List Bool) → height ≡ suc lower → (top ≡ 0 → ⊥)
+pub walked-tree : (pages : Pages) (height lower top count : ℕ) (old new : List Bool) → height ≡ suc lower
+    → (top ≡ 0 → ⊥)
     → (1 ≤ lower → 128 ^ lower < count)
-    → IsMetUnder pages (Tree height top) height 0 1 old new (Some count) → IsWalked pages (Tree height top) old new count
+    → IsMetUnder pages (Tree height top) height 0 1 old new (Some count)
+    → IsWalked pages (Tree height top) old new count
 walked-tree pages height lower top count old new e some many m = record {
   can = can-met pages root old new shape whole;
   met = whole;
@@ -351,7 +379,8 @@ walked-tree pages height lower top count old new e some many m = record {
     root = Tree height top
 
     past : (i : ℕ) → count ≤ i → place_at pages root 0 i ≡ None
-    past i high = elim (under-top pages height top (0, i)) [ inl h ↦ m.ends.none_past i high h | inr none ↦ none ]
+    past i high =
+        elim (under-top pages height top (0, i)) [ inl h ↦ m.ends.none_past i high h | inr none ↦ none ]
 
     whole : HasMet pages root IsAny old new
     whole = all-met pages root old new (IsUnder height 0 1) (under-top pages height top) m.met

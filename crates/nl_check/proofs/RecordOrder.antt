@@ -29,7 +29,8 @@ before_not_before a b c h not = choose (name_cmp c b) refl
     choose : (o : Ordering) → name_cmp c b ≡ o → name_cmp a c ≡ Less
     choose Less e = absurd (not e)
     choose Equal e = subst (λ (n : Name). name_cmp a n ≡ Less) (sym (names_equal c b e)) h
-    choose Greater e = nat_list_cmp_total.trans a b c h (nat_list_cmp_total.antisymm b c ∙ ap ordering_reverse e)
+    choose Greater e =
+        nat_list_cmp_total.trans a b c h (nat_list_cmp_total.antisymm b c ∙ ap ordering_reverse e)
 
 -- ---- records that ascend
 
@@ -52,37 +53,49 @@ all-right P [] ys h = h
 all-right P (x ∷ xs) ys h = all-right P xs ys (All-tail P x (xs ++ ys) h)
 
 -- the records of the front come before the one behind them
-pub ascending-across : (xs : List Record) (n : Record) (rest : List Record) → NamesAscend (xs ++ n ∷ rest) → All (λ (x : Record). name_cmp x.name n.name ≡ Less) xs
+pub ascending-across : (xs : List Record) (n : Record) (rest : List Record) → NamesAscend (xs ++ n ∷ rest)
+    → All (λ (x : Record). name_cmp x.name n.name ≡ Less) xs
 ascending-across [] n rest h = All-nil (λ (x : Record). name_cmp x.name n.name ≡ Less)
 ascending-across (x ∷ xs) n rest h =
-    let here : IsBeforeAll x.name (n ∷ rest) = all-right (λ (r : Record). name_cmp x.name r.name ≡ Less) xs (n ∷ rest) (ascending-head x (xs ++ n ∷ rest) h) in
-    All-cons (λ (y : Record). name_cmp y.name n.name ≡ Less) x xs (All-head (λ (r : Record). name_cmp x.name r.name ≡ Less) n rest here)
+    let here : IsBeforeAll x.name (n ∷ rest) =
+    all-right (λ (r : Record). name_cmp x.name r.name ≡ Less) xs (n ∷ rest)
+    (ascending-head x (xs ++ n ∷ rest) h) in
+    All-cons (λ (y : Record). name_cmp y.name n.name ≡ Less) x xs
+    (All-head (λ (r : Record). name_cmp x.name r.name ≡ Less) n rest here)
     (ascending-across xs n rest (ascending-tail x (xs ++ n ∷ rest) h))
 
 -- what comes before the first comes before all
-pub before_first : (name : Name) (r : Record) (rs : List Record) → NamesAscend (r ∷ rs) → name_cmp name r.name ≡ Less → IsBeforeAll name (r ∷ rs)
+pub before_first : (name : Name) (r : Record) (rs : List Record) → NamesAscend (r ∷ rs)
+    → name_cmp name r.name ≡ Less → IsBeforeAll name (r ∷ rs)
 before_first name r rs h less = All-cons (λ (s : Record). name_cmp name s.name ≡ Less) r rs less
-    (All-weaker (λ (s : Record). name_cmp r.name s.name ≡ Less) (λ (s : Record). name_cmp name s.name ≡ Less) (λ s. nat_list_cmp_total.trans name r.name s.name less) rs (ascending-head r rs h))
+    (All-weaker (λ (s : Record). name_cmp r.name s.name ≡ Less) (λ (s : Record). name_cmp name s.name ≡ Less)
+    (λ s. nat_list_cmp_total.trans name r.name s.name less) rs (ascending-head r rs h))
 
 -- ---- what a name stands for
 
 pub entry_of-first : (r : Record) (rs : List Record) → entry_of r.name (r ∷ rs) ≡ Some (r.inode, r.kind)
-entry_of-first r rs = cond-true (same_name r.name r.name) _ _ (ap is_eq (tied_itself nat_list_cmp_total r.name))
+entry_of-first r rs =
+    cond-true (same_name r.name r.name) _ _ (ap is_eq (tied_itself nat_list_cmp_total r.name))
 
 pub entry_of-before : (name : Name) (rs : List Record) → IsBeforeAll name rs → entry_of name rs ≡ None
 entry_of-before name [] h = refl
 entry_of-before name (r ∷ rs) h =
-    cond-false (same_name name r.name) _ _ (ap is_eq (All-head (λ (s : Record). name_cmp name s.name ≡ Less) r rs h))
+    cond-false (same_name name r.name) _ _
+    (ap is_eq (All-head (λ (s : Record). name_cmp name s.name ≡ Less) r rs h))
     ∙ entry_of-before name rs (All-tail (λ (s : Record). name_cmp name s.name ≡ Less) r rs h)
 
 -- the name is behind those of the front
-pub entry_of-behind : (name : Name) (xs ys : List Record) → All (λ (x : Record). name_cmp x.name name ≡ Less) xs → entry_of name (xs ++ ys) ≡ entry_of name ys
+pub entry_of-behind : (name : Name) (xs ys : List Record)
+    → All (λ (x : Record). name_cmp x.name name ≡ Less) xs → entry_of name (xs ++ ys) ≡ entry_of name ys
 entry_of-behind name [] ys h = refl
 entry_of-behind name (x ∷ xs) ys h =
     let less : name_cmp x.name name ≡ Less = All-head (λ (r : Record). name_cmp r.name name ≡ Less) x xs h in
-    cond-false (same_name name x.name) _ _ (ap is_eq (nat_list_cmp_total.antisymm name x.name ∙ ap ordering_reverse less))
+    cond-false (same_name name x.name) _ _
+    (ap is_eq (nat_list_cmp_total.antisymm name x.name ∙ ap ordering_reverse less))
     ∙ entry_of-behind name xs ys (All-tail (λ (r : Record). name_cmp r.name name ≡ Less) x xs h)
 
-pub entry_of-front : (name : Name) (xs ys : List Record) → entry_of name ys ≡ None → entry_of name (xs ++ ys) ≡ entry_of name xs
+pub entry_of-front : (name : Name) (xs ys : List Record) → entry_of name ys ≡ None
+    → entry_of name (xs ++ ys) ≡ entry_of name xs
 entry_of-front name [] ys h = h
-entry_of-front name (x ∷ xs) ys h = ap (cond (same_name name x.name) (Some (x.inode, x.kind))) (entry_of-front name xs ys h)
+entry_of-front name (x ∷ xs) ys h =
+    ap (cond (same_name name x.name) (Some (x.inode, x.kind))) (entry_of-front name xs ys h)

@@ -16,7 +16,8 @@ pub zeros-behind : (blocks : Blocks) (size : ℕ) (page : List ℕ) → Some pag
     → ((k : ℕ) → size % 1024 ≤ k → k < 1024 → slice_index page k ≡ 0) → HasZerosBehind blocks size
 zeros-behind blocks size page is h k low same =
     ap (λ (q : ℕ). byte_in (blocks q) (k % 1024)) same
-    ∙ (ap (λ (o : Option (List ℕ)). byte_in o (k % 1024)) (sym is) ∙ h (k % 1024) (omega (arith, low, same)) (omega arith))
+    ∙ (ap (λ (o : Option (List ℕ)). byte_in o (k % 1024)) (sym is)
+    ∙ h (k % 1024) (omega (arith, low, same)) (omega arith))
 
 pub zeros-here : (blocks : Blocks) (size : ℕ) (page : List ℕ) → Some page ≡ blocks (size / 1024)
     → HasZerosBehind blocks size → (k : ℕ) → size % 1024 ≤ k → k < 1024 → slice_index page k ≡ 0
@@ -24,12 +25,17 @@ zeros-here blocks size page is h k low small =
     let at : ℕ = 1024 * (size / 1024) + k in
     let block : (1024 * (size / 1024) + k) / 1024 ≡ size / 1024 = omega (arith, small) in
     let place : (1024 * (size / 1024) + k) % 1024 ≡ k = omega (arith, small) in
-    let here : byte_stored blocks (1024 * (size / 1024) + k) ≡ 0 = h (1024 * (size / 1024) + k) (omega (arith, low)) block in
+    let here : byte_stored blocks (1024 * (size / 1024) + k) ≡ 0 =
+    h (1024 * (size / 1024) + k) (omega (arith, low)) block in
     sym (ap (λ (q : ℕ). byte_in (blocks q) ((1024 * (size / 1024) + k) % 1024)) block
-    ∙ (ap (λ (o : Option (List ℕ)). byte_in o ((1024 * (size / 1024) + k) % 1024)) (sym is) ∙ ap (slice_index page) place)) ∙ here
+    ∙ (ap (λ (o : Option (List ℕ)). byte_in o ((1024 * (size / 1024) + k) % 1024)) (sym is)
+    ∙ ap (slice_index page) place))
+    ∙ here
 
 pub no-block-behind : (blocks : Blocks) (size : ℕ) → None ≡ blocks (size / 1024) → HasZerosBehind blocks size
-no-block-behind blocks size is k low same = ap (λ (q : ℕ). byte_in (blocks q) (k % 1024)) same ∙ ap (λ (o : Option (List ℕ)). byte_in o (k % 1024)) (sym is)
+no-block-behind blocks size is k low same =
+    ap (λ (q : ℕ). byte_in (blocks q) (k % 1024)) same
+    ∙ ap (λ (o : Option (List ℕ)). byte_in o (k % 1024)) (sym is)
 
 module _ (pages : Pages) (root : Root) (count size : ℕ) (m : IsMeasured pages root count)
     (blocks : ℕ) (enough : size ≤ 1024 * blocks) (least : 1024 * blocks < size + 1024) where
@@ -42,7 +48,8 @@ module _ (pages : Pages) (root : Root) (count size : ℕ) (m : IsMeasured pages 
         not-none (page_at pages root i) page.0 (s.none_past i (omega (arith, enough, more, same, is))) page.1)
   ]
 
-  pub sound-file : size ≤ 67108864 → count ≤ blocks → HasZerosBehind (page_at pages root) size → IsSoundFile (page_at pages root) size
+  pub sound-file : size ≤ 67108864 → count ≤ blocks → HasZerosBehind (page_at pages root) size
+      → IsSoundFile (page_at pages root) size
   sound-file most few zeros = record { most = most; none_past = past; zeros = behind }
     where
       past : (b : ℕ) → size ≤ 1024 * b → page_at pages root b ≡ None
@@ -50,6 +57,7 @@ module _ (pages : Pages) (root : Root) (count size : ℕ) (m : IsMeasured pages 
 
       behind : (k : ℕ) → size ≤ k → byte_stored (page_at pages root) k ≡ 0
       behind k low = elim (cases_lt (size / 1024) (k / 1024)) [
-        | inl later ↦ ap (λ (o : Option (List ℕ)). byte_in o (k % 1024)) (past (k / 1024) (omega (arith, later)))
+        | inl later ↦
+            ap (λ (o : Option (List ℕ)). byte_in o (k % 1024)) (past (k / 1024) (omega (arith, later)))
         | inr same ↦ zeros k low (omega (arith, low, same))
       ]

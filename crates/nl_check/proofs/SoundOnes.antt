@@ -17,7 +17,8 @@ use Rattle.nl_check.specs.Private.SoundInodes.{IsMeasured, IsSoundInode}
 alone : ℕ → Held → Holding
 alone n held i = cond (i == n) (Some held) None
 
-alone-all : (P : ℕ → Held → Type 0) (n : ℕ) (held : Held) → P n held → (i : ℕ) (x : Held) → alone n held i ≡ Some x → P i x
+alone-all : (P : ℕ → Held → Type 0) (n : ℕ) (held : Held) → P n held → (i : ℕ) (x : Held)
+    → alone n held i ≡ Some x → P i x
 unfolding alone
 alone-all P n held p i x is = by (i == n) refl is
   where
@@ -42,34 +43,54 @@ module _ (pages : Pages) (number : ℕ) (inode : Inode) where
   blocks : Blocks
   blocks = page_at pages (root_of inode.root)
 
-  pub file-sound : (count : ℕ) → inode.kind ≡ File → IsInodeNumber number → IsMeasured pages (root_of inode.root) count → IsSoundFile (page_at pages (root_of inode.root)) inode.size → IsSoundInode pages number (Some inode)
+  pub file-sound : (count : ℕ) → inode.kind ≡ File → IsInodeNumber number
+      → IsMeasured pages (root_of inode.root) count
+      → IsSoundFile (page_at pages (root_of inode.root)) inode.size → IsSoundInode pages number (Some inode)
   unfolding blocks
   file-sound count kind n m sound = record {
     holding = alone number (Stored inode.size blocks);
-    stands = subst (λ (k : InodeKind). StandsAs blocks k inode.size (alone number (Stored inode.size blocks) number)) (sym kind) (alone-here number (Stored inode.size blocks));
-    limits = alone-holding number (Stored inode.size blocks) n (record { small = sound.most; none_past = sound.none_past; zeros = sound.zeros; whole = m.whole });
+    stands =
+        subst
+        (λ (k : InodeKind). StandsAs blocks k inode.size (alone number (Stored inode.size blocks) number))
+        (sym kind) (alone-here number (Stored inode.size blocks));
+    limits =
+        alone-holding number (Stored inode.size blocks) n
+        (record { small = sound.most; none_past = sound.none_past; zeros = sound.zeros; whole = m.whole });
   }
 
-  pub directory-sound : inode.kind ≡ Directory → IsInodeNumber number → IsSoundDirectory (page_at pages (root_of inode.root)) inode.size → IsSoundInode pages number (Some inode)
+  pub directory-sound : inode.kind ≡ Directory → IsInodeNumber number
+      → IsSoundDirectory (page_at pages (root_of inode.root)) inode.size
+      → IsSoundInode pages number (Some inode)
   unfolding blocks
   directory-sound kind n d = record {
     holding = alone number (Listed d.records);
-    stands = subst (λ (k : InodeKind). StandsAs blocks k inode.size (alone number (Listed d.records) number)) (sym kind) (d.records, d.holds, alone-here number (Listed d.records));
-    limits = alone-holding number (Listed d.records) n (record { ascending = d.holds.ascending; names = d.sound.each; count = d.sound.few });
+    stands =
+        subst (λ (k : InodeKind). StandsAs blocks k inode.size (alone number (Listed d.records) number))
+        (sym kind) (d.records, d.holds, alone-here number (Listed d.records));
+    limits =
+        alone-holding number (Listed d.records) n
+        (record { ascending = d.holds.ascending; names = d.sound.each; count = d.sound.few });
   }
 
   -- ---- the other way round
 
   module _ (s : IsSoundInode pages number (Some inode)) where
-    stands-as : (k : InodeKind) → inode.kind ≡ k → StandsAs (page_at pages (root_of inode.root)) k inode.size (s.holding number)
-    stands-as k is = subst (λ (k : InodeKind). StandsAs (page_at pages (root_of inode.root)) k inode.size (s.holding number)) is s.stands
+    stands-as : (k : InodeKind) → inode.kind ≡ k
+        → StandsAs (page_at pages (root_of inode.root)) k inode.size (s.holding number)
+    stands-as k is =
+        subst
+        (λ (k : InodeKind). StandsAs (page_at pages (root_of inode.root)) k inode.size (s.holding number))
+        is s.stands
 
     pub sound-file-of : inode.kind ≡ File → IsSoundFile (page_at pages (root_of inode.root)) inode.size
     sound-file-of kind =
-        let file = s.limits.each number (Stored inode.size (page_at pages (root_of inode.root))) (stands-as File kind) in
+        let file =
+        s.limits.each number (Stored inode.size (page_at pages (root_of inode.root)))
+        (stands-as File kind) in
         record { most = file.small; none_past = file.none_past; zeros = file.zeros }
 
-    pub sound-directory-of : inode.kind ≡ Directory → IsSoundDirectory (page_at pages (root_of inode.root)) inode.size
+    pub sound-directory-of : inode.kind ≡ Directory
+        → IsSoundDirectory (page_at pages (root_of inode.root)) inode.size
     sound-directory-of kind =
         let (records, holds, is) = stands-as Directory kind in
         let may = s.limits.each number (Listed records) is in
@@ -82,7 +103,9 @@ module _ (pages : Pages) (number : ℕ) (inode : Inode) where
     number-of = by inode.kind refl
       where
         by : (k : InodeKind) → inode.kind ≡ k → IsInodeNumber number
-        by File kind = s.limits.inode_numbers number (Stored inode.size (page_at pages (root_of inode.root))) (stands-as File kind)
+        by File kind =
+            s.limits.inode_numbers number (Stored inode.size (page_at pages (root_of inode.root)))
+            (stands-as File kind)
         by Directory kind = let d = stands-as Directory kind in s.limits.inode_numbers number (Listed d.0) d.2
         by InodeFile kind = absurd (no-inode-file kind)
 

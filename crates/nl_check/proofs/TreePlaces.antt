@@ -34,14 +34,16 @@ tree-beside pages height top offset other =
     ∙ (ap (λ (k : ℕ). below_top pages top k offset) e ∙ rw (ne_eqb offset 0 other) refl)
 
 pub tree-child : (pages : Pages) (height top level offset : ℕ) → level < height →
-    place_at pages (Tree height top) level offset ≡ child pages (offset % 128) (place_at pages (Tree height top)
+    place_at pages (Tree height top) level offset
+    ≡ child pages (offset % 128) (place_at pages (Tree height top)
     (suc level) (offset / 128))
 unfolding below_top
 tree-child pages height top level offset l =
     let e : height - level ≡ suc (height - suc level) = omega arith in
     tree-place pages height top level offset (omega arith)
     ∙ (ap (λ (k : ℕ). below_top pages top k offset) e
-    ∙ ap (child pages (offset % 128)) (sym (tree-place pages height top (suc level) (offset / 128) (omega arith))))
+    ∙ ap (child pages (offset % 128))
+    (sym (tree-place pages height top (suc level) (offset / 128) (omega arith))))
 
 -- ---- what stands above a place
 
@@ -50,7 +52,8 @@ div-pow-out : (q d : ℕ) → q / 128 ^ suc d ≡ q / 128 ^ d / 128
 div-pow-out q d = ap (λ (k : ℕ). q / k) (pow-suc 128 d) ∙ sym (div-div-eq-div-mul q (128 ^ d) 128)
 
 div-pow-in : (q d : ℕ) → q / 128 ^ suc d ≡ q / 128 / 128 ^ d
-div-pow-in q d = ap (λ (k : ℕ). q / k) (pow-suc 128 d ∙ mul_comm (128 ^ d) 128) ∙ sym (div-div-eq-div-mul q 128 (128 ^ d))
+div-pow-in q d =
+    ap (λ (k : ℕ). q / k) (pow-suc 128 d ∙ mul_comm (128 ^ d) 128) ∙ sym (div-div-eq-div-mul q 128 (128 ^ d))
 
 pub above-next : (level below at offset : ℕ) → level ≡ suc below → at ≤ below
     → offset / 128 ^ (level - at) ≡ offset / 128 ^ (below - at) / 128
@@ -71,7 +74,8 @@ above-rises d low high l =
 
 -- ---- where nothing stands
 
-none-down : (pages : Pages) (height top level offset d at q : ℕ) → level ≤ height → at + d ≡ level → q / 128 ^ d ≡ offset
+none-down : (pages : Pages) (height top level offset d at q : ℕ) → level ≤ height → at + d ≡ level
+    → q / 128 ^ d ≡ offset
     → place_at pages (Tree height top) level offset ≡ None → place_at pages (Tree height top) at q ≡ None
 none-down pages height top level offset zero at q low e over none =
     let same_level : at ≡ level = omega (arith, e) in
@@ -80,7 +84,8 @@ none-down pages height top level offset zero at q low e over none =
     ∙ (ap (place_at pages (Tree height top) level) same ∙ none)
 none-down pages height top level offset (suc d) at q low e over none =
     tree-child pages height top at q (omega (arith, e, low))
-    ∙ ap (child pages (q % 128)) (none-down pages height top level offset d (suc at) (q / 128) low (omega (arith, e)) (sym
+    ∙ ap (child pages (q % 128))
+    (none-down pages height top level offset d (suc at) (q / 128) low (omega (arith, e)) (sym
     (div-pow-in q d) ∙ over) none)
 
 -- nothing stands under a place where nothing stands
@@ -94,12 +99,14 @@ none-under pages height top level offset at q low under over none =
 pub none-beside : (pages : Pages) (height top at q : ℕ) → at ≤ height → (q / 128 ^ (height - at) ≡ 0 → ⊥)
     → place_at pages (Tree height top) at q ≡ None
 none-beside pages height top at q low other =
-    none-under pages height top height (q / 128 ^ (height - at)) at q (omega arith) low refl (tree-beside pages height top
+    none-under pages height top height (q / 128 ^ (height - at)) at q (omega arith) low refl
+    (tree-beside pages height top
     (q / 128 ^ (height - at)) other)
 
 -- ---- the slots of a node
 
-pub slot-child : (pages : Pages) (height top level below offset number s : ℕ) (page : List ℕ) → level ≡ suc below
+pub slot-child : (pages : Pages) (height top level below offset number s : ℕ) (page : List ℕ)
+    → level ≡ suc below
     → level ≤ height
     → place_at pages (Tree height top) level offset ≡ Some number → pages number ≡ Some page → s < 128
     → place_at pages (Tree height top) below (128 * offset + s) ≡ slot s page
@@ -107,7 +114,8 @@ slot-child pages height top level below offset number s page e low node stored w
     let up : (128 * offset + s) / 128 ≡ offset = omega (arith, within) in
     let in_slot : (128 * offset + s) % 128 ≡ s = omega (arith, within) in
     tree-child pages height top below (128 * offset + s) (omega (arith, e, low))
-    ∙ (ap (λ (k : ℕ). child pages k (place_at pages (Tree height top) (suc below) ((128 * offset + s) / 128))) in_slot
+    ∙ (ap (λ (k : ℕ). child pages k (place_at pages (Tree height top) (suc below) ((128 * offset + s) / 128)))
+    in_slot
     ∙ (ap (λ (q : ℕ). child pages s (place_at pages (Tree height top) (suc below) q)) up
     ∙ (ap (λ (k : ℕ). child pages s (place_at pages (Tree height top) k offset)) (sym e)
     ∙ (ap (child pages s) node ∙ ap (option_and_then (λ (bytes : List ℕ). slot s bytes)) stored))))

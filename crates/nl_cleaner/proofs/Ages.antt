@@ -23,22 +23,30 @@ before-trans a b c (inr p) (inl q) = inl (omega arith)
 before-trans a b c (inr p) (inr q) = inr (p.0 ∙ q.0, omega arith)
 
 -- what holds of neighbours holds of all pairs
-module _ (cs : List Candidate) (near : (k : ℕ) (d : Candidate) → k + 1 < length cs → IsOlderCandidate (get_or cs k d) (get_or cs (k + 1) d)) where
-  far : (m i : ℕ) (d : Candidate) → i + m + 1 < length cs → IsOlderCandidate (get_or cs i d) (get_or cs (i + m + 1) d)
-  far zero i d within = subst (λ (j : ℕ). IsOlderCandidate (get_or cs i d) (get_or cs j d)) (omega arith) (near i d (omega arith))
+module _ (cs : List Candidate)
+    (near : (k : ℕ) (d : Candidate) → k + 1 < length cs
+    → IsOlderCandidate (get_or cs k d) (get_or cs (k + 1) d)) where
+  far : (m i : ℕ) (d : Candidate) → i + m + 1 < length cs
+      → IsOlderCandidate (get_or cs i d) (get_or cs (i + m + 1) d)
+  far zero i d within =
+      subst (λ (j : ℕ). IsOlderCandidate (get_or cs i d) (get_or cs j d)) (omega arith)
+      (near i d (omega arith))
   far (suc m) i d within =
       before-trans (get_or cs i d) (get_or cs (i + m + 1) d) (get_or cs (i + suc m + 1) d)
       (far m i d (omega arith))
-      (subst (λ (j : ℕ). IsOlderCandidate (get_or cs (i + m + 1) d) (get_or cs j d)) (omega arith) (near (i + m + 1) d (omega arith)))
+      (subst (λ (j : ℕ). IsOlderCandidate (get_or cs (i + m + 1) d) (get_or cs j d)) (omega arith)
+      (near (i + m + 1) d (omega arith)))
 
   pub all-pairs : InOrder cs
   all-pairs i j d lower within =
-      subst (λ (k : ℕ). IsOlderCandidate (get_or cs i d) (get_or cs k d)) (omega arith) (far (j - i - 1) i d (omega arith))
+      subst (λ (k : ℕ). IsOlderCandidate (get_or cs i d) (get_or cs k d)) (omega arith)
+      (far (j - i - 1) i d (omega arith))
 
 -- ---- numbers
 
 not-less : (a b : ℕ) → b ≤ a → is_lt (nat_cmp a b) ≡ false
-not-less a b h = ap (λ (t : Bool). is_lt (cond t Less (cond (eqb a b) Equal Greater))) (le-ltb a b h) ∙ either (eqb a b)
+not-less a b h =
+    ap (λ (t : Bool). is_lt (cond t Less (cond (eqb a b) Equal Greater))) (le-ltb a b h) ∙ either (eqb a b)
   where
     either : (t : Bool) → is_lt (cond t Equal Greater) ≡ false
     either true = refl
@@ -46,7 +54,8 @@ not-less a b h = ap (λ (t : Bool). is_lt (cond t Less (cond (eqb a b) Equal Gre
 
 ascend-sorted : (cs : List Candidate) → Ascend cs → IsSortedByKey segment_of nat_cmp cs
 ascend-sorted cs up k d low within =
-    let next : (get_or cs k d).segment < (get_or cs (k + 1) d).segment = up k (k + 1) d (omega arith) within in
+    let next : (get_or cs k d).segment < (get_or cs (k + 1) d).segment =
+    up k (k + 1) d (omega arith) within in
     not-less (get_or cs (k + 1) d).segment (get_or cs k d).segment (omega arith)
 
 abbrev segments : List Candidate → List ℕ
@@ -65,40 +74,52 @@ module _ (xs ys : List Candidate) (up : Ascend xs) (moved : IsPermutation xs ys)
       let long : j < length xs = subst (λ (n : ℕ). j < n) (length-map xs segment_of) within in
       let default : Candidate = record { stamp = 0; segment = d } in
       let rise : (get_or xs i default).segment < (get_or xs j default).segment = up i j default lower long in
-      let first : get_or (segments xs) i d ≡ (get_or xs i default).segment = get_or-map segment_of xs i default d (omega arith) in
-      let second : get_or (segments xs) j d ≡ (get_or xs j default).segment = get_or-map segment_of xs j default d long in
+      let first : get_or (segments xs) i d ≡ (get_or xs i default).segment =
+      get_or-map segment_of xs i default d (omega arith) in
+      let second : get_or (segments xs) j d ≡ (get_or xs j default).segment =
+      get_or-map segment_of xs j default d long in
       λ same. absurd (omega (arith, first, second, same, rise))
 
-  pub differ : (k : ℕ) (d : Candidate) → k + 1 < length ys → (get_or ys k d).segment ≢ (get_or ys (k + 1) d).segment
+  pub differ : (k : ℕ) (d : Candidate) → k + 1 < length ys
+      → (get_or ys k d).segment ≢ (get_or ys (k + 1) d).segment
   differ k d within same =
       let distinct : AllPairs (λ a b. a ≢ b) (segments ys) =
       AllPairs-from_IsDistinct Decides-eqb (segments ys)
-      (IsDistinct-IsPermutation eqb eqb-comm (segments xs) (segments ys) (IsPermutation-map segment_of xs ys moved)
+      (IsDistinct-IsPermutation eqb eqb-comm (segments xs) (segments ys)
+      (IsPermutation-map segment_of xs ys moved)
       (IsDistinct-from_AllPairs Decides-eqb (segments xs) apart)) in
-      let long : k + 1 < length (segments ys) = subst (λ (n : ℕ). k + 1 < n) (sym (length-map ys segment_of)) within in
+      let long : k + 1 < length (segments ys) =
+      subst (λ (n : ℕ). k + 1 < n) (sym (length-map ys segment_of)) within in
       distinct k (k + 1) d.segment (omega arith) long
-      (get_or-map segment_of ys k d d.segment (omega arith) ∙ same ∙ sym (get_or-map segment_of ys (k + 1) d d.segment within))
+      (get_or-map segment_of ys k d d.segment (omega arith) ∙ same
+      ∙ sym (get_or-map segment_of ys (k + 1) d d.segment within))
 
 -- ---- after a stable sort
 
-pub in-order : (xs ys : List Candidate) → Ascend xs → IsPermutation xs ys → IsNonDecreasingBy stamp_of ys → IsStableByKey stamp_of nat_cmp xs ys → InOrder ys
+pub in-order : (xs ys : List Candidate) → Ascend xs → IsPermutation xs ys → IsNonDecreasingBy stamp_of ys
+    → IsStableByKey stamp_of nat_cmp xs ys → InOrder ys
 in-order xs ys up moved rising stable = all-pairs ys near
   where
-    near : (k : ℕ) (d : Candidate) → k + 1 < length ys → IsOlderCandidate (get_or ys k d) (get_or ys (k + 1) d)
+    near : (k : ℕ) (d : Candidate) → k + 1 < length ys
+        → IsOlderCandidate (get_or ys k d) (get_or ys (k + 1) d)
     near k d within = elim (eqb_tells (get_or ys k d).stamp (get_or ys (k + 1) d).stamp) [
       | inl e ↦
-          let ties : (get_or ys k d).segment ≤ (get_or ys (k + 1) d).segment = ties_still_rise segment_of stamp_of xs ys (ascend-sorted xs up) stable k d within e.1 in
-          let apart : (get_or ys k d).segment ≢ (get_or ys (k + 1) d).segment = differ xs ys up moved k d within in
+          let ties : (get_or ys k d).segment ≤ (get_or ys (k + 1) d).segment =
+          ties_still_rise segment_of stamp_of xs ys (ascend-sorted xs up) stable k d within e.1 in
+          let apart : (get_or ys k d).segment ≢ (get_or ys (k + 1) d).segment =
+          differ xs ys up moved k d within in
           inr (e.1, omega arith)
       | inr e ↦
-          let up : (get_or ys k d).stamp ≤ (get_or ys (k + 1) d).stamp = rising k (k + 1) d (omega arith) within in
+          let up : (get_or ys k d).stamp ≤ (get_or ys (k + 1) d).stamp =
+          rising k (k + 1) d (omega arith) within in
           let apart : (get_or ys k d).stamp ≢ (get_or ys (k + 1) d).stamp = e.1 in
           inl (omega arith)
     ]
 
 -- ---- the first of them
 
-pub are-first : (most : ℕ) (xs ys : List Candidate) → InOrder ys → IsPermutation xs ys → AreFirst most xs (take most ys)
+pub are-first : (most : ℕ) (xs ys : List Candidate) → InOrder ys → IsPermutation xs ys
+    → AreFirst most xs (take most ys)
 are-first most xs ys ordered moved = record { in_order = in_order; few = few; among = among; rest = rest }
   where
     long : length (take most ys) ≡ min most (length ys)
@@ -106,8 +127,10 @@ are-first most xs ys ordered moved = record { in_order = in_order; few = few; am
 
     in_order : InOrder (take most ys)
     in_order i j d lower within =
-        subst (λ (c : Candidate). IsOlderCandidate c (get_or (take most ys) j d)) (sym (get_or-take most ys i d (omega (arith, long))))
-        (subst (IsOlderCandidate (get_or ys i d)) (sym (get_or-take most ys j d (omega (arith, long)))) (ordered i j d lower (omega (arith, long))))
+        subst (λ (c : Candidate). IsOlderCandidate c (get_or (take most ys) j d))
+        (sym (get_or-take most ys i d (omega (arith, long))))
+        (subst (IsOlderCandidate (get_or ys i d)) (sym (get_or-take most ys j d (omega (arith, long))))
+        (ordered i j d lower (omega (arith, long))))
 
     few : length (take most ys) ≤ most
     few = omega (arith, long)
@@ -115,18 +138,25 @@ are-first most xs ys ordered moved = record { in_order = in_order; few = few; am
     among : All (Contains xs) (take most ys)
     among k d within =
         subst (Contains xs) (sym (get_or-take most ys k d (omega (arith, long))))
-        (Contains-permutation ys xs (get_or ys k d) (IsPermutation-sym xs ys moved) (k, omega (arith, long), get_or_default ys k (get_or ys k d) d (omega (arith, long))))
+        (Contains-permutation ys xs (get_or ys k d) (IsPermutation-sym xs ys moved)
+        (k, omega (arith, long), get_or_default ys k (get_or ys k d) d (omega (arith, long))))
 
-    rest : (c : Candidate) → Contains xs c → Contains (take most ys) c ⊎ ((length (take most ys) ≡ most) × All (λ v. IsOlderCandidate v c) (take most ys))
+    rest : (c : Candidate) → Contains xs c
+        → Contains (take most ys) c
+        ⊎ ((length (take most ys) ≡ most) × All (λ v. IsOlderCandidate v c) (take most ys))
     rest c found = by_place (Contains-permutation xs ys c moved found)
       where
-        by_place : Contains ys c → Contains (take most ys) c ⊎ ((length (take most ys) ≡ most) × All (λ v. IsOlderCandidate v c) (take most ys))
+        by_place : Contains ys c
+            → Contains (take most ys) c
+            ⊎ ((length (take most ys) ≡ most) × All (λ v. IsOlderCandidate v c) (take most ys))
         by_place (k, within, is) = elim (cases_lt k most) [
           | inl low ↦ inl (k, omega (arith, long), get_or-take most ys k c low ∙ is)
           | inr high ↦ inr (
             omega (arith, long),
             λ i d lower.
-                subst (λ (v : Candidate). IsOlderCandidate v c) (get_or_default ys i c d (omega (arith, long)) ∙ sym (get_or-take most ys i d (omega (arith, long))))
+                subst (λ (v : Candidate). IsOlderCandidate v c)
+                (get_or_default ys i c d (omega (arith, long))
+                ∙ sym (get_or-take most ys i d (omega (arith, long))))
                 (subst (IsOlderCandidate (get_or ys i c)) is (ordered i k c (omega (arith, long)) within)),
           )
         ]

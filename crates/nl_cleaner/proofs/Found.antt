@@ -15,7 +15,8 @@ round stage moment period left = record { stage = stage; moment = moment; period
 
 -- one segment more is done
 pub advanced : (stage : Stage) (moment period : ℕ) (victims : List ℕ) (done : ℕ)
-    → round stage moment period (drop (done + 1) victims) ≡ first_done (round stage moment period (drop done victims))
+    → round stage moment period (drop (done + 1) victims)
+    ≡ first_done (round stage moment period (drop done victims))
 advanced stage moment period victims done =
     ap (λ (n : ℕ). round stage moment period (drop n victims)) (add-one done)
     ∙ ap (round stage moment period) (drop-next done victims)
@@ -24,5 +25,6 @@ advanced stage moment period victims done =
 pub found-next : (f : ℕ → Option Candidate) (n : ℕ) (old new : List Candidate) (o : Option Candidate)
     → old ≡ candidates_in f n → o ≡ f n → new ≡ with_candidate old o → new ≡ candidates_in f (n + 1)
 found-next f n old new o before given after =
-    after ∙ ap (λ (cs : List Candidate). with_candidate cs o) before ∙ ap (with_candidate (candidates_in f n)) given
+    after ∙ ap (λ (cs : List Candidate). with_candidate cs o) before
+    ∙ ap (with_candidate (candidates_in f n)) given
     ∙ sym (ap (candidates_in f) (add-one n))

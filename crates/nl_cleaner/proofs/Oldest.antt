@@ -30,17 +30,21 @@ module _ (planned : Layout) where
 
   rest-in-order : (left : List ℕ) → InOrder left → InOrder (drop 1 left)
   rest-in-order [] before = before
-  rest-in-order (segment ∷ rest) before = λ i j d lower within. before (suc i) (suc j) d (omega arith) (omega arith)
+  rest-in-order (segment ∷ rest) before = λ i j d lower within.
+      before (suc i) (suc j) d (omega arith) (omega arith)
 
-  taken-in-order : (config : Config) (now : ℕ) (left : List ℕ) → AreTaken planned config now left → InOrder left
-  taken-in-order config now left taken = elim (cases_lt (clean_count planned) (segments_by config.max_clean_segments planned)) [
-    | inl few ↦ (taken.some few).in_order
-    | inr enough ↦ subst InOrder (sym (taken.none enough)) none-in-order
-  ]
+  taken-in-order : (config : Config) (now : ℕ) (left : List ℕ) → AreTaken planned config now left
+      → InOrder left
+  taken-in-order config now left taken =
+      elim (cases_lt (clean_count planned) (segments_by config.max_clean_segments planned)) [
+        | inl few ↦ (taken.some few).in_order
+        | inr enough ↦ subst InOrder (sym (taken.none enough)) none-in-order
+      ]
 
   -- ---- a reply keeps the order
 
-  answered-in-order : (answer : Answer) (job : JobView) → InOrder job.left → InOrder (job_after_answer answer job).left
+  answered-in-order : (answer : Answer) (job : JobView) → InOrder job.left
+      → InOrder (job_after_answer answer job).left
   answered-in-order (Freed count) job before = rest-in-order job.left before
   answered-in-order answer job before = before
 
@@ -49,14 +53,16 @@ module _ (planned : Layout) where
   refused-in-order true job before = before
   refused-in-order false job before = rest-in-order job.left before
 
-  noted-in-order : (stage : Stage) (job : JobView) (reply : Reply) → InOrder job.left → InOrder (noted_by stage job reply).left
+  noted-in-order : (stage : Stage) (job : JobView) (reply : Reply) → InOrder job.left
+      → InOrder (noted_by stage job reply).left
   noted-in-order Expiring job (Ok answer) before = before
   noted-in-order Expiring job (Err e) before = before
   noted-in-order Cleaning job (Ok answer) before = answered-in-order answer job before
   noted-in-order Cleaning job (Err e) before = refused-in-order (ends_round e) job before
   noted-in-order Ended job reply before = before
 
-  all-in-order : (replies : List Reply) (job : JobView) → InOrder job.left → InOrder (fold job_after_reply job replies).left
+  all-in-order : (replies : List Reply) (job : JobView) → InOrder job.left
+      → InOrder (fold job_after_reply job replies).left
   all-in-order [] job before = before
   all-in-order (reply ∷ replies) job before =
       all-in-order replies (job_after_reply job reply) (noted-in-order job.stage job reply before)
@@ -70,32 +76,39 @@ module _ (planned : Layout) where
 
   cleans-it : (l : Layout) (segment now : ℕ) → Cleans segment (cleaning_event l segment now)
   cleans-it l segment now =
-      elim (needed_count l.store (needed_by l.lists) segment == 0) as (λ b. Cleans segment (cond {A = Event} b (Retire segment) (Move segment 30 now))) [
+      elim (needed_count l.store (needed_by l.lists) segment == 0) as (λ b.
+      Cleans segment (cond {A = Event} b (Retire segment) (Move segment 30 now))) [
         | true ↦ refl
         | false ↦ refl
       ]
 
-  others-younger : (segment : ℕ) (rest : List ℕ) → InOrder (segment ∷ rest) → All (λ s. (s ≡ segment) ⊎ IsOlder planned segment s) (segment ∷ rest)
+  others-younger : (segment : ℕ) (rest : List ℕ) → InOrder (segment ∷ rest)
+      → All (λ s. (s ≡ segment) ⊎ IsOlder planned segment s) (segment ∷ rest)
   others-younger segment rest order zero d within = inl refl
   others-younger segment rest order (suc k) d within = inr (order 0 (suc k) d (omega arith) within)
 
-  first-oldest : (left : List ℕ) (l : Layout) (now : ℕ) (event : Event) → InOrder left → next_cleaning left now l ≡ Some event
+  first-oldest : (left : List ℕ) (l : Layout) (now : ℕ) (event : Event) → InOrder left
+      → next_cleaning left now l ≡ Some event
       → CleansOldest planned left event
   first-oldest [] l now event order next = absurd (none-some event next)
   first-oldest (segment ∷ rest) l now event order next = record {
     segment = segment;
-    cleans = subst (Cleans segment) (sym (some-is (cleaning_event l segment now) event next)) (cleans-it l segment now);
+    cleans =
+        subst (Cleans segment) (sym (some-is (cleaning_event l segment now) event next))
+        (cleans-it l segment now);
     among = (0, omega arith, refl);
     others = others-younger segment rest order;
   }
 
-  by-stage : (stage : Stage) (job : JobView) (l : Layout) (event : Event) → InOrder job.left → next_by stage job l ≡ Some event
+  by-stage : (stage : Stage) (job : JobView) (l : Layout) (event : Event) → InOrder job.left
+      → next_by stage job l ≡ Some event
       → TakesOldest planned job event
   by-stage Expiring job l event order next = inl (some-is (Expire job.moment job.period) event next)
   by-stage Cleaning job l event order next = inr (first-oldest job.left l job.moment event order next)
   by-stage Ended job l event order next = absurd (none-some event next)
 
-  takes-oldest : (job : JobView) (l : Layout) (next : Option Event) → next ≡ next_event job l → IsPlanned planned job
+  takes-oldest : (job : JobView) (l : Layout) (next : Option Event) → next ≡ next_event job l
+      → IsPlanned planned job
       → IfSome next (TakesOldest planned job)
   takes-oldest job l None is plan = tt
   takes-oldest job l (Some event) is plan = by-stage job.stage job l event (in-order job plan) (sym is)

@@ -40,20 +40,36 @@ record Cleaned (now period : ℕ) (before : List ℕ) (old : Layout) (new : JobV
   job : new.0 ≡ cleaning now period left
   cleans : IsRoundEvent before (kept_store old) left (kept_store new.1)
 
-module _ (now period segment : ℕ) (rest : List ℕ) (old : Layout) (new : JobView × Layout) (answer : Answer) (held : IsPen old) where
-  moved : Does unshared old (Move segment 30 now) (Ok answer) new.1 → new.0 ≡ job_after_answer answer (cleaning now period (segment ∷ rest))
+module _ (now period segment : ℕ) (rest : List ℕ) (old : Layout) (new : JobView × Layout) (answer : Answer)
+    (held : IsPen old) where
+  moved : Does unshared old (Move segment 30 now) (Ok answer) new.1
+      → new.0 ≡ job_after_answer answer (cleaning now period (segment ∷ rest))
       → Cleaned now period (segment ∷ rest) old new
   moved does is = record {
     left = segment ∷ rest;
-    job = is ∙ ap (λ (a : Answer). job_after_answer a (cleaning now period (segment ∷ rest))) does.becomes.1.answer_is;
-    cleans = inl (refl, old.lists.table.latest.number + 1, now, 30, move-is old new.1 segment 30 now answer held does);
+    job =
+        is
+        ∙ ap (λ (a : Answer). job_after_answer a (cleaning now period (segment ∷ rest)))
+        does.becomes.1.answer_is;
+    cleans =
+        inl (
+          refl,
+          old.lists.table.latest.number + 1,
+          now,
+          30,
+          move-is old new.1 segment 30 now answer held does,
+        );
   }
 
-  emptied : Does unshared old (Retire segment) (Ok answer) new.1 → new.0 ≡ job_after_answer answer (cleaning now period (segment ∷ rest))
+  emptied : Does unshared old (Retire segment) (Ok answer) new.1
+      → new.0 ≡ job_after_answer answer (cleaning now period (segment ∷ rest))
       → Cleaned now period (segment ∷ rest) old new
   emptied does is = record {
     left = rest;
-    job = is ∙ ap (λ (a : Answer). job_after_answer a (cleaning now period (segment ∷ rest))) does.becomes.emptied.answer_is;
+    job =
+        is
+        ∙ ap (λ (a : Answer). job_after_answer a (cleaning now period (segment ∷ rest)))
+        does.becomes.emptied.answer_is;
     cleans = inr (
       refl,
       does.becomes.emptied.count,
@@ -65,67 +81,102 @@ module _ (now period segment : ℕ) (rest : List ℕ) (old : Layout) (new : JobV
     );
   }
 
-  by-count : (t : Bool) → (needed_count old.store (needed_by old.lists) segment == 0) ≡ t → (event : Event) → Some (cleaning_event old segment now) ≡ Some event
-      → Does unshared old event (Ok answer) new.1 → new.0 ≡ job_after_answer answer (cleaning now period (segment ∷ rest))
+  by-count : (t : Bool) → (needed_count old.store (needed_by old.lists) segment == 0) ≡ t → (event : Event)
+      → Some (cleaning_event old segment now) ≡ Some event
+      → Does unshared old event (Ok answer) new.1
+      → new.0 ≡ job_after_answer answer (cleaning now period (segment ∷ rest))
       → Cleaned now period (segment ∷ rest) old new
   by-count true h event next does is =
       moved-or (ap (λ (b : Bool). cond {A = Event} b (Retire segment) (Move segment 30 now)) h)
     where
       moved-or : cleaning_event old segment now ≡ Retire segment → Cleaned now period (segment ∷ rest) old new
-      moved-or e = emptied (subst (λ (x : Event). Does unshared old x (Ok answer) new.1) (some-is (cleaning_event old segment now) event next ∙ e) does) is
+      moved-or e =
+          emptied (subst (λ (x : Event). Does unshared old x (Ok answer) new.1)
+          (some-is (cleaning_event old segment now) event next ∙ e) does)
+          is
   by-count false h event next does is =
       moved-or (ap (λ (b : Bool). cond {A = Event} b (Retire segment) (Move segment 30 now)) h)
     where
-      moved-or : cleaning_event old segment now ≡ Move segment 30 now → Cleaned now period (segment ∷ rest) old new
-      moved-or e = moved (subst (λ (x : Event). Does unshared old x (Ok answer) new.1) (some-is (cleaning_event old segment now) event next ∙ e) does) is
+      moved-or : cleaning_event old segment now ≡ Move segment 30 now
+          → Cleaned now period (segment ∷ rest) old new
+      moved-or e =
+          moved (subst (λ (x : Event). Does unshared old x (Ok answer) new.1)
+          (some-is (cleaning_event old segment now) event next ∙ e) does)
+          is
 
-one-event : (now period : ℕ) (left : List ℕ) (old : Layout) (new : JobView × Layout) (event : Event) (answer : Answer) → IsPen old
+one-event : (now period : ℕ) (left : List ℕ) (old : Layout) (new : JobView × Layout) (event : Event)
+    (answer : Answer)
+    → IsPen old
     → Stepped (cleaning now period left, old) event (Ok answer) new → Cleaned now period left old new
 one-event now period [] old new event answer held step = absurd (none-some event step.next)
 one-event now period (segment ∷ rest) old new event answer held step =
-    by-count now period segment rest old new answer held (needed_count old.store (needed_by old.lists) segment == 0) refl event step.next step.does step.job
+    by-count now period segment rest old new answer held
+    (needed_count old.store (needed_by old.lists) segment == 0) refl event step.next step.does step.job
 
 -- ---- to the end of a round
 
-none-left : (now period : ℕ) (left : List ℕ) (l : Layout) → next_event (cleaning now period left) l ≡ None → [] ≡ left
+none-left : (now period : ℕ) (left : List ℕ) (l : Layout) → next_event (cleaning now period left) l ≡ None
+    → [] ≡ left
 none-left now period [] l h = refl
 none-left now period (segment ∷ rest) l h = absurd (none-some (cleaning_event l segment now) (sym h))
 
-all-events : (now period : ℕ) (left : List ℕ) (old new : Layout) (job end : JobView) (events : List Event) (replies : List Reply)
-    → IsPen old → job ≡ cleaning now period left → Run Stepped (job, old) events replies (end, new) → All IsOk replies → next_event end new ≡ None
+all-events : (now period : ℕ) (left : List ℕ) (old new : Layout) (job end : JobView) (events : List Event)
+    (replies : List Reply)
+    → IsPen old → job ≡ cleaning now period left → Run Stepped (job, old) events replies (end, new)
+    → All IsOk replies → next_event end new ≡ None
     → (n : ℕ) × AreRoundEvents n left (kept_store old) [] (kept_store new)
 all-events now period left old new job end [] [] held is run oks over =
-    let same : end ≡ cleaning now period left = ap (λ (s : JobView × Layout). s.0) run ∙ is in
-    (0, (none-left now period left new (ap (λ (j : JobView). next_event j new) (sym same) ∙ over), ap (λ (s : JobView × Layout). kept_store s.1) run))
+    let same : end ≡ cleaning now period left = ap (λ (s : JobView × Layout). s.0) run ∙ is in (
+      0,
+      (
+        none-left now period left new (ap (λ (j : JobView). next_event j new) (sym same) ∙ over),
+        ap (λ (s : JobView × Layout). kept_store s.1) run,
+      ),
+    )
 all-events now period left old new job end (e ∷ es) (Ok answer ∷ rs) held is run oks over =
-    let first = one-event now period left old run.0 e answer held (subst (λ (j : JobView). Stepped (j, old) e (Ok answer) run.0) is run.1) in
-    let rest = all-events now period first.left run.0.1 new run.0.0 end es rs run.1.does.pen first.job run.2 (All-tail IsDone (Ok answer) rs oks) over in
+    let first =
+    one-event now period left old run.0 e answer held
+    (subst (λ (j : JobView). Stepped (j, old) e (Ok answer) run.0) is run.1) in
+    let rest =
+    all-events now period first.left run.0.1 new run.0.0 end es rs run.1.does.pen first.job run.2
+    (All-tail IsDone (Ok answer) rs oks) over in
     (suc rest.0, (first.left, kept_store run.0.1, first.cleans, rest.1))
-all-events now period left old new job end (e ∷ es) (Err x ∷ rs) held is run oks over = absurd (true≢false (sym (oks 0 (Err x) (omega arith))))
+all-events now period left old new job end (e ∷ es) (Err x ∷ rs) held is run oks over =
+    absurd (true≢false (sym (oks 0 (Err x) (omega arith))))
 all-events now period left old new job end [] (r ∷ rs) held is run oks over = absurd run
 all-events now period left old new job end (e ∷ es) [] held is run oks over = absurd run
 
 among : (left : List ℕ) (i : ℕ) → Contains left i → is_one_of left i ≡ true
-among left i (k, within, is) = subst (λ (n : ℕ). is_one_of left n ≡ true) is (is_one_of-get_or left k i within)
+among left i (k, within, is) =
+    subst (λ (n : ℕ). is_one_of left n ≡ true) is (is_one_of-get_or left k i within)
 
 -- ---- from the expiry on
 
-expiring-next : (job : JobView) (l : Layout) → job.stage ≡ Expiring → next_event job l ≡ Some (Expire job.moment job.period)
+expiring-next : (job : JobView) (l : Layout) → job.stage ≡ Expiring
+    → next_event job l ≡ Some (Expire job.moment job.period)
 expiring-next job l is = ap (λ (s : Stage). next_by s job l) is
 
-expired-job : (job : JobView) (answer : Answer) → job.stage ≡ Expiring → job_after_reply job (Ok answer) ≡ cleaning job.moment job.period job.left
+expired-job : (job : JobView) (answer : Answer) → job.stage ≡ Expiring
+    → job_after_reply job (Ok answer) ≡ cleaning job.moment job.period job.left
 expired-job job answer is = ap (λ (s : Stage). noted_by s job (Ok answer)) is
 
 pub rounds-leave-nothing : RoundsLeaveNothingDead
 rounds-leave-nothing job end old new [] [] held stage dirty run oks over =
     let same : end ≡ job = ap (λ (s : JobView × Layout). s.0) run in
-    absurd (none-some (Expire job.moment job.period) (sym over ∙ ap (λ (j : JobView). next_event j new) same ∙ expiring-next job new stage))
+    absurd (none-some (Expire job.moment job.period)
+    (sym over ∙ ap (λ (j : JobView). next_event j new) same ∙ expiring-next job new stage))
 rounds-leave-nothing job end old new (e ∷ es) (Ok answer ∷ rs) held stage dirty run oks over =
-    let expire : e ≡ Expire job.moment job.period = some-is (Expire job.moment job.period) e (sym (expiring-next job old stage) ∙ run.1.next) in
-    let does : Does unshared old (Expire job.moment job.period) (Ok answer) run.0.1 = subst (λ (x : Event). Does unshared old x (Ok answer) run.0.1) expire run.1.does in
-    let all = all-events job.moment job.period job.left run.0.1 new run.0.0 end es rs does.pen (run.1.job ∙ expired-job job answer stage) run.2 (All-tail IsDone (Ok answer) rs oks) over in
-    rounds-leave-nothing-dead all.0 (kept_store old) (kept_store run.0.1) (kept_store new) job.left held.sound.store
+    let expire : e ≡ Expire job.moment job.period =
+    some-is (Expire job.moment job.period) e (sym (expiring-next job old stage) ∙ run.1.next) in
+    let does : Does unshared old (Expire job.moment job.period) (Ok answer) run.0.1 =
+    subst (λ (x : Event). Does unshared old x (Ok answer) run.0.1) expire run.1.does in
+    let all =
+    all-events job.moment job.period job.left run.0.1 new run.0.0 end es rs does.pen
+    (run.1.job ∙ expired-job job answer stage) run.2 (All-tail IsDone (Ok answer) rs oks) over in
+    rounds-leave-nothing-dead all.0 (kept_store old) (kept_store run.0.1)
+    (kept_store new) job.left held.sound.store
     (λ i is. among job.left i (dirty i is)) does.becomes.1 all.1
-rounds-leave-nothing job end old new (e ∷ es) (Err x ∷ rs) held stage dirty run oks over = absurd (true≢false (sym (oks 0 (Err x) (omega arith))))
+rounds-leave-nothing job end old new (e ∷ es) (Err x ∷ rs) held stage dirty run oks over =
+    absurd (true≢false (sym (oks 0 (Err x) (omega arith))))
 rounds-leave-nothing job end old new [] (r ∷ rs) held stage dirty run oks over = absurd run
 rounds-leave-nothing job end old new (e ∷ es) [] held stage dirty run oks over = absurd run

@@ -12,21 +12,26 @@ LacksDot text = (i : ℕ) → i < length text → get_or text i 0 ≢ 46
 abbrev Parts : Type 0
 Parts = Option (List ℕ × List ℕ)
 
-passed : (b : ℕ) (bs : List ℕ) (r : Parts) → b ≢ 46 → around_dot bs ≡ r → around_dot (b ∷ bs) ≡ option_map (with_byte b) r
+passed : (b : ℕ) (bs : List ℕ) (r : Parts) → b ≢ 46 → around_dot bs ≡ r
+    → around_dot (b ∷ bs) ≡ option_map (with_byte b) r
 passed b bs r other is =
-    ap (λ (t : Bool). if t then Some ([], bs) else option_map (with_byte b) (around_dot bs)) (ne_eqb b 46 other)
+    ap (λ (t : Bool). if t then Some ([], bs) else option_map (with_byte b) (around_dot bs))
+    (ne_eqb b 46 other)
     ∙ ap (λ (o : Parts). option_map (with_byte b) o) is
 
 tail_lacks : (b : ℕ) (bs : List ℕ) → LacksDot (b ∷ bs) → LacksDot bs
 tail_lacks b bs lacks = λ i l. lacks (suc i) (omega arith)
 
-around_dot-at : (before behind : List ℕ) → LacksDot before → around_dot (before ++ 46 ∷ behind) ≡ Some (before, behind)
+around_dot-at : (before behind : List ℕ) → LacksDot before
+    → around_dot (before ++ 46 ∷ behind) ≡ Some (before, behind)
 around_dot-at [] behind lacks = refl
-around_dot-at (b ∷ bs) behind lacks = passed b _ _ (lacks 0 (omega arith)) (around_dot-at bs behind (tail_lacks b bs lacks))
+around_dot-at (b ∷ bs) behind lacks =
+    passed b _ _ (lacks 0 (omega arith)) (around_dot-at bs behind (tail_lacks b bs lacks))
 
 around_dot-without : (text : List ℕ) → LacksDot text → around_dot text ≡ None
 around_dot-without [] lacks = refl
-around_dot-without (b ∷ bs) lacks = passed b bs None (lacks 0 (omega arith)) (around_dot-without bs (tail_lacks b bs lacks))
+around_dot-without (b ∷ bs) lacks =
+    passed b bs None (lacks 0 (omega arith)) (around_dot-without bs (tail_lacks b bs lacks))
 
 -- what `split_once` at a dot answers
 pub split_is : (text : List ℕ) (r : Option (Bor (List ℕ) × Bor (List ℕ))) → IsSplitOnceResult 46 text r
@@ -37,8 +42,10 @@ split_is text (Some p) h =
     sym (ap around_dot parts.0 ∙ around_dot-at p.0.now p.1.now parts.1)
 
 -- what `strip_prefix` of a dot answers
-pub strip_is : (text : List ℕ) (r : Option (Bor (List ℕ))) → MatchOption r ((rest : List ℕ) → text ≢ 46 ∷ rest) (λ x. text ≡ 46 ∷ x.now)
+pub strip_is : (text : List ℕ) (r : Option (Bor (List ℕ)))
+    → MatchOption r ((rest : List ℕ) → text ≢ 46 ∷ rest) (λ x. text ≡ 46 ∷ x.now)
     → option_map (λ rest. rest.now) r ≡ behind_dot text
 strip_is [] None h = refl
 strip_is text (Some x) h = sym (ap behind_dot h)
-strip_is (b ∷ bs) None h = sym (ap (λ (t : Bool). if t then Some bs else None) (ne_eqb b 46 (λ e. h bs (ap (λ n. n ∷ bs) e))))
+strip_is (b ∷ bs) None h =
+    sym (ap (λ (t : Bool). if t then Some bs else None) (ne_eqb b 46 (λ e. h bs (ap (λ n. n ∷ bs) e))))

@@ -30,7 +30,13 @@ five a b c d e = command_meant (a ∷ b ∷ c ∷ d ∷ e ∷ [])
 
 abbrev listing : (reversed snapshots : Bool) → Option ℕ → Option ℕ → Meant
 listing reversed snapshots from count =
-    Ok (Lscp (record { reverse = reversed; snapshots_only = snapshots; with_minor = false; from = from; count = count }))
+    Ok (Lscp (record {
+      reverse = reversed;
+      snapshots_only = snapshots;
+      with_minor = false;
+      from = from;
+      count = count;
+    }))
 
 -- ---- numbers
 
@@ -60,7 +66,8 @@ options_in_one_word : three (codes "lscp") (codes "-rs") (codes "-n5") ≡ listi
 unfolding clap_on_literals
 options_in_one_word = refl
 
-value_in_the_next_word : four (codes "lscp") (codes "-i") (codes "9") (codes "-r") ≡ listing true false (Some 9) None
+value_in_the_next_word : four (codes "lscp") (codes "-i") (codes "9") (codes "-r")
+    ≡ listing true false (Some 9) None
 unfolding clap_on_literals
 value_in_the_next_word = refl
 
@@ -116,7 +123,8 @@ second_end_of_options : three (codes "create") (codes "--") (codes "--") ≡ Ok 
 unfolding clap_on_literals
 second_end_of_options = refl
 
-option_behind_an_operand : four (codes "cat") (codes "/f") (codes "-m") (codes "2") ≡ Ok (Show Content (Some 2) (codes "/f"))
+option_behind_an_operand : four (codes "cat") (codes "/f") (codes "-m") (codes "2")
+    ≡ Ok (Show Content (Some 2) (codes "/f"))
 unfolding clap_on_literals
 option_behind_an_operand = refl
 
@@ -170,11 +178,13 @@ text_with_a_hyphen : four (codes "write") (codes "/f") (codes "0") (codes "-x") 
 unfolding clap_on_literals
 text_with_a_hyphen = refl
 
-text_behind_the_options : five (codes "write") (codes "--") (codes "/f") (codes "0") (codes "-x") ≡ Ok (Change (Write (codes "/f") 0 (codes "-x")))
+text_behind_the_options : five (codes "write") (codes "--") (codes "/f") (codes "0") (codes "-x")
+    ≡ Ok (Change (Write (codes "/f") 0 (codes "-x")))
 unfolding clap_on_literals
 text_behind_the_options = refl
 
-options_ended_amid_operands : five (codes "write") (codes "/f") (codes "--") (codes "0") (codes "-x") ≡ Ok (Change (Write (codes "/f") 0 (codes "-x")))
+options_ended_amid_operands : five (codes "write") (codes "/f") (codes "--") (codes "0") (codes "-x")
+    ≡ Ok (Change (Write (codes "/f") 0 (codes "-x")))
 unfolding clap_on_literals
 options_ended_amid_operands = refl
 
@@ -214,7 +224,8 @@ moves : three (codes "mv") (codes "/f") (codes "/g") ≡ Ok (Change (Rename (cod
 unfolding clap_on_literals
 moves = refl
 
-fills_at_most : five (codes "fill") (codes "/f") (codes "3") (codes "255") (codes "67108866") ≡ Ok (Fill (codes "/f") 3 255 67108865)
+fills_at_most : five (codes "fill") (codes "/f") (codes "3") (codes "255") (codes "67108866")
+    ≡ Ok (Fill (codes "/f") 3 255 67108865)
 unfolding clap_on_literals
 fills_at_most = refl
 
@@ -248,11 +259,13 @@ round_with_an_option = refl
 
 -- ---- ranges
 
-all_ranges : five (codes "rmcp") (codes "4") (codes "1..3") (codes "..2") (codes "5..") ≡ Ok (Rmcp false (One 4 ∷ Between 1 3 ∷ Between 1 2 ∷ Since 5 ∷ []))
+all_ranges : five (codes "rmcp") (codes "4") (codes "1..3") (codes "..2") (codes "5..")
+    ≡ Ok (Rmcp false (One 4 ∷ Between 1 3 ∷ Between 1 2 ∷ Since 5 ∷ []))
 unfolding clap_on_literals
 all_ranges = refl
 
-ranges_that_are_judged : four (codes "rmcp") (codes "0..3") (codes "..0") (codes "-f") ≡ Ok (Rmcp true (Between 0 3 ∷ Between 1 0 ∷ []))
+ranges_that_are_judged : four (codes "rmcp") (codes "0..3") (codes "..0") (codes "-f")
+    ≡ Ok (Rmcp true (Between 0 3 ∷ Between 1 0 ∷ []))
 unfolding clap_on_literals
 ranges_that_are_judged = refl
 

@@ -34,20 +34,25 @@ readable name.Ls word = refl
 readable name.Stat word = refl
 
 -- what is read by a command's rules
-pub read-by-rules : (n : CommandName) (word : Text) (words : List Text) (rules : List Rule) (result : Result (List Row) LineError) → rules ≡ rules_of n
+pub read-by-rules : (n : CommandName) (word : Text) (words : List Text) (rules : List Rule)
+    (result : Result (List Row) LineError)
+    → rules ≡ rules_of n
     → Reads word rules words result → IsUnless Memory result (parsed (grammar word (rules_of n)) words)
 read-by-rules n word words rules result is reads =
     let own = subst (λ (rs : List Rule). Reads word rs words result) is reads in
     own (readable n word)
 
 -- what the rows mean is refused where reading them is, with the same error
-pub refused-read : {B : Type 0} (expected : Result (List Row) LineError) (next : List Row → Result B LineError) (e : LineError) (result : Result B LineError)
+pub refused-read : {B : Type 0} (expected : Result (List Row) LineError)
+    (next : List Row → Result B LineError) (e : LineError) (result : Result B LineError)
     → result ≡ Err e → IsUnless Memory (Err e) expected → IsUnless Memory result (and_then expected next)
 refused-read expected next e result is read = λ other.
     is ∙ ap (λ (r : Result (List Row) LineError). and_then r next) (read (λ same. other (cc)))
 
 -- and else it is what the rows that were read mean
-pub meant-read : {B : Type 0} (expected : Result (List Row) LineError) (next : List Row → Result B LineError) (rows : List Row) (result : Result B LineError)
-    → IsUnless Memory (Ok rows) expected → IsUnless Memory result (next rows) → IsUnless Memory result (and_then expected next)
+pub meant-read : {B : Type 0} (expected : Result (List Row) LineError) (next : List Row → Result B LineError)
+    (rows : List Row) (result : Result B LineError)
+    → IsUnless Memory (Ok rows) expected → IsUnless Memory result (next rows)
+    → IsUnless Memory result (and_then expected next)
 meant-read expected next rows result read means = λ other.
     means other ∙ ap (λ (r : Result (List Row) LineError). and_then r next) (read (λ same. cc))

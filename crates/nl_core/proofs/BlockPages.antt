@@ -21,14 +21,16 @@ cut-spelled zero (x ∷ bytes) long = absurd (omega (arith, long))
 cut-spelled (suc n) bytes long =
     let dropped = length-drop 1024 bytes in
     let rest : length (drop 1024 bytes) ≡ 1024 * n = omega (arith, dropped, long, mul-suc 1024 n) in
-    sym (take-append-drop 1024 bytes) ∙ ap (λ (behind : List ℕ). take 1024 bytes ++ behind) (cut-spelled n (drop 1024 bytes) rest)
+    sym (take-append-drop 1024 bytes)
+    ∙ ap (λ (behind : List ℕ). take 1024 bytes ++ behind) (cut-spelled n (drop 1024 bytes) rest)
 
 -- the page of a number
 pub record IsPageAt (n : ℕ) (bytes : List ℕ) (b : ℕ) (page : List ℕ) : Type 0 where
   pub inside : b < n
   pub is : page ≡ take 1024 (drop (1024 * b) bytes)
 
-pub cut-at : (n : ℕ) (bytes : List ℕ) (b : ℕ) (page : List ℕ) → slice_get (cut_pages n bytes) b ≡ Some page → IsPageAt n bytes b page
+pub cut-at : (n : ℕ) (bytes : List ℕ) (b : ℕ) (page : List ℕ) → slice_get (cut_pages n bytes) b ≡ Some page
+    → IsPageAt n bytes b page
 cut-at zero bytes b page at = cc
 cut-at (suc n) bytes zero page at =
     let none : 0 ≡ 1024 * 0 = omega arith in
@@ -42,5 +44,7 @@ cut-at (suc n) bytes (suc b) page at =
     let within = behind.inside in
     record {
       inside = omega (arith, within);
-      is = behind.is ∙ (ap (take 1024) (drop-drop (1024 * b) 1024 bytes) ∙ ap (λ (k : ℕ). take 1024 (drop k bytes)) on);
+      is =
+          behind.is
+          ∙ (ap (take 1024) (drop-drop (1024 * b) 1024 bytes) ∙ ap (λ (k : ℕ). take 1024 (drop k bytes)) on);
     }

@@ -61,7 +61,8 @@ within-limits holding sound = record {
   sizes = λ i bytes is. size i (holding i) bytes refl is;
 }
   where
-    number : (i : ℕ) (o : Option Held) (c : InodeContent) → holding i ≡ o → option_map inode_content o ≡ Some c
+    number : (i : ℕ) (o : Option Held) (c : InodeContent) → holding i ≡ o
+        → option_map inode_content o ≡ Some c
         → (i ≡ root_inode) ⊎ ((first_inode ≤ i) × (i ≤ last_inode))
     number i None c at is = cc
     number i (Some held) c at is = sound.inode_numbers i held at
@@ -71,8 +72,11 @@ within-limits holding sound = record {
     name i None records n link at is l = cc
     name i (Some (Stored size blocks)) records n link at is l = cc
     name i (Some (Listed rs)) records n link at is l =
-        let same : entry_of n rs ≡ records n = ap (λ (o : Option InodeContent). option_and_then (λ c. records_in c n) o) is in
-        let r = named-found (λ (x : Record). IsTrue (is_name x.name) × IsInodeNumber x.inode) rs n link (sound.each i (Listed rs) at).names
+        let same : entry_of n rs ≡ records n =
+        ap (λ (o : Option InodeContent). option_and_then (λ c. records_in c n) o) is in
+        let r =
+        named-found (λ (x : Record). IsTrue (is_name x.name) × IsInodeNumber x.inode) rs n link
+        (sound.each i (Listed rs) at).names
         (same ∙ l) in
         subst (λ (m : Name). IsTrue (is_name m)) (sym r.2) r.1.0
 
@@ -115,10 +119,15 @@ module _ (pages : Pages) where
     minor = refl;
     stamp = refl;
     inodes = sym t.means.count;
-    tree = record { held = t.holding; holds = t.holds; means = record { sound = t.holds.sound; means = t.means.means } };
+    tree = record {
+      held = t.holding;
+      holds = t.holds;
+      means = record { sound = t.holds.sound; means = t.means.means };
+    };
   }
 
-  pub copies-mean : (kept : List Checkpoint) (h : AllByRecursion HasTree kept) → AllZip (CopyMeans pages) kept (copies_of kept h)
+  pub copies-mean : (kept : List Checkpoint) (h : AllByRecursion HasTree kept)
+      → AllZip (CopyMeans pages) kept (copies_of kept h)
   unfolding copies_of
   copies-mean [] h = tt
   copies-mean (c ∷ kept) h = (copy-means c h.0, copies-mean kept h.1)
@@ -130,7 +139,8 @@ module _ (pages : Pages) where
   unfolding copies_of copy_of
   below-copies n [] h low = refl
   below-copies n (c ∷ kept) h low =
-      and_from (is_lt (nat_cmp n c.number)) _ (before-is n c.number ∙ lt-ltb n c.number low.0) (below-copies n kept h.1 low.1)
+      and_from (is_lt (nat_cmp n c.number)) _ (before-is n c.number ∙ lt-ltb n c.number low.0)
+      (below-copies n kept h.1 low.1)
 
   above : (a : Checkpoint) (kept : List Checkpoint) → AllByRecursion (Precedes a) kept
       → AllByRecursion (λ (c : Checkpoint). a.number < c.number) kept
@@ -142,10 +152,12 @@ module _ (pages : Pages) where
   unfolding copies_of copy_of
   copies-sorted [] h r = refl
   copies-sorted (c ∷ kept) h r =
-      and_from (below_all nat_cmp c.number (copies_of kept h.1)) _ (below-copies c.number kept h.1 (above c kept r.0))
+      and_from (below_all nat_cmp c.number (copies_of kept h.1)) _
+      (below-copies c.number kept h.1 (above c kept r.0))
       (copies-sorted kept h.1 r.1)
 
-  stamps-above : (a : Checkpoint) (kept : List Checkpoint) (h : AllByRecursion HasTree kept) → AllByRecursion (Precedes a) kept
+  stamps-above : (a : Checkpoint) (kept : List Checkpoint) (h : AllByRecursion HasTree kept)
+      → AllByRecursion (Precedes a) kept
       → list_all (λ d. leb a.stamp d.1.stamp) (copies_of kept h) ≡ true
   unfolding copies_of copy_of
   stamps-above a [] h p = refl
@@ -178,47 +190,59 @@ module _ (pages : Pages) where
       → AllByRecursion (λ (c : Checkpoint). c.number < k) kept → AllBelow k (copies_of kept h)
   unfolding copies_of copy_of
   copies-below k [] h low = refl
-  copies-below k (c ∷ kept) h low = and_from (ltb c.number k) _ (lt-ltb c.number k low.0) (copies-below k kept h.1 low.1)
+  copies-below k (c ∷ kept) h low =
+      and_from (ltb c.number k) _ (lt-ltb c.number k low.0) (copies-below k kept h.1 low.1)
 
   -- ---- the last one
 
-  first_trees : (earlier : List Checkpoint) (c : Checkpoint) → AllByRecursion HasTree (earlier ++ c ∷ []) → AllByRecursion HasTree earlier
+  first_trees : (earlier : List Checkpoint) (c : Checkpoint) → AllByRecursion HasTree (earlier ++ c ∷ [])
+      → AllByRecursion HasTree earlier
   first_trees [] c h = tt
   first_trees (x ∷ earlier) c h = (h.0, first_trees earlier c h.1)
 
-  pub last_tree : (earlier : List Checkpoint) (c : Checkpoint) → AllByRecursion HasTree (earlier ++ c ∷ []) → HasTree c
+  pub last_tree : (earlier : List Checkpoint) (c : Checkpoint) → AllByRecursion HasTree (earlier ++ c ∷ [])
+      → HasTree c
   last_tree [] c h = h.0
   last_tree (x ∷ earlier) c h = last_tree earlier c h.1
 
   copies-push : (earlier : List Checkpoint) (c : Checkpoint) (h : AllByRecursion HasTree (earlier ++ c ∷ []))
-      → copies_of (earlier ++ c ∷ []) h ≡ copies_of earlier (first_trees earlier c h) ++ (c.number, copy_of c (last_tree earlier c h)) ∷ []
+      → copies_of (earlier ++ c ∷ []) h
+      ≡ copies_of earlier (first_trees earlier c h) ++ (c.number, copy_of c (last_tree earlier c h)) ∷ []
   unfolding copies_of first_trees last_tree
   copies-push [] c h = refl
-  copies-push (x ∷ earlier) c h = ap (λ (cs : List (ℕ × Copy)). (x.number, copy_of x h.0) ∷ cs) (copies-push earlier c h.1)
+  copies-push (x ∷ earlier) c h =
+      ap (λ (cs : List (ℕ × Copy)). (x.number, copy_of x h.0) ∷ cs) (copies-push earlier c h.1)
 
   -- the copy of the greatest number is the last one
-  pub copies-last : (earlier : List Checkpoint) (c : Checkpoint) (h : AllByRecursion HasTree (earlier ++ c ∷ []))
+  pub copies-last : (earlier : List Checkpoint) (c : Checkpoint)
+      (h : AllByRecursion HasTree (earlier ++ c ∷ []))
       → AllByRecursion (λ (x : Checkpoint). x.number < c.number) earlier
       → find nat_cmp (greatest (numbers (copies_of (earlier ++ c ∷ []) h))) (copies_of (earlier ++ c ∷ []) h)
       ≡ Some (copy_of c (last_tree earlier c h))
   copies-last earlier c h low =
-      subst (λ (cs : List (ℕ × Copy)). find nat_cmp (greatest (numbers cs)) cs ≡ Some copy) (sym (copies-push earlier c h))
-      (pushed (copies_of earlier (first_trees earlier c h)) (copies-below c.number earlier (first_trees earlier c h) low))
+      subst (λ (cs : List (ℕ × Copy)). find nat_cmp (greatest (numbers cs)) cs ≡ Some copy)
+      (sym (copies-push earlier c h))
+      (pushed (copies_of earlier (first_trees earlier c h))
+      (copies-below c.number earlier (first_trees earlier c h) low))
     where
       copy : Copy
       copy = copy_of c (last_tree earlier c h)
 
       pushed : (others : List (ℕ × Copy)) → AllBelow c.number others
-          → find nat_cmp (greatest (numbers (others ++ (c.number, copy) ∷ []))) (others ++ (c.number, copy) ∷ []) ≡ Some copy
+          → find nat_cmp (greatest (numbers (others ++ (c.number, copy) ∷ [])))
+          (others ++ (c.number, copy) ∷ [])
+          ≡ Some copy
       pushed others below =
-          ap (λ (n : ℕ). find nat_cmp n (others ++ (c.number, copy) ∷ [])) (top-push others c.number copy below)
+          ap (λ (n : ℕ). find nat_cmp n (others ++ (c.number, copy) ∷ []))
+          (top-push others c.number copy below)
           ∙ find-push_same others c.number copy below
 
   -- ---- their trees
 
   module _ (limited : LimitedInodesMeanTrees) where
     pub is-tree : (c : Checkpoint) (t : HasTree c) → IsTree t.tree
-    is-tree c t = limited (inodes_of_holding t.holding) t.tree t.means.means (within-limits t.holding t.holds.sound)
+    is-tree c t =
+        limited (inodes_of_holding t.holding) t.tree t.means.means (within-limits t.holding t.holds.sound)
 
     -- a tree has the root, so there is an inode
     pub some-inode : (c : Checkpoint) → HasTree c → 1 ≤ c.inodes
@@ -233,9 +257,11 @@ module _ (pages : Pages) where
         → ForSome (find nat_cmp n (copies_of kept h)) (λ copy. IsTree copy.tree)
     unfolding copies_of copy_of
     found-tree [] h n copy is = cc
-    found-tree (c ∷ kept) h n copy is = by (eq_by_cmp nat_cmp n c.number) is (λ k. found-tree kept h.1 n copy k)
+    found-tree (c ∷ kept) h n copy is =
+        by (eq_by_cmp nat_cmp n c.number) is (λ k. found-tree kept h.1 n copy k)
       where
         by : (b : Bool) → cond b (Some (copy_of c h.0)) (find nat_cmp n (copies_of kept h.1)) ≡ Some copy
             → (find nat_cmp n (copies_of kept h.1) ≡ Some copy → IsTree copy.tree) → IsTree copy.tree
-        by true e more = let same : copy_of c h.0 ≡ copy = cc in subst (λ (x : Copy). IsTree x.tree) same (is-tree c h.0)
+        by true e more =
+            let same : copy_of c h.0 ≡ copy = cc in subst (λ (x : Copy). IsTree x.tree) same (is-tree c h.0)
         by false e more = more e

@@ -33,26 +33,36 @@ use Rattle.nl_core.specs.Facts.Settlings.{births-alike, count-items}
 
 -- ---- one that is done
 
-module _ (old new : Layout) (mode : Mode) (moment : ℕ) (pen : IsPen old) (writes : HasWrittenCheckpoint mode moment old new) where
+module _ (old new : Layout) (mode : Mode) (moment : ℕ) (pen : IsPen old)
+    (writes : HasWrittenCheckpoint mode moment old new) where
   -- where it leads from a world
-  follows-written : StepsWorlds unshared old (event.Checkpoint mode moment) (Ok (answer.Checkpoint new.lists.table.latest.number)) new
+  follows-written : StepsWorlds unshared old (event.Checkpoint mode moment)
+      (Ok (answer.Checkpoint new.lists.table.latest.number)) new
   follows-written w means =
       let done = event.Checkpoint mode moment in
       let given = cleaned old done in
       let reply : Reply = Ok (answer.Checkpoint new.lists.table.latest.number) in
       let next = means-published old new mode moment pen.sound writes given w means in
-      record { after = next.0; means = next.1 (steps_keep_worlds given reply w next.0 done means.world next.2); step = inl next.2 }
+      record {
+        after = next.0;
+        means = next.1 (steps_keep_worlds given reply w next.0 done means.world next.2);
+        step = inl next.2;
+      }
 
   -- all that it does
   pub does-written : IsStore new.store → old.store.failures ≤ new.store.failures
-      → Does unshared old (event.Checkpoint mode moment) (Ok (answer.Checkpoint new.lists.table.latest.number)) new
+      → Does unshared old (event.Checkpoint mode moment)
+      (Ok (answer.Checkpoint new.lists.table.latest.number)) new
   does-written is_store counted =
       let w = pen.world.0 in
       let tree = pen.world.1.tree in
       let stands = stands-latest old pen.sound w.tree tree in
       record {
         follows = follows-written;
-        becomes = record { writes = writes; differs = differs-behind old new mode moment pen.sound tree.base w.tree stands writes };
+        becomes = record {
+          writes = writes;
+          differs = differs-behind old new mode moment pen.sound tree.base w.tree stands writes;
+        };
         numbers = numbers-behind old new mode moment pen.sound tree.base w.tree stands writes;
         pen = record {
           world = let next = follows-written w pen.world.1 in (next.after, next.means);
@@ -68,7 +78,8 @@ spent : (given : Reply) (l : Layout) (w : World) (mode : Mode) (moment : ℕ) �
     → checkpoint_number_limit ≤ l.lists.table.latest.number + 1
     → step given w (event.Checkpoint mode moment) ≡ (Err error.NumbersSpent, w)
 spent given l w mode moment means over =
-    let number : latest w ≡ l.lists.table.latest.number = latest-means (pages_of (content_in l.store)) l.lists w means in
+    let number : latest w ≡ l.lists.table.latest.number =
+    latest-means (pages_of (content_in l.store)) l.lists w means in
     cond-true (nat_le checkpoint_number_limit (latest w + 1)) _ _
     (le-leb checkpoint_number_limit (latest w + 1) (omega (arith, number, over)))
 
@@ -136,7 +147,8 @@ module _ (old new : Layout) (mode : Mode) (moment : ℕ) (pen : IsPen old)
       let broken = fault.store.broken_off in
       let logs = broken.written ++ broken.failed ∷ broken.left in
       let count : length (items_of fault.settled.changes.births) ≡ length lacks.settled.changes.births =
-      count-items fault.settled.changes ∙ births-alike old pen.sound fault.root lacks.root fault.settled lacks.settled in
+      count-items fault.settled.changes
+      ∙ births-alike old pen.sound fault.root lacks.root fault.settled lacks.settled in
       lacks.lacks logs (subst (λ (n : ℕ). placing.LogsFit old.store.segments true n logs) count broken.fits)
 
   abbrev AreSound : Pages → List Checkpoint → Type 0
@@ -145,11 +157,18 @@ module _ (old new : Layout) (mode : Mode) (moment : ℕ) (pen : IsPen old)
   sound-same : IsStore new.store → IsSoundPen new
   sound-same is_store = record {
     ledger = subst IsLedger (sym ledger-same) pen.sound.ledger;
-    trees_sound = subst (λ (l : Lists). AreSound (pages_of (content_in new.store)) (kept_by l)) (sym fault.lists)
-        (subst (λ (content : Content). AreSound (pages_of content) (kept_by old.lists)) (sym content-same) pen.sound.trees_sound);
-    latest = subst (λ (l : Lists). find nat_cmp l.table.latest.number (map by_number (kept_by l)) ≡ Some l.table.latest) (sym fault.lists)
+    trees_sound =
+        subst (λ (l : Lists). AreSound (pages_of (content_in new.store)) (kept_by l)) (sym fault.lists)
+        (subst (λ (content : Content). AreSound (pages_of content) (kept_by old.lists))
+        (sym content-same) pen.sound.trees_sound);
+    latest =
+        subst (λ (l : Lists).
+        find nat_cmp l.table.latest.number (map by_number (kept_by l)) ≡ Some l.table.latest)
+        (sym fault.lists)
         pen.sound.latest;
-    last = subst (λ (l : Lists). l.table.latest.number < checkpoint_number_limit) (sym fault.lists) pen.sound.last;
+    last =
+        subst (λ (l : Lists). l.table.latest.number < checkpoint_number_limit)
+        (sym fault.lists) pen.sound.last;
     store = is_store;
   }
 
@@ -158,7 +177,13 @@ module _ (old new : Layout) (mode : Mode) (moment : ℕ) (pen : IsPen old)
     follows = λ w means. record {
       after = w;
       means = means-same w means;
-      step = inr (record { error = error.Fault; reply_is = refl; may_be = (tt, (space-there, fault.store.failures, fault.store.writes)); unchanged = refl });
+      step =
+          inr (record {
+            error = error.Fault;
+            reply_is = refl;
+            may_be = (tt, (space-there, fault.store.failures, fault.store.writes));
+            unchanged = refl;
+          });
     };
     becomes = fault;
     numbers = same-numbers old new ledger-same;
@@ -171,5 +196,7 @@ module _ (old new : Layout) (mode : Mode) (moment : ℕ) (pen : IsPen old)
 pub does-refused : (old new : Layout) (mode : Mode) (moment : ℕ) (e : VolError) → IsPen old
     → HasRefused (event.Checkpoint mode moment) e old new → IsStore new.store
     → Does unshared old (event.Checkpoint mode moment) (Err e) new
-does-refused old new mode moment error.Fault pen refused is_store = does-faulted old new mode moment pen refused is_store
-does-refused old new mode moment e pen refused is_store = does-unwritten old new mode moment e pen refused.1 refused.0
+does-refused old new mode moment error.Fault pen refused is_store =
+    does-faulted old new mode moment pen refused is_store
+does-refused old new mode moment e pen refused is_store =
+    does-unwritten old new mode moment e pen refused.1 refused.0

@@ -33,7 +33,9 @@ stands-alone : (pages : Pages) (root : Root) → IsShaped pages root → StandsA
 stands-alone pages root s = record {
   shape = s.files Itself;
   once = λ a b v h k.
-      let e = s.once (record { owner = Itself; level = a.0; offset = a.1 }) (record { owner = Itself; level = b.0; offset = b.1 }) v h k in
+      let e =
+      s.once (record { owner = Itself; level = a.0; offset = a.1 })
+      (record { owner = Itself; level = b.0; offset = b.1 }) v h k in
       ap (λ (x : At). (x.level, x.offset)) e;
 }
 
@@ -43,13 +45,18 @@ have-sizes l pen i d low =
     let c : Checkpoint = get_or (kept_by l.lists) i d in
     let means = pen.world.1 in
     let holds = all-held l (kept_by l.lists) pen.world.0.copies means.copies i d low in
-    let at = found-own (layout_pages l) (kept_by l.lists) pen.world.0.copies means.copies means.world.numbers_rise i d low in
+    let at =
+    found-own (layout_pages l)
+    (kept_by l.lists) pen.world.0.copies means.copies means.world.numbers_rise i d low in
     stands-alone (layout_pages l) (root_of (checkpoint_root c))
-    (sound_checkpoints_are_shaped (content_in l.store) c.number (root_of (checkpoint_root c)) holds.0 (pen.sound.trees_sound i d low) holds.1
-    (pen.sound.ledger.exact c.number (reached_by (layout_pages l) c) (ap (option_map (reached_by (layout_pages l))) at)))
+    (sound_checkpoints_are_shaped (content_in l.store) c.number (root_of (checkpoint_root c)) holds.0
+    (pen.sound.trees_sound i d low) holds.1
+    (pen.sound.ledger.exact c.number (reached_by (layout_pages l) c)
+    (ap (option_map (reached_by (layout_pages l))) at)))
 
 -- those before the latest checkpoint have sizes, and it has one
-pub table-sizes : (pages : Pages) (t : Table) (earlier : List Checkpoint) (latest : Checkpoint) → earlier ≡ t.earlier
+pub table-sizes : (pages : Pages) (t : Table) (earlier : List Checkpoint) (latest : Checkpoint)
+    → earlier ≡ t.earlier
     → latest ≡ t.latest → HaveSizes pages (all t) → HaveSizes pages earlier × HasSize pages latest
 table-sizes pages t earlier latest before last sizes =
     rw (before, last) (All-pop (HasSize pages) (all t) t.earlier (Some t.latest) refl sizes)
@@ -57,7 +64,8 @@ table-sizes pages t earlier latest before last sizes =
 -- and their entries are those of all
 pub table-sized : (pages : Pages) (t : Table) (earlier : List Checkpoint) (latest : Checkpoint)
     (entries : List CheckpointEntry) (entry : CheckpointEntry) → earlier ≡ t.earlier → latest ≡ t.latest
-    → AreSized pages earlier entries → IsSizedEntry pages latest entry → AreSized pages (all t) (entries ++ entry ∷ [])
+    → AreSized pages earlier entries → IsSizedEntry pages latest entry
+    → AreSized pages (all t) (entries ++ entry ∷ [])
 table-sized pages t earlier latest entries entry before last each is =
     rw (sym before, sym last) (zip_push (IsSizedEntry pages) earlier entries latest entry each is)
 
@@ -65,17 +73,20 @@ table-sized pages t earlier latest entries entry before last each is =
 pub within-capacity : (s : Store) → IsStore s → (v : ℕ) → IsSome (pages_of (content_in s) v) → v ≤ capacity s
 within-capacity s is v some = by (numbered_in s v) refl some
   where
-    by : (o : Option Numbered) → numbered_in s v ≡ o → IsSome (option_map (λ (e : Entry). e.page) (option_map entry_now o)) → v ≤ capacity s
+    by : (o : Option Numbered) → numbered_in s v ≡ o
+        → IsSome (option_map (λ (e : Entry). e.page) (option_map entry_now o)) → v ≤ capacity s
     by None at h = cc
     by (Some n) at h = (is.numbers v n.block (ap (option_map block_now) at)).1
 
 -- ---- numbers
 
-module _ (s : Store) (latest : ℕ) (is : IsStore s) (bounded : IsBounded (content_in s) latest) (low : latest < checkpoint_number_limit) where
+module _ (s : Store) (latest : ℕ) (is : IsStore s) (bounded : IsBounded (content_in s) latest)
+    (low : latest < checkpoint_number_limit) where
   entry-fits : (v : ℕ) (n : Numbered) → numbered_in s v ≡ Some n → NumberHasSpelling (dat_entry_of n)
   entry-fits v n at =
       let entry : content_in s v ≡ Some n.entry = ap (option_map entry_now) at in
-      let inside = used_inside s.segments n.block is.limits.tidy (is.used v n.block (ap (option_map block_now) at)) in
+      let inside =
+      used_inside s.segments n.block is.limits.tidy (is.used v n.block (ap (option_map block_now) at)) in
       let most = is.limits.geometry.most in
       record {
         block = omega (arith, inside, most);
@@ -89,32 +100,40 @@ module _ (s : Store) (latest : ℕ) (is : IsStore s) (bounded : IsBounded (conte
   number-fits v (Some n) at = entry-fits v n at
 
   -- those from a number on
-  rest-fits : (first : ℕ) (rest : List (Option Numbered)) → ((i : ℕ) → numbered_in s (first + i) ≡ slice_index_or rest i None)
+  rest-fits : (first : ℕ) (rest : List (Option Numbered))
+      → ((i : ℕ) → numbered_in s (first + i) ≡ slice_index_or rest i None)
       → All HasSpelling (map (option_map dat_entry_of) rest)
   rest-fits first [] each = All-nil HasSpelling
   rest-fits first (o ∷ rest) each =
       let here : first + 0 ≡ first = omega arith in
       All-cons HasSpelling (option_map dat_entry_of o) (map (option_map dat_entry_of) rest)
       (number-fits first o (ap (numbered_in s) (sym here) ∙ each 0))
-      (rest-fits (suc first) rest (λ i. let next : suc first + i ≡ first + suc i = omega arith in ap (numbered_in s) next ∙ each (suc i)))
+      (rest-fits (suc first) rest
+      (λ i.
+      let next : suc first + i ≡ first + suc i = omega arith in ap (numbered_in s) next ∙ each (suc i)))
 
   all-fit : All HasSpelling (numbers_shown s)
   all-fit = by s.numbers refl
     where
-      by : (numbers : List (Option Numbered)) → s.numbers ≡ numbers → All HasSpelling (map (option_map dat_entry_of) (drop 1 numbers))
+      by : (numbers : List (Option Numbered)) → s.numbers ≡ numbers
+          → All HasSpelling (map (option_map dat_entry_of) (drop 1 numbers))
       by [] at = All-nil HasSpelling
       by (o ∷ rest) at = rest-fits 1 rest (λ i.
           let next : 1 + i ≡ suc i = omega arith in
-          ap (numbered_in s) next ∙ ap (λ (numbers : List (Option Numbered)). slice_index_or numbers (suc i) None) at)
+          ap (numbered_in s) next
+          ∙ ap (λ (numbers : List (Option Numbered)). slice_index_or numbers (suc i) None) at)
 
 -- all numbers of a pen have a spelling
 pub numbers-fit : (l : Layout) → IsPen l → All HasSpelling (numbers_shown l.store)
-numbers-fit l pen = all-fit l.store l.lists.table.latest.number pen.sound.store pen.sound.ledger.bounded pen.sound.last
+numbers-fit l pen =
+    all-fit l.store l.lists.table.latest.number pen.sound.store pen.sound.ledger.bounded pen.sound.last
 
 -- ---- what was read leaves
 
 -- a pen of which blocks were read alone is one still
-pub pen-read : (lists : Lists) (old new : Store) → IsPen (layout_of lists old) → IsStore new → KeepsStored old new
+pub pen-read : (lists : Lists) (old new : Store) → IsPen (layout_of lists old) → IsStore new
+    → KeepsStored old new
     → IsPen (layout_of lists new)
 pen-read lists old new pen is_store same =
-    (same-content (layout_of lists old) (layout_of lists new) pen refl is_store (content-of old new same.numbers)).pen
+    (same-content (layout_of lists old) (layout_of lists new) pen refl is_store
+    (content-of old new same.numbers)).pen

@@ -41,21 +41,27 @@ module _ (lists : Lists) (store : Store) (mode : Mode) (moment : ℕ) (draft : D
         limit = drafted.left;
       }))
 
-  module _ (lowest : SettledNumbersAreLowest) (now : Lists) (after : Store) (is : now ≡ published draft.checkpoint lists)
+  module _ (lowest : SettledNumbersAreLowest) (now : Lists) (after : Store)
+      (is : now ≡ published draft.checkpoint lists)
       (written : IsWritten draft.checkpoint.number draft.checkpoint.stamp draft.batch store after) where
     -- the batch is written, and the checkpoint is kept
-    abbrev writes-draft : HasWrittenCheckpoint mode moment (layout_of lists store) (layout_of (published draft.checkpoint lists) after)
+    abbrev writes-draft : HasWrittenCheckpoint mode moment (layout_of lists store)
+        (layout_of (published draft.checkpoint lists) after)
     writes-draft = record {
       left = drafted.left;
       settled = settled-draft;
-      lowest_free = lowest (content_in store) (root_of (latest_root lists)) (root_of (checkpoint_root draft.checkpoint))
+      lowest_free =
+          lowest (content_in store) (root_of (latest_root lists)) (root_of (checkpoint_root draft.checkpoint))
           lists.current.became can.2 draft.batch (drafted.settles can.1 can.2 can.3);
       lists = ap (λ (c : Checkpoint). published c lists) drafted.checkpoint;
       written = written;
     }
 
     pub written-draft : HasWrittenBatch mode moment draft.batch (layout_of lists store) (layout_of now after)
-    written-draft = subst (λ (ls : Lists). HasWrittenBatch mode moment draft.batch (layout_of lists store) (layout_of ls after)) (sym is)
+    written-draft =
+        subst (λ (ls : Lists).
+        HasWrittenBatch mode moment draft.batch (layout_of lists store) (layout_of ls after))
+        (sym is)
         (record { writes = writes-draft; batch_is = refl })
 
     -- and it is noted
@@ -63,7 +69,9 @@ module _ (lists : Lists) (store : Store) (mode : Mode) (moment : ℕ) (draft : D
         → commit ≡ Written (new_checkpoint draft.batch draft.checkpoint) → notes ≡ before ++ commit ∷ []
         → HasNotedWrite mode moment draft.batch (layout_of lists store) (layout_of now after) before notes
     noted-draft before notes commit told behind =
-        subst (λ (ls : Lists). HasNotedWrite mode moment draft.batch (layout_of lists store) (layout_of ls after) before notes) (sym is) (record {
+        subst (λ (ls : Lists).
+        HasNotedWrite mode moment draft.batch (layout_of lists store) (layout_of ls after) before notes)
+        (sym is) (record {
           writes = writes-draft;
           batch_is = refl;
           behind = behind ∙ ap (λ (c : Commit). before ++ c ∷ []) told;
@@ -71,17 +79,37 @@ module _ (lists : Lists) (store : Store) (mode : Mode) (moment : ℕ) (draft : D
 
   -- the batch is not written
   refused : (e : VolError) (after : Store)
-      → IsWriteRefused (lists.table.latest.number + 1) (max moment lists.table.latest.stamp) draft.batch store after e
+      → IsWriteRefused (lists.table.latest.number + 1)
+      (max moment lists.table.latest.stamp) draft.batch store after e
       → HasRefused (event.Checkpoint mode moment) e (layout_of lists store) (layout_of lists after)
-  refused error.NoSpace after why =
-      (ap (layout_of lists) why.1, (drafted.left, record { root = checkpoint_root draft.checkpoint; settled = settled-draft; lacks = why.0 }))
+  refused error.NoSpace after why = (
+    ap (layout_of lists) why.1,
+    (
+      drafted.left,
+      record {
+        root = checkpoint_root draft.checkpoint;
+        settled = settled-draft;
+        lacks = why.0;
+      },
+    ),
+  )
   refused error.Memory after why = (ap (layout_of lists) why, drafted.left)
-  refused error.Fault after why = record { left = drafted.left; lists = refl; root = checkpoint_root draft.checkpoint; settled = settled-draft; store = why }
+  refused error.Fault after why = record {
+    left = drafted.left;
+    lists = refl;
+    root = checkpoint_root draft.checkpoint;
+    settled = settled-draft;
+    store = why;
+  }
   refused _ after why = absurd why
 
   pub refused-draft : (e : VolError) (now : Lists) (after : Store) → now ≡ lists
       → IsWriteRefused draft.checkpoint.number draft.checkpoint.stamp draft.batch store after e
       → HasRefused (event.Checkpoint mode moment) e (layout_of lists store) (layout_of now after)
   refused-draft e now after same why =
-      subst (λ (ls : Lists). HasRefused (event.Checkpoint mode moment) e (layout_of lists store) (layout_of ls after)) (sym same)
-      (refused e after (subst (λ (c : Checkpoint). IsWriteRefused c.number c.stamp draft.batch store after e) drafted.checkpoint why))
+      subst (λ (ls : Lists).
+      HasRefused (event.Checkpoint mode moment) e (layout_of lists store) (layout_of ls after))
+      (sym same)
+      (refused e after
+      (subst (λ (c : Checkpoint). IsWriteRefused c.number c.stamp draft.batch store after e)
+      drafted.checkpoint why))

@@ -25,29 +25,39 @@ use Rattle.nl_core.specs.Facts.CountedPens.{written-over}
 use Rattle.nl_core.specs.Facts.Checkpoints.{number-next}
 use Rattle.nl_core.proofs.Formats.{none-in-use, sound-before, stands-before}
 
-module _ (geometry : Geometry) (device : DevicePages) (failures : Failures) (old new : Layout) (now : ℕ) (batch : Changes)
-    (is-blank : old ≡ blank_layout geometry device failures) (has : HasWrittenBatch Plain now batch old new) where
+module _ (geometry : Geometry) (device : DevicePages) (failures : Failures) (old new : Layout) (now : ℕ)
+    (batch : Changes)
+    (is-blank : old ≡ blank_layout geometry device failures)
+    (has : HasWrittenBatch Plain now batch old new) where
   -- before it nothing is counted, whatever room is made
-  pub blank-counted : UnusedStoresAreCounted → (c d : Counted) → IsStore old.store → c.counts ≡ replicate (length old.store.segments.each) 0 → c.ends ≡ []
-      → ((s : Store) (kept : List ℕ) → IsCounted s kept c → IsCounted s kept d) → IsCounted old.store (0 ∷ []) d
+  pub blank-counted : UnusedStoresAreCounted → (c d : Counted) → IsStore old.store
+      → c.counts ≡ replicate (length old.store.segments.each) 0 → c.ends ≡ []
+      → ((s : Store) (kept : List ℕ) → IsCounted s kept c → IsCounted s kept d)
+      → IsCounted old.store (0 ∷ []) d
   blank-counted unused c d old_store none no_ends room =
-      room old.store (0 ∷ []) (unused old.store (0 ∷ []) c old_store (none-in-use geometry device failures old is-blank) none no_ends)
+      room old.store (0 ∷ [])
+      (unused old.store (0 ∷ []) c old_store
+      (none-in-use geometry device failures old is-blank) none no_ends)
 
   -- the first checkpoint comes next to the blank one
-  pub first-written : IsStore old.store → (number : ℕ) → number ≡ new.lists.table.latest.number → IsNextWritten number batch (0 ∷ []) old.store new.store
+  pub first-written : IsStore old.store → (number : ℕ) → number ≡ new.lists.table.latest.number
+      → IsNextWritten number batch (0 ∷ []) old.store new.store
   first-written old_store number is =
       subst (λ (n : ℕ). IsNextWritten n batch (0 ∷ []) old.store new.store) (sym is)
-      (subst (λ (l : Layout). IsNextWritten new.lists.table.latest.number batch (0 ∷ []) l.store new.store) (sym is-blank)
+      (subst (λ (l : Layout). IsNextWritten new.lists.table.latest.number batch (0 ∷ []) l.store new.store)
+      (sym is-blank)
       (written-over (blank_layout geometry device failures) new Plain now batch
       (subst (λ (l : Layout). HasWrittenBatch Plain now batch l new) is-blank has)
       (sound-before geometry device failures (subst (λ (l : Layout). IsStore l.store) is-blank old_store))
       nothing_held root_alone (stands-before geometry device failures)))
 
   first-number : new.lists.table.latest.number ≡ 1
-  first-number = number-next old new Plain now has.writes ∙ ap (λ (l : Layout). l.lists.table.latest.number + 1) is-blank
+  first-number =
+      number-next old new Plain now has.writes ∙ ap (λ (l : Layout). l.lists.table.latest.number + 1) is-blank
 
   -- and then the blank one goes
-  pub blank-gone : (left : Lists) (first next number : ℕ) → left ≡ latest_alone new.lists → first ≡ 0 → next ≡ 1 → number ≡ new.lists.table.latest.number
+  pub blank-gone : (left : Lists) (first next number : ℕ) → left ≡ latest_alone new.lists → first ≡ 0
+      → next ≡ 1 → number ≡ new.lists.table.latest.number
       → AreGone first next ((0 ∷ []) ++ number ∷ []) (kept_numbers left)
   blank-gone left first next number is from to same =
       subst (λ (m : ℕ). AreGone first next (0 ∷ m ∷ []) (kept_numbers left)) (sym same)
@@ -64,8 +74,11 @@ module _ (geometry : Geometry) (device : DevicePages) (failures : Failures) (old
       n = new.lists.table.latest.number
 
 -- a blank volume has as many segments as its geometry says
-pub as-many-segments : (geometry : Geometry) (device : DevicePages) (failures : Failures) (old : Layout) → old ≡ blank_layout geometry device failures
-    → (counts : List ℕ) → counts ≡ replicate geometry.segments 0 → counts ≡ replicate (length old.store.segments.each) 0
+pub as-many-segments : (geometry : Geometry) (device : DevicePages) (failures : Failures) (old : Layout)
+    → old ≡ blank_layout geometry device failures
+    → (counts : List ℕ) → counts ≡ replicate geometry.segments 0
+    → counts ≡ replicate (length old.store.segments.each) 0
 as-many-segments geometry device failures old is counts zeros =
     zeros ∙ ap (λ (n : ℕ). replicate n 0)
-    (sym (ap (λ (l : Layout). length l.store.segments.each) is ∙ length-replicate geometry.segments clean_info))
+    (sym (ap (λ (l : Layout). length l.store.segments.each) is
+    ∙ length-replicate geometry.segments clean_info))

@@ -23,21 +23,25 @@ count-clean (suc count) i = ap (λ n. suc n) (count-clean count (suc i))
 
 -- segment 0 may be taken where two other clean ones are left
 first-free : (count : ℕ) → 3 ≤ count
-    → (free : List ℕ) × (take (length (clean_from 0 (clean count)) - 2) (clean_from 0 (clean count)) ≡ 0 ∷ free)
+    → (free : List ℕ)
+    × (take (length (clean_from 0 (clean count)) - 2) (clean_from 0 (clean count)) ≡ 0 ∷ free)
 first-free zero low = absurd (omega (arith, low))
 first-free (suc count) low =
-    let left : suc (length (clean_from 1 (clean count))) - 2 ≡ suc (count - 2) = omega (arith, low, count-clean count 1) in
+    let left : suc (length (clean_from 1 (clean count))) - 2 ≡ suc (count - 2) =
+    omega (arith, low, count-clean count 1) in
     (take (count - 2) (clean_from 1 (clean count)), ap (λ n. take n (0 ∷ clean_from 1 (clean count))) left)
 
 -- no block takes no log, and one or two take one
 one-log : (blocks : ℕ) (free : List ℕ) (n : ℕ) → 4 ≤ blocks → n ≤ 2
     → (logs : List Log) × GoOn blocks None (0 ∷ free) n logs
-one-log blocks free zero room few = ([], record { each = tt; total = refl; filled = tt; in_row = tt; taken = tt })
+one-log blocks free zero room few =
+    ([], record { each = tt; total = refl; filled = tt; in_row = tt; taken = tt })
 one-log blocks free (suc n) room few =
     let log : Log = record { segment = 0; first = 0; count = suc n } in (
       log ∷ [],
       record {
-        each = (record { some = omega arith; most = omega (arith, few); inside = omega (arith, room, few) }, tt);
+        each =
+            (record { some = omega arith; most = omega (arith, few); inside = omega (arith, room, few) }, tt);
         total = omega arith;
         filled = tt;
         in_row = (refl, tt);

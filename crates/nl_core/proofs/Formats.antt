@@ -83,17 +83,22 @@ module _ (geometry : Geometry) (device : DevicePages) (failures : Failures) wher
 
   reached-blank : reached_by (layout_pages before) blank_checkpoint ≡ (λ _. None)
   reached-blank =
-      ap (λ (content : Content). numbers_of (pages_of content) (roots_at (pages_of content) roots.Empty)) content-blank
+      ap (λ (content : Content). numbers_of (pages_of content) (roots_at (pages_of content) roots.Empty))
+      content-blank
       ∙ sym latest-first.numbers
 
   kept-blank : (c : ℕ)
-      → option_map (reached_by (layout_pages before)) (find nat_cmp c (by_number blank_checkpoint ∷ [])) ≡ blank.kept c
+      → option_map (reached_by (layout_pages before)) (find nat_cmp c (by_number blank_checkpoint ∷ []))
+      ≡ blank.kept c
   kept-blank c = elim (cases_eq c 0) [
     | inl is ↦
-        subst (λ k. option_map (reached_by (layout_pages before)) (find nat_cmp k (by_number blank_checkpoint ∷ [])) ≡ blank.kept k)
+        subst (λ k.
+        option_map (reached_by (layout_pages before)) (find nat_cmp k (by_number blank_checkpoint ∷ []))
+        ≡ blank.kept k)
         (sym is) (ap (λ numbers. Some numbers) reached-blank)
     | inr other ↦
-        ap (option_map (reached_by (layout_pages before))) (found-behind c blank_checkpoint [] (λ is. other (sym is)))
+        ap (option_map (reached_by (layout_pages before)))
+        (found-behind c blank_checkpoint [] (λ is. other (sym is)))
         ∙ sym (cond-false (c == 0) _ _ (ne_eqb c 0 other))
   ]
 
@@ -103,14 +108,18 @@ module _ (geometry : Geometry) (device : DevicePages) (failures : Failures) wher
 
   -- the tree of a new volume stands over it
   pub stands-before : StandsOverLatest (ledger_of before) roots.Empty first_tree nothing_held root_alone
-  stands-before = subst (λ (ledger : Ledger). StandsOverLatest ledger roots.Empty first_tree nothing_held root_alone)
+  stands-before =
+      subst (λ (ledger : Ledger). StandsOverLatest ledger roots.Empty first_tree nothing_held root_alone)
       (sym ledger-before) first_trees-stand
 
   pub sound-before : IsStore before.store → IsSoundPen before
   sound-before is_store = record {
     ledger = stands-before.is_ledger;
-    trees_sound = All-cons (λ (c : Kept). IsTreeSound (layout_pages before) (root_of (checkpoint_root c))) blank_checkpoint []
-        stands-before.latest.sound (All-nil (λ (c : Kept). IsTreeSound (layout_pages before) (root_of (checkpoint_root c))));
+    trees_sound =
+        All-cons
+        (λ (c : Kept). IsTreeSound (layout_pages before) (root_of (checkpoint_root c))) blank_checkpoint []
+        stands-before.latest.sound
+        (All-nil (λ (c : Kept). IsTreeSound (layout_pages before) (root_of (checkpoint_root c))));
     latest = found-one blank_checkpoint;
     last = omega arith;
     store = is_store;
@@ -119,7 +128,9 @@ module _ (geometry : Geometry) (device : DevicePages) (failures : Failures) wher
   -- so a first checkpoint can be drafted
   drafted-before : CanBeDrafted (content_in before.store) before.lists
   drafted-before =
-      let can = trees-can_be_settled (ledger_of before) roots.Empty first_tree nothing_held root_alone stands-before in
+      let can =
+      trees-can_be_settled
+      (ledger_of before) roots.Empty first_tree nothing_held root_alone stands-before in
       (can.checkpoint, nothing_held, holding_over first_tree.became nothing_held, can.current)
 
   -- ---- why it is refused
@@ -133,19 +144,25 @@ module _ (geometry : Geometry) (device : DevicePages) (failures : Failures) wher
           (roots-hold_one (layout_pages before) roots.Empty settled.base nothing_held settled.current.base_is
           (stores-nothing (layout_pages before)))
 
-      settles : Settles blank.content roots.Empty (root_of root) root_directory_alone first_holding settled.changes
+      settles : Settles blank.content roots.Empty
+          (root_of root) root_directory_alone first_holding settled.changes
       settles = subst
-          (λ (content : Content). Settles content roots.Empty (root_of root) root_directory_alone first_holding settled.changes)
+          (λ (content : Content).
+          Settles content roots.Empty (root_of root) root_directory_alone first_holding settled.changes)
           content-blank
-          (subst (λ (h : Holding). SettlesNow (content_in before.store) before.lists root h settled.changes) held settled.settles)
+          (subst (λ (h : Holding). SettlesNow (content_in before.store) before.lists root h settled.changes)
+          held settled.settles)
 
       fits : CanBeTaken (capacity before.store) blank.content settled.changes
-      fits = subst (λ (content : Content). CanBeTaken (capacity before.store) content settled.changes) content-blank settled.fits
+      fits =
+          subst (λ (content : Content). CanBeTaken (capacity before.store) content settled.changes)
+          content-blank settled.fits
 
   -- and there is space for them
   has-space : LacksSpaceToSettle before → ⊥
   has-space lacks =
-      let fits = first_logs geometry (length lacks.settled.changes.births) (few-written lacks.root lacks.settled) in
+      let fits =
+      first_logs geometry (length lacks.settled.changes.births) (few-written lacks.root lacks.settled) in
       lacks.lacks fits.0 fits.1
 
   refused-before : (new : Layout) (now : ℕ) (e : VolError) → HasRefused (Checkpoint Plain now) e before new
@@ -158,7 +175,8 @@ module _ (geometry : Geometry) (device : DevicePages) (failures : Failures) wher
 
   -- ---- behind the first checkpoint, once the one without files is gone
 
-  module _ (new : Layout) (now : ℕ) (writes : HasWrittenCheckpoint Plain now before new) (old_store : IsStore before.store) where
+  module _ (new : Layout) (now : ℕ) (writes : HasWrittenCheckpoint Plain now before new)
+      (old_store : IsStore before.store) where
     abbrev after : Layout
     after = layout_of (latest_alone new.lists) new.store
 
@@ -175,22 +193,29 @@ module _ (geometry : Geometry) (device : DevicePages) (failures : Failures) wher
     minor = ap (λ (l : Lists). l.table.latest.minor) writes.lists
 
     stamp : latest.stamp ≡ now
-    stamp = ap (λ (l : Lists). l.table.latest.stamp) writes.lists ∙ (let most : max now 0 ≡ now = omega arith in most)
+    stamp =
+        ap (λ (l : Lists). l.table.latest.stamp) writes.lists
+        ∙ (let most : max now 0 ≡ now = omega arith in most)
 
     inodes : latest.inodes ≡ 1
     inodes = ap (λ (l : Lists). l.table.latest.inodes) writes.lists
 
     -- the tree stands over it
-    stands : StandsOverLatest (ledger_of new) (root_of (checkpoint_root latest)) new.lists.current first_holding root_alone
-    stands = stands-behind before new Plain now (sound-before old_store) nothing_held root_alone stands-before writes
+    stands : StandsOverLatest (ledger_of new)
+        (root_of (checkpoint_root latest)) new.lists.current first_holding root_alone
+    stands =
+        stands-behind before new Plain now
+        (sound-before old_store) nothing_held root_alone stands-before writes
 
     -- ---- its ledger
 
     kept-after : (c : ℕ)
-        → option_map (reached_by (layout_pages new)) (find nat_cmp c (by_number latest ∷ [])) ≡ (ledger_after (Forgets 0) (ledger_of new)).kept c
+        → option_map (reached_by (layout_pages new)) (find nat_cmp c (by_number latest ∷ []))
+        ≡ (ledger_after (Forgets 0) (ledger_of new)).kept c
     kept-after c = elim (cases_eq c 0) [
       | inl is ↦
-          ap (option_map (reached_by (layout_pages new))) (found-behind c latest [] (λ same. omega (arith, same, is, number)))
+          ap (option_map (reached_by (layout_pages new)))
+          (found-behind c latest [] (λ same. omega (arith, same, is, number)))
           ∙ sym (cond-true (c == 0) _ _ (eq-eqb c 0 is))
       | inr other ↦
           ap (option_map (reached_by (layout_pages new)))
@@ -201,17 +226,22 @@ module _ (geometry : Geometry) (device : DevicePages) (failures : Failures) wher
     ]
 
     ledger-after : ledger_of after ≡ ledger_after (Forgets 0) (ledger_of new)
-    ledger-after i = record { content = content_in new.store; latest = latest.number; kept = λ c. kept-after c i }
+    ledger-after i =
+        record { content = content_in new.store; latest = latest.number; kept = λ c. kept-after c i }
 
     is_ledger : IsLedger (ledger_of after)
     is_ledger = subst IsLedger (sym ledger-after)
-        (ledger_after-IsLedger (Forgets 0) (ledger_of new) stands.is_ledger (λ same. omega (arith, same, number)))
+        (ledger_after-IsLedger (Forgets 0) (ledger_of new) stands.is_ledger
+        (λ same. omega (arith, same, number)))
 
     -- what was written and removed since the blank one
-    ledger-formatted : ledger_of after ≡ ledger_after_all (Makes writes.settled.changes.births writes.settled.changes.ends ∷ Forgets 0 ∷ []) blank
+    ledger-formatted : ledger_of after
+        ≡ ledger_after_all
+        (Makes writes.settled.changes.births writes.settled.changes.ends ∷ Forgets 0 ∷ []) blank
     ledger-formatted =
         ledger-after ∙ ap (ledger_after (Forgets 0))
-        (ledger-behind before new Plain now (sound-before old_store) nothing_held root_alone stands-before writes
+        (ledger-behind before new Plain now
+        (sound-before old_store) nothing_held root_alone stands-before writes
         ∙ ap (ledger_with writes.settled.changes) ledger-before)
 
     -- ---- what it is
@@ -219,17 +249,22 @@ module _ (geometry : Geometry) (device : DevicePages) (failures : Failures) wher
     is-formatted : IsFormatted geometry device failures now after
     is-formatted = record {
       settled = writes.settled;
-      differs = differs-behind before new Plain now (sound-before old_store) nothing_held root_alone stands-before writes;
+      differs =
+          differs-behind before new Plain now
+          (sound-before old_store) nothing_held root_alone stands-before writes;
       lowest_free = writes.lowest_free;
       written = subst (λ n. IsWritten n now writes.settled.changes before.store new.store) number
-          (subst (λ n. IsWritten latest.number n writes.settled.changes before.store new.store) stamp writes.written);
+          (subst (λ n. IsWritten latest.number n writes.settled.changes before.store new.store) stamp
+          writes.written);
       ledger = ledger-formatted;
     }
 
     sound-after : IsStore new.store → IsSoundPen after
     sound-after is_store = record {
       ledger = is_ledger;
-      trees_sound = All-cons (λ (c : Kept). IsTreeSound (layout_pages new) (root_of (checkpoint_root c))) latest [] stands.latest.sound
+      trees_sound =
+          All-cons (λ (c : Kept). IsTreeSound (layout_pages new) (root_of (checkpoint_root c))) latest
+          [] stands.latest.sound
           (All-nil (λ (c : Kept). IsTreeSound (layout_pages new) (root_of (checkpoint_root c))));
       latest = found-one latest;
       last = omega (arith, number);
@@ -239,7 +274,8 @@ module _ (geometry : Geometry) (device : DevicePages) (failures : Failures) wher
     -- nothing differs from the checkpoint, so it stands for the tree too
     copy-after : RootMeans (layout_pages new) (checkpoint_root latest) root_alone
     copy-after = root-means new before.lists.current first_holding root_alone
-        (subst (λ (now : Current). StandsOverLatest (ledger_of new) (root_of (checkpoint_root latest)) now first_holding root_alone)
+        (subst (λ (now : Current).
+        StandsOverLatest (ledger_of new) (root_of (checkpoint_root latest)) now first_holding root_alone)
         (ap (λ (l : Lists). l.current) writes.lists) stands)
 
     means-after : MeansWorld after (formatted now)
@@ -247,7 +283,17 @@ module _ (geometry : Geometry) (device : DevicePages) (failures : Failures) wher
       world = formatted_is_world now;
       tree = current-means new first_holding root_alone stands;
       dirty = sym (ap (λ (l : Lists). l.dirty) writes.lists);
-      copies = (record { number = sym number; mode = sym mode; minor = sym minor; stamp = sym stamp; inodes = inodes; tree = copy-after }, tt);
+      copies = (
+        record {
+          number = sym number;
+          mode = sym mode;
+          minor = sym minor;
+          stamp = sym stamp;
+          inodes = inodes;
+          tree = copy-after;
+        },
+        tt,
+      );
       mounts = sym (ap (λ (l : Lists). map mount_of l.mounts) writes.lists);
       given = sym (ap (λ (l : Lists). l.given) writes.lists);
     }
@@ -258,19 +304,23 @@ module _ (geometry : Geometry) (device : DevicePages) (failures : Failures) wher
 -- ---- the whole
 
 -- the first checkpoint of a blank volume was written, and the one without files is gone
-pub record IsNew (geometry : Geometry) (device : DevicePages) (failures : Failures) (now : ℕ) (l : Layout) : Type 0 where
+pub record IsNew (geometry : Geometry) (device : DevicePages) (failures : Failures) (now : ℕ)
+    (l : Layout) : Type 0 where
   pub means : MeansWorld l (formatted now)
   pub is_formatted : IsFormatted geometry device failures now l
   pub is_pen : IsPen l
 
 -- such a layout is made of a clean space and of tables that are blank
-pub blank-volume : (geometry : Geometry) (device : DevicePages) (failures : Failures) (lists : Lists) (store : Store) (space : SpaceContent) (count : Failures)
-    → lists ≡ blank_lists → store ≡ new_store space count → space ≡ new_content geometry device → count ≡ failures
+pub blank-volume : (geometry : Geometry) (device : DevicePages) (failures : Failures) (lists : Lists)
+    (store : Store) (space : SpaceContent) (count : Failures)
+    → lists ≡ blank_lists → store ≡ new_store space count → space ≡ new_content geometry device
+    → count ≡ failures
     → layout_of lists store ≡ blank_layout geometry device failures
 blank-volume geometry device failures lists store space count blank_then fresh clean same_count i =
     layout_of (blank_then i) ((fresh ∙ (λ j. new_store (clean j) (same_count j))) i)
 
-module _ (geometry : Geometry) (device : DevicePages) (failures : Failures) (old : Layout) (is-blank : old ≡ blank_layout geometry device failures) where
+module _ (geometry : Geometry) (device : DevicePages) (failures : Failures) (old : Layout)
+    (is-blank : old ≡ blank_layout geometry device failures) where
   pub has_few-names : HasFewNames old.lists
   has_few-names = subst (λ (l : Layout). HasFewNames l.lists) (sym is-blank) (omega arith)
 
@@ -281,7 +331,8 @@ module _ (geometry : Geometry) (device : DevicePages) (failures : Failures) (old
   -- no number is in use
   pub none-in-use : (v : ℕ) → content_in old.store v ≡ None
   none-in-use v =
-      ap (λ (l : Layout). content_in l.store v) is-blank ∙ ap (λ (content : Content). content v) (content-blank geometry device failures)
+      ap (λ (l : Layout). content_in l.store v) is-blank
+      ∙ ap (λ (content : Content). content v) (content-blank geometry device failures)
 
   module _ (new : Layout) (now : ℕ) where
     pub refused-first : (e : VolError) → HasRefused (Checkpoint Plain now) e old new
@@ -289,7 +340,8 @@ module _ (geometry : Geometry) (device : DevicePages) (failures : Failures) (old
     refused-first e refused = refused-before geometry device failures new now e
         (subst (λ (l : Layout). HasRefused (Checkpoint Plain now) e l new) is-blank refused)
 
-    pub new-volume : (left : Lists) → HasWrittenCheckpoint Plain now old new → IsStore old.store → IsStore new.store
+    pub new-volume : (left : Lists) → HasWrittenCheckpoint Plain now old new → IsStore old.store
+        → IsStore new.store
         → left ≡ latest_alone new.lists
         → IsNew geometry device failures now (layout_of left new.store)
     new-volume left writes old_store is_store is =

@@ -8,7 +8,8 @@ abbrev pub given_back : Layout → Layout
 given_back l = layout_of (without_mounts l.lists) l.store
 
 -- it means the world without mounts
-pub means-given_back : (l : Layout) (w : World) → MeansWorld l w → MeansWorld (given_back l) (record w { mounts = [] })
+pub means-given_back : (l : Layout) (w : World) → MeansWorld l w
+    → MeansWorld (given_back l) (record w { mounts = [] })
 means-given_back l w means = record {
   world = record {
     tree = means.world.tree;

@@ -21,7 +21,8 @@ use Rattle.nl_core.specs.declared.mounts.Mounted.{Mounted}
 keeps-same : (pages : Pages) (c : Checkpoint) → KeepsCheckpoint pages pages c c
 keeps-same pages c = record { root = refl; places = refl; pages = λ q v at. refl; trees = λ t means. means }
 
-keeps-on : (first next last : Pages) (c d e : Checkpoint) → KeepsCheckpoint first next c d → KeepsCheckpoint next last d e
+keeps-on : (first next last : Pages) (c d e : Checkpoint) → KeepsCheckpoint first next c d
+    → KeepsCheckpoint next last d e
     → KeepsCheckpoint first last c e
 keeps-on first next last c d e one two = record {
   root = two.root ∙ one.root;
@@ -51,7 +52,8 @@ shown-more m n (k ∷ mounts) more is =
 shown-without : (m n other : ℕ) (mounts : List Mounted) → other ≢ m → shown_by m mounts ≡ Some n
     → shown_by m (filter (is_other_mount other) mounts) ≡ Some n
 shown-without m n other [] apart is = let no : ◌≡◌ {A = Option ℕ} None (Some n) = is in cc
-shown-without m n other (k ∷ mounts) apart is = by (eqb k.number other) refl (shown-without m n other mounts apart)
+shown-without m n other (k ∷ mounts) apart is =
+    by (eqb k.number other) refl (shown-without m n other mounts apart)
   where
     left : List Mounted
     left = filter (is_other_mount other) mounts
@@ -70,12 +72,15 @@ shown-without m n other (k ∷ mounts) apart is = by (eqb k.number other) refl (
     by false stays rest =
         ap (λ b. shown_by m (cond (not b) (k ∷ left) left)) stays
         ∙ elim (eq_by_cmp nat_cmp m k.number)
-        as (λ b. cond b (Some k.checkpoint) (shown_by m mounts) ≡ Some n → cond b (Some k.checkpoint) (shown_by m left) ≡ Some n) [
+        as (λ b.
+        cond b (Some k.checkpoint) (shown_by m mounts) ≡ Some n
+        → cond b (Some k.checkpoint) (shown_by m left) ≡ Some n) [
           | true ↦ λ e. e
           | false ↦ rest
         ] is
 
-stays-mounted : (x : Shown) (c : Commit) (m n : ℕ) → IsNew x c → c ≢ commit.GivenBack m → mounted_on x m ≡ Some n
+stays-mounted : (x : Shown) (c : Commit) (m n : ℕ) → IsNew x c → c ≢ commit.GivenBack m
+    → mounted_on x m ≡ Some n
     → mounted_on (applied x c) m ≡ Some n
 stays-mounted x (commit.Whole w) m n new apart is = absurd new
 stays-mounted x (commit.Written w) m n new apart is = is
@@ -112,6 +117,7 @@ mounts_still_show x (k ∷ commits) m n c image next is kept apart =
       now = later.now;
       kept = later.kept;
       snapshot = later.snapshot;
-      keeps = keeps-on (pages_shown x) (pages_shown y) (pages_shown (fold applied y commits)) c there.0 later.now
+      keeps =
+          keeps-on (pages_shown x) (pages_shown y) (pages_shown (fold applied y commits)) c there.0 later.now
           (next.0.keeps n c there.0 kept there.1) later.keeps;
     }

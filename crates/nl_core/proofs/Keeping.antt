@@ -32,7 +32,8 @@ use Rattle.nl_core.specs.Facts.TableChanges.{kept-with_mode, kept-without, moded
 -- a checkpoint that is kept before and after has its root
 abbrev pub KeepsRoots : Table → Table → Type 0
 KeepsRoots old new =
-    (n : ℕ) (c d : Checkpoint) → kept_at n old ≡ Some c → kept_at n new ≡ Some d → checkpoint_root d ≡ checkpoint_root c
+    (n : ℕ) (c d : Checkpoint) → kept_at n old ≡ Some c → kept_at n new ≡ Some d
+    → checkpoint_root d ≡ checkpoint_root c
 
 pub roots-same : (t : Table) → KeepsRoots t t
 roots-same t n c d before now =
@@ -47,7 +48,8 @@ roots-moded n mode t m c d before now =
     let one : d ≡ moded n mode c = cc in
     ap checkpoint_root one ∙ moded-same checkpoint_root n mode c refl
 
-pub roots-without : (gone : List ℕ) (t : Table) → is_one_of gone t.latest.number ≡ false → KeepsRoots t (without gone t)
+pub roots-without : (gone : List ℕ) (t : Table) → is_one_of gone t.latest.number ≡ false
+    → KeepsRoots t (without gone t)
 roots-without gone t stays n c d before now =
     by (is_one_of gone n) (sym (kept-without gone t stays n ∙ ap (unless (is_one_of gone n)) before) ∙ now)
   where
@@ -65,12 +67,15 @@ roots-next k t n c d before now =
 -- ---- a checkpoint that is kept on
 
 module _ (old new : Layout) (pen : IsPen old) (numbers : KeepsNumbers old new) (n : ℕ) (c d : Checkpoint)
-    (before : kept_at n old.lists.table ≡ Some c) (now : kept_at n new.lists.table ≡ Some d) (same : checkpoint_root d ≡ checkpoint_root c) where
+    (before : kept_at n old.lists.table ≡ Some c) (now : kept_at n new.lists.table ≡ Some d)
+    (same : checkpoint_root d ≡ checkpoint_root c) where
   -- the pages stay where it reaches
-  pages-stay : (q : Place) (v : ℕ) → reached_by (layout_pages old) c q ≡ Some v → layout_pages new v ≡ layout_pages old v
+  pages-stay : (q : Place) (v : ℕ) → reached_by (layout_pages old) c q ≡ Some v
+      → layout_pages new v ≡ layout_pages old v
   pages-stay q v reaches =
       let kept = ap (option_map (reached_by (layout_pages old))) before in
-      let (e, in_use, covering) = (pen.sound.ledger.exact n (reached_by (layout_pages old) c) kept).reached q v reaches in
+      let (e, in_use, covering) =
+      (pen.sound.ledger.exact n (reached_by (layout_pages old) c) kept).reached q v reaches in
       let still : StillCovers (content_in new.store) n v e =
       numbers.covered n (reached_by (layout_pages old) c) (reached_by (layout_pages new) d) v e kept
       (ap (option_map (reached_by (layout_pages new))) now) in_use covering in
@@ -85,14 +90,17 @@ module _ (old new : Layout) (pen : IsPen old) (numbers : KeepsNumbers old new) (
   stays =
       let copy = copy_of (layout_pages old) old.lists pen.world.0 n (Some c) pen.world.1 before in
       checkpoints-stay (layout_pages old) (layout_pages new) (root_of root) copy.2.tree.held
-      (found-all (λ (k : Checkpoint). IsTreeSound (layout_pages old) (root_of (checkpoint_root k))) n (kept_by old.lists) c pen.sound.trees_sound before)
+      (found-all (λ (k : Checkpoint). IsTreeSound (layout_pages old) (root_of (checkpoint_root k))) n
+      (kept_by old.lists) c pen.sound.trees_sound before)
       copy.2.tree.holds
       (λ i level offset v at. pages-stay (record { inode = i; level = level; offset = offset }) v at)
 
   pub keeps-one : KeepsCheckpoint (layout_pages old) (layout_pages new) c d
   keeps-one = record {
     root = same;
-    places = ap (λ (r : Root). numbers_of (layout_pages new) (roots_at (layout_pages new) (root_of r))) same ∙ stays.numbers;
+    places =
+        ap (λ (r : Root). numbers_of (layout_pages new) (roots_at (layout_pages new) (root_of r))) same
+        ∙ stays.numbers;
     pages = pages-stay;
     trees = λ t means. subst (λ (r : Root). RootMeans (layout_pages new) r t) (sym same) (record {
       held = means.held;
@@ -102,7 +110,8 @@ module _ (old new : Layout) (pen : IsPen old) (numbers : KeepsNumbers old new) (
   }
 
 -- each of them is, where numbers stay and roots do
-pub keeps-checkpoints : (old new : Layout) → IsPen old → KeepsNumbers old new → KeepsRoots old.lists.table new.lists.table
+pub keeps-checkpoints : (old new : Layout) → IsPen old → KeepsNumbers old new
+    → KeepsRoots old.lists.table new.lists.table
     → KeepsCheckpoints (shown_of old) (shown_of new)
 keeps-checkpoints old new pen numbers roots n c d before now =
     subst (λ (pages : Pages). KeepsCheckpoint pages (pages_shown (shown_of new)) c d) (sym (pages-shown old))

@@ -58,7 +58,8 @@ module _ (old new : Layout) (pen : IsPen old) where
       }
 
   -- checkpoints are gone
-  removed : (gone : List ℕ) → IsTakenOut gone old.lists new.lists → new.store ≡ old.store → GoesOn (map Forgets gone)
+  removed : (gone : List ℕ) → IsTakenOut gone old.lists new.lists → new.store ≡ old.store
+      → GoesOn (map Forgets gone)
   removed gone taken store = record {
     each = each-allowed old gone taken.stays;
     after = (λ i. ledger_of (layout_of (taken.lists i) (store i))) ∙ ledger-left old gone taken.stays;
@@ -83,7 +84,9 @@ module _ (old new : Layout) (pen : IsPen old) where
       mid = layout_of old.lists new.store
 
       kept : StaysPen old mid
-      kept = moves_keep_pens segment (old.lists.table.latest.number + 1) moment (take limit (needed_in old.store (needed_by old.lists) segment))
+      kept =
+          moves_keep_pens segment (old.lists.table.latest.number + 1) moment
+          (take limit (needed_in old.store (needed_by old.lists) segment))
           old mid pen refl store moved.moved.moved
 
       some : (m : ℕ) → not (m == 0) ≡ true → 0 < m
@@ -97,27 +100,34 @@ module _ (old new : Layout) (pen : IsPen old) where
           same = lists ∙ cond-false (is_moving (Ok a)) (with_minor moment old.lists) old.lists idle
       by true moving = record {
         each = (nothing-allowed (ledger_of old), tt);
-        after = ap (λ (l : Lists). ledger_of (layout_of l new.store)) more ∙ minor.ledger ∙ ap (ledger_after (Makes [] [])) kept.ledger;
+        after =
+            ap (λ (l : Lists). ledger_of (layout_of l new.store)) more ∙ minor.ledger
+            ∙ ap (ledger_after (Makes [] [])) kept.ledger;
       }
         where
           more : new.lists ≡ with_minor moment old.lists
           more = lists ∙ cond-true (is_moving (Ok a)) (with_minor moment old.lists) old.lists moving
 
           left : HasNextNumber old.lists
-          left = moved.left (some moved.count.moved (sym (ap (λ (b : Answer). is_moving (Ok b)) moved.answer_is) ∙ moving))
+          left =
+              moved.left (some moved.count.moved
+              (sym (ap (λ (b : Answer). is_moving (Ok b)) moved.answer_is) ∙ moving))
 
           minor : AddsMinor moment mid (layout_of (with_minor moment old.lists) new.store)
           minor = minors_keep_pens moment mid kept.pen left
 
-  done-goes_on : (e : Event) (a : Answer) (done : HasDone old e a new) → IsStore new.store → GoesOn (done_events old new e a done)
+  done-goes_on : (e : Event) (a : Answer) (done : HasDone old e a new) → IsStore new.store
+      → GoesOn (done_events old new e a done)
   done-goes_on (Checkpoint mode moment) a done store = checkpointed mode moment done
   done-goes_on (event.Remove n) a done store = removed (n ∷ []) done.0 done.1
-  done-goes_on (RemoveRange first last) (answer.Removed range) done store = removed range.removed done.0.taken done.1
+  done-goes_on (RemoveRange first last) (answer.Removed range) done store =
+      removed range.removed done.0.taken done.1
   done-goes_on (RemoveRange first last) a done store = absurd done.0
   done-goes_on (Expire now period) (answer.Expired gone) done store = removed gone done.0.taken done.1
   done-goes_on (Expire now period) a done store = absurd done.0
   done-goes_on (Retire segment) a done store = retired-segment segment a done store
-  done-goes_on (Move segment limit moment) a done store = moved-segment segment limit moment a done.0 done.1 store
+  done-goes_on (Move segment limit moment) a done store =
+      moved-segment segment limit moment a done.0 done.1 store
   done-goes_on (Resize segments) a done store = stays (resized-ledger old new pen done.0 store done.1.grown)
   done-goes_on (ChangeMode n mode) a done store = stays (ap ledger_of done ∙ ledger-moded old n mode)
   done-goes_on (Apply change) a done store = stays (ap ledger_of done.0)
@@ -128,10 +138,13 @@ module _ (old new : Layout) (pen : IsPen old) where
   done-goes_on (Listing options) a done store = stays (same-layout done)
 
   -- a refusal changes nothing of the ledger
-  refused-same : (event : Event) (e : VolError) → HasRefused event e old new → IsStore new.store → ledger_of new ≡ ledger_of old
-  refused-same (Checkpoint mode moment) error.Fault refused store = ledger-same old new mode moment pen refused
+  refused-same : (event : Event) (e : VolError) → HasRefused event e old new → IsStore new.store
+      → ledger_of new ≡ ledger_of old
+  refused-same (Checkpoint mode moment) error.Fault refused store =
+      ledger-same old new mode moment pen refused
   refused-same (Checkpoint mode moment) e refused store = same-layout refused.0
-  refused-same (Move segment limit moment) e refused store = by (judged_for old.store.segments segment limit) refused.1
+  refused-same (Move segment limit moment) e refused store =
+      by (judged_for old.store.segments segment limit) refused.1
     where
       numbers : List ℕ
       numbers = take limit (needed_in old.store (needed_by old.lists) segment)
@@ -139,13 +152,17 @@ module _ (old new : Layout) (pen : IsPen old) where
       same : new.store ≡ old.store → ledger_of new ≡ ledger_of old
       same is = λ i. ledger_of (layout_of (refused.0 i) (is i))
 
-      moved-none : (e : VolError) → IsMoveRefused (old.lists.table.latest.number + 1) moment numbers old.store new.store e → ledger_of new ≡ ledger_of old
+      moved-none : (e : VolError)
+          → IsMoveRefused (old.lists.table.latest.number + 1) moment numbers old.store new.store e
+          → ledger_of new ≡ ledger_of old
       moved-none e none =
           let kept : StaysPen old new =
-          refused_moves_keep_pens (old.lists.table.latest.number + 1) moment numbers e old new pen refused.0 store none in
+          refused_moves_keep_pens
+          (old.lists.table.latest.number + 1) moment numbers e old new pen refused.0 store none in
           kept.ledger
 
-      of : (e : VolError) → IsMoveRefusal segment limit moment old.lists old.store new.store e → ledger_of new ≡ ledger_of old
+      of : (e : VolError) → IsMoveRefusal segment limit moment old.lists old.store new.store e
+          → ledger_of new ≡ ledger_of old
       of error.NumbersSpent none = same none.0
       of error.NoSpace none = moved-none error.NoSpace none.1
       of error.Fault none = moved-none error.Fault none.1
@@ -184,12 +201,14 @@ after-append : (es fs : List LedgerEvent) (l : Ledger)
 after-append [] fs l = refl
 after-append (e ∷ es) fs l = after-append es fs (ledger_after e l)
 
-each-append : (es fs : List LedgerEvent) (l : Ledger) → EachAllowed es l → EachAllowed fs (ledger_after_all es l)
+each-append : (es fs : List LedgerEvent) (l : Ledger) → EachAllowed es l
+    → EachAllowed fs (ledger_after_all es l)
     → EachAllowed (es ++ fs) l
 each-append [] fs l here rest = rest
 each-append (e ∷ es) fs l here rest = (here.0, each-append es fs (ledger_after e l) here.1 rest)
 
-goes_on-append : (es fs : List LedgerEvent) (old mid new : Ledger) → LedgerGoesOn es old mid → LedgerGoesOn fs mid new
+goes_on-append : (es fs : List LedgerEvent) (old mid new : Ledger) → LedgerGoesOn es old mid
+    → LedgerGoesOn fs mid new
     → LedgerGoesOn (es ++ fs) old new
 goes_on-append es fs old mid new first rest = record {
   each = each-append es fs old first.each (subst (EachAllowed fs) first.after rest.each);
@@ -206,11 +225,16 @@ runs_are_ledger_events allowed old new [] (r ∷ rs) pen run = absurd run
 runs_are_ledger_events allowed old new (e ∷ es) [] pen run = absurd run
 
 -- so numbers keep what they stand for, and end once
-pub runs_keep_numbers : (allowed : AllowedBetween) → CoveredNumbersStay → NumbersEndOnce → RunsKeepNumbers allowed
+pub runs_keep_numbers : (allowed : AllowedBetween) → CoveredNumbersStay → NumbersEndOnce
+    → RunsKeepNumbers allowed
 runs_keep_numbers allowed stay end old new events replies pen run =
     let goes = runs_are_ledger_events allowed old new events replies pen run in
     let is = pen.sound.ledger in
     record {
-      covered = subst (KeepsCovered (ledger_of old)) (sym goes.1.after) (stay goes.0 (ledger_of old) is goes.1.each);
-      ends = subst (EndsOnceSince (ledger_of old)) (sym goes.1.after) (end goes.0 (ledger_of old) is goes.1.each);
+      covered =
+          subst (KeepsCovered (ledger_of old)) (sym goes.1.after)
+          (stay goes.0 (ledger_of old) is goes.1.each);
+      ends =
+          subst (EndsOnceSince (ledger_of old)) (sym goes.1.after)
+          (end goes.0 (ledger_of old) is goes.1.each);
     }

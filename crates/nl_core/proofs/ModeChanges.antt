@@ -24,7 +24,8 @@ module _ (l : Layout) (n : ℕ) (mode : Mode) where
   latest-number = moded-same (λ c. c.number) n mode l.lists.table.latest refl
 
   reached-moded : (o : Option Checkpoint)
-      → option_map (reached_by (layout_pages l)) (option_map (moded n mode) o) ≡ option_map (reached_by (layout_pages l)) o
+      → option_map (reached_by (layout_pages l)) (option_map (moded n mode) o)
+      ≡ option_map (reached_by (layout_pages l)) o
   reached-moded None = refl
   reached-moded (Some c) = ap Some (moded-same (reached_by (layout_pages l)) n mode c refl)
 
@@ -53,7 +54,8 @@ module _ (l : Layout) (n : ℕ) (mode : Mode) where
       ledger = subst IsLedger (sym ledger-moded) sound.ledger;
       trees_sound = subst (All IsKeptSound) (sym (all-with_mode n mode l.lists.table))
           (All-map IsKeptSound (moded n mode) (all l.lists.table)
-          (All-weaker IsKeptSound (λ c. IsKeptSound (moded n mode c)) still-sound (all l.lists.table) sound.trees_sound));
+          (All-weaker IsKeptSound (λ c. IsKeptSound (moded n mode c)) still-sound
+          (all l.lists.table) sound.trees_sound));
       latest = ap (λ k. kept_at k (with_mode n mode l.lists.table)) latest-number
           ∙ (kept-with_mode n mode l.lists.table l.lists.table.latest.number
           ∙ ap (option_map (moded n mode)) sound.latest);

@@ -32,7 +32,8 @@ abbrev pub pages_under : Store → Pages
 pages_under store = pages_of (content_in store)
 
 -- an event that memory alone may be refused to may be refused for more
-follows-more : (l new : Lists) (store : Store) (event : Event) (reply : Reply) → StepsWorldsOver (pages_under store) l event reply new
+follows-more : (l new : Lists) (store : Store) (event : Event) (reply : Reply)
+    → StepsWorldsOver (pages_under store) l event reply new
     → StepsWorlds unshared (layout_of l store) event reply (layout_of new store)
 follows-more l new store event reply follows = λ w m.
     let next = follows (cleaned (layout_of l store) event) w m in
@@ -44,11 +45,19 @@ follows-more l new store event reply follows = λ w m.
     more error.Memory may = may
     more _ may = absurd may
 
-    step-more : {w : World} (after : World) → Step memory_alone (cleaned (layout_of l store) event) w event reply after
-        → Step (unshared (layout_of l store) (layout_of new store)) (cleaned (layout_of l store) event) w event reply after
+    step-more : {w : World} (after : World)
+        → Step memory_alone (cleaned (layout_of l store) event) w event reply after
+        → Step (unshared (layout_of l store) (layout_of new store))
+        (cleaned (layout_of l store) event) w event reply after
     step-more after step = elim step [
       | inl is ↦ inl is
-      | inr refused ↦ inr (record { error = refused.error; reply_is = refused.reply_is; may_be = more refused.error refused.may_be; unchanged = refused.unchanged })
+      | inr refused ↦
+          inr (record {
+            error = refused.error;
+            reply_is = refused.reply_is;
+            may_be = more refused.error refused.may_be;
+            unchanged = refused.unchanged;
+          })
     ]
 
 -- the store stays, and what is true of the pen but for its world is shown
@@ -69,7 +78,8 @@ does-kept l new store event reply pen follows becomes sound numbers =
 
 -- ---- events that keep the checkpoints
 
-module _ (l : Lists) (store : Store) (pen : IsPen (layout_of l store)) (current : Current) (dirty : Bool) (mounts : List Mounted) (given : ℕ) where
+module _ (l : Lists) (store : Store) (pen : IsPen (layout_of l store)) (current : Current) (dirty : Bool)
+    (mounts : List Mounted) (given : ℕ) where
   -- the lists with another current tree and other mounts
   abbrev moved : Lists
   moved = record l { current = current; dirty = dirty; mounts = mounts; given = given }
@@ -110,7 +120,8 @@ does-refused l new store event e pen follows becomes same =
     (subst (λ lists. StepsWorldsOver (pages_under store) l event (Err e) lists) same follows) becomes)
 
 -- some checkpoints are gone
-does-taken_out : (l new : Lists) (store : Store) (event : Event) (a : Answer) (gone : List ℕ) → IsPen (layout_of l store)
+does-taken_out : (l new : Lists) (store : Store) (event : Event) (a : Answer) (gone : List ℕ)
+    → IsPen (layout_of l store)
     → StepsWorldsOver (pages_under store) l event (Ok a) new → IsTakenOut gone l new
     → HasDone (layout_of l store) event a (layout_of new store)
     → Does unshared (layout_of l store) event (Ok a) (layout_of new store)
@@ -163,19 +174,24 @@ does-Unmount l new store m (Ok a) pen follows is same =
     subst (λ lists. Does unshared (layout_of l store) (Unmount m) (Ok a) (layout_of lists store)) (sym is)
     (does-moved l store pen l.current l.dirty next.mounts l.given (Unmount m) (Ok a)
     (subst (λ lists. StepsWorldsOver (pages_under store) l (Unmount m) (Ok a) lists) is follows) refl)
-does-Unmount l new store m (Err e) pen follows is same = does-refused l new store (Unmount m) e pen follows refl same
+does-Unmount l new store m (Err e) pen follows is same =
+    does-refused l new store (Unmount m) e pen follows refl same
 
 -- a change of a mode
-pub does-ChangeMode : (l new : Lists) (store : Store) (n : ℕ) (mode : Mode) (reply : Reply) → IsPen (layout_of l store)
+pub does-ChangeMode : (l new : Lists) (store : Store) (n : ℕ) (mode : Mode) (reply : Reply)
+    → IsPen (layout_of l store)
     → StepsWorldsOver (pages_under store) l (ChangeMode n mode) reply new
     → IfOk reply (λ _. new ≡ with_checkpoint_mode n mode l)
     → OnErr reply (new ≡ l)
     → Does unshared (layout_of l store) (ChangeMode n mode) reply (layout_of new store)
 does-ChangeMode l new store n mode (Ok a) pen follows is same =
     does-kept l new store (ChangeMode n mode) (Ok a) pen follows (ap (λ lists. layout_of lists store) is)
-    (subst (λ lists. IsSoundPen (layout_of lists store)) (sym is) (sound-moded (layout_of l store) n mode pen.sound))
-    (subst (λ lists. KeepsNumbers (layout_of l store) (layout_of lists store)) (sym is) (numbers-moded (layout_of l store) n mode))
-does-ChangeMode l new store n mode (Err e) pen follows is same = does-refused l new store (ChangeMode n mode) e pen follows refl same
+    (subst (λ lists. IsSoundPen (layout_of lists store)) (sym is)
+    (sound-moded (layout_of l store) n mode pen.sound))
+    (subst (λ lists. KeepsNumbers (layout_of l store) (layout_of lists store)) (sym is)
+    (numbers-moded (layout_of l store) n mode))
+does-ChangeMode l new store n mode (Err e) pen follows is same =
+    does-refused l new store (ChangeMode n mode) e pen follows refl same
 
 -- a removal
 pub does-Remove : (l new : Lists) (store : Store) (n : ℕ) (reply : Reply) → IsPen (layout_of l store)
@@ -185,16 +201,19 @@ pub does-Remove : (l new : Lists) (store : Store) (n : ℕ) (reply : Reply) → 
     → Does unshared (layout_of l store) (Remove n) reply (layout_of new store)
 does-Remove l new store n (Ok a) pen follows taken same =
     does-taken_out l new store (Remove n) a (n ∷ []) pen follows taken (taken, refl)
-does-Remove l new store n (Err e) pen follows taken same = does-refused l new store (Remove n) e pen follows refl same
+does-Remove l new store n (Err e) pen follows taken same =
+    does-refused l new store (Remove n) e pen follows refl same
 
 -- a removal of a range
-pub does-RemoveRange : (l new : Lists) (store : Store) (first last : ℕ) (reply : Reply) → IsPen (layout_of l store)
+pub does-RemoveRange : (l new : Lists) (store : Store) (first last : ℕ) (reply : Reply)
+    → IsPen (layout_of l store)
     → StepsWorldsOver (pages_under store) l (RemoveRange first last) reply new
     → IfOk reply (λ a. IsTakenOutRange first last a l new)
     → OnErr reply (new ≡ l)
     → Does unshared (layout_of l store) (RemoveRange first last) reply (layout_of new store)
 does-RemoveRange l new store first last (Ok (answer.Removed range)) pen follows taken same =
-    does-taken_out l new store (RemoveRange first last) (answer.Removed range) range.removed pen follows taken.taken (taken, refl)
+    does-taken_out l new store (RemoveRange first last)
+    (answer.Removed range) range.removed pen follows taken.taken (taken, refl)
 does-RemoveRange l new store first last (Ok _) pen follows taken same = absurd taken
 does-RemoveRange l new store first last (Err e) pen follows taken same =
     does-refused l new store (RemoveRange first last) e pen follows refl same
@@ -206,17 +225,21 @@ pub does-Expire : (l new : Lists) (store : Store) (now period : ℕ) (reply : Re
     → OnErr reply (new ≡ l)
     → Does unshared (layout_of l store) (Expire now period) reply (layout_of new store)
 does-Expire l new store now period (Ok (answer.Expired gone)) pen follows expired same =
-    does-taken_out l new store (Expire now period) (answer.Expired gone) gone pen follows expired.taken (expired, refl)
+    does-taken_out l new store (Expire now period) (answer.Expired gone) gone pen follows expired.taken
+    (expired, refl)
 does-Expire l new store now period (Ok _) pen follows expired same = absurd expired
 does-Expire l new store now period (Err e) pen follows expired same =
     does-refused l new store (Expire now period) e pen follows refl same
 
 -- a listing
-pub does-Listing : (l : Lists) (store : Store) (options : ListOptions) (reply : Reply) → IsPen (layout_of l store)
+pub does-Listing : (l : Lists) (store : Store) (options : ListOptions) (reply : Reply)
+    → IsPen (layout_of l store)
     → StepsWorldsOver (pages_under store) l (Listing options) reply l
     → Does unshared (layout_of l store) (Listing options) reply (layout_of l store)
-does-Listing l store options (Ok a) pen follows = does-nothing l store (Listing options) (Ok a) pen follows refl
-does-Listing l store options (Err e) pen follows = does-nothing l store (Listing options) (Err e) pen follows refl
+does-Listing l store options (Ok a) pen follows =
+    does-nothing l store (Listing options) (Ok a) pen follows refl
+does-Listing l store options (Err e) pen follows =
+    does-nothing l store (Listing options) (Err e) pen follows refl
 
 -- a read of the current tree
 pub does-Read : (l : Lists) (store : Store) (a : Ask) (reply : Reply) → IsPen (layout_of l store)
@@ -226,8 +249,11 @@ does-Read l store a (Ok answer) pen follows = does-nothing l store (Read a) (Ok 
 does-Read l store a (Err e) pen follows = does-nothing l store (Read a) (Err e) pen follows refl
 
 -- a read of a mount
-pub does-MountRead : (l : Lists) (store : Store) (mount : ℕ) (a : Ask) (reply : Reply) → IsPen (layout_of l store)
+pub does-MountRead : (l : Lists) (store : Store) (mount : ℕ) (a : Ask) (reply : Reply)
+    → IsPen (layout_of l store)
     → StepsWorldsOver (pages_under store) l (MountRead mount a) reply l
     → Does unshared (layout_of l store) (MountRead mount a) reply (layout_of l store)
-does-MountRead l store mount a (Ok answer) pen follows = does-nothing l store (MountRead mount a) (Ok answer) pen follows refl
-does-MountRead l store mount a (Err e) pen follows = does-nothing l store (MountRead mount a) (Err e) pen follows refl
+does-MountRead l store mount a (Ok answer) pen follows =
+    does-nothing l store (MountRead mount a) (Ok answer) pen follows refl
+does-MountRead l store mount a (Err e) pen follows =
+    does-nothing l store (MountRead mount a) (Err e) pen follows refl

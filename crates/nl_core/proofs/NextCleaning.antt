@@ -12,7 +12,8 @@ module _ (l : Layout) (segment now n : ℕ) (is : n ≡ needed_count l.store (ne
   counted : needed_count l.store (needed_by l.lists) segment ≡ n
   counted = sym is
 
-  by-test : (t : Bool) → eqb n 0 ≡ t → cleaning_event l segment now ≡ cond {A = Event} t (Retire segment) (Move segment 30 now)
+  by-test : (t : Bool) → eqb n 0 ≡ t
+      → cleaning_event l segment now ≡ cond {A = Event} t (Retire segment) (Move segment 30 now)
   by-test t h =
       ap (λ (k : ℕ). cond {A = Event} (eqb k 0) (Retire segment) (Move segment 30 now)) counted
       ∙ ap (λ (b : Bool). cond {A = Event} b (Retire segment) (Move segment 30 now)) h

@@ -29,13 +29,19 @@ use Rattle.nl_core.proofs.Telling.{commits_tell_all}
 -- ---- beside readers
 
 -- what may be refused to a pen alone may be refused beside readers
-shared-more : (old new : Layout) (event : Event) (e : VolError) → unshared old new event e → shared old new event e
+shared-more : (old new : Layout) (event : Event) (e : VolError) → unshared old new event e
+    → shared old new event e
 shared-more old new event error.Memory may = tt
 shared-more old new event e may = may
 
-pub does-shared : (old new : Layout) (event : Event) (reply : Reply) → Does unshared old event reply new → Does shared old event reply new
+pub does-shared : (old new : Layout) (event : Event) (reply : Reply) → Does unshared old event reply new
+    → Does shared old event reply new
 does-shared old new event reply does = record {
-  follows = λ w m. let next = does.follows w m in record { after = next.after; means = next.means; step = more w next.after next.step };
+  follows = λ w m. let next = does.follows w m in record {
+    after = next.after;
+    means = next.means;
+    step = more w next.after next.step;
+  };
   becomes = does.becomes;
   numbers = does.numbers;
   pen = does.pen;
@@ -55,7 +61,8 @@ does-shared old new event reply does = record {
     ]
 
 -- memory is refused before anything changes
-no-memory : (l : Layout) (event : Event) → IsPen l → Becomes l event (Err error.Memory) l → Does shared l event (Err error.Memory) l
+no-memory : (l : Layout) (event : Event) → IsPen l → Becomes l event (Err error.Memory) l
+    → Does shared l event (Err error.Memory) l
 no-memory l event pen becomes = record {
   follows = λ w m. record {
     after = w;
@@ -102,16 +109,19 @@ module _ (old : Layout) (event : Event) (new : Layout) (before after : List Comm
   noting-refused e does same = noting (Err e) [] does (same ∙ sym (append-nil before)) refl
 
 -- memory is refused to an event that changes lists
-pub noting-unlisted : (l : Layout) (event : Event) (before after : List Commit) → IsPen l → ChangesLists event → after ≡ before
+pub noting-unlisted : (l : Layout) (event : Event) (before after : List Commit) → IsPen l → ChangesLists event
+    → after ≡ before
     → DoesNoting l event (Err error.Memory) l before after
 noting-unlisted l event before after pen lists same =
-    noting-refused l event l before after pen error.Memory (no-memory l event pen (unlisted l event lists)) same
+    noting-refused l event l before after pen error.Memory
+    (no-memory l event pen (unlisted l event lists)) same
 
 -- and to a retirement
 pub noting-unretired : (l : Layout) (segment : ℕ) (before after : List Commit) → IsPen l → after ≡ before
     → DoesNoting l (event.Retire segment) (Err error.Memory) l before after
 noting-unretired l segment before after pen same =
-    noting-refused l (event.Retire segment) l before after pen error.Memory (no-memory l (event.Retire segment) pen (refl, tt)) same
+    noting-refused l (event.Retire segment) l before after pen error.Memory
+    (no-memory l (event.Retire segment) pen (refl, tt)) same
 
 -- ---- events of which nothing is seen
 
@@ -132,10 +142,12 @@ IsUnseen (event.Mount n) = ⊥
 IsUnseen (event.Unmount m) = ⊥
 
 module _ (old new : Layout) (before : List Commit) (pen : IsPen old) where
-  noting-none : (event : Event) (reply : Reply) → Does unshared old event reply new → AreCommitsOf old event reply new []
+  noting-none : (event : Event) (reply : Reply) → Does unshared old event reply new
+      → AreCommitsOf old event reply new []
       → DoesNoting old event reply new before before
   noting-none event reply does none =
-      noting old event new before before pen reply [] (does-shared old new event reply does) (sym (append-nil before)) none
+      noting old event new before before pen reply [] (does-shared old new event reply does)
+      (sym (append-nil before)) none
 
   none-noted : (event : Event) (a : Answer) → IsUnseen event → HasNoted old event a new []
   none-noted (event.Apply c) a unseen = refl
@@ -160,7 +172,8 @@ module _ (old new : Layout) (before : List Commit) (pen : IsPen old) where
 
 -- ---- a mode that is there
 
-pub noting-same_mode : (old new : Layout) (n : ℕ) (mode : Mode) (reply : Reply) (before : List Commit) → IsPen old
+pub noting-same_mode : (old new : Layout) (n : ℕ) (mode : Mode) (reply : Reply) (before : List Commit)
+    → IsPen old
     → has_other_mode n mode old.lists.table ≡ false → Does unshared old (event.ChangeMode n mode) reply new
     → DoesNoting old (event.ChangeMode n mode) reply new before before
 noting-same_mode old new n mode (Ok a) before pen same does =
@@ -171,43 +184,62 @@ noting-same_mode old new n mode (Err e) before pen same does =
 
 -- ---- checkpoints and retirements
 
-pub noting-written : (old new : Layout) (mode : Mode) (moment : ℕ) (batch : Changes) (before after : List Commit) → IsPen old
-    → HasNotedWrite mode moment batch old new before after → IsStore new.store → old.store.failures ≤ new.store.failures
-    → DoesNoting old (event.Checkpoint mode moment) (Ok (answer.Checkpoint new.lists.table.latest.number)) new before after
+pub noting-written : (old new : Layout) (mode : Mode) (moment : ℕ) (batch : Changes)
+    (before after : List Commit)
+    → IsPen old
+    → HasNotedWrite mode moment batch old new before after → IsStore new.store
+    → old.store.failures ≤ new.store.failures
+    → DoesNoting old (event.Checkpoint mode moment)
+    (Ok (answer.Checkpoint new.lists.table.latest.number)) new before after
 noting-written old new mode moment batch before after pen noted store counted =
     let done = event.Checkpoint mode moment in
     let reply : Reply = Ok (answer.Checkpoint new.lists.table.latest.number) in
-    noting old done new before after pen reply (Written (new_checkpoint noted.writes.settled.changes new.lists.table.latest) ∷ [])
-    (does-shared old new done reply (does-written old new mode moment pen noted.writes store counted)) noted.behind (noted.writes, refl)
+    noting old done new before after pen reply
+    (Written (new_checkpoint noted.writes.settled.changes new.lists.table.latest) ∷ [])
+    (does-shared old new done reply (does-written old new mode moment pen noted.writes store counted))
+    noted.behind
+    (noted.writes, refl)
 
 -- what was noted was written by its batch
-pub written-batch : (old new : Layout) (mode : Mode) (moment : ℕ) (batch : Changes) (before after : List Commit)
+pub written-batch : (old new : Layout) (mode : Mode) (moment : ℕ) (batch : Changes)
+    (before after : List Commit)
     → HasNotedWrite mode moment batch old new before after → HasWrittenBatch mode moment batch old new
-written-batch old new mode moment batch before after noted = record { writes = noted.writes; batch_is = noted.batch_is }
+written-batch old new mode moment batch before after noted =
+    record { writes = noted.writes; batch_is = noted.batch_is }
 
-pub noting-unwritten : (old new : Layout) (mode : Mode) (moment : ℕ) (e : VolError) (before after : List Commit) → IsPen old
+pub noting-unwritten : (old new : Layout) (mode : Mode) (moment : ℕ) (e : VolError)
+    (before after : List Commit)
+    → IsPen old
     → HasRefused (event.Checkpoint mode moment) e old new → IsStore new.store → after ≡ before
     → DoesNoting old (event.Checkpoint mode moment) (Err e) new before after
 noting-unwritten old new mode moment e before after pen refused store same =
     noting-refused old (event.Checkpoint mode moment) new before after pen e
-    (does-shared old new (event.Checkpoint mode moment) (Err e) (does-refused old new mode moment e pen refused store)) same
+    (does-shared old new (event.Checkpoint mode moment) (Err e)
+    (does-refused old new mode moment e pen refused store))
+    same
 
-pub noting-retired : (old new : Layout) (segment : ℕ) (a : Answer) (gone : List ℕ) (before after : List Commit) → IsPen old
+pub noting-retired : (old new : Layout) (segment : ℕ) (a : Answer) (gone : List ℕ)
+    (before after : List Commit)
+    → IsPen old
     → Does unshared old (event.Retire segment) (Ok a) new
     → (segment < length old.store.segments.each → gone ≡ numbers_in old.store segment)
     → after ≡ before ++ where_any gone (Freed gone)
     → DoesNoting old (event.Retire segment) (Ok a) new before after
 noting-retired old new segment a gone before after pen does are behind =
-    let there = retired-inside old.store (needed_by old.lists) segment does.becomes.emptied.count does.becomes.emptied.judged in
+    let there =
+    retired-inside old.store
+    (needed_by old.lists) segment does.becomes.emptied.count does.becomes.emptied.judged in
     noting old (event.Retire segment) new before after pen (Ok a) (where_any gone (Freed gone))
     (does-shared old new (event.Retire segment) (Ok a) does) behind
     (ap (λ (vs : List ℕ). where_any vs (Freed vs)) (are there))
 
-pub noting-not_retired : (old new : Layout) (segment : ℕ) (e : VolError) (before after : List Commit) → IsPen old
+pub noting-not_retired : (old new : Layout) (segment : ℕ) (e : VolError) (before after : List Commit)
+    → IsPen old
     → Does unshared old (event.Retire segment) (Err e) new → after ≡ before
     → DoesNoting old (event.Retire segment) (Err e) new before after
 noting-not_retired old new segment e before after pen does same =
-    noting-refused old (event.Retire segment) new before after pen e (does-shared old new (event.Retire segment) (Err e) does) same
+    noting-refused old (event.Retire segment) new before after pen e
+    (does-shared old new (event.Retire segment) (Err e) does) same
 
 -- ---- moves
 
@@ -216,10 +248,12 @@ module _ (old new : Layout) (segment limit moment : ℕ) (before after : List Co
       → after ≡ before ++ moved_as a new.lists.table.latest
       → DoesNoting old (event.Move segment limit moment) (Ok a) new before after
   noting-moved a does behind =
-      noting old (event.Move segment limit moment) new before after pen (Ok a) (moved_as a new.lists.table.latest)
+      noting old (event.Move segment limit moment) new before after pen (Ok a)
+      (moved_as a new.lists.table.latest)
       (does-shared old new (event.Move segment limit moment) (Ok a) does) behind refl
 
-  pub noting-not_moved : (e : VolError) → Does unshared old (event.Move segment limit moment) (Err e) new → after ≡ before
+  pub noting-not_moved : (e : VolError) → Does unshared old (event.Move segment limit moment) (Err e) new
+      → after ≡ before
       → DoesNoting old (event.Move segment limit moment) (Err e) new before after
   noting-not_moved e does same =
       noting-refused old (event.Move segment limit moment) new before after pen e
@@ -232,10 +266,13 @@ pub noting-unreserved : (l : Layout) (segments : ℕ) (before after : List Commi
     → DoesNoting l (event.Resize segments) (Err error.Memory) l before after
 noting-unreserved l segments before after pen same =
     noting-refused l (event.Resize segments) l before after pen error.Memory
-    (no-memory l (event.Resize segments) pen (refl, record { numbers = refl; segments = refl; device = refl; payload = refl })) same
+    (no-memory l (event.Resize segments) pen
+    (refl, record { numbers = refl; segments = refl; device = refl; payload = refl }))
+    same
 
 -- what is noted of segments that are added, told of the store
-pub noted-more : (present segments blocks : ℕ) (s : Segments) (before reserved after : List Commit) → present ≡ length s.each → blocks ≡ s.blocks
+pub noted-more : (present segments blocks : ℕ) (s : Segments) (before reserved after : List Commit)
+    → present ≡ length s.each → blocks ≡ s.blocks
     → reserved ≡ before → after ≡ reserved ++ where_true (nat_lt present segments) (Resized segments blocks)
     → after ≡ before ++ where_true (nat_lt (length s.each) segments) (Resized segments s.blocks)
 noted-more present segments blocks s before reserved after many size same behind =
@@ -246,15 +283,21 @@ noted-more present segments blocks s before reserved after many size same behind
 
 pub noting-resized : (old new : Layout) (segments : ℕ) (a : Answer) (before after : List Commit) → IsPen old
     → Does unshared old (event.Resize segments) (Ok a) new
-    → after ≡ before ++ where_true (nat_lt (length old.store.segments.each) segments) (Resized segments old.store.segments.blocks)
+    → after
+    ≡ before
+    ++ where_true (nat_lt (length old.store.segments.each) segments)
+    (Resized segments old.store.segments.blocks)
     → DoesNoting old (event.Resize segments) (Ok a) new before after
 noting-resized old new segments a before after pen does behind =
     noting old (event.Resize segments) new before after pen (Ok a)
-    (where_true (nat_lt (length old.store.segments.each) segments) (Resized segments old.store.segments.blocks))
+    (where_true (nat_lt (length old.store.segments.each) segments)
+    (Resized segments old.store.segments.blocks))
     (does-shared old new (event.Resize segments) (Ok a) does) behind refl
 
-pub noting-not_resized : (old new : Layout) (segments : ℕ) (e : VolError) (before after : List Commit) → IsPen old
+pub noting-not_resized : (old new : Layout) (segments : ℕ) (e : VolError) (before after : List Commit)
+    → IsPen old
     → Does unshared old (event.Resize segments) (Err e) new → after ≡ before
     → DoesNoting old (event.Resize segments) (Err e) new before after
 noting-not_resized old new segments e before after pen does same =
-    noting-refused old (event.Resize segments) new before after pen e (does-shared old new (event.Resize segments) (Err e) does) same
+    noting-refused old (event.Resize segments) new before after pen e
+    (does-shared old new (event.Resize segments) (Err e) does) same

@@ -38,15 +38,23 @@ apart m n same (inr high) = omega (arith, same, high)
 
 fields-one : (a b : Root) → fields_of a ≡ fields_of b → a ≡ b
 fields-one variant.Empty variant.Empty same = refl
-fields-one variant.Empty (variant.Chain u) same = absurd (apart 0 1 (ap kind_of_fields same) (inl (omega arith)))
-fields-one variant.Empty (variant.Tree h u) same = absurd (apart 0 2 (ap kind_of_fields same) (inl (omega arith)))
-fields-one (variant.Chain t) variant.Empty same = absurd (apart 1 0 (ap kind_of_fields same) (inr (omega arith)))
-fields-one (variant.Chain t) (variant.Chain u) same = ap variant.Chain (ap (λ (f : RootFields). f.number) same)
-fields-one (variant.Chain t) (variant.Tree h u) same = absurd (apart 1 2 (ap kind_of_fields same) (inl (omega arith)))
-fields-one (variant.Tree g t) variant.Empty same = absurd (apart 2 0 (ap kind_of_fields same) (inr (omega arith)))
-fields-one (variant.Tree g t) (variant.Chain u) same = absurd (apart 2 1 (ap kind_of_fields same) (inr (omega arith)))
+fields-one variant.Empty (variant.Chain u) same =
+    absurd (apart 0 1 (ap kind_of_fields same) (inl (omega arith)))
+fields-one variant.Empty (variant.Tree h u) same =
+    absurd (apart 0 2 (ap kind_of_fields same) (inl (omega arith)))
+fields-one (variant.Chain t) variant.Empty same =
+    absurd (apart 1 0 (ap kind_of_fields same) (inr (omega arith)))
+fields-one (variant.Chain t) (variant.Chain u) same =
+    ap variant.Chain (ap (λ (f : RootFields). f.number) same)
+fields-one (variant.Chain t) (variant.Tree h u) same =
+    absurd (apart 1 2 (ap kind_of_fields same) (inl (omega arith)))
+fields-one (variant.Tree g t) variant.Empty same =
+    absurd (apart 2 0 (ap kind_of_fields same) (inr (omega arith)))
+fields-one (variant.Tree g t) (variant.Chain u) same =
+    absurd (apart 2 1 (ap kind_of_fields same) (inr (omega arith)))
 fields-one (variant.Tree g t) (variant.Tree h u) same =
-    ap (λ (k : ℕ). variant.Tree k t) (ap (λ (f : RootFields). f.height) same) ∙ ap (variant.Tree h) (ap (λ (f : RootFields). f.number) same)
+    ap (λ (k : ℕ). variant.Tree k t) (ap (λ (f : RootFields). f.height) same)
+    ∙ ap (variant.Tree h) (ap (λ (f : RootFields). f.number) same)
 
 checkpoint-one : (c d : Checkpoint) (e : CheckpointEntry) → IsEntryOf c e → IsEntryOf d e → c ≡ d
 checkpoint-one c d e a b =
@@ -56,7 +64,14 @@ checkpoint-one c d e a b =
     let stamp = sym a.stamp ∙ b.stamp in
     let root = fields-one c.root d.root (sym a.root ∙ b.root) in
     let inodes = sym a.inodes ∙ b.inodes in
-    λ i. record { number = number i; mode = mode i; minor = minor i; stamp = stamp i; root = root i; inodes = inodes i }
+    λ i. record {
+      number = number i;
+      mode = mode i;
+      minor = minor i;
+      stamp = stamp i;
+      root = root i;
+      inodes = inodes i;
+    }
 
 kept-one : (kept others : List Checkpoint) (entries : List CheckpointEntry) → AllZip IsEntryOf kept entries
     → AllZip IsEntryOf others entries → kept ≡ others
@@ -75,7 +90,8 @@ kept-one (c ∷ kept) (d ∷ others) (e ∷ entries) a b =
 abbrev latest_tree : List (ℕ × Copy) → Option Tree
 latest_tree copies = option_map (λ (copy : Copy). copy.tree) (find nat_cmp (greatest (numbers copies)) copies)
 
-module _ (meets_all : SoundCheckpointsMeetAll) (are_images : StoreImagesAreImages) (tell : StoreImagesTellPages)
+module _ (meets_all : SoundCheckpointsMeetAll) (are_images : StoreImagesAreImages)
+    (tell : StoreImagesTellPages)
     (one : ImagesHaveOneParts) (l m : Layout) (bytes : List ℕ) (w v : World) (pen : IsPen l) (other : IsPen m)
     (image : IsPenImage l bytes) (other_image : IsPenImage m bytes) (closed : CanBeClosed l.lists)
     (other_closed : CanBeClosed m.lists) (means : MeansWorld l w) (other_means : MeansWorld m v) where
@@ -104,7 +120,8 @@ module _ (meets_all : SoundCheckpointsMeetAll) (are_images : StoreImagesAreImage
   same-copies : w.copies ≡ v.copies
   same-copies = copies-one (layout_pages m) (kept_by m.lists) w.copies v.copies
       (subst (λ (pages : Pages). AllZip (CopyMeans pages) (kept_by m.lists) w.copies) same-pages
-      (subst (λ (kept : List Checkpoint). AllZip (CopyMeans (layout_pages l)) kept w.copies) same-kept means.copies))
+      (subst (λ (kept : List Checkpoint). AllZip (CopyMeans (layout_pages l)) kept w.copies) same-kept
+      means.copies))
       other_means.copies
 
   same-tree : w.tree ≡ v.tree
@@ -118,10 +135,15 @@ module _ (meets_all : SoundCheckpointsMeetAll) (are_images : StoreImagesAreImage
       let tree = same-tree in
       let dirty = means.dirty ∙ closed.clean ∙ sym (other_means.dirty ∙ other_closed.clean) in
       let copies = same-copies in
-      let mounts = means.mounts ∙ ap (map mount_of) (closed.unmounted ∙ sym other_closed.unmounted) ∙ sym other_means.mounts in
+      let mounts =
+      means.mounts ∙ ap (map mount_of) (closed.unmounted ∙ sym other_closed.unmounted)
+      ∙ sym other_means.mounts in
       λ i. record { tree = tree i; dirty = dirty i; copies = copies i; mounts = mounts i; given = 0 }
 
-pub images_mean_one_world : SoundCheckpointsMeetAll → StoreImagesAreImages → StoreImagesTellPages → ImagesHaveOneParts
+pub images_mean_one_world : SoundCheckpointsMeetAll → StoreImagesAreImages → StoreImagesTellPages
+    → ImagesHaveOneParts
     → ImagesMeanOneWorld
-images_mean_one_world meets_all are_images tell one l m bytes w v pen other image other_image closed other_closed means other_means =
-    same-world meets_all are_images tell one l m bytes w v pen other image other_image closed other_closed means other_means
+images_mean_one_world meets_all are_images tell one l m bytes w v pen other image other_image closed
+    other_closed means other_means =
+    same-world meets_all are_images tell one l m bytes w v pen other image other_image closed other_closed
+    means other_means

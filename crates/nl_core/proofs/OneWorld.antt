@@ -28,7 +28,8 @@ tree-one a b tree other same m n =
 root-one : (pages : Pages) (root : Root) (tree other : Tree) → RootMeans pages root tree
     → RootMeans pages root other → tree ≡ other
 root-one pages root tree other m n =
-    tree-one m.held n.held tree other (roots-hold_one pages (root_of root) m.held n.held m.holds.stores n.holds.stores)
+    tree-one m.held n.held tree other
+    (roots-hold_one pages (root_of root) m.held n.held m.holds.stores n.holds.stores)
     m.means.means n.means.means
 
 -- and so does a current tree over it
@@ -36,7 +37,8 @@ current-one : (pages : Pages) (root : Root) (current : Current) (tree other : Tr
     → CurrentMeans pages root current tree → CurrentMeans pages root current other → tree ≡ other
 current-one pages root current tree other m n =
     tree-one (holding_over current.became m.base) (holding_over current.became n.base) tree other
-    (ap (holding_over current.became) (roots-hold_one pages (root_of root) m.base n.base m.holds.stores n.holds.stores))
+    (ap (holding_over current.became)
+    (roots-hold_one pages (root_of root) m.base n.base m.holds.stores n.holds.stores))
     m.stands.stands.means n.stands.stands.means
 
 -- a checkpoint has one copy

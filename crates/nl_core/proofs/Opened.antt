@@ -32,22 +32,26 @@ use Rattle.nl_core.proofs.CheckedCopies.{HasTree, InLimits, copies-fit, copies-l
 use Rattle.nl_core.specs.Facts.Ledgers.{found-all}
 
 -- what is found under a number has it
-numbered-found : (n : ℕ) (kept : List Checkpoint) (c : Checkpoint) → find nat_cmp n (map by_number kept) ≡ Some c → c.number ≡ n
+numbered-found : (n : ℕ) (kept : List Checkpoint) (c : Checkpoint)
+    → find nat_cmp n (map by_number kept) ≡ Some c → c.number ≡ n
 numbered-found n [] c e = cc
 numbered-found n (k ∷ kept) c e = by (eq_by_cmp nat_cmp n k.number) refl e (λ h. numbered-found n kept c h)
   where
-    by : (b : Bool) → eq_by_cmp nat_cmp n k.number ≡ b → cond b (Some k) (find nat_cmp n (map by_number kept)) ≡ Some c
+    by : (b : Bool) → eq_by_cmp nat_cmp n k.number ≡ b
+        → cond b (Some k) (find nat_cmp n (map by_number kept)) ≡ Some c
         → (find nat_cmp n (map by_number kept) ≡ Some c → c.number ≡ n) → c.number ≡ n
     by true t h more =
         let it : k ≡ c = cc in
-        ap (λ (x : Checkpoint). x.number) (sym it) ∙ eqb-true k.number n (sym (eq_by_cmp-nat_cmp n k.number) ∙ t)
+        ap (λ (x : Checkpoint). x.number) (sym it)
+        ∙ eqb-true k.number n (sym (eq_by_cmp-nat_cmp n k.number) ∙ t)
     by false t h more = more h
 
 module _ (limited : LimitedInodesMeanTrees) (sound_trees : SoundTreesAreMeant) where
   -- a checkpoint that was checked stands for a tree
   tree-of : (content : Content) (c : Checkpoint) → IsChecked content c → HasTree (pages_of content) c
   tree-of content c checked =
-      (sound_trees (pages_of content) (root_of (checkpoint_root c)) checked.size c.inodes checked.meets.shaped checked.meets.tree).1
+      (sound_trees (pages_of content)
+      (root_of (checkpoint_root c)) checked.size c.inodes checked.meets.shaped checked.meets.tree).1
 
   pub checked_have-inodes : CheckedCheckpointsHaveInodes
   checked_have-inodes content c checked = some-inode (pages_of content) limited c (tree-of content c checked)
@@ -59,17 +63,23 @@ module _ (limited : LimitedInodesMeanTrees) (sound_trees : SoundTreesAreMeant) w
     abbrev table : Table
     table = l.lists.table
 
-    sound-of : (c : Checkpoint) → IsChecked content c → IsTreeSound (layout_pages l) (root_of (checkpoint_root c))
+    sound-of : (c : Checkpoint) → IsChecked content c
+        → IsTreeSound (layout_pages l) (root_of (checkpoint_root c))
     sound-of c checked =
-        (sound_trees (pages_of content) (root_of (checkpoint_root c)) checked.size c.inodes checked.meets.shaped checked.meets.tree).0
+        (sound_trees (pages_of content)
+        (root_of (checkpoint_root c)) checked.size c.inodes checked.meets.shaped checked.meets.tree).0
 
-    exact-of : (c : Checkpoint) → IsChecked content c → IsExact content c.number (reached_by (layout_pages l) c)
-    exact-of c checked = exact_periods content c.number (root_of (checkpoint_root c)) checked.size c.inodes checked.meets.shaped
+    exact-of : (c : Checkpoint) → IsChecked content c
+        → IsExact content c.number (reached_by (layout_pages l) c)
+    exact-of c checked =
+        exact_periods content c.number
+        (root_of (checkpoint_root c)) checked.size c.inodes checked.meets.shaped
         checked.meets.tree checked.meets.exact
 
     trees : AllByRecursion (HasTree (layout_pages l)) (kept_by l.lists)
     trees = recursion_from_All (HasTree (layout_pages l)) (kept_by l.lists)
-        (All-weaker (IsChecked content) (HasTree (layout_pages l)) (tree-of content) (kept_by l.lists) opened.checked)
+        (All-weaker (IsChecked content) (HasTree (layout_pages l)) (tree-of content)
+        (kept_by l.lists) opened.checked)
 
     -- ---- the numbers of checkpoints
 
@@ -80,16 +90,19 @@ module _ (limited : LimitedInodesMeanTrees) (sound_trees : SoundTreesAreMeant) w
     IsNotAbove c = c.number ≤ table.latest.number
 
     earlier-below : All IsBelow table.earlier
-    earlier-below = All-weaker (λ (c : Checkpoint). Precedes c table.latest) IsBelow (λ c p. p.number) table.earlier
+    earlier-below =
+        All-weaker (λ (c : Checkpoint). Precedes c table.latest) IsBelow (λ c p. p.number) table.earlier
         (All-from_recursion (λ (c : Checkpoint). Precedes c table.latest) table.earlier
         (IsRising-last table.earlier table.latest opened.table.rising))
 
     none-above : All IsNotAbove (kept_by l.lists)
     none-above = All-push IsNotAbove table.earlier table.latest
-        (All-weaker IsBelow IsNotAbove (λ c low. omega (arith, low)) table.earlier earlier-below) (omega arith)
+        (All-weaker IsBelow IsNotAbove (λ c low. omega (arith, low)) table.earlier earlier-below)
+        (omega arith)
 
     in-limits : AllByRecursion (InLimits (layout_pages l)) (kept_by l.lists)
-    in-limits = recursion_from_All (InLimits (layout_pages l)) (kept_by l.lists) (λ i d inside. fits i d inside)
+    in-limits =
+        recursion_from_All (InLimits (layout_pages l)) (kept_by l.lists) (λ i d inside. fits i d inside)
       where
         fits : All (InLimits (layout_pages l)) (kept_by l.lists)
         fits i d inside =
@@ -99,7 +112,8 @@ module _ (limited : LimitedInodesMeanTrees) (sound_trees : SoundTreesAreMeant) w
             (omega (arith, low), omega (arith, high, limit))
 
     latest-found : kept_at table.latest.number table ≡ Some table.latest
-    latest-found = kept-last table opened.table table.latest.number (eq-eqb table.latest.number table.latest.number refl)
+    latest-found =
+        kept-last table opened.table table.latest.number (eq-eqb table.latest.number table.latest.number refl)
 
     -- ---- the ledger
 
@@ -114,9 +128,11 @@ module _ (limited : LimitedInodesMeanTrees) (sound_trees : SoundTreesAreMeant) w
         inside : (a b : Numbers) → Some a ≡ Some b → a ≡ b
         inside a b e = cc
 
-        by : (o : Option Checkpoint) → kept_at c table ≡ o → option_map (reached_by (layout_pages l)) o ≡ Some numbers → IsKept c numbers
+        by : (o : Option Checkpoint) → kept_at c table ≡ o
+            → option_map (reached_by (layout_pages l)) o ≡ Some numbers → IsKept c numbers
         by None at h = cc
-        by (Some k) at h = record { checkpoint = k; at = at; reaches = inside (reached_by (layout_pages l) k) numbers h }
+        by (Some k) at h =
+            record { checkpoint = k; at = at; reaches = inside (reached_by (layout_pages l) k) numbers h }
 
     ledger : IsLedger (ledger_of l)
     ledger = record {
@@ -134,18 +150,22 @@ module _ (limited : LimitedInodesMeanTrees) (sound_trees : SoundTreesAreMeant) w
           omega (arith, low, numbered-found c (kept_by l.lists) k.checkpoint k.at);
     }
       where
-        there : (f : ℕ → Option Numbers) → f table.latest.number ≡ Some (reached_by (layout_pages l) table.latest)
+        there : (f : ℕ → Option Numbers)
+            → f table.latest.number ≡ Some (reached_by (layout_pages l) table.latest)
             → f table.latest.number ≡ Some (unwrap_or (f table.latest.number) (λ _. None))
         there f e = by (f table.latest.number) e
           where
-            by : (o : Option Numbers) → o ≡ Some (reached_by (layout_pages l) table.latest) → o ≡ Some (unwrap_or o (λ _. None))
+            by : (o : Option Numbers) → o ≡ Some (reached_by (layout_pages l) table.latest)
+                → o ≡ Some (unwrap_or o (λ _. None))
             by None e = cc
             by (Some n) e = refl
 
     sound : IsSoundPen l
     sound = record {
       ledger = ledger;
-      trees_sound = All-weaker (IsChecked content) (λ (c : Checkpoint). IsTreeSound (layout_pages l) (root_of (checkpoint_root c))) sound-of
+      trees_sound =
+          All-weaker (IsChecked content)
+          (λ (c : Checkpoint). IsTreeSound (layout_pages l) (root_of (checkpoint_root c))) sound-of
           (kept_by l.lists) opened.checked;
       latest = latest-found;
       last = opened.table.limit;
@@ -168,7 +188,9 @@ module _ (limited : LimitedInodesMeanTrees) (sound_trees : SoundTreesAreMeant) w
 
     latest-copy : copy_at world (latest world) ≡ Some (copy_of (layout_pages l) table.latest newest)
     unfolding world newest
-    latest-copy = copies-last (layout_pages l) table.earlier table.latest trees (recursion_from_All IsBelow table.earlier earlier-below)
+    latest-copy =
+        copies-last (layout_pages l) table.earlier table.latest trees
+        (recursion_from_All IsBelow table.earlier earlier-below)
 
     is-world : IsWorld world
     unfolding world
@@ -189,7 +211,8 @@ module _ (limited : LimitedInodesMeanTrees) (sound_trees : SoundTreesAreMeant) w
 
     -- nothing differs from the latest checkpoint
     over-nothing : (i : ℕ) → holding_over l.lists.current.became newest.holding i ≡ newest.holding i
-    over-nothing i = ap (λ (became : List (ℕ × Became)). holding_over became newest.holding i) opened.rest.unchanged
+    over-nothing i =
+        ap (λ (became : List (ℕ × Became)). holding_over became newest.holding i) opened.rest.unchanged
 
     same-holding : holding_over l.lists.current.became newest.holding ≡ newest.holding
     same-holding j i = over-nothing i j
@@ -200,12 +223,17 @@ module _ (limited : LimitedInodesMeanTrees) (sound_trees : SoundTreesAreMeant) w
       counts = record {
         first = let m = opened.rest.unmarked in omega (arith, m);
         last = let m = opened.rest.unmarked in omega (arith, m);
-        freed = λ n is. let none : is_one_of [] n ≡ true = ap (λ (ns : List ℕ). is_one_of ns n) (sym opened.rest.none_freed) ∙ is in cc;
+        freed = λ n is.
+            let none : is_one_of [] n ≡ true =
+            ap (λ (ns : List ℕ). is_one_of ns n) (sym opened.rest.none_freed) ∙ is in
+            cc;
         filled = λ n low high. let m = opened.rest.unmarked in absurd (omega (arith, m, low, high));
         beyond = λ n low. inr (ap is_some (over-nothing n));
       };
       stands = record {
-        means = subst (λ (h : Holding). MeansTree (inodes_of_holding h) newest.tree) (sym same-holding) newest.means.means;
+        means =
+            subst (λ (h : Holding). MeansTree (inodes_of_holding h) newest.tree)
+            (sym same-holding) newest.means.means;
         count = newest.means.count ∙ sym opened.rest.names;
       };
       few = few;

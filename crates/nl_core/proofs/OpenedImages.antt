@@ -31,7 +31,8 @@ use Rattle.nl_core.specs.Opened.{IsAtRest, IsChecked, IsOpened, IsRestoredStore,
 use Rattle.nl_core.specs.Volume.{Lists}
 use Rattle.nl_core.proofs.Opening.{each-checked, each-rooted, latest-checked, periods-bounded}
 
-last-behind : (e f : CheckpointEntry) (kept : List CheckpointEntry) → number_of_last (e ∷ f ∷ kept) ≡ number_of_last (f ∷ kept)
+last-behind : (e f : CheckpointEntry) (kept : List CheckpointEntry)
+    → number_of_last (e ∷ f ∷ kept) ≡ number_of_last (f ∷ kept)
 last-behind e f kept =
     ap (λ (i : ℕ). option_map_or (λ (c : CheckpointEntry). c.number) (slice_get (e ∷ f ∷ kept) i) 0) front
     ∙ ap (λ (i : ℕ). option_map_or (λ (c : CheckpointEntry). c.number) (slice_get (f ∷ kept) i) 0) back
@@ -51,7 +52,8 @@ last-number [] latest (e ∷ f ∷ kept) are = absurd are.1
 last-number (c ∷ earlier) latest [] are = absurd are
 last-number (c ∷ []) latest (e ∷ []) are = absurd are.1
 last-number (c ∷ d ∷ earlier) latest (e ∷ []) are = absurd are.1
-last-number (c ∷ earlier) latest (e ∷ f ∷ kept) are = last-behind e f kept ∙ last-number earlier latest (f ∷ kept) are.1
+last-number (c ∷ earlier) latest (e ∷ f ∷ kept) are =
+    last-behind e f kept ∙ last-number earlier latest (f ∷ kept) are.1
 
 module _ (bytes : List ℕ) (r : ReadImage) (is : IsReadImage bytes r) where
   abbrev p : Parts
@@ -81,11 +83,14 @@ module _ (bytes : List ℕ) (r : ReadImage) (is : IsReadImage bytes r) where
   -- the payload that was read is the numbers' own too
   pub own-read : HaveOwn r.numbers r.logs.payload
   own-read v e at =
-      let there : entry_told p.numbers v ≡ Some e = ap (λ (table : List (Option DatEntry)). entry_in table v) (sym is.numbers) ∙ at in
-      own_by_both one_list_stands p.segments (blocks_told bytes p) r.logs.pages is.logs.pages r.logs.payload logs.payload
+      let there : entry_told p.numbers v ≡ Some e =
+      ap (λ (table : List (Option DatEntry)). entry_in table v) (sym is.numbers) ∙ at in
+      own_by_both one_list_stands p.segments
+      (blocks_told bytes p) r.logs.pages is.logs.pages r.logs.payload logs.payload
       is.logs.logs logs.whole v e (dat.entries v e there).used (logs.own v e there)
 
-  module _ (store : Store) (made : IsRestoredStore r.segments r.logs r.numbers store) (sound : IsStore store) where
+  module _ (store : Store) (made : IsRestoredStore r.segments r.logs r.numbers store)
+      (sound : IsStore store) where
     pub numbers-shown : entries_shown store ≡ table_of p.numbers
     numbers-shown = made.shown ∙ is.numbers
 
@@ -94,9 +99,11 @@ module _ (bytes : List ℕ) (r : ReadImage) (is : IsReadImage bytes r) where
         ap (λ (table : List (Option DatEntry)). slice_index_or table v None) (sym numbers-shown)
         ∙ get_or-map (option_map dat_entry_of) store.numbers v None
 
-    page-told : (v : ℕ) (n : Numbered) → numbered_in store v ≡ Some n → blocks_told bytes p n.block ≡ Some n.entry.page
+    page-told : (v : ℕ) (n : Numbered) → numbered_in store v ≡ Some n
+        → blocks_told bytes p n.block ≡ Some n.entry.page
     page-told v n there =
-        let at : entry_told p.numbers v ≡ Some (dat_entry_of n) = told-at v ∙ ap (option_map dat_entry_of) there in
+        let at : entry_told p.numbers v ≡ Some (dat_entry_of n) =
+        told-at v ∙ ap (option_map dat_entry_of) there in
         let used : IsUsed p.segments n.block = (dat.entries v (dat_entry_of n) at).used in
         let page = used_page p.segments (page_in r.logs.pages) r.logs.payload is.logs.logs n.block used in
         sym (is.logs.pages.used n.block used)
@@ -112,12 +119,16 @@ module _ (bytes : List ℕ) (r : ReadImage) (is : IsReadImage bytes r) where
         by v (Some n) there = page-told v n there
 
         at : (v : ℕ) → pages_told bytes p v ≡ pages_of (content_in store) v
-        at v = ap (option_and_then (λ (e : DatEntry). blocks_told bytes p e.block)) (told-at v) ∙ by v (numbered_in store v) refl
+        at v =
+            ap (option_and_then (λ (e : DatEntry). blocks_told bytes p e.block)) (told-at v)
+            ∙ by v (numbered_in store v) refl
 
     periods-are : periods_told p ≡ periods_of (content_in store)
     periods-are = λ i v. at v i
       where
-        by : (o : Option Numbered) → option_map period_of_entry (option_map dat_entry_of o) ≡ option_map period_of (option_map entry_now o)
+        by : (o : Option Numbered)
+            → option_map period_of_entry (option_map dat_entry_of o)
+            ≡ option_map period_of (option_map entry_now o)
         by None = refl
         by (Some n) = refl
 
@@ -145,14 +156,17 @@ module _ (bytes : List ℕ) (r : ReadImage) (is : IsReadImage bytes r) where
       bounded : IsBounded (content_in store) t.latest.number
       bounded =
           subst (IsBounded (content_in store)) (last-number t.earlier t.latest p.kept told-entries)
-          (periods-bounded p.segments (latest_told p) (dat_in p.shape bytes) p.numbers dat store numbers-shown)
+          (periods-bounded p.segments (latest_told p)
+          (dat_in p.shape bytes) p.numbers dat store numbers-shown)
 
-      pub is-opened : (lists : Lists) → lists ≡ opened_lists t → IsTable lists.table → IsAtRest lists → IsOpened (layout_of lists store)
+      pub is-opened : (lists : Lists) → lists ≡ opened_lists t → IsTable lists.table → IsAtRest lists
+          → IsOpened (layout_of lists store)
       is-opened lists same table rest =
           let at : lists.table ≡ t = ap (λ (l : Lists). l.table) same in record {
             store = sound;
             periods = subst (λ (u : Table). IsBounded (content_in store) u.latest.number) (sym at) bounded;
             table = table;
-            checked = subst (λ (u : Table). All (IsChecked (content_in store)) (all u)) (sym at) each-was-checked;
+            checked =
+                subst (λ (u : Table). All (IsChecked (content_in store)) (all u)) (sym at) each-was-checked;
             rest = rest;
           }

@@ -53,7 +53,8 @@ some-entry (c ∷ earlier) latest [] are = absurd are
 some-entry earlier latest (e ∷ entries) are = omega arith
 
 -- sized entries are entries
-pub entries-of : (pages : Pages) (kept : List Checkpoint) (entries : List CheckpointEntry) → AreSized pages kept entries
+pub entries-of : (pages : Pages) (kept : List Checkpoint) (entries : List CheckpointEntry)
+    → AreSized pages kept entries
     → AllZip IsEntryOf kept entries
 entries-of pages [] [] sized = tt
 entries-of pages [] (e ∷ entries) sized = absurd sized
@@ -66,7 +67,8 @@ record TellsCopy (e : CheckpointEntry) (copy : ℕ × Copy) : Type 0 where
   pub number : e.number ≡ copy.0
   pub stamp : e.stamp ≡ copy.1.stamp
 
-tell-copies : (pages : Pages) (kept : List Checkpoint) (entries : List CheckpointEntry) (copies : List (ℕ × Copy))
+tell-copies : (pages : Pages) (kept : List Checkpoint) (entries : List CheckpointEntry)
+    (copies : List (ℕ × Copy))
     → AllZip IsEntryOf kept entries → AllZip (CopyMeans pages) kept copies → AllZip TellsCopy entries copies
 tell-copies pages [] [] [] are means = tt
 tell-copies pages [] (e ∷ entries) copies are means = absurd are
@@ -79,14 +81,17 @@ tell-copies pages (c ∷ kept) (e ∷ entries) (copy ∷ copies) are means = (
 )
 
 -- the first precedes all others
-precedes-all : (e : CheckpointEntry) (copy : ℕ × Copy) (entries : List CheckpointEntry) (copies : List (ℕ × Copy))
+precedes-all : (e : CheckpointEntry) (copy : ℕ × Copy) (entries : List CheckpointEntry)
+    (copies : List (ℕ × Copy))
     → TellsCopy e copy → AllZip TellsCopy entries copies → below_all nat_cmp copy.0 copies ≡ true
     → list_all (λ (d : ℕ × Copy). leb copy.1.stamp d.1.stamp) copies ≡ true → All (Precedes e) entries
 precedes-all e copy [] copies tells each below stamps = All-nil (Precedes e)
 precedes-all e copy (f ∷ entries) [] tells each below stamps = absurd each
 precedes-all e copy (f ∷ entries) (d ∷ copies) tells each below stamps =
     let numbers = and_parts (is_lt (nat_cmp copy.0 d.0)) (below_all nat_cmp copy.0 copies) below in
-    let moments = and_parts (leb copy.1.stamp d.1.stamp) (list_all (λ (x : ℕ × Copy). leb copy.1.stamp x.1.stamp) copies) stamps in
+    let moments =
+    and_parts (leb copy.1.stamp d.1.stamp)
+    (list_all (λ (x : ℕ × Copy). leb copy.1.stamp x.1.stamp) copies) stamps in
     let less : copy.0 < d.0 = before-lt copy.0 d.0 numbers.0 in
     let low : copy.1.stamp ≤ d.1.stamp = leb-true copy.1.stamp d.1.stamp moments.0 in
     All-cons (Precedes e) f entries
@@ -102,13 +107,16 @@ each-precedes [] copies each sorted stamps = λ i j d before within. absurd (ome
 each-precedes (e ∷ entries) [] each sorted stamps = absurd each
 each-precedes (e ∷ entries) (copy ∷ copies) each sorted stamps =
     let numbers = and_parts (below_all nat_cmp copy.0 copies) (is_sorted nat_cmp copies) sorted in
-    let moments = and_parts (list_all (λ (d : ℕ × Copy). leb copy.1.stamp d.1.stamp) copies) (are_stamps_rising copies) stamps in
+    let moments =
+    and_parts (list_all (λ (d : ℕ × Copy). leb copy.1.stamp d.1.stamp) copies)
+    (are_stamps_rising copies) stamps in
     AllPairs-cons Precedes e entries
     (precedes-all e copy entries copies each.0 each.1 numbers.0 moments.0)
     (each-precedes entries copies each.1 numbers.1 moments.1)
 
 each-numbered : (entries : List CheckpointEntry) (copies : List (ℕ × Copy)) → AllZip TellsCopy entries copies
-    → list_all (λ (c : ℕ × Copy). ltb 0 c.0 && ltb c.0 checkpoint_number_limit) copies ≡ true → All HasNumber entries
+    → list_all (λ (c : ℕ × Copy). ltb 0 c.0 && ltb c.0 checkpoint_number_limit) copies ≡ true
+    → All HasNumber entries
 each-numbered [] copies each fit = All-nil HasNumber
 each-numbered (e ∷ entries) [] each fit = absurd each
 each-numbered (e ∷ entries) (copy ∷ copies) each fit =
@@ -124,7 +132,8 @@ each-numbered (e ∷ entries) (copy ∷ copies) each fit =
 -- ---- periods
 
 -- those of a store's entries are those of its numbers
-each-period : (store : Store) (latest : ℕ) → IsStore store → IsBounded (content_in store) latest → (v : ℕ) (e : DatEntry)
+each-period : (store : Store) (latest : ℕ) → IsStore store → IsBounded (content_in store) latest
+    → (v : ℕ) (e : DatEntry)
     → entry_told (numbers_shown store) v ≡ Some e → HasPeriod latest e
 each-period store latest is bounded v e at =
     let n = entry-of store is v e at in
@@ -140,7 +149,8 @@ each-period store latest is bounded v e at =
 -- ---- what is judged of each checkpoint
 
 -- each kept checkpoint stands for the tree of its copy
-all-stand : (pages : Pages) (kept : List Checkpoint) (copies : List (ℕ × Copy)) → AllZip (CopyMeans pages) kept copies
+all-stand : (pages : Pages) (kept : List Checkpoint) (copies : List (ℕ × Copy))
+    → AllZip (CopyMeans pages) kept copies
     → All (HasTree pages) kept
 all-stand pages [] [] means = All-nil (HasTree pages)
 all-stand pages [] (copy ∷ copies) means = absurd means
@@ -165,7 +175,8 @@ module _ (meets_all : SoundCheckpointsMeetAll) (content : Content) where
   one-meets : (c : Checkpoint) (e : CheckpointEntry) → IsWhole content c → IsSizedEntry (pages_of content) c e
       → MeetsAll content c.number (root_of (checkpoint_root c)) e.size c.inodes
   one-meets c e whole sized =
-      meets_all content c.number (root_of (checkpoint_root c)) e.size whole.tree.holding whole.tree.tree c.inodes whole.sound
+      meets_all content c.number
+      (root_of (checkpoint_root c)) e.size whole.tree.holding whole.tree.tree c.inodes whole.sound
       whole.tree.holds whole.tree.means sized.size whole.exact
 
   all-shaped : (kept : List Checkpoint) (entries : List CheckpointEntry) → All (IsWhole content) kept
@@ -174,8 +185,12 @@ module _ (meets_all : SoundCheckpointsMeetAll) (content : Content) where
   all-shaped [] (e ∷ entries) whole sized = absurd sized
   all-shaped (c ∷ kept) [] whole sized = absurd sized
   all-shaped (c ∷ kept) (e ∷ entries) whole sized =
-      All-cons (IsSoundShape (pages_of content)) (told e) (map told entries)
-      (root_of (checkpoint_root c), told-whole (pages_of content) c e sized.0.entry (All-head (IsWhole content) c kept whole).sound.inode_file, (one-meets c e (All-head (IsWhole content) c kept whole) sized.0).shaped)
+      All-cons (IsSoundShape (pages_of content)) (told e) (map told entries) (
+        root_of (checkpoint_root c),
+        told-whole (pages_of content) c e sized.0.entry
+            (All-head (IsWhole content) c kept whole).sound.inode_file,
+        (one-meets c e (All-head (IsWhole content) c kept whole) sized.0).shaped,
+      )
       (all-shaped kept entries (All-tail (IsWhole content) c kept whole) sized.1)
 
   all-trees : (kept : List Checkpoint) (entries : List CheckpointEntry) → All (IsWhole content) kept
@@ -186,23 +201,29 @@ module _ (meets_all : SoundCheckpointsMeetAll) (content : Content) where
   all-trees (c ∷ kept) (e ∷ entries) whole sized =
       All-cons (IsSoundTree (pages_of content)) (told e) (map told entries) (
         root_of (checkpoint_root c),
-        told-whole (pages_of content) c e sized.0.entry (All-head (IsWhole content) c kept whole).sound.inode_file,
+        told-whole (pages_of content) c e sized.0.entry
+            (All-head (IsWhole content) c kept whole).sound.inode_file,
         subst (IsTreeOf (pages_of content) (root_of (checkpoint_root c)) e.size) (sym sized.0.entry.inodes)
             (one-meets c e (All-head (IsWhole content) c kept whole) sized.0).tree,
       )
       (all-trees kept entries (All-tail (IsWhole content) c kept whole) sized.1)
 
   all-exact : (kept : List Checkpoint) (entries : List CheckpointEntry) → All (IsWhole content) kept
-      → AreSized (pages_of content) kept entries → AreExact (pages_of content) (periods_of content) (map told entries)
+      → AreSized (pages_of content) kept entries
+      → AreExact (pages_of content) (periods_of content) (map told entries)
   all-exact [] [] whole sized = All-nil (HasExactPeriods (pages_of content) (periods_of content))
   all-exact [] (e ∷ entries) whole sized = absurd sized
   all-exact (c ∷ kept) [] whole sized = absurd sized
   all-exact (c ∷ kept) (e ∷ entries) whole sized =
       All-cons (HasExactPeriods (pages_of content) (periods_of content)) (told e) (map told entries) (
         root_of (checkpoint_root c),
-        told-whole (pages_of content) c e sized.0.entry (All-head (IsWhole content) c kept whole).sound.inode_file,
-        subst (λ (n : ℕ). MeetsItsNumbers (pages_of content) (periods_of content) n (root_of (checkpoint_root c)))
-            (sym sized.0.entry.number) (one-meets c e (All-head (IsWhole content) c kept whole) sized.0).exact,
+        told-whole (pages_of content) c e sized.0.entry
+            (All-head (IsWhole content) c kept whole).sound.inode_file,
+        subst
+            (λ (n : ℕ).
+            MeetsItsNumbers (pages_of content) (periods_of content) n (root_of (checkpoint_root c)))
+            (sym sized.0.entry.number)
+            (one-meets c e (All-head (IsWhole content) c kept whole) sized.0).exact,
       )
       (all-exact kept entries (All-tail (IsWhole content) c kept whole) sized.1)
 
@@ -213,10 +234,14 @@ kept-whole : (l : Layout) → IsPen l → All (IsWhole (content_in l.store)) (ke
 kept-whole l pen i d low =
     let c : Checkpoint = get_or (kept_by l.lists) i d in
     let means = pen.world.1 in
-    let at = found-own (layout_pages l) (kept_by l.lists) pen.world.0.copies means.copies means.world.numbers_rise i d low in
+    let at =
+    found-own (layout_pages l)
+    (kept_by l.lists) pen.world.0.copies means.copies means.world.numbers_rise i d low in
     record {
       sound = pen.sound.trees_sound i d low;
-      exact = pen.sound.ledger.exact c.number (reached_by (layout_pages l) c) (ap (option_map (reached_by (layout_pages l))) at);
+      exact =
+          pen.sound.ledger.exact c.number (reached_by (layout_pages l) c)
+          (ap (option_map (reached_by (layout_pages l))) at);
       tree = all-stand (layout_pages l) (kept_by l.lists) pen.world.0.copies means.copies i d low;
     }
 
@@ -231,10 +256,13 @@ are-kept meets_all l entries pen sized =
     record {
       some = some-entry l.lists.table.earlier l.lists.table.latest entries are;
       rise = record {
-        rising = each-precedes entries pen.world.0.copies tell means.world.numbers_rise means.world.stamps_rise;
+        rising =
+            each-precedes entries pen.world.0.copies tell means.world.numbers_rise means.world.stamps_rise;
         numbers = each-numbered entries pen.world.0.copies tell means.world.numbers_fit;
       };
-      periods = λ v e at. subst (λ (n : ℕ). HasPeriod n e) (sym (last-number l.lists.table.earlier l.lists.table.latest entries are))
+      periods = λ v e at.
+          subst (λ (n : ℕ). HasPeriod n e)
+          (sym (last-number l.lists.table.earlier l.lists.table.latest entries are))
           (each-period l.store l.lists.table.latest.number pen.sound.store pen.sound.ledger.bounded v e at);
       shaped = all-shaped meets_all (content_in l.store) (kept_by l.lists) entries whole sized;
       trees = all-trees meets_all (content_in l.store) (kept_by l.lists) entries whole sized;
@@ -243,8 +271,10 @@ are-kept meets_all l entries pen sized =
 
 pub pen_images_are_images : SoundCheckpointsMeetAll → StoreImagesAreImages → PenImagesAreImages
 pen_images_are_images meets_all are_images l bytes pen image =
-    are_images l.store (kept_by l.lists) bytes pen.sound.store image (are-kept meets_all l image.entries pen image.are.sized)
+    are_images l.store (kept_by l.lists) bytes pen.sound.store image
+    (are-kept meets_all l image.entries pen image.are.sized)
 
 pub pens_have_one_image : SoundCheckpointsMeetAll → StoresHaveOneImage → PensHaveOneImage
 pens_have_one_image meets_all one l bytes other pen image other_image =
-    one l.store (kept_by l.lists) bytes other image (are-kept meets_all l image.entries pen image.are.sized).shaped other_image
+    one l.store (kept_by l.lists) bytes other image
+    (are-kept meets_all l image.entries pen image.are.sized).shaped other_image

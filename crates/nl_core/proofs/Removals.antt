@@ -44,7 +44,8 @@ neither true b is = cc
 neither false b is = (refl, is)
 
 -- where the latest checkpoint stays, each removal is one that there may be
-allowed-all : (gone : List ℕ) (l : Ledger) → is_one_of gone l.latest ≡ false → EachAllowed (map Forgets gone) l
+allowed-all : (gone : List ℕ) (l : Ledger) → is_one_of gone l.latest ≡ false
+    → EachAllowed (map Forgets gone) l
 allowed-all [] l stays = tt
 allowed-all (n ∷ gone) l stays =
     let parts = neither (eqb l.latest n) (is_one_of gone l.latest) stays in
@@ -56,11 +57,13 @@ module _ (l : Layout) (gone : List ℕ) (stays : is_one_of gone l.lists.table.la
   abbrev pub left_layout : Layout
   left_layout = layout_of (without_checkpoints gone l.lists) l.store
 
-  mapped : {A B : Type 0} (f : A → B) (b : Bool) (o : Option A) → option_map f (unless b o) ≡ unless b (option_map f o)
+  mapped : {A B : Type 0} (f : A → B) (b : Bool) (o : Option A)
+      → option_map f (unless b o) ≡ unless b (option_map f o)
   mapped f true o = refl
   mapped f false o = refl
 
-  kept-left : (c : ℕ) → (ledger_of left_layout).kept c ≡ (ledger_after_all (map Forgets gone) (ledger_of l)).kept c
+  kept-left : (c : ℕ)
+      → (ledger_of left_layout).kept c ≡ (ledger_after_all (map Forgets gone) (ledger_of l)).kept c
   kept-left c =
       ap (option_map (reached_by (layout_pages l))) (kept-without gone l.lists.table stays c)
       ∙ (mapped (reached_by (layout_pages l)) (is_one_of gone c) (kept_at c l.lists.table)

@@ -39,13 +39,15 @@ use Rattle.nl_core.proofs.Opening.{told-root}
 
 -- ---- sizes
 
-one-sized : (pages : Pages) (c : Checkpoint) (e : CheckpointEntry) → IsEntryOf c e → IsSoundTree pages (told e) → IsSizedEntry pages c e
+one-sized : (pages : Pages) (c : Checkpoint) (e : CheckpointEntry) → IsEntryOf c e
+    → IsSoundTree pages (told e) → IsSizedEntry pages c e
 one-sized pages c e is tree = record {
   entry = is;
   size = subst (λ (root : Root). IsSizeOf pages root e.size) (told-root c e tree.0 is tree.1) tree.2.sized;
 }
 
-each-sized : (pages : Pages) (kept : List Checkpoint) (entries : List CheckpointEntry) → AllZip IsEntryOf kept entries
+each-sized : (pages : Pages) (kept : List Checkpoint) (entries : List CheckpointEntry)
+    → AllZip IsEntryOf kept entries
     → AreTrees pages (map told entries) → AllZip (IsSizedEntry pages) kept entries
 each-sized pages [] [] are trees = tt
 each-sized pages [] (e ∷ entries) are trees = absurd are
@@ -56,7 +58,8 @@ each-sized pages (c ∷ kept) (e ∷ entries) are trees = (
 )
 
 -- as many entries as checkpoints
-same-count : (kept : List Checkpoint) (entries : List CheckpointEntry) → AllZip IsEntryOf kept entries → length kept ≡ length entries
+same-count : (kept : List Checkpoint) (entries : List CheckpointEntry) → AllZip IsEntryOf kept entries
+    → length kept ≡ length entries
 same-count [] [] are = refl
 same-count [] (e ∷ entries) are = absurd are
 same-count (c ∷ kept) [] are = absurd are
@@ -94,7 +97,9 @@ module _ (bytes : List ℕ) (r : ReadImage) (is : IsReadImage bytes r) where
 
   kept-count : p.shape.checkpoints ≡ length p.kept
   kept-count =
-      let bytes-long = part-length bytes (cpfile_start p.shape) (160 * p.shape.checkpoints) (padding_of p.shape + 1024 * total_of p.shape) (omega (arith, long)) in
+      let bytes-long =
+      part-length bytes (cpfile_start p.shape) (160 * p.shape.checkpoints)
+      (padding_of p.shape + 1024 * total_of p.shape) (omega (arith, long)) in
       let entries = count_told (cpfile_in p.shape bytes) p.kept cpfile.spelled in
       omega (arith, bytes-long, entries)
 
@@ -106,7 +111,8 @@ module _ (bytes : List ℕ) (r : ReadImage) (is : IsReadImage bytes r) where
     kept = cpfile.fit;
   }
 
-  module _ (store : Store) (made : IsRestoredStore r.segments r.logs r.numbers store) (sound : IsStore store) where
+  module _ (store : Store) (made : IsRestoredStore r.segments r.logs r.numbers store)
+      (sound : IsStore store) where
     segments-are : store.segments ≡ p.segments
     segments-are = made.segments_are ∙ is.segments
 
@@ -123,7 +129,8 @@ module _ (bytes : List ℕ) (r : ReadImage) (is : IsReadImage bytes r) where
     present = record p { shape = shape }
 
     abbrev parts_with : Segments → List (Option DatEntry) → Parts
-    parts_with segments numbers = record { shape = shape; segments = segments; numbers = numbers; kept = p.kept }
+    parts_with segments numbers =
+        record { shape = shape; segments = segments; numbers = numbers; kept = p.kept }
 
     parts-are : parts_of shape store p.kept ≡ present
     parts-are =
@@ -133,8 +140,11 @@ module _ (bytes : List ℕ) (r : ReadImage) (is : IsReadImage bytes r) where
     shape-of-store : IsShapeOfStore store shape
     shape-of-store = record {
       mark = refl;
-      segments = sym (ap (λ (s : Segments). length s.each) segments-are ∙ (sufile.told.count ∙ sufile.shape.segments));
-      blocks = sym (ap (λ (s : Segments). s.blocks) segments-are ∙ (sufile.told.blocks ∙ sufile.shape.blocks));
+      segments =
+          sym (ap (λ (s : Segments). length s.each) segments-are
+          ∙ (sufile.told.count ∙ sufile.shape.segments));
+      blocks =
+          sym (ap (λ (s : Segments). s.blocks) segments-are ∙ (sufile.told.blocks ∙ sufile.shape.blocks));
     }
 
     total-are : total_blocks store.segments ≡ total_of p.shape
@@ -146,11 +156,15 @@ module _ (bytes : List ℕ) (r : ReadImage) (is : IsReadImage bytes r) where
     abbrev count_all : ℕ
     count_all = total_of p.shape
 
-    page-of : (b : ℕ) (page : List ℕ) → IsPageAt count_all blocks_all b page → IsPageOf (space_in store) b page
+    page-of : (b : ℕ) (page : List ℕ) → IsPageAt count_all blocks_all b page
+        → IsPageOf (space_in store) b page
     page-of b page at = record {
       whole = ap length at.is ∙ whole-page;
-      used = λ u. made.stored b page (is.logs.pages.used b (subst (λ (s : Segments). IsUsed s b) segments-are u) ∙ there);
-      unused = λ no. zeros.blocks b page (λ u. no (subst (λ (s : Segments). IsUsed s b) (sym segments-are) u)) there;
+      used = λ u.
+          made.stored b page
+          (is.logs.pages.used b (subst (λ (s : Segments). IsUsed s b) segments-are u) ∙ there);
+      unused = λ no.
+          zeros.blocks b page (λ u. no (subst (λ (s : Segments). IsUsed s b) (sym segments-are) u)) there;
     }
       where
         there : blocks.pages_of_bytes blocks_all b ≡ Some page
@@ -179,7 +193,8 @@ module _ (bytes : List ℕ) (r : ReadImage) (is : IsReadImage bytes r) where
         shape = shape-of-store;
         count = kept-count ∙ sym (same-count kept p.kept entries-are);
         sized = each-sized (pages_of (content_in store)) kept p.kept entries-are
-            (subst (λ (pages : Pages). AreTrees pages (map told p.kept)) (pages-are bytes r is store made sound) trees);
+            (subst (λ (pages : Pages). AreTrees pages (map told p.kept))
+            (pages-are bytes r is store made sound) trees);
       }
 
       image-restored : ImagesAreSpelled → IsImageOf store kept (with_present_mark bytes)
@@ -199,17 +214,23 @@ module _ (bytes : List ℕ) (r : ReadImage) (is : IsReadImage bytes r) where
           numbers = have-spelling.numbers;
           kept = have-spelling.kept;
         });
-        spelled = ap with_present_mark (spell bytes p is.image) ∙ present-spelled p.shape.mark ∙ ap (λ (q : Parts). image_bytes q blocks_all) (sym parts-are);
+        spelled =
+            ap with_present_mark (spell bytes p is.image) ∙ present-spelled p.shape.mark
+            ∙ ap (λ (q : Parts). image_bytes q blocks_all) (sym parts-are);
       }
         where
           present-spelled : (m : Mark)
-              → with_present_mark (image_bytes (record p { shape = record p.shape { mark = m } }) blocks_all) ≡ image_bytes present blocks_all
+              → with_present_mark (image_bytes (record p { shape = record p.shape { mark = m } }) blocks_all)
+              ≡ image_bytes present blocks_all
           present-spelled First = refl
           present-spelled Second = refl
 
     -- it is that of the volume that is opened
-    pub image-opened : ImagesAreSpelled → (t : Table) → AllZip IsEntryOf (all t) r.kept → (lists : Lists) → lists ≡ opened_lists t
-        → (l : Layout) → l ≡ layout_of lists store → IsImageOf l.store (kept_by l.lists) (with_present_mark bytes)
+    pub image-opened : ImagesAreSpelled → (t : Table) → AllZip IsEntryOf (all t) r.kept → (lists : Lists)
+        → lists ≡ opened_lists t
+        → (l : Layout) → l ≡ layout_of lists store
+        → IsImageOf l.store (kept_by l.lists) (with_present_mark bytes)
     image-opened spell t are lists same l is_layout =
         subst (λ (m : Layout). IsImageOf m.store (kept_by m.lists) (with_present_mark bytes)) (sym is_layout)
-        (subst (λ (ls : Lists). IsImageOf store (kept_by ls) (with_present_mark bytes)) (sym same) (image-restored (all t) are spell))
+        (subst (λ (ls : Lists). IsImageOf store (kept_by ls) (with_present_mark bytes)) (sym same)
+        (image-restored (all t) are spell))

@@ -22,25 +22,32 @@ use Rattle.nl_core.specs.Opened.{IsRestoredStore}
 module _ (segments : Segments) (logs : Restored) (numbers : List (Option DatEntry)) (space : SpaceContent)
     (is : IsSpaceOf segments logs space) where
   -- whose the payload at a block is
-  owner : (b : ℕ) → option_map number_of (births_in space b) ≡ option_map number_of_payload (held_in logs.payload b)
+  owner : (b : ℕ)
+      → option_map number_of (births_in space b) ≡ option_map number_of_payload (held_in logs.payload b)
   owner b = by (space.held b) ∙ ap (λ (h : HeldPayload). option_map number_of_payload (h b)) is.held
     where
-      by : (o : Option Payload) → option_map number_of (option_map birth_of_item o) ≡ option_map number_of_payload o
+      by : (o : Option Payload)
+          → option_map number_of (option_map birth_of_item o) ≡ option_map number_of_payload o
       by None = refl
       by (Some item) = refl
 
-  pub own-held : HaveOwn numbers logs.payload → HaveOwnPayload (addresses_of (entry_in numbers)) (births_in space)
+  pub own-held : HaveOwn numbers logs.payload
+      → HaveOwnPayload (addresses_of (entry_in numbers)) (births_in space)
   own-held own v b at = by (entry_in numbers v) refl at
     where
       by : (o : Option DatEntry) → entry_in numbers v ≡ o → option_map (λ (e : DatEntry). e.block) o ≡ Some b
           → option_map number_of (births_in space b) ≡ Some v
       by None there told = cc
-      by (Some e) there told = owner b ∙ subst (λ (c : ℕ). option_map number_of_payload (held_in logs.payload c) ≡ Some v) (inside told) (own v e there)
+      by (Some e) there told =
+          owner b
+          ∙ subst (λ (c : ℕ). option_map number_of_payload (held_in logs.payload c) ≡ Some v) (inside told)
+          (own v e there)
         where
           inside : Some e.block ≡ Some b → e.block ≡ b
           inside same = cc
 
-  module _ (pages : length logs.pages ≡ total_blocks segments) (payload : length logs.payload ≡ total_blocks segments)
+  module _ (pages : length logs.pages ≡ total_blocks segments)
+      (payload : length logs.payload ≡ total_blocks segments)
       (failures : Failures) where
     total : total_blocks space.segments ≡ total_blocks segments
     total = ap total_blocks is.segments
@@ -63,8 +70,11 @@ module _ (segments : Segments) (logs : Restored) (numbers : List (Option DatEntr
     ]
 
     restored-made : entries_shown made ≡ numbers → IsRestoredStore segments logs numbers made
-    restored-made told = record { segments_are = is.segments; shown = told; held = held-made; stored = stored-made }
+    restored-made told =
+        record { segments_are = is.segments; shown = told; held = held-made; stored = stored-made }
 
-    pub restored-store : (store : Store) → store ≡ made → entries_shown store ≡ numbers → IsRestoredStore segments logs numbers store
+    pub restored-store : (store : Store) → store ≡ made → entries_shown store ≡ numbers
+        → IsRestoredStore segments logs numbers store
     restored-store store same told =
-        subst (IsRestoredStore segments logs numbers) (sym same) (restored-made (ap entries_shown (sym same) ∙ told))
+        subst (IsRestoredStore segments logs numbers) (sym same)
+        (restored-made (ap entries_shown (sym same) ∙ told))

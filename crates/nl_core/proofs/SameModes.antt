@@ -24,7 +24,8 @@ module _ (n : ℕ) (mode : Mode) where
   -- one that has the mode, and one of another number
   moded-had : (c : Checkpoint) → c.number ≡ n → c.mode ≡ mode → moded n mode c ≡ c
   moded-had c here has =
-      moded-here n mode c here ∙ ap (λ (m : Mode). (let d : Checkpoint = record c { mode = m } in d)) (sym has)
+      moded-here n mode c here
+      ∙ ap (λ (m : Mode). (let d : Checkpoint = record c { mode = m } in d)) (sym has)
 
   moded-other : (c : Checkpoint) → c.number ≢ n → moded n mode c ≡ c
   moded-other c apart =
@@ -36,14 +37,16 @@ module _ (n : ℕ) (mode : Mode) where
   moded-behind c [] here rising = refl
   moded-behind c (k ∷ kept) here rising =
       let low = rising.0.number in
-      both (moded-other k (λ same. absurd (omega (arith, low, here, same)))) (moded-behind c kept here rising.1)
+      both (moded-other k (λ same. absurd (omega (arith, low, here, same))))
+      (moded-behind c kept here rising.1)
 
   abbrev HasMode : List Checkpoint → Type 0
   HasMode kept = (c : Checkpoint) → found n kept ≡ Some c → c.mode ≡ mode
 
   moded-same_list : (kept : List Checkpoint) → IsRising kept → HasMode kept → map (moded n mode) kept ≡ kept
   moded-same_list [] rising has = refl
-  moded-same_list (c ∷ kept) rising has = by (eqb c.number n) refl (λ later. moded-same_list kept rising.1 later)
+  moded-same_list (c ∷ kept) rising has =
+      by (eqb c.number n) refl (λ later. moded-same_list kept rising.1 later)
     where
       by : (b : Bool) → eqb c.number n ≡ b → (HasMode kept → map (moded n mode) kept ≡ kept)
           → map (moded n mode) (c ∷ kept) ≡ c ∷ kept
@@ -58,12 +61,14 @@ module _ (n : ℕ) (mode : Mode) where
           ap (λ b. cond b (Some c) (found n kept)) (eq_by_cmp-nat_cmp n c.number ∙ ne_eqb c.number n apart) in
           both (moded-other c apart) (rest (λ d at. has d (later ∙ at)))
 
-  module _ (t : Table) (table : IsTable t) (has : (c : Checkpoint) → kept_at n t ≡ Some c → c.mode ≡ mode) where
+  module _ (t : Table) (table : IsTable t)
+      (has : (c : Checkpoint) → kept_at n t ≡ Some c → c.mode ≡ mode) where
     latest-same : moded n mode t.latest ≡ t.latest
     latest-same = by (eqb t.latest.number n) refl
       where
         by : (b : Bool) → eqb t.latest.number n ≡ b → moded n mode t.latest ≡ t.latest
-        by true is = moded-had t.latest (eqb-true t.latest.number n is) (has t.latest (kept-last t table n is))
+        by true is =
+            moded-had t.latest (eqb-true t.latest.number n is) (has t.latest (kept-last t table n is))
         by false is = moded-other t.latest (eqb-false t.latest.number n is)
 
     with_mode-same : with_mode n mode t ≡ t
@@ -77,4 +82,6 @@ module _ (n : ℕ) (mode : Mode) where
   pub no-other_mode : (t : Table) → IsTable t → has_other_mode n mode t ≡ false → with_mode n mode t ≡ t
   no-other_mode t table none =
       with_mode-same t table (λ c at. same-mode c.mode mode
-      (ap (λ (o : Option Checkpoint). option_map_or (λ (k : Checkpoint). is_other_mode k.mode mode) o false) (sym at) ∙ none))
+      (ap (λ (o : Option Checkpoint). option_map_or (λ (k : Checkpoint). is_other_mode k.mode mode) o false)
+      (sym at)
+      ∙ none))

@@ -67,8 +67,10 @@ tells-one old new c pen keeps is fresh = record {
 }
 
 -- so it does where anything goes, and else there is nothing to tell
-tells-any : {A : Type 0} (old new : Layout) (gone : List A) (c : Commit) → IsPen new → KeepsCheckpoints (shown_of old) (shown_of new)
-    → shown_of new ≡ applied (shown_of old) c → IsNew (shown_of old) c → (gone ≡ [] → shown_of new ≡ shown_of old)
+tells-any : {A : Type 0} (old new : Layout) (gone : List A) (c : Commit) → IsPen new
+    → KeepsCheckpoints (shown_of old) (shown_of new)
+    → shown_of new ≡ applied (shown_of old) c → IsNew (shown_of old) c
+    → (gone ≡ [] → shown_of new ≡ shown_of old)
     → TellsAll old new (where_any gone c)
 tells-any old new [] c pen keeps is fresh none = tells-nothing old new (none refl)
 tells-any old new (x ∷ gone) c pen keeps is fresh none = tells-one old new c pen keeps is fresh
@@ -76,22 +78,26 @@ tells-any old new (x ∷ gone) c pen keeps is fresh none = tells-one old new c p
 -- ---- what is shown of the parts
 
 abbrev shown_with : List (Option ShownPage) → Table → List Mount → ℕ → Shown
-shown_with numbers table mounts given = record { numbers = numbers; table = table; mounts = mounts; given = given }
+shown_with numbers table mounts given =
+    record { numbers = numbers; table = table; mounts = mounts; given = given }
 
 -- with the same lists and numbers the same is shown
 same-parts : (old new : Layout) → new.lists ≡ old.lists → (shown_of new).numbers ≡ (shown_of old).numbers
     → shown_of new ≡ shown_of old
 same-parts old new lists numbers i = shown_with (numbers i) (lists i).table (lists i).mounts (lists i).given
 
-same-store : (old new : Layout) → new.lists ≡ old.lists → new.store.numbers ≡ old.store.numbers → shown_of new ≡ shown_of old
+same-store : (old new : Layout) → new.lists ≡ old.lists → new.store.numbers ≡ old.store.numbers
+    → shown_of new ≡ shown_of old
 same-store old new lists numbers =
     same-parts old new lists (ap (λ (vs : List (Option Numbered)). map (option_map shown_page) vs) numbers)
 
 -- ---- refused events
 
 -- of a refused event nothing is seen
-refused-shown : (event : Event) (e : VolError) (old new : Layout) → HasRefused event e old new → shown_of new ≡ shown_of old
-refused-shown (event.Checkpoint mode moment) error.Fault old new refused = same-store old new refused.lists refused.store.numbers
+refused-shown : (event : Event) (e : VolError) (old new : Layout) → HasRefused event e old new
+    → shown_of new ≡ shown_of old
+refused-shown (event.Checkpoint mode moment) error.Fault old new refused =
+    same-store old new refused.lists refused.store.numbers
 refused-shown (event.Checkpoint mode moment) _ old new refused = ap shown_of refused.0
 refused-shown (event.Apply change) e old new refused = ap shown_of refused
 refused-shown (event.Read ask) e old new refused = ap shown_of refused
@@ -112,14 +118,18 @@ refused-shown (event.Move segment limit moment) e old new refused =
     vs : List ℕ
     vs = take limit (needed_in old.store (needed_by old.lists) segment)
 
-    of : (e : VolError) → IsMoveRefusal segment limit moment old.lists old.store new.store e → new.store.numbers ≡ old.store.numbers
+    of : (e : VolError) → IsMoveRefusal segment limit moment old.lists old.store new.store e
+        → new.store.numbers ≡ old.store.numbers
     of error.NumbersSpent none = ap (λ (s : Store). s.numbers) none.0
-    of error.NoSpace none = refused-numbers (old.lists.table.latest.number + 1) moment vs error.NoSpace old.store new.store none.1
-    of error.Fault none = refused-numbers (old.lists.table.latest.number + 1) moment vs error.Fault old.store new.store none.1
+    of error.NoSpace none =
+        refused-numbers (old.lists.table.latest.number + 1) moment vs error.NoSpace old.store new.store none.1
+    of error.Fault none =
+        refused-numbers (old.lists.table.latest.number + 1) moment vs error.Fault old.store new.store none.1
     of e none = refused-numbers (old.lists.table.latest.number + 1) moment vs e old.store new.store none
 
     by : (r : Result SegmentInfo VolError)
-        → MatchResult r (λ _. IsMoveRefusal segment limit moment old.lists old.store new.store e) (λ refusal. (e ≡ refusal) × (new.store ≡ old.store))
+        → MatchResult r (λ _. IsMoveRefusal segment limit moment old.lists old.store new.store e)
+        (λ refusal. (e ≡ refusal) × (new.store ≡ old.store))
         → new.store.numbers ≡ old.store.numbers
     by (Ok i) none = of e none
     by (Err f) none = ap (λ (s : Store). s.numbers) none.1
@@ -139,7 +149,9 @@ tells-commit old new c leads roots is fresh =
 
 -- ---- a checkpoint
 
-tells-written : (old new : Layout) (mode : Mode) (moment : ℕ) (writes : HasWrittenCheckpoint mode moment old new) → Leads old new
+tells-written : (old new : Layout) (mode : Mode) (moment : ℕ)
+    (writes : HasWrittenCheckpoint mode moment old new)
+    → Leads old new
     → TellsAll old new (Written (new_checkpoint writes.settled.changes new.lists.table.latest) ∷ [])
 tells-written old new mode moment writes leads =
     tells-commit old new (Written (new_checkpoint changes new.lists.table.latest)) leads
@@ -154,8 +166,10 @@ tells-written old new mode moment writes leads =
     table = ap (λ (l : Lists). l.table) writes.lists
         ∙ ap (λ (c : Checkpoint). with_next c old.lists.table) (sym (latest-next old new mode moment writes))
 
-    numbers : (shown_of new).numbers ≡ numbers_written (new_checkpoint changes new.lists.table.latest) (shown_of old).numbers
-    numbers = numbers-written old new leads.before.sound.store leads.now.sound.store new.lists.table.latest.number
+    numbers : (shown_of new).numbers
+        ≡ numbers_written (new_checkpoint changes new.lists.table.latest) (shown_of old).numbers
+    numbers =
+        numbers-written old new leads.before.sound.store leads.now.sound.store new.lists.table.latest.number
         new.lists.table.latest.stamp changes writes.written
 
 -- ---- removals
@@ -164,13 +178,16 @@ tells-written old new mode moment writes leads =
 abbrev shown_without : List ℕ → Shown → Shown
 shown_without gone x = record x { table = without gone x.table }
 
-module _ (old new : Layout) (gone : List ℕ) (leads : Leads old new) (taken : IsTakenOut gone old.lists new.lists)
+module _ (old new : Layout) (gone : List ℕ) (leads : Leads old new)
+    (taken : IsTakenOut gone old.lists new.lists)
     (store : new.store ≡ old.store) where
   shown-taken : shown_of new ≡ shown_without gone (shown_of old)
   shown-taken i = shown_of (layout_of (taken.lists i) (store i))
 
   roots-taken : KeepsRoots old.lists.table new.lists.table
-  roots-taken = subst (λ (l : Lists). KeepsRoots old.lists.table l.table) (sym taken.lists) (roots-without gone old.lists.table taken.stays)
+  roots-taken =
+      subst (λ (l : Lists). KeepsRoots old.lists.table l.table) (sym taken.lists)
+      (roots-without gone old.lists.table taken.stays)
 
   keeps-taken : KeepsCheckpoints (shown_of old) (shown_of new)
   keeps-taken = keeps-checkpoints old new leads.before leads.numbers roots-taken
@@ -193,10 +210,12 @@ tells-moded old new n mode leads is = by (has_other_mode n mode old.lists.table)
     shown : shown_of new ≡ record (shown_of old) { table = with_mode n mode old.lists.table }
     shown = ap shown_of is
 
-    by : (b : Bool) → has_other_mode n mode old.lists.table ≡ b → TellsAll old new (where_true b (ModeSet n mode))
+    by : (b : Bool) → has_other_mode n mode old.lists.table ≡ b
+        → TellsAll old new (where_true b (ModeSet n mode))
     by true other =
         tells-commit old new (ModeSet n mode) leads
-        (subst (λ (l : Layout). KeepsRoots old.lists.table l.lists.table) (sym is) (roots-moded n mode old.lists.table))
+        (subst (λ (l : Layout). KeepsRoots old.lists.table l.lists.table) (sym is)
+        (roots-moded n mode old.lists.table))
         shown tt
     by false same =
         tells-nothing old new
@@ -212,13 +231,17 @@ tells-freed old new segment count leads lists reclaimed =
     (keeps-checkpoints old new leads.before leads.numbers
     (subst (λ (l : Lists). KeepsRoots old.lists.table l.table) (sym lists) (roots-same old.lists.table)))
     shown tt
-    (λ none. shown ∙ ap (λ (vs : List ℕ). record (shown_of old) { numbers = without_numbers vs (shown_of old).numbers }) none)
+    (λ none.
+    shown
+    ∙ ap
+    (λ (vs : List ℕ). record (shown_of old) { numbers = without_numbers vs (shown_of old).numbers }) none)
   where
     gone : List ℕ
     gone = numbers_in old.store segment
 
     numbers : (shown_of new).numbers ≡ without_numbers gone (shown_of old).numbers
-    numbers = numbers-freed old new leads.before.sound.store leads.now.sound.store segment count gone reclaimed
+    numbers =
+        numbers-freed old new leads.before.sound.store leads.now.sound.store segment count gone reclaimed
         (λ v. in-numbers old.store segment v leads.before.sound.store)
 
     shown : shown_of new ≡ record (shown_of old) { numbers = without_numbers gone (shown_of old).numbers }
@@ -227,22 +250,34 @@ tells-freed old new segment count leads lists reclaimed =
 -- ---- a move
 
 -- where blocks were moved there is one checkpoint more, and of where a page stands nothing is seen
-tells-moved : (old new : Layout) (segment limit moment : ℕ) (a : Answer) → Leads old new → new.lists ≡ moved_lists moment a old.lists
-    → HasMovedOut segment limit moment a old.lists old.store new.store → TellsAll old new (moved_as a new.lists.table.latest)
+tells-moved : (old new : Layout) (segment limit moment : ℕ) (a : Answer) → Leads old new
+    → new.lists ≡ moved_lists moment a old.lists
+    → HasMovedOut segment limit moment a old.lists old.store new.store
+    → TellsAll old new (moved_as a new.lists.table.latest)
 tells-moved old new segment limit moment a leads lists moved = by (is_moving (Ok a)) refl
   where
     numbers : (shown_of new).numbers ≡ (shown_of old).numbers
-    numbers = numbers-moved old new leads.before.sound.store leads.now.sound.store segment (old.lists.table.latest.number + 1) moment
+    numbers =
+        numbers-moved old new leads.before.sound.store leads.now.sound.store segment
+        (old.lists.table.latest.number + 1) moment
         (take limit (needed_in old.store (needed_by old.lists) segment)) moved.moved.moved
 
-    by : (b : Bool) → is_moving (Ok a) ≡ b → TellsAll old new (where_true b (without_changes new.lists.table.latest))
-    by false idle = tells-nothing old new (same-parts old new (lists ∙ cond-false (is_moving (Ok a)) (with_minor moment old.lists) old.lists idle) numbers)
+    by : (b : Bool) → is_moving (Ok a) ≡ b
+        → TellsAll old new (where_true b (without_changes new.lists.table.latest))
+    by false idle =
+        tells-nothing old new
+        (same-parts old new
+        (lists ∙ cond-false (is_moving (Ok a)) (with_minor moment old.lists) old.lists idle) numbers)
     by true moving =
-        let more : new.lists ≡ with_minor moment old.lists = lists ∙ cond-true (is_moving (Ok a)) (with_minor moment old.lists) old.lists moving in
-        let latest : new.lists.table.latest ≡ minor_checkpoint moment old.lists = ap (λ (l : Lists). l.table.latest) more in
+        let more : new.lists ≡ with_minor moment old.lists =
+        lists ∙ cond-true (is_moving (Ok a)) (with_minor moment old.lists) old.lists moving in
+        let latest : new.lists.table.latest ≡ minor_checkpoint moment old.lists =
+        ap (λ (l : Lists). l.table.latest) more in
         let table : new.lists.table ≡ with_next new.lists.table.latest old.lists.table =
-        ap (λ (l : Lists). l.table) more ∙ ap (λ (c : Checkpoint). with_next c old.lists.table) (sym latest) in
-        let next : new.lists.table.latest.number ≡ old.lists.table.latest.number + 1 = ap (λ (c : Checkpoint). c.number) latest in
+        ap (λ (l : Lists). l.table) more
+        ∙ ap (λ (c : Checkpoint). with_next c old.lists.table) (sym latest) in
+        let next : new.lists.table.latest.number ≡ old.lists.table.latest.number + 1 =
+        ap (λ (c : Checkpoint). c.number) latest in
         tells-commit old new (without_changes new.lists.table.latest) leads
         (subst (KeepsRoots old.lists.table) (sym table) (roots-next new.lists.table.latest old.lists.table))
         (λ i. shown_with (numbers i) (table i) (more i).mounts (more i).given)
@@ -252,8 +287,11 @@ tells-moved old new segment limit moment a leads lists moved = by (is_moving (Ok
 
 tells-resized : (old new : Layout) (segments : ℕ) (a : Answer) → Leads old new → new.lists ≡ old.lists
     → HasResized segments a old.store new.store
-    → TellsAll old new (where_true (nat_lt (length old.store.segments.each) segments) (Resized segments old.store.segments.blocks))
-tells-resized old new segments a leads lists resized = by (nat_lt (length old.store.segments.each) segments) refl
+    → TellsAll old new
+    (where_true (nat_lt (length old.store.segments.each) segments)
+    (Resized segments old.store.segments.blocks))
+tells-resized old new segments a leads lists resized =
+    by (nat_lt (length old.store.segments.each) segments) refl
   where
     blocks : ℕ
     blocks = old.store.segments.blocks
@@ -261,17 +299,21 @@ tells-resized old new segments a leads lists resized = by (nat_lt (length old.st
     numbers : (shown_of new).numbers ≡ with_room segments blocks (shown_of old).numbers
     numbers = numbers-resized old new segments leads.before.sound.store leads.now.sound.store resized
 
-    shown : shown_of new ≡ record (shown_of old) { numbers = with_room segments blocks (shown_of old).numbers }
+    shown : shown_of new
+        ≡ record (shown_of old) { numbers = with_room segments blocks (shown_of old).numbers }
     shown i = shown_with (numbers i) (lists i).table (lists i).mounts (lists i).given
 
-    by : (b : Bool) → nat_lt (length old.store.segments.each) segments ≡ b → TellsAll old new (where_true b (Resized segments blocks))
+    by : (b : Bool) → nat_lt (length old.store.segments.each) segments ≡ b
+        → TellsAll old new (where_true b (Resized segments blocks))
     by true more =
         tells-commit old new (Resized segments blocks) leads
         (subst (λ (l : Lists). KeepsRoots old.lists.table l.table) (sym lists) (roots-same old.lists.table))
         shown (room-resized old segments leads.before.sound.store resized.judged)
     by false fewer =
         tells-nothing old new
-        (same-store old new lists (ap (λ (s : Store). s.numbers) (resized.same (resized-as-many old.store segments resized.judged fewer))))
+        (same-store old new lists
+        (ap (λ (s : Store). s.numbers)
+        (resized.same (resized-as-many old.store segments resized.judged fewer))))
 
 -- ---- each event
 
@@ -294,27 +336,34 @@ module _ (allowed : AllowedBetween) (old new : Layout) (pen : IsPen old) where
   tells-done (event.Remove n) a more does noted =
       let leads = leads-on (event.Remove n) (Ok a) does in
       subst (TellsAll old new) (sym noted)
-      (tells-commit old new (Removed n) leads (roots-taken old new (n ∷ []) leads does.becomes.0 does.becomes.1)
+      (tells-commit old new (Removed n) leads
+      (roots-taken old new (n ∷ []) leads does.becomes.0 does.becomes.1)
       (shown-taken old new (n ∷ []) leads does.becomes.0 does.becomes.1) tt)
   tells-done (event.RemoveRange first last) (answer.Removed range) more does noted =
       subst (TellsAll old new) (sym noted)
-      (tells-range old new range.removed (leads-on (event.RemoveRange first last) (Ok (answer.Removed range)) does)
+      (tells-range old new range.removed
+      (leads-on (event.RemoveRange first last) (Ok (answer.Removed range)) does)
       does.becomes.0.taken does.becomes.1 first last (ap removed_by does.becomes.0.judged))
   tells-done (event.RemoveRange first last) _ more does noted = absurd does.becomes.0
   tells-done (event.Expire now period) (answer.Expired gone) more does noted =
       subst (TellsAll old new) (sym noted)
       (tells-range old new gone (leads-on (event.Expire now period) (Ok (answer.Expired gone)) does)
-      does.becomes.0.taken does.becomes.1 1 (boundary_in old.lists.table now period - 1) (sym does.becomes.0.expired))
+      does.becomes.0.taken does.becomes.1 1 (boundary_in old.lists.table now period - 1)
+      (sym does.becomes.0.expired))
   tells-done (event.Expire now period) _ more does noted = absurd does.becomes.0
   tells-done (event.Mount n) a more does noted =
-      subst (TellsAll old new) (sym (noted ∙ ap (λ (b : Answer). mounted_as b n) (answers-mount allowed old new n a pen does)))
-      (tells-commit old new (Mounted (record { number = old.lists.given + 1; checkpoint = n })) (leads-on (event.Mount n) (Ok a) does)
-      (subst (λ (l : Layout). KeepsRoots old.lists.table l.lists.table) (sym does.becomes) (roots-same old.lists.table))
+      subst (TellsAll old new)
+      (sym (noted ∙ ap (λ (b : Answer). mounted_as b n) (answers-mount allowed old new n a pen does)))
+      (tells-commit old new (Mounted (record { number = old.lists.given + 1; checkpoint = n }))
+      (leads-on (event.Mount n) (Ok a) does)
+      (subst (λ (l : Layout). KeepsRoots old.lists.table l.lists.table) (sym does.becomes)
+      (roots-same old.lists.table))
       (ap shown_of does.becomes) (omega arith))
   tells-done (event.Unmount m) a more does noted =
       subst (TellsAll old new) (sym noted)
       (tells-commit old new (GivenBack m) (leads-on (event.Unmount m) (Ok a) does)
-      (subst (λ (l : Layout). KeepsRoots old.lists.table l.lists.table) (sym does.becomes) (roots-same old.lists.table))
+      (subst (λ (l : Layout). KeepsRoots old.lists.table l.lists.table) (sym does.becomes)
+      (roots-same old.lists.table))
       (ap shown_of does.becomes) (mounted-before allowed old new m a pen does))
   tells-done (event.Retire segment) a more does noted =
       subst (TellsAll old new) (sym noted)
@@ -322,14 +371,18 @@ module _ (allowed : AllowedBetween) (old new : Layout) (pen : IsPen old) where
       does.becomes.lists does.becomes.emptied.reclaimed)
   tells-done (event.Resize segments) a more does noted =
       subst (TellsAll old new) (sym noted)
-      (tells-resized old new segments a (leads-on (event.Resize segments) (Ok a) does) does.becomes.0 does.becomes.1)
+      (tells-resized old new segments a
+      (leads-on (event.Resize segments) (Ok a) does) does.becomes.0 does.becomes.1)
   tells-done (event.Move segment limit moment) a more does noted =
       subst (TellsAll old new) (sym noted)
-      (tells-moved old new segment limit moment a (leads-on (event.Move segment limit moment) (Ok a) does) does.becomes.0 does.becomes.1)
+      (tells-moved old new segment limit moment a
+      (leads-on (event.Move segment limit moment) (Ok a) does) does.becomes.0 does.becomes.1)
   tells-done (event.Apply change) a more does noted = tells-nothing-of more noted (ap shown_of does.becomes.0)
   tells-done (event.Read ask) a more does noted = tells-nothing-of more noted (ap shown_of does.becomes)
-  tells-done (event.MountRead m ask) a more does noted = tells-nothing-of more noted (ap shown_of does.becomes)
-  tells-done (event.Listing options) a more does noted = tells-nothing-of more noted (ap shown_of does.becomes)
+  tells-done (event.MountRead m ask) a more does noted =
+      tells-nothing-of more noted (ap shown_of does.becomes)
+  tells-done (event.Listing options) a more does noted =
+      tells-nothing-of more noted (ap shown_of does.becomes)
 
   tells : (event : Event) (reply : Reply) (more : List Commit) → Does allowed old event reply new
       → AreCommitsOf old event reply new more → TellsAll old new more

@@ -14,15 +14,18 @@ use Rattle.nl_core.specs.Views.{counted}
 use Rattle.nl_core.specs.Volume.{Lists, boundary_in, kept_by, mount_of}
 use Rattle.nl_core.specs.Facts.CheckpointEvents.{latest-same, rows-means}
 
-count-told : (pages : Pages) (kept : List Checkpoint) (copies : List (ℕ × Copy)) → AllZip (CopyMeans pages) kept copies
+count-told : (pages : Pages) (kept : List Checkpoint) (copies : List (ℕ × Copy))
+    → AllZip (CopyMeans pages) kept copies
     → length kept ≡ length copies
 count-told pages [] [] means = refl
 count-told pages [] (copy ∷ copies) means = absurd means
 count-told pages (c ∷ kept) [] means = absurd means
 count-told pages (c ∷ kept) (copy ∷ copies) means = ap (λ n. suc n) (count-told pages kept copies means.1)
 
-snapshots-told : (pages : Pages) (kept : List Checkpoint) (copies : List (ℕ × Copy)) → AllZip (CopyMeans pages) kept copies
-    → length (filter (λ (c : Checkpoint). is_snapshot c.mode) kept) ≡ length (filter (λ (c : ℕ × Copy). is_snapshot c.1.mode) copies)
+snapshots-told : (pages : Pages) (kept : List Checkpoint) (copies : List (ℕ × Copy))
+    → AllZip (CopyMeans pages) kept copies
+    → length (filter (λ (c : Checkpoint). is_snapshot c.mode) kept)
+    ≡ length (filter (λ (c : ℕ × Copy). is_snapshot c.1.mode) copies)
 snapshots-told pages [] [] means = refl
 snapshots-told pages [] (copy ∷ copies) means = absurd means
 snapshots-told pages (c ∷ kept) [] means = absurd means
@@ -31,7 +34,8 @@ snapshots-told pages (c ∷ kept) (copy ∷ copies) means =
     let others = filter (λ (d : ℕ × Copy). is_snapshot d.1.mode) copies in
     let rest : length those ≡ length others = snapshots-told pages kept copies means.1 in
     ap (λ (mode : Mode). length (cond (is_snapshot mode) (c ∷ those) those)) (sym means.0.mode)
-    ∙ elim (is_snapshot copy.1.mode) as (λ b. length (cond b (c ∷ those) those) ≡ length (cond b (copy ∷ others) others)) [
+    ∙ elim (is_snapshot copy.1.mode) as (λ b.
+    length (cond b (c ∷ those) those) ≡ length (cond b (copy ∷ others) others)) [
       | true ↦ ap (λ n. suc n) rest
       | false ↦ rest
     ]

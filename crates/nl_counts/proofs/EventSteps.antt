@@ -30,20 +30,24 @@ use Rattle.nl_counts.proofs.WrittenEnds.{live-needed}
 
 -- ---- checkpoints
 
-numbers-same : (payload : List Payload) (changes : Changes) → births_of payload ≡ changes.births → map number_of_payload payload ≡ written.numbers_of changes.births
+numbers-same : (payload : List Payload) (changes : Changes) → births_of payload ≡ changes.births
+    → map number_of_payload payload ≡ written.numbers_of changes.births
 numbers-same payload changes is = of-payload payload ∙ ap written.numbers_of is
   where
     of-payload : (items : List Payload) → map number_of_payload items ≡ written.numbers_of (births_of items)
     of-payload [] = refl
     of-payload (item ∷ items) = ap (λ (ns : List ℕ). number_of_payload item ∷ ns) (of-payload items)
 
-module _ (standing : NeededAreStanding) (keep : CheckpointsKeepNeeds) (by_number : WritesAreByNumber) (checkpoint : ℕ) (changes : Changes) (payload : List Payload)
+module _ (standing : NeededAreStanding) (keep : CheckpointsKeepNeeds) (by_number : WritesAreByNumber)
+    (checkpoint : ℕ) (changes : Changes) (payload : List Payload)
     (births : births_of payload ≡ changes.births) (new : Store) (store : IsStore new) where
-  pub before-written : (old : Store) (kept : List ℕ) (c : Counted) → IsCounted old kept c → IsNextWritten checkpoint changes kept old new
+  pub before-written : (old : Store) (kept : List ℕ) (c : Counted) → IsCounted old kept c
+      → IsNextWritten checkpoint changes kept old new
       → (at : Partial ℕ) × GetBlocks new (map number_of_payload payload) at × AreCountsIn new at c.counts
   before-written old kept c counted next = (
     needed_places old (is_needed kept),
-    subst (λ (ns : List ℕ). GetBlocks new ns (needed_places old (is_needed kept))) (sym (numbers-same payload changes births))
+    subst (λ (ns : List ℕ). GetBlocks new ns (needed_places old (is_needed kept)))
+        (sym (numbers-same payload changes births))
         (written.births-get-blocks standing keep by_number checkpoint changes kept old new next store),
     written.counted-before standing keep by_number checkpoint changes kept old new next store c counted,
   )
@@ -52,21 +56,29 @@ module _ (standing : NeededAreStanding) (keep : CheckpointsKeepNeeds) (by_number
       → ((at : Partial ℕ) → GetBlocks new (map number_of_payload payload) at → AreCountsIn new at c.counts
       → AreCountsIn new (mixed (map number_of_payload payload) (address_in new) at) d.counts)
       → d.ends ≡ c.ends ++ noted_ends checkpoint gone
-      → (old : Store) (kept : List ℕ) → IsCounted old kept c → IsNextWritten checkpoint changes kept old new → IsCounted new (kept ++ checkpoint ∷ []) d
+      → (old : Store) (kept : List ℕ) → IsCounted old kept c → IsNextWritten checkpoint changes kept old new
+      → IsCounted new (kept ++ checkpoint ∷ []) d
   unfolding before-written
   after-written c d gone gone-is counts ends-are old kept counted next =
       let before = before-written old kept c counted next in
-      let are : AreCountsIn new (mixed (written.numbers_of changes.births) (address_in new) (needed_places old (is_needed kept))) d.counts =
-      subst (λ (ns : List ℕ). AreCountsIn new (mixed ns (address_in new) (needed_places old (is_needed kept))) d.counts) (numbers-same payload changes births)
+      let are : AreCountsIn new
+      (mixed (written.numbers_of changes.births) (address_in new) (needed_places old (is_needed kept)))
+      d.counts =
+      subst (λ (ns : List ℕ).
+      AreCountsIn new (mixed ns (address_in new) (needed_places old (is_needed kept))) d.counts)
+      (numbers-same payload changes births)
       (counts before.0 before.1 before.2) in
       subst (λ (ends : List Ended). IsCounted new (kept ++ checkpoint ∷ []) (record d { ends = ends }))
       (ap (λ (ns : List ℕ). c.ends ++ noted_ends checkpoint ns) (sym gone-is) ∙ sym ends-are)
-      (written.written-is-counted standing keep by_number checkpoint changes kept old new next store c counted d.counts d.room are)
+      (written.written-is-counted standing keep by_number checkpoint changes kept old new next store c counted
+      d.counts d.room are)
 
 -- ---- moves
 
-module _ (standing : NeededAreStanding) (segment : ℕ) (numbers : List ℕ) (new : Store) (store : IsStore new) where
-  pub before-moved : (old : Store) (kept : List ℕ) (c : Counted) → IsCounted old kept c → HasMovedNeeded segment numbers kept old new
+module _ (standing : NeededAreStanding) (segment : ℕ) (numbers : List ℕ) (new : Store)
+    (store : IsStore new) where
+  pub before-moved : (old : Store) (kept : List ℕ) (c : Counted) → IsCounted old kept c
+      → HasMovedNeeded segment numbers kept old new
       → (at : Partial ℕ) × LeaveSegment new segment numbers at × AreCountsIn new at c.counts
   before-moved old kept c counted has = (
     needed_places old (is_needed kept),
@@ -75,13 +87,17 @@ module _ (standing : NeededAreStanding) (segment : ℕ) (numbers : List ℕ) (ne
   )
 
   pub after-moved : (c d : Counted)
-      → ((at : Partial ℕ) → LeaveSegment new segment numbers at → AreCountsIn new at c.counts → AreCountsIn new (mixed numbers (address_in new) at) d.counts)
+      → ((at : Partial ℕ) → LeaveSegment new segment numbers at → AreCountsIn new at c.counts
+      → AreCountsIn new (mixed numbers (address_in new) at) d.counts)
       → d.ends ≡ c.ends
-      → (old : Store) (kept : List ℕ) → IsCounted old kept c → HasMovedNeeded segment numbers kept old new → IsCounted new kept d
+      → (old : Store) (kept : List ℕ) → IsCounted old kept c → HasMovedNeeded segment numbers kept old new
+      → IsCounted new kept d
   unfolding before-moved
   after-moved c d counts ends-are old kept counted has =
       let before = before-moved old kept c counted has in
-      let is = moved.moved-is-counted standing segment numbers kept old new has store c counted d.counts (counts before.0 before.1 before.2) in
+      let is =
+      moved.moved-is-counted standing segment numbers kept old new has store c counted d.counts
+      (counts before.0 before.1 before.2) in
       record {
         counts = is.counts;
         ends = rw ends-are is.ends;
@@ -90,39 +106,57 @@ module _ (standing : NeededAreStanding) (segment : ℕ) (numbers : List ℕ) (ne
 
 -- ---- removals
 
-told : (s : Store) (test : Period → Bool) (stay : List ℕ) → TellsNeeds test stay → (v : ℕ) (e : Entry) → content_in s v ≡ Some e
+told : (s : Store) (test : Period → Bool) (stay : List ℕ) → TellsNeeds test stay → (v : ℕ) (e : Entry)
+    → content_in s v ≡ Some e
     → needs (by_period test) (content_in s) v ≡ is_needed stay e
 told s test stay tells v e at = ap (entry_needed (by_period test)) at ∙ tells (period_of e)
 
 module _ (standing : NeededAreStanding) (s : Store) (store : IsStore s) where
   pub is-listed : (kept : List ℕ) (c : Counted) → IsCounted s kept c → AreListed s c.counts c.ends
-  is-listed kept c counted = listed-from s (is_needed kept) (live-needed kept) c.ends counted.ends standing store c.counts counted.counts
+  is-listed kept c counted =
+      listed-from s (is_needed kept)
+      (live-needed kept) c.ends counted.ends standing store c.counts counted.counts
 
-  module _ (lets : LetsGo) (test : Period → Bool) (first next from to : ℕ) (c : Counted) (run : IsRun first next from to c.ends) (left : List Ended) (counts : List ℕ)
-      (listed : AreListed s counts left) (gone : HasLetGoAll (needs (by_period test) (content_in s)) from to c.ends left) where
-    ends-now : (kept stay : List ℕ) → IsCounted s kept c → AreGone first next kept stay → TellsNeeds test stay → AreEnds (content_in s) (is_needed stay) left
+  module _ (lets : LetsGo) (test : Period → Bool) (first next from to : ℕ) (c : Counted)
+      (run : IsRun first next from to c.ends) (left : List Ended) (counts : List ℕ)
+      (listed : AreListed s counts left)
+      (gone : HasLetGoAll (needs (by_period test) (content_in s)) from to c.ends left) where
+    ends-now : (kept stay : List ℕ) → IsCounted s kept c → AreGone first next kept stay → TellsNeeds test stay
+        → AreEnds (content_in s) (is_needed stay) left
     ends-now kept stay counted removed tells =
-        ends-left lets (content_in s) (needs (by_period test) (content_in s)) first next from to kept stay c.ends left removed (told s test stay tells) run counted.ends gone
+        ends-left lets (content_in s)
+        (needs (by_period test) (content_in s)) first next from to kept stay c.ends left removed
+        (told s test stay tells) run counted.ends gone
 
-    pub after-removal : (kept stay : List ℕ) → IsCounted s kept c → AreGone first next kept stay → TellsNeeds test stay → counts ≡ needed_counts s (is_needed stay)
+    pub after-removal : (kept stay : List ℕ) → IsCounted s kept c → AreGone first next kept stay
+        → TellsNeeds test stay → counts ≡ needed_counts s (is_needed stay)
     after-removal kept stay counted removed tells =
-        counts-from s (is_needed stay) (live-needed stay) left (ends-now kept stay counted removed tells) standing store counts listed.counts
+        counts-from s (is_needed stay) (live-needed stay) left
+        (ends-now kept stay counted removed tells) standing store counts listed.counts
 
-    pub after-removed : (room : ℕ) (kept stay : List ℕ) → IsCounted s kept c → AreGone first next kept stay → TellsNeeds test stay
+    pub after-removed : (room : ℕ) (kept stay : List ℕ) → IsCounted s kept c → AreGone first next kept stay
+        → TellsNeeds test stay
         → IsCounted s stay (record { counts = counts; ends = left; room = room })
     after-removed room kept stay counted removed tells = record {
       counts = after-removal kept stay counted removed tells;
       ends = ends-now kept stay counted removed tells;
-      below = below-left lets (content_in s) (needs (by_period test) (content_in s)) first next from to kept stay c.ends left removed (told s test stay tells) run counted.ends gone counted.below;
+      below =
+          below-left lets (content_in s)
+          (needs (by_period test) (content_in s)) first next from to kept stay c.ends left removed
+          (told s test stay tells) run counted.ends gone counted.below;
     }
 
   -- ---- a walk
 
-  pub after-walk : (test : Period → Bool) (counts : List ℕ) (found ends : List Ended) → HasWalked s (by_period test) (capacity s) counts found
-      → IsNonDecreasingBy end_of ends → IsPermutation found ends → (room latest : ℕ) (kept : List ℕ) → TellsNeeds test kept → IsLatest latest kept s
+  pub after-walk : (test : Period → Bool) (counts : List ℕ) (found ends : List Ended)
+      → HasWalked s (by_period test) (capacity s) counts found
+      → IsNonDecreasingBy end_of ends → IsPermutation found ends → (room latest : ℕ) (kept : List ℕ)
+      → TellsNeeds test kept → IsLatest latest kept s
       → IsCounted s kept (record { counts = counts; ends = ends; room = room })
   after-walk test counts found ends walked rising same room latest kept tells last = record {
-    counts = walked-is-counted s (by_period test) store standing counts found walked ∙ ap (needed_counts s) as-needed;
+    counts =
+        walked-is-counted s (by_period test) store standing counts found walked
+        ∙ ap (needed_counts s) as-needed;
     ends = are;
     below = λ k low. (latest, last.there, low-end k low);
   }
@@ -145,7 +179,8 @@ module _ (standing : NeededAreStanding) (s : Store) (store : IsStore s) where
 
 -- ---- room
 
-after-room : (c d : Counted) → d.counts ≡ c.counts → (d.ends ≡ c.ends) ⊎ (d.ends ≡ swept c.ends) → (s : Store) (kept : List ℕ) → IsCounted s kept c → IsCounted s kept d
+after-room : (c d : Counted) → d.counts ≡ c.counts → (d.ends ≡ c.ends) ⊎ (d.ends ≡ swept c.ends)
+    → (s : Store) (kept : List ℕ) → IsCounted s kept c → IsCounted s kept d
 after-room c d counts (inl same) s kept counted = record {
   counts = counts ∙ counted.counts;
   ends = rw same counted.ends;
@@ -160,8 +195,13 @@ after-room c d counts (inr swept-are) s kept counted = record {
 abbrev with-ends : List ℕ → RoomyEnds → Counted
 with-ends counts ends = record { counts = counts; ends = ends.ended; room = ends.room }
 
-pub after-reserve : {A E : Type 0} (r : Result A E) (counts : List ℕ) (old new : RoomyEnds) → OnOk r ((new.ended ≡ old.ended) ⊎ (new.ended ≡ swept old.ended)) → OnErr r (new ≡ old)
-    → (s : Store) (kept : List ℕ) → IsCounted s kept (record { counts = counts; ends = old.ended; room = old.room })
+pub after-reserve : {A E : Type 0} (r : Result A E) (counts : List ℕ) (old new : RoomyEnds)
+    → OnOk r ((new.ended ≡ old.ended) ⊎ (new.ended ≡ swept old.ended)) → OnErr r (new ≡ old)
+    → (s : Store) (kept : List ℕ)
+    → IsCounted s kept (record { counts = counts; ends = old.ended; room = old.room })
     → IsCounted s kept (record { counts = counts; ends = new.ended; room = new.room })
-after-reserve (Ok a) counts old new swept-are same s kept counted = after-room (with-ends counts old) (with-ends counts new) refl swept-are s kept counted
-after-reserve (Err e) counts old new swept-are same s kept counted = after-room (with-ends counts old) (with-ends counts new) refl (inl (ap (λ (r : RoomyEnds). r.ended) same)) s kept counted
+after-reserve (Ok a) counts old new swept-are same s kept counted =
+    after-room (with-ends counts old) (with-ends counts new) refl swept-are s kept counted
+after-reserve (Err e) counts old new swept-are same s kept counted =
+    after-room (with-ends counts old) (with-ends counts new) refl
+    (inl (ap (λ (r : RoomyEnds). r.ended) same)) s kept counted

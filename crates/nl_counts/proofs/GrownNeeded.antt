@@ -22,8 +22,10 @@ use Rattle.nl_counts.specs.Private.Places.{AreCountsIn}
 use Rattle.nl_counts.proofs.JoinedCounts.{counted-are-needed, needed-are-counted, same-places}
 use Rattle.nl_counts.proofs.StoreChanges.{ends-between, numbers-stay, place-for, same-sizes}
 
-module _ (grow : GrownAreCounted) (standing : NeededAreStanding) (segments : ℕ) (kept : List ℕ) (c : Counted) (old new : Store)
-    (old-store : IsStore old) (new-store : IsStore new) (more : length old.segments.each ≤ segments) (grown : HasGrown segments old new) (counted : IsCounted old kept c) where
+module _ (grow : GrownAreCounted) (standing : NeededAreStanding) (segments : ℕ) (kept : List ℕ) (c : Counted)
+    (old new : Store)
+    (old-store : IsStore old) (new-store : IsStore new) (more : length old.segments.each ≤ segments)
+    (grown : HasGrown segments old new) (counted : IsCounted old kept c) where
   abbrev at : Partial ℕ
   at = needed_places old (is_needed kept)
 
@@ -32,7 +34,9 @@ module _ (grow : GrownAreCounted) (standing : NeededAreStanding) (segments : ℕ
   size = ap length counted.counts ∙ (needed-are-counted standing old (is_needed kept) old-store).size
 
   count : length new.segments.each ≡ segments
-  count = ap (λ (s : Segments). length s.each) grown.segments ∙ rw (length-append, length-replicate) (omega (arith, more))
+  count =
+      ap (λ (s : Segments). length s.each) grown.segments
+      ∙ rw (length-append, length-replicate) (omega (arith, more))
 
   total : capacity new ≡ segments * old.segments.blocks
   total = ap (λ n. n * new.segments.blocks) count ∙ ap (λ (s : Segments). segments * s.blocks) grown.segments
@@ -55,37 +59,47 @@ module _ (grow : GrownAreCounted) (standing : NeededAreStanding) (segments : ℕ
       by None is = is
       by (Some b) is = absurd (omega (arith, high, (old-store.numbers v b (placed v b is)).1))
 
-  none-inside : (v segment : ℕ) → length c.counts ≤ segment → lies_in old.segments.blocks segment (at v) ≡ false
+  none-inside : (v segment : ℕ) → length c.counts ≤ segment
+      → lies_in old.segments.blocks segment (at v) ≡ false
   none-inside v segment high = by (at v) refl
     where
       by : (o : Option ℕ) → at v ≡ o → lies_in old.segments.blocks segment o ≡ false
       by None is = refl
       by (Some b) is =
-          let low : b < total_blocks old.segments = used_inside old.segments b old-store.limits.tidy (old-store.used v b (placed v b is)) in
-          let past : length old.segments.each * old.segments.blocks ≤ segment * old.segments.blocks = mul-le-mul_right old.segments.blocks (omega (arith, high, size)) in
+          let low : b < total_blocks old.segments =
+          used_inside old.segments b old-store.limits.tidy (old-store.used v b (placed v b is)) in
+          let past : length old.segments.each * old.segments.blocks ≤ segment * old.segments.blocks =
+          mul-le-mul_right old.segments.blocks (omega (arith, high, size)) in
           grind (arith, nat_tests)
 
   are-old : AreCounts old.segments.blocks (capacity old) at c.counts
-  are-old = subst (λ (counts : List ℕ). AreCounts old.segments.blocks (capacity old) at counts) (sym counted.counts)
+  are-old =
+      subst (λ (counts : List ℕ). AreCounts old.segments.blocks (capacity old) at counts) (sym counted.counts)
       (needed-are-counted standing old (is_needed kept) old-store).are
 
   are-more : AreCounts old.segments.blocks (capacity new) at (grown_counts segments c.counts)
   are-more =
       let sum : capacity old + (capacity new - capacity old) ≡ capacity new = omega (arith, total, most) in
       subst (λ n. AreCounts old.segments.blocks n at (grown_counts segments c.counts)) sum
-      (grow old.segments.blocks (capacity old) (capacity new - capacity old) segments at c.counts none-later none-inside are-old)
+      (grow old.segments.blocks (capacity old)
+      (capacity new - capacity old) segments at c.counts none-later none-inside are-old)
 
   are-now : AreCountsIn new at (grown_counts segments c.counts)
   are-now = record {
     size = rw (length-append, length-replicate) (omega (arith, size, more, count));
-    are = subst (λ b. AreCounts b (capacity new) at (grown_counts segments c.counts)) (sym (ap (λ (s : Segments). s.blocks) grown.segments)) are-more;
+    are =
+        subst (λ b. AreCounts b (capacity new) at (grown_counts segments c.counts))
+        (sym (ap (λ (s : Segments). s.blocks) grown.segments)) are-more;
   }
 
   pub grown-is-counted : IsCounted new kept (with_segments segments c)
   grown-is-counted = record {
     counts = counted-are-needed standing new (is_needed kept) new-store (grown_counts segments c.counts)
-        (same-places new at (needed_places new (is_needed kept)) (grown_counts segments c.counts) (λ v. ap (place-for (is_needed kept)) (sym (grown.numbers v))) are-now);
-    ends = ends-between (content_in old) (content_in new) (is_needed kept) c.ends (λ v. ap (option_map entry_now) (grown.numbers v)) counted.ends;
+        (same-places new at (needed_places new (is_needed kept)) (grown_counts segments c.counts)
+        (λ v. ap (place-for (is_needed kept)) (sym (grown.numbers v))) are-now);
+    ends =
+        ends-between (content_in old) (content_in new) (is_needed kept) c.ends
+        (λ v. ap (option_map entry_now) (grown.numbers v)) counted.ends;
     below = counted.below;
   }
 
@@ -98,13 +112,19 @@ front [] more = refl
 front (count ∷ counts) more = ap (λ (xs : List ℕ). count ∷ xs) (front counts more)
 
 pub growth-back : GrowthIsTakenBack
-growth-back segments c = ap (λ (counts : List ℕ). record c { counts = counts }) (front c.counts (replicate (segments - length c.counts) 0))
+growth-back segments c =
+    ap (λ (counts : List ℕ). record c { counts = counts })
+    (front c.counts (replicate (segments - length c.counts) 0))
 
-stays : NeededAreStanding → (kept : List ℕ) (c : Counted) (old new : Store) → IsStore old → IsStore new → StaysStored old new → IsCounted old kept c → IsCounted new kept c
+stays : NeededAreStanding → (kept : List ℕ) (c : Counted) (old new : Store) → IsStore old → IsStore new
+    → StaysStored old new → IsCounted old kept c → IsCounted new kept c
 stays standing kept c old new old-store new-store keeps counted =
-    numbers-stay standing old new old-store new-store (same-sizes old.segments new.segments keeps.segments) kept c counted keeps.numbers
+    numbers-stay standing old new old-store new-store
+    (same-sizes old.segments new.segments keeps.segments) kept c counted keeps.numbers
 
 pub growth-refused : NeededAreStanding → RefusedGrowthKeepsCounts
-growth-refused standing error.Fault kept c old new old-store new-store refused counted = stays standing kept c old new old-store new-store refused.2 counted
-growth-refused standing error.Memory kept c old new old-store new-store refused counted = stays standing kept c old new old-store new-store refused counted
+growth-refused standing error.Fault kept c old new old-store new-store refused counted =
+    stays standing kept c old new old-store new-store refused.2 counted
+growth-refused standing error.Memory kept c old new old-store new-store refused counted =
+    stays standing kept c old new old-store new-store refused counted
 growth-refused standing e kept c old new old-store new-store refused counted = absurd refused

@@ -19,28 +19,37 @@ use Rattle.nl_counts.proofs.EndPlaces.{listed-place, place-listed, same_bool}
 
 -- ---- counts
 
-counts-same : (one other : ℕ → Bool) (n : ℕ) → ((v : ℕ) → one v ≡ other v) → by_segment.count_to one n ≡ by_segment.count_to other n
+counts-same : (one other : ℕ → Bool) (n : ℕ) → ((v : ℕ) → one v ≡ other v)
+    → by_segment.count_to one n ≡ by_segment.count_to other n
 counts-same one other zero same = refl
-counts-same one other (suc n) same = omega (arith, counts-same one other n same, ap by_segment.bit (same (suc n)))
+counts-same one other (suc n) same =
+    omega (arith, counts-same one other n same, ap by_segment.bit (same (suc n)))
 
 -- where the blocks are the same, so are the counts
-pub same-places : (s : Store) (at other : Partial ℕ) (counts : List ℕ) → ((v : ℕ) → at v ≡ other v) → AreCountsIn s at counts → AreCountsIn s other counts
+pub same-places : (s : Store) (at other : Partial ℕ) (counts : List ℕ) → ((v : ℕ) → at v ≡ other v)
+    → AreCountsIn s at counts → AreCountsIn s other counts
 same-places s at other counts same are = record {
   size = are.size;
   are = record {
     each = λ segment low. are.are.each segment low
-        ∙ counts-same (λ v. by_segment.lies_in s.segments.blocks segment (at v)) (λ v. by_segment.lies_in s.segments.blocks segment (other v)) (capacity s)
+        ∙ counts-same (λ v. by_segment.lies_in s.segments.blocks segment (at v))
+        (λ v. by_segment.lies_in s.segments.blocks segment (other v)) (capacity s)
         (λ v. ap (by_segment.lies_in s.segments.blocks segment) (same v));
   };
 }
 
 module _ (standing : NeededAreStanding) (s : Store) (needed : Entry → Bool) (store : IsStore s) where
   -- each count, by number
-  by-number : (segment : ℕ) → by_segment.count_in s.segments.blocks (capacity s) (needed_places s needed) segment ≡ needed_count s needed segment
+  by-number : (segment : ℕ)
+      → by_segment.count_in s.segments.blocks (capacity s) (needed_places s needed) segment
+      ≡ needed_count s needed segment
   by-number segment = sym (standing s needed segment store)
 
-  pub at-segment : (segment : ℕ) → segment < length s.segments.each → get_or (needed_counts s needed) segment 0 ≡ needed_count s needed segment
-  at-segment segment low = get_or-map-range_with_len (needed_count s needed) 0 (length s.segments.each) segment segment 0 low (omega arith)
+  pub at-segment : (segment : ℕ) → segment < length s.segments.each
+      → get_or (needed_counts s needed) segment 0 ≡ needed_count s needed segment
+  at-segment segment low =
+      get_or-map-range_with_len (needed_count s needed) 0 (length s.segments.each) segment segment 0 low
+      (omega arith)
 
   as-many : length (needed_counts s needed) ≡ length s.segments.each
   as-many = length-map-range_with_len (needed_count s needed) 0 (length s.segments.each)
@@ -48,27 +57,35 @@ module _ (standing : NeededAreStanding) (s : Store) (needed : Entry → Bool) (s
   pub needed-are-counted : AreCountsIn s (needed_places s needed) (needed_counts s needed)
   needed-are-counted = record {
     size = as-many;
-    are = record { each = λ segment low. at-segment segment (omega (arith, low, as-many)) ∙ sym (by-number segment) };
+    are = record {
+      each = λ segment low. at-segment segment (omega (arith, low, as-many)) ∙ sym (by-number segment);
+    };
   }
 
-  pub counted-are-needed : (counts : List ℕ) → AreCountsIn s (needed_places s needed) counts → counts ≡ needed_counts s needed
+  pub counted-are-needed : (counts : List ℕ) → AreCountsIn s (needed_places s needed) counts
+      → counts ≡ needed_counts s needed
   counted-are-needed counts are =
       same_number_lists counts (needed_counts s needed) (are.size ∙ sym as-many)
-      (λ segment low. are.are.each segment low ∙ by-number segment ∙ sym (at-segment segment (omega (arith, low, are.size))))
+      (λ segment low.
+      are.are.each segment low ∙ by-number segment
+      ∙ sym (at-segment segment (omega (arith, low, are.size))))
 
 -- ---- numbers in use
 
-pub has-block : (s : Store) (v : ℕ) (e : Entry) → content_in s v ≡ Some e → (b : ℕ) × (address_in s v ≡ Some b)
+pub has-block : (s : Store) (v : ℕ) (e : Entry) → content_in s v ≡ Some e
+    → (b : ℕ) × (address_in s v ≡ Some b)
 has-block s v e at = by (numbered_in s v) refl at
   where
-    by : (o : Option Numbered) → numbered_in s v ≡ o → option_map entry_now o ≡ Some e → (b : ℕ) × (address_in s v ≡ Some b)
+    by : (o : Option Numbered) → numbered_in s v ≡ o → option_map entry_now o ≡ Some e
+        → (b : ℕ) × (address_in s v ≡ Some b)
     by None is at = cc
     by (Some n) is at = (n.block, ap (option_map block_now) is)
 
 pub has-entry : (s : Store) (v b : ℕ) → address_in s v ≡ Some b → (e : Entry) × (content_in s v ≡ Some e)
 has-entry s v b at = by (numbered_in s v) refl at
   where
-    by : (o : Option Numbered) → numbered_in s v ≡ o → option_map block_now o ≡ Some b → (e : Entry) × (content_in s v ≡ Some e)
+    by : (o : Option Numbered) → numbered_in s v ≡ o → option_map block_now o ≡ Some b
+        → (e : Entry) × (content_in s v ≡ Some e)
     by None is at = cc
     by (Some n) is at = (n.entry, ap (option_map entry_now) is)
 
@@ -85,9 +102,11 @@ unused-nowhere s v at = by (numbered_in s v) refl at
 abbrev pub LiveAreNeeded : (Entry → Bool) → Type 0
 LiveAreNeeded needed = (e : Entry) → e.end ≡ None → needed e ≡ true
 
-module _ (s : Store) (needed : Entry → Bool) (live_needed : LiveAreNeeded needed) (ends : List Ended) (are : AreEnds (content_in s) needed ends) where
+module _ (s : Store) (needed : Entry → Bool) (live_needed : LiveAreNeeded needed) (ends : List Ended)
+    (are : AreEnds (content_in s) needed ends) where
   -- a number in use counts exactly where it is needed
-  pub counts-where-needed : (v : ℕ) (e : Entry) → content_in s v ≡ Some e → (is_live (content_in s v) || is_listed ends v) ≡ needed e
+  pub counts-where-needed : (v : ℕ) (e : Entry) → content_in s v ≡ Some e
+      → (is_live (content_in s v) || is_listed ends v) ≡ needed e
   counts-where-needed v e at = by e.end refl
     where
       live : is_live (content_in s v) ≡ is_none e.end
@@ -128,14 +147,19 @@ module _ (s : Store) (needed : Entry → Bool) (live_needed : LiveAreNeeded need
           ap (λ b. cond {A = Option ℕ} b (address_in s v) None)
           (counts-where-needed v e at ∙ sym (ap (entry_needed needed) at))
 
-  pub listed-from : NeededAreStanding → IsStore s → (counts : List ℕ) → counts ≡ needed_counts s needed → AreListed s counts ends
+  pub listed-from : NeededAreStanding → IsStore s → (counts : List ℕ) → counts ≡ needed_counts s needed
+      → AreListed s counts ends
   listed-from standing store counts is = record {
-    counts = rw is (same-places s (needed_places s needed) (counted_places s ends) (needed_counts s needed) (λ v. sym (same-place v)) (needed-are-counted standing s needed store));
+    counts =
+        rw is (same-places s (needed_places s needed) (counted_places s ends) (needed_counts s needed)
+        (λ v. sym (same-place v)) (needed-are-counted standing s needed store));
     in_use = λ k v place. let has = are.theirs k v place in has-block s v has.entry has.in_use;
     ended = λ k v place. let has = are.theirs k v place in ap is_live has.in_use ∙ ap is_none has.ended;
     once = are.once;
   }
 
-  pub counts-from : NeededAreStanding → IsStore s → (counts : List ℕ) → AreCountsIn s (counted_places s ends) counts → counts ≡ needed_counts s needed
+  pub counts-from : NeededAreStanding → IsStore s → (counts : List ℕ)
+      → AreCountsIn s (counted_places s ends) counts → counts ≡ needed_counts s needed
   counts-from standing store counts listed =
-      counted-are-needed standing s needed store counts (same-places s (counted_places s ends) (needed_places s needed) counts same-place listed)
+      counted-are-needed standing s needed store counts
+      (same-places s (counted_places s ends) (needed_places s needed) counts same-place listed)

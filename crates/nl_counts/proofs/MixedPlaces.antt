@@ -34,17 +34,24 @@ not-now (c ∷ done) v w other = ap (λ b. eqb w c || b) (not-now done v w other
 pub at-among : (numbers : List ℕ) (i : ℕ) → i < length numbers → is_one_of numbers (get_or numbers i 0) ≡ true
 at-among [] i low = absurd (omega arith)
 at-among (k ∷ numbers) zero low = or_left (eqb k k) (is_one_of numbers k) (eq-eqb k k refl)
-at-among (k ∷ numbers) (suc i) low = or_right (eqb (get_or numbers i 0) k) (is_one_of numbers (get_or numbers i 0)) (at-among numbers i (omega arith))
+at-among (k ∷ numbers) (suc i) low =
+    or_right (eqb (get_or numbers i 0) k) (is_one_of numbers (get_or numbers i 0))
+    (at-among numbers i (omega arith))
 
 -- and none of those before it
-not-before : (numbers : List ℕ) (i : ℕ) → NoneTwice numbers → i < length numbers → is_one_of (take i numbers) (get_or numbers i 0) ≡ false
+not-before : (numbers : List ℕ) (i : ℕ) → NoneTwice numbers → i < length numbers
+    → is_one_of (take i numbers) (get_or numbers i 0) ≡ false
 not-before [] i once low = absurd (omega arith)
 not-before (k ∷ numbers) zero once low = refl
 not-before (k ∷ numbers) (suc i) once low = elim (cases_Bool (eqb (get_or numbers i 0) k)) [
   | inl same ↦
-      let among : is_one_of numbers k ≡ true = sym (ap (is_one_of numbers) (eqb-true (get_or numbers i 0) k same)) ∙ at-among numbers i (omega arith) in
+      let among : is_one_of numbers k ≡ true =
+      sym (ap (is_one_of numbers) (eqb-true (get_or numbers i 0) k same))
+      ∙ at-among numbers i (omega arith) in
       absurd (let wrong : false ≡ true = sym once.0 ∙ among in cc)
-  | inr other ↦ ap (λ b. b || is_one_of (take i numbers) (get_or numbers i 0)) other ∙ not-before numbers i once.1 (omega arith)
+  | inr other ↦
+      ap (λ b. b || is_one_of (take i numbers) (get_or numbers i 0)) other
+      ∙ not-before numbers i once.1 (omega arith)
 ]
 
 -- ---- one number
@@ -71,15 +78,20 @@ module _ (done : List ℕ) (old new : Partial ℕ) (v : ℕ) where
 
 module _ (follow : Follow) (s : Store) (store : IsStore s) where
   -- one more is counted where a number got its block
-  pub added-there : (v b : ℕ) (old new : Partial ℕ) (counts after : List ℕ) → address_in s v ≡ Some b → HasBlock v b old new
+  pub added-there : (v b : ℕ) (old new : Partial ℕ) (counts after : List ℕ) → address_in s v ≡ Some b
+      → HasBlock v b old new
       → HasOneMore s v counts after → AreCountsIn s old counts → AreCountsIn s new after
   added-there v b old new counts after stands has one are = by one.found one.is one.counted
     where
-      by : (found : Option ℕ) → IsSegmentOf s v found → after ≡ with_one found counts → AreCountsIn s new after
+      by : (found : Option ℕ) → IsSegmentOf s v found → after ≡ with_one found counts
+          → AreCountsIn s new after
       by None none is = no-number b (sym none ∙ stands)
-      by (Some segment) some is = rw is (one-added follow s store v b segment old new counts (store.numbers v b stands) has (ap (is_inside s.segments segment) (sym stands) ∙ some.1) some.0 are)
+      by (Some segment) some is =
+          rw is (one-added follow s store v b segment old new counts (store.numbers v b stands) has
+          (ap (is_inside s.segments segment) (sym stands) ∙ some.1) some.0 are)
 
-  module _ (numbers : List ℕ) (have : HaveBlocks s numbers) (i : ℕ) (low : i < length numbers) (old : Partial ℕ) where
+  module _ (numbers : List ℕ) (have : HaveBlocks s numbers) (i : ℕ) (low : i < length numbers)
+      (old : Partial ℕ) where
     abbrev done : List ℕ
     done = take i numbers
 
@@ -95,37 +107,50 @@ module _ (follow : Follow) (s : Store) (store : IsStore s) where
     abbrev before : Partial ℕ
     before = mixed done (address_in s) old
 
-    pub born : old number ≡ None → (counts after : List ℕ) → AreCountsIn s before counts → HasOneMore s number counts after
+    pub born : old number ≡ None → (counts after : List ℕ) → AreCountsIn s before counts
+        → HasOneMore s number counts after
         → AreCountsIn s (mixed (take (i + 1) numbers) (address_in s) old) after
-    born none counts after are one = subst (λ (xs : List ℕ). AreCountsIn s (mixed xs (address_in s) old) after) (sym (take_more numbers i 0 low))
-        (added-there number stands.0 before (mixed (done ++ number ∷ []) (address_in s) old) counts after stands.1 (record {
+    born none counts after are one =
+        subst (λ (xs : List ℕ). AreCountsIn s (mixed xs (address_in s) old) after)
+        (sym (take_more numbers i 0 low))
+        (added-there number stands.0 before
+        (mixed (done ++ number ∷ []) (address_in s) old) counts after stands.1 (record {
           before = was-old done old (address_in s) number out ∙ none;
           now = is-new done old (address_in s) number ∙ stands.1;
           others = others-stay done old (address_in s) number;
         }) one are)
 
-    module _ (a segment : ℕ) (was : old number ≡ Some a) (inside : is_inside s.segments segment (Some a) ≡ true) (there : segment < length s.segments.each)
+    module _ (a segment : ℕ) (was : old number ≡ Some a)
+        (inside : is_inside s.segments segment (Some a) ≡ true) (there : segment < length s.segments.each)
         (counts : List ℕ) (are : AreCountsIn s before counts) where
       still : before number ≡ Some a
       still = was-old done old (address_in s) number out ∙ was
 
       pub some : 0 < get_or counts segment 0
-      some = some-counted follow s store number a segment before counts (store.numbers number stands.0 stands.1) still inside there are
+      some =
+          some-counted follow s store number a segment before counts
+          (store.numbers number stands.0 stands.1) still inside there are
 
       pub leaving : AreCountsIn s (lost number before) (one_less segment counts)
-      leaving = one-taken follow s store number a segment before (lost number before) counts (store.numbers number stands.0 stands.1) (record {
-        before = lost-there number before;
-        now = still;
-        others = λ w other. sym (lost-other number w before other);
-      }) inside there are
+      leaving =
+          one-taken follow s store number a segment before (lost number before) counts
+          (store.numbers number stands.0 stands.1) (record {
+            before = lost-there number before;
+            now = still;
+            others = λ w other. sym (lost-other number w before other);
+          }) inside there are
 
       pub moved : (after : List ℕ) → HasOneMore s number (one_less segment counts) after
           → AreCountsIn s (mixed (take (i + 1) numbers) (address_in s) old) after
-      moved after one = subst (λ (xs : List ℕ). AreCountsIn s (mixed xs (address_in s) old) after) (sym (take_more numbers i 0 low))
-          (added-there number stands.0 (lost number before) (mixed (done ++ number ∷ []) (address_in s) old) (one_less segment counts) after stands.1 (record {
+      moved after one =
+          subst (λ (xs : List ℕ). AreCountsIn s (mixed xs (address_in s) old) after)
+          (sym (take_more numbers i 0 low))
+          (added-there number stands.0 (lost number before) (mixed (done ++ number ∷ []) (address_in s) old)
+          (one_less segment counts) after stands.1 (record {
             before = lost-there number before;
             now = is-new done old (address_in s) number ∙ stands.1;
-            others = λ w other. others-stay done old (address_in s) number w other ∙ sym (lost-other number w before other);
+            others = λ w other.
+                others-stay done old (address_in s) number w other ∙ sym (lost-other number w before other);
           }) one leaving)
 
 -- ---- the numbers at an index
@@ -133,7 +158,8 @@ module _ (follow : Follow) (s : Store) (store : IsStore s) where
 abbrev pub BlockIn : Store → ℕ → Option ℕ → Type 0
 BlockIn s segment o = (a : ℕ) × (o ≡ Some a) × (is_inside s.segments segment (Some a) ≡ true)
 
-pub block-inside : (s : Store) (segment : ℕ) (o : Option ℕ) → is_inside s.segments segment o ≡ true → BlockIn s segment o
+pub block-inside : (s : Store) (segment : ℕ) (o : Option ℕ) → is_inside s.segments segment o ≡ true
+    → BlockIn s segment o
 block-inside s segment None inside = cc
 block-inside s segment (Some a) inside = (a, refl, inside)
 
@@ -144,32 +170,45 @@ module _ (follow : Follow) (s : Store) (store : IsStore s) (numbers : List ℕ) 
   done-to i old = mixed (take i numbers) (address_in s) old
 
   -- what births need of the counts, and leave
-  pub births-room : (old : Partial ℕ) → (i : ℕ) (counts : List ℕ) → AreCountsIn s (done-to i old) counts → HaveRoom s counts
+  pub births-room : (old : Partial ℕ) → (i : ℕ) (counts : List ℕ) → AreCountsIn s (done-to i old) counts
+      → HaveRoom s counts
   births-room old i counts are = have-room follow s store (done-to i old) counts are
 
-  pub one-born : (old : Partial ℕ) → GetBlocks s numbers old → (i v : ℕ) → i < length numbers → v ≡ get_or numbers i 0 → (counts after : List ℕ)
-      → AreCountsIn s (done-to i old) counts → HasOneMore s v counts after → AreCountsIn s (done-to (i + 1) old) after
+  pub one-born : (old : Partial ℕ) → GetBlocks s numbers old → (i v : ℕ) → i < length numbers
+      → v ≡ get_or numbers i 0 → (counts after : List ℕ)
+      → AreCountsIn s (done-to i old) counts → HasOneMore s v counts after
+      → AreCountsIn s (done-to (i + 1) old) after
   one-born old get i v low is counts after are one =
-      born follow s store numbers get.have i low old (get.before (get_or numbers i 0) (at-among numbers i low)) counts after are
+      born follow s store numbers get.have i low old
+      (get.before (get_or numbers i 0) (at-among numbers i low)) counts after are
       (subst (λ (n : ℕ). HasOneMore s n counts after) is one)
 
   -- and moves
-  module _ (segment : ℕ) (old : Partial ℕ) (leave : LeaveSegment s segment numbers old) (i v : ℕ) (low : i < length numbers) (is : v ≡ get_or numbers i 0)
+  module _ (segment : ℕ) (old : Partial ℕ) (leave : LeaveSegment s segment numbers old) (i v : ℕ)
+      (low : i < length numbers) (is : v ≡ get_or numbers i 0)
       (counts : List ℕ) (are : AreCountsIn s (done-to i old) counts) where
     was : BlockIn s segment (old (get_or numbers i 0))
-    was = block-inside s segment (old (get_or numbers i 0)) (leave.before (get_or numbers i 0) (at-among numbers i low))
+    was =
+        block-inside s segment (old (get_or numbers i 0))
+        (leave.before (get_or numbers i 0) (at-among numbers i low))
 
     pub moves-some : 0 < get_or counts segment 0
-    moves-some = some follow s store numbers leave.have i low old was.0 segment was.1 was.2 leave.there counts are
+    moves-some =
+        some follow s store numbers leave.have i low old was.0 segment was.1 was.2 leave.there counts are
 
     pub moves-there : segment < length counts
     moves-there = omega (arith, are.size, leave.there)
 
-    pub one-moved : (after : List ℕ) → HasOneMore s v (one_less segment counts) after → AreCountsIn s (done-to (i + 1) old) after
+    pub one-moved : (after : List ℕ) → HasOneMore s v (one_less segment counts) after
+        → AreCountsIn s (done-to (i + 1) old) after
     one-moved after one =
-        moved follow s store numbers leave.have i low old was.0 segment was.1 was.2 leave.there counts are after
+        moved follow s store numbers leave.have i low old was.0 segment was.1 was.2 leave.there counts are
+        after
         (subst (λ (n : ℕ). HasOneMore s n (one_less segment counts) after) is one)
 
-  pub all-done : (old : Partial ℕ) (i : ℕ) (counts : List ℕ) → length numbers ≤ i → AreCountsIn s (done-to i old) counts
+  pub all-done : (old : Partial ℕ) (i : ℕ) (counts : List ℕ) → length numbers ≤ i
+      → AreCountsIn s (done-to i old) counts
       → AreCountsIn s (mixed numbers (address_in s) old) counts
-  all-done old i counts past are = subst (λ (xs : List ℕ). AreCountsIn s (mixed xs (address_in s) old) counts) (take_all i numbers past) are
+  all-done old i counts past are =
+      subst (λ (xs : List ℕ). AreCountsIn s (mixed xs (address_in s) old) counts)
+      (take_all i numbers past) are

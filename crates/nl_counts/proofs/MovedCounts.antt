@@ -23,27 +23,35 @@ pub of-each : (P : ℕ → Type 0) (numbers : List ℕ) → All P numbers → (v
 of-each P [] all v among = cc
 of-each P (k ∷ numbers) all v among = elim (cases_Bool (eqb v k)) [
   | inl here ↦ let same = eqb-true v k here in rw same (all 0 0 (omega arith))
-  | inr other ↦ of-each P numbers (λ i d low. all (suc i) d (omega arith)) v (sym (ap (λ t. t || is_one_of numbers v) other) ∙ among)
+  | inr other ↦
+      of-each P numbers (λ i d low. all (suc i) d (omega arith)) v
+      (sym (ap (λ t. t || is_one_of numbers v) other) ∙ among)
 ]
 
 -- what isn't moved stays
-adjust_each-others : (numbers at : List ℕ) (m : Partial ℕ) (v : ℕ) → is_one_of numbers v ≡ false → adjust_each moved_to numbers at m v ≡ m v
+adjust_each-others : (numbers at : List ℕ) (m : Partial ℕ) (v : ℕ) → is_one_of numbers v ≡ false
+    → adjust_each moved_to numbers at m v ≡ m v
 adjust_each-others [] at m v none = refl
 adjust_each-others (k ∷ numbers) [] m v none = refl
 adjust_each-others (k ∷ numbers) (a ∷ at) m v none = elim (cases_Bool (eqb v k)) [
-  | inl here ↦ absurd (let wrong : false ≡ true = sym none ∙ or_left (eqb v k) (is_one_of numbers v) here in cc)
+  | inl here ↦
+      absurd (let wrong : false ≡ true = sym none ∙ or_left (eqb v k) (is_one_of numbers v) here in cc)
   | inr other ↦
-      adjust_each-others numbers at (adjust (moved_to a) m k) v (sym (ap (λ t. t || is_one_of numbers v) other) ∙ none)
+      adjust_each-others numbers at (adjust (moved_to a) m k) v
+      (sym (ap (λ t. t || is_one_of numbers v) other) ∙ none)
       ∙ ap (λ t. cond {A = Option ℕ} t (option_map (moved_to a) (m v)) (m v)) other
 ]
 
 -- a block lies in a segment by how many blocks a segment has
-inside-alike : (s t : Segments) (segment : ℕ) (o : Option ℕ) → t.blocks ≡ s.blocks → is_inside t segment o ≡ is_inside s segment o
+inside-alike : (s t : Segments) (segment : ℕ) (o : Option ℕ) → t.blocks ≡ s.blocks
+    → is_inside t segment o ≡ is_inside s segment o
 inside-alike s t segment o same = ap (λ (n : ℕ). lies_in n segment o) same
 
-module _ (standing : NeededAreStanding) (segment : ℕ) (numbers kept : List ℕ) (old new : Store) (has : HasMovedNeeded segment numbers kept old new) (store : IsStore new) where
+module _ (standing : NeededAreStanding) (segment : ℕ) (numbers kept : List ℕ) (old new : Store)
+    (has : HasMovedNeeded segment numbers kept old new) (store : IsStore new) where
   sizes : SameSizes old.segments new.segments
-  sizes = sizes-with-logs old.segments new.segments has.moved.appended.logs has.stamp has.moved.appended.segments
+  sizes =
+      sizes-with-logs old.segments new.segments has.moved.appended.logs has.stamp has.moved.appended.segments
 
   abbrev old_places : Partial ℕ
   old_places = needed_places old (is_needed kept)
@@ -58,16 +66,20 @@ module _ (standing : NeededAreStanding) (segment : ℕ) (numbers kept : List ℕ
   needs-now = of-each (λ v. needs (is_needed kept) (content_in old) v ≡ true) numbers has.needed.needed
 
   was-inside : (v : ℕ) → is_one_of numbers v ≡ true → is_inside old.segments segment (address_in old v) ≡ true
-  was-inside = of-each (λ v. is_inside old.segments segment (address_in old v) ≡ true) numbers has.needed.inside
+  was-inside =
+      of-each (λ v. is_inside old.segments segment (address_in old v) ≡ true) numbers has.needed.inside
 
   has-block-now : (v : ℕ) → is_one_of numbers v ≡ true → (b : ℕ) × (address_in new v ≡ Some b)
   has-block-now v among = by (content_in old v) refl (needs-now v among)
     where
-      by : (o : Option Entry) → content_in old v ≡ o → entry_needed (is_needed kept) (content_in old v) ≡ true → (b : ℕ) × (address_in new v ≡ Some b)
-      by None at needed = absurd (let wrong : false ≡ true = sym (ap (entry_needed (is_needed kept)) at) ∙ needed in cc)
+      by : (o : Option Entry) → content_in old v ≡ o → entry_needed (is_needed kept) (content_in old v) ≡ true
+          → (b : ℕ) × (address_in new v ≡ Some b)
+      by None at needed =
+          absurd (let wrong : false ≡ true = sym (ap (entry_needed (is_needed kept)) at) ∙ needed in cc)
       by (Some e) at needed = has-block new v e (content-same v ∙ at)
 
-  place-needed : (s : Store) (v : ℕ) → needs (is_needed kept) (content_in s) v ≡ true → needed_places s (is_needed kept) v ≡ address_in s v
+  place-needed : (s : Store) (v : ℕ) → needs (is_needed kept) (content_in s) v ≡ true
+      → needed_places s (is_needed kept) v ≡ address_in s v
   place-needed s v needed = ap (λ t. cond {A = Option ℕ} t (address_in s v) None) needed
 
   pub moves-leave-segment : LeaveSegment new segment numbers old_places
@@ -84,7 +96,8 @@ module _ (standing : NeededAreStanding) (segment : ℕ) (numbers kept : List ℕ
       (rw counted.counts (needed-are-counted standing old (is_needed kept) has.sound))
 
   stays-there : (v : ℕ) → is_one_of numbers v ≡ false → address_in new v ≡ address_in old v
-  stays-there v none = ap (λ f. f v) has.moved.address ∙ adjust_each-others numbers has.moved.at (address_in old) v none
+  stays-there v none =
+      ap (λ f. f v) has.moved.address ∙ adjust_each-others numbers has.moved.at (address_in old) v none
 
   all-places : (v : ℕ) → mixed numbers (address_in new) old_places v ≡ new_places v
   all-places v = elim (cases_Bool (is_one_of numbers v)) [
@@ -93,11 +106,15 @@ module _ (standing : NeededAreStanding) (segment : ℕ) (numbers kept : List ℕ
         ∙ sym (place-needed new v (ap (entry_needed (is_needed kept)) (content-same v) ∙ needs-now v among))
     | inr none ↦
         ap (λ t. cond {A = Option ℕ} t (address_in new v) (old_places v)) none
-        ∙ ap (λ (o : Option Entry). cond {A = Option ℕ} (entry_needed (is_needed kept) o) (address_in old v) None) (sym (content-same v))
-        ∙ ap (λ o. cond {A = Option ℕ} (needs (is_needed kept) (content_in new) v) o None) (sym (stays-there v none))
+        ∙ ap (λ (o : Option Entry).
+        cond {A = Option ℕ} (entry_needed (is_needed kept) o) (address_in old v) None)
+        (sym (content-same v))
+        ∙ ap (λ o. cond {A = Option ℕ} (needs (is_needed kept) (content_in new) v) o None)
+        (sym (stays-there v none))
   ]
 
-  pub moved-is-counted : (c : Counted) → IsCounted old kept c → (counts : List ℕ) → AreCountsIn new (mixed numbers (address_in new) old_places) counts
+  pub moved-is-counted : (c : Counted) → IsCounted old kept c → (counts : List ℕ)
+      → AreCountsIn new (mixed numbers (address_in new) old_places) counts
       → IsCounted new kept (record c { counts = counts })
   moved-is-counted c counted counts are = record {
     counts = counted-are-needed standing new (is_needed kept) store counts

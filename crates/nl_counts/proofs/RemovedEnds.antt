@@ -15,10 +15,13 @@ pub record LetsGo : Type 0 where
   pub fewer : RemovalsNeedNoMore
   pub run : LostNumbersEndInTheRun
 
-module _ (lets : LetsGo) (content : Content) (needed : ℕ → Bool) (first next from to : ℕ) (kept stay : List ℕ) (old new : List Ended) (gone : AreGone first next kept stay)
+module _ (lets : LetsGo) (content : Content) (needed : ℕ → Bool) (first next from to : ℕ) (kept stay : List ℕ)
+    (old new : List Ended) (gone : AreGone first next kept stay)
     (told : (v : ℕ) (e : Entry) → content v ≡ Some e → needed v ≡ is_needed stay e)
-    (run : IsRun first next from to old) (are : AreEnds content (is_needed kept) old) (let_go : HasLetGoAll needed from to old new) where
-  theirs : (k v : ℕ) → (end_at new k).number ≡ Some v → HasEndedNeeded content (is_needed stay) v (end_at new k).end
+    (run : IsRun first next from to old) (are : AreEnds content (is_needed kept) old)
+    (let_go : HasLetGoAll needed from to old new) where
+  theirs : (k v : ℕ) → (end_at new k).number ≡ Some v
+      → HasEndedNeeded content (is_needed stay) v (end_at new k).end
   theirs k v is =
       let was = let_go.gone k v is in
       let has = are.theirs k v was in
@@ -29,10 +32,13 @@ module _ (lets : LetsGo) (content : Content) (needed : ℕ → Bool) (first next
         passes = elim (cases_Bool (is_needed stay has.entry)) [
           | inl is_so ↦ is_so
           | inr unneeded ↦
-              let (end, is_end, above, below) = lets.run first next kept stay has.entry gone has.passes unneeded in
+              let (end, is_end, above, below) =
+              lets.run first next kept stay has.entry gone has.passes unneeded in
               let same : Some (end_at old k).end ≡ Some end = sym has.ended ∙ is_end in
               let one : (end_at old k).end ≡ end = cc in
-              let inside = run.inside k (in-list old k v was) (omega (arith, one, above)) (omega (arith, one, below)) in
+              let inside =
+              run.inside k (in-list old k v was) (omega (arith, one, above))
+              (omega (arith, one, below)) in
               sym (told v has.entry has.in_use) ∙ let_go.left k v inside.0 inside.1 is
         ];
       }
@@ -44,9 +50,19 @@ module _ (lets : LetsGo) (content : Content) (needed : ℕ → Bool) (first next
         omega (arith, rise, let_go.ends k, let_go.ends j));
     theirs = theirs;
     all = λ v end has.
-        let found = are.all v end (record { entry = has.entry; in_use = has.in_use; ended = has.ended; passes = lets.fewer first next kept stay has.entry gone has.passes }) in
-        let k = found.0 in
-        (k, omega (arith, found.1, let_go.size), let_go.needed k v found.2 (told v has.entry has.in_use ∙ has.passes), let_go.ends k ∙ found.3);
+        let found =
+        are.all v end (record {
+          entry = has.entry;
+          in_use = has.in_use;
+          ended = has.ended;
+          passes = lets.fewer first next kept stay has.entry gone has.passes;
+        }) in
+        let k = found.0 in (
+          k,
+          omega (arith, found.1, let_go.size),
+          let_go.needed k v found.2 (told v has.entry has.in_use ∙ has.passes),
+          let_go.ends k ∙ found.3,
+        );
     once = λ k j v one two. are.once k j v (let_go.gone k v one) (let_go.gone j v two);
   }
 
@@ -58,7 +74,9 @@ module _ (lets : LetsGo) (content : Content) (needed : ℕ → Bool) (first next
       open-end : (c : ℕ) → (end_at old k).end ≤ c → (end_at new k).end ≤ c
       open-end c high = let same = let_go.ends k in omega (arith, same, high)
 
-      by : (c : ℕ) → is_one_of kept c ≡ true → (end_at old k).end ≤ c → (is_one_of stay c ≡ true) ⊎ ((first ≤ c) × (c < next))
+      by : (c : ℕ) → is_one_of kept c ≡ true → (end_at old k).end ≤ c
+          → (is_one_of stay c ≡ true) ⊎ ((first ≤ c) × (c < next))
           → (c : ℕ) × (is_one_of stay c ≡ true) × ((end_at new k).end ≤ c)
       by c among high (inl stays) = (c, stays, open-end c high)
-      by c among high (inr within) = (next, gone.next_stays, (let low_end = open-end c high in omega (arith, within.1, low_end)))
+      by c among high (inr within) =
+          (next, gone.next_stays, (let low_end = open-end c high in omega (arith, within.1, low_end)))

@@ -28,24 +28,35 @@ module _ (follow : Follow) (s : Store) (store : IsStore s) where
   }
 
   -- a number in the segment was counted
-  pub some-counted : (v b segment : ℕ) (at : Partial ℕ) (counts : List ℕ) → (1 ≤ v) × (v ≤ capacity s) → at v ≡ Some b
-      → is_inside s.segments segment (Some b) ≡ true → segment < length s.segments.each → AreCountsIn s at counts
+  pub some-counted : (v b segment : ℕ) (at : Partial ℕ) (counts : List ℕ) → (1 ≤ v) × (v ≤ capacity s)
+      → at v ≡ Some b
+      → is_inside s.segments segment (Some b) ≡ true → segment < length s.segments.each
+      → AreCountsIn s at counts
       → 0 < get_or counts segment 0
   some-counted v b segment at counts range is inside there are =
-      follow.some s.segments.blocks (capacity s) v b segment at counts range.0 range.1 is inside (omega (arith, are.size, there)) are.are
+      follow.some s.segments.blocks (capacity s) v b segment at counts range.0 range.1 is inside
+      (omega (arith, are.size, there)) are.are
 
-  pub one-added : (v b segment : ℕ) (old new : Partial ℕ) (counts : List ℕ) → (1 ≤ v) × (v ≤ capacity s) → HasBlock v b old new
-      → is_inside s.segments segment (Some b) ≡ true → segment < length s.segments.each → AreCountsIn s old counts
+  pub one-added : (v b segment : ℕ) (old new : Partial ℕ) (counts : List ℕ) → (1 ≤ v) × (v ≤ capacity s)
+      → HasBlock v b old new
+      → is_inside s.segments segment (Some b) ≡ true → segment < length s.segments.each
+      → AreCountsIn s old counts
       → AreCountsIn s new (one_more segment counts)
   one-added v b segment old new counts range has inside there are = record {
     size = length-set counts segment (get_or counts segment 0 + 1) ∙ are.size;
-    are = follow.added s.segments.blocks (capacity s) v b segment old new counts range.0 range.1 has inside (omega (arith, are.size, there)) are.are;
+    are =
+        follow.added s.segments.blocks (capacity s) v b segment old new counts range.0 range.1 has inside
+        (omega (arith, are.size, there)) are.are;
   }
 
-  pub one-taken : (v b segment : ℕ) (old new : Partial ℕ) (counts : List ℕ) → (1 ≤ v) × (v ≤ capacity s) → HasBlock v b new old
-      → is_inside s.segments segment (Some b) ≡ true → segment < length s.segments.each → AreCountsIn s old counts
+  pub one-taken : (v b segment : ℕ) (old new : Partial ℕ) (counts : List ℕ) → (1 ≤ v) × (v ≤ capacity s)
+      → HasBlock v b new old
+      → is_inside s.segments segment (Some b) ≡ true → segment < length s.segments.each
+      → AreCountsIn s old counts
       → AreCountsIn s new (one_less segment counts)
   one-taken v b segment old new counts range has inside there are = record {
     size = length-set counts segment (get_or counts segment 0 - 1) ∙ are.size;
-    are = follow.taken s.segments.blocks (capacity s) v b segment old new counts range.0 range.1 has inside (omega (arith, are.size, there)) are.are;
+    are =
+        follow.taken s.segments.blocks (capacity s) v b segment old new counts range.0 range.1 has inside
+        (omega (arith, are.size, there)) are.are;
   }

@@ -16,10 +16,12 @@ swept_one o e ends = cond (is_some o) (e ∷ ends) ends
 abbrev LeftWas : List Ended → List Ended → Type 0
 LeftWas now old = (k : ℕ) → k < length now → (p : ℕ) × (p < length old) × (end_at now k ≡ end_at old p)
 
-left-one : (e : Ended) (ends : List Ended) → LeftWas (swept ends) ends → (o : Option ℕ) → LeftWas (swept_one o e (swept ends)) (e ∷ ends)
+left-one : (e : Ended) (ends : List Ended) → LeftWas (swept ends) ends → (o : Option ℕ)
+    → LeftWas (swept_one o e (swept ends)) (e ∷ ends)
 left-one e ends rest None k low = let (p, held, same) = rest k low in (suc p, omega arith, same)
 left-one e ends rest (Some v) zero low = (0, omega arith, refl)
-left-one e ends rest (Some v) (suc k) low = let (p, held, same) = rest k (omega arith) in (suc p, omega arith, same)
+left-one e ends rest (Some v) (suc k) low =
+    let (p, held, same) = rest k (omega arith) in (suc p, omega arith, same)
 
 left-was : (ends : List Ended) → LeftWas (swept ends) ends
 left-was [] k low = absurd (omega arith)
@@ -28,12 +30,17 @@ left-was (e ∷ ends) k low = left-one e ends (λ j less. left-was ends j less) 
 -- and of two the first was before the second
 abbrev TwoWere : List Ended → List Ended → Type 0
 TwoWere now old = (k j : ℕ) → k < j → j < length now
-    → (p : ℕ) × (q : ℕ) × (p < q) × (q < length old) × (end_at now k ≡ end_at old p) × (end_at now j ≡ end_at old q)
+    → (p : ℕ) × (q : ℕ) × (p < q) × (q < length old) × (end_at now k ≡ end_at old p)
+    × (end_at now j ≡ end_at old q)
 
-two-one : (e : Ended) (ends : List Ended) → TwoWere (swept ends) ends → (o : Option ℕ) → TwoWere (swept_one o e (swept ends)) (e ∷ ends)
-two-one e ends rest None k j less low = let (p, q, order, held, one, two) = rest k j less low in (suc p, suc q, omega arith, omega arith, one, two)
+two-one : (e : Ended) (ends : List Ended) → TwoWere (swept ends) ends → (o : Option ℕ)
+    → TwoWere (swept_one o e (swept ends)) (e ∷ ends)
+two-one e ends rest None k j less low =
+    let (p, q, order, held, one, two) = rest k j less low in
+    (suc p, suc q, omega arith, omega arith, one, two)
 two-one e ends rest (Some v) k zero less low = absurd (omega arith)
-two-one e ends rest (Some v) zero (suc j) less low = let (q, held, two) = left-was ends j (omega arith) in (0, suc q, omega arith, omega arith, refl, two)
+two-one e ends rest (Some v) zero (suc j) less low =
+    let (q, held, two) = left-was ends j (omega arith) in (0, suc q, omega arith, omega arith, refl, two)
 two-one e ends rest (Some v) (suc k) (suc j) less low =
     let (p, q, order, held, one, two) = rest k j (omega arith) (omega arith) in
     (suc p, suc q, omega arith, omega arith, one, two)
@@ -46,7 +53,8 @@ two-were (e ∷ ends) k j less low = two-one e ends (λ i l m n. two-were ends i
 abbrev Stays : List Ended → Ended → Type 0
 Stays now e = (k : ℕ) × (k < length now) × (end_at now k ≡ e)
 
-stays-first : (e : Ended) (v : ℕ) (ends : List Ended) (o : Option ℕ) → o ≡ Some v → Stays (swept_one o e ends) e
+stays-first : (e : Ended) (v : ℕ) (ends : List Ended) (o : Option ℕ) → o ≡ Some v
+    → Stays (swept_one o e ends) e
 stays-first e v ends None none = no-number v none
 stays-first e v ends (Some w) some = (0, omega arith, refl)
 
@@ -59,13 +67,16 @@ stays [] p v is = no-number v is
 stays (e ∷ ends) zero v is = stays-first e v (swept ends) e.number is
 stays (e ∷ ends) (suc p) v is = stays-behind e (end_at ends p) (swept ends) e.number (stays ends p v is)
 
-was : (ends : List Ended) (k v : ℕ) → (end_at (swept ends) k).number ≡ Some v → (p : ℕ) × ((end_at ends p).number ≡ Some v) × (end_at (swept ends) k ≡ end_at ends p)
+was : (ends : List Ended) (k v : ℕ) → (end_at (swept ends) k).number ≡ Some v
+    → (p : ℕ) × ((end_at ends p).number ≡ Some v) × (end_at (swept ends) k ≡ end_at ends p)
 was ends k v is =
     let (p, held, same) = left-was ends k (in-list (swept ends) k v is) in
     (p, sym (ap (λ (e : Ended). e.number) same) ∙ is, same)
 
-module _ (content : Content) (needed : Entry → Bool) (ends : List Ended) (are : AreEnds content needed ends) where
-  up : (k j : ℕ) → k ≤ j → j < length (swept ends) → (k < j) ⊎ (j ≤ k) → (end_at (swept ends) k).end ≤ (end_at (swept ends) j).end
+module _ (content : Content) (needed : Entry → Bool) (ends : List Ended)
+    (are : AreEnds content needed ends) where
+  up : (k j : ℕ) → k ≤ j → j < length (swept ends) → (k < j) ⊎ (j ≤ k)
+      → (end_at (swept ends) k).end ≤ (end_at (swept ends) j).end
   up k j order low (inl less) =
       let (p, q, before, held, first, second) = two-were ends k j less low in
       let rise = are.rising p q no_end (omega arith) held in
@@ -77,13 +88,17 @@ module _ (content : Content) (needed : Entry → Bool) (ends : List Ended) (are 
       let equal = ap (λ i. (end_at (swept ends) i).end) same in
       omega arith
 
-  never : (k j v : ℕ) → (end_at (swept ends) k).number ≡ Some v → (end_at (swept ends) j).number ≡ Some v → k < j → ⊥
+  never : (k j v : ℕ) → (end_at (swept ends) k).number ≡ Some v → (end_at (swept ends) j).number ≡ Some v
+      → k < j → ⊥
   never k j v one two less =
       let (p, q, order, held, first, second) = two-were ends k j less (in-list (swept ends) j v two) in
-      let same : p ≡ q = are.once p q v (sym (ap (λ (e : Ended). e.number) first) ∙ one) (sym (ap (λ (e : Ended). e.number) second) ∙ two) in
+      let same : p ≡ q =
+      are.once p q v (sym (ap (λ (e : Ended). e.number) first) ∙ one)
+      (sym (ap (λ (e : Ended). e.number) second) ∙ two) in
       omega arith
 
-  apart : (k j v : ℕ) → (end_at (swept ends) k).number ≡ Some v → (end_at (swept ends) j).number ≡ Some v → (k < j) ⊎ (j ≤ k) → (j < k) ⊎ (k ≤ j) → k ≡ j
+  apart : (k j v : ℕ) → (end_at (swept ends) k).number ≡ Some v → (end_at (swept ends) j).number ≡ Some v
+      → (k < j) ⊎ (j ≤ k) → (j < k) ⊎ (k ≤ j) → k ≡ j
   apart k j v one two (inl less) more = absurd (never k j v one two less)
   apart k j v one two (inr past) (inl more) = absurd (never j k v two one more)
   apart k j v one two (inr past) (inr ahead) = omega arith
@@ -93,7 +108,8 @@ module _ (content : Content) (needed : Entry → Bool) (ends : List Ended) (are 
     rising = rising-from (swept ends) (λ k j order low. up k j order low (cases_lt k j));
     theirs = λ k v is. let (p, number, same) = was ends k v is in
         subst (HasEndedNeeded content needed v) (sym (ap end_of same)) (are.theirs p v number);
-    all = λ v end needs. let (p, held, number, ending) = are.all v end needs in let (k, low, same) = stays ends p v number in
+    all = λ v end needs.
+        let (p, held, number, ending) = are.all v end needs in let (k, low, same) = stays ends p v number in
         (k, low, ap (λ (e : Ended). e.number) same ∙ number, ap end_of same ∙ ending);
     once = λ k j v one two. apart k j v one two (cases_lt k j) (cases_lt j k);
   }

@@ -12,8 +12,10 @@ module _ {X : Type 0} where
       let count : gone + index - gone ≡ index = omega arith in
       let place : gone + 1 + index ≡ gone + suc index = omega arith in
       ap (λ n. drop (gone + 1) (front ++ take n (drop gone places) ++ drop (gone + 1 + n) places)) count
-      ∙ ap (drop (gone + 1)) (append_assoc front (take index (drop gone places)) (drop (gone + 1 + index) places))
-      ∙ drop_at front (take index (drop gone places) ++ drop (gone + 1 + index) places) (gone + 1) (length-take-le (gone + 1) places (omega arith))
+      ∙ ap (drop (gone + 1))
+      (append_assoc front (take index (drop gone places)) (drop (gone + 1 + index) places))
+      ∙ drop_at front (take index (drop gone places) ++ drop (gone + 1 + index) places) (gone + 1)
+      (length-take-le (gone + 1) places (omega arith))
       ∙ ap (λ n. take index (drop gone places) ++ drop n places) place
       ∙ ap (λ xs. take index (drop gone places) ++ xs) (sym (drop-drop (suc index) gone places))
 
@@ -22,7 +24,8 @@ module _ {X : Type 0} where
       → drop gone (remove places (gone + index)) ≡ remove (drop gone places) index
   moved_down places gone index within =
       let place : suc (gone + index) ≡ gone + suc index = omega arith in
-      drop-append-le gone (take (gone + index) places) (drop (suc (gone + index)) places) (omega (arith, length-take-le (gone + index) places (omega arith)))
+      drop-append-le gone (take (gone + index) places) (drop (suc (gone + index)) places)
+      (omega (arith, length-take-le (gone + index) places (omega arith)))
       ∙ ap (λ xs. xs ++ drop (suc (gone + index)) places) (drop-take gone index places)
       ∙ ap (λ n. take index (drop gone places) ++ drop n places) place
       ∙ ap (λ xs. take index (drop gone places) ++ xs) (sym (drop-drop (suc index) gone places))

@@ -22,7 +22,8 @@ use Rattle.nl_dat.specs.Facts.ShownSpace.{none-payload, shown}
 use Rattle.nl_dat.proofs.StoreOf.{numbered_in-store_of}
 
 -- places without a value behind others
-entry-behind : (table : List (Option DatEntry)) (k v : ℕ) → entry_in (table ++ replicate k None) v ≡ entry_in table v
+entry-behind : (table : List (Option DatEntry)) (k v : ℕ)
+    → entry_in (table ++ replicate k None) v ≡ entry_in table v
 entry-behind [] zero v = refl
 entry-behind [] (suc k) zero = refl
 entry-behind [] (suc k) (suc v) = entry-behind [] k v
@@ -34,8 +35,10 @@ pub front : (table more : List (Option DatEntry)) → take (length table) (table
 front [] more = refl
 front (entry ∷ table) more = ap (λ (rest : List (Option DatEntry)). entry ∷ rest) (front table more)
 
-module _ (table : List (Option DatEntry)) (lowest segments : ℕ) (old later : SpaceContent) (before after : Failures)
-    (is_table : IsTable table lowest old) (tidy : AreTidy old.segments) (used_stays : UsedStays) (only : HoldsOnlyUsed old)
+module _ (table : List (Option DatEntry)) (lowest segments : ℕ) (old later : SpaceContent)
+    (before after : Failures)
+    (is_table : IsTable table lowest old) (tidy : AreTidy old.segments) (used_stays : UsedStays)
+    (only : HoldsOnlyUsed old)
     (more : length old.segments.each ≤ segments) (grown : IsGrown segments old later) where
   abbrev count : ℕ
   count = segments * old.segments.blocks + 1
@@ -54,19 +57,24 @@ module _ (table : List (Option DatEntry)) (lowest segments : ℕ) (old later : S
 
   -- there are as many blocks as segments ask for
   total : total_blocks later.segments ≡ segments * old.segments.blocks
-  total = ap total_blocks grown.segments ∙ ap (λ (n : ℕ). n * old.segments.blocks) (rw (length-append, length-replicate) (omega (arith, more)))
+  total =
+      ap total_blocks grown.segments
+      ∙ ap (λ (n : ℕ). n * old.segments.blocks) (rw (length-append, length-replicate) (omega (arith, more)))
 
   most : total_blocks old.segments ≤ segments * old.segments.blocks
   most = mul-le-mul_right old.segments.blocks more
 
   used : (b : ℕ) → IsUsed old.segments b → IsUsed later.segments b
-  used b is = subst (λ (s : Segments). IsUsed s b) (sym grown.segments) ((used_stays segments b old.segments).0 is)
+  used b is =
+      subst (λ (s : Segments). IsUsed s b) (sym grown.segments) ((used_stays segments b old.segments).0 is)
 
   pub table-grown : IsTable new lowest later
   table-grown = record {
     full = rw (length-append, length-replicate) (omega (arith, is_table.full, total, most));
     zero_unused = same 0 ∙ is_table.zero_unused;
-    sound = λ v b is. ap (option_map number_of) (ap (λ (f : Partial Birth). f b) births) ∙ is_table.sound v b (sym (at v) ∙ is);
+    sound = λ v b is.
+        ap (option_map number_of) (ap (λ (f : Partial Birth). f b) births)
+        ∙ is_table.sound v b (sym (at v) ∙ is);
     used = λ v b is. used b (is_table.used v b (sym (at v) ∙ is));
     stored = λ v b is.
         let was = sym (at v) ∙ is in
@@ -79,11 +87,14 @@ module _ (table : List (Option DatEntry)) (lowest segments : ℕ) (old later : S
 
   -- a block behind the old ones has no payload
   none : (b : ℕ) → total_blocks old.segments ≤ b → later.held b ≡ None
-  none b high = grown.held b ∙ only b (λ is. let low = used_inside old.segments b tidy is in omega (arith, low, high))
+  none b high =
+      grown.held b ∙ only b (λ is. let low = used_inside old.segments b tidy is in omega (arith, low, high))
 
   payload : (b : ℕ) → payload_in (store_of new later after) b ≡ payload_in (store_of table old before) b
   payload b = elim (cases_lt b (total_blocks old.segments)) [
-    | inl low ↦ (shown new later after b (omega (arith, low, total, most))).0 ∙ grown.held b ∙ sym (shown table old before b low).0
+    | inl low ↦
+        (shown new later after b (omega (arith, low, total, most))).0 ∙ grown.held b
+        ∙ sym (shown table old before b low).0
     | inr high ↦ (elim (cases_lt b (total_blocks later.segments)) [
       | inl low ↦ (shown new later after b low).0 ∙ none b high
       | inr past ↦ none-payload new later after b past
@@ -93,9 +104,13 @@ module _ (table : List (Option DatEntry)) (lowest segments : ℕ) (old later : S
   pub has-grown : HasGrown segments (store_of table old before) (store_of new later after)
   has-grown = record {
     segments = grown.segments;
-    numbers = λ v. numbered_in-store_of new later after v ∙ ap (λ (f : Partial Birth). numbered_of f (entry_in new v)) births ∙ ap (numbered_of (births_in old)) (same v) ∙ sym (numbered_in-store_of table old before v);
+    numbers = λ v.
+        numbered_in-store_of new later after v
+        ∙ ap (λ (f : Partial Birth). numbered_of f (entry_in new v)) births
+        ∙ ap (numbered_of (births_in old)) (same v) ∙ sym (numbered_in-store_of table old before v);
     payload = payload;
     device = λ b is.
         let low = used_inside old.segments b tidy is in
-        (shown new later after b (omega (arith, low, total, most))).1 ∙ (grown.used_stay b is).1 ∙ sym (shown table old before b low).1;
+        (shown new later after b (omega (arith, low, total, most))).1 ∙ (grown.used_stay b is).1
+        ∙ sym (shown table old before b low).1;
   }

@@ -22,11 +22,18 @@ use Rattle.nl_dat.specs.Facts.ShownSpace.{broken-shown, kept-shown}
 use Rattle.nl_dat.proofs.Writing.{keeps_at}
 
 -- there are as many blocks as before
-total-broken : (old later : SpaceContent) (reserve : Bool) (stamp checkpoint : ℕ) (payload : List Payload) → IsBrokenOff old later reserve stamp checkpoint payload → total_blocks later.segments ≡ total_blocks old.segments
+total-broken : (old later : SpaceContent) (reserve : Bool) (stamp checkpoint : ℕ) (payload : List Payload)
+    → IsBrokenOff old later reserve stamp checkpoint payload
+    → total_blocks later.segments ≡ total_blocks old.segments
 total-broken old later reserve stamp checkpoint payload broken =
-    ap total_blocks broken.segments ∙ total-with_error (with_logs old.segments broken.written stamp) broken.failed.segment ∙ total-with_logs old.segments broken.written stamp
+    ap total_blocks broken.segments
+    ∙ total-with_error (with_logs old.segments broken.written stamp) broken.failed.segment
+    ∙ total-with_logs old.segments broken.written stamp
 
-pub total-refused : (old later : SpaceContent) (reserve : Bool) (stamp checkpoint : ℕ) (payload : List Payload) (e : VolError) → IsAppendError e → (e ≡ NoSpace → later ≡ old) → (e ≡ Memory → later ≡ old) → (e ≡ Fault → IsBrokenOff old later reserve stamp checkpoint payload)
+pub total-refused : (old later : SpaceContent) (reserve : Bool) (stamp checkpoint : ℕ)
+    (payload : List Payload) (e : VolError)
+    → IsAppendError e → (e ≡ NoSpace → later ≡ old) → (e ≡ Memory → later ≡ old)
+    → (e ≡ Fault → IsBrokenOff old later reserve stamp checkpoint payload)
     → total_blocks later.segments ≡ total_blocks old.segments
 total-refused old later reserve stamp checkpoint payload e why no_space memory fault = elim why [
   | inl is ↦ ap (λ (s : SpaceContent). total_blocks s.segments) (no_space is)
@@ -37,26 +44,46 @@ total-refused old later reserve stamp checkpoint payload e why no_space memory f
 ]
 
 -- and each number is seen as before
-pub numbers-kept : (table : List (Option DatEntry)) (old later : SpaceContent) → KeepsAt (addresses_of (entry_in table)) (births_in old) (births_in later) → map (numbered_of (births_in later)) table ≡ map (numbered_of (births_in old)) table
-numbers-kept table old later keeps = ext_get_or None _ _ (length-map table (numbered_of (births_in later)) ∙ sym (length-map table (numbered_of (births_in old)))) (λ v h.
-    numbered_in-store_of table later no_failures v ∙ same v (entry_in table v) refl ∙ sym (numbered_in-store_of table old no_failures v))
+pub numbers-kept : (table : List (Option DatEntry)) (old later : SpaceContent)
+    → KeepsAt (addresses_of (entry_in table)) (births_in old) (births_in later)
+    → map (numbered_of (births_in later)) table ≡ map (numbered_of (births_in old)) table
+numbers-kept table old later keeps =
+    ext_get_or None _ _
+    (length-map table (numbered_of (births_in later))
+    ∙ sym (length-map table (numbered_of (births_in old))))
+    (λ v h.
+    numbered_in-store_of table later no_failures v ∙ same v (entry_in table v) refl
+    ∙ sym (numbered_in-store_of table old no_failures v))
   where
-    same : (v : ℕ) (o : Option DatEntry) → entry_in table v ≡ o → numbered_of (births_in later) o ≡ numbered_of (births_in old) o
+    same : (v : ℕ) (o : Option DatEntry) → entry_in table v ≡ o
+        → numbered_of (births_in later) o ≡ numbered_of (births_in old) o
     same v None is = refl
     same v (Some e) is = ap (option_map (numbered_with e)) (keeps v e.block (ap (option_map block_of) is))
 
-pub is_faulted : (table : List (Option DatEntry)) (lowest : ℕ) (old later : SpaceContent) (before after : Failures) (reserve : Bool) (stamp checkpoint : ℕ) (payload : List Payload) → AreTidy old.segments → IsTable table lowest old → KeepsUsed old.segments old later → failure_count before < failure_count after → before.writes < after.writes
-    → IsBrokenOff old later reserve stamp checkpoint payload → IsFaulted reserve checkpoint stamp payload (store_of table old before) (store_of table later after)
-is_faulted table lowest old later before after reserve stamp checkpoint payload tidy is_table kept risen writes broken = record {
-  failures = risen;
-  writes = writes;
-  numbers = numbers-kept table old later (keeps_at table lowest old later is_table kept);
-  broken_off = broken-shown table table old later before after reserve stamp checkpoint payload tidy broken;
-  used_stay = kept-shown table table old later before after (total-broken old later reserve stamp checkpoint payload broken) old.segments kept;
-}
+pub is_faulted : (table : List (Option DatEntry)) (lowest : ℕ) (old later : SpaceContent)
+    (before after : Failures) (reserve : Bool) (stamp checkpoint : ℕ) (payload : List Payload)
+    → AreTidy old.segments → IsTable table lowest old → KeepsUsed old.segments old later
+    → failure_count before < failure_count after → before.writes < after.writes
+    → IsBrokenOff old later reserve stamp checkpoint payload
+    → IsFaulted reserve checkpoint stamp payload (store_of table old before) (store_of table later after)
+is_faulted table lowest old later before after reserve stamp checkpoint payload tidy is_table kept risen
+    writes broken =
+    record {
+      failures = risen;
+      writes = writes;
+      numbers = numbers-kept table old later (keeps_at table lowest old later is_table kept);
+      broken_off =
+          broken-shown table table old later before after reserve stamp checkpoint payload tidy broken;
+      used_stay =
+          kept-shown table table old later before after
+          (total-broken old later reserve stamp checkpoint payload broken) old.segments kept;
+    }
 
-pub write-refused : (checkpoint stamp : ℕ) (changes : Changes) (old new : Store) (e : VolError) → IsAppendError e → (e ≡ NoSpace → LacksSpace old.segments true (length changes.births)) → (e ≡ NoSpace → new ≡ old) → (e ≡ Memory → new ≡ old)
-    → (e ≡ Fault → IsFaulted true checkpoint stamp (items_of changes.births) old new) → IsWriteRefused checkpoint stamp changes old new e
+pub write-refused : (checkpoint stamp : ℕ) (changes : Changes) (old new : Store) (e : VolError)
+    → IsAppendError e → (e ≡ NoSpace → LacksSpace old.segments true (length changes.births))
+    → (e ≡ NoSpace → new ≡ old) → (e ≡ Memory → new ≡ old)
+    → (e ≡ Fault → IsFaulted true checkpoint stamp (items_of changes.births) old new)
+    → IsWriteRefused checkpoint stamp changes old new e
 write-refused checkpoint stamp changes old new e why lacks no_space memory fault = elim why [
   | inl is ↦ subst (IsWriteRefused checkpoint stamp changes old new) (sym is) (lacks is, no_space is)
   | inr or ↦ elim or [

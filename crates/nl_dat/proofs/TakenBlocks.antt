@@ -25,7 +25,8 @@ none_taken zero b e = cc
 none_taken (suc n) zero e = cc
 none_taken (suc n) (suc b) e = none_taken n b e
 
-pub none_below : (numbers : List (Option DatEntry)) (blocks : ℕ) → IsTakenBelow numbers blocks 0 (replicate blocks false)
+pub none_below : (numbers : List (Option DatEntry)) (blocks : ℕ)
+    → IsTakenBelow numbers blocks 0 (replicate blocks false)
 none_below numbers blocks = record {
   count = length-replicate blocks false;
   told = λ i b low at. absurd (omega arith);
@@ -35,7 +36,8 @@ none_below numbers blocks = record {
 
 -- ---- one more
 
-module _ (numbers : List (Option DatEntry)) (blocks n : ℕ) (taken : List Bool) (is : IsTakenBelow numbers blocks n taken) where
+module _ (numbers : List (Option DatEntry)) (blocks n : ℕ) (taken : List Bool)
+    (is : IsTakenBelow numbers blocks n taken) where
   -- the next number is not in use
   more_unused : get_or numbers n None ≡ None → IsTakenBelow numbers blocks (n + 1) taken
   more_unused unused = record {
@@ -55,10 +57,14 @@ module _ (numbers : List (Option DatEntry)) (blocks n : ℕ) (taken : List Bool)
   }
     where
       here : (i b : ℕ) → i ≡ n → block_at numbers i ≡ Some b → ⊥
-      here i b e at = let none : block_at numbers n ≡ None = ap (option_map block_of) unused in let there : block_at numbers n ≡ Some b = subst (λ (k : ℕ). block_at numbers k ≡ Some b) e at in cc
+      here i b e at =
+          let none : block_at numbers n ≡ None = ap (option_map block_of) unused in
+          let there : block_at numbers n ≡ Some b = subst (λ (k : ℕ). block_at numbers k ≡ Some b) e at in
+          cc
 
   -- the block of the next number was free
-  more_free : (e : DatEntry) → get_or numbers n None ≡ Some e → e.block < blocks → get_or taken e.block false ≡ false → IsTakenBelow numbers blocks (n + 1) (set taken e.block true)
+  more_free : (e : DatEntry) → get_or numbers n None ≡ Some e → e.block < blocks
+      → get_or taken e.block false ≡ false → IsTakenBelow numbers blocks (n + 1) (set taken e.block true)
   more_free e used inside free = record {
     count = length-set taken e.block true ∙ is.count;
     told = λ i b low at. elim (cases_lt i n) [
@@ -70,7 +76,9 @@ module _ (numbers : List (Option DatEntry)) (blocks n : ℕ) (taken : List Bool)
     ];
     only = λ b t. elim (cases_eq b e.block) [
       | inl same ↦ (n, omega arith, block ∙ ap (λ (k : ℕ). Some k) (sym same))
-      | inr other ↦ let o = is.only b (sym (get_or-set_other taken e.block b true false other) ∙ t) in (o.0, omega (arith, o.1), o.2)
+      | inr other ↦
+          let o = is.only b (sym (get_or-set_other taken e.block b true false other) ∙ t) in
+          (o.0, omega (arith, o.1), o.2)
     ];
     apart = λ i j b low lower at bt. elim (cases_lt i n) [
       | inl h ↦ elim (cases_lt j n) [
@@ -91,30 +99,45 @@ module _ (numbers : List (Option DatEntry)) (blocks n : ℕ) (taken : List Bool)
       now = get_or-set_same taken e.block true false (omega (arith, inside, is.count))
 
       here : (i b : ℕ) → i ≡ n → block_at numbers i ≡ Some b → e.block ≡ b
-      here i b same at = let there : block_at numbers n ≡ Some b = subst (λ (k : ℕ). block_at numbers k ≡ Some b) same at in cc
+      here i b same at =
+          let there : block_at numbers n ≡ Some b = subst (λ (k : ℕ). block_at numbers k ≡ Some b) same at in
+          cc
 
       twice : (i b : ℕ) → i < n → block_at numbers i ≡ Some b → e.block ≡ b → ⊥
-      twice i b low at same = let t : get_or taken b false ≡ true = is.told i b low at in let f : get_or taken b false ≡ false = subst (λ (k : ℕ). get_or taken k false ≡ false) same free in cc
+      twice i b low at same =
+          let t : get_or taken b false ≡ true = is.told i b low at in
+          let f : get_or taken b false ≡ false = subst (λ (k : ℕ). get_or taken k false ≡ false) same free in
+          cc
 
 -- the blocks after one more number
-pub more_taken : (numbers : List (Option DatEntry)) (blocks n : ℕ) (taken new : List Bool) (entry : Option DatEntry) → n < length numbers → entry ≡ get_or numbers n entry → IfSome entry (λ e. e.block < blocks)
-    → IsTakenBelow numbers blocks n taken → TakesBlock entry taken new → IsTakenBelow numbers blocks (n + 1) new
-more_taken numbers blocks n taken new None within at inside is takes = rw takes (more_unused numbers blocks n taken is (sym at))
+pub more_taken : (numbers : List (Option DatEntry)) (blocks n : ℕ) (taken new : List Bool)
+    (entry : Option DatEntry)
+    → n < length numbers → entry ≡ get_or numbers n entry → IfSome entry (λ e. e.block < blocks)
+    → IsTakenBelow numbers blocks n taken → TakesBlock entry taken new
+    → IsTakenBelow numbers blocks (n + 1) new
+more_taken numbers blocks n taken new None within at inside is takes =
+    rw takes (more_unused numbers blocks n taken is (sym at))
 more_taken numbers blocks n taken new (Some e) within at inside is takes =
-    rw takes.1 (more_free numbers blocks n taken is e (get_or_default numbers n None (Some e) within ∙ sym at) inside takes.0)
+    rw takes.1 (more_free numbers blocks n taken is e
+    (get_or_default numbers n None (Some e) within ∙ sym at) inside takes.0)
 
 -- ---- in the end
 
 -- a number's block is that of the entry at the place before it
-told_block : (numbers : List (Option DatEntry)) (v b : ℕ) → addresses_of (entry_told numbers) v ≡ Some b → (i : ℕ) × (v ≡ suc i) × (block_at numbers i ≡ Some b) × (i < length numbers)
+told_block : (numbers : List (Option DatEntry)) (v b : ℕ) → addresses_of (entry_told numbers) v ≡ Some b
+    → (i : ℕ) × (v ≡ suc i) × (block_at numbers i ≡ Some b) × (i < length numbers)
 told_block numbers zero b at = absurd (cc)
 told_block numbers (suc i) b at = (i, refl, at, within (cases_lt i (length numbers)))
   where
     within : (i < length numbers) ⊎ (length numbers ≤ i) → i < length numbers
     within (inl h) = h
-    within (inr h) = absurd (let none : block_at numbers i ≡ None = ap (option_map block_of) (get_or_past numbers i None h) in cc)
+    within (inr h) =
+        absurd
+        (let none : block_at numbers i ≡ None = ap (option_map block_of) (get_or_past numbers i None h) in
+        cc)
 
-pub all_apart : (numbers : List (Option DatEntry)) (blocks n : ℕ) (taken : List Bool) → length numbers ≤ n → IsTakenBelow numbers blocks n taken → HaveOwnBlocks (addresses_of (entry_told numbers))
+pub all_apart : (numbers : List (Option DatEntry)) (blocks n : ℕ) (taken : List Bool) → length numbers ≤ n
+    → IsTakenBelow numbers blocks n taken → HaveOwnBlocks (addresses_of (entry_told numbers))
 all_apart numbers blocks n taken all is v w b at bt =
     let p = told_block numbers v b at in
     let q = told_block numbers w b bt in
@@ -122,11 +145,15 @@ all_apart numbers blocks n taken all is v w b at bt =
     omega (arith, p.1, q.1, same)
 
 -- a block that was taken before is that of two numbers
-pub not_apart : (numbers : List (Option DatEntry)) (blocks n : ℕ) (taken : List Bool) (entry : Option DatEntry) → n < length numbers → entry ≡ get_or numbers n entry
-    → IsTakenBelow numbers blocks n taken → HasTakenBlock entry taken → HaveOwnBlocks (addresses_of (entry_told numbers)) → ⊥
+pub not_apart : (numbers : List (Option DatEntry)) (blocks n : ℕ) (taken : List Bool)
+    (entry : Option DatEntry)
+    → n < length numbers → entry ≡ get_or numbers n entry
+    → IsTakenBelow numbers blocks n taken → HasTakenBlock entry taken
+    → HaveOwnBlocks (addresses_of (entry_told numbers)) → ⊥
 not_apart numbers blocks n taken None within at is twice apart = twice
 not_apart numbers blocks n taken (Some e) within at is twice apart =
     let o = is.only e.block twice in
-    let here : block_at numbers n ≡ Some e.block = ap (option_map block_of) (get_or_default numbers n None (Some e) within ∙ sym at) in
+    let here : block_at numbers n ≡ Some e.block =
+    ap (option_map block_of) (get_or_default numbers n None (Some e) within ∙ sym at) in
     let same = apart (suc o.0) (suc n) e.block o.2 here in
     omega (arith, o.1, same)

@@ -13,7 +13,8 @@ use Rattle.nl_dat.specs.TakenOut.{HaveOwnBlocks, HasNone, HasTakenOne, HasTakenO
 
 -- ---- rows
 
-row-other : (first count : ℕ) (o : Option ℕ) → o ≢ Some (first + count) → is_in_row first (count + 1) o ≡ is_in_row first count o
+row-other : (first count : ℕ) (o : Option ℕ) → o ≢ Some (first + count)
+    → is_in_row first (count + 1) o ≡ is_in_row first count o
 row-other first count None other = refl
 row-other first count (Some b) other = elim (cases_eq b (first + count)) [
   | inl e ↦ absurd (other (ap Some e))
@@ -50,27 +51,39 @@ at_most-own (Some l) v = elim (cases_Bool (nat_le l v)) [
 
 -- ---- one block more
 
-module _ (first count : ℕ) (old mid new : List (Option DatEntry)) (taken : TakenOut) (before : HasTakenOut first count old mid taken) where
+module _ (first count : ℕ) (old mid new : List (Option DatEntry)) (taken : TakenOut)
+    (before : HasTakenOut first count old mid taken) where
   -- a number that is left has what it had
-  still : (v b : ℕ) → addresses_of (entry_in mid) v ≡ Some b → (addresses_of (entry_in old) v ≡ Some b) × (is_in_row first count (addresses_of (entry_in old) v) ≡ false)
+  still : (v b : ℕ) → addresses_of (entry_in mid) v ≡ Some b
+      → (addresses_of (entry_in old) v ≡ Some b)
+      × (is_in_row first count (addresses_of (entry_in old) v) ≡ false)
   still v b at = elim (cases_Bool (is_in_row first count (addresses_of (entry_in old) v))) [
     | inl e ↦
-        let none : addresses_of (entry_in mid) v ≡ None = ap (option_map block_of) (before.left v ∙ ap (λ t. cond t None (entry_in old v)) e) in
+        let none : addresses_of (entry_in mid) v ≡ None =
+        ap (option_map block_of) (before.left v ∙ ap (λ t. cond t None (entry_in old v)) e) in
         absurd (none_some (sym none ∙ at))
-    | inr e ↦ (sym (ap (option_map block_of) (before.left v ∙ ap (λ t. cond t None (entry_in old v)) e)) ∙ at, e)
+    | inr e ↦
+        (sym (ap (option_map block_of) (before.left v ∙ ap (λ t. cond t None (entry_in old v)) e)) ∙ at, e)
   ]
     where
       none_some : None ≡ Some b → ⊥
       none_some h = cc
 
   -- a block that stands behind the row so far is a number's then as before
-  address-kept : (v : ℕ) → addresses_of (entry_in old) v ≡ Some (first + count) → addresses_of (entry_in mid) v ≡ Some (first + count)
-  address-kept v at = ap (option_map block_of) (before.left v ∙ ap (λ t. cond t None (entry_in old v)) (ap (is_in_row first count) at ∙ row-not_yet first count)) ∙ at
+  address-kept : (v : ℕ) → addresses_of (entry_in old) v ≡ Some (first + count)
+      → addresses_of (entry_in mid) v ≡ Some (first + count)
+  address-kept v at =
+      ap (option_map block_of)
+      (before.left v
+      ∙ ap (λ t. cond t None (entry_in old v)) (ap (is_in_row first count) at ∙ row-not_yet first count))
+      ∙ at
 
   pub none-more : HasNone (first + count) mid new → HasTakenOut first (count + 1) old new taken
   none-more h = record {
     size = ap length h.same ∙ before.size;
-    left = λ v. ap (λ t. entry_in t v) h.same ∙ before.left v ∙ ap (λ t. cond t None (entry_in old v)) (sym (other v));
+    left = λ v.
+        ap (λ t. entry_in t v) h.same ∙ before.left v
+        ∙ ap (λ t. cond t None (entry_in old v)) (sym (other v));
     gone = before.gone;
     each_once = before.each_once;
     gone_are = λ v. before.gone_are v ∙ sym (other v);
@@ -79,26 +92,38 @@ module _ (first count : ℕ) (old mid new : List (Option DatEntry)) (taken : Tak
     least = before.least;
   }
     where
-      other : (v : ℕ) → is_in_row first (count + 1) (addresses_of (entry_in old) v) ≡ is_in_row first count (addresses_of (entry_in old) v)
+      other : (v : ℕ)
+          → is_in_row first (count + 1) (addresses_of (entry_in old) v)
+          ≡ is_in_row first count (addresses_of (entry_in old) v)
       other v = row-other first count (addresses_of (entry_in old) v) (λ at. h.none v (address-kept v at))
 
-  pub one-more : (n : ℕ) → HaveOwnBlocks (addresses_of (entry_in old)) → HasTakenOne (first + count) mid new n → HasTakenOut first (count + 1) old new (one_more taken n)
+  pub one-more : (n : ℕ) → HaveOwnBlocks (addresses_of (entry_in old)) → HasTakenOne (first + count) mid new n
+      → HasTakenOut first (count + 1) old new (one_more taken n)
   one-more n apart h = record {
     size = ap length h.taken ∙ length-set mid n None ∙ before.size;
     left = λ v. elim (cases_eq v n) [
-      | inl e ↦ ap (λ t. entry_in t v) h.taken ∙ ap (entry_in (set mid n None)) e ∙ gone_now ∙ sym (ap (λ t. cond t None (entry_in old v)) (ap (λ k. is_in_row first (count + 1) (addresses_of (entry_in old) k)) e ∙ last))
-      | inr e ↦ ap (λ t. entry_in t v) h.taken ∙ get_or-set_other mid n v None None e ∙ before.left v ∙ ap (λ t. cond t None (entry_in old v)) (sym (others v e))
+      | inl e ↦
+          ap (λ t. entry_in t v) h.taken ∙ ap (entry_in (set mid n None)) e ∙ gone_now
+          ∙ sym (ap (λ t. cond t None (entry_in old v))
+          (ap (λ k. is_in_row first (count + 1) (addresses_of (entry_in old) k)) e ∙ last))
+      | inr e ↦
+          ap (λ t. entry_in t v) h.taken ∙ get_or-set_other mid n v None None e ∙ before.left v
+          ∙ ap (λ t. cond t None (entry_in old v)) (sym (others v e))
     ];
     gone = n ∷ before.gone;
     each_once = (before.gone_are n ∙ not_yet, before.each_once);
     gone_are = λ v. elim (cases_eq v n) [
-      | inl e ↦ ap (λ t. t || is_one_of before.gone v) (eq-eqb v n e) ∙ sym (ap (λ k. is_in_row first (count + 1) (addresses_of (entry_in old) k)) e ∙ last)
+      | inl e ↦
+          ap (λ t. t || is_one_of before.gone v) (eq-eqb v n e)
+          ∙ sym (ap (λ k. is_in_row first (count + 1) (addresses_of (entry_in old) k)) e ∙ last)
       | inr e ↦ ap (λ t. t || is_one_of before.gone v) (ne_eqb v n e) ∙ before.gone_are v ∙ sym (others v e)
     ];
     counted = ap (λ k. k + 1) before.counted ∙ omega arith;
     few = omega (arith, before.few);
     least = λ v h'. elim (or_cases (eqb v n) (is_one_of before.gone v) h') [
-      | inl e ↦ subst (λ w. IsAtMost (Some (lesser taken.least n)) w) (sym (eqb-true v n e)) (at_most-own taken.least n)
+      | inl e ↦
+          subst (λ w. IsAtMost (Some (lesser taken.least n)) w) (sym (eqb-true v n e))
+          (at_most-own taken.least n)
       | inr e ↦ at_most-lesser taken.least n v (before.least v e)
     ];
   }
@@ -112,8 +137,12 @@ module _ (first count : ℕ) (old mid new : List (Option DatEntry)) (taken : Tak
       not_yet : is_in_row first count (addresses_of (entry_in old) n) ≡ false
       not_yet = (still n (first + count) h.there).1
 
-      others : (v : ℕ) → v ≢ n → is_in_row first (count + 1) (addresses_of (entry_in old) v) ≡ is_in_row first count (addresses_of (entry_in old) v)
-      others v other = row-other first count (addresses_of (entry_in old) v) (λ at. other (apart v n (first + count) at there))
+      others : (v : ℕ) → v ≢ n
+          → is_in_row first (count + 1) (addresses_of (entry_in old) v)
+          ≡ is_in_row first count (addresses_of (entry_in old) v)
+      others v other =
+          row-other first count (addresses_of (entry_in old) v)
+          (λ at. other (apart v n (first + count) at there))
 
       size_now : length (set mid n None) ≡ length mid
       size_now = length-set mid n None

@@ -12,20 +12,25 @@ use Rattle.nl_files.specs.CheckpointRoots.{StandsAs, StandsFor}
 use Rattle.nl_files.specs.CheckpointTrees.{HoldsTree}
 
 -- an inode in use holds something
-held_by : (pages : Pages) (inode : Option Inode) (held : Option Held) → StandsFor pages inode held → IsSome inode → IsSome held
+held_by : (pages : Pages) (inode : Option Inode) (held : Option Held) → StandsFor pages inode held
+    → IsSome inode → IsSome held
 held_by pages None held stands used = absurd cc
 held_by pages (Some inode) held stands used = of_kind inode.kind stands
   where
-    of_kind : (kind : InodeKind) → StandsAs (page_at pages (root_of inode.root)) kind inode.size held → IsSome held
+    of_kind : (kind : InodeKind) → StandsAs (page_at pages (root_of inode.root)) kind inode.size held
+        → IsSome held
     of_kind File stands = rw stands (search rules)
     of_kind Directory stands = rw stands.2 (search rules)
     of_kind InodeFile stands = absurd stands
 
-module _ (pages : Pages) (root : Root) (holding : Holding) (h : HoldsTree pages root holding) (first : ℕ) where
+module _ (pages : Pages) (root : Root) (holding : Holding) (h : HoldsTree pages root holding)
+    (first : ℕ) where
   pub all_held : (end : ℕ) → AreInUseFrom (inode_at pages root) first end → AreInUseFrom holding first end
-  all_held end used n low high = held_by pages (inode_at pages root n) (holding n) (h.stores n) (used n low high)
+  all_held end used n low high =
+      held_by pages (inode_at pages root n) (holding n) (h.stores n) (used n low high)
 
-  pub lowest_free : (n : ℕ) → IsLowestFreeInode (inode_at pages root) first n → IsLowestFreeInode holding first n
+  pub lowest_free : (n : ℕ) → IsLowestFreeInode (inode_at pages root) first n
+      → IsLowestFreeInode holding first n
   lowest_free n free = record {
     first = free.first;
     last = free.last;

@@ -9,7 +9,8 @@ use Rattle.nl_ifile.specs.Changing.{inodes_with}
 use Rattle.nl_ifile.specs.Free.{FindsFreeInBlock, IsFreeInBlock, block_end, inode_of_page}
 use Rattle.nl_ifile.proofs.Finding.{inodes_with-same}
 
-module _ (pages : Pages) (root : Root) (changes : List InodeChange) (page : Option (List ℕ)) (first : ℕ) (there : page ≡ page_at pages root (first / 8)) where
+module _ (pages : Pages) (root : Root) (changes : List InodeChange) (page : Option (List ℕ)) (first : ℕ)
+    (there : page ≡ page_at pages root (first / 8)) where
   of_page : InodeMap
   of_page = inodes_with changes (inode_of_page page)
 
@@ -20,9 +21,12 @@ module _ (pages : Pages) (root : Root) (changes : List InodeChange) (page : Opti
   unfolding of_page of_root
   same n low high =
       let block : first / 8 ≡ n / 8 = omega arith in
-      inodes_with-same changes (inode_of_page page) (inode_at pages root) n (ap (option_and_then (λ (bytes : List ℕ). inode_in bytes (n % 8))) (there ∙ ap (page_at pages root) block))
+      inodes_with-same changes (inode_of_page page) (inode_at pages root) n
+      (ap (option_and_then (λ (bytes : List ℕ). inode_in bytes (n % 8)))
+      (there ∙ ap (page_at pages root) block))
 
-  in_use-of_root : (end : ℕ) → end ≤ block_end first → AreInUseFrom of_page first end → AreInUseFrom of_root first end
+  in_use-of_root : (end : ℕ) → end ≤ block_end first → AreInUseFrom of_page first end
+      → AreInUseFrom of_root first end
   in_use-of_root end within found n low high = subst IsSome (same n low (omega arith)) (found n low high)
 
   free-of_root : (n : ℕ) → IsFreeInBlock of_page first n → IsFreeInBlock of_root first n

@@ -27,36 +27,53 @@ fits-read pages root n = of (page_at pages root (n / 8))
     spelled bytes None e = tt
     spelled bytes (Some i) e = inode_spelled-fits bytes i e
 
-    of : (o : Option (List ℕ)) → EntryHasSpelling (entry_for (option_and_then (λ page. inode_in page (n % 8)) o))
+    of : (o : Option (List ℕ))
+        → EntryHasSpelling (entry_for (option_and_then (λ page. inode_in page (n % 8)) o))
     of None = tt
     of (Some page) = spelled (take 128 (drop (128 * (n % 8)) page)) (inode_in page (n % 8)) refl
 
-fits-inodes_with : (changes : List InodeChange) (inodes : InodeMap) → All (λ c. EntryHasSpelling (entry_for c.inode)) changes → AllFit inodes → AllFit (inodes_with changes inodes)
+fits-inodes_with : (changes : List InodeChange) (inodes : InodeMap)
+    → All (λ c. EntryHasSpelling (entry_for c.inode)) changes → AllFit inodes
+    → AllFit (inodes_with changes inodes)
 fits-inodes_with [] inodes h old n = old n
-fits-inodes_with (c ∷ changes) inodes h old n = either (n == c.number) (fits-inodes_with changes inodes (λ k d l. h (suc k) d (omega arith)) old n)
+fits-inodes_with (c ∷ changes) inodes h old n =
+    either (n == c.number) (fits-inodes_with changes inodes (λ k d l. h (suc k) d (omega arith)) old n)
   where
-    either : (b : Bool) → EntryHasSpelling (entry_for (inodes_with changes inodes n)) → EntryHasSpelling (entry_for (cond b c.inode (inodes_with changes inodes n)))
+    either : (b : Bool) → EntryHasSpelling (entry_for (inodes_with changes inodes n))
+        → EntryHasSpelling (entry_for (cond b c.inode (inodes_with changes inodes n)))
     either true rest = h 0 c (omega arith)
     either false rest = rest
 
-module _ (pages : Pages) (new : Root) (inodes : InodeMap) (blocks : (i : ℕ) → page_at pages new i ≡ block_for (in_block inodes i)) (fits : AllFit inodes) where
+module _ (pages : Pages) (new : Root) (inodes : InodeMap)
+    (blocks : (i : ℕ) → page_at pages new i ≡ block_for (in_block inodes i)) (fits : AllFit inodes) where
   -- blocks of inodes are read as those inodes
   pub inode_at-blocks : (n : ℕ) → inode_at pages new n ≡ inodes n
   inode_at-blocks n =
       let whole : 8 * (n / 8) + n % 8 ≡ n = omega arith in
       ap (option_and_then (λ (page : List ℕ). inode_in page (n % 8))) (blocks (n / 8))
-      ∙ (inode_in-block_for (in_block inodes (n / 8)) (n % 8) (omega arith) (fits (8 * (n / 8) + n % 8)) ∙ ap inodes whole)
+      ∙ (inode_in-block_for (in_block inodes (n / 8)) (n % 8) (omega arith) (fits (8 * (n / 8) + n % 8))
+      ∙ ap inodes whole)
 
   pub inode_file-blocks : IsInodeFile pages new
-  inode_file-blocks i = blocks i ∙ block_for-cong (in_block inodes i) (in_block (inode_at pages new) i) (λ p low. sym (inode_at-blocks (8 * i + p)))
+  inode_file-blocks i =
+      blocks i
+      ∙ block_for-cong (in_block inodes i) (in_block (inode_at pages new) i)
+      (λ p low. sym (inode_at-blocks (8 * i + p)))
 
 -- a file whose blocks are changed as inodes are
-pub puts-inodes : (content : Content) (root new : Root) (changes : List InodeChange) (blocks : List BlockChange) (before after : Changes) →
-    AreBlockChanges (page_at (pages_of content) root) (inode_at (pages_of content) root) changes blocks → PutsAll content 6 root new blocks before after → PutsInodes content root new changes before after
+pub puts-inodes : (content : Content) (root new : Root) (changes : List InodeChange)
+    (blocks : List BlockChange) (before after : Changes)
+    →
+    AreBlockChanges (page_at (pages_of content) root) (inode_at (pages_of content) root) changes blocks
+    → PutsAll content 6 root new blocks before after → PutsInodes content root new changes before after
 puts-inodes content root new changes blocks before after are puts =
     let inodes : InodeMap = inodes_with changes (inode_at (pages_of content) root) in
-    let fits : AllFit inodes = fits-inodes_with changes (inode_at (pages_of content) root) are.fits (fits-read (pages_of content) root) in
-    let become : (i : ℕ) → page_at (with_births after.births (pages_of content)) new i ≡ block_for (in_block inodes i) = λ i. puts.blocks i ∙ are.become i in
+    let fits : AllFit inodes =
+    fits-inodes_with changes (inode_at (pages_of content) root) are.fits
+    (fits-read (pages_of content) root) in
+    let become : (i : ℕ)
+    → page_at (with_births after.births (pages_of content)) new i ≡ block_for (in_block inodes i) =
+    λ i. puts.blocks i ∙ are.become i in
     record {
       blocks = blocks;
       puts = puts;

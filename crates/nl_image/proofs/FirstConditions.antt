@@ -23,24 +23,28 @@ module _ (bytes : List ℕ) where
     fails = λ p m. never m.0;
   }
 
-  pub not-divided : HasMark bytes → ((s : Superblock) → IsDividedBy (take 1024 bytes) s → ⊥) → FirstFails 2 bytes
+  pub not-divided : HasMark bytes → ((s : Superblock) → IsDividedBy (take 1024 bytes) s → ⊥)
+      → FirstFails 2 bytes
   not-divided mark never = record {
     number = omega arith;
     before = (blank, (mark, tt));
     fails = λ p m. never p.shape m.1.0;
   }
 
-  pub begins-with : (s : Superblock) → HasMark bytes → IsDividedBy (take 1024 bytes) s → ((t : Superblock) → IsDividedBy (take 1024 bytes) t → s ≡ t) → BeginsWith bytes s
+  pub begins-with : (s : Superblock) → HasMark bytes → IsDividedBy (take 1024 bytes) s
+      → ((t : Superblock) → IsDividedBy (take 1024 bytes) t → s ≡ t) → BeginsWith bytes s
   begins-with s mark is alone = record {
     meets = λ p e. (mark, (subst (IsDividedBy (take 1024 bytes)) (sym e) is, tt));
     only = λ p m. sym (alone p.shape m.1.0);
   }
 
-  pub are-divided : (g : Geometry) (s : Superblock) → BeginsWith bytes s → IsShapeOf g s → (p : Parts) × MeetsFirst 2 bytes p × IsShapeOf g p.shape
+  pub are-divided : (g : Geometry) (s : Superblock) → BeginsWith bytes s → IsShapeOf g s
+      → (p : Parts) × MeetsFirst 2 bytes p × IsShapeOf g p.shape
   are-divided g s begins shape = (parts-of s, begins.meets (parts-of s) refl, shape)
 
   -- no other length would be met either
-  pub other-length : (s : Superblock) → BeginsWith bytes s → (length bytes ≡ image_length s → ⊥) → FirstFails 3 bytes
+  pub other-length : (s : Superblock) → BeginsWith bytes s → (length bytes ≡ image_length s → ⊥)
+      → FirstFails 3 bytes
   other-length s begins never = record {
     number = omega arith;
     before = (parts-of s, begins.meets (parts-of s) refl);

@@ -8,19 +8,25 @@ use Rattle.nl_image.specs.Laws.{ImagesAreSpelled}
 use Rattle.nl_image.specs.Parts.{blocks_in, blocks_start, bytes_from, cpfile_start, dat_start, padding_of, padding_start, sufile_start, total_of}
 
 -- what stands from a byte on is the next part, and what stands behind it
-cut : (bytes : List ℕ) (first count : ℕ) → drop first bytes ≡ bytes_from first count bytes ++ drop (first + count) bytes
-cut bytes first count = sym (take-append-drop count (drop first bytes)) ∙ ap (λ rest. take count (drop first bytes) ++ rest) (drop-drop count first bytes)
+cut : (bytes : List ℕ) (first count : ℕ)
+    → drop first bytes ≡ bytes_from first count bytes ++ drop (first + count) bytes
+cut bytes first count =
+    sym (take-append-drop count (drop first bytes))
+    ∙ ap (λ rest. take count (drop first bytes) ++ rest) (drop-drop count first bytes)
 
 -- a part with its spelling, in front of what stands behind it
-next : (bytes part : List ℕ) (first count : ℕ) → bytes_from first count bytes ≡ part → drop first bytes ≡ part ++ drop (first + count) bytes
+next : (bytes part : List ℕ) (first count : ℕ) → bytes_from first count bytes ≡ part
+    → drop first bytes ≡ part ++ drop (first + count) bytes
 next bytes part first count is = cut bytes first count ∙ ap (λ p. p ++ drop (first + count) bytes) is
 
 -- what stands at the end, where it is as long as this
-last : (bytes : List ℕ) (first count : ℕ) → length bytes ≡ first + count → drop first bytes ≡ bytes_from first count bytes
+last : (bytes : List ℕ) (first count : ℕ) → length bytes ≡ first + count
+    → drop first bytes ≡ bytes_from first count bytes
 last bytes first count long = sym (take_all count (drop first bytes) (omega (arith, length-drop first bytes)))
 
 -- six parts, one after the other
-assembled : (bytes head segments numbers kept padding blocks behind-head behind-segments behind-numbers behind-kept behind-padding : List ℕ)
+assembled : (bytes head segments numbers kept padding blocks behind-head behind-segments behind-numbers
+    behind-kept behind-padding : List ℕ)
     → bytes ≡ head ++ behind-head
     → behind-head ≡ segments ++ behind-segments
     → behind-segments ≡ numbers ++ behind-numbers
@@ -28,7 +34,8 @@ assembled : (bytes head segments numbers kept padding blocks behind-head behind-
     → behind-kept ≡ padding ++ behind-padding
     → behind-padding ≡ blocks
     → bytes ≡ head ++ (segments ++ numbers ++ kept) ++ padding ++ blocks
-assembled bytes head segments numbers kept padding blocks behind-head behind-segments behind-numbers behind-kept behind-padding a b c d e f =
+assembled bytes head segments numbers kept padding blocks behind-head behind-segments behind-numbers
+    behind-kept behind-padding a b c d e f =
     rw (a, b, c, d, e, f) (simp append_assoc)
 
 pub images_are_spelled : ImagesAreSpelled

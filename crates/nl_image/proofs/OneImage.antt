@@ -46,7 +46,8 @@ same-page c b p q one other = ext_get_or 0 p q (one.whole ∙ sym other.whole) e
       | inr apart ↦ absurd (apart-nowhere i apart)
     ]
 
-same-blocks : (c : SpaceContent) (bytes others : List ℕ) → AreBlocksOf c bytes → AreBlocksOf c others → bytes ≡ others
+same-blocks : (c : SpaceContent) (bytes others : List ℕ) → AreBlocksOf c bytes → AreBlocksOf c others
+    → bytes ≡ others
 same-blocks c bytes others one other = one.spelled ∙ ap page_bytes pages ∙ sym other.spelled
   where
     count : length one.pages ≡ length other.pages
@@ -57,7 +58,8 @@ same-blocks c bytes others one other = one.spelled ∙ ap page_bytes pages ∙ s
         let p : List ℕ = get_or one.pages b [] in
         let q : List ℕ = get_or other.pages b [] in
         let high : b < length other.pages = omega (arith, low, count) in
-        same-page c b p q (one.each b p (slice_get-get_or one.pages b [] low)) (other.each b q (slice_get-get_or other.pages b [] high))
+        same-page c b p q (one.each b p (slice_get-get_or one.pages b [] low))
+        (other.each b q (slice_get-get_or other.pages b [] high))
 
     pages : one.pages ≡ other.pages
     pages = ext_get_or [] one.pages other.pages count each
@@ -71,10 +73,12 @@ not-less pages root a b shape s t less = elim t.last [
   | inl none ↦ omega (arith, none, less)
   | inr (i, is, has) ↦ (let v = some-by (place_at pages root 0 i) has in
       let p = some-by (pages v.0) (shape.stored 0 i v.0 v.1) in
-      not-none (page_at pages root i) p.0 (s.none_past i (omega (arith, is, less))) (ap (option_and_then pages) v.1 ∙ p.1))
+      not-none (page_at pages root i) p.0 (s.none_past i (omega (arith, is, less)))
+      (ap (option_and_then pages) v.1 ∙ p.1))
 ]
 
-one-size : (pages : Pages) (root : Root) (a b : ℕ) → HasShape pages root → IsSizeOf pages root a → IsSizeOf pages root b → a ≡ b
+one-size : (pages : Pages) (root : Root) (a b : ℕ) → HasShape pages root → IsSizeOf pages root a
+    → IsSizeOf pages root b → a ≡ b
 one-size pages root a b shape s t = elim (cases_order s.count t.count) [
   | inl same ↦ (let x = s.is in let y = t.is in omega (arith, same, x, y))
   | inr (inl less) ↦ absurd (not-less pages root a b shape s t less)
@@ -91,13 +95,16 @@ told-one (Tree height top) s is = by (nat_le height 3) is
     by true same = same_Some (Tree height top) s same
     by false same = cc
 
-told-root : (c : Checkpoint) (e : CheckpointEntry) (root : Root) → e.root ≡ fields_of c.root → (told e).root ≡ Some root → root ≡ root_of c.root
+told-root : (c : Checkpoint) (e : CheckpointEntry) (root : Root) → e.root ≡ fields_of c.root
+    → (told e).root ≡ Some root → root ≡ root_of c.root
 told-root c e root is same = by (root_told e.root) refl same
   where
-    by : (o : Option layout.Root) → root_told e.root ≡ o → option_map root_of o ≡ Some root → root ≡ root_of c.root
+    by : (o : Option layout.Root) → root_told e.root ≡ o → option_map root_of o ≡ Some root
+        → root ≡ root_of c.root
     by None found none = cc
     by (Some r) found some =
-        same_Some root (root_of r) (sym some) ∙ sym (ap root_of (told-one c.root r (ap root_told (sym is) ∙ found)))
+        same_Some root (root_of r) (sym some)
+        ∙ sym (ap root_of (told-one c.root r (ap root_told (sym is) ∙ found)))
 
 one-entry : (pages : Pages) (c : Checkpoint) (e f : CheckpointEntry)
     → IsSizedEntry pages c e → IsSizedEntry pages c f → IsSoundShape pages (told e) → e ≡ f
@@ -123,13 +130,17 @@ same-entries pages [] (e ∷ es) fs one other shaped = absurd one
 same-entries pages (c ∷ kept) [] fs one other shaped = absurd one
 same-entries pages (c ∷ kept) (e ∷ es) [] one other shaped = absurd other
 same-entries pages (c ∷ kept) (e ∷ es) (f ∷ fs) one other shaped =
-    let first : e ≡ f = one-entry pages c e f one.0 other.0 (All-head (IsSoundShape pages) (told e) (map told es) shaped) in
-    let rest : es ≡ fs = same-entries pages kept es fs one.1 other.1 (All-tail (IsSoundShape pages) (told e) (map told es) shaped) in
+    let first : e ≡ f =
+    one-entry pages c e f one.0 other.0 (All-head (IsSoundShape pages) (told e) (map told es) shaped) in
+    let rest : es ≡ fs =
+    same-entries pages kept es fs one.1 other.1
+    (All-tail (IsSoundShape pages) (told e) (map told es) shaped) in
     λ i. first i ∷ rest i
 
 -- ---- the whole
 
--- The image is one where the roots of the kept checkpoints have their shape: of a root that names a number without a page more
+-- The image is one where the roots of the kept checkpoints have their shape: of a root that names a number
+-- without a page more
 -- than one size is told.
 pub one-image : (store : Store) (kept : List Checkpoint) (a b : List ℕ) → (image : IsImageOf store kept a)
     → AreShaped (pages_of (content_in store)) (map told image.entries)
@@ -146,7 +157,9 @@ one-image store kept a b image shaped other =
     }
 
     entries : image.entries ≡ other.entries
-    entries = same-entries (pages_of (content_in store)) kept image.entries other.entries image.are.sized other.are.sized shaped
+    entries =
+        same-entries (pages_of (content_in store)) kept image.entries other.entries image.are.sized
+        other.are.sized shaped
 
     blocks : image.blocks ≡ other.blocks
     blocks = same-blocks (space_in store) image.blocks other.blocks image.blocks_are other.blocks_are

@@ -27,10 +27,12 @@ use Rattle.nl_image.proofs.TableConditions.{same-parts}
 abbrev HaveOwnSpelling : {A : Type 0} → (A → List ℕ) → (A → Type 0) → Type 0
 HaveOwnSpelling {A} spell Fits = (x y : A) → Fits x → Fits y → spell x ≡ spell y → x ≡ y
 
-module _ {A : Type 0} (spell : A → List ℕ) (Fits : A → Type 0) (w : ℕ) (some : 0 < w) (wide : HaveWidth spell w)
+module _ {A : Type 0} (spell : A → List ℕ) (Fits : A → Type 0) (w : ℕ) (some : 0 < w)
+    (wide : HaveWidth spell w)
     (own : HaveOwnSpelling spell Fits) where
   not-nothing : (y : A) (ys : List A) → [] ≡ spell y ++ flat_map spell ys → ⊥
-  not-nothing y ys same = omega (arith, some, wide y, ap length same, length-append (spell y) (flat_map spell ys))
+  not-nothing y ys same =
+      omega (arith, some, wide y, ap length same, length-append (spell y) (flat_map spell ys))
 
   -- they are told by their bytes
   one-list : (xs ys : List A) → All Fits xs → All Fits ys → flat_map spell xs ≡ flat_map spell ys → xs ≡ ys
@@ -46,7 +48,9 @@ module _ {A : Type 0} (spell : A → List ℕ) (Fits : A → Type 0) (w : ℕ) (
       let behind : spell x ++ flat_map spell xs ≡ spell x ++ flat_map spell ys =
       same ∙ ap (λ (front : List ℕ). front ++ flat_map spell ys) (sym first) in
       let one : x ≡ y = own x y (All-head Fits x xs fit) (All-head Fits y ys others) first in
-      let rest : xs ≡ ys = one-list xs ys (All-tail Fits x xs fit) (All-tail Fits y ys others) (append_cancel_left (spell x) _ _ behind) in
+      let rest : xs ≡ ys =
+      one-list xs ys (All-tail Fits x xs fit) (All-tail Fits y ys others)
+      (append_cancel_left (spell x) _ _ behind) in
       λ i. one i ∷ rest i
 
 -- ---- the parts of two readings of the same bytes
@@ -71,7 +75,8 @@ module _ (ones : SpellOneEach) where
 
   own-checkpoint : HaveOwnSpelling checkpoint.checkpoint_bytes checkpoint.HasSpelling
   own-checkpoint x y fit other same =
-      ones.checkpoints _ x y (record { fits = fit; spelling = refl }) (record { fits = other; spelling = same })
+      ones.checkpoints _ x y (record { fits = fit; spelling = refl })
+      (record { fits = other; spelling = same })
 
   own-number : HaveOwnSpelling number.number_bytes number.HasSpelling
   own-number x y fit other same =
@@ -89,24 +94,29 @@ module _ (ones : SpellOneEach) where
         let one : HasSegments bytes p = m.1.1.1.0 in
         let other : HasSegments bytes q = n.1.1.1.0 in
         same-table p.segments q.segments
-        (one.told.blocks ∙ one.shape.blocks ∙ ap (λ (s : Superblock). s.blocks) same-shape ∙ sym other.shape.blocks ∙ sym other.told.blocks)
-        (one-list segment.segment_bytes segment.HasSpelling 16 (omega arith) segments.entry_width own-segment _ _ one.told.fit other.told.fit
+        (one.told.blocks ∙ one.shape.blocks ∙ ap (λ (s : Superblock). s.blocks) same-shape
+        ∙ sym other.shape.blocks ∙ sym other.told.blocks)
+        (one-list segment.segment_bytes segment.HasSpelling 16
+        (omega arith) segments.entry_width own-segment _ _ one.told.fit other.told.fit
         (sym one.told.spelled ∙ ap (λ (s : Superblock). sufile_in s bytes) same-shape ∙ other.told.spelled))
 
     same-kept : p.kept ≡ q.kept
     same-kept =
         let one : HasCheckpoints bytes p = m.1.1.1.1.0 in
         let other : HasCheckpoints bytes q = n.1.1.1.1.0 in
-        one-list checkpoint.checkpoint_bytes checkpoint.HasSpelling 160 (omega arith) checkpoints.entry_width own-checkpoint _ _ one.fit other.fit
+        one-list checkpoint.checkpoint_bytes checkpoint.HasSpelling 160
+        (omega arith) checkpoints.entry_width own-checkpoint _ _ one.fit other.fit
         (sym one.spelled ∙ ap (λ (s : Superblock). cpfile_in s bytes) same-shape ∙ other.spelled)
 
     same-numbers : p.numbers ≡ q.numbers
     same-numbers =
         let one : HasNumbers bytes p = m.1.1.1.1.1.0 in
         let other : HasNumbers bytes q = n.1.1.1.1.1.0 in
-        one-list number.number_bytes number.HasSpelling 24 (omega arith) numbers.entry_width own-number p.numbers q.numbers one.fit other.fit
+        one-list number.number_bytes number.HasSpelling 24
+        (omega arith) numbers.entry_width own-number p.numbers q.numbers one.fit other.fit
         (sym one.spelled ∙ ap (λ (s : Superblock). dat_in s bytes) same-shape ∙ other.spelled)
 
   pub images_have_one_parts : ImagesHaveOneParts
   images_have_one_parts bytes p q m n =
-      same-parts p q (same-shape bytes p q m n) (same-segments bytes p q m n) (same-numbers bytes p q m n) (same-kept bytes p q m n)
+      same-parts p q (same-shape bytes p q m n) (same-segments bytes p q m n) (same-numbers bytes p q m n)
+      (same-kept bytes p q m n)

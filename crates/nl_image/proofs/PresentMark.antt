@@ -15,5 +15,6 @@ under-present p blocks Second is = refl
 pub present-stays : PresentMarkStays
 present-stays store kept bytes image =
     ap with_present_mark image.spelled
-    ∙ under-present (parts_of image.shape store image.entries) image.blocks image.shape.mark image.are.shape.mark
+    ∙ under-present
+    (parts_of image.shape store image.entries) image.blocks image.shape.mark image.are.shape.mark
     ∙ sym image.spelled

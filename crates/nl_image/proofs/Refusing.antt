@@ -15,15 +15,20 @@ not-memory : (k : ℕ) → BadImage k ≡ Memory → ⊥
 not-memory k e = cc
 
 -- what is refused though it was to be found is refused for memory
-pub memory-alone : {A : Type 0} (P : A → Type 0) (r : Result A VolError) → MatchResult r P (λ e. e ≡ Memory) → IfErr r (λ e. e ≡ Memory)
+pub memory-alone : {A : Type 0} (P : A → Type 0) (r : Result A VolError) → MatchResult r P (λ e. e ≡ Memory)
+    → IfErr r (λ e. e ≡ Memory)
 memory-alone P (Ok a) h = tt
 memory-alone P (Err e) h = h
 
 -- parts meet the conditions before this one, and where some met it too, nothing but memory would refuse them
-pub refused-by : {A : Type 0} (r : Result A VolError) (k : ℕ) (bytes : List ℕ) → 1 ≤ k → (p : Parts) → MeetsFirst (k - 1) bytes p → ((q : Parts) → MeetsFirst k bytes q → IfErr r (λ e. e ≡ Memory)) → IfErr r (λ e. (e ≡ BadImage k) ⊎ (e ≡ Memory))
+pub refused-by : {A : Type 0} (r : Result A VolError) (k : ℕ) (bytes : List ℕ) → 1 ≤ k → (p : Parts)
+    → MeetsFirst (k - 1) bytes p → ((q : Parts) → MeetsFirst k bytes q → IfErr r (λ e. e ≡ Memory))
+    → IfErr r (λ e. (e ≡ BadImage k) ⊎ (e ≡ Memory))
     → IfErr r (IsRefusal bytes)
 refused-by (Ok a) k bytes low p before alone why = tt
 refused-by (Err e) k bytes low p before alone why = elim why [
-  | inl is ↦ inr (k, is, record { number = low; before = (p, before); fails = λ q m. not-memory k (sym is ∙ alone q m) })
+  | inl is ↦
+      inr
+      (k, is, record { number = low; before = (p, before); fails = λ q m. not-memory k (sym is ∙ alone q m) })
   | inr is ↦ inl is
 ]

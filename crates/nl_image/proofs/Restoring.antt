@@ -19,11 +19,13 @@ use Rattle.nl_image.specs.Reading.{CanBeRestored, IsReadImage}
 use Rattle.nl_image.specs.Facts.ReadParts.{part-length}
 
 -- a table of entries that are told has a used block at each number in use
-module _ (s : Segments) (latest : ℕ) (bytes : List ℕ) (numbers : List (Option DatEntry)) (is : IsDatOf s latest bytes numbers) where
+module _ (s : Segments) (latest : ℕ) (bytes : List ℕ) (numbers : List (Option DatEntry))
+    (is : IsDatOf s latest bytes numbers) where
   used-told : (v b : ℕ) → addresses_of (entry_told numbers) v ≡ Some b → IsUsed s b
   used-told v b at = by (entry_told numbers v) refl at
     where
-      by : (o : Option DatEntry) → entry_told numbers v ≡ o → option_map (λ (e : DatEntry). e.block) o ≡ Some b → IsUsed s b
+      by : (o : Option DatEntry) → entry_told numbers v ≡ o
+          → option_map (λ (e : DatEntry). e.block) o ≡ Some b → IsUsed s b
       by None there told = cc
       by (Some e) there told = subst (IsUsed s) (inside told) (is.entries v e there).used
         where
@@ -38,7 +40,8 @@ module _ (s : Segments) (latest : ℕ) (bytes : List ℕ) (numbers : List (Optio
   }
 
 -- entries with bytes are some
-some-kept : (kept : List CheckpointEntry) (count : ℕ) → length (cpfile_bytes kept) ≡ 160 * count → 1 ≤ count → 0 < length kept
+some-kept : (kept : List CheckpointEntry) (count : ℕ) → length (cpfile_bytes kept) ≡ 160 * count → 1 ≤ count
+    → 0 < length kept
 some-kept [] count long some = absurd (omega (arith, long, some))
 some-kept (e ∷ kept) count long some = omega arith
 
@@ -64,7 +67,8 @@ module _ (bytes : List ℕ) (r : ReadImage) (is : IsReadImage bytes r) where
     blocks = sufile.told.blocks ∙ (sufile.shape.blocks ∙ sym is.shape.blocks);
   }
 
-  long-told : length bytes ≡ cpfile_start p.shape + 160 * p.shape.checkpoints + (padding_of p.shape + 1024 * total_of p.shape)
+  long-told : length bytes
+      ≡ cpfile_start p.shape + 160 * p.shape.checkpoints + (padding_of p.shape + 1024 * total_of p.shape)
   long-told = let long : length bytes ≡ image_length p.shape = is.image.1.1.0 in omega (arith, long)
 
   kept-told : 0 < length p.kept
@@ -79,7 +83,9 @@ module _ (bytes : List ℕ) (r : ReadImage) (is : IsReadImage bytes r) where
   can-be-restored = record {
     shape = subst (spaces.IsTableShapeOf r.geometry) (sym is.segments) shape-told;
     pages = is.logs.pages.count ∙ ap total_blocks (sym is.segments);
-    logs = subst (λ (s : Segments). HoldLogs s (page_in r.logs.pages) r.logs.payload) (sym is.segments) is.logs.logs;
+    logs =
+        subst (λ (s : Segments). HoldLogs s (page_in r.logs.pages) r.logs.payload)
+        (sym is.segments) is.logs.logs;
     have_logs = subst segments.HaveLogs (sym is.segments) sufile.told.have_logs;
     over = subst (λ (s : Segments). IsTableOver r.numbers s) (sym is.segments)
         (subst (λ (table : List (Option DatEntry)). IsTableOver table p.segments) (sym is.numbers)

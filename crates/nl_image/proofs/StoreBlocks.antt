@@ -25,14 +25,23 @@ pages-long : (pages : List (List ℕ)) → AreWhole pages → length (page_bytes
 pages-long [] whole = omega arith
 pages-long (page ∷ pages) whole =
     let more = pages-long pages (rest-whole page pages whole) in
-    omega (arith, length-append page (page_bytes pages), first-whole page pages whole, more, mul-suc 1024 (length pages))
+    omega (
+      arith,
+      length-append page (page_bytes pages),
+      first-whole page pages whole,
+      more,
+      mul-suc 1024 (length pages),
+    )
 
-page-at : (pages : List (List ℕ)) → AreWhole pages → (b : ℕ) (page : List ℕ) → slice_get pages b ≡ Some page → take 1024 (drop (1024 * b) (page_bytes pages)) ≡ page
+page-at : (pages : List (List ℕ)) → AreWhole pages → (b : ℕ) (page : List ℕ) → slice_get pages b ≡ Some page
+    → take 1024 (drop (1024 * b) (page_bytes pages)) ≡ page
 page-at [] whole b page at = absurd (cc)
 page-at (first ∷ pages) whole zero page at =
-    ap (λ (n : ℕ). take n (first ++ page_bytes pages)) (sym (first-whole first pages whole)) ∙ take-append_seam first (page_bytes pages) ∙ same_Some first page at
+    ap (λ (n : ℕ). take n (first ++ page_bytes pages)) (sym (first-whole first pages whole))
+    ∙ take-append_seam first (page_bytes pages) ∙ same_Some first page at
 page-at (first ∷ pages) whole (suc b) page at =
-    let on : 1024 * suc b ≡ length first + 1024 * b = omega (arith, first-whole first pages whole, mul-suc 1024 b) in
+    let on : 1024 * suc b ≡ length first + 1024 * b =
+    omega (arith, first-whole first pages whole, mul-suc 1024 b) in
     ap (λ (n : ℕ). take 1024 (drop n (first ++ page_bytes pages))) on
     ∙ ap (take 1024) (drop-append-add first (page_bytes pages) (1024 * b))
     ∙ page-at pages (rest-whole first pages whole) b page at
@@ -46,7 +55,8 @@ module _ (c : SpaceContent) (bytes : List ℕ) (are : AreBlocksOf c bytes) where
   pub blocks-long : length bytes ≡ 1024 * total_blocks c.segments
   blocks-long = ap length are.spelled ∙ pages-long are.pages whole ∙ ap (λ (n : ℕ). 1024 * n) are.count
 
-  block-at : (b : ℕ) (page : List ℕ) → b < total_blocks c.segments → slice_get are.pages b ≡ Some page → pages_of_bytes bytes b ≡ Some page
+  block-at : (b : ℕ) (page : List ℕ) → b < total_blocks c.segments → slice_get are.pages b ≡ Some page
+      → pages_of_bytes bytes b ≡ Some page
   block-at b page low at =
       page_there bytes (total_blocks c.segments) b blocks-long low
       ∙ ap (λ (xs : List ℕ). Some (take 1024 (drop (1024 * b) xs))) are.spelled
@@ -69,4 +79,5 @@ module _ (c : SpaceContent) (bytes : List ℕ) (are : AreBlocksOf c bytes) where
       each : (b : ℕ) → b < total_blocks c.segments → IsRestAt c.segments (pages_of_bytes bytes) b
       each b low page unused at =
           let stored : List ℕ = get_or are.pages b [] in
-          same_Some page stored (sym at ∙ block-at b stored low (there b low)) ∙ (are.each b stored (there b low)).unused unused
+          same_Some page stored (sym at ∙ block-at b stored low (there b low))
+          ∙ (are.each b stored (there b low)).unused unused

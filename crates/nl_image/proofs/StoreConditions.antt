@@ -29,7 +29,8 @@ use Rattle.nl_image.proofs.StoreLogs.{held-is, hold-logs, payload-of}
 use Rattle.nl_image.specs.Facts.StoreNumbers.{are-own, are-used, numbers-long, own-blocks, pages-are, periods-are}
 
 -- bytes that begin with a superblock begin with the mark
-marked : (bytes : List ℕ) (s : Superblock) → 1024 ≤ length bytes → take 1024 bytes ≡ superblock_bytes s → HasMark bytes
+marked : (bytes : List ℕ) (s : Superblock) → 1024 ≤ length bytes → take 1024 bytes ≡ superblock_bytes s
+    → HasMark bytes
 marked bytes s long is = record {
   long = long;
   mark = (s.mark, sym (take-take 8 1024 bytes (omega arith)) ∙ ap (take 8) is ∙ beginning s.mark);
@@ -39,22 +40,29 @@ marked bytes s long is = record {
     beginning First = refl
     beginning Second = refl
 
-module _ (store : Store) (kept : List Checkpoint) (bytes : List ℕ) (is : IsStore store) (image : IsImageOf store kept bytes) where
+module _ (store : Store) (kept : List Checkpoint) (bytes : List ℕ) (is : IsStore store)
+    (image : IsImageOf store kept bytes) where
   abbrev parts : Parts
   parts = parts_of image.shape store image.entries
 
   same-total : total_of image.shape ≡ total_blocks store.segments
-  same-total = ap (λ (n : ℕ). n * image.shape.blocks) image.are.shape.segments ∙ ap (λ (n : ℕ). length store.segments.each * n) image.are.shape.blocks
+  same-total =
+      ap (λ (n : ℕ). n * image.shape.blocks) image.are.shape.segments
+      ∙ ap (λ (n : ℕ). length store.segments.each * n) image.are.shape.blocks
 
   kept-count : length image.entries ≡ image.shape.checkpoints
-  kept-count = AllZip-long (IsSizedEntry (roots.pages_of (content_in store))) kept image.entries image.are.sized ∙ sym image.are.count
+  kept-count =
+      AllZip-long (IsSizedEntry (roots.pages_of (content_in store))) kept image.entries image.are.sized
+      ∙ sym image.are.count
 
   counts : HaveCounts parts image.blocks
   counts = record {
     segment_count = sym image.are.shape.segments;
     number_count = numbers-long store is ∙ sym same-total;
     kept_count = kept-count;
-    block_count = blocks-long (space_in store) image.blocks image.blocks_are ∙ ap (λ (n : ℕ). 1024 * n) (sym same-total);
+    block_count =
+        blocks-long (space_in store) image.blocks image.blocks_are
+        ∙ ap (λ (n : ℕ). 1024 * n) (sym same-total);
   }
 
   -- the blocks of the image are those that were written
@@ -62,7 +70,9 @@ module _ (store : Store) (kept : List Checkpoint) (bytes : List ℕ) (is : IsSto
   blocks-are = ap pages_of_bytes (blocks-told parts image.blocks bytes counts image.spelled)
 
   used-are : (b : ℕ) → IsUsed store.segments b → blocks_told bytes parts b ≡ device_in store b
-  used-are b used = ap (λ (blocks : DevicePages). blocks b) blocks-are ∙ used-block (space_in store) image.blocks image.blocks_are is.limits.tidy b used
+  used-are b used =
+      ap (λ (blocks : DevicePages). blocks b) blocks-are
+      ∙ used-block (space_in store) image.blocks image.blocks_are is.limits.tidy b used
 
   -- ---- what stands in front of the blocks
 
@@ -109,7 +119,9 @@ module _ (store : Store) (kept : List Checkpoint) (bytes : List ℕ) (is : IsSto
   has-zeros : HasZeros bytes parts
   has-zeros = record {
     padding = padding-told parts image.blocks bytes counts image.spelled;
-    blocks = subst (IsRestZero store.segments) (sym blocks-are) (rest-zero (space_in store) image.blocks image.blocks_are);
+    blocks =
+        subst (IsRestZero store.segments) (sym blocks-are)
+        (rest-zero (space_in store) image.blocks image.blocks_are);
   }
 
   -- ---- the pages and periods of numbers
@@ -148,15 +160,19 @@ module _ (store : Store) (kept : List Checkpoint) (bytes : List ℕ) (is : IsSto
     }
 
     has-shapes : HasShapes bytes parts
-    has-shapes = subst (λ (pages : Pages). AreShaped pages (map told image.entries)) (sym same-pages) over.shaped
+    has-shapes =
+        subst (λ (pages : Pages). AreShaped pages (map told image.entries)) (sym same-pages) over.shaped
 
     has-trees : HasTrees bytes parts
     has-trees = subst (λ (pages : Pages). AreTrees pages (map told image.entries)) (sym same-pages) over.trees
 
     has-periods : HasPeriods bytes parts
     has-periods =
-        subst (λ (pages : Pages). AreExact pages (periods_told parts) (map told image.entries)) (sym same-pages)
-        (subst (λ (periods : Periods). AreExact (roots.pages_of (content_in store)) periods (map told image.entries)) (sym same-periods) over.exact)
+        subst (λ (pages : Pages). AreExact pages (periods_told parts) (map told image.entries))
+        (sym same-pages)
+        (subst (λ (periods : Periods).
+        AreExact (roots.pages_of (content_in store)) periods (map told image.entries))
+        (sym same-periods) over.exact)
 
     meets-all : IsImage bytes parts
     meets-all = (

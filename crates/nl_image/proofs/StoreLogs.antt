@@ -1,4 +1,5 @@
--- The used part of each segment of a store is whole logs in its image too, and the payload is that of the store.
+-- The used part of each segment of a store is whole logs in its image too, and the payload is that of the
+-- store.
 use Rattle.std.proofs.Common.{◌≡◌, ◌∙◌, ℕ, ◌+◌, ◌-◌, List, [], ◌∷◌, Option, None, arith, inl, inr, length, map, subst, sym}
 use Rattle.std.specs.List.{range_with_len}
 use Rattle.std.proofs.Props.{props}
@@ -21,21 +22,32 @@ use Rattle.nl_image.specs.Facts.OnePayload.{on_device}
 
 -- ---- that logs hold a payload is one fact
 
-stands-prop : (b : ℕ) (log : WholeLog) (held : HeldPayload) (stored : DevicePages) → IsProp (StandsFrom b log held stored)
+stands-prop : (b : ℕ) (log : WholeLog) (held : HeldPayload) (stored : DevicePages)
+    → IsProp (StandsFrom b log held stored)
 stands-prop b log held stored = Prim.hlevel props
 
-fill-prop : (b end : ℕ) (logs : List WholeLog) (held : HeldPayload) (stored : DevicePages) → IsProp (FillUpTo b end logs held stored)
+fill-prop : (b end : ℕ) (logs : List WholeLog) (held : HeldPayload) (stored : DevicePages)
+    → IsProp (FillUpTo b end logs held stored)
 fill-prop b end [] held stored = Prim.hlevel props
-fill-prop b end (log ∷ logs) held stored = λ x y i. (stands-prop b log held stored x.0 y.0 i, fill-prop (b + 1 + length log.payload) end logs held stored x.1 y.1 i)
+fill-prop b end (log ∷ logs) held stored = λ x y i. (
+  stands-prop b log held stored x.0 y.0 i,
+  fill-prop (b + 1 + length log.payload) end logs held stored x.1 y.1 i,
+)
 
 module _ (s : Store) (is : IsStore s) where
   -- the logs of a segment
   logs-in : (i : ℕ) → IsHeld s.segments (device_in s) (payload_in s) i
   logs-in i = (
     logs,
-    ∥∥₁_elim (is.whole_logs i) (fill-prop (used_start s.segments i) (used_end s.segments i) logs (payload_in s) (device_in s)) (λ filled.
-        subst (λ (ls : List WholeLog). FillUpTo (used_start s.segments i) (used_end s.segments i) ls (payload_in s) (device_in s))
-        (one_list_stands s i filled.0 logs (on_device (used_start s.segments i) (used_end s.segments i) filled.0 (payload_in s) (device_in s) filled.1) standing.stand)
+    ∥∥₁_elim (is.whole_logs i)
+        (fill-prop (used_start s.segments i) (used_end s.segments i) logs (payload_in s) (device_in s))
+        (λ filled.
+        subst (λ (ls : List WholeLog).
+        FillUpTo (used_start s.segments i) (used_end s.segments i) ls (payload_in s) (device_in s))
+        (one_list_stands s i filled.0 logs
+        (on_device (used_start s.segments i) (used_end s.segments i) filled.0 (payload_in s)
+        (device_in s) filled.1)
+        standing.stand)
         filled.1),
   )
     where
@@ -51,13 +63,19 @@ module _ (s : Store) (is : IsStore s) where
 
   pub held-is : (b : ℕ) → held_in payload-of b ≡ payload_in s b
   held-is b = elim (cases_lt b (total_blocks s.segments)) [
-    | inl low ↦ get_or-map-range_with_len (payload_in s) 0 (total_blocks s.segments) b b None low (omega arith)
-    | inr high ↦ get_or_past payload-of b None (omega (arith, high, length-map-range_with_len (payload_in s) 0 (total_blocks s.segments)))
-        ∙ sym (is.only_used b (λ used. absurd (let low = used_inside s.segments b is.limits.tidy used in omega (arith, low, high))))
+    | inl low ↦
+        get_or-map-range_with_len (payload_in s) 0 (total_blocks s.segments) b b None low (omega arith)
+    | inr high ↦
+        get_or_past payload-of b None
+        (omega (arith, high, length-map-range_with_len (payload_in s) 0 (total_blocks s.segments)))
+        ∙ sym (is.only_used b
+        (λ used.
+        absurd (let low = used_inside s.segments b is.limits.tidy used in omega (arith, low, high))))
   ]
 
   -- all used blocks of the image are as on the device
-  pub hold-logs : (image : DevicePages) → ((b : ℕ) → IsUsed s.segments b → image b ≡ device_in s b) → HoldLogs s.segments image payload-of
+  pub hold-logs : (image : DevicePages) → ((b : ℕ) → IsUsed s.segments b → image b ≡ device_in s b)
+      → HoldLogs s.segments image payload-of
   hold-logs image same = record {
     count = length-map-range_with_len (payload_in s) 0 (total_blocks s.segments);
     held = λ i within. held i;
@@ -68,6 +86,15 @@ module _ (s : Store) (is : IsStore s) where
       held i =
           let logs = logs-in i in (
             logs.0,
-            fill_kept (used_start s.segments i) (used_end s.segments i) logs.0 (space_in s) (space_content s.segments payload-of image)
-                (λ c low high. (held-is c, same c (record { segment = i; block = c - used_start s.segments i }, omega (arith, low), omega (arith, low, high)))) logs.1,
+            fill_kept (used_start s.segments i) (used_end s.segments i) logs.0 (space_in s)
+                (space_content s.segments payload-of image)
+                (λ c low high. (
+                  held-is c,
+                  same c (
+                    record { segment = i; block = c - used_start s.segments i },
+                    omega (arith, low),
+                    omega (arith, low, high),
+                  ),
+                ))
+                logs.1,
           )

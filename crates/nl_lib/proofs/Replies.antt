@@ -30,7 +30,8 @@ with_mode w n mode = record w { copies = copies_with_mode n mode w.copies }
 
 abbrev with_next : World → Mode → ℕ → World
 with_next w mode now =
-    let copy : Copy = record { tree = w.tree; mode = mode; minor = false; stamp = max now (latest_stamp w) } in
+    let copy : Copy =
+    record { tree = w.tree; mode = mode; minor = false; stamp = max now (latest_stamp w) } in
     record w { dirty = false; copies = w.copies ++ (latest w + 1, copy) ∷ [] }
 
 module _ (w after : World) (found : Answer) where
@@ -43,10 +44,14 @@ module _ (w after : World) (found : Answer) where
   mode-answer : (n : ℕ) (mode : Mode) → Answers found after answer.Done (change_mode w n mode)
   mode-answer n mode =
       either_gives (Answers found after answer.Done) w (kept_row n (rows w))
-      (λ row. refused_if (is_given_up row.mode mode && is_mounted w.mounts n) error.Mounted w (Ok answer.Done, with_mode w n mode))
+      (λ row.
+      refused_if (is_given_up row.mode mode && is_mounted w.mounts n) error.Mounted w
+      (Ok answer.Done, with_mode w n mode))
       (refused answer.Done w) (λ row kept.
-      refused_if_gives (Answers found after answer.Done) (is_given_up row.mode mode && is_mounted w.mounts n) error.Mounted w
-      (Ok answer.Done, with_mode w n mode) (refused answer.Done w) (λ free. answered answer.Done (with_mode w n mode)))
+      refused_if_gives (Answers found after answer.Done)
+      (is_given_up row.mode mode && is_mounted w.mounts n) error.Mounted w
+      (Ok answer.Done, with_mode w n mode) (refused answer.Done w)
+      (λ free. answered answer.Done (with_mode w n mode)))
 
   removal-answer : (n : ℕ) → Answers found after answer.Done (remove w n)
   removal-answer n =
@@ -54,15 +59,18 @@ module _ (w after : World) (found : Answer) where
       (λ _. (Ok answer.Done, take_out (n ∷ []) w)) (refused answer.Done w)
       (λ may judged. answered answer.Done (take_out (n ∷ []) w))
 
-  checkpoint-answer : (mode : Mode) (now : ℕ) → Answers found after (answer.Checkpoint (latest w + 1)) (checkpoint w mode now)
+  checkpoint-answer : (mode : Mode) (now : ℕ)
+      → Answers found after (answer.Checkpoint (latest w + 1)) (checkpoint w mode now)
   checkpoint-answer mode now =
       let made : Answer = answer.Checkpoint (latest w + 1) in
-      refused_if_gives (Answers found after made) (leb checkpoint_number_limit (latest w + 1)) error.NumbersSpent w
+      refused_if_gives (Answers found after made)
+      (leb checkpoint_number_limit (latest w + 1)) error.NumbersSpent w
       (Ok made, with_next w mode now) (refused made w) (λ few. answered made (with_next w mode now))
 
 module _ (old new : Layout) (found : Answer) (held : IsPen old) where
   -- a change of a mode answers nothing
-  pub mode-done : (n : ℕ) (mode : Mode) → Does unshared old (event.ChangeMode n mode) (Ok found) new → found ≡ answer.Done
+  pub mode-done : (n : ℕ) (mode : Mode) → Does unshared old (event.ChangeMode n mode) (Ok found) new
+      → found ≡ answer.Done
   mode-done n mode does =
       let next = does.follows held.world.0 held.world.1 in
       elim next.step [
@@ -92,5 +100,6 @@ module _ (old new : Layout) (found : Answer) (held : IsPen old) where
         | inl is ↦
             checkpoint-answer held.world.0 next.after found mode now is
             ∙ ap (λ (n : ℕ). answer.Checkpoint n) (ap (λ (n : ℕ). n + 1) same ∙ sym number)
-        | inr never ↦ ap (λ (r : Reply). answer_in r (answer.Checkpoint new.lists.table.latest.number)) never.reply_is
+        | inr never ↦
+            ap (λ (r : Reply). answer_in r (answer.Checkpoint new.lists.table.latest.number)) never.reply_is
       ]

@@ -38,15 +38,20 @@ begun : (log : List Commit) → IsHistory log → IsBegun log
 begun [] history = absurd history
 begun (c ∷ log) history = history
 
-pub learned_pages : (old new : Known) (cache : Option Cache) → IsBegun new.commits → IsPrefix old.commits new.commits → AreCachedPages old.commits cache
+pub learned_pages : (old new : Known) (cache : Option Cache) → IsBegun new.commits
+    → IsPrefix old.commits new.commits → AreCachedPages old.commits cache
     → AreCachedPages new.commits cache
 learned_pages old new cache more prefix pages = record {
-  each = λ c key page is has. cached_pages_stay old.commits new.commits key.checkpoint key.inode key.index page more prefix (pages.each c key page is has);
+  each = λ c key page is has.
+      cached_pages_stay old.commits new.commits key.checkpoint key.inode key.index page more prefix
+      (pages.each c key page is has);
 }
 
-pub seen_on : (old new : Known) (cache : Option Cache) → IsSeenOn old new → AreCachedPages old.commits cache → AreCachedPages new.commits cache
+pub seen_on : (old new : Known) (cache : Option Cache) → IsSeenOn old new → AreCachedPages old.commits cache
+    → AreCachedPages new.commits cache
 seen_on old new cache (Same is) pages = subst (λ (k : Known). AreCachedPages k.commits cache) (sym is) pages
-seen_on old new cache (More later history) pages = learned_pages old new cache (begun new.commits history) later.commits pages
+seen_on old new cache (More later history) pages =
+    learned_pages old new cache (begun new.commits history) later.commits pages
 
 pub nothing_kept : (log : List Commit) (cache : Option Cache) → cache ≡ None → AreCachedPages log cache
 nothing_kept log cache none = record { each = λ c key page is has. absurd (cc (none, is)) }
@@ -55,22 +60,28 @@ pub none_kept : (log : List Commit) (pages : ℕ) → AreCachedPages log (Some (
 none_kept log pages = record {
   each = λ c key page is has.
       let same : lru_cache [] pages ≡ c = cc is in
-      absurd (Contains-nil (key, page) (subst (λ (d : Cache). Contains d.entries (key, page)) (sym same) has));
+      absurd
+      (Contains-nil (key, page) (subst (λ (d : Cache). Contains d.entries (key, page)) (sym same) has));
 }
 
 -- ---- numbers
 
 -- a kept number is at most the latest
-low_at : (n : ℕ) (latest : Checkpoint) (c : Checkpoint) (b : Bool) → eq_by_cmp nat_cmp n latest.number ≡ b → cond b (Some latest) None ≡ Some c → n ≤ latest.number
-low_at n latest c true h is = let same = eqb-true latest.number n (sym (eq_by_cmp-nat_cmp n latest.number) ∙ h) in omega (arith, same)
+low_at : (n : ℕ) (latest : Checkpoint) (c : Checkpoint) (b : Bool) → eq_by_cmp nat_cmp n latest.number ≡ b
+    → cond b (Some latest) None ≡ Some c → n ≤ latest.number
+low_at n latest c true h is =
+    let same = eqb-true latest.number n (sym (eq_by_cmp-nat_cmp n latest.number) ∙ h) in omega (arith, same)
 low_at n latest c false h is = absurd cc
 
-kept_low : (earlier : List Checkpoint) (latest : Checkpoint) → IsRising (earlier ++ latest ∷ []) → (n : ℕ) (c : Checkpoint)
+kept_low : (earlier : List Checkpoint) (latest : Checkpoint) → IsRising (earlier ++ latest ∷ [])
+    → (n : ℕ) (c : Checkpoint)
     → found n (earlier ++ latest ∷ []) ≡ Some c → n ≤ latest.number
 kept_low [] latest rising n c is = low_at n latest c (eq_by_cmp nat_cmp n latest.number) refl is
-kept_low (d ∷ earlier) latest rising n c is = by (eq_by_cmp nat_cmp n d.number) refl is (kept_low earlier latest rising.1 n c)
+kept_low (d ∷ earlier) latest rising n c is =
+    by (eq_by_cmp nat_cmp n d.number) refl is (kept_low earlier latest rising.1 n c)
   where
-    by : (b : Bool) → eq_by_cmp nat_cmp n d.number ≡ b → cond b (Some d) (found n (earlier ++ latest ∷ [])) ≡ Some c
+    by : (b : Bool) → eq_by_cmp nat_cmp n d.number ≡ b
+        → cond b (Some d) (found n (earlier ++ latest ∷ [])) ≡ Some c
         → (found n (earlier ++ latest ∷ []) ≡ Some c → n ≤ latest.number) → n ≤ latest.number
     by true h here later =
         let same = eqb-true d.number n (sym (eq_by_cmp-nat_cmp n d.number) ∙ h) in
@@ -79,34 +90,48 @@ kept_low (d ∷ earlier) latest rising n c is = by (eq_by_cmp nat_cmp n d.number
 
 -- ---- what a look finds
 
-pub finds_seen : (m : Claim) (old new : Known) (x : Shown) (tree : Option MountedTree) → Finds m old new x tree → IsSeenOn old new
+pub finds_seen : (m : Claim) (old new : Known) (x : Shown) (tree : Option MountedTree)
+    → Finds m old new x tree → IsSeenOn old new
 finds_seen m old new x tree (Older same none) = Same same
 finds_seen m old new x tree (Lacks later history lacks none) = More later history
 finds_seen m old new x tree (Shows t later history at is) = More later history
 
-holds_at : (x y : Shown) (r s : Root) (held : Holding) → x ≡ y → r ≡ s → HoldsTree (pages_shown x) (root_of r) held → HoldsTree (pages_shown y) (root_of s) held
+holds_at : (x y : Shown) (r s : Root) (held : Holding) → x ≡ y → r ≡ s
+    → HoldsTree (pages_shown x) (root_of r) held → HoldsTree (pages_shown y) (root_of s) held
 holds_at x y r s held p q holds =
-    subst (λ (z : Shown). HoldsTree (pages_shown z) (root_of s) held) p (subst (λ (t : Root). HoldsTree (pages_shown x) (root_of t) held) q holds)
+    subst (λ (z : Shown). HoldsTree (pages_shown z) (root_of s) held) p
+    (subst (λ (t : Root). HoldsTree (pages_shown x) (root_of t) held) q holds)
 
 module _ (m : Claim) (old new : Known) (x : Shown) (t : MountedTree) (at : IsMountTree m old new x t) where
   -- what is kept of the checkpoint are blocks of its files
-  blocks_of : (c : Cache) → ((key : CacheKey) (page : List ℕ) → Contains c.entries (key, page) → IsCachedPage new.commits key.checkpoint key.inode key.index page)
-      → (held : Holding) → HoldsTree (pages_shown x) (root_of t.root) held → HasCachedBlocks c t.checkpoint held
+  blocks_of : (c : Cache)
+      → ((key : CacheKey) (page : List ℕ) → Contains c.entries (key, page)
+      → IsCachedPage new.commits key.checkpoint key.inode key.index page)
+      → (held : Holding) → HoldsTree (pages_shown x) (root_of t.root) held
+      → HasCachedBlocks c t.checkpoint held
   blocks_of c each held holds inode index page has =
-      (each (key_of t.checkpoint inode index) page has).block at.checkpoint held at.kept (holds_at x (image_of new.commits) t.root (checkpoint_root at.checkpoint) held at.shown (sym at.root) holds)
+      (each (key_of t.checkpoint inode index) page has).block at.checkpoint held at.kept
+      (holds_at x (image_of new.commits) t.root (checkpoint_root at.checkpoint) held at.shown
+      (sym at.root) holds)
 
-  of_mount_file : (path : List ℕ) (P : ℕ → Holding → ℕ → Type 0) → OfHeldFile (HoldsTree (pages_shown x) (root_of t.root)) t.checkpoint path P
+  of_mount_file : (path : List ℕ) (P : ℕ → Holding → ℕ → Type 0)
+      → OfHeldFile (HoldsTree (pages_shown x) (root_of t.root)) t.checkpoint path P
       → OfMountFile (image_of new.commits) m.number path P
   of_mount_file path P all n c mounted kept held inode holds found_file =
       let mounted_at = at.mounted in let kept_now = at.kept in
       let same : t.checkpoint ≡ n = cc (mounted, mounted_at) in
-      let kept_here : kept_at t.checkpoint (image_of new.commits).table ≡ Some c = subst (λ (k : ℕ). kept_at k (image_of new.commits).table ≡ Some c) (sym same) kept in
+      let kept_here : kept_at t.checkpoint (image_of new.commits).table ≡ Some c =
+      subst (λ (k : ℕ). kept_at k (image_of new.commits).table ≡ Some c) (sym same) kept in
       let checkpoint : c ≡ at.checkpoint = cc (kept_here, kept_now) in
       let root : checkpoint_root c ≡ t.root = ap checkpoint_root checkpoint ∙ at.root in
-      subst (λ (k : ℕ). P k held inode) same (all held inode (holds_at (image_of new.commits) x (checkpoint_root c) t.root held (sym at.shown) root holds) found_file)
+      subst (λ (k : ℕ). P k held inode) same
+      (all held inode
+      (holds_at (image_of new.commits) x (checkpoint_root c) t.root held (sym at.shown) root holds)
+      found_file)
 
   -- a block of a file of the tree is a page that may be kept
-  stored_page : IsHistory new.commits → (key : CacheKey) (page : List ℕ) → IsStored (HoldsTree (pages_shown x) (root_of t.root)) t.checkpoint (key, page)
+  stored_page : IsHistory new.commits → (key : CacheKey) (page : List ℕ)
+      → IsStored (HoldsTree (pages_shown x) (root_of t.root)) t.checkpoint (key, page)
       → IsCachedPage new.commits key.checkpoint key.inode key.index page
   stored_page history key page stored =
       let image = history_image new.commits history in
@@ -117,40 +142,57 @@ module _ (m : Claim) (old new : Known) (x : Shown) (t : MountedTree) (at : IsMou
         block = λ c held kept holds.
             let kept_now = at.kept in
             let same : c ≡ at.checkpoint = cc (kept, kept_now) in
-            stored.block held (holds_at (image_of new.commits) x (checkpoint_root c) t.root held (sym at.shown) (ap checkpoint_root same ∙ at.root) holds);
+            stored.block held
+            (holds_at (image_of new.commits) x (checkpoint_root c) t.root held (sym at.shown)
+            (ap checkpoint_root same ∙ at.root) holds);
       })
 
 -- ---- of the tree that was found
 
-refused_none : (pages : Pages) (o : Option MountedTree) (Refused : Type 0) (Answers : Tree → Type 0) → IsOfTree pages o Refused Answers → o ≡ None → Refused
-refused_none pages o Refused Answers is none = subst (λ (p : Option MountedTree). IsOfTree pages p Refused Answers) none is
+refused_none : (pages : Pages) (o : Option MountedTree) (Refused : Type 0) (Answers : Tree → Type 0)
+    → IsOfTree pages o Refused Answers → o ≡ None → Refused
+refused_none pages o Refused Answers is none =
+    subst (λ (p : Option MountedTree). IsOfTree pages p Refused Answers) none is
 
-pub read_refused : (pages : Pages) (o : Option MountedTree) (result : Result ℕ VolError) (was now : List ℕ) (Answers : Tree → Type 0)
+pub read_refused : (pages : Pages) (o : Option MountedTree) (result : Result ℕ VolError) (was now : List ℕ)
+    (Answers : Tree → Type 0)
     → IsOfTree pages o (IsNotRead result was now) Answers → o ≡ None → result ≡ Err BadMount
-read_refused pages o result was now Answers is none = (refused_none pages o (IsNotRead result was now) Answers is none).refused
+read_refused pages o result was now Answers is none =
+    (refused_none pages o (IsNotRead result was now) Answers is none).refused
 
-pub warming_refused : (pages : Pages) (o : Option MountedTree) (result : Result ℕ VolError) (Answers : Tree → Type 0)
+pub warming_refused : (pages : Pages) (o : Option MountedTree) (result : Result ℕ VolError)
+    (Answers : Tree → Type 0)
     → IsOfTree pages o (result ≡ Err BadMount) Answers → o ≡ None → result ≡ Err BadMount
 warming_refused pages o result Answers is none = refused_none pages o (result ≡ Err BadMount) Answers is none
 
-module _ (pages : Pages) (o : Option MountedTree) (tree : MountedTree) (path : List ℕ) (holds : Holding → Type 0) (is : o ≡ Some tree)
+module _ (pages : Pages) (o : Option MountedTree) (tree : MountedTree) (path : List ℕ)
+    (holds : Holding → Type 0) (is : o ≡ Some tree)
     (holds_here : (held : Holding) → HoldsTree pages (root_of tree.root) held → holds held) where
-  of_file : (P : ℕ → Holding → ℕ → Type 0) → OfHeldFile holds tree.checkpoint path P → OfTreeFile pages o path P
+  of_file : (P : ℕ → Holding → ℕ → Type 0) → OfHeldFile holds tree.checkpoint path P
+      → OfTreeFile pages o path P
   of_file P all t here held inode h at =
       let same : tree ≡ t = cc (is, here) in
-      subst (λ (u : MountedTree). HoldsTree pages (root_of u.root) held → P u.checkpoint held inode) same (λ hu. all held inode (holds_here held hu) at) h
+      subst (λ (u : MountedTree). HoldsTree pages (root_of u.root) held → P u.checkpoint held inode) same
+      (λ hu. all held inode (holds_here held hu) at) h
 
-  touched_in : (offset : ℕ) (was now : Cache) (result : Result ℕ VolError) → HasTouched (OfHeldFile holds tree.checkpoint path) offset was result now
+  touched_in : (offset : ℕ) (was now : Cache) (result : Result ℕ VolError)
+      → HasTouched (OfHeldFile holds tree.checkpoint path) offset was result now
       → HasTouched (OfTreeFile pages o path) offset was result now
-  touched_in offset was now (Ok count) touched = record { touched_is = of_file _ touched.touched_is; none = touched.none; same = touched.same }
-  touched_in offset was now (Err e) touched = record { touched_is = tt; none = touched.none; same = touched.same }
+  touched_in offset was now (Ok count) touched =
+      record { touched_is = of_file _ touched.touched_is; none = touched.none; same = touched.same }
+  touched_in offset was now (Err e) touched =
+      record { touched_is = tt; none = touched.none; same = touched.same }
 
-  pub touches_in : (offset : ℕ) (cache : Option Cache) (was now : Cache) (result : Result ℕ VolError) → cache ≡ Some was
-      → HasTouched (OfHeldFile holds tree.checkpoint path) offset was result now → TouchesIfAny (OfTreeFile pages o path) offset cache result (Some now)
+  pub touches_in : (offset : ℕ) (cache : Option Cache) (was now : Cache) (result : Result ℕ VolError)
+      → cache ≡ Some was
+      → HasTouched (OfHeldFile holds tree.checkpoint path) offset was result now
+      → TouchesIfAny (OfTreeFile pages o path) offset cache result (Some now)
   touches_in offset cache was now result cache_is touched =
-      subst (λ (c : Option Cache). TouchesIfAny (OfTreeFile pages o path) offset c result (Some now)) (sym cache_is) (now, refl, touched_in offset was now result touched)
+      subst (λ (c : Option Cache). TouchesIfAny (OfTreeFile pages o path) offset c result (Some now))
+      (sym cache_is) (now, refl, touched_in offset was now result touched)
 
-  pub warms_in : (offset len : ℕ) (was now : Cache) (result : Result ℕ VolError) → Warms (OfHeldFile holds tree.checkpoint path) offset len was result now
+  pub warms_in : (offset len : ℕ) (was now : Cache) (result : Result ℕ VolError)
+      → Warms (OfHeldFile holds tree.checkpoint path) offset len was result now
       → Warms (OfTreeFile pages o path) offset len was result now
   warms_in offset len was now result (Whole count done all) = Whole count done (of_file _ all)
   warms_in offset len was now result (Part done part) = Part done (of_file _ part)
@@ -159,38 +201,54 @@ module _ (pages : Pages) (o : Option MountedTree) (tree : MountedTree) (path : L
   pub puts_in : (was now : Cache) → PutsStored holds tree.checkpoint was now → PutsOfTree pages o was now
   puts_in was now stored e has = elim (stored e has) [
     | inl old ↦ inl old
-    | inr new ↦ inr (tree, is, record { checkpoint = new.checkpoint; block = λ held h. new.block held (holds_here held h) })
+    | inr new ↦
+        inr (
+          tree,
+          is,
+          record {
+            checkpoint = new.checkpoint;
+            block = λ held h. new.block held (holds_here held h);
+          },
+        )
   ]
 
 -- ---- through what a look found
 
-pub found_in : (m : Claim) (old new : Known) (x y : Shown) (o p : Option MountedTree) → y ≡ x → p ≡ o → Finds m old new x o → Finds m old new y p
+pub found_in : (m : Claim) (old new : Known) (x y : Shown) (o p : Option MountedTree) → y ≡ x → p ≡ o
+    → Finds m old new x o → Finds m old new y p
 found_in m old new x y o p shown tree finds =
-    subst (λ (z : Shown). Finds m old new z p) (sym shown) (subst (λ (q : Option MountedTree). Finds m old new x q) (sym tree) finds)
+    subst (λ (z : Shown). Finds m old new z p) (sym shown)
+    (subst (λ (q : Option MountedTree). Finds m old new x q) (sym tree) finds)
 
 -- what is kept is of the tree that was found
-pub is_cache : (m : Claim) (old new : Known) (x : Shown) (tree : Option MountedTree) (cache : Option Cache) → Finds m old new x tree → AreCachedPages new.commits cache
+pub is_cache : (m : Claim) (old new : Known) (x : Shown) (tree : Option MountedTree) (cache : Option Cache)
+    → Finds m old new x tree → AreCachedPages new.commits cache
     → IsCacheOf (pages_shown x) tree cache
 is_cache m old new x tree cache (Older same none) pages t c held is has holds = absurd (cc (none, is))
-is_cache m old new x tree cache (Lacks later history lacks none) pages t c held is has holds = absurd (cc (none, is))
+is_cache m old new x tree cache (Lacks later history lacks none) pages t c held is has holds =
+    absurd (cc (none, is))
 is_cache m old new x tree cache (Shows s later history at shows) pages t c held is has holds =
     let same : s ≡ t = cc (shows, is) in
     let at_t : IsMountTree m old new x t = subst (λ (u : MountedTree). IsMountTree m old new x u) same at in
     blocks_of m old new x t at_t c (λ key page inside. pages.each c key page has inside) held holds
 
 -- a read puts nothing
-pub touched_pages : (log : List Commit) (OfFile : (ℕ → Holding → ℕ → Type 0) → Type 0) (offset : ℕ) (old new : Option Cache) (result : Result ℕ VolError)
+pub touched_pages : (log : List Commit) (OfFile : (ℕ → Holding → ℕ → Type 0) → Type 0) (offset : ℕ)
+    (old new : Option Cache) (result : Result ℕ VolError)
     → TouchesIfAny OfFile offset old result new → AreCachedPages log old → AreCachedPages log new
 touched_pages log OfFile offset None new result touched pages = nothing_kept log new touched
 touched_pages log OfFile offset (Some was) new result (now, is, touched) pages = record {
   each = λ c key page here has.
       let same : c ≡ now = cc (here, is) in
-      pages.each was key page refl (touched.none (key, page) (subst (λ (d : Cache). Contains d.entries (key, page)) same has));
+      pages.each was key page refl
+      (touched.none (key, page) (subst (λ (d : Cache). Contains d.entries (key, page)) same has));
 }
 
 -- what is put is of the tree that was found
-pub put_pages : (m : Claim) (old new : Known) (x : Shown) (tree : Option MountedTree) (was now : Cache) → Finds m old new x tree
-    → PutsOfTree (pages_shown x) tree was now → AreCachedPages new.commits (Some was) → AreCachedPages new.commits (Some now)
+pub put_pages : (m : Claim) (old new : Known) (x : Shown) (tree : Option MountedTree) (was now : Cache)
+    → Finds m old new x tree
+    → PutsOfTree (pages_shown x) tree was now → AreCachedPages new.commits (Some was)
+    → AreCachedPages new.commits (Some now)
 put_pages m old new x tree was now finds puts pages = record {
   each = λ c key page here has.
       let same : c ≡ now = cc here in
@@ -201,43 +259,54 @@ put_pages m old new x tree was now finds puts pages = record {
 }
   where
     stored : (key : CacheKey) (page : List ℕ) → Finds m old new x tree → (t : MountedTree) → tree ≡ Some t
-        → IsStored (HoldsTree (pages_shown x) (root_of t.root)) t.checkpoint (key, page) → IsCachedPage new.commits key.checkpoint key.inode key.index page
+        → IsStored (HoldsTree (pages_shown x) (root_of t.root)) t.checkpoint (key, page)
+        → IsCachedPage new.commits key.checkpoint key.inode key.index page
     stored key page (Older same none) t is put = absurd (cc (none, is))
     stored key page (Lacks later history lacks none) t is put = absurd (cc (none, is))
     stored key page (Shows s later history at shows) t is put =
         let same : s ≡ t = cc (shows, is) in
-        let at_t : IsMountTree m old new x t = subst (λ (u : MountedTree). IsMountTree m old new x u) same at in
+        let at_t : IsMountTree m old new x t =
+        subst (λ (u : MountedTree). IsMountTree m old new x u) same at in
         stored_page m old new x t at_t history key page put
 
 -- ---- of the file of the mount's checkpoint
 
 module _ (m : Claim) (old new : Known) (x : Shown) (tree : Option MountedTree) (path : List ℕ) where
-  touched_at : (offset : ℕ) (was now : Cache) (result : Result ℕ VolError) → Finds m old new x tree → (tree ≡ None → result ≡ Err BadMount)
+  touched_at : (offset : ℕ) (was now : Cache) (result : Result ℕ VolError) → Finds m old new x tree
+      → (tree ≡ None → result ≡ Err BadMount)
       → HasTouched (OfTreeFile (pages_shown x) tree path) offset was result now
       → HasTouched (OfMountFile (image_of new.commits) m.number path) offset was result now
-  touched_at offset was now (Err e) finds refused touched = record { touched_is = tt; none = touched.none; same = touched.same }
+  touched_at offset was now (Err e) finds refused touched =
+      record { touched_is = tt; none = touched.none; same = touched.same }
   touched_at offset was now (Ok count) (Older same none) refused touched = absurd (cc (refused none))
-  touched_at offset was now (Ok count) (Lacks later history lacks none) refused touched = absurd (cc (refused none))
+  touched_at offset was now (Ok count) (Lacks later history lacks none) refused touched =
+      absurd (cc (refused none))
   touched_at offset was now (Ok count) (Shows t later history at is) refused touched = record {
     touched_is = of_mount_file m old new x t at path _ (touched.touched_is t is);
     none = touched.none;
     same = touched.same;
   }
 
-  pub touches_at : (offset : ℕ) (was now : Option Cache) (result : Result ℕ VolError) → Finds m old new x tree → (tree ≡ None → result ≡ Err BadMount)
+  pub touches_at : (offset : ℕ) (was now : Option Cache) (result : Result ℕ VolError) → Finds m old new x tree
+      → (tree ≡ None → result ≡ Err BadMount)
       → TouchesIfAny (OfTreeFile (pages_shown x) tree path) offset was result now
       → TouchesIfAny (OfMountFile (image_of new.commits) m.number path) offset was result now
   touches_at offset None now result finds refused touches = touches
-  touches_at offset (Some was) now result finds refused (c, is, touched) = (c, is, touched_at offset was c result finds refused touched)
+  touches_at offset (Some was) now result finds refused (c, is, touched) =
+      (c, is, touched_at offset was c result finds refused touched)
 
-  pub warms_at : (offset len : ℕ) (was now : Cache) (result : Result ℕ VolError) → Finds m old new x tree → (tree ≡ None → result ≡ Err BadMount)
+  pub warms_at : (offset len : ℕ) (was now : Cache) (result : Result ℕ VolError) → Finds m old new x tree
+      → (tree ≡ None → result ≡ Err BadMount)
       → Warms (OfTreeFile (pages_shown x) tree path) offset len was result now
       → Warms (OfMountFile (image_of new.commits) m.number path) offset len was result now
   warms_at offset len was now result finds refused (Nothing e is same) = Nothing e is same
-  warms_at offset len was now result (Older same none) refused (Whole count is all) = absurd (cc (refused none, is))
+  warms_at offset len was now result (Older same none) refused (Whole count is all) =
+      absurd (cc (refused none, is))
   warms_at offset len was now result (Older same none) refused (Part is part) = absurd (cc (refused none, is))
-  warms_at offset len was now result (Lacks later history lacks none) refused (Whole count is all) = absurd (cc (refused none, is))
-  warms_at offset len was now result (Lacks later history lacks none) refused (Part is part) = absurd (cc (refused none, is))
+  warms_at offset len was now result (Lacks later history lacks none) refused (Whole count is all) =
+      absurd (cc (refused none, is))
+  warms_at offset len was now result (Lacks later history lacks none) refused (Part is part) =
+      absurd (cc (refused none, is))
   warms_at offset len was now result (Shows t later history at shows) refused (Whole count is all) =
       Whole count is (of_mount_file m old new x t at path _ (all t shows))
   warms_at offset len was now result (Shows t later history at shows) refused (Part is part) =

@@ -25,35 +25,43 @@ by_parts false q r is = absurd cc
 pub one_key : (a b : CacheKey) → is_key a b ≡ true → a ≡ b
 one_key a b is =
     let parts = by_parts (a.checkpoint == b.checkpoint) (a.inode == b.inode) (a.index == b.index) is in
-    same_keys a b (eqb-true a.checkpoint b.checkpoint parts.0) (eqb-true a.inode b.inode parts.1) (eqb-true a.index b.index parts.2)
+    same_keys a b (eqb-true a.checkpoint b.checkpoint parts.0) (eqb-true a.inode b.inode parts.1)
+    (eqb-true a.index b.index parts.2)
 
 -- ---- what comes to the front was there
 
 pub touched_none : (n i first count : ℕ) (c : Cache) → PutsNone c (touched n i first count c)
 touched_none n i first zero c e has = has
 touched_none n i first (suc count) c e has =
-    touched_none n i first count c e (Contains-promoted (is_key (key_of n i (first + count))) (touched n i first count c).entries e has)
+    touched_none n i first count c e
+    (Contains-promoted (is_key (key_of n i (first + count))) (touched n i first count c).entries e has)
 
-pub none_put : (old new : Cache) → PutsNone old new → (holds : Holding → Type 0) (n : ℕ) → PutsStored holds n old new
+pub none_put : (old new : Cache) → PutsNone old new → (holds : Holding → Type 0) (n : ℕ)
+    → PutsStored holds n old new
 none_put old new none holds n e has = inl (none e has)
 
 -- ---- a block that is put
 
-pub touched_stored : (holds : Holding → Type 0) (n : ℕ) (key : CacheKey) (old new : Cache) → new ≡ touched_one key old → PutsStored holds n old new
+pub touched_stored : (holds : Holding → Type 0) (n : ℕ) (key : CacheKey) (old new : Cache)
+    → new ≡ touched_one key old → PutsStored holds n old new
 touched_stored holds n key old new is e has =
     inl (Contains-promoted (is_key key) old.entries e (subst (λ (c : Cache). Contains c.entries e) is has))
 
-module _ (holds : Holding → Type 0) (n i index : ℕ) (page : List ℕ) (stored : (held : Holding) → holds held → Some page ≡ held_block (held i) index) where
+module _ (holds : Holding → Type 0) (n i index : ℕ) (page : List ℕ)
+    (stored : (held : Holding) → holds held → Some page ≡ held_block (held i) index) where
   is_stored : (e : CacheKey × List ℕ) → e.0 ≡ key_of n i index → e.1 ≡ page → IsStored holds n e
   is_stored e key is = record {
     checkpoint = ap (λ (k : CacheKey). k.checkpoint) key;
     block = λ held h.
-        ap (λ (k : CacheKey). held_block (held k.inode) k.index) key ∙ (sym (stored held h) ∙ ap (λ (p : List ℕ). Some p) (sym is));
+        ap (λ (k : CacheKey). held_block (held k.inode) k.index) key
+        ∙ (sym (stored held h) ∙ ap (λ (p : List ℕ). Some p) (sym is));
   }
 
-  pub put_stored : (key : CacheKey) (old moved new : Cache) → key ≡ key_of n i index → moved ≡ old → new ≡ put_one key page moved → PutsStored holds n old new
+  pub put_stored : (key : CacheKey) (old moved new : Cache) → key ≡ key_of n i index → moved ≡ old
+      → new ≡ put_one key page moved → PutsStored holds n old new
   put_stored key old moved new key_is same is e has =
-      elim (Contains-put_entries is_key moved key page e (subst (λ (c : Cache). Contains c.entries e) is has)) [
+      elim (Contains-put_entries is_key moved key page e
+      (subst (λ (c : Cache). Contains c.entries e) is has)) [
         | inl was ↦ inl (subst (λ (c : Cache). Contains c.entries e) same was)
         | inr put ↦ inr (is_stored e (elim put.1 [
           | inl k ↦ k ∙ key_is
@@ -62,7 +70,8 @@ module _ (holds : Holding → Type 0) (n i index : ℕ) (page : List ℕ) (store
       ]
 
 -- one after another
-pub stored_more : (holds : Holding → Type 0) (n : ℕ) (start was now : Cache) → PutsStored holds n start was → PutsStored holds n was now → PutsStored holds n start now
+pub stored_more : (holds : Holding → Type 0) (n : ℕ) (start was now : Cache) → PutsStored holds n start was
+    → PutsStored holds n was now → PutsStored holds n start now
 stored_more holds n start was now before after e has = elim (after e has) [
   | inl old ↦ before e old
   | inr new ↦ inr new
@@ -70,14 +79,18 @@ stored_more holds n start was now before after e has = elim (after e has) [
 
 -- ---- reads
 
-pub touched_by_file : (holds : Holding → Type 0) (n : ℕ) (path : List ℕ) (offset count i : ℕ) (old new : Cache)
+pub touched_by_file : (holds : Holding → Type 0) (n : ℕ) (path : List ℕ) (offset count i : ℕ)
+    (old new : Cache)
     → ((held : Holding) → holds held → Ok i ≡ and_then (link_at held path) as_file)
-    → new ≡ touched n i (offset / 1024) (block_count offset count) old → HasTouched (OfHeldFile holds n path) offset old (Ok count) new
+    → new ≡ touched n i (offset / 1024) (block_count offset count) old
+    → HasTouched (OfHeldFile holds n path) offset old (Ok count) new
 touched_by_file holds n path offset count i old new found is = record {
   touched_is = λ held j h at.
       let found_at = found held h in
       let same : i ≡ j = cc (found_at, at) in
       subst (λ (k : ℕ). new ≡ touched n k (offset / 1024) (block_count offset count) old) same is;
-  none = subst (λ (c : Cache). PutsNone old c) (sym is) (touched_none n i (offset / 1024) (block_count offset count) old);
+  none =
+      subst (λ (c : Cache). PutsNone old c) (sym is)
+      (touched_none n i (offset / 1024) (block_count offset count) old);
   same = tt;
 }

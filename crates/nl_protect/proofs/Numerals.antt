@@ -23,7 +23,8 @@ is_text word is =
     IsUtf8-from_ascii word (IsAscii-from_digits word (digits-true word two.0))
 
 pub none_read : (word : List ℕ) → (IsUtf8 word → ⊥) → None ≡ decimal_in word
-none_read word none = elim (is_decimal word) as (λ b. is_decimal word ≡ b → None ≡ cond b (Some (digits_value 10 word)) None) [
-  | true ↦ λ is. absurd (none (is_text word is))
-  | false ↦ λ is. refl
-] refl
+none_read word none =
+    elim (is_decimal word) as (λ b. is_decimal word ≡ b → None ≡ cond b (Some (digits_value 10 word)) None) [
+      | true ↦ λ is. absurd (none (is_text word is))
+      | false ↦ λ is. refl
+    ] refl

@@ -18,7 +18,8 @@ use Rattle.nl_publish.proofs.Running.{HasMounted}
 use Rattle.nl_publish.specs.Facts.Staying.{found_pushed, history_image, new_mount}
 
 -- the history that a mount's commit ends shows that mount
-pub mounted_last : (before : List Commit) (m k : ℕ) → IsHistory (before ++ commit.Mounted (record { number = m; checkpoint = k }) ∷ [])
+pub mounted_last : (before : List Commit) (m k : ℕ)
+    → IsHistory (before ++ commit.Mounted (record { number = m; checkpoint = k }) ∷ [])
     → mounted_on (image_of (before ++ commit.Mounted (record { number = m; checkpoint = k }) ∷ [])) m ≡ Some k
 mounted_last before m k h =
     let new = new_mount before m k h in
@@ -36,7 +37,9 @@ copy_shown h k w means m image at =
       shown = record {
         checkpoint = c.0;
         kept = c.1;
-        means = subst (λ (pages : Pages). RootMeans pages (checkpoint_root c.0) copy.0.tree) (sym (pages-shown h.layout)) copy.2.tree;
+        means =
+            subst (λ (pages : Pages). RootMeans pages (checkpoint_root c.0) copy.0.tree)
+            (sym (pages-shown h.layout)) copy.2.tree;
       };
     }
 
@@ -49,7 +52,8 @@ shows_copy h m k w told mounted means =
     let ends : IsHistory (mounted.ends.0 ++ commit.Mounted (record { number = m; checkpoint = k }) ∷ []) =
     subst IsHistory mounted.ends.1 history in
     let found : mounted_on (image_of h.published) m ≡ Some k =
-    ap (λ (log : List Commit). mounted_on (image_of log) m) mounted.ends.1 ∙ mounted_last mounted.ends.0 m k ends in
+    ap (λ (log : List Commit). mounted_on (image_of log) m) mounted.ends.1
+    ∙ mounted_last mounted.ends.0 m k ends in
     subst (λ (x : Shown). ShowsCopy x k w) (sym at)
     (copy_shown h k w means m (subst IsImage at (history_image h.published history))
     (subst (λ (x : Shown). mounted_on x m ≡ Some k) at found))

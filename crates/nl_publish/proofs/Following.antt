@@ -18,12 +18,14 @@ use Rattle.nl_core.specs.declared.commit.Written.{Written as NewCheckpoint}
 -- ---- checkpoints that come next
 
 -- of a list that rises the last two rise
-last_precedes : (earlier : List Checkpoint) (a b : Checkpoint) → IsRising ((earlier ++ a ∷ []) ++ b ∷ []) → Precedes a b
+last_precedes : (earlier : List Checkpoint) (a b : Checkpoint) → IsRising ((earlier ++ a ∷ []) ++ b ∷ [])
+    → Precedes a b
 last_precedes [] a b rising = rising.0.0
 last_precedes (c ∷ earlier) a b rising = last_precedes earlier a b rising.1
 
 -- the checkpoint of a commit that may come next can be kept behind the others
-pub written-comes_next : (x : Shown) (w : NewCheckpoint) → IsNext x (Written w) → ComesNext w.checkpoint x.table
+pub written-comes_next : (x : Shown) (w : NewCheckpoint) → IsNext x (Written w)
+    → ComesNext w.checkpoint x.table
 written-comes_next x w next = record {
   follows = last_precedes x.table.earlier x.table.latest w.checkpoint next.image.table.rising;
   limit = next.image.table.limit;
@@ -35,7 +37,8 @@ moded-other : (n : ℕ) (mode : Mode) (c : Checkpoint) → (c.number == n) ≡ f
 moded-other n mode c other = ap (λ b. (let d : Checkpoint = cond b (record c { mode = mode }) c in d)) other
 
 -- nothing is found, so not at the head and not behind it
-none_found : {A : Type 0} (here : Bool) (x : A) (later : Option A) → cond here (Some x) later ≡ None → (here ≡ false) × (later ≡ None)
+none_found : {A : Type 0} (here : Bool) (x : A) (later : Option A) → cond here (Some x) later ≡ None
+    → (here ≡ false) × (later ≡ None)
 none_found true x later none = absurd (cc none)
 none_found false x later none = (refl, none)
 
@@ -43,27 +46,34 @@ same_items : {A : Type 0} {x y : A} {xs ys : List A} → x ≡ y → xs ≡ ys �
 same_items p q = cc
 
 -- none of the checkpoints has the number
-same_modes : (n : ℕ) (mode : Mode) (earlier : List Checkpoint) (latest : Checkpoint) → find_row n (rows_of (earlier ++ latest ∷ [])) ≡ None
+same_modes : (n : ℕ) (mode : Mode) (earlier : List Checkpoint) (latest : Checkpoint)
+    → find_row n (rows_of (earlier ++ latest ∷ [])) ≡ None
     → (map (moded n mode) earlier ≡ earlier) × (moded n mode latest ≡ latest)
-same_modes n mode [] latest none = (refl, moded-other n mode latest (none_found (latest.number == n) (checkpoint_row latest) None none).0)
+same_modes n mode [] latest none =
+    (refl, moded-other n mode latest (none_found (latest.number == n) (checkpoint_row latest) None none).0)
 same_modes n mode (c ∷ earlier) latest none =
-    let head = none_found (c.number == n) (checkpoint_row c) (find_row n (rows_of (earlier ++ latest ∷ []))) none in
+    let head =
+    none_found (c.number == n) (checkpoint_row c) (find_row n (rows_of (earlier ++ latest ∷ []))) none in
     let rest = same_modes n mode earlier latest head.1 in
     (same_items (moded-other n mode c head.0) rest.0, rest.1)
 
-no_row : (row : Option Row) (e : VolError) → and_then {B = Unit {0}} (ok_or row NoCheckpoint) (λ _. Ok tt) ≡ Err e → row ≡ None
+no_row : (row : Option Row) (e : VolError)
+    → and_then {B = Unit {0}} (ok_or row NoCheckpoint) (λ _. Ok tt) ≡ Err e → row ≡ None
 no_row None e refused = refl
 no_row (Some row) e refused = absurd (cc refused)
 
 -- the mode of a checkpoint that isn't kept changes nothing
-with_mode-refused : (n : ℕ) (mode : Mode) (t : Table) (e : VolError) → mode_change n (rows t) ≡ Err e → with_mode n mode t ≡ t
+with_mode-refused : (n : ℕ) (mode : Mode) (t : Table) (e : VolError) → mode_change n (rows t) ≡ Err e
+    → with_mode n mode t ≡ t
 with_mode-refused n mode t e refused =
     let same = same_modes n mode t.earlier t.latest (no_row (find_row n (rows t)) e refused) in
     rw (same.0, same.1) refl
 
 -- so a mode is set, whatever is answered
-pub with_mode-answered : (answer : Result (Unit {0}) VolError) (n : ℕ) (mode : Mode) (old new : RoomyTable) → answer ≡ mode_change n (rows old.table)
-    → OnOk answer (new.table ≡ with_mode n mode old.table) → OnErr answer (new ≡ old) → new.table ≡ with_mode n mode old.table
+pub with_mode-answered : (answer : Result (Unit {0}) VolError) (n : ℕ) (mode : Mode) (old new : RoomyTable)
+    → answer ≡ mode_change n (rows old.table)
+    → OnOk answer (new.table ≡ with_mode n mode old.table) → OnErr answer (new ≡ old)
+    → new.table ≡ with_mode n mode old.table
 with_mode-answered (Ok done) n mode old new judged changed same = changed
 with_mode-answered (Err e) n mode old new judged changed same =
     ap (λ (r : RoomyTable). r.table) same ∙ sym (with_mode-refused n mode old.table e (sym judged))

@@ -13,7 +13,8 @@ pub prefix_trans : {A : Type 0} (xs ys zs : List A) → IsPrefix xs ys → IsPre
 prefix_trans xs ys zs p q = (p.0 ++ q.0, sym (append_assoc xs p.0 q.0) ∙ (ap (λ w. w ++ q.0) p.1 ∙ q.1))
 
 -- of two beginnings of one list the shorter begins the longer
-pub prefix_shorter : {A : Type 0} (xs ys zs : List A) → IsPrefix xs zs → IsPrefix ys zs → length xs ≤ length ys → IsPrefix xs ys
+pub prefix_shorter : {A : Type 0} (xs ys zs : List A) → IsPrefix xs zs → IsPrefix ys zs
+    → length xs ≤ length ys → IsPrefix xs ys
 prefix_shorter [] ys zs p q le = (ys, refl)
 prefix_shorter (x ∷ xs) [] zs p q le = absurd (omega arith)
 prefix_shorter (x ∷ xs) (y ∷ ys) [] p q le = absurd (cc (p.1))
@@ -32,7 +33,8 @@ prefix_whole (x ∷ xs) (y ∷ ys) p le =
 
 -- of two beginnings of one list one begins the other
 pub prefix_covers : {A : Type 0} (xs ys zs : List A) → IsPrefix xs zs → IsPrefix ys zs → (b : Bool)
-    → nat_le (length ys) (length xs) ≡ b → MatchBool b (IsPrefix ys xs) (IsPrefix xs ys × (length xs < length ys))
+    → nat_le (length ys) (length xs) ≡ b
+    → MatchBool b (IsPrefix ys xs) (IsPrefix xs ys × (length xs < length ys))
 prefix_covers xs ys zs p q true le = prefix_shorter ys xs zs q p (leb-true (length ys) (length xs) le)
 prefix_covers xs ys zs p q false over =
     let less = leb-false (length ys) (length xs) over in

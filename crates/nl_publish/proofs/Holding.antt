@@ -31,11 +31,13 @@ next_rest : (i : Image) (es fs : List Entry) → AreNext i (es ++ fs) → AreNex
 next_rest i [] fs h = h
 next_rest i (e ∷ es) fs h = next_rest (absorbed i e) es fs h.1
 
-fold_append : (i : Image) (es fs : List Entry) → fold absorbed i (es ++ fs) ≡ fold absorbed (fold absorbed i es) fs
+fold_append : (i : Image) (es fs : List Entry)
+    → fold absorbed i (es ++ fs) ≡ fold absorbed (fold absorbed i es) fs
 fold_append i [] fs = refl
 fold_append i (e ∷ es) fs = fold_append (absorbed i e) es fs
 
-next_more : (i : Image) (es : List Entry) (e : Entry) → AreNext i es → IsNextEntry (fold absorbed i es) e → AreNext i (es ++ e ∷ [])
+next_more : (i : Image) (es : List Entry) (e : Entry) → AreNext i es → IsNextEntry (fold absorbed i es) e
+    → AreNext i (es ++ e ∷ [])
 next_more i [] e h n = (n, tt)
 next_more i (x ∷ es) e h n = (h.0, next_more (absorbed i x) es e h.1 n)
 
@@ -44,9 +46,12 @@ next_more i (x ∷ es) e h n = (h.0, next_more (absorbed i x) es e h.1 n)
 module _ (book : ℕ → Book) (log : ℕ) where
   module _ (p p' : Image) (us us' ls : List Entry) (noted : Known) (waiting : List Commit) (pen : Shown) where
     -- publishing keeps the equation
-    pub shows : (b : Bool) → MatchBool b ((p' ≡ fold absorbed p us) × (us' ≡ [])) ((p' ≡ p) × (us' ≡ us)) → IsHeld book log p (us ++ ls) noted waiting pen → IsHeld book log p' (us' ++ ls) noted waiting pen
+    pub shows : (b : Bool) → MatchBool b ((p' ≡ fold absorbed p us) × (us' ≡ [])) ((p' ≡ p) × (us' ≡ us))
+        → IsHeld book log p (us ++ ls) noted waiting pen → IsHeld book log p' (us' ++ ls) noted waiting pen
     shows true is h =
-        subst (λ (q : Image). IsHeld book log q (us' ++ ls) noted waiting pen) (sym is.0) (subst (λ (l : List Entry). IsHeld book log (fold absorbed p us) (l ++ ls) noted waiting pen) (sym is.1) (record {
+        subst (λ (q : Image). IsHeld book log q (us' ++ ls) noted waiting pen) (sym is.0)
+        (subst (λ (l : List Entry). IsHeld book log (fold absorbed p us) (l ++ ls) noted waiting pen)
+        (sym is.1) (record {
           volume = h.volume;
           book_is = fold_book p us (next_start p us ls h.next) ∙ h.book_is;
           whole = fold_whole p us h.whole (next_start p us ls h.next);
@@ -56,39 +61,63 @@ module _ (book : ℕ → Book) (log : ℕ) where
           shown_is = h.shown_is;
         }))
     shows false is h =
-        subst (λ (q : Image). IsHeld book log q (us' ++ ls) noted waiting pen) (sym is.0) (subst (λ (l : List Entry). IsHeld book log p (l ++ ls) noted waiting pen) (sym is.1) h)
+        subst (λ (q : Image). IsHeld book log q (us' ++ ls) noted waiting pen) (sym is.0)
+        (subst (λ (l : List Entry). IsHeld book log p (l ++ ls) noted waiting pen) (sym is.1) h)
 
-    pub shows_more : (b : Bool) → MatchBool b ((p' ≡ fold absorbed p us) × (us' ≡ [])) ((p' ≡ p) × (us' ≡ us)) → IsHeld book log p (us ++ ls) noted waiting pen → IsPrefix p.seen.log p'.seen.log
-    shows_more true is h = subst (λ (q : Image). IsPrefix p.seen.log q.seen.log) (sym is.0) (fold_prefix p us (next_start p us ls h.next))
-    shows_more false is h = subst (λ (q : Image). IsPrefix p.seen.log q.seen.log) (sym is.0) (prefix_self p.seen.log)
+    pub shows_more : (b : Bool) → MatchBool b ((p' ≡ fold absorbed p us) × (us' ≡ [])) ((p' ≡ p) × (us' ≡ us))
+        → IsHeld book log p (us ++ ls) noted waiting pen → IsPrefix p.seen.log p'.seen.log
+    shows_more true is h =
+        subst (λ (q : Image). IsPrefix p.seen.log q.seen.log) (sym is.0)
+        (fold_prefix p us (next_start p us ls h.next))
+    shows_more false is h =
+        subst (λ (q : Image). IsPrefix p.seen.log q.seen.log) (sym is.0) (prefix_self p.seen.log)
 
   module _ (p : Image) (es : List Entry) (noted : Known) where
     -- an event's commits wait, and the pen is where they lead
-    pub runs : (waiting waiting' : List Commit) (old new : Layout) (event : Event) (r : Reply) → NotedStep (old, waiting) event r (new, waiting') → IsHeld book log p es noted waiting (shown_of old) → IsHeld book log p es noted waiting' (shown_of new)
+    pub runs : (waiting waiting' : List Commit) (old new : Layout) (event : Event) (r : Reply)
+        → NotedStep (old, waiting) event r (new, waiting') → IsHeld book log p es noted waiting (shown_of old)
+        → IsHeld book log p es noted waiting' (shown_of new)
     runs waiting waiting' old new event r is h =
-        let log_is : noted.commits ++ waiting' ≡ (noted.commits ++ waiting) ++ is.more = ap (λ l. noted.commits ++ l) is.behind ∙ sym (append_assoc noted.commits waiting is.more) in
+        let log_is : noted.commits ++ waiting' ≡ (noted.commits ++ waiting) ++ is.more =
+        ap (λ l. noted.commits ++ l) is.behind ∙ sym (append_assoc noted.commits waiting is.more) in
         record {
           volume = h.volume;
           book_is = h.book_is;
           whole = h.whole;
           next = h.next;
           last = h.last;
-          history = subst IsHistory (sym log_is) (history_more (noted.commits ++ waiting) is.more h.history (subst (λ (x : Shown). AllNext x is.more) h.shown_is is.noted.next));
-          shown_is = is.noted.image ∙ (ap (λ (x : Shown). fold applied x is.more) h.shown_is ∙ (sym (fold-grows nothing (noted.commits ++ waiting) is.more) ∙ ap image_of (sym log_is)));
+          history =
+              subst IsHistory (sym log_is)
+              (history_more (noted.commits ++ waiting) is.more h.history
+              (subst (λ (x : Shown). AllNext x is.more) h.shown_is is.noted.next));
+          shown_is =
+              is.noted.image
+              ∙ (ap (λ (x : Shown). fold applied x is.more) h.shown_is
+              ∙ (sym (fold-grows nothing (noted.commits ++ waiting) is.more) ∙ ap image_of (sym log_is)));
         }
 
     -- the first commit that waits is noted
-    pub notes : (c : Commit) (rest : List Commit) (pen : Shown) (noted' : Known) (e : Entry) → noted'.volume ≡ noted.volume → noted'.commits ≡ noted.commits ++ c ∷ []
-        → e.commit ≡ c → e.count ≡ length noted'.commits → e.seen.log ≡ noted'.commits → e.seen.book ≡ book noted'.volume
+    pub notes : (c : Commit) (rest : List Commit) (pen : Shown) (noted' : Known) (e : Entry)
+        → noted'.volume ≡ noted.volume → noted'.commits ≡ noted.commits ++ c ∷ []
+        → e.commit ≡ c → e.count ≡ length noted'.commits → e.seen.log ≡ noted'.commits
+        → e.seen.book ≡ book noted'.volume
         → IsHeld book log p es noted (c ∷ rest) pen → IsHeld book log p (es ++ e ∷ []) noted' rest pen
     notes c rest pen noted' e volume commits commit count log_is book_is h =
-        let all : noted.commits ++ (c ∷ rest) ≡ noted'.commits ++ rest = sym (append_assoc noted.commits (c ∷ []) rest) ∙ ap (λ l. l ++ rest) (sym commits) in
+        let all : noted.commits ++ (c ∷ rest) ≡ noted'.commits ++ rest =
+        sym (append_assoc noted.commits (c ∷ []) rest) ∙ ap (λ l. l ++ rest) (sym commits) in
         let history : IsHistory (noted'.commits ++ rest) = subst IsHistory all h.history in
         let one : IsNextEntry (fold absorbed p es) e = record {
           book = book_is ∙ (ap book (volume ∙ sym h.volume) ∙ (sym h.book_is ∙ sym (fold_book p es h.next)));
-          log = log_is ∙ (commits ∙ (ap (λ l. l ++ c ∷ []) h.last ∙ ap (λ (k : Commit). (fold absorbed p es).seen.log ++ k ∷ []) (sym commit)));
+          log =
+              log_is
+              ∙ (commits
+              ∙ (ap (λ l. l ++ c ∷ []) h.last
+              ∙ ap (λ (k : Commit). (fold absorbed p es).seen.log ++ k ∷ []) (sym commit)));
           count = count ∙ ap length (sym log_is);
-          history = subst IsHistory (sym (log_is ∙ commits)) (begun_more noted.commits c (subst IsBegun commits (history_start noted'.commits rest history)));
+          history =
+              subst IsHistory (sym (log_is ∙ commits))
+              (begun_more noted.commits c
+              (subst IsBegun commits (history_start noted'.commits rest history)));
         } in
         record {
           volume = h.volume ∙ sym volume;
@@ -101,31 +130,49 @@ module _ (book : ℕ → Book) (log : ℕ) where
         }
 
     -- where nothing waits, a published history as long as the noted one is all
-    pub settles : (pen : Shown) → IsHeld book log p es noted [] pen → p.count ≡ length noted.commits → p.seen.log ≡ noted.commits ++ []
+    pub settles : (pen : Shown) → IsHeld book log p es noted [] pen → p.count ≡ length noted.commits
+        → p.seen.log ≡ noted.commits ++ []
     settles pen h same =
-        let pre : IsPrefix p.seen.log noted.commits = subst (IsPrefix p.seen.log) (sym h.last) (fold_prefix p es h.next) in
-        prefix_whole p.seen.log noted.commits pre (omega (arith, h.whole.count, same)) ∙ sym (append-nil noted.commits)
+        let pre : IsPrefix p.seen.log noted.commits =
+        subst (IsPrefix p.seen.log) (sym h.last) (fold_prefix p es h.next) in
+        prefix_whole p.seen.log noted.commits pre (omega (arith, h.whole.count, same))
+        ∙ sym (append-nil noted.commits)
 
     -- where nothing waits, the counts tell whether all is published
-    pub settled : (pen : Shown) (b : Bool) → eqb p.count (length noted.commits) ≡ b → IsHeld book log p es noted [] pen
+    pub settled : (pen : Shown) (b : Bool) → eqb p.count (length noted.commits) ≡ b
+        → IsHeld book log p es noted [] pen
         → MatchBool b (p.seen.log ≡ noted.commits ++ []) (p.seen.log ≢ noted.commits ++ [])
     settled pen true is h = settles pen h (eqb-true _ _ is)
     settled pen false is h = λ same.
-        absurd (eqb-false p.count (length noted.commits) is (h.whole.count ∙ (ap length same ∙ ap length (append-nil noted.commits))))
+        absurd (eqb-false p.count (length noted.commits) is
+        (h.whole.count ∙ (ap length same ∙ ap length (append-nil noted.commits))))
 
     -- where something waits, it is not all
-    pub pending : (waiting : List Commit) (pen : Shown) → IsHeld book log p es noted waiting pen → length waiting ≢ 0
+    pub pending : (waiting : List Commit) (pen : Shown) → IsHeld book log p es noted waiting pen
+        → length waiting ≢ 0
         → p.seen.log ≢ noted.commits ++ waiting
     pending waiting pen h some same =
-        let pre : IsPrefix p.seen.log noted.commits = subst (IsPrefix p.seen.log) (sym h.last) (fold_prefix p es h.next) in
+        let pre : IsPrefix p.seen.log noted.commits =
+        subst (IsPrefix p.seen.log) (sym h.last) (fold_prefix p es h.next) in
         let none : length waiting ≡ 0 =
-        omega (arith, prefix_length p.seen.log noted.commits pre, ap length same, length-append noted.commits waiting) in
+        omega (
+          arith,
+          prefix_length p.seen.log noted.commits pre,
+          ap length same,
+          length-append noted.commits waiting,
+        ) in
         absurd (some none)
 
     -- a beginning of the history is published
     pub told : (waiting : List Commit) (layout : Layout) (volume : ℕ) (lost : Option ℕ)
         → IsHeld book log p es noted waiting (shown_of layout)
-        → IsTold (record { volume = volume; published = p.seen.log; history = noted.commits ++ waiting; lost = lost; layout = layout })
+        → IsTold (record {
+          volume = volume;
+          published = p.seen.log;
+          history = noted.commits ++ waiting;
+          lost = lost;
+          layout = layout;
+        })
     told waiting layout volume lost h = record {
       history = h.history;
       shown = h.shown_is;
@@ -140,16 +187,20 @@ is_empty (x ∷ xs) is = absurd (grind (arith, nat_tests))
 pub empty_where : {A : Type 0} (xs : List A) (b : Bool) → b ≡ (length xs == 0) → b ≡ true → xs ≡ []
 empty_where xs b is so = is_empty xs (sym is ∙ so)
 
-pub headed : {A : Type 0} (xs : List A) (x : A) (b : Bool) → b ≡ (length xs == 0) → b ≡ false → x ≡ get_or xs 0 x → xs ≡ x ∷ remove xs 0
+pub headed : {A : Type 0} (xs : List A) (x : A) (b : Bool) → b ≡ (length xs == 0) → b ≡ false
+    → x ≡ get_or xs 0 x → xs ≡ x ∷ remove xs 0
 headed [] x b is so at = absurd (cc (is, so))
 headed (y ∷ ys) x b is so at = ap (λ z. z ∷ ys) (sym at)
 
-pub same_head : {A : Type 0} (xs : List A) (x y : A) (b : Bool) → b ≡ (length xs == 0) → b ≡ false → x ≡ get_or xs 0 x → y ≡ get_or xs 0 y → x ≡ y
+pub same_head : {A : Type 0} (xs : List A) (x y : A) (b : Bool) → b ≡ (length xs == 0) → b ≡ false
+    → x ≡ get_or xs 0 x → y ≡ get_or xs 0 y → x ≡ y
 same_head [] x y b is so at bt = absurd (cc (is, so))
 same_head (z ∷ zs) x y b is so at bt = at ∙ sym bt
 
 -- a step that is noted behind what waits is noted behind the whole history
-pub noted_of : (before waiting waiting' : List Commit) (old new : Layout) (event : Event) (r : Reply) → NotedStep (old, waiting) event r (new, waiting') → NotedStep (old, before ++ waiting) event r (new, before ++ waiting')
+pub noted_of : (before waiting waiting' : List Commit) (old new : Layout) (event : Event) (r : Reply)
+    → NotedStep (old, waiting) event r (new, waiting')
+    → NotedStep (old, before ++ waiting) event r (new, before ++ waiting')
 noted_of before waiting waiting' old new event r is = record {
   does = is.does;
   more = is.more;

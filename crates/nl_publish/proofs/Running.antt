@@ -16,14 +16,16 @@ use Rattle.nl_publish.specs.Locks.{Begins, Done, Finished, Goes, GoesBy, HeldPen
 use Rattle.nl_publish.specs.Told.{LockedRunsLeadOn}
 use Rattle.nl_publish.proofs.Fronts.{prefix_self, prefix_trans}
 
-run_on : (a b c : State) (es fs : List Event) (rs qs : List Reply) → Run NotedStep a es rs b → Run NotedStep b fs qs c
+run_on : (a b c : State) (es fs : List Event) (rs qs : List Reply) → Run NotedStep a es rs b
+    → Run NotedStep b fs qs c
     → Run NotedStep a (es ++ fs) (rs ++ qs) c
 run_on a b c [] fs [] qs p q = subst (λ s. Run NotedStep s fs qs c) p q
 run_on a b c (e ∷ es) fs (r ∷ rs) qs p q = (p.0, p.1, run_on p.0 b c es fs rs qs p.2 q)
 run_on a b c [] fs (r ∷ rs) qs p q = absurd p
 run_on a b c (e ∷ es) fs [] qs p q = absurd p
 
-goes_on : (a b c : HeldPen) (es fs : List Event) (rs qs : List Reply) → Goes a es rs b → Goes b fs qs c → Goes a (es ++ fs) (rs ++ qs) c
+goes_on : (a b c : HeldPen) (es fs : List Event) (rs qs : List Reply) → Goes a es rs b → Goes b fs qs c
+    → Goes a (es ++ fs) (rs ++ qs) c
 goes_on a b c es fs rs qs p q = record {
   volume = q.volume ∙ p.volume;
   runs = run_on (state_of a) (state_of b) (state_of c) es fs rs qs p.runs q.runs;
@@ -34,14 +36,16 @@ stays : (a : HeldPen) → Goes a [] [] a
 stays a = record { volume = refl; runs = refl; later = prefix_self a.published }
 
 -- nothing more ran
-goes_still : (a b c : HeldPen) (es : List Event) (rs : List Reply) → Goes a es rs b → Goes b [] [] c → Goes a es rs c
+goes_still : (a b c : HeldPen) (es : List Event) (rs : List Reply) → Goes a es rs b → Goes b [] [] c
+    → Goes a es rs c
 goes_still a b c es rs p q = record {
   volume = q.volume ∙ p.volume;
   runs = subst (λ s. Run NotedStep (state_of a) es rs s) (sym q.runs) p.runs;
   later = prefix_trans a.published b.published c.published p.later q.later;
 }
 
-pub goes_by_still : (a b c : HeldPen) (event : Event) (r : Reply) → GoesBy a event r b → Keeps b c → GoesBy a event r c
+pub goes_by_still : (a b c : HeldPen) (event : Event) (r : Reply) → GoesBy a event r b → Keeps b c
+    → GoesBy a event r c
 goes_by_still a b c event r p q = (goes_still a b c (event ∷ []) (r ∷ []) p.0 q.0, q.1 ∙ p.1)
 
 -- ---- a give-back
@@ -55,12 +59,26 @@ ready_none a none = record {
 }
 
 -- what was lost is back
-pub gave : (a b : HeldPen) (m : ℕ) (x : Answer) (r : Reply) → a.lost ≡ Some m → r ≡ Ok x → GoesBy a (Unmount m) r b
-    → IsReady a (record { volume = b.volume; published = b.published; history = b.history; lost = None; layout = b.layout })
+pub gave : (a b : HeldPen) (m : ℕ) (x : Answer) (r : Reply) → a.lost ≡ Some m → r ≡ Ok x
+    → GoesBy a (Unmount m) r b
+    → IsReady a (record {
+      volume = b.volume;
+      published = b.published;
+      history = b.history;
+      lost = None;
+      layout = b.layout;
+    })
 gave a b m x r was is g =
-    let after : HeldPen = record { volume = b.volume; published = b.published; history = b.history; lost = None; layout = b.layout } in
+    let after : HeldPen = record {
+      volume = b.volume;
+      published = b.published;
+      history = b.history;
+      lost = None;
+      layout = b.layout;
+    } in
     let here : Goes a (Unmount m ∷ []) (Ok x ∷ []) after =
-    subst (λ (q : Reply). Goes a (Unmount m ∷ []) (q ∷ []) after) is (record { volume = g.0.volume; runs = g.0.runs; later = g.0.later }) in
+    subst (λ (q : Reply). Goes a (Unmount m ∷ []) (q ∷ []) after) is
+    (record { volume = g.0.volume; runs = g.0.runs; later = g.0.later }) in
     record {
       backs = x ∷ [];
       goes = subst (λ o. Goes a (given_back o) (Ok x ∷ []) after) (sym was) here;
@@ -68,7 +86,8 @@ gave a b m x r was is g =
     }
 
 -- it is still lost
-pub stuck : (a b : HeldPen) (m : ℕ) (e : VolError) (r : Reply) → a.lost ≡ Some m → r ≡ Err e → GoesBy a (Unmount m) r b → IsStuck a b
+pub stuck : (a b : HeldPen) (m : ℕ) (e : VolError) (r : Reply) → a.lost ≡ Some m → r ≡ Err e
+    → GoesBy a (Unmount m) r b → IsStuck a b
 stuck a b m e r was is g = record {
   number = m;
   error = e;
@@ -77,7 +96,8 @@ stuck a b m e r was is g = record {
 }
 
 -- behind what kept all
-pub begins_behind : (a b c : HeldPen) (r : Result (Unit {0}) VolError) → Keeps a b → Begins b r c → Begins a r c
+pub begins_behind : (a b c : HeldPen) (r : Result (Unit {0}) VolError) → Keeps a b → Begins b r c
+    → Begins a r c
 begins_behind a b c (Ok u) keeps ready = record {
   backs = ready.backs;
   goes = goes_on a b c [] (given_back a.lost) [] (as_replies ready.backs) keeps.0
@@ -90,18 +110,23 @@ begins_behind a b c (Err e) keeps stuck = (
     number = stuck.1.number;
     error = stuck.1.error;
     was = sym keeps.1 ∙ stuck.1.was;
-    goes = (goes_on a b c [] (Unmount stuck.1.number ∷ []) [] (Err stuck.1.error ∷ []) keeps.0 stuck.1.goes.0, stuck.1.goes.1 ∙ keeps.1);
+    goes = (
+      goes_on a b c [] (Unmount stuck.1.number ∷ []) [] (Err stuck.1.error ∷ []) keeps.0 stuck.1.goes.0,
+      stuck.1.goes.1 ∙ keeps.1,
+    );
   },
 )
 
 -- ---- calls of the locked state
 
-pub ran : (a b c d : HeldPen) (event : Event) (r : Reply) → IsReady a b → GoesBy b event r c → Keeps c d → Ran a event r d
+pub ran : (a b c d : HeldPen) (event : Event) (r : Reply) → IsReady a b → GoesBy b event r c → Keeps c d
+    → Ran a event r d
 ran a b c d event r begun here more =
     let back = given_back a.lost in
     let backs = as_replies begun.backs in
     Done begun.backs
-    (goes_still a c d (back ++ event ∷ []) (backs ++ r ∷ []) (goes_on a b c back (event ∷ []) backs (r ∷ []) begun.goes here.0) more.0)
+    (goes_still a c d (back ++ event ∷ []) (backs ++ r ∷ [])
+    (goes_on a b c back (event ∷ []) backs (r ∷ []) begun.goes here.0) more.0)
     (more.1 ∙ (here.1 ∙ begun.lost))
 
 -- ---- mounts
@@ -122,12 +147,15 @@ pub none_lost : (a c d : HeldPen) (k : ℕ) → IsClear a c → (r : MountReply)
 none_lost a c d k all (Ok m) here = here.1 ∙ all.ready.lost
 none_lost a c d k all (Err e) here = here.1 ∙ all.ready.lost
 
-pub mount_done : (a c d : HeldPen) (k : ℕ) → IsClear a c → (n : ℕ) (r : MountReply) (f : HeldPen) → GoesBy c (Mount k) (mount_reply n) d
+pub mount_done : (a c d : HeldPen) (k : ℕ) → IsClear a c → (n : ℕ) (r : MountReply) (f : HeldPen)
+    → GoesBy c (Mount k) (mount_reply n) d
     → Finished d n r f → MountRan a k r f
 mount_done a c d k all n (Ok m) f here end =
-    Mounted c n all (goes_still c d f (Mount k ∷ []) (mount_reply n ∷ []) here.0 end.1) (ap (λ (x : ℕ). Ok x) end.0) end.2 end.3
+    Mounted c n all (goes_still c d f (Mount k ∷ []) (mount_reply n ∷ []) here.0 end.1)
+    (ap (λ (x : ℕ). Ok x) end.0) end.2 end.3
 mount_done a c d k all n (Err e) f here end =
-    Lost c n all (goes_still c d f (Mount k ∷ []) (mount_reply n ∷ []) here.0 end.1) (ap (λ (x : VolError). Err x) end.0) end.2
+    Lost c n all (goes_still c d f (Mount k ∷ []) (mount_reply n ∷ []) here.0 end.1)
+    (ap (λ (x : VolError). Err x) end.0) end.2
 
 -- a mount's step adds the commit of the mount that it answers
 mount_noted : (a b : State) (k m : ℕ) → NotedStep a (Mount k) (mount_reply m) b
@@ -146,7 +174,13 @@ has_mounted a b k n r is (Mounted clear m begun goes reply all none) =
     ap (λ (s : State). s.1) goes.runs.2 ∙ mount_noted (state_of clear) goes.runs.0 k m goes.runs.1 in
     record {
       all = all;
-      ends = (clear.history, all ∙ (behind ∙ ap (λ (j : ℕ). clear.history ++ commit.Mounted (record { number = j; checkpoint = k }) ∷ []) same));
+      ends = (
+        clear.history,
+        all
+            ∙ (behind
+            ∙ ap (λ (j : ℕ). clear.history ++ commit.Mounted (record { number = j; checkpoint = k }) ∷ [])
+            same),
+      );
     }
 has_mounted a b k n r is (Lost clear m begun goes reply lost) = absurd (cc (is, reply))
 has_mounted a b k n r is (Refused clear e begun goes reply) = absurd (cc (is, reply))
@@ -154,7 +188,8 @@ has_mounted a b k n r is (Pending ready apart reply) = absurd (cc (is, reply))
 has_mounted a b k n r is (Stuck stuck reply) = absurd (cc (is, reply))
 
 -- a mount that is not refused answers a mount
-pub is_mount_reply : (a b : HeldPen) (k : ℕ) (r : Reply) → IsPen a.layout → GoesBy a (Mount k) r b → IsMountReply r
+pub is_mount_reply : (a b : HeldPen) (k : ℕ) (r : Reply) → IsPen a.layout → GoesBy a (Mount k) r b
+    → IsMountReply r
 is_mount_reply a b k (Ok x) pen goes =
     (a.layout.lists.given + 1, answers-mount shared a.layout goes.0.runs.0.0 k x pen goes.0.runs.1.does)
 is_mount_reply a b k (Err e) pen goes = tt
@@ -166,7 +201,8 @@ mount_goes a b k reply (Err e) goes is = subst (λ (q : Reply). GoesBy a (Mount 
 
 -- ---- worlds
 
-layouts_run : (a b : State) (es : List Event) (rs : List Reply) → Run NotedStep a es rs b → Run (Does shared) a.0 es rs b.0
+layouts_run : (a b : State) (es : List Event) (rs : List Reply) → Run NotedStep a es rs b
+    → Run (Does shared) a.0 es rs b.0
 layouts_run a b [] [] run = ap (λ (s : State). s.0) run
 layouts_run a b (e ∷ es) (r ∷ rs) run = (run.0.0, run.1.does, layouts_run run.0 b es rs run.2)
 layouts_run a b [] (r ∷ rs) run = absurd run
@@ -174,4 +210,5 @@ layouts_run a b (e ∷ es) [] run = absurd run
 
 pub locked_runs_lead_on : LockedRunsLeadOn
 locked_runs_lead_on old new events replies goes =
-    runs_lead_on shared old.layout new.layout events replies (layouts_run (state_of old) (state_of new) events replies goes.runs)
+    runs_lead_on shared old.layout new.layout events replies
+    (layouts_run (state_of old) (state_of new) events replies goes.runs)

@@ -144,7 +144,8 @@ impl<J: Volumes> Model for Front<J> {
 
     ghost view = { λ f. record { volume = f.volume; commits = f.seen.log } };
 
-    ghost invariant = { λ f. (f.count ≡ length f.seen.log) × (f.seen.book ≡ J.book f.volume) × IsBegun f.seen.log };
+    ghost invariant = { λ f. (f.count ≡ length f.seen.log)
+        × (f.seen.book ≡ J.book f.volume) × IsBegun f.seen.log };
 }
 
 impl<J: Volumes> Front<J> {

@@ -55,8 +55,8 @@ impl<P: NotingPen, J: Volumes, W: Press> Model for Locked<P, J, W> {
       layout = P.layout l.pen;
     } };
 
-    ghost invariant = { λ l. IsHeld J.book l.log.volume (W.shown l.writer) (W.unseen l.writer ++ listed l.unsent)
-        l.noted l.waiting.items (shown_of (P.layout l.pen)) };
+    ghost invariant = { λ l. IsHeld J.book l.log.volume (W.shown l.writer)
+        (W.unseen l.writer ++ listed l.unsent) l.noted l.waiting.items (shown_of (P.layout l.pen)) };
 }
 
 /// The mount that is answered to an event that mounts.

@@ -21,7 +21,11 @@ impl<J: Volumes> Model for Mount<J> {
 
     ghost view = { λ m. record { number = m.number; checkpoint = m.checkpoint; told = m.front } };
 
-    ghost invariant = { λ m. IsClaim (record { number = m.number; checkpoint = m.checkpoint; told = m.front }) };
+    ghost invariant = { λ m. IsClaim (record {
+      number = m.number;
+      checkpoint = m.checkpoint;
+      told = m.front;
+    }) };
 }
 
 impl<J: Volumes> Mount<J> {

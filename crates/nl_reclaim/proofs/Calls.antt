@@ -12,12 +12,19 @@ use Rattle.nl_vstore.specs.Facts.NumberAt.{gone-is, needed-inside}
 use Rattle.nl_vstore.specs.Facts.MovedNumbers.{among-front}
 use Rattle.nl_reclaim.specs.Cleaning.{freed}
 
-pub front-inside : (s : Store) (needed : Entry → Bool) (segment n : ℕ) (numbers : List ℕ) → numbers ≡ take n (needed_in s needed segment) → All (λ v. is_inside s.segments segment (address_in s v) ≡ true) numbers
-front-inside s needed segment n numbers same = subst (All (λ v. is_inside s.segments segment (address_in s v) ≡ true)) (sym same)
+pub front-inside : (s : Store) (needed : Entry → Bool) (segment n : ℕ) (numbers : List ℕ)
+    → numbers ≡ take n (needed_in s needed segment)
+    → All (λ v. is_inside s.segments segment (address_in s v) ≡ true) numbers
+front-inside s needed segment n numbers same =
+    subst (All (λ v. is_inside s.segments segment (address_in s v) ≡ true)) (sym same)
     (λ k d within. needed-inside s needed segment (get_or (take n (needed_in s needed segment)) k d)
-    (among-front n (needed_in s needed segment) (get_or (take n (needed_in s needed segment)) k d) (is_one_of-get_or (take n (needed_in s needed segment)) k d within)))
+    (among-front n (needed_in s needed segment) (get_or (take n (needed_in s needed segment)) k d)
+    (is_one_of-get_or (take n (needed_in s needed segment)) k d within)))
 
-pub freed-is : (s new : Store) (segment count needed : ℕ) → IsStore s → needed ≡ 0 → IsReclaimed segment count s new → Ok count ≡ freed s needed segment
+pub freed-is : (s new : Store) (segment count needed : ℕ) → IsStore s → needed ≡ 0
+    → IsReclaimed segment count s new → Ok count ≡ freed s needed segment
 freed-is s new segment count needed store none reclaimed =
     ap Ok (gone-is segment count s new store reclaimed)
-    ∙ sym (ap (λ (n : ℕ). cond {A = Result ℕ VolError} (n == 0) (Ok (length (numbers_in s segment))) (Err StillNeeded)) none)
+    ∙ sym (ap (λ (n : ℕ).
+    cond {A = Result ℕ VolError} (n == 0) (Ok (length (numbers_in s segment))) (Err StillNeeded))
+    none)

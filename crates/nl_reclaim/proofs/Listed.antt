@@ -22,7 +22,8 @@ split-first limit count = λ i. record { moved = front i; left = rest i }
 pub listed-moves-are-first : ListedMovesAreFirst
 listed-moves-are-first needed segment limit checkpoint stamp count listed old new has moved = record {
   judged = has.judged;
-  answers = ap (λ (n : ℕ). split n count) (ap length has.first ∙ length-take limit (needed_in old needed segment))
+  answers =
+      ap (λ (n : ℕ). split n count) (ap length has.first ∙ length-take limit (needed_in old needed segment))
       ∙ ap (split (min limit (length (needed_in old needed segment)))) has.total
       ∙ split-first limit (length (needed_in old needed segment));
   moved = subst (λ (ns : List ℕ). IsMoved segment checkpoint stamp ns old new) has.first moved;
@@ -35,7 +36,9 @@ refused-moves-are-none needed segment limit checkpoint stamp count listed old ne
     numbers : List ℕ
     numbers = take limit (needed_in old needed segment)
 
-    by : (r : Result SegmentInfo VolError) → IsOk r → MatchResult r (λ _. IsMoveRefused checkpoint stamp numbers old new e) (λ refusal. (e ≡ refusal) × (new ≡ old))
+    by : (r : Result SegmentInfo VolError) → IsOk r
+        → MatchResult r (λ _. IsMoveRefused checkpoint stamp numbers old new e)
+        (λ refusal. (e ≡ refusal) × (new ≡ old))
     by (Ok i) is = subst (λ (ns : List ℕ). IsMoveRefused checkpoint stamp ns old new e) has.first refused
     by (Err r) is = cc
 
@@ -43,11 +46,14 @@ stored-same : (s : Store) → KeepsStored s s
 stored-same s = record { numbers = refl; segments = refl; device = refl; payload = refl; writes = refl }
 
 pub refused-lists-are-none : RefusedListsAreNone
-refused-lists-are-none needed segment limit checkpoint stamp s e refused = by (judged_for s.segments segment limit) refused
+refused-lists-are-none needed segment limit checkpoint stamp s e refused =
+    by (judged_for s.segments segment limit) refused
   where
     numbers : List ℕ
     numbers = take limit (needed_in s needed segment)
 
-    by : (r : Result SegmentInfo VolError) → MatchResult r (λ _. e ≡ Memory) (λ refusal. e ≡ refusal) → MatchResult r (λ _. IsMoveRefused checkpoint stamp numbers s s e) (λ refusal. (e ≡ refusal) × (s ≡ s))
+    by : (r : Result SegmentInfo VolError) → MatchResult r (λ _. e ≡ Memory) (λ refusal. e ≡ refusal)
+        → MatchResult r (λ _. IsMoveRefused checkpoint stamp numbers s s e)
+        (λ refusal. (e ≡ refusal) × (s ≡ s))
     by (Ok i) is = subst (IsMoveRefused checkpoint stamp numbers s s) (sym is) (stored-same s)
     by (Err r) is = (is, refl)

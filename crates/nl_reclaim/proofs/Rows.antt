@@ -15,11 +15,17 @@ use Rattle.nl_reclaim.specs.Private.Loops.{told, AreSeen}
 pub counted-none : (f : ℕ → Option ℕ) (b : ℕ) → AreCounted f b 0 0
 counted-none f b = record { counts = refl; few = omega arith }
 
-take-grows : (limit : ℕ) (xs : List ℕ) (o : Option ℕ) → cond (nat_lt (length xs) limit) (take limit xs ++ onto o []) (take limit xs) ≡ take limit (xs ++ onto o [])
+take-grows : (limit : ℕ) (xs : List ℕ) (o : Option ℕ)
+    → cond (nat_lt (length xs) limit) (take limit xs ++ onto o []) (take limit xs)
+    ≡ take limit (xs ++ onto o [])
 take-grows limit xs o = elim (cases_lt (length xs) limit) [
-  | inl h ↦ ap (λ t. cond t (take limit xs ++ onto o []) (take limit xs)) (below h) ∙ ap (λ ys. ys ++ onto o []) (take_all limit xs (omega (arith, h)))
+  | inl h ↦
+      ap (λ t. cond t (take limit xs ++ onto o []) (take limit xs)) (below h)
+      ∙ ap (λ ys. ys ++ onto o []) (take_all limit xs (omega (arith, h)))
       ∙ sym (take_all limit (xs ++ onto o []) (omega (arith, h, length-onto o, length-append xs (onto o []))))
-  | inr h ↦ ap (λ t. cond t (take limit xs ++ onto o []) (take limit xs)) (above h) ∙ sym (take-append-le limit xs (onto o []) h)
+  | inr h ↦
+      ap (λ t. cond t (take limit xs ++ onto o []) (take limit xs)) (above h)
+      ∙ sym (take-append-le limit xs (onto o []) h)
 ]
   where
     below : length xs < limit → nat_lt (length xs) limit ≡ true
@@ -28,26 +34,48 @@ take-grows limit xs o = elim (cases_lt (length xs) limit) [
     above : limit ≤ length xs → nat_lt (length xs) limit ≡ false
     above h = grind (arith, nat_tests)
 
-pub seen-next : (f : ℕ → Option ℕ) (b limit position count next : ℕ) (first more : List ℕ) (found : Option ℕ) → AreSeen f b limit position count first → found ≡ f (b + position) → next ≡ count + length (onto found [])
-    → more ≡ cond (nat_lt count limit) (first ++ onto found []) first → AreSeen f b limit (position + 1) next more
+pub seen-next : (f : ℕ → Option ℕ) (b limit position count next : ℕ) (first more : List ℕ) (found : Option ℕ)
+    → AreSeen f b limit position count first → found ≡ f (b + position)
+    → next ≡ count + length (onto found [])
+    → more ≡ cond (nat_lt count limit) (first ++ onto found []) first
+    → AreSeen f b limit (position + 1) next more
 seen-next f b limit position count next first more found seen is sum put = record {
   counted = counted-next f b position count next found seen.counted is sum;
   front = put ∙ ap (λ (xs : List ℕ). cond (nat_lt count limit) (xs ++ onto found []) xs) seen.front
-      ∙ ap (λ (k : ℕ). cond (nat_lt k limit) (take limit (picked f b position) ++ onto found []) (take limit (picked f b position))) seen.counted.counts
-      ∙ take-grows limit (picked f b position) found ∙ ap (λ (o : Option ℕ). take limit (picked f b position ++ onto o [])) is ∙ ap (take limit) (sym (row-grows f b position));
+      ∙ ap (λ (k : ℕ).
+      cond (nat_lt k limit) (take limit (picked f b position) ++ onto found [])
+      (take limit (picked f b position)))
+      seen.counted.counts
+      ∙ take-grows limit (picked f b position) found
+      ∙ ap (λ (o : Option ℕ). take limit (picked f b position ++ onto o [])) is
+      ∙ ap (take limit) (sym (row-grows f b position));
 }
 
-pub seen-few : (f : ℕ → Option ℕ) (b limit position count : ℕ) (first : List ℕ) → AreSeen f b limit position count first → length first ≤ count
-seen-few f b limit position count first seen = omega (arith, ap length seen.front, length-take limit (picked f b position), seen.counted.counts)
+pub seen-few : (f : ℕ → Option ℕ) (b limit position count : ℕ) (first : List ℕ)
+    → AreSeen f b limit position count first → length first ≤ count
+seen-few f b limit position count first seen =
+    omega (arith, ap length seen.front, length-take limit (picked f b position), seen.counted.counts)
 
 -- ---- one block
 
-pub needed-none : (s : Store) (needed : Entry → Bool) (b : ℕ) → None ≡ number_at s b → None ≡ needed_at s needed b
+pub needed-none : (s : Store) (needed : Entry → Bool) (b : ℕ) → None ≡ number_at s b
+    → None ≡ needed_at s needed b
 needed-none s needed b is = ap (if_needed (needs needed (content_in s))) is
 
-pub needed-told : (s : Store) (test : Period → Bool) (b v : ℕ) (period : Option Period) → Some v ≡ number_at s b → period ≡ option_map period_of (content_in s v) → told test v period ≡ needed_at s (by_period test) b
-needed-told s test b v period at is = ap (told test v) is ∙ by_entry (content_in s v) refl ∙ ap (if_needed (needs (by_period test) (content_in s))) at
+pub needed-told : (s : Store) (test : Period → Bool) (b v : ℕ) (period : Option Period)
+    → Some v ≡ number_at s b → period ≡ option_map period_of (content_in s v)
+    → told test v period ≡ needed_at s (by_period test) b
+needed-told s test b v period at is =
+    ap (told test v) is ∙ by_entry (content_in s v) refl
+    ∙ ap (if_needed (needs (by_period test) (content_in s))) at
   where
-    by_entry : (o : Option Entry) → content_in s v ≡ o → told test v (option_map period_of o) ≡ if_needed (needs (by_period test) (content_in s)) (Some v)
-    by_entry None e = sym (ap (λ (o : Option Entry). cond {A = Option ℕ} (Rattle.nl_vstore.specs.Located.entry_needed (by_period test) o) (Some v) None) e)
-    by_entry (Some x) e = sym (ap (λ (o : Option Entry). cond {A = Option ℕ} (Rattle.nl_vstore.specs.Located.entry_needed (by_period test) o) (Some v) None) e)
+    by_entry : (o : Option Entry) → content_in s v ≡ o
+        → told test v (option_map period_of o) ≡ if_needed (needs (by_period test) (content_in s)) (Some v)
+    by_entry None e =
+        sym (ap (λ (o : Option Entry).
+        cond {A = Option ℕ} (Rattle.nl_vstore.specs.Located.entry_needed (by_period test) o) (Some v) None)
+        e)
+    by_entry (Some x) e =
+        sym (ap (λ (o : Option Entry).
+        cond {A = Option ℕ} (Rattle.nl_vstore.specs.Located.entry_needed (by_period test) o) (Some v) None)
+        e)

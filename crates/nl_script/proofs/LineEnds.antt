@@ -17,22 +17,31 @@ use Rattle.nl_script.specs.OutcomeTexts.{text_of}
 use Rattle.nl_script.specs.Outcomes.{is_quiet}
 use Rattle.nl_script.specs.declared.status.Status.{Status}
 
-same : {A : Type 0} (f : Bool → List Event → List Reply → A) (b c : Bool) (es events : List Event) (rs replies : List Reply)
+same : {A : Type 0} (f : Bool → List Event → List Reply → A) (b c : Bool) (es events : List Event)
+    (rs replies : List Reply)
     → b ≡ c → es ≡ events → rs ≡ replies → f b es rs ≡ f c events replies
 same f b c es events rs replies first second third =
-    ap (λ (x : Bool). f x es rs) first ∙ (ap (λ (xs : List Event). f c xs rs) second ∙ ap (λ (ys : List Reply). f c events ys) third)
+    ap (λ (x : Bool). f x es rs) first
+    ∙ (ap (λ (xs : List Event). f c xs rs) second ∙ ap (λ (ys : List Reply). f c events ys) third)
 
 -- the events of a command are done and told
-pub told_end : {S X E : Type 0} (does : S → Event → Reply → S → Type 0) (counts : S → Cpstat → Type 0) (number moment : ℕ) (command : Command)
-    (old new : S) (events es : List Event) (replies rs : List Reply) (quiet : Bool) (result : Status × Result X E) (before after : Option Text)
+pub told_end : {S X E : Type 0} (does : S → Event → Reply → S → Type 0) (counts : S → Cpstat → Type 0)
+    (number moment : ℕ) (command : Command)
+    (old new : S) (events es : List Event) (replies rs : List Reply) (quiet : Bool)
+    (result : Status × Result X E) (before after : Option Text)
     → quiet ≡ is_quiet command → es ≡ events → rs ≡ replies
     → AreEventsDone does counts moment command events replies old new
     → result.0 ≡ status_of quiet es rs → OnOk result.1 (Appends before after (text_of number quiet es rs))
-    → ComesTo (λ end. AreOutcomesTold does counts number moment command old new end ⊎ LacksMemory number moment old new end) moment result before after
-told_end does counts number moment command old new events es replies rs quiet result before after quiet_is events_are replies_are done status_is written =
+    → ComesTo (λ end.
+    AreOutcomesTold does counts number moment command old new end ⊎ LacksMemory number moment old new end)
+    moment result before after
+told_end does counts number moment command old new events es replies rs quiet result before after quiet_is
+    events_are replies_are done status_is written =
     let text : Text = text_of number (is_quiet command) events replies in
-    let status = same status_of quiet (is_quiet command) es events rs replies quiet_is events_are replies_are in
-    let texts = same (text_of number) quiet (is_quiet command) es events rs replies quiet_is events_are replies_are in
+    let status =
+    same status_of quiet (is_quiet command) es events rs replies quiet_is events_are replies_are in
+    let texts =
+    same (text_of number) quiet (is_quiet command) es events rs replies quiet_is events_are replies_are in
     record {
       text = text;
       does = inl (record {
@@ -44,37 +53,57 @@ told_end does counts number moment command old new events es replies rs quiet re
       written = OnOk-same result.1 before after _ _ texts written;
     }
 
-listing_cases : {S J : Type 0} (habits : Habits S J) (config : Config) (number moment : ℕ) (all long : Bool) (old : S) (end : LineEnd)
+listing_cases : {S J : Type 0} (habits : Habits S J) (config : Config) (number moment : ℕ) (all long : Bool)
+    (old : S) (end : LineEnd)
     → (AreListed habits moment all long old end ⊎ IsListingRefused habits number moment long old end)
     ⊎ (end ≡ refused number moment error.Memory)
-    → IsCommandDone habits config number moment (Lssu all long) old old end ⊎ LacksMemory number moment old old end
+    → IsCommandDone habits config number moment (Lssu all long) old old end
+    ⊎ LacksMemory number moment old old end
 listing_cases habits config number moment all long old end (inl told) = inl (refl, told)
 listing_cases habits config number moment all long old end (inr lacks) = inr (refl, lacks)
 
 -- segments are listed
-pub listing_end : {S J X E : Type 0} (habits : Habits S J) (config : Config) (number moment : ℕ) (all long : Bool) (command : Command) (old : S)
+pub listing_end : {S J X E : Type 0} (habits : Habits S J) (config : Config) (number moment : ℕ)
+    (all long : Bool) (command : Command) (old : S)
     (result : Status × Result X E) (before after : Option Text) → command ≡ Lssu all long
-    → ComesTo (λ end. (AreListed habits moment all long old end ⊎ IsListingRefused habits number moment long old end)
+    → ComesTo
+    (λ end. (AreListed habits moment all long old end ⊎ IsListingRefused habits number moment long old end)
     ⊎ (end ≡ refused number moment error.Memory)) moment result before after
-    → ComesTo (λ end. IsCommandDone habits config number moment command old old end ⊎ LacksMemory number moment old old end) moment result before after
+    → ComesTo (λ end.
+    IsCommandDone habits config number moment command old old end ⊎ LacksMemory number moment old old end)
+    moment result before after
 listing_end habits config number moment all long command old result before after is told = record {
   text = told.text;
-  does = subst (λ (c : Command). IsCommandDone habits config number moment c old old (line_end moment result.0 told.text)
+  does =
+      subst (λ (c : Command).
+      IsCommandDone habits config number moment c old old (line_end moment result.0 told.text)
       ⊎ LacksMemory number moment old old (line_end moment result.0 told.text)) (sym is)
       (listing_cases habits config number moment all long old (line_end moment result.0 told.text) told.does);
   written = told.written;
 }
 
 -- files are told of
-pub files_told_end : {S J X E : Type 0} (habits : Habits S J) (config : Config) (number moment mount : ℕ) (given paths : List (List ℕ)) (command : Command) (old new : S)
+pub files_told_end : {S J X E : Type 0} (habits : Habits S J) (config : Config) (number moment mount : ℕ)
+    (given paths : List (List ℕ)) (command : Command) (old new : S)
     (result : Status × Result X E) (before after : Option Text) → command ≡ Catm mount paths → given ≡ paths
-    → ComesTo (λ end. AreFilesTold habits.does number moment mount given old new end ⊎ LacksMemory number moment old new end) moment result before after
-    → ComesTo (λ end. IsCommandDone habits config number moment command old new end ⊎ LacksMemory number moment old new end) moment result before after
-files_told_end habits config number moment mount given paths command old new result before after is same told =
+    → ComesTo (λ end.
+    AreFilesTold habits.does number moment mount given old new end ⊎ LacksMemory number moment old new end)
+    moment result before after
+    → ComesTo (λ end.
+    IsCommandDone habits config number moment command old new end ⊎ LacksMemory number moment old new end)
+    moment result before after
+files_told_end habits config number moment mount given paths command old new result before after is same
+    told =
     let end = line_end moment result.0 told.text in
-    let done = subst (λ (ps : List (List ℕ)). AreFilesTold habits.does number moment mount ps old new end ⊎ LacksMemory number moment old new end) same told.does in
+    let done =
+    subst (λ (ps : List (List ℕ)).
+    AreFilesTold habits.does number moment mount ps old new end ⊎ LacksMemory number moment old new end)
+    same told.does in
     record {
       text = told.text;
-      does = subst (λ (c : Command). IsCommandDone habits config number moment c old new end ⊎ LacksMemory number moment old new end) (sym is) done;
+      does =
+          subst (λ (c : Command).
+          IsCommandDone habits config number moment c old new end ⊎ LacksMemory number moment old new end)
+          (sym is) done;
       written = told.written;
     }

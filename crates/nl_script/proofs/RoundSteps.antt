@@ -9,7 +9,8 @@ sum_behind-more : (sum : RoundSum) (replies : List Reply) (reply : Reply)
 sum_behind-more sum [] reply = refl
 sum_behind-more sum (r ∷ replies) reply = sum_behind-more (with_reply sum r) replies reply
 
-AreSteps-more : {S J : Type 0} (steps : S → J → Option Reply → S → J → Type 0) (job later next : J) (old mid new : S) (replies : List Reply)
+AreSteps-more : {S J : Type 0} (steps : S → J → Option Reply → S → J → Type 0) (job later next : J)
+    (old mid new : S) (replies : List Reply)
     (reply : Reply) → AreSteps steps job old replies later mid → steps mid later (Some reply) new next
     → AreSteps steps job old (replies ++ reply ∷ []) next new
 AreSteps-more {S = S} {J = K} steps job later next old mid new [] reply done one =
@@ -19,7 +20,8 @@ AreSteps-more steps job later next old mid new (r ∷ replies) reply done one =
     (done.0, done.1, done.2, AreSteps-more steps done.1 later next done.0 mid new replies reply done.3 one)
 
 -- the steps so far
-pub record IsRoundSoFar {S J : Type 0} (steps : S → J → Option Reply → S → J → Type 0) (job later : J) (old now : S) (sum : RoundSum) : Type 0 where
+pub record IsRoundSoFar {S J : Type 0} (steps : S → J → Option Reply → S → J → Type 0) (job later : J)
+    (old now : S) (sum : RoundSum) : Type 0 where
   pub replies : List Reply
   pub done : AreSteps steps job old replies later now
   pub sum_is : sum ≡ sum_behind nothing_done replies
@@ -29,12 +31,15 @@ module _ {S J : Type 0} (steps : S → J → Option Reply → S → J → Type 0
   round-start sum is = record { replies = []; done = (refl, refl); sum_is = is }
 
   module _ (later : J) (mid : S) (sum : RoundSum) (so_far : IsRoundSoFar steps job later old mid sum) where
-    pub round-more : (next : J) (new : S) (reply : Reply) (more : RoundSum) → steps mid later (Some reply) new next → more ≡ with_reply sum reply
+    pub round-more : (next : J) (new : S) (reply : Reply) (more : RoundSum)
+        → steps mid later (Some reply) new next → more ≡ with_reply sum reply
         → IsRoundSoFar steps job next old new more
     round-more next new reply more one is = record {
       replies = so_far.replies ++ reply ∷ [];
       done = AreSteps-more steps job later next old mid new so_far.replies reply so_far.done one;
-      sum_is = is ∙ ap (λ (s : RoundSum). with_reply s reply) so_far.sum_is ∙ sym (sum_behind-more nothing_done so_far.replies reply);
+      sum_is =
+          is ∙ ap (λ (s : RoundSum). with_reply s reply) so_far.sum_is
+          ∙ sym (sum_behind-more nothing_done so_far.replies reply);
     }
 
     -- no step is left

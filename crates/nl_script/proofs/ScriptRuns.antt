@@ -22,22 +22,28 @@ or-false : (b : Bool) → (b || false) ≡ b
 or-false true = refl
 or-false false = refl
 
-any-more : (p : LineEnd → Bool) (ends : List LineEnd) (end : LineEnd) → list_any p (ends ++ end ∷ []) ≡ (list_any p ends || p end)
-any-more p ends end = list_any-append p ends (end ∷ []) ∙ ap (λ (b : Bool). list_any p ends || b) (or-false (p end))
+any-more : (p : LineEnd → Bool) (ends : List LineEnd) (end : LineEnd)
+    → list_any p (ends ++ end ∷ []) ≡ (list_any p ends || p end)
+any-more p ends end =
+    list_any-append p ends (end ∷ []) ∙ ap (λ (b : Bool). list_any p ends || b) (or-false (p end))
 
 texts-more : (ends : List LineEnd) (end : LineEnd) → texts_of ends ++ end.text ≡ texts_of (ends ++ end ∷ [])
 texts-more ends end =
-    sym (flat_map-append text_of_line ends (end ∷ []) ∙ ap (λ (t : Text). flat_map text_of_line ends ++ t) (append-nil end.text))
+    sym (flat_map-append text_of_line ends (end ∷ [])
+    ∙ ap (λ (t : Text). flat_map text_of_line ends ++ t) (append-nil end.text))
 
 begins_at : (input : Option (List ℕ)) → BeginsSo input [] input
 begins_at None = tt
 begins_at (Some bytes) = (bytes, refl, refl)
 
-begins-more : (input left behind : Option (List ℕ)) (lines : List (List ℕ)) (line : List ℕ) → BeginsSo input lines left
+begins-more : (input left behind : Option (List ℕ)) (lines : List (List ℕ)) (line : List ℕ)
+    → BeginsSo input lines left
     → IsNextLine left behind line → BeginsSo input (lines ++ line ∷ []) behind
 begins-more None left behind lines line begins next = tt
 begins-more (Some bytes) left behind lines line begins next =
-    let here = subst (λ (o : Option (List ℕ)). IfSome o (λ xs. (0 < length xs) × (line ≡ first_piece 10 xs))) begins.1 next.is_next in (
+    let here =
+    subst (λ (o : Option (List ℕ)). IfSome o (λ xs. (0 < length xs) × (line ≡ first_piece 10 xs)))
+    begins.1 next.is_next in (
       drop_through 10 begins.0,
       subst (λ (o : Option (List ℕ)). DropsThrough o behind 10) begins.1 next.behind,
       BeginsWithLines-more bytes lines begins.0 line begins.2 here.0 here.1,
@@ -45,25 +51,32 @@ begins-more (Some bytes) left behind lines line begins next =
 
 -- how much of the input is read
 abbrev pub IsReadUpTo : Option (List ℕ) → List (List ℕ) → Option StandardStream → Type 0
-IsReadUpTo input lines failed = IfSome input (λ bytes. (rest : List ℕ) × BeginsWithLines bytes lines rest × (failed ≡ None → rest ≡ []))
+IsReadUpTo input lines failed =
+    IfSome input (λ bytes. (rest : List ℕ) × BeginsWithLines bytes lines rest × (failed ≡ None → rest ≡ []))
 
 some-none : (s : StandardStream) → Some s ≡ None → ⊥
 some-none s h = cc
 
-begun : (input left : Option (List ℕ)) (lines : List (List ℕ)) (failed : Option StandardStream) (s : StandardStream) → failed ≡ Some s
+begun : (input left : Option (List ℕ)) (lines : List (List ℕ)) (failed : Option StandardStream)
+    (s : StandardStream)
+    → failed ≡ Some s
     → BeginsSo input lines left → IsReadUpTo input lines failed
 begun None left lines failed s is begins = tt
-begun (Some bytes) left lines failed s is begins = (begins.0, begins.2, λ fine. absurd (some-none s (sym is ∙ fine)))
+begun (Some bytes) left lines failed s is begins =
+    (begins.0, begins.2, λ fine. absurd (some-none s (sym is ∙ fine)))
 
-read_whole : (input left : Option (List ℕ)) (lines : List (List ℕ)) (failed : Option StandardStream) → IsAtEnd left → BeginsSo input lines left
+read_whole : (input left : Option (List ℕ)) (lines : List (List ℕ)) (failed : Option StandardStream)
+    → IsAtEnd left → BeginsSo input lines left
     → IsReadUpTo input lines failed
 read_whole None left lines failed end begins = tt
 read_whole (Some bytes) left lines failed end begins =
     (begins.0, begins.2, λ fine. subst (λ (o : Option (List ℕ)). IsAtEnd o) begins.1 end)
 
-module _ {S J O : Type 0} (habits : Habits S J) (config : Config) (moment : ℕ) (old : S) (input : Option (List ℕ)) (contents : O → Option Text) (before : O) where
+module _ {S J O : Type 0} (habits : Habits S J) (config : Config) (moment : ℕ) (old : S)
+    (input : Option (List ℕ)) (contents : O → Option Text) (before : O) where
   abbrev SoFar : (now : S) → Done → (number : ℕ) → (left : Option (List ℕ)) → (written : O) → Type 0
-  SoFar now done number left written = IsRunSoFar habits config moment old now done number input left (contents before) (contents written)
+  SoFar now done number left written =
+      IsRunSoFar habits config moment old now done number input left (contents before) (contents written)
 
   abbrev Ends : (now : S) → Done → (after : O) → Type 0
   Ends now done after = IsScriptDone habits config moment old now done input contents before after
@@ -83,9 +96,11 @@ module _ {S J O : Type 0} (habits : Habits S J) (config : Config) (moment : ℕ)
     read = begins_at input;
   }
 
-  module _ (mid : S) (done : Done) (number : ℕ) (left : Option (List ℕ)) (written : O) (so_far : SoFar mid done number left written) (fine : done.failed ≡ None) where
+  module _ (mid : S) (done : Done) (number : ℕ) (left : Option (List ℕ)) (written : O)
+      (so_far : SoFar mid done number left written) (fine : done.failed ≡ None) where
     -- the input can't be read
-    pub ends-unread : (after : O) → contents after ≡ contents written → Ends mid (record done { failed = Some stream.Input }) after
+    pub ends-unread : (after : O) → contents after ≡ contents written
+        → Ends mid (record done { failed = Some stream.Input }) after
     ends-unread after same = record {
       lines = so_far.lines;
       ends = so_far.ends;
@@ -93,7 +108,9 @@ module _ {S J O : Type 0} (habits : Habits S J) (config : Config) (moment : ℕ)
       moment_is = so_far.moment_is;
       misread_is = so_far.misread_is;
       refused_is = so_far.refused_is;
-      written = subst (λ (o : Option Text). Appends (contents before) o (texts_of so_far.ends)) (sym same) so_far.written;
+      written =
+          subst (λ (o : Option Text). Appends (contents before) o (texts_of so_far.ends))
+          (sym same) so_far.written;
       read = begun input left so_far.lines (Some stream.Input) stream.Input refl so_far.read;
     }
 
@@ -106,21 +123,26 @@ module _ {S J O : Type 0} (habits : Habits S J) (config : Config) (moment : ℕ)
       moment_is = so_far.moment_is;
       misread_is = so_far.misread_is;
       refused_is = so_far.refused_is;
-      written = subst (λ (f : Option StandardStream). AreWritten f contents before after so_far.ends) (sym fine)
-          (subst (λ (o : Option Text). Appends (contents before) o (texts_of so_far.ends)) (sym same) so_far.written);
+      written =
+          subst (λ (f : Option StandardStream). AreWritten f contents before after so_far.ends) (sym fine)
+          (subst (λ (o : Option Text). Appends (contents before) o (texts_of so_far.ends))
+          (sym same) so_far.written);
       read = read_whole input left so_far.lines done.failed end so_far.read;
     }
 
     module _ (new : S) (after_done : Done) (goes_on : Bool) (behind : Option (List ℕ)) (after : O) where
       -- there is no next line
-      pub ends-stopped : HasStopped mid new done after_done goes_on left (contents written) (contents after) → Ends new after_done after
+      pub ends-stopped : HasStopped mid new done after_done goes_on left (contents written) (contents after)
+          → Ends new after_done after
       ends-stopped stopped = subst (λ (s : S). Ends s after_done after) (sym stopped.same) (by stopped.why)
         where
           by : HasNoLine done after_done left → Ends mid after_done after
-          by (inl (end, is)) = subst (λ (d : Done). Ends mid d after) (sym is) (ends-whole after stopped.unwritten end)
+          by (inl (end, is)) =
+              subst (λ (d : Done). Ends mid d after) (sym is) (ends-whole after stopped.unwritten end)
           by (inr is) = subst (λ (d : Done). Ends mid d after) (sym is) (ends-unread after stopped.unwritten)
 
-      module _ (done_line : HasDoneLine habits config number mid new done after_done goes_on left behind (contents written) (contents after))
+      module _ (done_line : HasDoneLine habits config number mid new done after_done goes_on left behind
+          (contents written) (contents after))
           (small : number < 2 ^ 64 - 1) where
         abbrev lines-now : List (List ℕ)
         lines-now = so_far.lines ++ done_line.line ∷ []
@@ -132,27 +154,40 @@ module _ {S J O : Type 0} (habits : Habits S J) (config : Config) (moment : ℕ)
         lines-more =
             let line = done_line.line in
             let end = done_line.end in
-            let numbered : number ≡ number_behind (length so_far.lines) = grind (arith, so_far.number_is, small) in
-            let does = subst (λ (m : ℕ). IsLineAnswered habits config number m line mid new end) so_far.moment_is done_line.does in
-            let there = subst (λ (n : ℕ). IsLineAnswered habits config n (last_moment moment so_far.ends) line mid new end) numbered does in
-            AreLinesDone-more habits config 0 (length so_far.lines) moment old mid new so_far.lines so_far.ends line end (grind arith) so_far.are_done there
+            let numbered : number ≡ number_behind (length so_far.lines) =
+            grind (arith, so_far.number_is, small) in
+            let does =
+            subst (λ (m : ℕ). IsLineAnswered habits config number m line mid new end) so_far.moment_is
+            done_line.does in
+            let there =
+            subst (λ (n : ℕ).
+            IsLineAnswered habits config n (last_moment moment so_far.ends) line mid new end)
+            numbered does in
+            AreLinesDone-more habits config 0
+            (length so_far.lines) moment old mid new so_far.lines so_far.ends line end
+            (grind arith) so_far.are_done there
 
         moment-more : after_done.moment ≡ last_moment moment ends-now
         moment-more = done_line.counted.moment_is ∙ sym (last_moment-more moment so_far.ends done_line.end)
 
         misread-more : after_done.misread ≡ list_any ends_misread ends-now
-        misread-more = done_line.counted.misread_is ∙ ap (λ (b : Bool). b || ends_misread done_line.end) so_far.misread_is
+        misread-more =
+            done_line.counted.misread_is
+            ∙ ap (λ (b : Bool). b || ends_misread done_line.end) so_far.misread_is
             ∙ sym (any-more ends_misread so_far.ends done_line.end)
 
         refused-more : after_done.refused ≡ list_any ends_refused ends-now
-        refused-more = done_line.counted.refused_is ∙ ap (λ (b : Bool). b || ends_refused done_line.end) so_far.refused_is
+        refused-more =
+            done_line.counted.refused_is
+            ∙ ap (λ (b : Bool). b || ends_refused done_line.end) so_far.refused_is
             ∙ sym (any-more ends_refused so_far.ends done_line.end)
 
         read-more : BeginsSo input lines-now behind
         read-more = begins-more input left behind so_far.lines done_line.line so_far.read done_line.next
 
         -- the script goes on behind the line
-        pub run-more : goes_on ≡ true → SoFar new after_done (number + 1) behind after × (after_done.failed ≡ None)
+        pub run-more : goes_on ≡ true
+            → SoFar new after_done (number + 1) behind after × (after_done.failed ≡ None)
         run-more on = (
           record {
             lines = lines-now;
@@ -162,11 +197,16 @@ module _ {S J O : Type 0} (habits : Habits S J) (config : Config) (moment : ℕ)
             moment_is = moment-more;
             misread_is = misread-more;
             refused_is = refused-more;
-            written = subst (λ (t : Text). Appends (contents before) (contents after) t) (texts-more so_far.ends done_line.end)
-                (Appends-trans (contents before) (contents written) (contents after) _ _ so_far.written (done_line.counted.written on));
+            written =
+                subst (λ (t : Text). Appends (contents before) (contents after) t)
+                (texts-more so_far.ends done_line.end)
+                (Appends-trans (contents before) (contents written) (contents after) _ _ so_far.written
+                (done_line.counted.written on));
             read = read-more;
           },
-          done_line.counted.failed_is ∙ ap (λ (b : Bool). cond {A = Option StandardStream} b done.failed (Some stream.Output)) on ∙ fine,
+          done_line.counted.failed_is
+              ∙ ap (λ (b : Bool). cond {A = Option StandardStream} b done.failed (Some stream.Output)) on
+              ∙ fine,
         )
 
         -- the line can't be told of
@@ -181,14 +221,24 @@ module _ {S J O : Type 0} (habits : Habits S J) (config : Config) (moment : ℕ)
               moment_is = moment-more;
               misread_is = misread-more;
               refused_is = refused-more;
-              written = subst (λ (f : Option StandardStream). AreWritten f contents before after ends-now) (sym failed)
-                  (record { written = so_far.ends; last = done_line.end; ends_are = refl; mid = written; got = so_far.written });
+              written =
+                  subst (λ (f : Option StandardStream). AreWritten f contents before after ends-now)
+                  (sym failed)
+                  (record {
+                    written = so_far.ends;
+                    last = done_line.end;
+                    ends_are = refl;
+                    mid = written;
+                    got = so_far.written;
+                  });
               read = begun input behind lines-now after_done.failed stream.Output failed read-more;
             }
 
       -- what one turn of the script came to
       abbrev IsTurn : Type 0
-      IsTurn = HasDoneLine habits config number mid new done after_done goes_on left behind (contents written) (contents after)
+      IsTurn =
+          HasDoneLine habits config number mid new done after_done goes_on left behind (contents written)
+          (contents after)
           ⊎ HasStopped mid new done after_done goes_on left (contents written) (contents after)
 
       pub turn-ends : IsTurn → number < 2 ^ 64 - 1 → goes_on ≡ false → Ends new after_done after

@@ -4,8 +4,10 @@ use Rattle.nl_texts.specs.declared.segments.SegmentRow.{SegmentRow}
 use Rattle.nl_script.specs.Habits.{Habits}
 use Rattle.nl_script.specs.Lines.{AreTold, IsRowTold}
 
-pub told-more : {S J : Type 0} (habits : Habits S J) (long : Bool) (old : S) (n m : ℕ) (rows : List SegmentRow) (row : SegmentRow)
-    → n + length rows ≡ m → AreTold habits long old n rows → IsRowTold habits long old m row → AreTold habits long old n (rows ++ row ∷ [])
+pub told-more : {S J : Type 0} (habits : Habits S J) (long : Bool) (old : S) (n m : ℕ)
+    (rows : List SegmentRow) (row : SegmentRow)
+    → n + length rows ≡ m → AreTold habits long old n rows → IsRowTold habits long old m row
+    → AreTold habits long old n (rows ++ row ∷ [])
 told-more habits long old n m [] row next told one =
     let here : m ≡ n = grind (arith, next) in
     (subst (λ (k : ℕ). IsRowTold habits long old k row) here one, tt)

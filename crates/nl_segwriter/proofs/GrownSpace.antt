@@ -15,7 +15,8 @@ use Rattle.nl_segwriter.specs.Writing.{held_in}
 use Rattle.nl_segwriter.specs.Facts.WholeLogs.{none_held}
 
 -- blocks without payload behind others
-pub held-behind : (table : List (Option Payload)) (k b : ℕ) → held_in (table ++ replicate k None) b ≡ held_in table b
+pub held-behind : (table : List (Option Payload)) (k b : ℕ)
+    → held_in (table ++ replicate k None) b ≡ held_in table b
 held-behind [] k b = none_held k b
 held-behind (x ∷ table) k zero = refl
 held-behind (x ∷ table) k (suc b) = held-behind table k b
@@ -35,7 +36,8 @@ logs-grown n s infos logs i has =
     omega (arith, low, ap (λ (x : SegmentInfo). x.used) same)
 
 -- memory has what it had, and the device below its old end
-module _ (n : ℕ) (old : SpaceContent) (held : HeldPayload) (stored : DevicePages) (infos : InfosStay) (same : (b : ℕ) → held b ≡ old.held b)
+module _ (n : ℕ) (old : SpaceContent) (held : HeldPayload) (stored : DevicePages) (infos : InfosStay)
+    (same : (b : ℕ) → held b ≡ old.held b)
     (below : KeepsBelow (total_blocks old.segments) old.stored stored) where
   abbrev pub grown : SpaceContent
   grown = record { segments = grown_to n old.segments; held = held; stored = stored }
@@ -45,7 +47,9 @@ module _ (n : ℕ) (old : SpaceContent) (held : HeldPayload) (stored : DevicePag
 
   pub whole-grown : AreTidy old.segments → AreWholeLogs old → AreWholeLogs grown
   whole-grown tidy logs i =
-      ∥∥₁_map (logs i) (filled_same old grown i refl (ap (λ (x : SegmentInfo). x.used) (infos n i old.segments)) (kept-grown tidy))
+      ∥∥₁_map (logs i)
+      (filled_same old grown i refl (ap (λ (x : SegmentInfo). x.used) (infos n i old.segments))
+      (kept-grown tidy))
 
   pub held-grown : UsedStays → HoldsOnlyUsed old → HoldsOnlyUsed grown
   held-grown used only b unused = same b ∙ only b (λ is. unused ((used n b old.segments).0 is))

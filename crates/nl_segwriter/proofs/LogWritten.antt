@@ -20,28 +20,42 @@ pages_long x ready =
     ap length ready.pages ∙ omega (arith, l, n)
 
 -- the log's blocks alone change on the device, also where a put failed
-pub put_outside : (first : ℕ) (x : Staged) (old new : DevicePages) → IsReady x → HasPut first x.pages old new → SameOutside first (x.log.count + 1) old new
-put_outside first x old new ready put = subst (λ (n : ℕ). SameOutside first n old new) (pages_long x ready) put.others
+pub put_outside : (first : ℕ) (x : Staged) (old new : DevicePages) → IsReady x → HasPut first x.pages old new
+    → SameOutside first (x.log.count + 1) old new
+put_outside first x old new ready put =
+    subst (λ (n : ℕ). SameOutside first n old new) (pages_long x ready) put.others
 
-pub tried_outside : (first tried : ℕ) (x : Staged) (old new : DevicePages) → IsReady x → HasTried first tried x.pages old new → SameOutside first (x.log.count + 1) old new
+pub tried_outside : (first tried : ℕ) (x : Staged) (old new : DevicePages) → IsReady x
+    → HasTried first tried x.pages old new → SameOutside first (x.log.count + 1) old new
 tried_outside first tried x old new ready put =
     let long = pages_long x ready in
     let most = put.most in
     record { below = put.others.below; above = λ b h. put.others.above b (omega (arith, h, long, most)) }
 
 -- and its payload's in memory
-pub held_outside : (first : ℕ) (x : Staged) (old new : HeldPayload) → IsReady x → SameOutside (first + 1) (length x.payload) old new → SameOutside first (x.log.count + 1) old new
+pub held_outside : (first : ℕ) (x : Staged) (old new : HeldPayload) → IsReady x
+    → SameOutside (first + 1) (length x.payload) old new → SameOutside first (x.log.count + 1) old new
 held_outside first x old new ready same =
     let n = ready.count in
-    record { below = λ b h. same.below b (omega (arith, h)); above = λ b h. same.above b (omega (arith, h, n)) }
+    record {
+      below = λ b h. same.below b (omega (arith, h));
+      above = λ b h. same.above b (omega (arith, h, n));
+    }
 
-pub log_stands : (old : SpaceContent) (x : Staged) (held : HeldPayload) (stored : DevicePages) → AreTidy old.segments → IsNextLog old.segments x.log → HoldsOnlyUsed old → IsReady x
-    → HasPut (first_block old.segments.blocks x.log) x.pages old.stored stored → StandInRow (first_block old.segments.blocks x.log + 1) x.payload held
-    → SameOutside (first_block old.segments.blocks x.log + 1) (length x.payload) old.held held → StandsFrom (first_block old.segments.blocks x.log) (whole_of x) held stored
+pub log_stands : (old : SpaceContent) (x : Staged) (held : HeldPayload) (stored : DevicePages)
+    → AreTidy old.segments → IsNextLog old.segments x.log → HoldsOnlyUsed old → IsReady x
+    → HasPut (first_block old.segments.blocks x.log) x.pages old.stored stored
+    → StandInRow (first_block old.segments.blocks x.log + 1) x.payload held
+    → SameOutside (first_block old.segments.blocks x.log + 1) (length x.payload) old.held held
+    → StandsFrom (first_block old.segments.blocks x.log) (whole_of x) held stored
 log_stands old x held stored tidy next only ready put row same = record {
   fits = ready.fits;
   summary = ap stored (sym (add-zero first)) ∙ at 0 (let l = pages_long x ready in omega (arith, l));
-  no_payload = same.below first (omega arith) ∙ only first (λ used. elim (outside_row old.segments x.log first tidy next used) [ inl h ↦ omega (arith, h) | inr h ↦ omega (arith, h) ]);
+  no_payload =
+      same.below first (omega arith)
+      ∙ only first (λ used.
+      elim (outside_row old.segments x.log first tidy next used)
+      [ inl h ↦ omega (arith, h) | inr h ↦ omega (arith, h) ]);
   payload = row;
   pages = λ j h.
       let e : first + 1 + j ≡ first + suc j = omega arith in
@@ -54,5 +68,7 @@ log_stands old x held stored tidy next only ready put row same = record {
     first : ℕ
     first = first_block old.segments.blocks x.log
 
-    at : (j : ℕ) → j < length x.pages → stored (first + j) ≡ slice_get (summary_bytes (contents_of (whole_of x)) ∷ map payload_page x.payload) j
+    at : (j : ℕ) → j < length x.pages
+        → stored (first + j)
+        ≡ slice_get (summary_bytes (contents_of (whole_of x)) ∷ map payload_page x.payload) j
     at j h = put.stand j h ∙ ap (λ (ps : List (List ℕ)). slice_get ps j) ready.pages

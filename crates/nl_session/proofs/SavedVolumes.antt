@@ -20,4 +20,6 @@ pub come_back : PresentMarkStays → ImagesMeanOneWorld → SavedVolumesComeBack
 come_back stays one moment left opened image saves w v kept saved means =
     let same = stays saves.closed.store (kept_by saves.closed.lists) image saves.image_is in
     none_given opened v kept.rest means
-    ∙ one opened saves.closed image v w kept.pen saves.pen (subst (IsPenImage opened) same kept.image_is) saves.image_is (rests opened.lists kept.rest) saves.can_be means saved
+    ∙ one opened saves.closed image v w kept.pen saves.pen
+    (subst (IsPenImage opened) same kept.image_is) saves.image_is
+    (rests opened.lists kept.rest) saves.can_be means saved

@@ -9,7 +9,8 @@ pub is_asked : (path : List ℕ) (save : Option (List ℕ)) → Some path ≡ sa
 is_asked path save is none = let other : Some path ≡ None = is ∙ none in cc
 
 -- what is settled can be closed, where nothing is mounted
-pub can_be_closed : (dirty : Bool) (moment : ℕ) (old new : Layout) → old.lists.dirty ≡ dirty → old.lists.mounts ≡ []
+pub can_be_closed : (dirty : Bool) (moment : ℕ) (old new : Layout) → old.lists.dirty ≡ dirty
+    → old.lists.mounts ≡ []
     → IsSettled dirty moment old new → CanBeClosed new.lists
 can_be_closed false moment old new clean unmounted same =
     subst (λ (l : Layout). CanBeClosed l.lists) (sym same) (record { clean = clean; unmounted = unmounted })

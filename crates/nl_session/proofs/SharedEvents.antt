@@ -7,8 +7,10 @@ use Rattle.nl_types.specs.Worlds.{Reply}
 use Rattle.nl_publish.specs.Locks.{Ran}
 use Rattle.nl_session.specs.SharedVolumes.{Sharing, shared_does}
 
-pub others_do : (old new : Sharing) (e : Event) (reply : Reply) → ((n : ℕ) → e ≡ event.Mount n → ⊥) → ((m : ℕ) → e ≡ event.Unmount m → ⊥)
-    → ((m : ℕ) (ask : Ask) → e ≡ event.MountRead m ask → ⊥) → Ran old.held e reply new.held → new.mounts ≡ old.mounts
+pub others_do : (old new : Sharing) (e : Event) (reply : Reply) → ((n : ℕ) → e ≡ event.Mount n → ⊥)
+    → ((m : ℕ) → e ≡ event.Unmount m → ⊥)
+    → ((m : ℕ) (ask : Ask) → e ≡ event.MountRead m ask → ⊥) → Ran old.held e reply new.held
+    → new.mounts ≡ old.mounts
     → shared_does old e reply new
 others_do old new (event.Apply change) reply no_mount no_unmount no_read ran same = (ran, same)
 others_do old new (event.Read ask) reply no_mount no_unmount no_read ran same = (ran, same)
@@ -18,7 +20,8 @@ others_do old new (event.Remove n) reply no_mount no_unmount no_read ran same = 
 others_do old new (event.RemoveRange first last) reply no_mount no_unmount no_read ran same = (ran, same)
 others_do old new (event.Mount n) reply no_mount no_unmount no_read ran same = absurd (no_mount n refl)
 others_do old new (event.Unmount m) reply no_mount no_unmount no_read ran same = absurd (no_unmount m refl)
-others_do old new (event.MountRead m ask) reply no_mount no_unmount no_read ran same = absurd (no_read m ask refl)
+others_do old new (event.MountRead m ask) reply no_mount no_unmount no_read ran same =
+    absurd (no_read m ask refl)
 others_do old new (event.Expire now period) reply no_mount no_unmount no_read ran same = (ran, same)
 others_do old new (event.Move segment limit now) reply no_mount no_unmount no_read ran same = (ran, same)
 others_do old new (event.Retire segment) reply no_mount no_unmount no_read ran same = (ran, same)

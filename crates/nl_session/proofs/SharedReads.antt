@@ -13,16 +13,20 @@ use Rattle.nl_mounts.specs.Ports.{IsBytesOf, IsListOf, IsStatOf}
 use Rattle.nl_script.specs.FileReads.{IsToldBy, reply_of}
 use Rattle.nl_session.specs.SharedVolumes.{names_reply, stat_reply}
 
-pub bytes_told : (t : Tree) (path : List ℕ) (offset len : ℕ) (result : Result (List ℕ) VolError) (reply : Reply) → reply ≡ reply_of result
+pub bytes_told : (t : Tree) (path : List ℕ) (offset len : ℕ) (result : Result (List ℕ) VolError)
+    (reply : Reply)
+    → reply ≡ reply_of result
     → ((expected : Reply) → ShowsUnlessMemory answer.Bytes result expected → IsUnlessMemory reply expected)
-    → (result ≡ Err BadMount) ⊎ IsBytesOf t path offset len result → IsToldBy t (ask.Bytes path offset len) reply
+    → (result ≡ Err BadMount) ⊎ IsBytesOf t path offset len result
+    → IsToldBy t (ask.Bytes path offset len) reply
 bytes_told t path offset len result reply is shows (inl refused) = inl (is ∙ ap reply_of refused)
 bytes_told t path offset len result reply is shows (inr shown) = inr (shows _ shown)
 
 abbrev as_names : Result (List Named) VolError → Reply
 as_names found = and_then found (λ names. Ok (answer.Names names))
 
-names_unless : (result found : Result (List Named) VolError) → ShowsUnlessMemory (λ names. names) result found → IsUnlessMemory (names_reply result) (as_names found)
+names_unless : (result found : Result (List Named) VolError) → ShowsUnlessMemory (λ names. names) result found
+    → IsUnlessMemory (names_reply result) (as_names found)
 names_unless (Ok names) found shows other = sym (ap as_names shows)
 names_unless (Err e) found shows other = sym (ap as_names (shows (λ is. other (ap Err is))))
 

@@ -40,17 +40,25 @@ use Rattle.nl_session.proofs.SharedWorldsRuns.{IsBehind, behind_ready, behind_wh
 
 -- ---- reads through mounts
 
-read_is : (w : World) (n : ℕ) (m : Claim) (ask : Ask) (held : IsMountIn w m) → m.number ≡ n → mount_read w n ask ≡ reply_to held.told.copy.tree ask
+read_is : (w : World) (n : ℕ) (m : Claim) (ask : Ask) (held : IsMountIn w m) → m.number ≡ n
+    → mount_read w n ask ≡ reply_to held.told.copy.tree ask
 read_is w n m ask held same =
     ap (λ (k : ℕ). mount_read w k ask) (sym same)
-    ∙ ap (λ (o : Option ℕ). and_then (and_then (ok_or o BadMount) (λ (k : ℕ). ok_or (copy_at w k) BadMount)) (λ (copy : Copy). reply_to copy.tree ask)) held.mounted
-    ∙ ap (λ (o : Option Copy). and_then (ok_or o BadMount) (λ (copy : Copy). reply_to copy.tree ask)) held.told.kept
+    ∙ ap (λ (o : Option ℕ).
+    and_then (and_then (ok_or o BadMount) (λ (k : ℕ). ok_or (copy_at w k) BadMount))
+    (λ (copy : Copy). reply_to copy.tree ask))
+    held.mounted
+    ∙ ap (λ (o : Option Copy). and_then (ok_or o BadMount) (λ (copy : Copy). reply_to copy.tree ask))
+    held.told.kept
 
-told_in : (w : World) (n : ℕ) (m : Claim) (ask : Ask) (reply : Reply) → IsMountIn w m → m.number ≡ n → IsToldThrough m ask reply
+told_in : (w : World) (n : ℕ) (m : Claim) (ask : Ask) (reply : Reply) → IsMountIn w m → m.number ≡ n
+    → IsToldThrough m ask reply
     → IsUnlessMemory reply (mount_read w n ask)
-told_in w n m ask reply held same told other = told held.told.copy.tree held.told.shown other ∙ sym (read_is w n m ask held same)
+told_in w n m ask reply held same told other =
+    told held.told.copy.tree held.told.shown other ∙ sym (read_is w n m ask held same)
 
-held_told : (w : World) (s : Sharing) (n : ℕ) (ask : Ask) (reply : Reply) → IsBeside w s → (o : Option Claim) → mount_of n s.mounts ≡ o
+held_told : (w : World) (s : Sharing) (n : ℕ) (ask : Ask) (reply : Reply) → IsBeside w s → (o : Option Claim)
+    → mount_of n s.mounts ≡ o
     → IsHeldTold o ask reply → IsUnlessMemory reply (mount_read w n ask)
 held_told w s n ask reply before None at told = absurd told
 held_told w s n ask reply before (Some m) at told =
@@ -63,7 +71,8 @@ held_told w s n ask reply before (Some m) at told =
 abbrev GivesNone : Event → Type 0
 GivesNone asked = (n : ℕ) → GivesBack asked n → ⊥
 
-each_given_none : (asked : Event) → GivesNone asked → (claims : List Claim) → AllByRecursion (λ (m : Claim). GivesBack asked m.number → ⊥) claims
+each_given_none : (asked : Event) → GivesNone asked → (claims : List Claim)
+    → AllByRecursion (λ (m : Claim). GivesBack asked m.number → ⊥) claims
 each_given_none asked none [] = tt
 each_given_none asked none (m ∷ claims) = (none m.number, each_given_none asked none claims)
 
@@ -80,10 +89,13 @@ module _ (laws : Laws) (w : World) (old new : Sharing) (reply : Reply) (before :
 
   -- an event that gives no mount back that is held
   ran_same : (asked : Event) → Ran old.held asked reply new.held → new.mounts ≡ old.mounts
-      → AllByRecursion (λ (m : Claim). GivesBack asked m.number → ⊥) old.mounts → IsDoneBeside w old asked reply new
+      → AllByRecursion (λ (m : Claim). GivesBack asked m.number → ⊥) old.mounts
+      → IsDoneBeside w old asked reply new
   ran_same asked (locks.Done backs goes none) same others =
-      Came (comes_same laws w old new asked reply before (behind_whole laws w old.held new.held asked reply backs before.means goes) none same others)
-  ran_same asked (locks.NotBegun stuck is) same others = Stayed is (stays_stuck laws w old new before same stuck)
+      Came (comes_same laws w old new asked reply before
+      (behind_whole laws w old.held new.held asked reply backs before.means goes) none same others)
+  ran_same asked (locks.NotBegun stuck is) same others =
+      Stayed is (stays_stuck laws w old new before same stuck)
 
   -- ---- unmounts
 
@@ -91,32 +103,40 @@ module _ (laws : Laws) (w : World) (old new : Sharing) (reply : Reply) (before :
     held : AllByRecursion (IsMountIn behind.middle.1) old.mounts
     held = held_before laws w old new (Unmount n) reply before behind
 
-    mounts_left : (r : Reply) → reply ≡ r → AllByRecursion (IsMountIn behind.after) (mounts_left_by n r old.mounts)
+    mounts_left : (r : Reply) → reply ≡ r
+        → AllByRecursion (IsMountIn behind.after) (mounts_left_by n r old.mounts)
     mounts_left (Ok answer) is =
-        all_hold laws behind.middle (new.held.layout, behind.after) (Unmount n) reply (without_mount n old.mounts) behind.does
-        (each_so (λ (m : Claim). m.number ≢ n) (λ (m : Claim). GivesBack (Unmount n) m.number → ⊥) (λ m other same. other (sym same))
+        all_hold laws behind.middle (new.held.layout, behind.after) (Unmount n) reply
+        (without_mount n old.mounts) behind.does
+        (each_so (λ (m : Claim). m.number ≢ n) (λ (m : Claim). GivesBack (Unmount n) m.number → ⊥)
+        (λ m other same. other (sym same))
         (without_mount n old.mounts) (left_others n old.mounts differ))
         (left_so (IsMountIn behind.middle.1) n old.mounts held)
     mounts_left (Err e) is =
         let still = back_refused behind.middle (new.held.layout, behind.after) n e
-        (subst (λ (r : Reply). DoesIn shared behind.middle (Unmount n) r (new.held.layout, behind.after)) is behind.does) in
+        (subst (λ (r : Reply). DoesIn shared behind.middle (Unmount n) r (new.held.layout, behind.after)) is
+        behind.does) in
         subst (λ (v : World). AllByRecursion (IsMountIn v) old.mounts) (sym still) held
 
     numbers_left : (r : Reply) → DifferAll (map number_of (mounts_left_by n r old.mounts))
     numbers_left (Ok answer) = left_differ n old.mounts differ
     numbers_left (Err e) = differ
 
-    back_comes : new.held.lost ≡ None → new.mounts ≡ mounts_left_by n reply old.mounts → ComesBeside w old (Unmount n) reply new
+    back_comes : new.held.lost ≡ None → new.mounts ≡ mounts_left_by n reply old.mounts
+        → ComesBeside w old (Unmount n) reply new
     back_comes none same =
         comes_clear laws w old new (Unmount n) reply before behind none
         (subst (AllByRecursion (IsMountIn behind.after)) (sym same) (mounts_left reply refl))
         (subst (λ (claims : List Claim). DifferAll (map number_of claims)) (sym same) (numbers_left reply))
 
-  ran_back : (n : ℕ) → Ran old.held (Unmount n) reply new.held → new.mounts ≡ mounts_left_by n reply old.mounts → IsDoneBeside w old (Unmount n) reply new
+  ran_back : (n : ℕ) → Ran old.held (Unmount n) reply new.held
+      → new.mounts ≡ mounts_left_by n reply old.mounts → IsDoneBeside w old (Unmount n) reply new
   ran_back n (locks.Done backs goes none) same =
-      Came (back_comes n (behind_whole laws w old.held new.held (Unmount n) reply backs before.means goes) none same)
+      Came (back_comes n
+      (behind_whole laws w old.held new.held (Unmount n) reply backs before.means goes) none same)
   ran_back n (locks.NotBegun stuck is) same =
-      Stayed is (stays_stuck laws w old new before (same ∙ ap (λ (r : Reply). mounts_left_by n r old.mounts) is) stuck)
+      Stayed is (stays_stuck laws w old new before
+      (same ∙ ap (λ (r : Reply). mounts_left_by n r old.mounts) is) stuck)
 
   -- ---- mounts
 
@@ -128,13 +148,16 @@ module _ (laws : Laws) (w : World) (old new : Sharing) (reply : Reply) (before :
     were = held_before laws w old new (Mount k) (mount_reply n) before behind
 
     are : AllByRecursion (IsMountIn behind.after) old.mounts
-    are = all_hold laws behind.middle b (Mount k) (mount_reply n) old.mounts behind.does (none_given old.mounts) were
+    are =
+        all_hold laws behind.middle b (Mount k) (mount_reply n) old.mounts behind.does
+        (none_given old.mounts) were
 
     -- the number is none of theirs
     new_number : AllByRecursion (λ (m : Claim). m.number ≢ n) old.mounts
     new_number =
         each_so (IsMountIn behind.middle.1) (λ (m : Claim). m.number ≢ n)
-        (λ m held. mount_is_new laws behind.middle b k n behind.does behind.means.world m held) old.mounts were
+        (λ m held. mount_is_new laws behind.middle b k n behind.does behind.means.world m held) old.mounts
+        were
 
     -- the mount is held
     mount_held : (m : Claim) → m.number ≡ n → m.checkpoint ≡ k → MountsCopy new.held m → new.held.lost ≡ None
@@ -142,17 +165,22 @@ module _ (laws : Laws) (w : World) (old new : Sharing) (reply : Reply) (before :
     mount_held m number checkpoint copy none same =
         let found = mount_found laws behind.middle b k n behind.does behind.means.world in
         let one : IsMountIn behind.after m = record {
-          mounted = ap (λ (j : ℕ). find nat_cmp j behind.after.mounts) number ∙ (found ∙ ap (λ (j : ℕ). Some j) (sym checkpoint));
+          mounted =
+              ap (λ (j : ℕ). find nat_cmp j behind.after.mounts) number
+              ∙ (found ∙ ap (λ (j : ℕ). Some j) (sym checkpoint));
           told = copy behind.after behind.does.means;
         } in
         let others : AllByRecursion (λ (c : Claim). c.number ≢ m.number) old.mounts =
         subst (λ (j : ℕ). AllByRecursion (λ (c : Claim). c.number ≢ j) old.mounts) (sym number) new_number in
         comes_clear laws w old new (Mount k) (mount_reply n) before behind none
-        (subst (AllByRecursion (IsMountIn behind.after)) (sym same) (all_and_one (IsMountIn behind.after) old.mounts m are one))
-        (subst (λ (claims : List Claim). DifferAll (map number_of claims)) (sym same) (differ_more old.mounts m differ others))
+        (subst (AllByRecursion (IsMountIn behind.after)) (sym same)
+        (all_and_one (IsMountIn behind.after) old.mounts m are one))
+        (subst (λ (claims : List Claim). DifferAll (map number_of claims)) (sym same)
+        (differ_more old.mounts m differ others))
 
     -- or it is lost
-    mount_lost : new.held.lost ≡ Some n → new.mounts ≡ old.mounts → ComesBeside w old (Mount k) (mount_reply n) new
+    mount_lost : new.held.lost ≡ Some n → new.mounts ≡ old.mounts
+        → ComesBeside w old (Mount k) (mount_reply n) new
     mount_lost lost same =
         comes_behind laws w old new (Mount k) (mount_reply n) before behind
         (subst (AllByRecursion (IsMountIn behind.after)) (sym same) are)
@@ -160,10 +188,13 @@ module _ (laws : Laws) (w : World) (old new : Sharing) (reply : Reply) (before :
         (differ_some new.held.lost n old.mounts lost differ new_number))
 
   mount_made : (k : ℕ) (m : Claim) → reply ≡ mount_reply m.number → m.checkpoint ≡ k → MountsCopy new.held m
-      → new.mounts ≡ old.mounts ++ m ∷ [] → MountRan old.held k (Ok m.number) new.held → IsDoneBeside w old (Mount k) reply new
+      → new.mounts ≡ old.mounts ++ m ∷ [] → MountRan old.held k (Ok m.number) new.held
+      → IsDoneBeside w old (Mount k) reply new
   mount_made k m is of copy same (locks.Mounted clear n begun goes result all none) =
       let number : m.number ≡ n = cc result in
-      let behind = behind_ready laws w old.held clear new.held (Mount k) (mount_reply n) before.means begun.ready goes in
+      let behind =
+      behind_ready laws w old.held clear new.held (Mount k)
+      (mount_reply n) before.means begun.ready goes in
       Came (subst (λ (r : Reply). ComesBeside w old (Mount k) r new) (sym (is ∙ ap mount_reply number))
       (mount_held k n behind m number of copy none same))
   mount_made k m is of copy same (locks.Lost clear n begun goes result lost) = absurd (cc result)
@@ -171,18 +202,24 @@ module _ (laws : Laws) (w : World) (old new : Sharing) (reply : Reply) (before :
   mount_made k m is of copy same (locks.Pending ready apart result) = absurd (cc result)
   mount_made k m is of copy same (locks.Stuck stuck result) = absurd (cc result)
 
-  mount_refused : (k : ℕ) (e : VolError) → reply ≡ Err e → new.mounts ≡ old.mounts → MountRan old.held k (Err e) new.held
+  mount_refused : (k : ℕ) (e : VolError) → reply ≡ Err e → new.mounts ≡ old.mounts
+      → MountRan old.held k (Err e) new.held
       → IsDoneBeside w old (Mount k) reply new
   mount_refused k e is same (locks.Mounted clear n begun goes result all none) = absurd (cc result)
   mount_refused k e is same (locks.Lost clear n begun goes result lost) =
       let memory : e ≡ Memory = cc result in
-      let behind = behind_ready laws w old.held clear new.held (Mount k) (mount_reply n) before.means begun.ready goes in
+      let behind =
+      behind_ready laws w old.held clear new.held (Mount k)
+      (mount_reply n) before.means begun.ready goes in
       MountLost k n refl (is ∙ ap (λ (x : VolError). Err x) memory) lost (mount_lost k n behind lost same)
   mount_refused k e is same (locks.Refused clear x begun goes result) =
       let error : e ≡ x = cc result in
-      let behind = behind_ready laws w old.held clear new.held (Mount k) (Err x) before.means begun.ready goes.0 in
-      Came (subst (λ (r : Reply). ComesBeside w old (Mount k) r new) (sym (is ∙ ap (λ (y : VolError). Err y) error))
-      (comes_same laws w old new (Mount k) (Err x) before behind (goes.1 ∙ begun.ready.lost) same (none_given old.mounts)))
+      let behind =
+      behind_ready laws w old.held clear new.held (Mount k) (Err x) before.means begun.ready goes.0 in
+      Came (subst (λ (r : Reply). ComesBeside w old (Mount k) r new)
+      (sym (is ∙ ap (λ (y : VolError). Err y) error))
+      (comes_same laws w old new (Mount k) (Err x) before behind (goes.1 ∙ begun.ready.lost) same
+      (none_given old.mounts)))
   mount_refused k e is same (locks.Pending ready apart result) =
       let memory : e ≡ Memory = cc result in
       Stayed (is ∙ ap (λ (x : VolError). Err x) memory) (stays_ready laws w old new before same ready)
@@ -199,67 +236,95 @@ module _ (laws : Laws) (w : World) (old new : Sharing) (reply : Reply) (before :
 
   read_comes : (n : ℕ) (ask : Ask) → ReadComes old n ask reply new → IsAnswered (event.MountRead n ask)
   read_comes n ask (inl told) =
-      inl (held_told w old n ask reply before (mount_of n old.mounts) refl told.1, subst (IsBeside w) (sym told.0) before)
+      inl (
+        held_told w old n ask reply before (mount_of n old.mounts) refl told.1,
+        subst (IsBeside w) (sym told.0) before,
+      )
   read_comes n ask (inr ran) = inr (ran_same (event.MountRead n ask) ran.0 ran.1 (none_given old.mounts))
 
   -- ---- the others
 
-  other_comes : (asked : Event) → GivesNone asked → Ran old.held asked reply new.held × (new.mounts ≡ old.mounts)
+  other_comes : (asked : Event) → GivesNone asked
+      → Ran old.held asked reply new.held × (new.mounts ≡ old.mounts)
       → IsAnswered asked
   other_comes asked none ran = inr (ran_same asked ran.0 ran.1 (each_given_none asked none old.mounts))
 
 pub events_follow : Laws → SharedEventsFollowWorlds
-events_follow laws w old new (Mount k) reply before does = inr (mount_comes laws w old new reply before k does)
-events_follow laws w old new (Unmount n) reply before does = inr (ran_back laws w old new reply before n does.0 does.1)
-events_follow laws w old new (event.MountRead n ask) reply before does = read_comes laws w old new reply before n ask does
-events_follow laws w old new (event.Apply change) reply before does = other_comes laws w old new reply before (event.Apply change) (λ n no. no) does
-events_follow laws w old new (event.Read ask) reply before does = other_comes laws w old new reply before (event.Read ask) (λ n no. no) does
-events_follow laws w old new (event.Checkpoint mode now) reply before does = other_comes laws w old new reply before (event.Checkpoint mode now) (λ n no. no) does
-events_follow laws w old new (event.ChangeMode n mode) reply before does = other_comes laws w old new reply before (event.ChangeMode n mode) (λ n no. no) does
-events_follow laws w old new (event.Remove n) reply before does = other_comes laws w old new reply before (event.Remove n) (λ n no. no) does
-events_follow laws w old new (event.RemoveRange first last) reply before does = other_comes laws w old new reply before (event.RemoveRange first last) (λ n no. no) does
-events_follow laws w old new (event.Expire now period) reply before does = other_comes laws w old new reply before (event.Expire now period) (λ n no. no) does
-events_follow laws w old new (event.Move segment limit now) reply before does = other_comes laws w old new reply before (event.Move segment limit now) (λ n no. no) does
-events_follow laws w old new (event.Retire segment) reply before does = other_comes laws w old new reply before (event.Retire segment) (λ n no. no) does
-events_follow laws w old new (event.Resize segments) reply before does = other_comes laws w old new reply before (event.Resize segments) (λ n no. no) does
-events_follow laws w old new (event.Listing options) reply before does = other_comes laws w old new reply before (event.Listing options) (λ n no. no) does
+events_follow laws w old new (Mount k) reply before does =
+    inr (mount_comes laws w old new reply before k does)
+events_follow laws w old new (Unmount n) reply before does =
+    inr (ran_back laws w old new reply before n does.0 does.1)
+events_follow laws w old new (event.MountRead n ask) reply before does =
+    read_comes laws w old new reply before n ask does
+events_follow laws w old new (event.Apply change) reply before does =
+    other_comes laws w old new reply before (event.Apply change) (λ n no. no) does
+events_follow laws w old new (event.Read ask) reply before does =
+    other_comes laws w old new reply before (event.Read ask) (λ n no. no) does
+events_follow laws w old new (event.Checkpoint mode now) reply before does =
+    other_comes laws w old new reply before (event.Checkpoint mode now) (λ n no. no) does
+events_follow laws w old new (event.ChangeMode n mode) reply before does =
+    other_comes laws w old new reply before (event.ChangeMode n mode) (λ n no. no) does
+events_follow laws w old new (event.Remove n) reply before does =
+    other_comes laws w old new reply before (event.Remove n) (λ n no. no) does
+events_follow laws w old new (event.RemoveRange first last) reply before does =
+    other_comes laws w old new reply before (event.RemoveRange first last) (λ n no. no) does
+events_follow laws w old new (event.Expire now period) reply before does =
+    other_comes laws w old new reply before (event.Expire now period) (λ n no. no) does
+events_follow laws w old new (event.Move segment limit now) reply before does =
+    other_comes laws w old new reply before (event.Move segment limit now) (λ n no. no) does
+events_follow laws w old new (event.Retire segment) reply before does =
+    other_comes laws w old new reply before (event.Retire segment) (λ n no. no) does
+events_follow laws w old new (event.Resize segments) reply before does =
+    other_comes laws w old new reply before (event.Resize segments) (λ n no. no) does
+events_follow laws w old new (event.Listing options) reply before does =
+    other_comes laws w old new reply before (event.Listing options) (λ n no. no) does
 
 -- ---- steps of rounds: none gives a mount back
 
 cleaning_gives_none : (l : Layout) (segment now : ℕ) → GivesNone (cleaning_event l segment now)
 cleaning_gives_none l segment now = elim (needed_count l.store (needed_by l.lists) segment == 0)
-    as (λ b. GivesNone (if b then event.Retire segment else event.Move segment 30 now)) [ true ↦ λ n no. no | false ↦ λ n no. no ]
+    as (λ b. GivesNone (if b then event.Retire segment else event.Move segment 30 now))
+    [ true ↦ λ n no. no | false ↦ λ n no. no ]
 
-left_gives_none : (left : List ℕ) (now : ℕ) (l : Layout) (asked : Event) → next_cleaning left now l ≡ Some asked → GivesNone asked
+left_gives_none : (left : List ℕ) (now : ℕ) (l : Layout) (asked : Event)
+    → next_cleaning left now l ≡ Some asked → GivesNone asked
 left_gives_none [] now l asked is = absurd (cc is)
 left_gives_none (segment ∷ rest) now l asked is =
     subst GivesNone (same_Some (cleaning_event l segment now) asked is) (cleaning_gives_none l segment now)
 
-next_gives_none : (stage : Stage) (job : JobView) (l : Layout) (asked : Event) → next_by stage job l ≡ Some asked → GivesNone asked
-next_gives_none Expiring job l asked is = subst GivesNone (same_Some (event.Expire job.moment job.period) asked is) (λ n no. no)
+next_gives_none : (stage : Stage) (job : JobView) (l : Layout) (asked : Event)
+    → next_by stage job l ≡ Some asked → GivesNone asked
+next_gives_none Expiring job l asked is =
+    subst GivesNone (same_Some (event.Expire job.moment job.period) asked is) (λ n no. no)
 next_gives_none Cleaning job l asked is = left_gives_none job.left job.moment l asked is
 next_gives_none Ended job l asked is = absurd (cc is)
 
-stepped : (laws : Laws) (w : World) (old new : Sharing) (job next : JobView) (reply : Option Reply) → IsBeside w old → CleanRan old.held job reply new.held next
+stepped : (laws : Laws) (w : World) (old new : Sharing) (job next : JobView) (reply : Option Reply)
+    → IsBeside w old → CleanRan old.held job reply new.held next
     → new.mounts ≡ old.mounts → IsSteppedBeside w old job reply new
-stepped laws w old new job next reply before (cleaning.Stepped begun asked answer ready is goes replied now) same =
+stepped laws w old new job next reply before
+    (cleaning.Stepped begun asked answer ready is goes replied now) same =
     let behind = behind_ready laws w old.held begun new.held asked answer before.means ready goes.0 in
-    Next begun.layout asked answer is replied (comes_same laws w old new asked answer before behind (goes.1 ∙ ready.lost) same
+    Next begun.layout asked answer is replied
+    (comes_same laws w old new asked answer before behind (goes.1 ∙ ready.lost) same
     (each_given_none asked (next_gives_none job.stage job begun.layout asked is) old.mounts))
 stepped laws w old new job next reply before (cleaning.Over ready is replied now) same =
     NoNext (inl replied) (stays_ready laws w old new before same ready)
 stepped laws w old new job next reply before (cleaning.NotBegun stuck replied now) same =
     NoNext (inr replied) (stays_stuck laws w old new before same stuck)
 
-over : (w : World) (old new : Sharing) (job next : JobView) (reply : Option Reply) → IsBeside w old → IsRoundOver old.held job reply new.held next
+over : (w : World) (old new : Sharing) (job next : JobView) (reply : Option Reply) → IsBeside w old
+    → IsRoundOver old.held job reply new.held next
     → new.mounts ≡ old.mounts → IsSteppedBeside w old job reply new
 over w old new job next reply before round same =
     let still : new ≡ old = λ i. record { held = round.2 i; mounts = same i } in
     NoNext (inl round.1) (stays_so w old new before still)
 
 pub steps_follow : Laws → SharedStepsFollowWorlds
-steps_follow laws w old new job next reply before (inl round, same) = over w old new job next reply before round same
-steps_follow laws w old new job next reply before (inr ran, same) = stepped laws w old new job next reply before ran same
+steps_follow laws w old new job next reply before (inl round, same) =
+    over w old new job next reply before round same
+steps_follow laws w old new job next reply before (inr ran, same) =
+    stepped laws w old new job next reply before ran same
 
 -- ---- volumes as sessions begin with them
 

@@ -21,7 +21,8 @@ abbrev pub RunsIn : Beside → List Event → List Reply → Beside → Type 0
 RunsIn a events replies b = Run (DoesIn shared) a events replies b
 
 -- the last event of a run
-split : (a c : Beside) (es : List Event) (e : Event) (rs : List Reply) (r : Reply) → RunsIn a (es ++ e ∷ []) (rs ++ r ∷ []) c
+split : (a c : Beside) (es : List Event) (e : Event) (rs : List Reply) (r : Reply)
+    → RunsIn a (es ++ e ∷ []) (rs ++ r ∷ []) c
     → (b : Beside) × RunsIn a es rs b × DoesIn shared b e r c
 split a c [] e [] r run = (a, refl, subst (λ (s : Beside). DoesIn shared a e r s) (sym run.2) run.1)
 split a c (x ∷ es) e (y ∷ rs) r run =
@@ -35,14 +36,18 @@ split a c (x ∷ z ∷ es) e [] r run = absurd run.2
 -- ---- give-backs
 
 -- the give-back of a lost mount leaves all that are held
-back_holds : (laws : Laws) (lost : Option ℕ) (a b : Beside) (replies : List Reply) (claims : List Claim) → RunsIn a (given_back lost) replies b
-    → DifferAll (listed lost ++ map number_of claims) → AllByRecursion (IsMountIn a.1) claims → AllByRecursion (IsMountIn b.1) claims
-back_holds laws None a b [] claims run differ before = subst (λ (s : Beside). AllByRecursion (IsMountIn s.1) claims) (sym run) before
+back_holds : (laws : Laws) (lost : Option ℕ) (a b : Beside) (replies : List Reply) (claims : List Claim)
+    → RunsIn a (given_back lost) replies b
+    → DifferAll (listed lost ++ map number_of claims) → AllByRecursion (IsMountIn a.1) claims
+    → AllByRecursion (IsMountIn b.1) claims
+back_holds laws None a b [] claims run differ before =
+    subst (λ (s : Beside). AllByRecursion (IsMountIn s.1) claims) (sym run) before
 back_holds laws None a b (r ∷ rs) claims run differ before = absurd run
 back_holds laws (Some n) a b [] claims run differ before = absurd run
 back_holds laws (Some n) a b (r ∷ []) claims run differ before =
     let held = all_hold laws a run.0 (Unmount n) r claims run.1
-    (each_so (λ (m : Claim). m.number ≢ n) (λ (m : Claim). GivesBack (Unmount n) m.number → ⊥) (λ m other same. other (sym same)) claims
+    (each_so (λ (m : Claim). m.number ≢ n) (λ (m : Claim). GivesBack (Unmount n) m.number → ⊥)
+    (λ m other same. other (sym same)) claims
     (none_is_lost (Some n) n claims refl differ)) before in
     subst (λ (s : Beside). AllByRecursion (IsMountIn s.1) claims) (sym run.2) held
 back_holds laws (Some n) a b (r ∷ q ∷ rs) claims run differ before = absurd run.2
@@ -59,18 +64,26 @@ pub record IsBehind (w : World) (old : HeldPen) (event : Event) (reply : Reply) 
   -- the world before the event is one too
   pub means : MeansWorld middle.0 middle.1
 
-back_means : (a b : Beside) (events : List Event) (replies : List Reply) → RunsIn a events replies b → MeansWorld a.0 a.1 → MeansWorld b.0 b.1
+back_means : (a b : Beside) (events : List Event) (replies : List Reply) → RunsIn a events replies b
+    → MeansWorld a.0 a.1 → MeansWorld b.0 b.1
 back_means a b [] [] run means = subst (λ (s : Beside). MeansWorld s.0 s.1) (sym run) means
 back_means a b (e ∷ es) (r ∷ rs) run means = back_means run.0 b es rs run.2 run.1.means
 back_means a b [] (r ∷ rs) run means = absurd run
 back_means a b (e ∷ es) [] run means = absurd run
 
 -- one run of both
-pub behind_whole : (laws : Laws) (w : World) (old new : HeldPen) (event : Event) (reply : Reply) (backs : List Answer) → MeansWorld old.layout w
-    → Goes old (given_back old.lost ++ event ∷ []) (as_replies backs ++ reply ∷ []) new → IsBehind w old event reply new
+pub behind_whole : (laws : Laws) (w : World) (old new : HeldPen) (event : Event) (reply : Reply)
+    (backs : List Answer)
+    → MeansWorld old.layout w
+    → Goes old (given_back old.lost ++ event ∷ []) (as_replies backs ++ reply ∷ []) new
+    → IsBehind w old event reply new
 behind_whole laws w old new event reply backs means goes =
-    let leads = laws.leads old new (given_back old.lost ++ event ∷ []) (as_replies backs ++ reply ∷ []) goes w means in
-    let parts = split (old.layout, w) (new.layout, leads.after) (given_back old.lost) event (as_replies backs) reply leads.run in
+    let leads =
+    laws.leads old new (given_back old.lost ++ event ∷ [])
+    (as_replies backs ++ reply ∷ []) goes w means in
+    let parts =
+    split (old.layout, w) (new.layout, leads.after) (given_back old.lost) event
+    (as_replies backs) reply leads.run in
     record {
       backs = backs;
       middle = parts.0;
@@ -81,7 +94,8 @@ behind_whole laws w old new event reply backs means goes =
     }
 
 -- a run of each
-pub behind_ready : (laws : Laws) (w : World) (old clear new : HeldPen) (event : Event) (reply : Reply) → MeansWorld old.layout w → IsReady old clear
+pub behind_ready : (laws : Laws) (w : World) (old clear new : HeldPen) (event : Event) (reply : Reply)
+    → MeansWorld old.layout w → IsReady old clear
     → Goes clear (event ∷ []) (reply ∷ []) new → IsBehind w old event reply new
 behind_ready laws w old clear new event reply means ready goes =
     let first = laws.leads old clear (given_back old.lost) (as_replies ready.backs) ready.goes w means in
@@ -91,51 +105,64 @@ behind_ready laws w old clear new event reply means ready goes =
       middle = (clear.layout, first.after);
       after = then.after;
       begins = first.run;
-      does = subst (λ (s : Beside). DoesIn shared (clear.layout, first.after) event reply s) (sym then.run.2) then.run.1;
+      does =
+          subst (λ (s : Beside). DoesIn shared (clear.layout, first.after) event reply s)
+          (sym then.run.2) then.run.1;
       means = first.means;
     }
 
-module _ (laws : Laws) (w : World) (old new : Sharing) (event : Event) (reply : Reply) (before : IsBeside w old)
+module _ (laws : Laws) (w : World) (old new : Sharing) (event : Event) (reply : Reply)
+    (before : IsBeside w old)
     (behind : IsBehind w old.held event reply new.held) where
   -- the mounts that were held are there before the event
   pub held_before : AllByRecursion (IsMountIn behind.middle.1) old.mounts
   held_before =
-      back_holds laws old.held.lost (old.held.layout, w) behind.middle (as_replies behind.backs) old.mounts behind.begins before.numbers before.mounts
+      back_holds laws old.held.lost (old.held.layout, w) behind.middle
+      (as_replies behind.backs) old.mounts behind.begins before.numbers before.mounts
 
   -- so the event comes behind, where the mounts that are held then are there
-  pub comes_behind : AllByRecursion (IsMountIn behind.after) new.mounts → DifferAll (listed new.held.lost ++ map number_of new.mounts)
+  pub comes_behind : AllByRecursion (IsMountIn behind.after) new.mounts
+      → DifferAll (listed new.held.lost ++ map number_of new.mounts)
       → ComesBeside w old event reply new
   comes_behind mounts numbers = (
     behind.backs,
     record {
       after = behind.after;
-      run = Run-more (DoesIn shared) (old.held.layout, w) behind.middle (new.held.layout, behind.after) (given_back old.held.lost)
+      run =
+          Run-more (DoesIn shared) (old.held.layout, w) behind.middle (new.held.layout, behind.after)
+          (given_back old.held.lost)
           (as_replies behind.backs) event reply behind.begins behind.does;
       beside = record { means = behind.does.means; mounts = mounts; numbers = numbers };
     },
   )
 
   -- where nothing is lost then
-  pub comes_clear : new.held.lost ≡ None → AllByRecursion (IsMountIn behind.after) new.mounts → DifferAll (map number_of new.mounts)
+  pub comes_clear : new.held.lost ≡ None → AllByRecursion (IsMountIn behind.after) new.mounts
+      → DifferAll (map number_of new.mounts)
       → ComesBeside w old event reply new
-  comes_clear none mounts numbers = comes_behind mounts (differ_none new.held.lost (map number_of new.mounts) none numbers)
+  comes_clear none mounts numbers =
+      comes_behind mounts (differ_none new.held.lost (map number_of new.mounts) none numbers)
 
   -- and the event gives none of them back
   pub comes_same : new.held.lost ≡ None → new.mounts ≡ old.mounts
-      → AllByRecursion (λ (m : Claim). GivesBack event m.number → ⊥) old.mounts → ComesBeside w old event reply new
+      → AllByRecursion (λ (m : Claim). GivesBack event m.number → ⊥) old.mounts
+      → ComesBeside w old event reply new
   comes_same none same others =
       comes_clear none
       (subst (AllByRecursion (IsMountIn behind.after)) (sym same)
-      (all_hold laws behind.middle (new.held.layout, behind.after) event reply old.mounts behind.does others held_before))
+      (all_hold laws behind.middle
+      (new.held.layout, behind.after) event reply old.mounts behind.does others held_before))
       (subst (λ (claims : List Claim). DifferAll (map number_of claims)) (sym same)
       (differ_rest old.held.lost (map number_of old.mounts) before.numbers))
 
 -- ---- runs without an event
 
-module _ (laws : Laws) (w : World) (old new : Sharing) (before : IsBeside w old) (same : new.mounts ≡ old.mounts) where
+module _ (laws : Laws) (w : World) (old new : Sharing) (before : IsBeside w old)
+    (same : new.mounts ≡ old.mounts) where
   -- just a give-back
   pub leads_back : (replies : List Reply) → Goes old.held (given_back old.held.lost) replies new.held
-      → DifferAll (listed new.held.lost ++ map number_of old.mounts) → LeadsBeside w old (given_back old.held.lost) replies new
+      → DifferAll (listed new.held.lost ++ map number_of old.mounts)
+      → LeadsBeside w old (given_back old.held.lost) replies new
   leads_back replies goes numbers =
       let leads = laws.leads old.held new.held (given_back old.held.lost) replies goes w before.means in
       record {
@@ -144,8 +171,11 @@ module _ (laws : Laws) (w : World) (old new : Sharing) (before : IsBeside w old)
         beside = record {
           means = leads.means;
           mounts = subst (AllByRecursion (IsMountIn leads.after)) (sym same)
-              (back_holds laws old.held.lost (old.held.layout, w) (new.held.layout, leads.after) replies old.mounts leads.run before.numbers before.mounts);
-          numbers = subst (λ (claims : List Claim). DifferAll (listed new.held.lost ++ map number_of claims)) (sym same) numbers;
+              (back_holds laws old.held.lost (old.held.layout, w)
+              (new.held.layout, leads.after) replies old.mounts leads.run before.numbers before.mounts);
+          numbers =
+              subst (λ (claims : List Claim). DifferAll (listed new.held.lost ++ map number_of claims))
+              (sym same) numbers;
         };
       }
 
@@ -154,7 +184,8 @@ module _ (laws : Laws) (w : World) (old new : Sharing) (before : IsBeside w old)
   stays_ready ready = inr (
     as_replies ready.backs,
     leads_back (as_replies ready.backs) ready.goes
-        (differ_none new.held.lost (map number_of old.mounts) ready.lost (differ_rest old.held.lost (map number_of old.mounts) before.numbers)),
+        (differ_none new.held.lost (map number_of old.mounts) ready.lost
+        (differ_rest old.held.lost (map number_of old.mounts) before.numbers)),
   )
 
   -- its give-back was refused
@@ -162,8 +193,10 @@ module _ (laws : Laws) (w : World) (old new : Sharing) (before : IsBeside w old)
   stays_stuck stuck = inr (
     Err stuck.error ∷ [],
     leads_back (Err stuck.error ∷ [])
-        (subst (λ (o : Option ℕ). Goes old.held (given_back o) (Err stuck.error ∷ []) new.held) (sym stuck.was) stuck.goes.0)
-        (subst (λ (o : Option ℕ). DifferAll (listed o ++ map number_of old.mounts)) (sym stuck.goes.1) before.numbers),
+        (subst (λ (o : Option ℕ). Goes old.held (given_back o) (Err stuck.error ∷ []) new.held)
+        (sym stuck.was) stuck.goes.0)
+        (subst (λ (o : Option ℕ). DifferAll (listed o ++ map number_of old.mounts))
+        (sym stuck.goes.1) before.numbers),
   )
 
 -- nothing at all

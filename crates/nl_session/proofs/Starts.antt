@@ -9,7 +9,8 @@ use Rattle.nl_session.specs.Beginnings.{AsksToBegin, Beginning, IsBegunBy, IsGeo
 use Rattle.nl_session.specs.declared.starting.StartFault.TheVariants.{Refused}
 
 -- a volume that is begun was judged
-judged_by : (arguments : Arguments) (beginning : Beginning) → AsksToBegin arguments beginning → IsGeometryJudged arguments
+judged_by : (arguments : Arguments) (beginning : Beginning) → AsksToBegin arguments beginning
+    → IsGeometryJudged arguments
 judged_by arguments (New geometry) asked = inr asked.within
 judged_by arguments (Kept image) asked = inl asked
 
@@ -17,6 +18,7 @@ judged : (arguments : Arguments) (l : Layout) → IsBegunBy arguments l → IsGe
 judged arguments l begun = judged_by arguments begun.beginning begun.asked
 
 -- what is refused then is refused to the start
-pub no_memory : (arguments : Arguments) (l : Layout) (error : VolError) → IsBegunBy arguments l → error ≡ Memory
+pub no_memory : (arguments : Arguments) (l : Layout) (error : VolError) → IsBegunBy arguments l
+    → error ≡ Memory
     → IsStartFault arguments (Refused step.Start error)
 no_memory arguments l error begun is = (judged arguments l begun, inl is)

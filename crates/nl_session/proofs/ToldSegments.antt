@@ -16,11 +16,14 @@ pub told-each : {A : Type 0} (told : List A) (segment : ℕ) (error : VolError) 
     → Err error ≡ ok_or (slice_get told segment) BadRange → ⊥
 told-each [] segment error within refused = absurd (omega (arith, within))
 told-each (x ∷ told) zero error within refused = cc
-told-each (x ∷ told) (suc segment) error within refused = told-each told segment error (omega (arith, within)) refused
+told-each (x ∷ told) (suc segment) error within refused =
+    told-each told segment error (omega (arith, within)) refused
 
 -- nor are its needed blocks
 pub told-needed : (l : Layout) (segment : ℕ) (error : VolError) → segment < length l.store.segments.each
     → Err error ≡ needed_told l segment → ⊥
 told-needed l segment error within refused =
-    let count = length-map-range_with_len (needed_count l.store (needed_by l.lists)) 0 (length l.store.segments.each) in
+    let count =
+    length-map-range_with_len (needed_count l.store (needed_by l.lists)) 0
+    (length l.store.segments.each) in
     told-each (needed_counts l.store (needed_by l.lists)) segment error (omega (arith, within, count)) refused

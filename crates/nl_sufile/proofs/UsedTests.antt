@@ -14,18 +14,26 @@ use Rattle.nl_types.specs.Facts.SegmentChanges.{room_of}
 use Rattle.nl_sufile.specs.Table.{IsSegTable}
 
 -- a used block's segment and position are told by division
-used_parts : (s : Segments) (b : ℕ) → IsSegTable s → IsUsed s b → b % s.blocks < (info_of s.each (b / s.blocks)).used
+used_parts : (s : Segments) (b : ℕ) → IsSegTable s → IsUsed s b
+    → b % s.blocks < (info_of s.each (b / s.blocks)).used
 used_parts s b is (p, at, low) =
     let room = room_of s.blocks s.each is.tidy.each p.segment in
     let inside : p.block < s.blocks = omega (arith, low, room) in
-    let segment : b / s.blocks ≡ p.segment = ap (λ (n : ℕ). n / s.blocks) at ∙ div-mul-add p.segment s.blocks p.block inside in
-    let position : b % s.blocks ≡ p.block = ap (λ (n : ℕ). n % s.blocks) at ∙ mod-mul-add p.segment s.blocks p.block inside in
+    let segment : b / s.blocks ≡ p.segment =
+    ap (λ (n : ℕ). n / s.blocks) at ∙ div-mul-add p.segment s.blocks p.block inside in
+    let position : b % s.blocks ≡ p.block =
+    ap (λ (n : ℕ). n % s.blocks) at ∙ mod-mul-add p.segment s.blocks p.block inside in
     rw (segment, position) low
 
-pub used_test : (s : Segments) (b r n used : ℕ) → IsSegTable s → r ≡ b → n ≡ s.blocks → used ≡ (info_of s.each (b / s.blocks)).used
+pub used_test : (s : Segments) (b r n used : ℕ) → IsSegTable s → r ≡ b → n ≡ s.blocks
+    → used ≡ (info_of s.each (b / s.blocks)).used
     → (IsTrue (ltb (r % n) used) → IsUsed s b) × (IsUsed s b → IsTrue (ltb (r % n) used))
 used_test s b r n used is same blocks told = rw (same, blocks, told) (
-  λ t. (record { segment = b / s.blocks; block = b % s.blocks }, whole, ltb-true (b % s.blocks) (info_of s.each (b / s.blocks)).used t),
+  λ t. (
+    record { segment = b / s.blocks; block = b % s.blocks },
+    whole,
+    ltb-true (b % s.blocks) (info_of s.each (b / s.blocks)).used t,
+  ),
   λ u. lt-ltb (b % s.blocks) (info_of s.each (b / s.blocks)).used (used_parts s b is u),
 )
   where
@@ -41,7 +49,9 @@ pub not_used : (s : Segments) (b : ℕ) → IsSegTable s → slice_get s.each (b
 not_used s b is none u =
     elim ((slice_get_cases s.each (b / s.blocks)).1) [
       | inl found ↦ cc (found.2)
-      | inr past ↦ let clean : (info_of s.each (b / s.blocks)).used ≡ 0 = ap (λ (info : SegmentInfo). info.used) (get_or_past s.each (b / s.blocks) clean_info past.0) in
+      | inr past ↦
+          let clean : (info_of s.each (b / s.blocks)).used ≡ 0 =
+          ap (λ (info : SegmentInfo). info.used) (get_or_past s.each (b / s.blocks) clean_info past.0) in
           let low = used_parts s b is u in
           omega (arith, clean, low)
     ]

@@ -26,16 +26,21 @@ use Rattle.nl_files.specs.TreeLaws.{StandsOverLatest}
 use Rattle.nl_files.specs.Facts.TreeLaws.{settled_trees-go_on, trees-can_be_settled}
 
 -- a call leaves a tree, be it refused or not
-pub call_leaves : (result : Result Answer VolError) (old now : Current) (b : Holding) (called : Changed) (t : Tree)
-    → AnswersCall (λ a. a) result now b called → OnErr result (now ≡ old) → StandsOver old b t → (u : Tree) × StandsOver now b u
+pub call_leaves : (result : Result Answer VolError) (old now : Current) (b : Holding) (called : Changed)
+    (t : Tree)
+    → AnswersCall (λ a. a) result now b called → OnErr result (now ≡ old) → StandsOver old b t
+    → (u : Tree) × StandsOver now b u
 call_leaves (Ok a) old now b called t calls same stands = (calls.tree, calls.stands)
-call_leaves (Err e) old now b called t calls same stands = (t, subst (λ (c : Current). StandsOver c b t) (sym same) stands)
+call_leaves (Err e) old now b called t calls same stands =
+    (t, subst (λ (c : Current). StandsOver c b t) (sym same) stands)
 
 -- a batch that is not written leaves what numbers stand for
-pub refused-keeps : (e : VolError) (checkpoint stamp : ℕ) (batch : Changes) (old new : Store) → IsWriteRefused checkpoint stamp batch old new e → content_in new ≡ content_in old
+pub refused-keeps : (e : VolError) (checkpoint stamp : ℕ) (batch : Changes) (old new : Store)
+    → IsWriteRefused checkpoint stamp batch old new e → content_in new ≡ content_in old
 refused-keeps NoSpace checkpoint stamp batch old new why = ap content_in why.1
 refused-keeps Memory checkpoint stamp batch old new why = ap content_in why
-refused-keeps Fault checkpoint stamp batch old new why = ap (λ (numbers : List (Option Numbered)). content_in (record old { numbers = numbers })) why.numbers
+refused-keeps Fault checkpoint stamp batch old new why =
+    ap (λ (numbers : List (Option Numbered)). content_in (record old { numbers = numbers })) why.numbers
 refused-keeps _ checkpoint stamp batch old new why = absurd why
 
 -- a new store has no number in use
@@ -44,42 +49,59 @@ none_stands zero k = refl
 none_stands (suc n) zero = refl
 none_stands (suc n) (suc k) = none_stands n k
 
-pub new_content-blank : (store : Store) (space : SpaceContent) (failures : Failures) → store ≡ new_store space failures → blank.content ≡ content_in store
+pub new_content-blank : (store : Store) (space : SpaceContent) (failures : Failures)
+    → store ≡ new_store space failures → blank.content ≡ content_in store
 new_content-blank store space failures new = λ k. λ v.
     (sym (ap (λ (s : Store). content_in s v) new ∙ ap (option_map entry_now) (none_stands _ v))) k
 
-module _ (content : Content) (ledger : Ledger) (root : Root) (now : Current) (base : Holding) (tree : Tree) (over : StandsOverLatest ledger root now base tree) (same : ledger.content ≡ content) where
+module _ (content : Content) (ledger : Ledger) (root : Root) (now : Current) (base : Holding) (tree : Tree)
+    (over : StandsOverLatest ledger root now base tree) (same : ledger.content ≡ content) where
   pub latest_holds : HoldsTree (pages_of content) root base
-  latest_holds = subst (λ (c : Content). HoldsTree (pages_of c) root base) same (trees-can_be_settled ledger root now base tree over).holds
+  latest_holds =
+      subst (λ (c : Content). HoldsTree (pages_of c) root base) same
+      (trees-can_be_settled ledger root now base tree over).holds
 
   pub latest_checkpoint : IsCheckpointRoot content root
-  latest_checkpoint = subst (λ (c : Content). IsCheckpointRoot c root) same (trees-can_be_settled ledger root now base tree over).checkpoint
+  latest_checkpoint =
+      subst (λ (c : Content). IsCheckpointRoot c root) same
+      (trees-can_be_settled ledger root now base tree over).checkpoint
 
   pub latest_current : IsCurrent content root now.became base (holding_over now.became base)
-  latest_current = subst (λ (c : Content). IsCurrent c root now.became base (holding_over now.became base)) same (trees-can_be_settled ledger root now base tree over).current
+  latest_current =
+      subst (λ (c : Content). IsCurrent c root now.became base (holding_over now.became base)) same
+      (trees-can_be_settled ledger root now base tree over).current
 
   -- once the batch is written the tree stands over the new checkpoint
-  pub written_goes_on : (room : ℕ) (new : Root) (batch : Changes) (after : Current) → Settles content root new now.became (holding_over now.became base) batch → CanBeTaken room content batch
-      → after ≡ record now { became = [] } → StandsOverLatest (ledger_with batch ledger) new after (holding_over now.became base) tree
+  pub written_goes_on : (room : ℕ) (new : Root) (batch : Changes) (after : Current)
+      → Settles content root new now.became (holding_over now.became base) batch
+      → CanBeTaken room content batch
+      → after ≡ record now { became = [] }
+      → StandsOverLatest (ledger_with batch ledger) new after (holding_over now.became base) tree
   written_goes_on room new batch after settles fits settled =
-      subst (λ (c : Current). StandsOverLatest (ledger_with batch ledger) new c (holding_over now.became base) tree) (sym settled)
+      subst (λ (c : Current).
+      StandsOverLatest (ledger_with batch ledger) new c (holding_over now.became base) tree)
+      (sym settled)
       (settled_trees-go_on room ledger root new now base tree batch over
-      (subst (λ (c : Content). Settles c root new now.became (holding_over now.became base) batch) (sym same) settles)
+      (subst (λ (c : Content). Settles c root new now.became (holding_over now.became base) batch)
+      (sym same) settles)
       (subst (λ (c : Content). CanBeTaken room c batch) (sym same) fits))
 
   -- and the ledger has what the store has
-  pub written_content : (checkpoint : ℕ) (batch : Changes) (after : Content) → ledger.latest ≡ checkpoint → after ≡ written batch.births batch.ends (checkpoint + 1) content
+  pub written_content : (checkpoint : ℕ) (batch : Changes) (after : Content) → ledger.latest ≡ checkpoint
+      → after ≡ written batch.births batch.ends (checkpoint + 1) content
       → (ledger_with batch ledger).content ≡ after
   written_content checkpoint batch after latest is =
       ap (λ (c : Content). written batch.births batch.ends (ledger.latest + 1) c) same
       ∙ (ap (λ (n : ℕ). written batch.births batch.ends (n + 1) content) latest ∙ sym is)
 
 -- a tree in which nothing differs from the checkpoint, with as many names, stands for the same tree
-pub reopened_stands : (now after : Current) (base : Holding) (tree : Tree) → StandsOver now base tree → now.became ≡ after.became → now.names ≡ after.names → CountsFree after base → StandsOver after base tree
+pub reopened_stands : (now after : Current) (base : Holding) (tree : Tree) → StandsOver now base tree
+    → now.became ≡ after.became → now.names ≡ after.names → CountsFree after base → StandsOver after base tree
 reopened_stands now after base tree over became names counts = record {
   sound = subst (λ (b : List (ℕ × Became)). IsHolding (holding_over b base)) became over.sound;
   counts = counts;
   stands = subst (λ (n : ℕ). StandsForTree (holding_over after.became base) tree n) names
-      (subst (λ (b : List (ℕ × Became)). StandsForTree (holding_over b base) tree now.names) became over.stands);
+      (subst
+      (λ (b : List (ℕ × Became)). StandsForTree (holding_over b base) tree now.names) became over.stands);
   few = subst (λ (n : ℕ). n ≤ 524277) names over.few;
 }

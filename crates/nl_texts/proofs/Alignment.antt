@@ -12,23 +12,30 @@ unfolding encode_utf8
 filled zero = refl
 filled (suc n) = ap (λ (t : Text). 32 ∷ t) (filled n)
 
-padded-right : (width : ℕ) (t : Text) → padded_integral (format_spec 32 3 0 width 18446744073709551615) false [] t ≡ right width t
+padded-right : (width : ℕ) (t : Text)
+    → padded_integral (format_spec 32 3 0 width 18446744073709551615) false [] t ≡ right width t
 unfolding padded_integral char_count
 padded-right width t =
     let all : width - length t - 0 - 0 ≡ width - length t = omega arith in
     let none : width - length t - 0 - 0 - (width - length t - 0 - 0) ≡ 0 = omega arith in
     let blank : Text = repeat (width - length t - 0 - 0) (encode_utf8 32) in
-    ap (λ (xs : Text). xs ++ (t ++ repeat (width - length t - 0 - 0 - (width - length t - 0 - 0)) (encode_utf8 32))) (append-nil (blank ++ [] ++ []) ∙ append-nil (blank ++ []) ∙ append-nil blank)
+    ap (λ (xs : Text).
+    xs ++ (t ++ repeat (width - length t - 0 - 0 - (width - length t - 0 - 0)) (encode_utf8 32)))
+    (append-nil (blank ++ [] ++ []) ∙ append-nil (blank ++ []) ∙ append-nil blank)
     ∙ ap (λ (n : ℕ). blank ++ (t ++ repeat n (encode_utf8 32))) none
     ∙ ap (λ (xs : Text). blank ++ xs) (append-nil t)
-    ∙ ap (λ (n : ℕ). repeat n (encode_utf8 32) ++ t) all ∙ ap (λ (xs : Text). xs ++ t) (filled (width - length t))
+    ∙ ap (λ (n : ℕ). repeat n (encode_utf8 32) ++ t) all
+    ∙ ap (λ (xs : Text). xs ++ t) (filled (width - length t))
 
 -- `{number:>width$}`
-pub right-is : (width number : ℕ) → styled_decimal (format_spec 32 3 0 width 18446744073709551615) number ≡ right width (decimal number)
+pub right-is : (width number : ℕ)
+    → styled_decimal (format_spec 32 3 0 width 18446744073709551615) number ≡ right width (decimal number)
 right-is width number = by (width == 0) refl
   where
     by : (bare : Bool) → (width == 0) ≡ bare
-        → cond (bare && true && true) (decimal number) (padded_integral (format_spec 32 3 0 width 18446744073709551615) false [] (decimal number)) ≡ right width (decimal number)
+        → cond (bare && true && true) (decimal number)
+        (padded_integral (format_spec 32 3 0 width 18446744073709551615) false [] (decimal number))
+        ≡ right width (decimal number)
     by true e =
         let none : 0 ≡ width - length (decimal number) = omega (arith, eqb-true width 0 e) in
         ap (λ (n : ℕ). replicate n 32 ++ decimal number) none
@@ -41,9 +48,12 @@ padded-nothing width =
     ap (λ (n : ℕ). repeat n (encode_utf8 32)) all ∙ filled width
 
 -- `{:width$}` of nothing
-pub blanks-are : (width : ℕ) → styled_text (format_spec 32 0 0 width 18446744073709551615) [] ≡ replicate width 32
+pub blanks-are : (width : ℕ)
+    → styled_text (format_spec 32 0 0 width 18446744073709551615) [] ≡ replicate width 32
 blanks-are width = by (width == 0) refl
   where
-    by : (bare : Bool) → (width == 0) ≡ bare → cond (bare && true) [] (padded (format_spec 32 0 0 width 18446744073709551615) []) ≡ replicate width 32
+    by : (bare : Bool) → (width == 0) ≡ bare
+        → cond (bare && true) [] (padded (format_spec 32 0 0 width 18446744073709551615) [])
+        ≡ replicate width 32
     by true e = ap (λ (n : ℕ). replicate n 32) (sym (eqb-true width 0 e))
     by false e = padded-nothing width

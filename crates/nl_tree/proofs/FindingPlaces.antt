@@ -18,25 +18,31 @@ use Rattle.nl_tree.proofs.PathParts.{parts_of-more, parts_of-one}
 
 -- a walk by names and more is a walk by the names and one by the others
 resolve_from-append : (inodes : Inodes) (at : Link) (names more : Path)
-    → resolve_from inodes at (names ++ more) ≡ and_then (resolve_from inodes at names) (λ next. resolve_from inodes next more)
+    → resolve_from inodes at (names ++ more)
+    ≡ and_then (resolve_from inodes at names) (λ next. resolve_from inodes next more)
 resolve_from-append inodes at [] more = refl
-resolve_from-append inodes at (name ∷ names) more = by_step (step_to inodes at name) (λ next. resolve_from-append inodes next names more)
+resolve_from-append inodes at (name ∷ names) more =
+    by_step (step_to inodes at name) (λ next. resolve_from-append inodes next names more)
   where
     by_step : (r : Result Link VolError)
-        → ((next : Link) → resolve_from inodes next (names ++ more) ≡ and_then (resolve_from inodes next names) (λ x. resolve_from inodes x more))
+        → ((next : Link)
+        → resolve_from inodes next (names ++ more)
+        ≡ and_then (resolve_from inodes next names) (λ x. resolve_from inodes x more))
         → and_then r (λ next. resolve_from inodes next (names ++ more))
         ≡ and_then (and_then r (λ next. resolve_from inodes next names)) (λ x. resolve_from inodes x more)
     by_step (Ok next) rest = rest next
     by_step (Err e) rest = refl
 
 -- what comes to a directory by one step
-stepped : (found : Result Link VolError) (next : ℕ) → Ok next ≡ and_then found as_directory → found ≡ Ok (next, kind.Directory)
+stepped : (found : Result Link VolError) (next : ℕ) → Ok next ≡ and_then found as_directory
+    → found ≡ Ok (next, kind.Directory)
 stepped (Ok (i, kind.Directory)) next e = cc
 stepped (Ok (i, kind.File)) next e = absurd cc
 stepped (Err x) next e = absurd cc
 
 -- from a file no walk comes to a directory
-refused_behind : (inodes : Inodes) (found : Result Link VolError) (names : Path) (x : VolError) → Err x ≡ and_then found as_directory
+refused_behind : (inodes : Inodes) (found : Result Link VolError) (names : Path) (x : VolError)
+    → Err x ≡ and_then found as_directory
     → and_then (and_then found (λ next. resolve_from inodes next names)) as_dir ≡ Err x
 refused_behind inodes (Err y) names x e = cc
 refused_behind inodes (Ok (i, kind.Directory)) names x e = absurd cc
@@ -63,20 +69,26 @@ parts_end (part ∷ parts) some = last_of part parts
 
 module _ (names rest : List ℕ) (walked : Path) (so_far : parts_of names ≡ walked ++ parts_of rest) where
   -- a step goes on
-  pub parts_walked : (part behind : List ℕ) → DividesAtSlash rest part behind → parts_of names ≡ (walked ++ part ∷ []) ++ parts_of behind
+  pub parts_walked : (part behind : List ℕ) → DividesAtSlash rest part behind
+      → parts_of names ≡ (walked ++ part ∷ []) ++ parts_of behind
   parts_walked part behind split =
-      so_far ∙ (ap (λ (parts : Path). walked ++ parts) (parts_of-more rest part behind split) ∙ sym (append_assoc walked (part ∷ []) (parts_of behind)))
+      so_far
+      ∙ (ap (λ (parts : Path). walked ++ parts) (parts_of-more rest part behind split)
+      ∙ sym (append_assoc walked (part ∷ []) (parts_of behind)))
 
-  pub directory_walked : (inodes : Inodes) (directory next : ℕ) (part : List ℕ) → resolve inodes walked ≡ Ok (directory, kind.Directory)
+  pub directory_walked : (inodes : Inodes) (directory next : ℕ) (part : List ℕ)
+      → resolve inodes walked ≡ Ok (directory, kind.Directory)
       → Ok next ≡ and_then (step_to inodes (directory, kind.Directory) part) as_directory
       → resolve inodes (walked ++ part ∷ []) ≡ Ok (next, kind.Directory)
   directory_walked inodes directory next part here step =
       resolve_from-append inodes (2, kind.Directory) walked (part ∷ [])
       ∙ (ap (λ (r : Result Link VolError). and_then r (λ at. resolve_from inodes at (part ∷ []))) here
-      ∙ ap (λ (r : Result Link VolError). and_then r (λ at. Ok at)) (stepped (step_to inodes (directory, kind.Directory) part) next step))
+      ∙ ap (λ (r : Result Link VolError). and_then r (λ at. Ok at))
+      (stepped (step_to inodes (directory, kind.Directory) part) next step))
 
   -- a step is refused
-  pub place_refused : (held : Holding) (directory : ℕ) (part behind : List ℕ) (x : VolError) → DividesAtSlash rest part behind
+  pub place_refused : (held : Holding) (directory : ℕ) (part behind : List ℕ) (x : VolError)
+      → DividesAtSlash rest part behind
       → resolve (inodes_of_holding held) walked ≡ Ok (directory, kind.Directory)
       → Err x ≡ and_then (step_to (inodes_of_holding held) (directory, kind.Directory) part) as_directory
       → IsPlaceRefused held (parts_of names) x
@@ -86,11 +98,16 @@ module _ (names rest : List ℕ) (walked : Path) (so_far : parts_of names ≡ wa
       record {
         dir = (walked ++ part ∷ []) ++ ends.dir;
         name = ends.name;
-        is_path = parts_walked part behind split ∙ (ap (λ (parts : Path). (walked ++ part ∷ []) ++ parts) ends.is
+        is_path =
+            parts_walked part behind split ∙ (ap (λ (parts : Path). (walked ++ part ∷ []) ++ parts) ends.is
             ∙ sym (append_assoc (walked ++ part ∷ []) ends.dir (ends.name ∷ [])));
-        refused = ap (λ (p : Path). and_then (resolve inodes p) as_dir) (append_assoc walked (part ∷ []) ends.dir)
-            ∙ (ap (λ (r : Result Link VolError). and_then r as_dir) (resolve_from-append inodes (2, kind.Directory) walked (part ∷ ends.dir))
-            ∙ (ap (λ (r : Result Link VolError). and_then (and_then r (λ at. resolve_from inodes at (part ∷ ends.dir))) as_dir) here
+        refused =
+            ap (λ (p : Path). and_then (resolve inodes p) as_dir) (append_assoc walked (part ∷ []) ends.dir)
+            ∙ (ap (λ (r : Result Link VolError). and_then r as_dir)
+            (resolve_from-append inodes (2, kind.Directory) walked (part ∷ ends.dir))
+            ∙ (ap (λ (r : Result Link VolError).
+            and_then (and_then r (λ at. resolve_from inodes at (part ∷ ends.dir))) as_dir)
+            here
             ∙ refused_behind inodes (step_to inodes (directory, kind.Directory) part) ends.dir x step));
       }
 

@@ -31,18 +31,21 @@ no_first n ns e = cc
 here : (m k : ℕ) → is_at (nat_cmp m) k ≡ true → k ≡ m
 here m k e = eqb-true k m (sym (tied m k) ∙ e)
 
-behind : (n : ℕ) (es : List (ℕ × Bool)) → AllByRecursion (λ k. nat_cmp n k ≡ Less) (keys_of es) → (m : ℕ) (x : Bool) → at m es ≡ Some x → n < m
+behind : (n : ℕ) (es : List (ℕ × Bool)) → AllByRecursion (λ k. nat_cmp n k ≡ Less) (keys_of es)
+    → (m : ℕ) (x : Bool) → at m es ≡ Some x → n < m
 behind n [] h m x is = absurd (no_value x is)
 behind n (e ∷ es) h m x is = by_test (is_at (nat_cmp m) e.0) refl (behind n es h.1 m x)
   where
     by_test : (b : Bool) → is_at (nat_cmp m) e.0 ≡ b → (at m es ≡ Some x → n < m) → n < m
-    by_test true t rest = let above : n < e.0 = ranked n e.0 Less (sym h.0) in omega (arith, above, here m e.0 t)
+    by_test true t rest =
+        let above : n < e.0 = ranked n e.0 Less (sym h.0) in omega (arith, above, here m e.0 t)
     by_test false t rest = rest (rw t at is)
 
 pub shows_first : (n : ℕ) (b : Bool) (es : List (ℕ × Bool)) → b ≡ true → freed ((n, b) ∷ es) ≡ n ∷ freed es
 shows_first n b es is = rw is refl
 
-pub first_shown : (es : List (ℕ × Bool)) (n : ℕ) (ns : List ℕ) → IsStrictlySortedBy nat_cmp (keys_of es) → freed es ≡ n ∷ ns → (at n es ≡ Some true) × ((m : ℕ) → at m es ≡ Some true → n ≤ m)
+pub first_shown : (es : List (ℕ × Bool)) (n : ℕ) (ns : List ℕ) → IsStrictlySortedBy nat_cmp (keys_of es)
+    → freed es ≡ n ∷ ns → (at n es ≡ Some true) × ((m : ℕ) → at m es ≡ Some true → n ≤ m)
 first_shown [] n ns sorted is = absurd (no_first n ns is)
 first_shown (e ∷ es) n ns sorted is = by_value e.1 refl (first_shown es n ns (sorted_tail _ _ _ sorted))
   where
@@ -50,7 +53,8 @@ first_shown (e ∷ es) n ns sorted is = by_value e.1 refl (first_shown es n ns (
     head [] = n
     head (x ∷ xs) = x
 
-    by_value : (b : Bool) → e.1 ≡ b → (freed es ≡ n ∷ ns → (at n es ≡ Some true) × ((m : ℕ) → at m es ≡ Some true → n ≤ m)) →
+    by_value : (b : Bool) → e.1 ≡ b
+        → (freed es ≡ n ∷ ns → (at n es ≡ Some true) × ((m : ℕ) → at m es ≡ Some true → n ≤ m)) →
         (at n (e ∷ es) ≡ Some true) × ((m : ℕ) → at m (e ∷ es) ≡ Some true → n ≤ m)
     by_value true v rest =
         let same : e.0 ≡ n = ap head (rw v at is) in
@@ -59,14 +63,18 @@ first_shown (e ∷ es) n ns sorted is = by_value e.1 refl (first_shown es n ns (
       where
         least : (m : ℕ) → at m (e ∷ es) ≡ Some true → e.0 ≡ n → (b : Bool) → is_at (nat_cmp m) e.0 ≡ b → n ≤ m
         least m found same true t = omega (arith, same, here m e.0 t)
-        least m found same false t = let above : e.0 < m = behind e.0 es (sorted_head _ _ _ sorted) m true (rw t at found) in omega (arith, same, above)
+        least m found same false t =
+            let above : e.0 < m = behind e.0 es (sorted_head _ _ _ sorted) m true (rw t at found) in
+            omega (arith, same, above)
     by_value false v rest =
         let found = rest (rw v at is) in
         let above : e.0 < n = behind e.0 es (sorted_head _ _ _ sorted) n true found.0 in
-        let miss : is_at (nat_cmp n) e.0 ≡ false = tied n e.0 ∙ ne_eqb e.0 n (λ same. absurd (omega (arith, above, same))) in
+        let miss : is_at (nat_cmp n) e.0 ≡ false =
+        tied n e.0 ∙ ne_eqb e.0 n (λ same. absurd (omega (arith, above, same))) in
         (rw miss found.0, λ m is'. least m is' found.1 (is_at (nat_cmp m) e.0) refl)
       where
-        least : (m : ℕ) → at m (e ∷ es) ≡ Some true → ((m : ℕ) → at m es ≡ Some true → n ≤ m) → (b : Bool) → is_at (nat_cmp m) e.0 ≡ b → n ≤ m
+        least : (m : ℕ) → at m (e ∷ es) ≡ Some true → ((m : ℕ) → at m es ≡ Some true → n ≤ m) → (b : Bool)
+            → is_at (nat_cmp m) e.0 ≡ b → n ≤ m
         least m is' all true t = absurd (not_both (sym (ap (λ (b : Bool). Some b) v) ∙ rw t at is'))
         least m is' all false t = all m (rw t at is')
 
@@ -74,7 +82,8 @@ pub none_shown : (es : List (ℕ × Bool)) → freed es ≡ [] → (m : ℕ) →
 none_shown [] none m is = no_value true is
 none_shown (e ∷ es) none m is = by_value e.1 refl (is_at (nat_cmp m) e.0) refl (none_shown es)
   where
-    by_value : (b : Bool) → e.1 ≡ b → (t : Bool) → is_at (nat_cmp m) e.0 ≡ t → (freed es ≡ [] → (m : ℕ) → at m es ≡ Some true → ⊥) → ⊥
+    by_value : (b : Bool) → e.1 ≡ b → (t : Bool) → is_at (nat_cmp m) e.0 ≡ t
+        → (freed es ≡ [] → (m : ℕ) → at m es ≡ Some true → ⊥) → ⊥
     by_value true v t hit rest = no_first e.0 (freed es) (sym (rw v at none))
     by_value false v true hit rest = not_both (sym (ap (λ (b : Bool). Some b) v) ∙ rw hit at is)
     by_value false v false hit rest = rest (rw v at none) m (rw hit at is)
@@ -85,9 +94,11 @@ pub freed_listed : (es : List (ℕ × Bool)) (m : ℕ) → at m es ≡ Some true
 freed_listed [] m is = absurd (no_value true is)
 freed_listed (e ∷ es) m is = by_value e.1 refl (is_at (nat_cmp m) e.0) refl (freed_listed es m)
   where
-    by_value : (b : Bool) → e.1 ≡ b → (t : Bool) → is_at (nat_cmp m) e.0 ≡ t → (at m es ≡ Some true → is_one_of (freed es) m ≡ true) →
+    by_value : (b : Bool) → e.1 ≡ b → (t : Bool) → is_at (nat_cmp m) e.0 ≡ t
+        → (at m es ≡ Some true → is_one_of (freed es) m ≡ true) →
         is_one_of (freed (e ∷ es)) m ≡ true
-    by_value true v true hit rest = let same : (m == e.0) ≡ true = eq-eqb m e.0 (sym (here m e.0 hit)) in rw (v, same) refl
+    by_value true v true hit rest =
+        let same : (m == e.0) ≡ true = eq-eqb m e.0 (sym (here m e.0 hit)) in rw (v, same) refl
     by_value false v true hit rest = absurd (not_both (sym (ap (λ (b : Bool). Some b) v) ∙ rw hit at is))
     by_value true v false hit rest = rw v (or_true (m == e.0) (rest (rw hit at is)))
       where
@@ -96,17 +107,21 @@ freed_listed (e ∷ es) m is = by_value e.1 refl (is_at (nat_cmp m) e.0) refl (f
         or_true false h = h
     by_value false v false hit rest = rw v (rest (rw hit at is))
 
-pub listed_freed : (es : List (ℕ × Bool)) (m : ℕ) → IsStrictlySortedBy nat_cmp (keys_of es) → is_one_of (freed es) m ≡ true → at m es ≡ Some true
+pub listed_freed : (es : List (ℕ × Bool)) (m : ℕ) → IsStrictlySortedBy nat_cmp (keys_of es)
+    → is_one_of (freed es) m ≡ true → at m es ≡ Some true
 listed_freed [] m sorted is = absurd (true≢false (sym is))
-listed_freed (e ∷ es) m sorted is = by_value e.1 refl (m == e.0) refl (listed_freed es m (sorted_tail _ _ _ sorted))
+listed_freed (e ∷ es) m sorted is =
+    by_value e.1 refl (m == e.0) refl (listed_freed es m (sorted_tail _ _ _ sorted))
   where
     later : at m es ≡ Some true → at m (e ∷ es) ≡ Some true
     later found =
         let above : e.0 < m = behind e.0 es (sorted_head _ _ _ sorted) m true found in
-        let miss : is_at (nat_cmp m) e.0 ≡ false = tied m e.0 ∙ ne_eqb e.0 m (λ same. absurd (omega (arith, above, same))) in
+        let miss : is_at (nat_cmp m) e.0 ≡ false =
+        tied m e.0 ∙ ne_eqb e.0 m (λ same. absurd (omega (arith, above, same))) in
         rw miss found
 
-    by_value : (b : Bool) → e.1 ≡ b → (t : Bool) → (m == e.0) ≡ t → (is_one_of (freed es) m ≡ true → at m es ≡ Some true) → at m (e ∷ es) ≡ Some true
+    by_value : (b : Bool) → e.1 ≡ b → (t : Bool) → (m == e.0) ≡ t
+        → (is_one_of (freed es) m ≡ true → at m es ≡ Some true) → at m (e ∷ es) ≡ Some true
     by_value true v true hit rest =
         let found : is_at (nat_cmp m) e.0 ≡ true = tied m e.0 ∙ eq-eqb e.0 m (sym (eqb-true m e.0 hit)) in
         rw (found, v) refl

@@ -29,7 +29,8 @@ children-fewer : (tree : Tree) (dir : Path) → length (children tree dir) ≤ l
 children-fewer [] dir = omega arith
 children-fewer (e ∷ tree) dir = choose (child dir e) refl (children-fewer tree dir)
   where
-    choose : (o : Option (Name × Kind)) → child dir e ≡ o → length (children tree dir) ≤ length tree → length (cons_option (child dir e) (children tree dir)) ≤ length (e ∷ tree)
+    choose : (o : Option (Name × Kind)) → child dir e ≡ o → length (children tree dir) ≤ length tree
+        → length (cons_option (child dir e) (children tree dir)) ≤ length (e ∷ tree)
     choose None is rest = rw is (omega (arith, rest))
     choose (Some x) is rest = rw is (omega (arith, rest))
 
@@ -38,21 +39,27 @@ root_below : (dir : Path) → name_below dir [] ≡ None
 root_below [] = refl
 root_below (n ∷ dir) = refl
 
-pub children-few : (tree : Tree) (dir : Path) → lookup tree [] ≡ Some Dir → length (children tree dir) + 1 ≤ length tree
+pub children-few : (tree : Tree) (dir : Path) → lookup tree [] ≡ Some Dir
+    → length (children tree dir) + 1 ≤ length tree
 children-few [] dir root = cc
 children-few (([], x) ∷ tree) dir root =
     let none : child dir ([], x) ≡ None = ap (option_map (λ name. (name, node_kind x))) (root_below dir) in
     rw none (omega (arith, children-fewer tree dir))
 children-few ((n ∷ p, x) ∷ tree) dir root = choose (child dir (n ∷ p, x)) refl (children-few tree dir root)
   where
-    choose : (o : Option (Name × Kind)) → child dir (n ∷ p, x) ≡ o → length (children tree dir) + 1 ≤ length tree → length (cons_option (child dir (n ∷ p, x)) (children tree dir)) + 1 ≤ length ((n ∷ p, x) ∷ tree)
+    choose : (o : Option (Name × Kind)) → child dir (n ∷ p, x) ≡ o
+        → length (children tree dir) + 1 ≤ length tree
+        → length (cons_option (child dir (n ∷ p, x)) (children tree dir)) + 1 ≤ length ((n ∷ p, x) ∷ tree)
     choose None is rest = rw is (omega (arith, rest))
     choose (Some y) is rest = rw is (omega (arith, rest))
 
 -- a directory has no more names than the tree has paths beside the root
-pub records-few : (holding : Holding) (tree : Tree) (i : ℕ) (records : List Record) → MeansTree (inodes_of_holding holding) tree → holding i ≡ Some (Listed records) → NamesAscend records → length records + 1 ≤ length tree
+pub records-few : (holding : Holding) (tree : Tree) (i : ℕ) (records : List Record)
+    → MeansTree (inodes_of_holding holding) tree → holding i ≡ Some (Listed records) → NamesAscend records
+    → length records + 1 ≤ length tree
 records-few holding tree i records means here ascend =
-    let holds : inodes_of_holding holding i ≡ Some (Records (λ name. entry_of name records)) = ap (option_map inode_content) here in
+    let holds : inodes_of_holding holding i ≡ Some (Records (λ name. entry_of name records)) =
+    ap (option_map inode_content) here in
     let at = means.pairs.all i (Records (λ name. entry_of name records)) holds in
     let there : HasRecords (inodes_of_holding holding) at.0 = record {
       inode = i;
@@ -60,7 +67,10 @@ records-few holding tree i records means here ascend =
       is_reached = reached-pairs means.rooted means.pairs at.0 ∙ at.1;
       holds = holds;
     } in
-    let are = children_are_records (inodes_of_holding holding) tree at.0 (map listed_record records) means there (lists_records records ascend) in
-    let count : length (children tree (reverse at.0)) ≡ length records = ap length are ∙ length-map (map listed_record records) with_kind ∙ length-map records listed_record in
+    let are =
+    children_are_records (inodes_of_holding holding) tree at.0 (map listed_record records) means there
+    (lists_records records ascend) in
+    let count : length (children tree (reverse at.0)) ≡ length records =
+    ap length are ∙ length-map (map listed_record records) with_kind ∙ length-map records listed_record in
     let few = children-few tree (reverse at.0) means.rooted.root in
     omega (arith, count, few)

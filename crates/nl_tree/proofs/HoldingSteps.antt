@@ -17,7 +17,8 @@ use Rattle.nl_tree.proofs.InodeSteps.{with_held-there, with_held-other}
 
 -- ---- one inode holds something else
 
-pub with_held-may : (i : ℕ) (held : Option Held) (holding : Holding) → IsHolding holding → IsInodeNumber i → MayHold held → IsHolding (with_held i held holding)
+pub with_held-may : (i : ℕ) (held : Option Held) (holding : Holding) → IsHolding holding → IsInodeNumber i
+    → MayHold held → IsHolding (with_held i held holding)
 with_held-may i held holding may number here = record {
   inode_numbers = λ j x e. elim (cases_Bool (j == i)) [
     | inl t ↦ subst IsInodeNumber (sym (eqb-true j i t)) number
@@ -32,23 +33,31 @@ with_held-may i held holding may number here = record {
 -- ---- what steps make
 
 pub new-may : (k : Kind) → MayHold (Some (new_held k))
-new-may kind.File = record { small = omega arith; none_past = λ b past. refl; zeros = λ k past. refl; whole = λ b page e. cc }
-new-may kind.Directory = record { ascending = λ i j d lt l. absurd (omega (lt, l, arith)); names = λ i d l. absurd (omega (l, arith)); count = omega arith }
+new-may kind.File =
+    record { small = omega arith; none_past = λ b past. refl; zeros = λ k past. refl; whole = λ b page e. cc }
+new-may kind.Directory = record {
+  ascending = λ i j d lt l. absurd (omega (lt, l, arith));
+  names = λ i d l. absurd (omega (l, arith));
+  count = omega arith;
+}
 
 pub length-with : (r : Record) (records : List Record) → length (with_record r records) ≤ length records + 1
 length-with r [] = omega arith
 length-with r (x ∷ records) = choose (name_cmp r.name x.name) refl (length-with r records)
   where
-    choose : (o : Ordering) → name_cmp r.name x.name ≡ o → length (with_record r records) ≤ length records + 1 → length (with_record r (x ∷ records)) ≤ length (x ∷ records) + 1
+    choose : (o : Ordering) → name_cmp r.name x.name ≡ o → length (with_record r records) ≤ length records + 1
+        → length (with_record r (x ∷ records)) ≤ length (x ∷ records) + 1
     choose Less is rest = rw is (omega arith)
     choose Equal is rest = rw is (omega arith)
     choose Greater is rest = rw is (omega (arith, rest))
 
-pub length-without : (name : Name) (records : List Record) → length (without_record name records) ≤ length records
+pub length-without : (name : Name) (records : List Record)
+    → length (without_record name records) ≤ length records
 length-without name [] = omega arith
 length-without name (x ∷ records) = choose (same_name name x.name) refl (length-without name records)
   where
-    choose : (b : Bool) → same_name name x.name ≡ b → length (without_record name records) ≤ length records → length (without_record name (x ∷ records)) ≤ length (x ∷ records)
+    choose : (b : Bool) → same_name name x.name ≡ b → length (without_record name records) ≤ length records
+        → length (without_record name (x ∷ records)) ≤ length (x ∷ records)
     choose true e rest = rw e (omega arith)
     choose false e rest = rw e (omega (arith, rest))
 
@@ -56,14 +65,16 @@ length-without name (x ∷ records) = choose (same_name name x.name) refl (lengt
 abbrev pub MayStand : Record → Type 0
 MayStand r = IsTrue (is_name r.name) × IsInodeNumber r.inode
 
-pub with-may : (r : Record) (records : List Record) → IsDirectoryHeld records → MayStand r → length (with_record r records) ≤ 524277 → IsDirectoryHeld (with_record r records)
+pub with-may : (r : Record) (records : List Record) → IsDirectoryHeld records → MayStand r
+    → length (with_record r records) ≤ 524277 → IsDirectoryHeld (with_record r records)
 with-may r records is may few = record {
   ascending = ascend-with r records is.ascending;
   names = all-with MayStand r records may is.names;
   count = few;
 }
 
-pub without-may : (name : Name) (records : List Record) → IsDirectoryHeld records → IsDirectoryHeld (without_record name records)
+pub without-may : (name : Name) (records : List Record) → IsDirectoryHeld records
+    → IsDirectoryHeld (without_record name records)
 without-may name records is = record {
   ascending = ascend-without name records is.ascending;
   names = all-without MayStand name records is.names;
@@ -71,23 +82,42 @@ without-may name records is = record {
 }
 
 module _ (holding : Holding) (may : IsHolding holding) where
-  directory-may : (i : ℕ) (records : List Record) → holding i ≡ Some (Listed records) → IsDirectoryHeld records
+  directory-may : (i : ℕ) (records : List Record) → holding i ≡ Some (Listed records)
+      → IsDirectoryHeld records
   directory-may i records e = may.each i (Listed records) e
 
-  pub new_inode-may : (dir : ℕ) (records : List Record) (r : Record) → holding dir ≡ Some (Listed records) → MayStand r → length (with_record r records) ≤ 524277 → IsHolding (with_new_inode dir records r.name r.kind r.inode holding)
+  pub new_inode-may : (dir : ℕ) (records : List Record) (r : Record) → holding dir ≡ Some (Listed records)
+      → MayStand r → length (with_record r records) ≤ 524277
+      → IsHolding (with_new_inode dir records r.name r.kind r.inode holding)
   new_inode-may dir records r here stand few =
-      with_held-may r.inode (Some (new_held r.kind)) _ (with_held-may dir (Some (Listed (with_record r records))) holding may (may.inode_numbers dir _ here) (with-may r records (directory-may dir records here) stand few)) stand.1 (new-may r.kind)
+      with_held-may r.inode (Some (new_held r.kind)) _
+      (with_held-may dir (Some (Listed (with_record r records))) holding may (may.inode_numbers dir _ here)
+      (with-may r records (directory-may dir records here) stand few))
+      stand.1
+      (new-may r.kind)
 
-  pub without_inode-may : (dir : ℕ) (records : List Record) (name : Name) (inode : ℕ) → holding dir ≡ Some (Listed records) → IsInodeNumber inode → IsHolding (without_inode dir records name inode holding)
+  pub without_inode-may : (dir : ℕ) (records : List Record) (name : Name) (inode : ℕ)
+      → holding dir ≡ Some (Listed records) → IsInodeNumber inode
+      → IsHolding (without_inode dir records name inode holding)
   without_inode-may dir records name inode here number =
-      with_held-may inode None _ (with_held-may dir (Some (Listed (without_record name records))) holding may (may.inode_numbers dir _ here) (without-may name records (directory-may dir records here))) number tt
+      with_held-may inode None _
+      (with_held-may dir (Some (Listed (without_record name records))) holding may
+      (may.inode_numbers dir _ here) (without-may name records (directory-may dir records here)))
+      number tt
 
-  pub with_blocks-may : (i size : ℕ) (blocks : Blocks) → IsInodeNumber i → IsFileHeld size blocks → IsHolding (with_held i (Some (Stored size blocks)) holding)
+  pub with_blocks-may : (i size : ℕ) (blocks : Blocks) → IsInodeNumber i → IsFileHeld size blocks
+      → IsHolding (with_held i (Some (Stored size blocks)) holding)
   with_blocks-may i size blocks number is = with_held-may i (Some (Stored size blocks)) holding may number is
 
-  pub moved_link-may : (from : ℕ) (left : List Record) (name : Name) (to : ℕ) (records : List Record) (r : Record) → holding from ≡ Some (Listed left)
-      → with_held from (Some (Listed (without_record name left))) holding to ≡ Some (Listed records) → MayStand r → length (with_record r records) ≤ 524277
+  pub moved_link-may : (from : ℕ) (left : List Record) (name : Name) (to : ℕ) (records : List Record)
+      (r : Record)
+      → holding from ≡ Some (Listed left)
+      → with_held from (Some (Listed (without_record name left))) holding to ≡ Some (Listed records)
+      → MayStand r → length (with_record r records) ≤ 524277
       → IsHolding (with_link to records r (without_link from left name holding))
   moved_link-may from left name to records r here there stand few =
-      let taken = with_held-may from (Some (Listed (without_record name left))) holding may (may.inode_numbers from _ here) (without-may name left (directory-may from left here)) in
-      with_held-may to (Some (Listed (with_record r records))) _ taken (taken.inode_numbers to _ there) (with-may r records (taken.each to (Listed records) there) stand few)
+      let taken =
+      with_held-may from (Some (Listed (without_record name left))) holding may
+      (may.inode_numbers from _ here) (without-may name left (directory-may from left here)) in
+      with_held-may to (Some (Listed (with_record r records))) _ taken (taken.inode_numbers to _ there)
+      (with-may r records (taken.each to (Listed records) there) stand few)

@@ -36,24 +36,45 @@ module _ (IsFree : ℕ → Type 0) (mark : ℕ) (held b : Holding) (counts : Cou
       by_mark (inl f) = (counts.freed m f).2
       by_mark (inr same) = none_left (held m) (same ∙ ap is_some is.free)
 
-  from_mark : (m : ℕ) → IsLowestFreeInode b mark m → ((n : ℕ) → IsFree n → m ≤ n) → IsLowestFreeInode held 11 m
-  from_mark m is freed = record { first = let first : 11 ≤ mark = counts.first in let low : mark ≤ m = is.first in omega (arith, first, low); last = is.last; free = free_here m is; lowest = used_below m freed is.lowest }
+  from_mark : (m : ℕ) → IsLowestFreeInode b mark m → ((n : ℕ) → IsFree n → m ≤ n)
+      → IsLowestFreeInode held 11 m
+  from_mark m is freed = record {
+    first =
+        let first : 11 ≤ mark = counts.first in let low : mark ≤ m = is.first in omega (arith, first, low);
+    last = is.last;
+    free = free_here m is;
+    lowest = used_below m freed is.lowest;
+  }
 
-  from_freed : (n : ℕ) → IsFree n → ((m : ℕ) → IsFree m → n ≤ m) → AreInUseFrom b mark n → IsLowestFreeInode held 11 n
-  from_freed n f least used = let is = counts.freed n f in record { first = is.0; last = is.1; free = is.2; lowest = used_below n least used }
+  from_freed : (n : ℕ) → IsFree n → ((m : ℕ) → IsFree m → n ≤ m) → AreInUseFrom b mark n
+      → IsLowestFreeInode held 11 n
+  from_freed n f least used = let is = counts.freed n f in record {
+    first = is.0;
+    last = is.1;
+    free = is.2;
+    lowest = used_below n least used;
+  }
 
   -- the first number that is freed, where it lies below the mark
   pub freed_below : (n : ℕ) → IsFree n → ((m : ℕ) → IsFree m → n ≤ m) → n < mark → IsLowestFreeInode held 11 n
   freed_below n f least below = from_freed n f least (λ k low high. absurd (omega (arith, below, low, high)))
 
-  pub free_is : (first next : Option ℕ) → MatchOption first ((n : ℕ) → IsFree n → ⊥) (λ n. IsFree n × ((m : ℕ) → IsFree m → n ≤ m)) →
+  pub free_is : (first next : Option ℕ)
+      → MatchOption first ((n : ℕ) → IsFree n → ⊥) (λ n. IsFree n × ((m : ℕ) → IsFree m → n ≤ m)) →
       MatchOption next (AreInUseFrom b mark 524288) (IsLowestFreeInode b mark) →
       MatchOption (lesser_option first next) (AreInUseFrom held 11 524288) (IsLowestFreeInode held 11)
   free_is None None none used = used_below 524288 (λ m f. absurd (none m f)) used
   free_is None (Some m) none is = from_mark m is (λ n f. absurd (none n f))
-  free_is (Some n) None first used = from_freed n first.0 first.1 (λ k low below. used k low (let most : n ≤ 524287 = (counts.freed n first.0).1 in omega (arith, most, below)))
+  free_is (Some n) None first used =
+      from_freed n first.0 first.1
+      (λ k low below.
+      used k low (let most : n ≤ 524287 = (counts.freed n first.0).1 in omega (arith, most, below)))
   free_is (Some n) (Some m) first is = by_test (nat_lt m n) refl
     where
       by_test : (t : Bool) → nat_lt m n ≡ t → IsLowestFreeInode held 11 (cond t m n)
-      by_test true t = let less : m < n = ltb-true m n t in from_mark m is (λ k f. let least : n ≤ k = first.1 k f in omega (arith, less, least))
-      by_test false t = let most : n ≤ m = ltb-false m n t in from_freed n first.0 first.1 (λ k low below. is.lowest k low (omega (arith, most, below)))
+      by_test true t =
+          let less : m < n = ltb-true m n t in
+          from_mark m is (λ k f. let least : n ≤ k = first.1 k f in omega (arith, less, least))
+      by_test false t =
+          let most : n ≤ m = ltb-false m n t in
+          from_freed n first.0 first.1 (λ k low below. is.lowest k low (omega (arith, most, below)))

@@ -32,25 +32,37 @@ flat None = refl
 flat (Some None) = refl
 flat (Some (Some x)) = refl
 
-what_over : (what : Changed) (base : Option Held) → ((file : FileBlocks) → what ≡ File file → map.IsOrdered nat_cmp file.pages) → over_if_became (Some (became_of what)) base ≡ over_changed what base
+what_over : (what : Changed) (base : Option Held)
+    → ((file : FileBlocks) → what ≡ File file → map.IsOrdered nat_cmp file.pages)
+    → over_if_became (Some (became_of what)) base ≡ over_changed what base
 what_over Gone base h = refl
 what_over (Dir listing) base h = refl
 what_over (File file) base h =
-    let page : (b : ℕ) → find nat_cmp b (new_pages file) ≡ new_page_at file b = λ b. shown_at itself file.pages.entries (h file refl) b ∙ flat (map.get nat_cmp file.pages b) in
-    ap (λ (blocks : ℕ → Option (List ℕ)). Some (Stored file.size blocks)) (λ k. λ b. option_or (page b k) (cond (nat_lt b file.cut) (held_block base b) None))
+    let page : (b : ℕ) → find nat_cmp b (new_pages file) ≡ new_page_at file b = λ b.
+    shown_at itself file.pages.entries (h file refl) b ∙ flat (map.get nat_cmp file.pages b) in
+    ap (λ (blocks : ℕ → Option (List ℕ)). Some (Stored file.size blocks))
+    (λ k. λ b. option_or (page b k) (cond (nat_lt b file.cut) (held_block base b) None))
 
-place_shows : (place : Option Slot) (base : Option Held) → ((slot : Slot) (file : FileBlocks) → place ≡ Some slot → slot.what ≡ File file → map.IsOrdered nat_cmp file.pages) →
+place_shows : (place : Option Slot) (base : Option Held)
+    → ((slot : Slot) (file : FileBlocks) → place ≡ Some slot → slot.what ≡ File file
+    → map.IsOrdered nat_cmp file.pages)
+    →
     over_if_became (option_and_then slot_shows place) base ≡ over_if_slot place base
 place_shows None base h = refl
 place_shows (Some slot) base h = by_live slot.live refl
   where
-    by_live : (b : Bool) → slot.live ≡ b → over_if_became (option_and_then slot_shows (Some slot)) base ≡ over_if_slot (Some slot) base
+    by_live : (b : Bool) → slot.live ≡ b
+        → over_if_became (option_and_then slot_shows (Some slot)) base ≡ over_if_slot (Some slot) base
     by_live false is = rw is refl
     by_live true is = rw is (what_over slot.what base (λ file e. h slot file refl e))
 
-pub one_holding : (o : Overlay) (base : Holding) → IsOrderly o → holding_over (became_in o) base ≡ holding_now o base
+pub one_holding : (o : Overlay) (base : Holding) → IsOrderly o
+    → holding_over (became_in o) base ≡ holding_now o base
 one_holding o base orderly = λ k. λ i.
-    (ap (λ c. over_if_became c (base i)) (shown_at slot_shows o.changed.entries orderly.keys i) ∙ place_shows (map.get nat_cmp o.changed i) (base i) (λ slot file is what. orderly.files i slot file is what)) k
+    (ap (λ c. over_if_became c (base i)) (shown_at slot_shows o.changed.entries orderly.keys i)
+    ∙ place_shows (map.get nat_cmp o.changed i) (base i)
+    (λ slot file is what. orderly.files i slot file is what))
+    k
 
 -- a directory of the lists is one of the maps
 pub directory_inside : (o : Overlay) (now : Current) (base : Holding) (dir : ℕ) (records : List Record) →
@@ -87,40 +99,52 @@ pub counts_inside : (o : Overlay) (now : Current) (base : Holding) → IsOrderly
     CountsFree now base → CountsFreeNow o base
 counts_inside o now base orderly view counts =
     subst (λ (held : Holding). CountsNumbers (IsNumberFreed o) o.mark held base) (one_holding o base orderly)
-    (counts_kept (IsFreedIn (current_of o)) (IsNumberFreed o) o.mark (holding_over (became_in o) base) (holding_over (became_in o) base) base
-    (freed_out o orderly) (freed_in o) (λ m. refl) (subst (λ (c : Current). CountsFree c base) (sym view) counts))
+    (counts_kept (IsFreedIn (current_of o)) (IsNumberFreed o) o.mark (holding_over (became_in o) base)
+    (holding_over (became_in o) base) base
+    (freed_out o orderly) (freed_in o) (λ m. refl)
+    (subst (λ (c : Current). CountsFree c base) (sym view) counts))
 
-pub counts_outside : (o : Overlay) (base : Holding) → IsOrderly o → CountsFreeNow o base → CountsFree (current_of o) base
+pub counts_outside : (o : Overlay) (base : Holding) → IsOrderly o → CountsFreeNow o base
+    → CountsFree (current_of o) base
 counts_outside o base orderly counts =
-    counts_kept (IsNumberFreed o) (IsFreedIn (current_of o)) o.mark (holding_over (became_in o) base) (holding_over (became_in o) base) base
+    counts_kept (IsNumberFreed o) (IsFreedIn (current_of o)) o.mark (holding_over (became_in o) base)
+    (holding_over (became_in o) base) base
     (freed_in o) (freed_out o orderly) (λ m. refl)
-    (subst (λ (held : Holding). CountsNumbers (IsNumberFreed o) o.mark held base) (sym (one_holding o base orderly)) counts)
+    (subst (λ (held : Holding). CountsNumbers (IsNumberFreed o) o.mark held base)
+    (sym (one_holding o base orderly)) counts)
 
 -- ---- what is made new
 
-pub created_outside : (o n : Overlay) (now : Current) (base : Holding) (dir : ℕ) (records : List Record) (name : Name)
+pub created_outside : (o n : Overlay) (now : Current) (base : Holding) (dir : ℕ) (records : List Record)
+    (name : Name)
     (kind : Kind) (inode : ℕ) → IsOrderly o → IsOrderly n → current_of o ≡ now →
     IsCreated (holding_now o base) (holding_now n base) dir records name kind inode →
     IsCreated (holding_over now.became base) (holding_over (became_in n) base) dir records name kind inode
 created_outside o n now base dir records name kind inode before after view is =
     let old : holding_now o base ≡ holding_over now.became base =
     sym (one_holding o base before) ∙ ap (λ (c : Current). holding_over c.became base) view in
-    subst (λ (held : Holding). IsCreated held (holding_over (became_in n) base) dir records name kind inode) old
-    (subst (λ (held : Holding). IsCreated (holding_now o base) held dir records name kind inode) (sym (one_holding n base after)) is)
+    subst
+    (λ (held : Holding). IsCreated held (holding_over (became_in n) base) dir records name kind inode) old
+    (subst (λ (held : Holding). IsCreated (holding_now o base) held dir records name kind inode)
+    (sym (one_holding n base after)) is)
 
-pub refused_outside : (o : Overlay) (now : Current) (base : Holding) (e : VolError) → IsOrderly o → current_of o ≡ now →
-    IsCreateRefused o.names (holding_now o base) e → IsCreateRefused now.names (holding_over now.became base) e
+pub refused_outside : (o : Overlay) (now : Current) (base : Holding) (e : VolError) → IsOrderly o
+    → current_of o ≡ now →
+    IsCreateRefused o.names (holding_now o base) e
+    → IsCreateRefused now.names (holding_over now.became base) e
 refused_outside o now base e before view is =
     subst (λ (c : Current). IsCreateRefused c.names (holding_over c.became base) e) view
     (subst (λ (held : Holding). IsCreateRefused o.names held e) (sym (one_holding o base before)) is)
 
 -- what keeps numbers and inodes in use counts them as before
 pub counts_still : (o n : Overlay) (base : Holding) → KeepsRest o n →
-    ((m : ℕ) → is_some (holding_now n base m) ≡ is_some (holding_now o base m)) → CountsFreeNow o base → CountsFreeNow n base
+    ((m : ℕ) → is_some (holding_now n base m) ≡ is_some (holding_now o base m)) → CountsFreeNow o base
+    → CountsFreeNow n base
 counts_still o n base rest same counts =
     subst (λ (k : ℕ). CountsNumbers (IsNumberFreed n) k (holding_now n base) base) (sym rest.mark)
     (counts_kept (IsNumberFreed o) (IsNumberFreed n) o.mark (holding_now o base) (holding_now n base) base
-    (λ m f. ap (λ fs. map.get nat_cmp fs m) rest.freed ∙ f) (λ m f. ap (λ fs. map.get nat_cmp fs m) (sym rest.freed) ∙ f) same counts)
+    (λ m f. ap (λ fs. map.get nat_cmp fs m) rest.freed ∙ f)
+    (λ m f. ap (λ fs. map.get nat_cmp fs m) (sym rest.freed) ∙ f) same counts)
 
 -- a file of the lists is one of the maps
 pub file_inside : (o : Overlay) (now : Current) (base : Holding) (i size : ℕ) (blocks : Blocks) →

@@ -20,30 +20,41 @@ length-stored blocks size = length-map-range_with_len (byte_stored blocks) 0 siz
 abbrev pub EndsIn0 : Blocks → ℕ → Type 0
 EndsIn0 blocks size = (k : ℕ) → size ≤ k → byte_stored blocks k ≡ 0
 
-pub get_or-stored : (blocks : Blocks) (size : ℕ) → EndsIn0 blocks size → (k : ℕ) → get_or (bytes_stored blocks size) k 0 ≡ byte_stored blocks k
+pub get_or-stored : (blocks : Blocks) (size : ℕ) → EndsIn0 blocks size → (k : ℕ)
+    → get_or (bytes_stored blocks size) k 0 ≡ byte_stored blocks k
 get_or-stored blocks size ends k = ⊎_elim
     (λ low. get_or-map-range_with_len (byte_stored blocks) 0 size k k 0 low (omega arith))
-    (λ past. get_or_past (bytes_stored blocks size) k 0 (omega (arith, past, length-stored blocks size)) ∙ sym (ends k past))
+    (λ past.
+    get_or_past (bytes_stored blocks size) k 0 (omega (arith, past, length-stored blocks size))
+    ∙ sym (ends k past))
     (cases_lt k size)
 
 -- ---- a write
 
-front_length : (old : List ℕ) (offset : ℕ) → length (take offset old ++ replicate (offset - length old) 0) ≡ offset
+front_length : (old : List ℕ) (offset : ℕ)
+    → length (take offset old ++ replicate (offset - length old) 0) ≡ offset
 front_length old offset = simp (length-append, length-take, length-replicate) (omega arith)
 
 -- before the offset stands the old byte, or a zero past the old end
-front_get : (old : List ℕ) (offset i : ℕ) → i < offset → get_or (take offset old ++ replicate (offset - length old) 0) i 0 ≡ get_or old i 0
+front_get : (old : List ℕ) (offset i : ℕ) → i < offset
+    → get_or (take offset old ++ replicate (offset - length old) 0) i 0 ≡ get_or old i 0
 front_get old offset i low = ⊎_elim
-    (λ within. get_or_append_left (take offset old) (replicate (offset - length old) 0) 0 i (omega (arith, length-take offset old)) ∙ get_or-take offset old i 0 low)
+    (λ within.
+    get_or_append_left (take offset old) (replicate (offset - length old) 0) 0 i
+    (omega (arith, length-take offset old))
+    ∙ get_or-take offset old i 0 low)
     (λ past.
     let short : length (take offset old) ≡ length old = omega (arith, length-take offset old) in
-    get_or-append_right (take offset old) (replicate (offset - length old) 0) (length old) i 0 short past ∙ zero_at (offset - length old) (i - length old) ∙ sym (get_or_past old i 0 past))
+    get_or-append_right (take offset old) (replicate (offset - length old) 0) (length old) i 0 short past
+    ∙ zero_at (offset - length old) (i - length old) ∙ sym (get_or_past old i 0 past))
     (cases_lt i (length old))
 
-get_or-overwritten : (old : List ℕ) (offset : ℕ) (bytes : List ℕ) (i : ℕ) → get_or (overwritten old offset bytes) i 0 ≡ byte_written bytes offset i (get_or old i 0)
+get_or-overwritten : (old : List ℕ) (offset : ℕ) (bytes : List ℕ) (i : ℕ)
+    → get_or (overwritten old offset bytes) i 0 ≡ byte_written bytes offset i (get_or old i 0)
 get_or-overwritten old offset bytes i =
     let front = take offset old ++ replicate (offset - length old) 0 in
-    let both : length (front ++ bytes) ≡ offset + length bytes = length-append front bytes ∙ ap (λ n. n + length bytes) (front_length old offset) in
+    let both : length (front ++ bytes) ≡ offset + length bytes =
+    length-append front bytes ∙ ap (λ n. n + length bytes) (front_length old offset) in
     ⊎_elim
     (λ low.
     get_or_append_left (front ++ bytes) (drop (offset + length bytes) old) 0 i (omega (arith, both))
@@ -57,33 +68,44 @@ get_or-overwritten old offset bytes i =
     ∙ sym (written_in bytes offset i (get_or old i 0) high within))
     (λ above.
     let same : offset + length bytes + (i - (offset + length bytes)) ≡ i = omega arith in
-    get_or-append_right (front ++ bytes) (drop (offset + length bytes) old) (offset + length bytes) i 0 both above
+    get_or-append_right (front ++ bytes) (drop (offset + length bytes) old)
+    (offset + length bytes) i 0 both above
     ∙ get_or-drop (offset + length bytes) old (i - (offset + length bytes)) 0
     ∙ ap (λ k. get_or old k 0) same
     ∙ sym (written_above bytes offset i (get_or old i 0) above))
     (cases_lt i (offset + length bytes)))
     (cases_lt i offset)
 
-length-overwritten : (old : List ℕ) (offset : ℕ) (bytes : List ℕ) → length (overwritten old offset bytes) ≡ max (length old) (offset + length bytes)
+length-overwritten : (old : List ℕ) (offset : ℕ) (bytes : List ℕ)
+    → length (overwritten old offset bytes) ≡ max (length old) (offset + length bytes)
 length-overwritten old offset bytes =
     let front = take offset old ++ replicate (offset - length old) 0 in
     length-append (front ++ bytes) (drop (offset + length bytes) old)
-    ∙ omega (arith, length-append front bytes, front_length old offset, length-drop (offset + length bytes) old)
+    ∙ omega
+    (arith, length-append front bytes, front_length old offset, length-drop (offset + length bytes) old)
 
 -- zeros stay behind the end
-pub overwrites-end : (blocks new : Blocks) (size offset : ℕ) (bytes : List ℕ) → EndsIn0 blocks size → Overwrites blocks new offset bytes → EndsIn0 new (max size (offset + length bytes))
+pub overwrites-end : (blocks new : Blocks) (size offset : ℕ) (bytes : List ℕ) → EndsIn0 blocks size
+    → Overwrites blocks new offset bytes → EndsIn0 new (max size (offset + length bytes))
 overwrites-end blocks new size offset bytes ends is k past =
-    is.bytes_at k ∙ written_above bytes offset k (byte_stored blocks k) (omega (arith, past)) ∙ ends k (omega (arith, past))
+    is.bytes_at k ∙ written_above bytes offset k (byte_stored blocks k) (omega (arith, past))
+    ∙ ends k (omega (arith, past))
 
-pub overwritten-stored : (blocks new : Blocks) (size offset : ℕ) (bytes : List ℕ) → EndsIn0 blocks size → Overwrites blocks new offset bytes
-    → overwritten (bytes_stored blocks size) offset bytes ≡ bytes_stored new (max size (offset + length bytes))
+pub overwritten-stored : (blocks new : Blocks) (size offset : ℕ) (bytes : List ℕ) → EndsIn0 blocks size
+    → Overwrites blocks new offset bytes
+    → overwritten (bytes_stored blocks size) offset bytes
+    ≡ bytes_stored new (max size (offset + length bytes))
 overwritten-stored blocks new size offset bytes ends is =
-    ext_get_or 0 (overwritten (bytes_stored blocks size) offset bytes) (bytes_stored new (max size (offset + length bytes)))
-    (length-overwritten (bytes_stored blocks size) offset bytes ∙ ap (λ n. max n (offset + length bytes)) (length-stored blocks size) ∙ sym (length-stored new (max size (offset + length bytes))))
+    ext_get_or 0 (overwritten (bytes_stored blocks size) offset bytes)
+    (bytes_stored new (max size (offset + length bytes)))
+    (length-overwritten (bytes_stored blocks size) offset bytes
+    ∙ ap (λ n. max n (offset + length bytes)) (length-stored blocks size)
+    ∙ sym (length-stored new (max size (offset + length bytes))))
     (λ k _. get_or-overwritten (bytes_stored blocks size) offset bytes k
     ∙ ap (byte_written bytes offset k) (get_or-stored blocks size ends k)
     ∙ sym (is.bytes_at k)
-    ∙ sym (get_or-stored new (max size (offset + length bytes)) (overwrites-end blocks new size offset bytes ends is) k))
+    ∙ sym (get_or-stored new (max size (offset + length bytes))
+    (overwrites-end blocks new size offset bytes ends is) k))
 
 -- ---- a truncation
 

@@ -14,7 +14,8 @@ use Rattle.nl_tree.specs.Held.{Held, Holding}
 use Rattle.nl_tree.specs.Overlays.{HasOrderedPages, IsOrderly, over_changed, over_if_slot}
 use Rattle.nl_tree.specs.Facts.Places.{one_slot, slot_kept, slot_written}
 
-module _ (m n : BTreeMap ℕ Slot) (j : ℕ) (slot w : Slot) (writes : WritesThrough nat_cmp (nat_cmp j) m w n) (there : Some slot ≡ map.get nat_cmp m j) where
+module _ (m n : BTreeMap ℕ Slot) (j : ℕ) (slot w : Slot) (writes : WritesThrough nat_cmp (nat_cmp j) m w n)
+    (there : Some slot ≡ map.get nat_cmp m j) where
   some : IsSome (map.get nat_cmp m j)
   some = subst (λ (o : Option Slot). IsSome o) there refl
 
@@ -35,26 +36,39 @@ module _ (m n : BTreeMap ℕ Slot) (j : ℕ) (slot w : Slot) (writes : WritesThr
       by_test (inr ne) = subst (λ (o : Option Slot). IsSome o) (slot_kept m n j i w writes some ne) has
 
   -- an overlay stays orderly
-  pub written_orderly : (o : Overlay) → o.changed ≡ m → (HasOrderedPages slot.what → HasOrderedPages w.what) → IsOrderly o → IsOrderly (record o { changed = n })
+  pub written_orderly : (o : Overlay) → o.changed ≡ m → (HasOrderedPages slot.what → HasOrderedPages w.what)
+      → IsOrderly o → IsOrderly (record o { changed = n })
   written_orderly o is keeps orderly = record {
     keys = writes.4;
     freed_numbers = orderly.freed_numbers;
     files = λ i s file at file_is. by_test i s file at file_is (cases_eq i j);
-    inodes = λ i has. orderly.inodes i (ap (λ changed. is_some (map.get nat_cmp changed i)) is ∙ places_from i has);
+    inodes = λ i has.
+        orderly.inodes i (ap (λ changed. is_some (map.get nat_cmp changed i)) is ∙ places_from i has);
   }
     where
-      by_test : (i : ℕ) (s : Slot) (file : FileBlocks) → map.get nat_cmp n i ≡ Some s → s.what ≡ File file → (i ≡ j) ⊎ (i ≡ j → ⊥) →
+      by_test : (i : ℕ) (s : Slot) (file : FileBlocks) → map.get nat_cmp n i ≡ Some s → s.what ≡ File file
+          → (i ≡ j) ⊎ (i ≡ j → ⊥) →
           map.IsOrdered nat_cmp file.pages
       by_test i s file at file_is (inl e) =
-          let same : w ≡ s = one_slot (map.get nat_cmp n j) w s (sym (slot_written m n j w writes some)) (ap (map.get nat_cmp n) (sym e) ∙ at) in
-          keeps (λ f f_is. orderly.files j slot f (ap (λ changed. map.get nat_cmp changed j) is ∙ sym there) f_is) file (ap (λ (x : Slot). x.what) same ∙ file_is)
+          let same : w ≡ s =
+          one_slot (map.get nat_cmp n j) w s (sym (slot_written m n j w writes some))
+          (ap (map.get nat_cmp n) (sym e) ∙ at) in
+          keeps
+          (λ f f_is. orderly.files j slot f (ap (λ changed. map.get nat_cmp changed j) is ∙ sym there) f_is)
+          file
+          (ap (λ (x : Slot). x.what) same ∙ file_is)
       by_test i s file at file_is (inr ne) =
-          orderly.files i s file (ap (λ changed. map.get nat_cmp changed i) is ∙ sym (slot_kept m n j i w writes some ne) ∙ at) file_is
+          orderly.files i s file
+          (ap (λ changed. map.get nat_cmp changed i) is ∙ sym (slot_kept m n j i w writes some ne) ∙ at)
+          file_is
 
 -- what shows over any checkpoint stays where the written slot shows the same
-pub written_still : (m n : BTreeMap ℕ Slot) (j : ℕ) (slot : Slot) (what : Changed) → WritesThrough nat_cmp (nat_cmp j) m (record { live = slot.live; what = what }) n →
-    Some slot ≡ map.get nat_cmp m j → ((base : Option Held) → over_changed what base ≡ over_changed slot.what base) →
-    (b : Holding) (i : ℕ) → over_if_slot (map.get nat_cmp n i) (b i) ≡ over_if_slot (map.get nat_cmp m i) (b i)
+pub written_still : (m n : BTreeMap ℕ Slot) (j : ℕ) (slot : Slot) (what : Changed)
+    → WritesThrough nat_cmp (nat_cmp j) m (record { live = slot.live; what = what }) n →
+    Some slot ≡ map.get nat_cmp m j
+    → ((base : Option Held) → over_changed what base ≡ over_changed slot.what base) →
+    (b : Holding) (i : ℕ)
+    → over_if_slot (map.get nat_cmp n i) (b i) ≡ over_if_slot (map.get nat_cmp m i) (b i)
 written_still m n j slot what writes there over b i = by_test (cases_eq i j)
   where
     written : Slot
@@ -63,9 +77,12 @@ written_still m n j slot what writes there over b i = by_test (cases_eq i j)
     some : IsSome (map.get nat_cmp m j)
     some = subst (λ (o : Option Slot). IsSome o) there refl
 
-    by_test : (i ≡ j) ⊎ (i ≡ j → ⊥) → over_if_slot (map.get nat_cmp n i) (b i) ≡ over_if_slot (map.get nat_cmp m i) (b i)
+    by_test : (i ≡ j) ⊎ (i ≡ j → ⊥)
+        → over_if_slot (map.get nat_cmp n i) (b i) ≡ over_if_slot (map.get nat_cmp m i) (b i)
     by_test (inl e) =
-        ap (λ (p : Option Slot). over_if_slot p (b i)) (ap (map.get nat_cmp n) e ∙ slot_written m n j written writes some)
+        ap (λ (p : Option Slot). over_if_slot p (b i))
+        (ap (map.get nat_cmp n) e ∙ slot_written m n j written writes some)
         ∙ ap (λ (h : Option Held). cond slot.live h (b i)) (over (b i))
         ∙ ap (λ (p : Option Slot). over_if_slot p (b i)) (there ∙ ap (map.get nat_cmp m) (sym e))
-    by_test (inr ne) = ap (λ (p : Option Slot). over_if_slot p (b i)) (slot_kept m n j i written writes some ne)
+    by_test (inr ne) =
+        ap (λ (p : Option Slot). over_if_slot p (b i)) (slot_kept m n j i written writes some ne)

@@ -64,10 +64,14 @@ abbrev long_file : ℕ → Tree
 long_file count = done (making (codes "/f") ∷ writing (codes "/f") 0 (replicate count 97) ∷ [])
 
 -- one byte behind a block's border is written, and the size stays
-written_behind_a_border : bytes_at (tree_after (long_file 1025) (writing (codes "/f") 1024 (codes "b") (long_file 1025))) (codes "/f") 1023 5 ≡ Ok (answer.Bytes (codes "ab"))
+written_behind_a_border : bytes_at
+    (tree_after (long_file 1025) (writing (codes "/f") 1024 (codes "b") (long_file 1025))) (codes "/f") 1023 5
+    ≡ Ok (answer.Bytes (codes "ab"))
 written_behind_a_border = refl
 
-size_stays : at (codes "/f") (stat (tree_after (long_file 1025) (writing (codes "/f") 1024 (codes "b") (long_file 1025)))) ≡ Ok (status.File 1025)
+size_stays : at (codes "/f")
+    (stat (tree_after (long_file 1025) (writing (codes "/f") 1024 (codes "b") (long_file 1025))))
+    ≡ Ok (status.File 1025)
 size_stays = refl
 
 -- three bytes at 5,000
@@ -94,7 +98,11 @@ read_over_end : bytes_at ten_bytes (codes "/f") 8 5 ≡ Ok (answer.Bytes (codes 
 read_over_end = refl
 
 -- a shorter size forgets what is behind it, and a longer one shows zeros there
-truncated : bytes_at (done (making (codes "/f") ∷ writing (codes "/f") 0 (codes "abcd") ∷ truncating (codes "/f") 2 ∷ truncating (codes "/f") 5 ∷ [])) (codes "/f") 0 9 ≡ Ok (answer.Bytes (codes "ab" ++ 0 ∷ 0 ∷ 0 ∷ []))
+truncated : bytes_at
+    (done (making (codes "/f") ∷ writing (codes "/f") 0 (codes "abcd") ∷ truncating (codes "/f") 2
+    ∷ truncating (codes "/f") 5 ∷ []))
+    (codes "/f") 0 9
+    ≡ Ok (answer.Bytes (codes "ab" ++ 0 ∷ 0 ∷ 0 ∷ []))
 truncated = refl
 
 -- ---- directories and renames
@@ -130,7 +138,8 @@ renamed_gone = refl
 renamed_gone_below : at (codes "/c/x") (stat renamed_dir) ≡ Err error.NotFound
 renamed_gone_below = refl
 
-renamed_names : at (codes "/") (list renamed_dir) ≡ Ok (named (codes "a", kind.Directory) ∷ named (codes "d", kind.Directory) ∷ [])
+renamed_names : at (codes "/") (list renamed_dir)
+    ≡ Ok (named (codes "a", kind.Directory) ∷ named (codes "d", kind.Directory) ∷ [])
 renamed_names = refl
 
 names_of_root : at (codes "/") (stat two_dirs) ≡ Ok (status.Dir 2)
@@ -142,7 +151,10 @@ not_empty = refl
 not_a_file : unlinking (codes "/c") two_dirs ≡ Err error.IsDir
 not_a_file = refl
 
-emptied : at (codes "/") (list (done (making_dir (codes "/a") ∷ making (codes "/a/x") ∷ unlinking (codes "/a/x") ∷ removing_dir (codes "/a") ∷ []))) ≡ Ok []
+emptied : at (codes "/")
+    (list (done (making_dir (codes "/a") ∷ making (codes "/a/x") ∷ unlinking (codes "/a/x")
+    ∷ removing_dir (codes "/a") ∷ [])))
+    ≡ Ok []
 emptied = refl
 
 root_stays : removing_dir (codes "/") two_dirs ≡ Err error.BadPath

@@ -27,7 +27,8 @@ module _ (cleaned : Reply) (w : World) (n : ℕ) (before : Copy) (was : copy_at 
   found-moded : (k : ℕ) (mode : Mode) → copy_at (after_mode w k mode) n ≡ Some (moded k mode n before)
   found-moded k mode = find-valued (moded k mode) w.copies n ∙ ap (option_map (moded k mode n)) was
 
-  found-copied : (mode : Mode) (now : ℕ) → find nat_cmp n (w.copies ++ (latest w + 1, new_copy w mode now) ∷ []) ≡ Some before
+  found-copied : (mode : Mode) (now : ℕ)
+      → find nat_cmp n (w.copies ++ (latest w + 1, new_copy w mode now) ∷ []) ≡ Some before
   found-copied mode now = find_stays w.copies ((latest w + 1, new_copy w mode now) ∷ []) n before was
 
   found-minored : (now : ℕ) → find nat_cmp n (w.copies ++ minor_copies w now) ≡ Some before
@@ -48,8 +49,10 @@ module _ (cleaned : Reply) (w : World) (n : ℕ) (before : Copy) (was : copy_at 
       (now : Copy) → copy_at done.1 n ≡ Some now
       → (now.tree ≡ before.tree) × (now.stamp ≡ before.stamp) × (now.minor ≡ before.minor)
 
-  alike : (now : Copy) → now ≡ before → (now.tree ≡ before.tree) × (now.stamp ≡ before.stamp) × (now.minor ≡ before.minor)
-  alike now same = (ap (λ (c : Copy). c.tree) same, ap (λ (c : Copy). c.stamp) same, ap (λ (c : Copy). c.minor) same)
+  alike : (now : Copy) → now ≡ before
+      → (now.tree ≡ before.tree) × (now.stamp ≡ before.stamp) × (now.minor ≡ before.minor)
+  alike now same =
+      (ap (λ (c : Copy). c.tree) same, ap (λ (c : Copy). c.stamp) same, ap (λ (c : Copy). c.minor) same)
 
   alike-moded : (k : ℕ) (mode : Mode) (now : Copy) → now ≡ moded k mode n before
       → (now.tree ≡ before.tree) × (now.stamp ≡ before.stamp) × (now.minor ≡ before.minor)
@@ -78,14 +81,19 @@ module _ (cleaned : Reply) (w : World) (n : ℕ) (before : Copy) (was : copy_at 
   -- ---- modes
 
   abbrev HasMode : Event → Outcome → Type 0
-  HasMode asked done = (now : Copy) → copy_at done.1 n ≡ Some now → (now.mode ≡ before.mode) ⊎ ChangesMode asked n now.mode
+  HasMode asked done =
+      (now : Copy) → copy_at done.1 n ≡ Some now → (now.mode ≡ before.mode) ⊎ ChangesMode asked n now.mode
 
-  same_mode : (asked : Event) (now : Copy) → now ≡ before → (now.mode ≡ before.mode) ⊎ ChangesMode asked n now.mode
+  same_mode : (asked : Event) (now : Copy) → now ≡ before
+      → (now.mode ≡ before.mode) ⊎ ChangesMode asked n now.mode
   same_mode asked now same = inl (ap (λ (c : Copy). c.mode) same)
 
-  mode-moded : (k : ℕ) (mode : Mode) (now : Copy) → copy_at (after_mode w k mode) n ≡ Some now → (now.mode ≡ before.mode) ⊎ ChangesMode (event.ChangeMode k mode) n now.mode
+  mode-moded : (k : ℕ) (mode : Mode) (now : Copy) → copy_at (after_mode w k mode) n ≡ Some now
+      → (now.mode ≡ before.mode) ⊎ ChangesMode (event.ChangeMode k mode) n now.mode
   mode-moded k mode now is =
-      elim (n == k) as (λ b. (n == k) ≡ b → now ≡ cond b (record before { mode = mode }) before → (now.mode ≡ before.mode) ⊎ ((k ≡ n) × (now.mode ≡ mode))) [
+      elim (n == k) as (λ b.
+      (n == k) ≡ b → now ≡ cond b (record before { mode = mode }) before
+      → (now.mode ≡ before.mode) ⊎ ((k ≡ n) × (now.mode ≡ mode))) [
         | true ↦ λ here same. inr (sym (eqb-true n k here), ap (λ (c : Copy). c.mode) same)
         | false ↦ λ _ same. inl (ap (λ (c : Copy). c.mode) same)
       ] refl (same_Some now (moded k mode n before) (sym is ∙ found-moded k mode))
@@ -95,13 +103,18 @@ module _ (cleaned : Reply) (w : World) (n : ℕ) (before : Copy) (was : copy_at 
     stays = λ asked _ _ now is. same_mode asked now (same_Some now before (sym is ∙ was));
     cleans = λ asked now is. same_mode asked now (same_Some now before (sym is ∙ was));
     changed = λ c _ _ now is. same_mode (event.Apply c) now (same_Some now before (sym is ∙ was));
-    copied = λ mode moment _ now is. same_mode (event.Checkpoint mode moment) now (same_Some now before (sym is ∙ found-copied mode moment));
+    copied = λ mode moment _ now is.
+        same_mode (event.Checkpoint mode moment) now
+        (same_Some now before (sym is ∙ found-copied mode moment));
     minored = λ segment limit moment _ now is.
-        same_mode (event.Move segment limit moment) now (same_Some now before (sym is ∙ found-minored moment));
+        same_mode (event.Move segment limit moment) now
+        (same_Some now before (sym is ∙ found-minored moment));
     moded = λ k mode _ now is. mode-moded k mode now is;
     removed = λ k _ now is. same_mode (event.Remove k) now (found-left (k ∷ []) now is);
-    ranged = λ first last now is. same_mode (event.RemoveRange first last) now (found-left (range_of w first last).removed now is);
-    expired = λ moment period now is. same_mode (event.Expire moment period) now (found-left (expiry_of w moment period) now is);
+    ranged = λ first last now is.
+        same_mode (event.RemoveRange first last) now (found-left (range_of w first last).removed now is);
+    expired = λ moment period now is.
+        same_mode (event.Expire moment period) now (found-left (expiry_of w moment period) now is);
     mounted = λ k _ _ _ _ now is. same_mode (event.Mount k) now (same_Some now before (sym is ∙ was));
     unmounted = λ m now is. same_mode (event.Unmount m) now (same_Some now before (sym is ∙ was));
   }
@@ -114,9 +127,12 @@ module _ (cleaned : Reply) (w : World) (n : ℕ) (before : Copy) (was : copy_at 
   -- a copy stays unless it is among those that go
   kept-unless : (gone : List ℕ) → (is_some (copy_at (take_out gone w) n) ≡ true) ⊎ (is_one_of gone n ≡ true)
   kept-unless gone =
-      elim (is_one_of gone n) as (λ b. is_one_of gone n ≡ b → (is_some (copy_at (take_out gone w) n) ≡ true) ⊎ (is_one_of gone n ≡ true)) [
+      elim (is_one_of gone n) as (λ b.
+      is_one_of gone n ≡ b → (is_some (copy_at (take_out gone w) n) ≡ true) ⊎ (is_one_of gone n ≡ true)) [
         | true ↦ λ goes. inr goes
-        | false ↦ λ left. inl (ap is_some (copy_at-take_out w gone n ∙ ap (λ b. cond b None (copy_at w n)) left ∙ was))
+        | false ↦
+            λ left.
+            inl (ap is_some (copy_at-take_out w gone n ∙ ap (λ b. cond b None (copy_at w n)) left ∙ was))
       ] refl
 
   removed_or_kept : (k : ℕ) → IsKept (event.Remove k) (Ok answer.Done, take_out (k ∷ []) w)
@@ -143,17 +159,24 @@ module _ (cleaned : Reply) (w : World) (n : ℕ) (before : Copy) (was : copy_at 
 -- a copy kept before and after has the same tree and stamp, and is minor if it was
 pub copies_stay : CopiesStay
 copies_stay cleaned reply old new asked n before now is was kept =
-    subst (IsAlike cleaned old n before was asked) is (step_gives cleaned (IsAlike cleaned old n before was) old (each_is_alike cleaned old n before was) asked) now kept
+    subst (IsAlike cleaned old n before was asked) is
+    (step_gives cleaned (IsAlike cleaned old n before was) old
+    (each_is_alike cleaned old n before was) asked)
+    now kept
 
 -- and the same mode, unless the event changes that
 pub modes_stay : ModesStay
 modes_stay cleaned reply old new asked n before now is was kept =
-    subst (HasMode cleaned old n before was asked) is (step_gives cleaned (HasMode cleaned old n before was) old (each_has_mode cleaned old n before was) asked) now kept
+    subst (HasMode cleaned old n before was asked) is
+    (step_gives cleaned (HasMode cleaned old n before was) old
+    (each_has_mode cleaned old n before was) asked)
+    now kept
 
 -- it stays kept, unless the event takes it out
 pub copies_are_kept : CopiesAreKept
 copies_are_kept cleaned reply old new asked n copy is was =
-    subst (IsKept cleaned old n copy was asked) is (step_gives cleaned (IsKept cleaned old n copy was) old (each_is_kept cleaned old n copy was) asked)
+    subst (IsKept cleaned old n copy was asked) is
+    (step_gives cleaned (IsKept cleaned old n copy was) old (each_is_kept cleaned old n copy was) asked)
 
 -- ---- mounts
 
@@ -187,23 +210,27 @@ module _ (cleaned : Reply) (w : World) (m n : ℕ) (was : find nat_cmp m w.mount
 -- a mount shows the same checkpoint, until it is given back
 pub mounts_stay : MountsStay
 mounts_stay cleaned reply old new asked m n is was =
-    subst (IsMounted cleaned old m n was asked) is (step_gives cleaned (IsMounted cleaned old m n was) old (each_is_mounted cleaned old m n was) asked)
+    subst (IsMounted cleaned old m n was asked) is
+    (step_gives cleaned (IsMounted cleaned old m n was) old (each_is_mounted cleaned old m n was) asked)
 
 -- where the mount is answered, it has a number above all that were given
 abbrev GivesNew : ℕ → World → Event → Outcome → Type 0
 GivesNew m w asked done = done.0 ≡ Ok (answer.Mount m) → (w.given < m) × (done.1.given ≡ m)
 
 -- where no mount is answered, there is nothing to show
-no_mount_is_new : (m : ℕ) (w : World) (asked : Event) (reply : Reply) (new : World) → IfOk reply IsNoMount → GivesNew m w asked (reply, new)
+no_mount_is_new : (m : ℕ) (w : World) (asked : Event) (reply : Reply) (new : World) → IfOk reply IsNoMount
+    → GivesNew m w asked (reply, new)
 no_mount_is_new m w asked reply new none is = absurd (subst (λ r. IfOk r IsNoMount) is none)
 
-each_is_new : (cleaned : Reply) (m : ℕ) → (cleaned ≢ Ok (answer.Mount m)) → (w : World) → EachEvent cleaned (GivesNew m w) w
+each_is_new : (cleaned : Reply) (m : ℕ) → (cleaned ≢ Ok (answer.Mount m)) → (w : World)
+    → EachEvent cleaned (GivesNew m w) w
 each_is_new cleaned m other w = record {
   stays = λ asked reply none. no_mount_is_new m w asked reply w none;
   cleans = λ _ is. absurd (other is);
   minored = λ _ _ _ _ is. absurd (other is);
   changed = λ c done is.
-      no_mount_is_new m w (event.Apply c) (Ok done.0) (after_change w c done.1) (subst (λ r. IfOk r (λ d. IsNoMount d.0)) is (change_gives_no_mount w.tree c));
+      no_mount_is_new m w (event.Apply c) (Ok done.0) (after_change w c done.1)
+      (subst (λ r. IfOk r (λ d. IsNoMount d.0)) is (change_gives_no_mount w.tree c));
   copied = λ _ _ _ is. absurd (subst (λ r. IfOk r IsNoMount) is tt);
   moded = λ _ _ _ is. absurd (subst (λ r. IfOk r IsNoMount) is tt);
   removed = λ _ _ is. absurd (subst (λ r. IfOk r IsNoMount) is tt);
@@ -216,7 +243,8 @@ each_is_new cleaned m other w = record {
 -- a mount that is made has a number above all that were given
 pub mount_numbers_are_new : MountNumbersAreNew
 mount_numbers_are_new cleaned old new asked m other is =
-    subst (GivesNew m old asked) is (step_gives cleaned (GivesNew m old) old (each_is_new cleaned m other old) asked) refl
+    subst (GivesNew m old asked) is
+    (step_gives cleaned (GivesNew m old) old (each_is_new cleaned m other old) asked) refl
 
 each_gives_no_less : (cleaned : Reply) (w : World) → EachEvent cleaned (λ _ done. w.given ≤ done.1.given) w
 each_gives_no_less cleaned w = record {
@@ -236,4 +264,5 @@ each_gives_no_less cleaned w = record {
 -- the count of those that were given never falls
 pub given_never_falls : GivenNeverFalls
 given_never_falls cleaned reply old new asked is =
-    subst (λ (done : Outcome). old.given ≤ done.1.given) is (step_gives cleaned (λ _ done. old.given ≤ done.1.given) old (each_gives_no_less cleaned old) asked)
+    subst (λ (done : Outcome). old.given ≤ done.1.given) is
+    (step_gives cleaned (λ _ done. old.given ≤ done.1.given) old (each_gives_no_less cleaned old) asked)

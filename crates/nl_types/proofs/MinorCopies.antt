@@ -13,12 +13,15 @@ use Rattle.nl_types.specs.Facts.NumberedLists.{AllBelow-top, find-push, find-pus
 use Rattle.nl_types.specs.Facts.EventCases.{refused_if_gives}
 
 module _ (w : World) (now : ℕ) (world : IsWorld w) where
-  made : (copy : Copy) → copy_at w (latest w) ≡ Some copy → MakesMinor now w (record w { copies = w.copies ++ (latest w + 1, minor_copy w now copy) ∷ [] })
+  made : (copy : Copy) → copy_at w (latest w) ≡ Some copy
+      → MakesMinor now w (record w { copies = w.copies ++ (latest w + 1, minor_copy w now copy) ∷ [] })
   made copy kept =
       let n = latest w + 1 in
       let below = AllBelow-top w.copies n (omega arith) in
       record {
-        made = find-push_same w.copies n (minor_copy w now copy) below ∙ sym (ap (option_map (minor_copy w now)) kept);
+        made =
+            find-push_same w.copies n (minor_copy w now copy) below
+            ∙ sym (ap (option_map (minor_copy w now)) kept);
         others = λ k other. find-push w.copies n (minor_copy w now copy) k below ∙ apart k other;
         tree = refl;
         dirty = refl;
@@ -26,10 +29,15 @@ module _ (w : World) (now : ℕ) (world : IsWorld w) where
         given = refl;
       }
     where
-      apart : (k : ℕ) → k ≢ latest w + 1 → cond (eq_by_cmp nat_cmp k (latest w + 1)) (Some (minor_copy w now copy)) (find nat_cmp k w.copies) ≡ find nat_cmp k w.copies
-      apart k other = elim (eq_by_cmp nat_cmp k (latest w + 1)) as (λ b. eq_by_cmp nat_cmp k (latest w + 1) ≡ b
+      apart : (k : ℕ) → k ≢ latest w + 1
+          → cond (eq_by_cmp nat_cmp k (latest w + 1)) (Some (minor_copy w now copy)) (find nat_cmp k w.copies)
+          ≡ find nat_cmp k w.copies
+      apart k other =
+          elim (eq_by_cmp nat_cmp k (latest w + 1)) as (λ b. eq_by_cmp nat_cmp k (latest w + 1) ≡ b
           → cond b (Some (minor_copy w now copy)) (find nat_cmp k w.copies) ≡ find nat_cmp k w.copies) [
-            | true ↦ λ same. absurd (other (eqb-true k (latest w + 1) (sym (unsigned_tied k (latest w + 1)) ∙ same)))
+            | true ↦
+                λ same.
+                absurd (other (eqb-true k (latest w + 1) (sym (unsigned_tied k (latest w + 1)) ∙ same)))
             | false ↦ λ _. refl
           ] refl
 
@@ -37,7 +45,9 @@ module _ (w : World) (now : ℕ) (world : IsWorld w) where
   makes-minor = by (copy_at w (latest w)) refl
     where
       from : Option Copy → World
-      from o = record w { copies = w.copies ++ option_map_or (λ copy. (latest w + 1, minor_copy w now copy) ∷ []) o [] }
+      from o = record w {
+        copies = w.copies ++ option_map_or (λ copy. (latest w + 1, minor_copy w now copy) ∷ []) o [];
+      }
 
       by : (o : Option Copy) → copy_at w (latest w) ≡ o → MakesMinor now w (from o)
       by None none = absurd (true≢false (sym world.latest_kept ∙ ap is_some none))
@@ -56,11 +66,14 @@ moves_make_minors cleaned old new segment limit now answer world moving is =
     Makes o = IfOk o.0 (λ _. MakesMinor now old o.1)
 
     spent : Outcome
-    spent = refused_if (leb checkpoint_number_limit (latest old + 1)) error.NumbersSpent old (cleaned, with_minor old now)
+    spent =
+        refused_if (leb checkpoint_number_limit (latest old + 1)) error.NumbersSpent old
+        (cleaned, with_minor old now)
 
     done : Makes spent
     done =
-        refused_if_gives Makes (leb checkpoint_number_limit (latest old + 1)) error.NumbersSpent old (cleaned, with_minor old now) (λ _. tt)
+        refused_if_gives Makes (leb checkpoint_number_limit (latest old + 1)) error.NumbersSpent old
+        (cleaned, with_minor old now) (λ _. tt)
         (λ _. where-ok cleaned (makes-minor old now world))
 
 pub idle_moves_stay : IdleMovesStay
@@ -71,4 +84,6 @@ idle_moves_stay cleaned reply old new segment limit now idle is =
     Stays o = o.1 ≡ old
 
     spent : Outcome
-    spent = refused_if (leb checkpoint_number_limit (latest old + 1)) error.NumbersSpent old (cleaned, with_minor old now)
+    spent =
+        refused_if (leb checkpoint_number_limit (latest old + 1)) error.NumbersSpent old
+        (cleaned, with_minor old now)

@@ -20,78 +20,104 @@ cases-Option None = inl refl
 cases-Option (Some x) = inr (x, refl)
 
 -- a birth's number has a page, with it
-pub with-some : (births : List Birth) (pages : Pages) (v : ℕ) → Contains (born births) v → IsSome (with_births births pages v)
+pub with-some : (births : List Birth) (pages : Pages) (v : ℕ) → Contains (born births) v
+    → IsSome (with_births births pages v)
 unfolding with_births
 with-some [] pages v c = absurd (let l = c.1 in omega arith)
-with-some (b ∷ births) pages v c = step (cases_eq v b.number) (λ n. with-some births pages v (later c.0 c.1 c.2 n))
+with-some (b ∷ births) pages v c =
+    step (cases_eq v b.number) (λ n. with-some births pages v (later c.0 c.1 c.2 n))
   where
-    later : (k : ℕ) → k < length (born (b ∷ births)) → get_or (born (b ∷ births)) k v ≡ v → (v ≡ b.number → ⊥) → Contains (born births) v
+    later : (k : ℕ) → k < length (born (b ∷ births)) → get_or (born (b ∷ births)) k v ≡ v → (v ≡ b.number → ⊥)
+        → Contains (born births) v
     later zero l e n = absurd (n (sym e))
     later (suc k) l e n = (k, omega arith, e)
 
-    step : (v ≡ b.number) ⊎ (v ≡ b.number → ⊥) → ((v ≡ b.number → ⊥) → IsSome (with_births births pages v)) → IsSome (with_births (b ∷ births) pages v)
+    step : (v ≡ b.number) ⊎ (v ≡ b.number → ⊥) → ((v ≡ b.number → ⊥) → IsSome (with_births births pages v))
+        → IsSome (with_births (b ∷ births) pages v)
     step (inl k) h = rw (eq-eqb v b.number k) refl
     step (inr k) h = rw (ne_eqb v b.number k) (h k)
 
 -- pages that are kept agree where a file reaches, whose numbers have pages
-agree-where : (pages more : Pages) (root : Root) → Includes pages more → ((level offset v : ℕ) → place_at pages root level offset ≡ Some v → IsSome (pages v)) → AgreeWhere pages more root
-agree-where pages more root u h level offset v e = let x = some-of (pages v) (h level offset v e) in u v x.0 x.1 ∙ sym x.1
+agree-where : (pages more : Pages) (root : Root) → Includes pages more
+    → ((level offset v : ℕ) → place_at pages root level offset ≡ Some v → IsSome (pages v))
+    → AgreeWhere pages more root
+agree-where pages more root u h level offset v e =
+    let x = some-of (pages v) (h level offset v e) in u v x.0 x.1 ∙ sym x.1
 
 -- the places of a file whose numbers have pages
-pub places-kept : (pages more : Pages) (root : Root) → Includes pages more → ((level offset v : ℕ) → place_at pages root level offset ≡ Some v → IsSome (pages v)) →
+pub places-kept : (pages more : Pages) (root : Root) → Includes pages more
+    → ((level offset v : ℕ) → place_at pages root level offset ≡ Some v → IsSome (pages v)) →
     (level offset : ℕ) → place_at more root level offset ≡ place_at pages root level offset
 places-kept pages more root u h = places-agree pages more root (agree-where pages more root u h)
 
 -- a sound file is the same file over more pages
-pub keeps-file : (pages more : Pages) (root : Root) → Includes pages more → IsSound pages root → KeepsFile pages more root
+pub keeps-file : (pages more : Pages) (root : Root) → Includes pages more → IsSound pages root
+    → KeepsFile pages more root
 keeps-file pages more root u s = file-stays pages more root s (agree-where pages more root u s.stored)
 
 -- a map read where there are pages
-pub block-kept : (pages more : Pages) (o : Option ℕ) → Includes pages more → ((v : ℕ) → o ≡ Some v → IsSome (pages v)) → option_and_then more o ≡ option_and_then pages o
-block-kept pages more o u h = block-agrees pages more o (λ v e. let x = some-of (pages v) (h v e) in u v x.0 x.1 ∙ sym x.1)
+pub block-kept : (pages more : Pages) (o : Option ℕ) → Includes pages more
+    → ((v : ℕ) → o ≡ Some v → IsSome (pages v)) → option_and_then more o ≡ option_and_then pages o
+block-kept pages more o u h =
+    block-agrees pages more o (λ v e. let x = some-of (pages v) (h v e) in u v x.0 x.1 ∙ sym x.1)
 
 -- births under unused numbers hide no page
-pub births-keep : (content : Content) (births : List Birth) → IsUnused content births → Includes (pages_of content) (with_births births (pages_of content))
-births-keep content births u n x e = with-old births (pages_of content) n x (λ v c. unused_page content v (u v c)) e
+pub births-keep : (content : Content) (births : List Birth) → IsUnused content births
+    → Includes (pages_of content) (with_births births (pages_of content))
+births-keep content births u n x e =
+    with-old births (pages_of content) n x (λ v c. unused_page content v (u v c)) e
 
-pub more-keep : (content : Content) (births more : List Birth) → IsUnused content more → Includes (with_births births (pages_of content)) (with_births (births ++ more) (pages_of content))
-more-keep content births more u n x e = with-more births more (pages_of content) n x (λ v c. unused_page content v (u v c)) e
+pub more-keep : (content : Content) (births more : List Birth) → IsUnused content more
+    → Includes (with_births births (pages_of content)) (with_births (births ++ more) (pages_of content))
+more-keep content births more u n x e =
+    with-more births more (pages_of content) n x (λ v c. unused_page content v (u v c)) e
 
 pub raw-numbered : (n : ℕ) → numbered (raw (numbered n)) ≡ numbered n
 raw-numbered zero = refl
 raw-numbered (suc n) = refl
 
-pub raw-slot : (s : ℕ) (o : Option (List ℕ)) → numbered (raw (option_and_then (λ (page : List ℕ). slot s page) o)) ≡ option_and_then (λ (page : List ℕ). slot s page) o
+pub raw-slot : (s : ℕ) (o : Option (List ℕ))
+    → numbered (raw (option_and_then (λ (page : List ℕ). slot s page) o))
+    ≡ option_and_then (λ (page : List ℕ). slot s page) o
 raw-slot s None = refl
 raw-slot s (Some page) = raw-numbered _
 
 -- what a listed chain has at its places
-pub listed-data : (pages : Pages) (root : Root) (nodes : List ℕ) (slots : List ℕ) → kind_of root ≢ OfTree → ChainAsLists pages root nodes slots →
+pub listed-data : (pages : Pages) (root : Root) (nodes : List ℕ) (slots : List ℕ) → kind_of root ≢ OfTree
+    → ChainAsLists pages root nodes slots →
     (i : ℕ) → place_at pages root 0 i ≡ names slots i
 listed-data pages root nodes slots t l i =
     let e = data-place pages root i t in
-    e ∙ (sym (raw-slot (i % 127) (option_and_then pages (place_at pages root 1 (i / 127)))) ∙ ap numbered (sym (ap raw e) ∙ l.slots_at i))
+    e
+    ∙ (sym (raw-slot (i % 127) (option_and_then pages (place_at pages root 1 (i / 127))))
+    ∙ ap numbered (sym (ap raw e) ∙ l.slots_at i))
 
-pub chain-of : (pages : Pages) (root : Root) (p v : ℕ) → kind_of root ≢ OfTree → place_at pages root 1 p ≡ Some v → kind_of root ≡ OfChain
+pub chain-of : (pages : Pages) (root : Root) (p v : ℕ) → kind_of root ≢ OfTree
+    → place_at pages root 1 p ≡ Some v → kind_of root ≡ OfChain
 unfolding place_at
 chain-of pages Empty p v t e = cc
 chain-of pages (Chain top) p v t e = refl
 chain-of pages (Tree height top) p v t e = absurd (t refl)
 
 -- the same changes of the same map
-pub blocks_with-same : (changes : List BlockChange) (f g : Pages) (i : ℕ) → f i ≡ g i → blocks_with changes f i ≡ blocks_with changes g i
+pub blocks_with-same : (changes : List BlockChange) (f g : Pages) (i : ℕ) → f i ≡ g i
+    → blocks_with changes f i ≡ blocks_with changes g i
 blocks_with-same [] f g i e = e
 blocks_with-same (c ∷ cs) f g i e = step (cases_eq i c.index) (blocks_with-same cs f g i e)
   where
-    step : (i ≡ c.index) ⊎ (i ≡ c.index → ⊥) → blocks_with cs f i ≡ blocks_with cs g i → blocks_with (c ∷ cs) f i ≡ blocks_with (c ∷ cs) g i
+    step : (i ≡ c.index) ⊎ (i ≡ c.index → ⊥) → blocks_with cs f i ≡ blocks_with cs g i
+        → blocks_with (c ∷ cs) f i ≡ blocks_with (c ∷ cs) g i
     step (inl k) h = rw (eq-eqb i c.index k) refl
     step (inr k) h = rw (ne_eqb i c.index k) h
 
 -- and after more room was made for its slots
-pub data-places : {pages : Pages} {root : Root} {nodes : List ℕ} {slots : List ℕ} (more given : List ℕ) → kind_of root ≢ OfTree → ChainAsLists pages root nodes slots →
-    ((i : ℕ) → get_or more i 0 ≡ get_or slots i 0) → given ≡ more → (i : ℕ) → place_at pages root 0 i ≡ names given i
+pub data-places : {pages : Pages} {root : Root} {nodes : List ℕ} {slots : List ℕ} (more given : List ℕ)
+    → kind_of root ≢ OfTree → ChainAsLists pages root nodes slots →
+    ((i : ℕ) → get_or more i 0 ≡ get_or slots i 0) → given ≡ more → (i : ℕ)
+    → place_at pages root 0 i ≡ names given i
 data-places {pages} {root} {nodes} {slots} more given t l same e i =
-    listed-data pages root nodes slots t l i ∙ (ap numbered (sym (same i)) ∙ ap (λ (xs : List ℕ). names xs i) (sym e))
+    listed-data pages root nodes slots t l i
+    ∙ (ap numbered (sym (same i)) ∙ ap (λ (xs : List ℕ). names xs i) (sym e))
 
 pub nothing-sound : (pages : Pages) → IsSound pages Empty
 unfolding place_at

@@ -8,25 +8,29 @@ use Rattle.nl_types.specs.Roots.{Chain, Empty, OfTree, Pages, Root, Tree, chain_
 use Rattle.nl_blocktree.specs.Private.Chains.{ChainAsLists, raw, top_of}
 use Rattle.nl_blocktree.specs.Facts.Chains.{chain_node-ended, chain_node-more}
 
-pub first-place : (pages : Pages) (root : Root) → kind_of root ≢ OfTree → top_of root ≡ place_at pages root 1 0
+pub first-place : (pages : Pages) (root : Root) → kind_of root ≢ OfTree
+    → top_of root ≡ place_at pages root 1 0
 unfolding place_at chain_node
 first-place pages Empty h = refl
 first-place pages (Chain top) h = refl
 first-place pages (Tree height top) h = absurd (h refl)
 
-pub next-place : (pages : Pages) (root : Root) (p : ℕ) → kind_of root ≢ OfTree → place_at pages root 1 (p + 1) ≡ child pages 127 (place_at pages root 1 p)
+pub next-place : (pages : Pages) (root : Root) (p : ℕ) → kind_of root ≢ OfTree
+    → place_at pages root 1 (p + 1) ≡ child pages 127 (place_at pages root 1 p)
 unfolding place_at
 next-place pages Empty p h = refl
 next-place pages (Chain top) p h = chain_node-more pages top p
 next-place pages (Tree height top) p h = absurd (h refl)
 
-pub data-place : (pages : Pages) (root : Root) (i : ℕ) → kind_of root ≢ OfTree → place_at pages root 0 i ≡ child pages (i % 127) (place_at pages root 1 (i / 127))
+pub data-place : (pages : Pages) (root : Root) (i : ℕ) → kind_of root ≢ OfTree
+    → place_at pages root 0 i ≡ child pages (i % 127) (place_at pages root 1 (i / 127))
 unfolding place_at
 data-place pages Empty i h = refl
 data-place pages (Chain top) i h = refl
 data-place pages (Tree height top) i h = absurd (h refl)
 
-pub ended-place : (pages : Pages) (root : Root) (p q : ℕ) → kind_of root ≢ OfTree → place_at pages root 1 p ≡ None → p ≤ q → place_at pages root 1 q ≡ None
+pub ended-place : (pages : Pages) (root : Root) (p q : ℕ) → kind_of root ≢ OfTree
+    → place_at pages root 1 p ≡ None → p ≤ q → place_at pages root 1 q ≡ None
 unfolding place_at
 ended-place pages Empty p q h e le = refl
 ended-place pages (Chain top) p q h e le = chain_node-ended pages top p q e le
@@ -42,7 +46,8 @@ slice_get-here [] y = refl
 slice_get-here (x ∷ xs) y = slice_get-here xs y
 
 -- one more node
-pub nodes-more : (f : ℕ → Option ℕ) (xs : List ℕ) (n : ℕ) → ((p : ℕ) → p < length xs → f p ≡ slice_get xs p) → Some n ≡ f (length xs) →
+pub nodes-more : (f : ℕ → Option ℕ) (xs : List ℕ) (n : ℕ) → ((p : ℕ) → p < length xs → f p ≡ slice_get xs p)
+    → Some n ≡ f (length xs) →
     (p : ℕ) → p < length xs + 1 → f p ≡ slice_get ((xs ++ n ∷ [])) p
 nodes-more f xs n before here p l = elim (cases_lt p (length xs)) [
   | inl b ↦ before p b ∙ sym (slice_get-before xs n p b)
@@ -52,7 +57,8 @@ nodes-more f xs n before here p l = elim (cases_lt p (length xs)) [
 ]
 
 -- and its slots
-pub slots-more : (pages : Pages) (root : Root) (count n : ℕ) (old new : List ℕ) → kind_of root ≢ OfTree → length old ≡ 127 * count →
+pub slots-more : (pages : Pages) (root : Root) (count n : ℕ) (old new : List ℕ) → kind_of root ≢ OfTree
+    → length old ≡ 127 * count →
     length new ≡ length old + 127 →
     ((i : ℕ) → i < length old → raw (place_at pages root 0 i) ≡ get_or old i 0) →
     ((i : ℕ) → i < length old → get_or new i 0 ≡ get_or old i 0) →
@@ -65,7 +71,8 @@ slots-more pages root count n old new h len long before kept added here i l = el
       let d : i / 127 ≡ count = omega arith in
       let r : i ≡ length old + i % 127 = omega arith in
       let s : i % 127 < 127 = omega arith in
-      ap raw (data-place pages root i h ∙ ap (child pages (i % 127)) (ap (place_at pages root 1) d ∙ sym here))
+      ap raw
+      (data-place pages root i h ∙ ap (child pages (i % 127)) (ap (place_at pages root 1) d ∙ sym here))
       ∙ (sym (added (i % 127) s) ∙ ap (λ (k : ℕ). get_or new k 0) (sym r))
 ]
 
@@ -73,7 +80,8 @@ slots-more pages root count n old new h len long before kept added here i l = el
 pub listed : (pages : Pages) (root : Root) (nodes : List ℕ) (slots : List ℕ) → kind_of root ≢ OfTree →
     length slots ≡ 127 * length nodes → place_at pages root 1 (length nodes) ≡ None →
     ((p : ℕ) → p < length nodes → place_at pages root 1 p ≡ slice_get nodes p) →
-    ((i : ℕ) → i < length slots → raw (place_at pages root 0 i) ≡ get_or slots i 0) → ChainAsLists pages root nodes slots
+    ((i : ℕ) → i < length slots → raw (place_at pages root 0 i) ≡ get_or slots i 0)
+    → ChainAsLists pages root nodes slots
 listed pages root nodes slots h len last ns ss = record {
   nodes_at = λ p. elim (cases_lt p (length nodes)) [
     | inl b ↦ ns p b
@@ -83,7 +91,8 @@ listed pages root nodes slots h len last ns ss = record {
     | inl b ↦ ss i b
     | inr a ↦
         let k : length nodes ≤ i / 127 = omega arith in
-        ap raw (data-place pages root i h ∙ ap (child pages (i % 127)) (ended-place pages root (length nodes) (i / 127) h last k))
+        ap raw (data-place pages root i h
+        ∙ ap (child pages (i % 127)) (ended-place pages root (length nodes) (i / 127) h last k))
         ∙ sym (get_or_past slots i 0 a)
   ];
 }
@@ -94,15 +103,19 @@ top_number Empty = 0
 top_number (Chain top) = top
 top_number (Tree height top) = 0
 
-node-place : (pages : Pages) (root : Root) (p : ℕ) → kind_of root ≢ OfTree → place_at pages root 1 p ≡ chain_node pages (top_number root) p
+node-place : (pages : Pages) (root : Root) (p : ℕ) → kind_of root ≢ OfTree
+    → place_at pages root 1 p ≡ chain_node pages (top_number root) p
 unfolding place_at chain_node top_number
 node-place pages Empty p h = sym (chain_node-ended pages 0 0 p refl (omega arith))
 node-place pages (Chain top) p h = refl
 node-place pages (Tree height top) p h = absurd (h refl)
 
 -- a node that stands behind another
-pub place-behind : (pages : Pages) (root : Root) (known position : ℕ) (from behind : Option ℕ) → kind_of root ≢ OfTree → known ≤ position → from ≡ place_at pages root 1 known →
-    ((top p : ℕ) → from ≡ chain_node pages top p → behind ≡ chain_node pages top (p + (position - known))) → behind ≡ place_at pages root 1 position
+pub place-behind : (pages : Pages) (root : Root) (known position : ℕ) (from behind : Option ℕ)
+    → kind_of root ≢ OfTree → known ≤ position → from ≡ place_at pages root 1 known →
+    ((top p : ℕ) → from ≡ chain_node pages top p → behind ≡ chain_node pages top (p + (position - known)))
+    → behind ≡ place_at pages root 1 position
 place-behind pages root known position from behind h le e f =
     let k : known + (position - known) ≡ position = omega arith in
-    f (top_number root) known (e ∙ node-place pages root known h) ∙ (ap (chain_node pages (top_number root)) k ∙ sym (node-place pages root position h))
+    f (top_number root) known (e ∙ node-place pages root known h)
+    ∙ (ap (chain_node pages (top_number root)) k ∙ sym (node-place pages root position h))

@@ -23,7 +23,8 @@ pub some-by : {A : Type 0} (o : Option A) → is_some o ≡ true → (x : A) × 
 some-by None h = cc
 some-by (Some x) h = (x, refl)
 
-pub some-by_none : {A : Type 0} (o : Option A) (r : Bool) → is_some o ≡ not r → r ≡ false → (x : A) × (o ≡ Some x)
+pub some-by_none : {A : Type 0} (o : Option A) (r : Bool) → is_some o ≡ not r → r ≡ false
+    → (x : A) × (o ≡ Some x)
 some-by_none None r e h = cc
 some-by_none (Some x) r e h = (x, refl)
 
@@ -43,7 +44,8 @@ pub ok-map : {A E : Type 0} (r : Result A E) (P Q : A → Type 0) → ((x : A) �
 ok-map (Ok x) P Q f p = f x p
 ok-map (Err e) P Q f p = tt
 
-pub ok-then : {A E : Type 0} {P : A → Type 0} (r : Result A E) → IfOk r P → (Q : A → Type 0) → ((x : A) → P x → Q x) → IfOk r Q
+pub ok-then : {A E : Type 0} {P : A → Type 0} (r : Result A E) → IfOk r P → (Q : A → Type 0)
+    → ((x : A) → P x → Q x) → IfOk r Q
 ok-then (Ok x) p Q f = f x p
 ok-then (Err e) p Q f = tt
 
@@ -57,7 +59,8 @@ both-first true b e = cc
 both-first false b e = refl
 
 -- two facts of what a call found give another
-pub some-both : {A : Type 0} {P Q R : A → Type 0} (o : Option A) → IfSome o P → IfSome o Q → ((x : A) → P x → Q x → R x) → IfSome o R
+pub some-both : {A : Type 0} {P Q R : A → Type 0} (o : Option A) → IfSome o P → IfSome o Q
+    → ((x : A) → P x → Q x → R x) → IfSome o R
 some-both None p q f = tt
 some-both (Some x) p q f = f x p q
 

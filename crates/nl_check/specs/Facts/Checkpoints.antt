@@ -43,7 +43,8 @@ any-has : (P : ℕ → Bool) (xs : List ℕ) → list_any P xs ≡ true → (k :
 any-has P [] h = cc
 any-has P (x ∷ xs) h = by (P x) refl h (λ t. any-has P xs t)
   where
-    by : (b : Bool) → P x ≡ b → (b || list_any P xs) ≡ true → (list_any P xs ≡ true → (k : ℕ) × (P k ≡ true)) → (k : ℕ) × (P k ≡ true)
+    by : (b : Bool) → P x ≡ b → (b || list_any P xs) ≡ true → (list_any P xs ≡ true → (k : ℕ) × (P k ≡ true))
+        → (k : ℕ) × (P k ≡ true)
     by true e t more = (x, e)
     by false e t more = more t
 
@@ -55,12 +56,14 @@ unfolding place_at
 empty-nowhere pages level offset v h = cc
 
 -- and a chain none above its nodes
-chain-nowhere : (pages : Pages) (top level offset v : ℕ) → place_at pages (Chain top) (suc (suc level)) offset ≡ Some v → ⊥
+chain-nowhere : (pages : Pages) (top level offset v : ℕ)
+    → place_at pages (Chain top) (suc (suc level)) offset ≡ Some v → ⊥
 unfolding place_at
 chain-nowhere pages top level offset v h = cc
 
 -- where the data of a file has low indices, so has every block of it
-low-offsets : (pages : Pages) (root : Root) → HasShape pages root → ((i v : ℕ) → place_at pages root 0 i ≡ Some v → i < 262144)
+low-offsets : (pages : Pages) (root : Root) → HasShape pages root
+    → ((i v : ℕ) → place_at pages root 0 i ≡ Some v → i < 262144)
     → (level offset v : ℕ) → place_at pages root level offset ≡ Some v → offset < 262144
 low-offsets pages root shape low zero offset v at = low offset v at
 low-offsets pages root shape low (suc level) offset v at = by root refl
@@ -68,19 +71,24 @@ low-offsets pages root shape low (suc level) offset v at = by root refl
     from_data : (i : ℕ) → HasData pages root i → i < 262144
     from_data i data_is = let v = some-of (place_at pages root 0 i) data_is in low i v.0 v.1
 
-    in_chain : (level : ℕ) (top : ℕ) → root ≡ Chain top → place_at pages root (suc level) offset ≡ Some v → offset < 262144
+    in_chain : (level : ℕ) (top : ℕ) → root ≡ Chain top → place_at pages root (suc level) offset ≡ Some v
+        → offset < 262144
     in_chain zero top is h =
         let d = shape.ends_full (ap kind_of is) offset v h in
         let high = from_data d.0 d.2 in
         let below : d.0 / 127 ≤ d.0 = omega arith in
         omega (arith, d.1, high, below)
-    in_chain (suc level) top is h = absurd (chain-nowhere pages top level offset v (sym (ap (λ (r : Root). place_at pages r (suc (suc level)) offset) is) ∙ h))
+    in_chain (suc level) top is h =
+        absurd (chain-nowhere pages top level offset v
+        (sym (ap (λ (r : Root). place_at pages r (suc (suc level)) offset) is) ∙ h))
 
     divided : (i n offset : ℕ) → i / n ≡ offset → i < 262144 → offset < 262144
     divided i n offset e h = let below : i / n ≤ i = omega arith in omega (arith, e, h, below)
 
     by : (r : Root) → root ≡ r → offset < 262144
-    by Empty is = absurd (empty-nowhere pages (suc level) offset v (sym (ap (λ (r : Root). place_at pages r (suc level) offset) is) ∙ at))
+    by Empty is =
+        absurd (empty-nowhere pages (suc level) offset v
+        (sym (ap (λ (r : Root). place_at pages r (suc level) offset) is) ∙ at))
     by (Chain top) is = in_chain level top is at
     by (Tree height top) is =
         let d = (shape.tree_shape (ap kind_of is)).above_data level offset v at in
@@ -89,10 +97,12 @@ low-offsets pages root shape low (suc level) offset v at = by root refl
 
 -- ---- what inodes in use hold
 
-held-of : (pages : Pages) (inode : Inode) (held : Option Held) → StandsFor pages (Some inode) held → (x : Held) × (held ≡ Some x)
+held-of : (pages : Pages) (inode : Inode) (held : Option Held) → StandsFor pages (Some inode) held
+    → (x : Held) × (held ≡ Some x)
 held-of pages inode held s = by inode.kind s
   where
-    by : (kind : InodeKind) → StandsAs (page_at pages (root_of inode.root)) kind inode.size held → (x : Held) × (held ≡ Some x)
+    by : (kind : InodeKind) → StandsAs (page_at pages (root_of inode.root)) kind inode.size held
+        → (x : Held) × (held ≡ Some x)
     by File s = (Stored inode.size (page_at pages (root_of inode.root)), s)
     by Directory s = (Listed s.0, s.2)
     by InodeFile s = absurd s
@@ -100,7 +110,9 @@ held-of pages inode held s = by inode.kind s
 module _ (pages : Pages) (root : Root) (holding : Holding) (holds : HoldsTree pages root holding) where
   inode-number : (i : ℕ) (inode : Inode) → inode_at pages root i ≡ Some inode → IsInodeNumber i
   inode-number i inode at =
-      let h = held-of pages inode (holding i) (subst (λ (o : Option Inode). StandsFor pages o (holding i)) at (holds.stores i)) in
+      let h =
+      held-of pages inode (holding i)
+      (subst (λ (o : Option Inode). StandsFor pages o (holding i)) at (holds.stores i)) in
       holds.sound.inode_numbers i h.0 h.1
 
   number-below : (i : ℕ) → IsInodeNumber i → i < 524288
@@ -110,18 +122,22 @@ module _ (pages : Pages) (root : Root) (holding : Holding) (holds : HoldsTree pa
   not-six n = elim n [ inl e ↦ omega (arith, e) | inr r ↦ let low = r.0 in omega (arith, low) ]
 
   -- an inode with blocks isn't the sixth
-  other-than-six : (i level offset v : ℕ) → place_at pages (inode_root (inode_at pages root i)) level offset ≡ Some v → i ≡ 6 → ⊥
+  other-than-six : (i level offset v : ℕ)
+      → place_at pages (inode_root (inode_at pages root i)) level offset ≡ Some v → i ≡ 6 → ⊥
   other-than-six i level offset v at six = by (inode_at pages root i) refl at
     where
-      by : (o : Option Inode) → inode_at pages root i ≡ o → place_at pages (inode_root o) level offset ≡ Some v → ⊥
+      by : (o : Option Inode) → inode_at pages root i ≡ o
+          → place_at pages (inode_root o) level offset ≡ Some v → ⊥
       by None is h = empty-nowhere pages level offset v h
       by (Some inode) is h = not-six (subst IsInodeNumber six (inode-number i inode is))
 
-module _ (pages : Pages) (root : Root) (size inodes : ℕ) (shape : IsShaped pages root) (tree : IsTreeOf pages root size inodes) where
+module _ (pages : Pages) (root : Root) (size inodes : ℕ) (shape : IsShaped pages root)
+    (tree : IsTreeOf pages root size inodes) where
   holds-tree : HoldsTree pages root tree.holding
   holds-tree = record { stores = tree.stores; sound = tree.limits }
 
-  page-there : (r : Root) → HasShape pages r → (i v : ℕ) → place_at pages r 0 i ≡ Some v → (page : List ℕ) × (page_at pages r i ≡ Some page)
+  page-there : (r : Root) → HasShape pages r → (i v : ℕ) → place_at pages r 0 i ≡ Some v
+      → (page : List ℕ) × (page_at pages r i ≡ Some page)
   page-there r s i v at =
       let p = some-of (pages v) (s.stored 0 i v at) in
       (p.0, ap (option_and_then pages) at ∙ p.1)
@@ -131,31 +147,42 @@ module _ (pages : Pages) (root : Root) (size inodes : ℕ) (shape : IsShaped pag
   low-inodes i v at =
       let page = page-there root (shape.files Itself) i v at in
       let used = in-block (λ k. inode_at pages root (8 * i + k)) page.0 (sym (shape.inodes i) ∙ page.1) in
-      let number = number-below pages root tree.holding holds-tree (8 * i + used.0) (inode-number pages root tree.holding holds-tree (8 * i + used.0) used.1 used.2) in
+      let number =
+      number-below pages root tree.holding holds-tree (8 * i + used.0)
+      (inode-number pages root tree.holding holds-tree (8 * i + used.0) used.1 used.2) in
       omega (arith, number)
     where
-      in-block : (block : ℕ → Option Inode) (page : List ℕ) → block_for block ≡ Some page → (k : ℕ) × (inode : Inode) × (block k ≡ Some inode)
+      in-block : (block : ℕ → Option Inode) (page : List ℕ) → block_for block ≡ Some page
+          → (k : ℕ) × (inode : Inode) × (block k ≡ Some inode)
       in-block block page h = by (list_any (λ place. is_some (block place)) block_places) refl h
         where
-          by : (b : Bool) → list_any (λ place. is_some (block place)) block_places ≡ b → cond b (Some (block_bytes block)) None ≡ Some page → (k : ℕ) × (inode : Inode) × (block k ≡ Some inode)
-          by true e h = let k = any-has (λ place. is_some (block place)) block_places e in let x = some-of (block k.0) k.1 in (k.0, x.0, x.1)
+          by : (b : Bool) → list_any (λ place. is_some (block place)) block_places ≡ b
+              → cond b (Some (block_bytes block)) None ≡ Some page
+              → (k : ℕ) × (inode : Inode) × (block k ≡ Some inode)
+          by true e h =
+              let k = any-has (λ place. is_some (block place)) block_places e in
+              let x = some-of (block k.0) k.1 in
+              (k.0, x.0, x.1)
           by false e h = cc
 
   -- and so have those of files and directories
-  low-blocks : (i : ℕ) (inode : Inode) (held : Option Held) → tree.holding i ≡ held → HasShape pages (root_of inode.root) → StandsFor pages (Some inode) held
+  low-blocks : (i : ℕ) (inode : Inode) (held : Option Held) → tree.holding i ≡ held
+      → HasShape pages (root_of inode.root) → StandsFor pages (Some inode) held
       → (j v : ℕ) → place_at pages (root_of inode.root) 0 j ≡ Some v → j < 262144
   low-blocks i inode held is s stands j v at = by inode.kind stands
     where
       blocks : ℕ → Option (List ℕ)
       blocks = page_at pages (root_of inode.root)
 
-      by : (kind : InodeKind) → StandsAs (page_at pages (root_of inode.root)) kind inode.size held → j < 262144
+      by : (kind : InodeKind) → StandsAs (page_at pages (root_of inode.root)) kind inode.size held
+          → j < 262144
       by File e = elim (cases_lt j 262144) [
         | inl low ↦ low
         | inr high ↦
             let page = page-there (root_of inode.root) s j v at in
             let file = tree.limits.each i (Stored inode.size (page_at pages (root_of inode.root))) (is ∙ e) in
-            absurd (no-clash (page_at pages (root_of inode.root) j) page.0 (file.none_past j (omega (arith, file.small, high))) page.1)
+            absurd (no-clash (page_at pages (root_of inode.root) j) page.0
+            (file.none_past j (omega (arith, file.small, high))) page.1)
       ]
       by Directory (records, h, e) =
           let page = page-there (root_of inode.root) s j v at in
@@ -164,7 +191,8 @@ module _ (pages : Pages) (root : Root) (size inodes : ℕ) (shape : IsShaped pag
           let there = within h.packed j page.0 (sym (h.stored j) ∙ page.1) in
           omega (arith, few, packed, there)
         where
-          within : (packed : List (List Record)) (j : ℕ) (page : List ℕ) → option_map packed_block (slice_get packed j) ≡ Some page → j < length packed
+          within : (packed : List (List Record)) (j : ℕ) (page : List ℕ)
+              → option_map packed_block (slice_get packed j) ≡ Some page → j < length packed
           within [] j page h = cc
           within (x ∷ xs) zero page h = omega arith
           within (x ∷ xs) (suc j) page h = let below = within xs j page h in omega (arith, below)
@@ -174,7 +202,8 @@ module _ (pages : Pages) (root : Root) (size inodes : ℕ) (shape : IsShaped pag
   low-data Itself i v at = low-inodes i v at
   low-data (Of n) i v at = by (inode_at pages root n) refl (shape.files (Of n)) (tree.stores n) at
     where
-      by : (o : Option Inode) → inode_at pages root n ≡ o → HasShape pages (inode_root o) → StandsFor pages o (tree.holding n) → place_at pages (inode_root o) 0 i ≡ Some v → i < 262144
+      by : (o : Option Inode) → inode_at pages root n ≡ o → HasShape pages (inode_root o)
+          → StandsFor pages o (tree.holding n) → place_at pages (inode_root o) 0 i ≡ Some v → i < 262144
       by None is s stands h = absurd (empty-nowhere pages 0 i v h)
       by (Some inode) is s stands h = low-blocks n inode (tree.holding n) refl s stands i v h
 
@@ -185,7 +214,9 @@ module _ (pages : Pages) (root : Root) (size inodes : ℕ) (shape : IsShaped pag
         in_range = low-offsets pages (root_for pages root owner) s (low-data owner);
         stored = s.stored;
         once = λ p q v a b.
-            let e = shape.once (record { owner = owner; level = p.0; offset = p.1 }) (record { owner = owner; level = q.0; offset = q.1 }) v a b in
+            let e =
+            shape.once (record { owner = owner; level = p.0; offset = p.1 })
+            (record { owner = owner; level = q.0; offset = q.1 }) v a b in
             ap (λ (at : At). (at.level, at.offset)) e;
         ends_full = s.ends_full;
         has_top = s.has_top;
@@ -200,7 +231,8 @@ module _ (pages : Pages) (root : Root) (size inodes : ℕ) (shape : IsShaped pag
     where
       by : (o : Option Held) → tree.holding i ≡ o → option_map inode_content o ≡ Some c → i < 524288
       by None at h = cc
-      by (Some held) at h = number-below pages root tree.holding holds-tree i (tree.limits.inode_numbers i held at)
+      by (Some held) at h =
+          number-below pages root tree.holding holds-tree i (tree.limits.inode_numbers i held at)
 
   stands : StandsForTree pages root inodes
   stands =
@@ -213,7 +245,8 @@ module _ (pages : Pages) (root : Root) (size inodes : ℕ) (shape : IsShaped pag
       }
 
 pub sound_trees_are_meant : SoundTreesAreMeant
-sound_trees_are_meant pages root size inodes shape tree = (sound-tree pages root size inodes shape tree, stands pages root size inodes shape tree)
+sound_trees_are_meant pages root size inodes shape tree =
+    (sound-tree pages root size inodes shape tree, stands pages root size inodes shape tree)
 
 -- ---- numbers
 
@@ -229,7 +262,8 @@ roots-of : (pages : Pages) (root : Root) (i : ℕ) → roots_at pages root i ≡
 unfolding owner-of
 roots-of pages root i = by (i == 6)
   where
-    by : (b : Bool) → cond b root (inode_root (inode_at pages root i)) ≡ root_for pages root (cond b Itself (Of i))
+    by : (b : Bool)
+        → cond b root (inode_root (inode_at pages root i)) ≡ root_for pages root (cond b Itself (Of i))
     by true = refl
     by false = refl
 
@@ -244,7 +278,8 @@ owner-back i = by (i == 6) refl
 at-of : Place → At
 at-of q = record { owner = owner-of q.inode; level = q.level; offset = q.offset }
 
-met-there : (pages : Pages) (root : Root) (q : Place) → numbers_of pages (roots_at pages root) q ≡ met pages root (at-of q)
+met-there : (pages : Pages) (root : Root) (q : Place)
+    → numbers_of pages (roots_at pages root) q ≡ met pages root (at-of q)
 unfolding at-of
 met-there pages root q = ap (λ (r : Root). place_at pages r q.level q.offset) (roots-of pages root q.inode)
 
@@ -260,34 +295,50 @@ module _ (pages : Pages) (root : Root) (holding : Holding) (holds : HoldsTree pa
   place-of at = record { inode = number-of-owner at.owner; level = at.level; offset = at.offset }
 
   -- what is met is at the place of the same file
-  numbered : (at : At) (v : ℕ) → met pages root at ≡ Some v → numbers_of pages (roots_at pages root) (place-of at) ≡ Some v
+  numbered : (at : At) (v : ℕ) → met pages root at ≡ Some v
+      → numbers_of pages (roots_at pages root) (place-of at) ≡ Some v
   unfolding place-of number-of-owner owner-of
   numbered at v h = by at.owner refl h
     where
-      to : (o : Owner) → root_for pages root (owner-of (number-of-owner o)) ≡ root_for pages root o → at.owner ≡ o → place_at pages (root_for pages root o) at.level at.offset ≡ Some v
+      to : (o : Owner) → root_for pages root (owner-of (number-of-owner o)) ≡ root_for pages root o
+          → at.owner ≡ o → place_at pages (root_for pages root o) at.level at.offset ≡ Some v
           → numbers_of pages (roots_at pages root) (place-of at) ≡ Some v
       to o same is h =
           ap (λ (r : Root). place_at pages r at.level at.offset)
-          (roots-of pages root (number-of-owner at.owner) ∙ (ap (λ (w : Owner). root_for pages root (owner-of (number-of-owner w))) is ∙ same)) ∙ h
+          (roots-of pages root (number-of-owner at.owner)
+          ∙ (ap (λ (w : Owner). root_for pages root (owner-of (number-of-owner w))) is ∙ same))
+          ∙ h
 
-      by : (o : Owner) → at.owner ≡ o → place_at pages (root_for pages root o) at.level at.offset ≡ Some v → numbers_of pages (roots_at pages root) (place-of at) ≡ Some v
+      by : (o : Owner) → at.owner ≡ o → place_at pages (root_for pages root o) at.level at.offset ≡ Some v
+          → numbers_of pages (roots_at pages root) (place-of at) ≡ Some v
       by Itself is h = to Itself refl is h
-      by (Of i) is h = to (Of i) (ap (λ b. root_for pages root (cond b Itself (Of i))) (ne_eqb i 6 (other-than-six pages root holding holds i at.level at.offset v h))) is h
+      by (Of i) is h =
+          to (Of i) (ap (λ b. root_for pages root (cond b Itself (Of i)))
+          (ne_eqb i 6 (other-than-six pages root holding holds i at.level at.offset v h)))
+          is h
 
   -- places of what is met tell whose it is
-  owner-there : (at : At) (v : ℕ) → met pages root at ≡ Some v → at.owner ≡ owner-of (number-of-owner at.owner)
+  owner-there : (at : At) (v : ℕ) → met pages root at ≡ Some v
+      → at.owner ≡ owner-of (number-of-owner at.owner)
   unfolding number-of-owner owner-of
   owner-there at v h = by at.owner refl h
     where
-      by : (o : Owner) → at.owner ≡ o → place_at pages (root_for pages root o) at.level at.offset ≡ Some v → at.owner ≡ owner-of (number-of-owner at.owner)
+      by : (o : Owner) → at.owner ≡ o → place_at pages (root_for pages root o) at.level at.offset ≡ Some v
+          → at.owner ≡ owner-of (number-of-owner at.owner)
       by Itself is h = is ∙ ap (λ (w : Owner). owner-of (number-of-owner w)) (sym is)
-      by (Of i) is h = is ∙ (sym (ap (λ b. cond b Itself (Of i)) (ne_eqb i 6 (other-than-six pages root holding holds i at.level at.offset v h))) ∙ ap (λ (w : Owner). owner-of (number-of-owner w)) (sym is))
+      by (Of i) is h =
+          is
+          ∙ (sym (ap (λ b. cond b Itself (Of i))
+          (ne_eqb i 6 (other-than-six pages root holding holds i at.level at.offset v h)))
+          ∙ ap (λ (w : Owner). owner-of (number-of-owner w)) (sym is))
 
 -- an entry with its period
-entry-with : (content : Content) (v : ℕ) (period : Period) → periods_of content v ≡ Some period → (e : Entry) × (content v ≡ Some e) × (period_of e ≡ period)
+entry-with : (content : Content) (v : ℕ) (period : Period) → periods_of content v ≡ Some period
+    → (e : Entry) × (content v ≡ Some e) × (period_of e ≡ period)
 entry-with content v period is = by (content v) refl is
   where
-    by : (o : Option Entry) → content v ≡ o → option_map period_of o ≡ Some period → (e : Entry) × (content v ≡ Some e) × (period_of e ≡ period)
+    by : (o : Option Entry) → content v ≡ o → option_map period_of o ≡ Some period
+        → (e : Entry) × (content v ≡ Some e) × (period_of e ≡ period)
     by None at h = cc
     by (Some e) at h = (e, at, cc)
 
@@ -302,7 +353,9 @@ exact_periods_are_exact content c root size inodes shape tree meets = record {
       let e = entry-with content v m.0 m.1 in
       (e.0, e.1, covers-has c e.0 ∙ (ap (has c) e.2 ∙ m.2));
   once = λ p q v a b.
-      let e = shape.once (at-of p) (at-of q) v (sym (met-there pages root p) ∙ a) (sym (met-there pages root q) ∙ b) in
+      let e =
+      shape.once (at-of p) (at-of q) v (sym (met-there pages root p) ∙ a)
+      (sym (met-there pages root q) ∙ b) in
       same-place p q
       (sym (owner-back p.inode) ∙ (ap (λ (at : At). number-of-owner at.owner) e ∙ owner-back q.inode))
       (ap (λ (at : At). at.level) e) (ap (λ (at : At). at.offset) e);
@@ -325,9 +378,12 @@ sound_checkpoints_are_shaped content c root holding sound holds exact = record {
   files = shaped;
   inodes = sound.inodes;
   once = λ p q v a b.
-      let e = exact.once (place p) (place q) v (numbered (pages_of content) root holding holds p v a) (numbered (pages_of content) root holding holds q v b) in
+      let e =
+      exact.once (place p) (place q) v (numbered (pages_of content) root holding holds p v a)
+      (numbered (pages_of content) root holding holds q v b) in
       same-at p q
-      (owner-there (pages_of content) root holding holds p v a ∙ (ap owner-of (inodes_equal p q e) ∙ sym (owner-there (pages_of content) root holding holds q v b)))
+      (owner-there (pages_of content) root holding holds p v a
+      ∙ (ap owner-of (inodes_equal p q e) ∙ sym (owner-there (pages_of content) root holding holds q v b)))
       (ap (λ (x : Place). x.level) e) (ap (λ (x : Place). x.offset) e);
 }
   where
@@ -338,7 +394,8 @@ sound_checkpoints_are_shaped content c root holding sound holds exact = record {
     inodes_equal p q e = ap (λ (x : Place). x.inode) e
 
     shape_of : (r : Root) → IsSound (pages_of content) r → HasShape (pages_of content) r
-    shape_of r s = record { stored = s.stored; has_top = s.has_top; ends_full = s.ends_full; tree_shape = s.tree_shape }
+    shape_of r s =
+        record { stored = s.stored; has_top = s.has_top; ends_full = s.ends_full; tree_shape = s.tree_shape }
 
     shaped : (owner : Owner) → HasShape (pages_of content) (root_for (pages_of content) root owner)
     shaped Itself = shape_of root sound.inode_file
@@ -353,7 +410,11 @@ sound_checkpoints_meet_all content c root size holding tree inodes sound holds m
     stores = holds.stores;
     limits = holds.sound;
     forms = formed;
-    counted = sym means.count ∙ (ap (λ (t : trees.Tree). length t) (inodes_mean_one_tree (inodes_of_holding holding) tree again.0 means.means again.1.means) ∙ again.1.count);
+    counted =
+        sym means.count
+        ∙ (ap (λ (t : trees.Tree). length t)
+        (inodes_mean_one_tree (inodes_of_holding holding) tree again.0 means.means again.1.means)
+        ∙ again.1.count);
     sized = sized;
   };
   exact = record {
@@ -378,7 +439,9 @@ sound_checkpoints_meet_all content c root size holding tree inodes sound holds m
       where
         by : (o : Option Held) → holding i ≡ o → option_map inode_content o ≡ Some x → i < 524288
         by None at h = cc
-        by (Some held) at h = number-below (pages_of content) root holding holds i (holds.sound.inode_numbers i held at)
+        by (Some held) at h =
+            number-below (pages_of content) root holding holds i (holds.sound.inode_numbers i held at)
 
-    again : (t : trees.Tree) × MeansPaths (inodes_of_holding holding) t (used_below (inodes_of_holding holding) 524288)
+    again : (t : trees.Tree)
+        × MeansPaths (inodes_of_holding holding) t (used_below (inodes_of_holding holding) 524288)
     again = formed_trees_are_meant (inodes_of_holding holding) 524288 below formed

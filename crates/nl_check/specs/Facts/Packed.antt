@@ -20,7 +20,8 @@ sizes-most (r ∷ rs) fit =
     let rest = sizes-most rs (λ k d l. fit (suc k) d (omega arith)) in
     omega (arith, one.most, rest)
 
-pub packed-few : (rs : List Record) (blocks : List (List Record)) → IsPacked rs blocks → AllHaveSpelling rs → 3 * length blocks ≤ length rs + 2
+pub packed-few : (rs : List Record) (blocks : List (List Record)) → IsPacked rs blocks → AllHaveSpelling rs
+    → 3 * length blocks ≤ length rs + 2
 packed-few _ _ no_blocks fit = omega arith
 packed-few _ _ (last_block r rs fits) fit = omega arith
 packed-few _ _ (full_block r rs n rest blocks fits full more) fit =

@@ -42,7 +42,8 @@ use Rattle.nl_core.specs.Facts.MorePages.{sound-stays}
 
 -- ---- what is written
 
-module _ (old new : Layout) (mode : Mode) (moment : ℕ) (writes : HasWrittenCheckpoint mode moment old new) where
+module _ (old new : Layout) (mode : Mode) (moment : ℕ)
+    (writes : HasWrittenCheckpoint mode moment old new) where
   abbrev changes : Changes
   changes = writes.settled.changes
 
@@ -58,14 +59,17 @@ module _ (old new : Layout) (mode : Mode) (moment : ℕ) (writes : HasWrittenChe
   kept-next = ap kept_by writes.lists ∙ ap (λ (c : Checkpoint). kept_by old.lists ++ c ∷ []) (sym latest-next)
 
   content-next : content_in new.store
-      ≡ written writes.settled.changes.births writes.settled.changes.ends (old.lists.table.latest.number + 1) (content_in old.store)
+      ≡ written writes.settled.changes.births writes.settled.changes.ends (old.lists.table.latest.number + 1)
+      (content_in old.store)
   content-next =
-      writes.written.content ∙ ap (λ (n : ℕ). written changes.births changes.ends n (content_in old.store)) number-next
+      writes.written.content
+      ∙ ap (λ (n : ℕ). written changes.births changes.ends n (content_in old.store)) number-next
 
   births-next : layout_pages new ≡ with_births writes.settled.changes.births (layout_pages old)
   births-next =
       ap pages_of content-next
-      ∙ pages-written changes.births changes.ends (old.lists.table.latest.number + 1) (content_in old.store) writes.settled.fits.once
+      ∙ pages-written changes.births changes.ends (old.lists.table.latest.number + 1)
+      (content_in old.store) writes.settled.fits.once
 
   -- the pages that there were stay
   pub pages-stay : Keeps (layout_pages old) (layout_pages new)
@@ -75,10 +79,15 @@ module _ (old new : Layout) (mode : Mode) (moment : ℕ) (writes : HasWrittenChe
 
   -- and so do the kept checkpoints
   pub kept-stay : IsSoundPen old
-      → All (λ (c : Checkpoint). CheckpointStays (layout_pages old) (layout_pages new) (root_of (checkpoint_root c))) (kept_by old.lists)
-  kept-stay sound = All-weaker (λ (c : Checkpoint). IsTreeSound (layout_pages old) (root_of (checkpoint_root c)))
-      (λ (c : Checkpoint). CheckpointStays (layout_pages old) (layout_pages new) (root_of (checkpoint_root c)))
-      (λ c is. sound-stays (layout_pages old) (layout_pages new) (root_of (checkpoint_root c)) is pages-stay) (kept_by old.lists) sound.trees_sound
+      → All (λ (c : Checkpoint).
+      CheckpointStays (layout_pages old) (layout_pages new) (root_of (checkpoint_root c)))
+      (kept_by old.lists)
+  kept-stay sound =
+      All-weaker (λ (c : Checkpoint). IsTreeSound (layout_pages old) (root_of (checkpoint_root c)))
+      (λ (c : Checkpoint).
+      CheckpointStays (layout_pages old) (layout_pages new) (root_of (checkpoint_root c)))
+      (λ c is. sound-stays (layout_pages old) (layout_pages new) (root_of (checkpoint_root c)) is pages-stay)
+      (kept_by old.lists) sound.trees_sound
 
 -- ---- behind it
 
@@ -103,13 +112,18 @@ module _ (old new : Layout) (mode : Mode) (moment : ℕ) (sound : IsSoundPen old
   -- the tree that is settled is the one that stands
   settles : Settles (content_in old.store) old_root new_root old.lists.current.became held batch
   settles =
-      subst (λ (h : Holding). Settles (content_in old.store) old_root new_root old.lists.current.became h batch)
+      subst
+      (λ (h : Holding). Settles (content_in old.store) old_root new_root old.lists.current.became h batch)
       (writes.settled.current.holds ∙ ap (holding_over old.lists.current.became)
-      (roots-hold_one (layout_pages old) old_root writes.settled.base base writes.settled.current.base_is stands.latest.stores))
+      (roots-hold_one
+      (layout_pages old) old_root writes.settled.base base writes.settled.current.base_is
+      stands.latest.stores))
       writes.settled.settles
 
   follows : HoldsSettled (ledger_of old) new_root held batch
-  follows = settled-follow (capacity old.store) (ledger_of old) old_root new_root base held old.lists.current.became batch
+  follows =
+      settled-follow (capacity old.store)
+      (ledger_of old) old_root new_root base held old.lists.current.became batch
       sound.ledger stands.latest settles writes.settled.fits
 
   content-behind : content_in new.store ≡ behind.content
@@ -132,21 +146,24 @@ module _ (old new : Layout) (mode : Mode) (moment : ℕ) (sound : IsSoundPen old
 
   found-next : (n : ℕ) → found new n ≡ or_latest n (found old n)
   found-next n =
-      ap (λ (kept : List Checkpoint). find nat_cmp n (map by_number kept)) (kept-next old new mode moment writes)
+      ap (λ (kept : List Checkpoint). find nat_cmp n (map by_number kept))
+      (kept-next old new mode moment writes)
       ∙ sym (found-push n (kept_by old.lists) new.lists.table.latest (found old n) refl)
 
   found-latest : found new new.lists.table.latest.number ≡ Some new.lists.table.latest
   found-latest =
       found-next new.lists.table.latest.number
       ∙ (ap (or_latest new.lists.table.latest.number) (ap (found old) number-behind ∙ none-next old sound)
-      ∙ cond-true (eqb new.lists.table.latest.number new.lists.table.latest.number) (Some new.lists.table.latest) None
+      ∙ cond-true (eqb new.lists.table.latest.number new.lists.table.latest.number)
+      (Some new.lists.table.latest) None
       (eq-eqb new.lists.table.latest.number new.lists.table.latest.number refl))
 
   found-others : (n : ℕ) → (new.lists.table.latest.number ≡ n → ⊥) → found new n ≡ found old n
   found-others n other =
       found-next n
       ∙ (ap (option_or (found old n))
-      (cond-false (eqb new.lists.table.latest.number n) (Some new.lists.table.latest) None (ne_eqb new.lists.table.latest.number n other))
+      (cond-false (eqb new.lists.table.latest.number n) (Some new.lists.table.latest) None
+      (ne_eqb new.lists.table.latest.number n other))
       ∙ or_none (found old n))
     where
       or_none : (o : Option Checkpoint) → option_or o None ≡ o
@@ -156,13 +173,19 @@ module _ (old new : Layout) (mode : Mode) (moment : ℕ) (sound : IsSoundPen old
   -- ---- what kept checkpoints reach
 
   reached-latest : reached_by (layout_pages new) new.lists.table.latest ≡ numbers_at behind behind.latest
-  reached-latest = ap (λ (pages : Pages). numbers_of pages (roots_at pages new_root)) pages-behind ∙ sym follows.is_latest.numbers
+  reached-latest =
+      ap (λ (pages : Pages). numbers_of pages (roots_at pages new_root)) pages-behind
+      ∙ sym follows.is_latest.numbers
 
   reached-others : (n : ℕ) (o : Option Checkpoint) → found old n ≡ o
       → option_map (reached_by (layout_pages new)) o ≡ option_map (reached_by (layout_pages old)) o
   reached-others n None is = refl
   reached-others n (Some c) is =
-      ap Some (found-all (λ (k : Checkpoint). CheckpointStays (layout_pages old) (layout_pages new) (root_of (checkpoint_root k))) n (kept_by old.lists) c
+      ap Some (found-all
+      (λ (k : Checkpoint).
+      CheckpointStays (layout_pages old) (layout_pages new) (root_of (checkpoint_root k)))
+      n
+      (kept_by old.lists) c
       (kept-stay old new mode moment writes sound) is).numbers
 
   reached-behind : (n : ℕ) → option_map (reached_by (layout_pages new)) (found new n) ≡ behind.kept n
@@ -182,7 +205,8 @@ module _ (old new : Layout) (mode : Mode) (moment : ℕ) (sound : IsSoundPen old
   -- ---- what is left
 
   -- the write is one that there may be
-  pub allowed-behind : Allowed (Makes writes.settled.changes.births writes.settled.changes.ends) (ledger_of old)
+  pub allowed-behind : Allowed (Makes writes.settled.changes.births writes.settled.changes.ends)
+      (ledger_of old)
   allowed-behind = follows.allowed
 
   -- the ledger goes on by the births and the ends
@@ -193,17 +217,24 @@ module _ (old new : Layout) (mode : Mode) (moment : ℕ) (sound : IsSoundPen old
     kept = λ n. reached-behind n i;
   }
 
-  kept-behind : All (λ (c : Checkpoint). IsTreeSound (layout_pages new) (root_of (checkpoint_root c))) (kept_by old.lists)
-  kept-behind = All-weaker (λ (c : Checkpoint). CheckpointStays (layout_pages old) (layout_pages new) (root_of (checkpoint_root c)))
-      (λ (c : Checkpoint). IsTreeSound (layout_pages new) (root_of (checkpoint_root c))) (λ c stays. stays.sound) (kept_by old.lists)
+  kept-behind : All (λ (c : Checkpoint). IsTreeSound (layout_pages new) (root_of (checkpoint_root c)))
+      (kept_by old.lists)
+  kept-behind =
+      All-weaker (λ (c : Checkpoint).
+      CheckpointStays (layout_pages old) (layout_pages new) (root_of (checkpoint_root c)))
+      (λ (c : Checkpoint). IsTreeSound (layout_pages new) (root_of (checkpoint_root c)))
+      (λ c stays. stays.sound) (kept_by old.lists)
       (kept-stay old new mode moment writes sound)
 
   -- what is true of every pen, but that it means a world
   pub sound-behind : IsStore new.store → IsSoundPen new
   sound-behind is_store = record {
     ledger = subst IsLedger (sym ledger-behind) follows.is_ledger;
-    trees_sound = subst (All (λ (c : Checkpoint). IsTreeSound (layout_pages new) (root_of (checkpoint_root c)))) (sym (kept-next old new mode moment writes))
-        (All-push (λ (c : Checkpoint). IsTreeSound (layout_pages new) (root_of (checkpoint_root c))) (kept_by old.lists) new.lists.table.latest kept-behind
+    trees_sound =
+        subst (All (λ (c : Checkpoint). IsTreeSound (layout_pages new) (root_of (checkpoint_root c))))
+        (sym (kept-next old new mode moment writes))
+        (All-push (λ (c : Checkpoint). IsTreeSound (layout_pages new) (root_of (checkpoint_root c)))
+        (kept_by old.lists) new.lists.table.latest kept-behind
         (subst (λ (pages : Pages). IsTreeSound pages new_root) (sym pages-behind) follows.is_latest.sound));
     latest = found-latest;
     last = subst (λ (n : ℕ). n < checkpoint_number_limit) (sym number-behind) writes.left;
@@ -214,16 +245,21 @@ module _ (old new : Layout) (mode : Mode) (moment : ℕ) (sound : IsSoundPen old
   pub stands-behind : StandsOverLatest (ledger_of new) (root_of (latest_root new.lists)) new.lists.current
       (holding_over old.lists.current.became base) tree
   stands-behind =
-      subst (λ (now : Current). StandsOverLatest (ledger_of new) new_root now held tree) (sym (ap (λ (l : Lists). l.current) writes.lists))
-      (subst (λ (ledger : Ledger). StandsOverLatest ledger new_root (record old.lists.current { became = [] }) held tree) (sym ledger-behind)
-      (settled_trees-go_on (capacity old.store) (ledger_of old) old_root new_root old.lists.current base tree batch stands settles
+      subst (λ (now : Current). StandsOverLatest (ledger_of new) new_root now held tree)
+      (sym (ap (λ (l : Lists). l.current) writes.lists))
+      (subst (λ (ledger : Ledger).
+      StandsOverLatest ledger new_root (record old.lists.current { became = [] }) held tree)
+      (sym ledger-behind)
+      (settled_trees-go_on (capacity old.store)
+      (ledger_of old) old_root new_root old.lists.current base tree batch stands settles
       writes.settled.fits))
 
   -- numbers keep what they stand for
   pub numbers-behind : KeepsNumbers old new
   numbers-behind = record {
     covered = subst (KeepsCovered (ledger_of old)) (sym ledger-behind)
-        (covered_kept_all (Makes batch.births batch.ends ∷ []) (ledger_of old) sound.ledger (follows.allowed, tt));
+        (covered_kept_all (Makes batch.births batch.ends ∷ []) (ledger_of old) sound.ledger
+        (follows.allowed, tt));
     ends = subst (EndsOnce (ledger_of old)) (sym ledger-behind)
         (ends_once (Makes batch.births batch.ends) (ledger_of old) follows.allowed);
   }
@@ -231,7 +267,10 @@ module _ (old new : Layout) (mode : Mode) (moment : ℕ) (sound : IsSoundPen old
   -- exactly what differs is written
   pub differs-behind : WritesBetween old new writes.settled.changes
   differs-behind =
-      subst (λ (pages : Pages). WritesWhatDiffers (layout_pages old) pages (roots_at (layout_pages old) old_root) (roots_at pages new_root) 6
+      subst (λ (pages : Pages).
+      WritesWhatDiffers (layout_pages old) pages (roots_at (layout_pages old) old_root)
+      (roots_at pages new_root) 6
       batch.births batch.ends) (sym pages-behind)
-      (settled-differ (capacity old.store) (ledger_of old) old_root new_root base held old.lists.current.became batch
+      (settled-differ (capacity old.store)
+      (ledger_of old) old_root new_root base held old.lists.current.became batch
       sound.ledger stands.latest settles writes.settled.fits)

@@ -59,7 +59,10 @@ module _ (old : Layout) (store : Store) (same : content_in store ≡ content_in 
       world = (pen.world.0, same_means pen.world.0 pen.world.1);
       sound = record {
         ledger = subst IsLedger (sym same_ledger) pen.sound.ledger;
-        trees_sound = subst (λ (content : Content). All (λ (c : Checkpoint). IsTreeSound (pages_of content) (root_of (checkpoint_root c))) (kept_by old.lists))
+        trees_sound =
+            subst (λ (content : Content).
+            All (λ (c : Checkpoint). IsTreeSound (pages_of content) (root_of (checkpoint_root c)))
+            (kept_by old.lists))
             (sym same) pen.sound.trees_sound;
         latest = pen.sound.latest;
         last = pen.sound.last;
@@ -79,7 +82,8 @@ same_lists old new lists = ap (λ (ls : Lists). layout_of ls new.store) lists
 pub same-content : (old new : Layout) → IsPen old → new.lists ≡ old.lists → IsStore new.store
     → content_in new.store ≡ content_in old.store → StaysPen old new
 same-content old new pen lists is_store same =
-    subst (λ (l : Layout). StaysPen old l) (sym (same_lists old new lists)) (stays-content old new.store same pen is_store)
+    subst (λ (l : Layout). StaysPen old l) (sym (same_lists old new lists))
+    (stays-content old new.store same pen is_store)
 
 pub moves_keep_pens : MovesKeepPens
 moves_keep_pens segment checkpoint stamp numbers old new pen lists is_store moved =
@@ -87,7 +91,8 @@ moves_keep_pens segment checkpoint stamp numbers old new pen lists is_store move
 
 -- the same numbers have the same content
 pub content-of : (old new : Store) → new.numbers ≡ old.numbers → content_in new ≡ content_in old
-content-of old new same = ap (λ (numbers : List (Option Numbered)). λ (v : ℕ). option_map entry_now (get_or numbers v None)) same
+content-of old new same =
+    ap (λ (numbers : List (Option Numbered)). λ (v : ℕ). option_map entry_now (get_or numbers v None)) same
 
 pub refused-numbers : (checkpoint stamp : ℕ) (numbers : List ℕ) (e : VolError) (old new : Store)
     → IsMoveRefused checkpoint stamp numbers old new e → new.numbers ≡ old.numbers
@@ -105,15 +110,20 @@ refused_moves_keep_pens checkpoint stamp numbers e old new pen lists is_store re
 -- ---- numbers that are taken out
 
 -- each kept checkpoint holds something
-pub all-held : (l : Layout) (kept : List Checkpoint) (copies : List (ℕ × Copy)) → AllZip (CopyMeans (layout_pages l)) kept copies
-    → All (λ (c : Checkpoint). (held : Holding) × HoldsTree (layout_pages l) (root_of (checkpoint_root c)) held) kept
+pub all-held : (l : Layout) (kept : List Checkpoint) (copies : List (ℕ × Copy))
+    → AllZip (CopyMeans (layout_pages l)) kept copies
+    → All
+    (λ (c : Checkpoint). (held : Holding) × HoldsTree (layout_pages l) (root_of (checkpoint_root c)) held)
+    kept
 all-held l [] copies means i d low = absurd (omega (arith, low))
 all-held l (c ∷ kept) [] means i d low = absurd means
 all-held l (c ∷ kept) (copy ∷ copies) means zero d low = (means.0.tree.held, means.0.tree.holds)
-all-held l (c ∷ kept) (copy ∷ copies) means (suc i) d low = all-held l kept copies means.1 i d (omega (arith, low))
+all-held l (c ∷ kept) (copy ∷ copies) means (suc i) d low =
+    all-held l kept copies means.1 i d (omega (arith, low))
 
 module _ (segment count : ℕ) (old : Layout) (store : Store) (pen : IsPen old) (is_store : IsStore store)
-    (none : needed_now (kept_store old) segment ≡ []) (reclaimed : IsReclaimed segment count old.store store) where
+    (none : needed_now (kept_store old) segment ≡ [])
+    (reclaimed : IsReclaimed segment count old.store store) where
   abbrev left_layout : Layout
   left_layout = layout_of old.lists store
 
@@ -123,20 +133,29 @@ module _ (segment count : ℕ) (old : Layout) (store : Store) (pen : IsPen old) 
   abbrev StaysHere : Checkpoint → Type 0
   StaysHere c = CheckpointStays (layout_pages old) (layout_pages left_layout) (root_of (checkpoint_root c))
 
-  parts : Allowed (Frees gone) (ledger_of old) × ((v : ℕ) → content_in store v ≡ cond (gone v) None (content_in old.store v))
-  parts = retiring-is-allowed segment count (ledger_of old) (kept_store old) (kept_store left_layout) pen.sound.store
+  parts : Allowed (Frees gone) (ledger_of old)
+      × ((v : ℕ) → content_in store v ≡ cond (gone v) None (content_in old.store v))
+  parts =
+      retiring-is-allowed segment count (ledger_of old) (kept_store old)
+      (kept_store left_layout) pen.sound.store
       (kept-ledger old) none reclaimed
 
   -- pages stay at every number that a kept checkpoint reaches
   agree : (c : Checkpoint) → found c.number (kept_by old.lists) ≡ Some c
       → AgreeAtCheckpoint (layout_pages old) (layout_pages left_layout) (root_of (checkpoint_root c))
   agree c at i level offset v is =
-      let numbers : (ledger_of old).kept c.number ≡ Some (reached_by (layout_pages old) c) = ap (option_map (reached_by (layout_pages old))) at in
-      let (e, in_use, covering) = (pen.sound.ledger.exact c.number (reached_by (layout_pages old) c) numbers).reached
+      let numbers : (ledger_of old).kept c.number ≡ Some (reached_by (layout_pages old) c) =
+      ap (option_map (reached_by (layout_pages old))) at in
+      let (e, in_use, covering) =
+      (pen.sound.ledger.exact c.number (reached_by (layout_pages old) c) numbers).reached
       (record { inode = i; level = level; offset = offset }) v is in
       elim (cases_Bool (gone v)) [
-        | inl t ↦ absurd (both_ways (covers c.number e) (parts.0 v e c.number (reached_by (layout_pages old) c) t in_use numbers) covering)
-        | inr t ↦ ap (option_map (λ (x : Entry). x.page)) (parts.1 v ∙ ap (λ b. cond b None (content_in old.store v)) t)
+        | inl t ↦
+            absurd (both_ways (covers c.number e)
+            (parts.0 v e c.number (reached_by (layout_pages old) c) t in_use numbers) covering)
+        | inr t ↦
+            ap (option_map (λ (x : Entry). x.page))
+            (parts.1 v ∙ ap (λ b. cond b None (content_in old.store v)) t)
       ]
 
   kept-left : All StaysHere (kept_by old.lists)
@@ -144,8 +163,10 @@ module _ (segment count : ℕ) (old : Layout) (store : Store) (pen : IsPen old) 
       let c = get_or (kept_by old.lists) i d in
       let means = pen.world.1 in
       let holds = all-held old (kept_by old.lists) pen.world.0.copies means.copies i d low in
-      checkpoints-stay (layout_pages old) (layout_pages left_layout) (root_of (checkpoint_root c)) holds.0 (pen.sound.trees_sound i d low) holds.1
-      (agree c (found-own (layout_pages old) (kept_by old.lists) pen.world.0.copies means.copies means.world.numbers_rise i d low))
+      checkpoints-stay (layout_pages old) (layout_pages left_layout) (root_of (checkpoint_root c)) holds.0
+      (pen.sound.trees_sound i d low) holds.1
+      (agree c (found-own (layout_pages old)
+      (kept_by old.lists) pen.world.0.copies means.copies means.world.numbers_rise i d low))
 
   -- ---- the ledger
 
@@ -165,32 +186,45 @@ module _ (segment count : ℕ) (old : Layout) (store : Store) (pen : IsPen old) 
   numbers-left = record {
     covered = subst (KeepsCovered (ledger_of old)) (sym ledger-left)
         (covered_kept_all (Frees gone ∷ []) (ledger_of old) pen.sound.ledger (parts.0, tt));
-    ends = subst (EndsOnce (ledger_of old)) (sym ledger-left) (ends_once (Frees gone) (ledger_of old) parts.0);
+    ends =
+        subst (EndsOnce (ledger_of old)) (sym ledger-left) (ends_once (Frees gone) (ledger_of old) parts.0);
   }
 
   -- ---- the pen
 
   latest-left : StaysHere old.lists.table.latest
-  latest-left = found-all StaysHere old.lists.table.latest.number (kept_by old.lists) old.lists.table.latest kept-left pen.sound.latest
+  latest-left =
+      found-all StaysHere old.lists.table.latest.number
+      (kept_by old.lists) old.lists.table.latest kept-left pen.sound.latest
 
   means-left : (w : World) → MeansWorld old w → MeansWorld left_layout w
   means-left w means = record {
     world = means.world;
     tree = record {
       base = means.tree.base;
-      holds = record { stores = latest-left.stores means.tree.base means.tree.holds.stores; sound = means.tree.holds.sound };
+      holds = record {
+        stores = latest-left.stores means.tree.base means.tree.holds.stores;
+        sound = means.tree.holds.sound;
+      };
       stands = means.tree.stands;
     };
     dirty = means.dirty;
-    copies = copies-stay (layout_pages old) (layout_pages left_layout) (kept_by old.lists) w.copies kept-left means.copies;
+    copies =
+        copies-stay (layout_pages old) (layout_pages left_layout)
+        (kept_by old.lists) w.copies kept-left means.copies;
     mounts = means.mounts;
     given = means.given;
   }
 
   sound-left : IsSoundPen left_layout
   sound-left = record {
-    ledger = subst IsLedger (sym ledger-left) (ledger_after-IsLedger (Frees gone) (ledger_of old) pen.sound.ledger parts.0);
-    trees_sound = All-weaker StaysHere (λ (c : Checkpoint). IsTreeSound (layout_pages left_layout) (root_of (checkpoint_root c))) (λ c stays. stays.sound)
+    ledger =
+        subst IsLedger (sym ledger-left)
+        (ledger_after-IsLedger (Frees gone) (ledger_of old) pen.sound.ledger parts.0);
+    trees_sound =
+        All-weaker StaysHere
+        (λ (c : Checkpoint). IsTreeSound (layout_pages left_layout) (root_of (checkpoint_root c)))
+        (λ c stays. stays.sound)
         (kept_by old.lists) kept-left;
     latest = pen.sound.latest;
     last = pen.sound.last;
@@ -200,7 +234,8 @@ module _ (segment count : ℕ) (old : Layout) (store : Store) (pen : IsPen old) 
   leaves-left : LeavesPen segment old left_layout
   leaves-left = record {
     allowed = parts.0;
-    unreached = λ c v q numbers kept reaches. retired-segments-are-unreached segment c v q numbers (ledger_of old) (kept_store old)
+    unreached = λ c v q numbers kept reaches.
+        retired-segments-are-unreached segment c v q numbers (ledger_of old) (kept_store old)
         pen.sound.store (kept-ledger old) pen.sound.ledger.exact none kept reaches;
     ledger = ledger-left;
     pen = record { world = (pen.world.0, means-left pen.world.0 pen.world.1); sound = sound-left };

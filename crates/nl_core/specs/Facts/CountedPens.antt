@@ -57,7 +57,8 @@ use Rattle.nl_core.specs.Facts.TableChanges.{all-with_mode, all-without, left, m
 
 -- ---- the latest checkpoint, and what is needed
 
-pub latest-of : (l : Layout) → IsSoundPen l → IsLatest l.lists.table.latest.number (kept_numbers l.lists) l.store
+pub latest-of : (l : Layout) → IsSoundPen l
+    → IsLatest l.lists.table.latest.number (kept_numbers l.lists) l.store
 latest-of l sound = record {
   there = found-among l.lists.table.latest.number (kept_by l.lists) l.lists.table.latest sound.latest;
   last = λ c among.
@@ -66,40 +67,50 @@ latest-of l sound = record {
   bounded = sound.ledger.bounded;
 }
 
-pub tells-needs : (l : Lists) → TellsNeeds (is_period_needed (staying_numbers 0 (rows l.table))) (kept_numbers l)
+pub tells-needs : (l : Lists)
+    → TellsNeeds (is_period_needed (staying_numbers 0 (rows l.table))) (kept_numbers l)
 tells-needs l p = ap (λ (ns : List ℕ). is_period_needed ns p) (staying-all (kept_by l))
 
 -- ---- what changes lists alone
 
 -- the same checkpoints are kept, whatever is answered
-pub kept-unless : (r : Reply) (old new done : Lists) → IfOk r (λ _. new ≡ done) → OnErr r (new ≡ old) → kept_numbers done ≡ kept_numbers old
+pub kept-unless : (r : Reply) (old new done : Lists) → IfOk r (λ _. new ≡ done) → OnErr r (new ≡ old)
+    → kept_numbers done ≡ kept_numbers old
     → kept_numbers new ≡ kept_numbers old
 kept-unless (Ok a) old new done is same kept = ap kept_numbers is ∙ kept
 kept-unless (Err e) old new done is same kept = ap kept_numbers same
 
-numbers-moded : (n : ℕ) (mode : Mode) (kept : List Checkpoint) → cpfile.kept_numbers (map (moded n mode) kept) ≡ cpfile.kept_numbers kept
+numbers-moded : (n : ℕ) (mode : Mode) (kept : List Checkpoint)
+    → cpfile.kept_numbers (map (moded n mode) kept) ≡ cpfile.kept_numbers kept
 numbers-moded n mode [] = refl
 numbers-moded n mode (c ∷ kept) =
-    ap (λ (m : ℕ). m ∷ cpfile.kept_numbers (map (moded n mode) kept)) (moded-same (λ (d : Checkpoint). d.number) n mode c refl)
+    ap (λ (m : ℕ). m ∷ cpfile.kept_numbers (map (moded n mode) kept))
+    (moded-same (λ (d : Checkpoint). d.number) n mode c refl)
     ∙ ap (λ (ms : List ℕ). c.number ∷ ms) (numbers-moded n mode kept)
 
-pub kept-moded : (n : ℕ) (mode : Mode) (l : Lists) → kept_numbers (with_checkpoint_mode n mode l) ≡ kept_numbers l
-kept-moded n mode l = ap cpfile.kept_numbers (all-with_mode n mode l.table) ∙ numbers-moded n mode (all l.table)
+pub kept-moded : (n : ℕ) (mode : Mode) (l : Lists)
+    → kept_numbers (with_checkpoint_mode n mode l) ≡ kept_numbers l
+kept-moded n mode l =
+    ap cpfile.kept_numbers (all-with_mode n mode l.table) ∙ numbers-moded n mode (all l.table)
 
 -- so the counts stay
-pub counts-over : (old new : Lists) (s : Store) (c : Counted) → kept_numbers new ≡ kept_numbers old → AreNeededCounts (layout_of old s) c
+pub counts-over : (old new : Lists) (s : Store) (c : Counted) → kept_numbers new ≡ kept_numbers old
+    → AreNeededCounts (layout_of old s) c
     → AreNeededCounts (layout_of new s) c
 counts-over old new s c kept counted = subst (λ (ns : List ℕ). IsCounted s ns c) (sym kept) counted
 
 -- ---- a checkpoint
 
-module _ (old new : Layout) (mode : Mode) (moment : ℕ) (batch : Changes) (has : HasWrittenBatch mode moment batch old new) where
+module _ (old new : Layout) (mode : Mode) (moment : ℕ) (batch : Changes)
+    (has : HasWrittenBatch mode moment batch old new) where
   -- over a current tree that stands over the latest checkpoint
   pub written-over : (sound : IsSoundPen old) (base : Holding) (tree : Tree)
       → StandsOverLatest (ledger_of old) (root_of (latest_root old.lists)) old.lists.current base tree
       → IsNextWritten new.lists.table.latest.number batch (kept_numbers old.lists) old.store new.store
   written-over sound base tree stands =
-      subst (λ (b : Changes). IsNextWritten new.lists.table.latest.number b (kept_numbers old.lists) old.store new.store) has.batch_is
+      subst (λ (b : Changes).
+      IsNextWritten new.lists.table.latest.number b (kept_numbers old.lists) old.store new.store)
+      has.batch_is
       (record {
         sound = sound.store;
         latest = old.lists.table.latest.number;
@@ -111,7 +122,8 @@ module _ (old new : Layout) (mode : Mode) (moment : ℕ) (batch : Changes) (has 
         written = has.writes.written;
       })
 
-  pub next-written : IsPen old → IsNextWritten new.lists.table.latest.number batch (kept_numbers old.lists) old.store new.store
+  pub next-written : IsPen old
+      → IsNextWritten new.lists.table.latest.number batch (kept_numbers old.lists) old.store new.store
   next-written pen =
       let means = pen.world.1.tree in
       written-over pen.sound means.base pen.world.0.tree (stands-latest old pen.sound pen.world.0.tree means)
@@ -122,11 +134,14 @@ module _ (old new : Layout) (mode : Mode) (moment : ℕ) (batch : Changes) (has 
       ∙ map-push (λ (c : Checkpoint). c.number) (kept_by old.lists) new.lists.table.latest
 
 -- where it is refused, be it in the middle of its writes
-pub refused-counts : RefusedWritesKeepCounts → (old new : Layout) (mode : Mode) (moment : ℕ) (e : VolError) (c : Counted) → IsStore old.store → IsStore new.store
+pub refused-counts : RefusedWritesKeepCounts
+    → (old new : Layout) (mode : Mode) (moment : ℕ) (e : VolError) (c : Counted) → IsStore old.store
+    → IsStore new.store
     → HasRefused (event.Checkpoint mode moment) e old new → AreNeededCounts old c → AreNeededCounts new c
 refused-counts keep old new mode moment error.Fault c old-store new-store refused counted =
     subst (λ (l : Lists). AreNeededCounts (layout_of l new.store) c) (sym refused.lists)
-    (keep (old.lists.table.latest.number + 1) (max moment old.lists.table.latest.stamp) refused.settled.changes error.Fault (kept_numbers old.lists) c
+    (keep (old.lists.table.latest.number + 1)
+    (max moment old.lists.table.latest.stamp) refused.settled.changes error.Fault (kept_numbers old.lists) c
     old.store new.store old-store new-store refused.store counted)
 refused-counts keep old new mode moment _ c old-store new-store refused counted =
     subst (λ (l : Layout). AreNeededCounts l c) (sym refused.0) counted
@@ -141,19 +156,26 @@ module _ (s : Store) (needed : Entry → Bool) (segment : ℕ) where
   as-many = length-map-range_with_len (needed_count s needed) 0 (length s.segments.each)
 
   -- what is told of a segment that there is
-  pub told-count : (n : ℕ) → ◌≡◌ {A = Result ℕ VolError} (Ok n) (told (slice_get (needed_counts s needed) segment))
+  pub told-count : (n : ℕ)
+      → ◌≡◌ {A = Result ℕ VolError} (Ok n) (told (slice_get (needed_counts s needed) segment))
       → (segment < length s.segments.each) × (n ≡ needed_count s needed segment)
   told-count n is = elim (slice_get_cases (needed_counts s needed) segment).1 [
     | inl there ↦
         let found : ◌≡◌ {A = Result ℕ VolError} (Ok n) (Ok there.0) = is ∙ ap told there.2 in
         let one : n ≡ there.0 = cc in
-        let low : segment < length s.segments.each = omega (arith, there.1, as-many) in
-        (low, one ∙ sym there.3 ∙ get_or-map-range_with_len (needed_count s needed) 0 (length s.segments.each) segment segment there.0 low (omega arith))
-    | inr past ↦ let none : ◌≡◌ {A = Result ℕ VolError} (Ok n) (Err error.BadRange) = is ∙ ap told past.1 in cc
+        let low : segment < length s.segments.each = omega (arith, there.1, as-many) in (
+          low,
+          one ∙ sym there.3
+              ∙ get_or-map-range_with_len (needed_count s needed) 0
+              (length s.segments.each) segment segment there.0 low (omega arith),
+        )
+    | inr past ↦
+        let none : ◌≡◌ {A = Result ℕ VolError} (Ok n) (Err error.BadRange) = is ∙ ap told past.1 in cc
   ]
 
   -- where there is none, no segment is retired
-  pub told-none : (e : VolError) → ◌≡◌ {A = Result ℕ VolError} (Err e) (told (slice_get (needed_counts s needed) segment))
+  pub told-none : (e : VolError)
+      → ◌≡◌ {A = Result ℕ VolError} (Err e) (told (slice_get (needed_counts s needed) segment))
       → (length s.segments.each ≤ segment) × (retired s needed segment ≡ Err e)
   told-none e is = elim (slice_get_cases (needed_counts s needed) segment).1 [
     | inl there ↦ let some : ◌≡◌ {A = Result ℕ VolError} (Err e) (Ok there.0) = is ∙ ap told there.2 in cc
@@ -163,7 +185,9 @@ module _ (s : Store) (needed : Entry → Bool) (segment : ℕ) where
           outside,
           elim (slice_get_cases s.segments.each segment).1 [
             | inl there ↦ absurd (omega (arith, there.1, outside))
-            | inr nowhere ↦ ap (λ (o : Option SegmentInfo). freed_by (judged_info o) s needed segment) nowhere.1 ∙ sym none
+            | inr nowhere ↦
+                ap (λ (o : Option SegmentInfo). freed_by (judged_info o) s needed segment) nowhere.1
+                ∙ sym none
           ],
         )
   ]
@@ -172,16 +196,21 @@ module _ (s : Store) (needed : Entry → Bool) (segment : ℕ) where
 
 -- the segment is judged by the blocks that are told to be needed in it
 pub judged : (old : Store) (l : Lists) (segment count : ℕ)
-    → ◌≡◌ {A = Result ℕ VolError} (Ok count) (ok_or (slice_get (needed_counts old (needed_by l)) segment) error.BadRange)
+    → ◌≡◌ {A = Result ℕ VolError} (Ok count)
+    (ok_or (slice_get (needed_counts old (needed_by l)) segment) error.BadRange)
     → retired old (needed_by l) segment ≡ retired_with old count segment
-judged old l segment count is = ap (λ (n : ℕ). retired_with old n segment) (sym (told-count old (needed_by l) segment count is).1)
+judged old l segment count is =
+    ap (λ (n : ℕ). retired_with old n segment) (sym (told-count old (needed_by l) segment count is).1)
 
-module _ (l : Lists) (old new : Store) (segment : ℕ) (c : Counted) (pen : IsPen (layout_of l old)) (new-store : IsStore new)
+module _ (l : Lists) (old new : Store) (segment : ℕ) (c : Counted) (pen : IsPen (layout_of l old))
+    (new-store : IsStore new)
     (counted : AreNeededCounts (layout_of l old) c) where
-  pub retired-counts : RetirementsKeepCounts → (count : ℕ) → retired old (needed_by l) segment ≡ Ok count → IsReclaimed segment count old new
+  pub retired-counts : RetirementsKeepCounts → (count : ℕ) → retired old (needed_by l) segment ≡ Ok count
+      → IsReclaimed segment count old new
       → AreNeededCounts (layout_of l new) c
   retired-counts keep count is reclaimed =
-      keep segment count (kept_numbers l) c old new pen.sound.store new-store (retired-inside old (needed_by l) segment count is)
+      keep segment count (kept_numbers l) c old new pen.sound.store new-store
+      (retired-inside old (needed_by l) segment count is)
       (ap (λ (ns : List ℕ). length ns) (none_needed l old segment count is)) reclaimed counted
 
 -- ---- a move in two halves
@@ -190,12 +219,14 @@ abbrev needed-there : Lists → Entry → Bool
 needed-there l = by_period (is_period_needed (staying_numbers 0 (rows l.table)))
 
 -- what a pen's tables list is what its kept checkpoints need
-pub listed-first : (l : Lists) (s : Store) (segment limit count : ℕ) (listed : List ℕ) → HasListedFirst (needed-there l) segment limit s listed count
+pub listed-first : (l : Lists) (s : Store) (segment limit count : ℕ) (listed : List ℕ)
+    → HasListedFirst (needed-there l) segment limit s listed count
     → HasListedFirst (needed_by l) segment limit s listed count
 listed-first l s segment limit count listed has =
     subst (λ (needed : Entry → Bool). HasListedFirst needed segment limit s listed count) (needs-same l) has
 
-pub not-listed : (l : Lists) (s : Store) (segment limit moment : ℕ) (e : VolError) → HasListedNone segment limit s e
+pub not-listed : (l : Lists) (s : Store) (segment limit moment : ℕ) (e : VolError)
+    → HasListedNone segment limit s e
     → HasMovedNothing segment limit moment l s s e
 not-listed l s segment limit moment e has = by (judged_for s.segments segment limit) has
   where
@@ -207,16 +238,19 @@ not-listed l s segment limit moment e has = by (judged_for s.segments segment li
 -- of a segment that may be cleaned
 module _ (l : Lists) (old new : Store) (segment limit moment count : ℕ) (listed : List ℕ)
     (has : HasListedFirst (needed_by l) segment limit old listed count) where
-  refused-there : (e : VolError) → IsMoveRefusal segment limit moment l old new e → HasMovedNothing segment limit moment l old new e
+  refused-there : (e : VolError) → IsMoveRefusal segment limit moment l old new e
+      → HasMovedNothing segment limit moment l old new e
   refused-there e refused = by (judged_for old.segments segment limit) has.judged
     where
       by : (r : Result SegmentInfo VolError) → IsOk r
-          → MatchResult r (λ _. IsMoveRefusal segment limit moment l old new e) (λ refusal. (e ≡ refusal) × (new ≡ old))
+          → MatchResult r (λ _. IsMoveRefusal segment limit moment l old new e)
+          (λ refusal. (e ≡ refusal) × (new ≡ old))
       by (Ok i) ok = refused
       by (Err f) ok = absurd (true≢false (sym ok))
 
   -- where numbers are spent, or memory is refused
-  pub not-drafted : (e : VolError) → 0 < length listed → new ≡ old → IsDraftRefusal l e → HasMovedNothing segment limit moment l old new e
+  pub not-drafted : (e : VolError) → 0 < length listed → new ≡ old → IsDraftRefusal l e
+      → HasMovedNothing segment limit moment l old new e
   not-drafted error.NumbersSpent some same refused =
       let most : length listed ≡ min limit (needed_count old (needed_by l) segment) =
       ap length has.first ∙ length-take limit (needed_in old (needed_by l) segment) in
@@ -229,19 +263,27 @@ module _ (l : Lists) (old new : Store) (segment limit moment count : ℕ) (liste
       → IsMoveRefused checkpoint moment listed old new e → HasMovedNothing segment limit moment l old new e
   not-moved checkpoint e left next refused = refused-there e (of e there)
     where
-      there : IsMoveRefused (l.table.latest.number + 1) moment (take limit (needed_in old (needed_by l) segment)) old new e
-      there = subst (λ (n : ℕ). IsMoveRefused n moment (take limit (needed_in old (needed_by l) segment)) old new e) next
+      there : IsMoveRefused (l.table.latest.number + 1) moment
+          (take limit (needed_in old (needed_by l) segment)) old new e
+      there =
+          subst
+          (λ (n : ℕ). IsMoveRefused n moment (take limit (needed_in old (needed_by l) segment)) old new e)
+          next
           (subst (λ (vs : List ℕ). IsMoveRefused checkpoint moment vs old new e) has.first refused)
 
-      of : (e : VolError) → IsMoveRefused (l.table.latest.number + 1) moment (take limit (needed_in old (needed_by l) segment)) old new e
+      of : (e : VolError)
+          → IsMoveRefused (l.table.latest.number + 1) moment
+          (take limit (needed_in old (needed_by l) segment)) old new e
           → IsMoveRefusal segment limit moment l old new e
       of error.NumbersSpent refused = absurd refused
       of error.NoSpace refused = (left, refused)
       of error.Fault refused = (left, refused)
       of e refused = refused
 
-  pub moved-listed : ListedMovesAreFirst → (checkpoint : ℕ) (m : MoveCount) → checkpoint ≡ l.table.latest.number + 1 → m ≡ split (length listed) count
-      → IsMoved segment checkpoint moment listed old new → HasMovedFirst (needed_by l) segment limit (l.table.latest.number + 1) moment old new m
+  pub moved-listed : ListedMovesAreFirst → (checkpoint : ℕ) (m : MoveCount)
+      → checkpoint ≡ l.table.latest.number + 1 → m ≡ split (length listed) count
+      → IsMoved segment checkpoint moment listed old new
+      → HasMovedFirst (needed_by l) segment limit (l.table.latest.number + 1) moment old new m
   moved-listed first checkpoint m next is moved =
       subst (λ (n : ℕ). HasMovedFirst (needed_by l) segment limit n moment old new m) next
       (subst (HasMovedFirst (needed_by l) segment limit checkpoint moment old new) (sym is)
@@ -256,11 +298,13 @@ module _ (l : Lists) (old new : Store) (segment limit moment count : ℕ) (liste
       let moved : m.moved ≡ min (length listed) count = ap (λ (m : MoveCount). m.moved) is in
       omega (arith, some, most, all, moved)
 
-pub kept-minor : (moment : ℕ) (l : Lists) → kept_numbers (with_minor moment l) ≡ kept_numbers l ++ (l.table.latest.number + 1) ∷ []
+pub kept-minor : (moment : ℕ) (l : Lists)
+    → kept_numbers (with_minor moment l) ≡ kept_numbers l ++ (l.table.latest.number + 1) ∷ []
 kept-minor moment l = map-push (λ (c : Checkpoint). c.number) (kept_by l) (minor_checkpoint moment l)
 
 -- one checkpoint more, at which no number starts or ends
-pub minor-counted : EmptyCheckpointsKeepCounts → (moment : ℕ) (l : Layout) (c : Counted) → IsPen l → AreNeededCounts l c
+pub minor-counted : EmptyCheckpointsKeepCounts → (moment : ℕ) (l : Layout) (c : Counted) → IsPen l
+    → AreNeededCounts l c
     → AreNeededCounts (layout_of (with_minor moment l.lists) l.store) c
 minor-counted keep moment l c pen counted =
     subst (λ (kept : List ℕ). IsCounted l.store kept c) (sym (kept-minor moment l.lists))
@@ -275,9 +319,13 @@ minor-counted keep moment l c pen counted =
       written = nothing-written (l.lists.table.latest.number + 1) moment l.store;
     }) counted)
 
-pub moved-needed : FirstNeededStandThere → (l : Lists) (old new : Store) (segment limit checkpoint stamp : ℕ) (listed numbers : List ℕ) → IsStore old
-    → numbers ≡ listed → listed ≡ take limit (needed_in old (needed_by l) segment) → CanBeMoved segment listed old
-    → IsMoved segment checkpoint stamp listed old new → HasMovedNeeded segment numbers (kept_numbers l) old new
+pub moved-needed : FirstNeededStandThere
+    → (l : Lists) (old new : Store) (segment limit checkpoint stamp : ℕ) (listed numbers : List ℕ)
+    → IsStore old
+    → numbers ≡ listed → listed ≡ take limit (needed_in old (needed_by l) segment)
+    → CanBeMoved segment listed old
+    → IsMoved segment checkpoint stamp listed old new
+    → HasMovedNeeded segment numbers (kept_numbers l) old new
 moved-needed first l old new segment limit checkpoint stamp listed numbers old-store same is can moved =
     subst (λ (ns : List ℕ). HasMovedNeeded segment ns (kept_numbers l) old new) (sym same) (record {
       sound = old-store;
@@ -291,11 +339,13 @@ moved-needed first l old new segment limit checkpoint stamp listed numbers old-s
 -- ---- removals
 
 -- what an answer tells to be gone is taken out
-pub range-taken : (first last : ℕ) (a : Answer) (old new : Lists) → IsTakenOutRange first last a old new → IsTakenOut (taken_out a) old new
+pub range-taken : (first last : ℕ) (a : Answer) (old new : Lists) → IsTakenOutRange first last a old new
+    → IsTakenOut (taken_out a) old new
 range-taken first last (answer.Removed range) old new is = is.taken
 range-taken first last _ old new is = absurd is
 
-pub expiry-taken : (now period : ℕ) (a : Answer) (old new : Lists) → IsExpired now period a old new → IsTakenOut (taken_out a) old new
+pub expiry-taken : (now period : ℕ) (a : Answer) (old new : Lists) → IsExpired now period a old new
+    → IsTakenOut (taken_out a) old new
 expiry-taken now period (answer.Expired gone) old new is = is.taken
 expiry-taken now period _ old new is = absurd is
 
@@ -303,32 +353,43 @@ module _ (gone : List ℕ) (old new : Lists) (taken : IsTakenOut gone old new) w
   numbers-left : kept_numbers new ≡ cpfile.kept_numbers (left gone (kept_by old))
   numbers-left = ap kept_numbers taken.lists ∙ ap cpfile.kept_numbers (all-without gone old.table taken.stays)
 
-  lost : (first last : ℕ) → ((c : ℕ) → is_one_of gone c ≡ true → (first ≤ c) × (c ≤ last)) → HasLostBetween first last old new
+  lost : (first last : ℕ) → ((c : ℕ) → is_one_of gone c ≡ true → (first ≤ c) × (c ≤ last))
+      → HasLostBetween first last old new
   lost first last between = record {
     gone = λ c among. elim (left-or-gone gone c (kept_by old) among) [
       | inl stays ↦ inl (subst (λ (ns : List ℕ). is_one_of ns c ≡ true) (sym numbers-left) stays)
       | inr goes ↦ inr (between c goes)
     ];
-    fewer = λ c among. left-was gone c (kept_by old) (subst (λ (ns : List ℕ). is_one_of ns c ≡ true) numbers-left among);
+    fewer = λ c among.
+        left-was gone c (kept_by old) (subst (λ (ns : List ℕ). is_one_of ns c ≡ true) numbers-left among);
   }
 
-  pub lost-between : (first last : ℕ) → AllPairs ◌<◌ gone → IsSpanOf first last gone → HasLostBetween first last old new
-  lost-between first last rising span = lost first last (λ c among. in-span first last gone rising span c among)
+  pub lost-between : (first last : ℕ) → AllPairs ◌<◌ gone → IsSpanOf first last gone
+      → HasLostBetween first last old new
+  lost-between first last rising span =
+      lost first last (λ c among. in-span first last gone rising span c among)
 
   -- where none is, nothing is lost
-  pub lost-none : gone ≡ [] → (s : Store) (c : Counted) → AreNeededCounts (layout_of old s) c → AreNeededCounts (layout_of new s) c
+  pub lost-none : gone ≡ [] → (s : Store) (c : Counted) → AreNeededCounts (layout_of old s) c
+      → AreNeededCounts (layout_of new s) c
   lost-none none s c counted = subst (λ (l : Lists). AreNeededCounts (layout_of l s) c) (sym same) counted
     where
       same : new ≡ old
-      same = taken.lists ∙ (ap (λ (ns : List ℕ). without_checkpoints ns old) none ∙ ap (λ (t : cpfile.Table). record old { table = t }) (without-none old.table))
+      same =
+          taken.lists
+          ∙ (ap (λ (ns : List ℕ). without_checkpoints ns old) none
+          ∙ ap (λ (t : cpfile.Table). record old { table = t }) (without-none old.table))
 
 pub lost-one : (n : ℕ) (old new : Lists) → IsTakenOut (n ∷ []) old new → HasLostBetween n n old new
-lost-one n old new taken = lost-between (n ∷ []) old new taken n n one (record { some = omega arith; first_is = refl; last_is = refl })
+lost-one n old new taken =
+    lost-between (n ∷ []) old new taken n n one
+    (record { some = omega arith; first_is = refl; last_is = refl })
   where
     one : AllPairs ◌<◌ (n ∷ [])
     one i j d before within = absurd (omega (arith, before, within))
 
-pub are-gone : (first last next : ℕ) (old new : Lists) → HasLostBetween first last old new → IsLeastAbove last (kept_numbers new) next
+pub are-gone : (first last next : ℕ) (old new : Lists) → HasLostBetween first last old new
+    → IsLeastAbove last (kept_numbers new) next
     → AreGone first next (kept_numbers old) (kept_numbers new)
 are-gone first last next old new lost above = record {
   next_stays = above.among;
@@ -342,9 +403,13 @@ are-gone first last next old new lost above = record {
 -- ---- counts that are to come
 
 -- where some checkpoints are taken as gone
-pub counts-left : (r : Result (List ℕ) VolError) (s : Store) (c : Counted) (test : Period → Bool) (first next : ℕ) (kept stay : List ℕ)
-    → IfOk r (λ counts. (kept stay : List ℕ) → IsCounted s kept c → AreGone first next kept stay → TellsNeeds test stay → counts ≡ needed_counts s (is_needed stay))
+pub counts-left : (r : Result (List ℕ) VolError) (s : Store) (c : Counted) (test : Period → Bool)
+    (first next : ℕ) (kept stay : List ℕ)
+    → IfOk r (λ counts.
+    (kept stay : List ℕ) → IsCounted s kept c → AreGone first next kept stay → TellsNeeds test stay
+    → counts ≡ needed_counts s (is_needed stay))
     → IsCounted s kept c → AreGone first next kept stay → TellsNeeds test stay
     → IfOk r (λ counts. counts ≡ needed_counts s (is_needed stay))
-counts-left (Ok counts) s c test first next kept stay after counted gone tells = after kept stay counted gone tells
+counts-left (Ok counts) s c test first next kept stay after counted gone tells =
+    after kept stay counted gone tells
 counts-left (Err e) s c test first next kept stay after counted gone tells = tt

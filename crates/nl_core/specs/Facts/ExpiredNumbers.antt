@@ -21,7 +21,8 @@ abbrev pub none : VolError → Result (List ℕ) VolError
 none e = cond (is_memory e) (Err Memory) (Ok [])
 
 pub none-removed : (e : VolError) (t : Table) → IfOk (none e) (λ gone. t ≡ without gone t)
-none-removed e t = elim (is_memory e) as (λ b. IfOk (cond b (Err Memory) (Ok [])) (λ gone. t ≡ without gone t)) [
-  | true ↦ tt
-  | false ↦ sym (without-none t)
-]
+none-removed e t =
+    elim (is_memory e) as (λ b. IfOk (cond b (Err Memory) (Ok [])) (λ gone. t ≡ without gone t)) [
+      | true ↦ tt
+      | false ↦ sym (without-none t)
+    ]

@@ -23,7 +23,8 @@ use Rattle.nl_core.specs.Volume.{kept_by}
 
 -- ---- numbers under which there is a checkpoint
 
-pub found-among : (n : ℕ) (kept : List Checkpoint) (c : Checkpoint) → found n kept ≡ Some c → is_one_of (map kept_number kept) n ≡ true
+pub found-among : (n : ℕ) (kept : List Checkpoint) (c : Checkpoint) → found n kept ≡ Some c
+    → is_one_of (map kept_number kept) n ≡ true
 found-among n [] c is = cc
 found-among n (k ∷ kept) c is = elim (cases_Bool (eq_by_cmp nat_cmp n k.number)) [
   | inl t ↦ ap (λ b. b || is_one_of (map kept_number kept) n) (sym (unsigned_tied n k.number) ∙ t)
@@ -33,10 +34,12 @@ found-among n (k ∷ kept) c is = elim (cases_Bool (eq_by_cmp nat_cmp n k.number
 
 -- the ledger of a pen keeps checkpoints of these numbers alone
 pub kept-ledger : (l : Layout) → IsLedgerOf (ledger_of l) (kept_store l)
-kept-ledger l = record { content = refl; kept = λ c numbers is. by_found c numbers (found c (kept_by l.lists)) refl is }
+kept-ledger l =
+    record { content = refl; kept = λ c numbers is. by_found c numbers (found c (kept_by l.lists)) refl is }
   where
     by_found : (c : ℕ) (numbers : Numbers) (o : Option Checkpoint) → found c (kept_by l.lists) ≡ o
-        → option_map (reached_by (layout_pages l)) o ≡ Some numbers → is_one_of (map kept_number (kept_by l.lists)) c ≡ true
+        → option_map (reached_by (layout_pages l)) o ≡ Some numbers
+        → is_one_of (map kept_number (kept_by l.lists)) c ≡ true
     by_found c numbers None at is = cc
     by_found c numbers (Some k) at is = found-among c (kept_by l.lists) k at
 
@@ -45,7 +48,8 @@ kept-ledger l = record { content = refl; kept = λ c numbers is. by_found c numb
 module _ (pages : Pages) where
   -- those behind a number are greater
   greater : (n : ℕ) (kept : List Checkpoint) (copies : List (ℕ × Copy)) → AllZip (CopyMeans pages) kept copies
-      → IsTrue (below_all nat_cmp n copies) → (i : ℕ) (d : Checkpoint) → i < length kept → n < (get_or kept i d).number
+      → IsTrue (below_all nat_cmp n copies) → (i : ℕ) (d : Checkpoint) → i < length kept
+      → n < (get_or kept i d).number
   greater n [] copies means below i d low = absurd (omega (arith, low))
   greater n (c ∷ kept) [] means below i d low = absurd means
   greater n (c ∷ kept) (copy ∷ copies) means below zero d low =
@@ -60,10 +64,13 @@ module _ (pages : Pages) where
   found-own [] copies means sorted i d low = absurd (omega (arith, low))
   found-own (c ∷ kept) [] means sorted i d low = absurd means
   found-own (c ∷ kept) (copy ∷ copies) means sorted zero d low =
-      ap (λ b. cond b (Some c) (found c.number kept)) (unsigned_tied c.number c.number ∙ eq-eqb c.number c.number refl)
+      ap (λ b. cond b (Some c) (found c.number kept))
+      (unsigned_tied c.number c.number ∙ eq-eqb c.number c.number refl)
   found-own (c ∷ kept) (copy ∷ copies) means sorted (suc i) d low =
       let parts = and_parts (below_all nat_cmp copy.0 copies) (is_sorted nat_cmp copies) sorted in
-      let less : copy.0 < (get_or kept i d).number = greater copy.0 kept copies means.1 parts.0 i d (omega (arith, low)) in
+      let less : copy.0 < (get_or kept i d).number =
+      greater copy.0 kept copies means.1 parts.0 i d (omega (arith, low)) in
       ap (λ b. cond b (Some c) (found (get_or kept i d).number kept))
-      (tied-false (get_or kept i d).number c.number (λ same. absurd (omega (arith, less, means.0.number, same))))
+      (tied-false (get_or kept i d).number c.number
+      (λ same. absurd (omega (arith, less, means.0.number, same))))
       ∙ found-own kept copies means.1 parts.1 i d (omega (arith, low))

@@ -33,7 +33,14 @@ same-numbers old new same = record {
   where
     kept : (l : Ledger) → KeepsCovered l l × EndsOnce l l
     kept l = (
-      λ c before now v e kept_before kept_now in_use cover. record { entry = e; in_use = in_use; place = refl; page = refl; start = refl; covering = cover },
+      λ c before now v e kept_before kept_now in_use cover. record {
+        entry = e;
+        in_use = in_use;
+        place = refl;
+        page = refl;
+        start = refl;
+        covering = cover;
+      },
       λ v e f is_e is_f. let same = sym is_f ∙ is_e in inl cc,
     )
 
@@ -44,7 +51,10 @@ pub found-all : (P : Checkpoint → Type 0) (n : ℕ) (kept : List Checkpoint) (
     → find nat_cmp n (map by_number kept) ≡ Some c → P c
 found-all P n [] c all e = cc
 found-all P n (k ∷ kept) c all e = elim (cases_Bool (eq_by_cmp nat_cmp n k.number)) [
-  | inl t ↦ let is : Some k ≡ Some c = sym (rw t refl) ∙ e in let it : k ≡ c = cc in subst P it (all 0 k (omega arith))
+  | inl t ↦
+      let is : Some k ≡ Some c = sym (rw t refl) ∙ e in
+      let it : k ≡ c = cc in
+      subst P it (all 0 k (omega arith))
   | inr t ↦ found-all P n kept c (λ i d l. all (suc i) d (omega (arith, l))) (sym (rw t refl) ∙ e)
 ]
 
@@ -65,21 +75,27 @@ module _ (l : Layout) (sound : IsSoundPen l) where
   -- ---- the latest checkpoint
 
   -- it reaches the places of its files
-  latest-numbers : numbers_at (ledger_of l) l.lists.table.latest.number ≡ reached_by (layout_pages l) l.lists.table.latest
-  latest-numbers = ap (λ (o : Option Checkpoint). unwrap_or (option_map (reached_by (layout_pages l)) o) (λ _. None)) sound.latest
+  latest-numbers : numbers_at (ledger_of l) l.lists.table.latest.number
+      ≡ reached_by (layout_pages l) l.lists.table.latest
+  latest-numbers =
+      ap (λ (o : Option Checkpoint). unwrap_or (option_map (reached_by (layout_pages l)) o) (λ _. None))
+      sound.latest
 
   -- what it holds is what the latest checkpoint of the ledger holds
   pub is-latest : (base : Holding) → Stores (layout_pages l) (root_of (latest_root l.lists)) base
       → IsLatest (ledger_of l) (root_of (latest_root l.lists)) base
   is-latest base stores = record {
     numbers = latest-numbers;
-    sound = found-all (λ (c : Checkpoint). IsTreeSound (layout_pages l) (root_of (checkpoint_root c))) l.lists.table.latest.number
+    sound =
+        found-all (λ (c : Checkpoint). IsTreeSound (layout_pages l) (root_of (checkpoint_root c)))
+        l.lists.table.latest.number
         (kept_by l.lists) l.lists.table.latest sound.trees_sound sound.latest;
     stores = stores;
   }
 
   -- a current tree over it stands over the latest checkpoint of the ledger
-  pub stands-latest : (tree : Tree) (means : CurrentMeans (layout_pages l) (latest_root l.lists) l.lists.current tree)
+  pub stands-latest : (tree : Tree)
+      (means : CurrentMeans (layout_pages l) (latest_root l.lists) l.lists.current tree)
       → StandsOverLatest (ledger_of l) (root_of (latest_root l.lists)) l.lists.current means.base tree
   stands-latest tree means = record {
     is_ledger = sound.ledger;
@@ -97,6 +113,7 @@ pub can_be-drafted : (l : Layout) → IsPen l → CanBeDrafted (content_in l.sto
 can_be-drafted l pen =
     let means = pen.world.1.tree in
     let tree = pen.world.0.tree in
-    let can = trees-can_be_settled (ledger_of l) (root_of (latest_root l.lists)) l.lists.current means.base tree
+    let can =
+    trees-can_be_settled (ledger_of l) (root_of (latest_root l.lists)) l.lists.current means.base tree
     (stands-latest l pen.sound tree means) in
     (can.checkpoint, means.base, holding_over l.lists.current.became means.base, can.current)

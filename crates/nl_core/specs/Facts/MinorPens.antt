@@ -71,7 +71,8 @@ module _ (moment : ℕ) (l : Layout) (sound : IsSoundPen l) (left : HasNextNumbe
   found-others : (n : ℕ) → (minor.number ≡ n → ⊥) → kept_at n new.lists.table ≡ kept_at n l.lists.table
   found-others n other =
       found-next n
-      ∙ (ap (option_or (kept_at n l.lists.table)) (cond-false (eqb minor.number n) (Some minor) None (ne_eqb minor.number n other))
+      ∙ (ap (option_or (kept_at n l.lists.table))
+      (cond-false (eqb minor.number n) (Some minor) None (ne_eqb minor.number n other))
       ∙ or_none (kept_at n l.lists.table))
     where
       or_none : (o : Option Checkpoint) → option_or o None ≡ o
@@ -79,7 +80,8 @@ module _ (moment : ℕ) (l : Layout) (sound : IsSoundPen l) (left : HasNextNumbe
       or_none (Some x) = refl
 
   -- it reaches what the latest one does
-  reaches : Some (reached_by (layout_pages l) minor) ≡ Some (numbers_after [] [] (numbers_at (ledger_of l) (ledger_of l).latest))
+  reaches : Some (reached_by (layout_pages l) minor)
+      ≡ Some (numbers_after [] [] (numbers_at (ledger_of l) (ledger_of l).latest))
   reaches =
       sym (ap (option_map (reached_by (layout_pages l))) sound.latest)
       ∙ (sound.ledger.latest_kept
@@ -111,9 +113,12 @@ module _ (moment : ℕ) (l : Layout) (sound : IsSoundPen l) (left : HasNextNumbe
 
   sound-minor : IsSoundPen new
   sound-minor = record {
-    ledger = subst IsLedger (sym ledger-minor) (ledger_after-IsLedger (Makes [] []) (ledger_of l) sound.ledger (nothing-allowed (ledger_of l)));
+    ledger =
+        subst IsLedger (sym ledger-minor)
+        (ledger_after-IsLedger (Makes [] []) (ledger_of l) sound.ledger (nothing-allowed (ledger_of l)));
     trees_sound = All-push IsKeptSound (kept_by l.lists) minor sound.trees_sound
-        (found-all IsKeptSound l.lists.table.latest.number (kept_by l.lists) l.lists.table.latest sound.trees_sound sound.latest);
+        (found-all IsKeptSound l.lists.table.latest.number
+        (kept_by l.lists) l.lists.table.latest sound.trees_sound sound.latest);
     latest = found-minor;
     last = left;
     store = sound.store;
@@ -123,7 +128,9 @@ module _ (moment : ℕ) (l : Layout) (sound : IsSoundPen l) (left : HasNextNumbe
   numbers-minor = record {
     covered = subst (KeepsCovered (ledger_of l)) (sym ledger-minor)
         (covered_kept_all (Makes [] [] ∷ []) (ledger_of l) sound.ledger (nothing-allowed (ledger_of l), tt));
-    ends = subst (EndsOnce (ledger_of l)) (sym ledger-minor) (ends_once (Makes [] []) (ledger_of l) (nothing-allowed (ledger_of l)));
+    ends =
+        subst (EndsOnce (ledger_of l)) (sym ledger-minor)
+        (ends_once (Makes [] []) (ledger_of l) (nothing-allowed (ledger_of l)));
   }
 
 -- ---- the world
@@ -139,18 +146,24 @@ module _ (moment : ℕ) (l : Layout) (left : HasNextNumber l.lists) (w : World) 
 
   -- a move of a block takes this step
   pub moves-on : (moved rest : ℕ) (moving : not (eqb moved 0) ≡ true)
-      → worlds.move_blocks (Ok (answer.Moved moved rest)) w moment ≡ (Ok (answer.Moved moved rest), worlds.with_minor w moment)
+      → worlds.move_blocks (Ok (answer.Moved moved rest)) w moment
+      ≡ (Ok (answer.Moved moved rest), worlds.with_minor w moment)
   moves-on moved rest moving =
       let reply : Reply = Ok (answer.Moved moved rest) in
       let done : Outcome = (reply, worlds.with_minor w moment) in
-      cond-true {A = Outcome} (not (eqb moved 0)) (worlds.refused_if (nat_le checkpoint_number_limit (latest w + 1)) NumbersSpent w done) (reply, w) moving
-      ∙ cond-false {A = Outcome} (nat_le checkpoint_number_limit (latest w + 1)) (Err NumbersSpent, w) done numbers-left
+      cond-true {A = Outcome} (not (eqb moved 0))
+      (worlds.refused_if (nat_le checkpoint_number_limit (latest w + 1)) NumbersSpent w done)
+      (reply, w) moving
+      ∙ cond-false {A = Outcome} (nat_le checkpoint_number_limit (latest w + 1))
+      (Err NumbersSpent, w) done numbers-left
 
   world-minor : IsWorld (worlds.with_minor w moment)
   world-minor =
-      steps_keep_worlds (Ok (answer.Moved 1 0)) (Ok (answer.Moved 1 0)) w (worlds.with_minor w moment) (Move 0 1 moment) means.world (moves-on 1 0 refl)
+      steps_keep_worlds (Ok (answer.Moved 1 0)) (Ok (answer.Moved 1 0)) w (worlds.with_minor w moment)
+      (Move 0 1 moment) means.world (moves-on 1 0 refl)
 
-  minor-means : CopyMeans (layout_pages l) (minor_checkpoint moment l.lists) (latest w + 1, minor_copy w moment copy)
+  minor-means : CopyMeans (layout_pages l) (minor_checkpoint moment l.lists)
+      (latest w + 1, minor_copy w moment copy)
   minor-means = let last = ends (layout_pages l) l.lists w means in record {
     number = ap (λ n. n + 1) (latest-means (layout_pages l) l.lists w means);
     mode = refl;
@@ -170,9 +183,13 @@ module _ (moment : ℕ) (l : Layout) (left : HasNextNumber l.lists) (w : World) 
     world = world-minor;
     tree = means.tree;
     dirty = means.dirty;
-    copies = subst (λ (more : List (ℕ × Copy)). AllZip (CopyMeans (layout_pages l)) (kept_by l.lists ++ minor_checkpoint moment l.lists ∷ []) (w.copies ++ more))
+    copies =
+        subst (λ (more : List (ℕ × Copy)).
+        AllZip (CopyMeans (layout_pages l)) (kept_by l.lists ++ minor_checkpoint moment l.lists ∷ [])
+        (w.copies ++ more))
         (sym copies-are)
-        (copies-push (layout_pages l) (kept_by l.lists) w.copies (minor_checkpoint moment l.lists) (latest w + 1, minor_copy w moment copy) means.copies minor-means);
+        (copies-push (layout_pages l) (kept_by l.lists) w.copies (minor_checkpoint moment l.lists)
+        (latest w + 1, minor_copy w moment copy) means.copies minor-means);
     mounts = means.mounts;
     given = means.given;
   }

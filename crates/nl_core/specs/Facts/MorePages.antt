@@ -21,7 +21,8 @@ stands-still : (pages more : Pages) (inode : Option Inode) (held : Option Held)
     → StandsFor pages inode held → StandsFor more inode held
 stands-still pages more None held keeps stands = stands
 stands-still pages more (Some n) held keeps stands =
-    let same : page_at pages (root_of n.root) ≡ page_at more (root_of n.root) = λ j. λ b. sym (keeps.blocks b) j in
+    let same : page_at pages (root_of n.root) ≡ page_at more (root_of n.root) = λ j.
+    λ b. sym (keeps.blocks b) j in
     subst (λ (blocks : Pages). StandsAs blocks n.kind n.size held) same stands
 
 module _ (pages more : Pages) (root : Root) (sound : IsTreeSound pages root) (keeps : Keeps pages more) where
@@ -38,14 +39,17 @@ module _ (pages more : Pages) (root : Root) (sound : IsTreeSound pages root) (ke
   roots i = ap (λ (inode : Option Inode). cond (i == 6) root (inode_root inode)) (inodes i)
 
   number : (i level offset : ℕ)
-      → place_at more (roots_at more root i) level offset ≡ place_at pages (roots_at pages root i) level offset
+      → place_at more (roots_at more root i) level offset
+      ≡ place_at pages (roots_at pages root i) level offset
   number i level offset =
       ap (λ (r : Root). place_at more r level offset) (roots i)
-      ∙ places-kept pages more (roots_at pages root i) keeps (root-sound pages root sound i).stored level offset
+      ∙ places-kept pages more (roots_at pages root i) keeps
+      (root-sound pages root sound i).stored level offset
 
   stores : (held : Holding) → Stores pages root held → Stores more root held
   stores held stands i =
-      subst (λ (inode : Option Inode). StandsFor more inode (held i)) (sym (inodes i)) (stands-still pages more (inode_at pages root i) (held i) (each i) (stands i))
+      subst (λ (inode : Option Inode). StandsFor more inode (held i)) (sym (inodes i))
+      (stands-still pages more (inode_at pages root i) (held i) (each i) (stands i))
 
   -- a sound checkpoint stays, whatever it stands for
   pub sound-stays : CheckpointStays pages more root
@@ -55,8 +59,11 @@ module _ (pages more : Pages) (root : Root) (sound : IsTreeSound pages root) (ke
     sound = record {
       inode_file = inode_file.sound;
       inodes = λ i. inode_file.blocks i
-          ∙ (sound.inodes i ∙ ap (λ (all : InodeMap). block_for (in_block all i)) (sym (same_at_all (inode_at more root) (inode_at pages root) inodes)));
-      each = λ i. subst (λ (inode : Option Inode). IsSound more (inode_root inode)) (sym (inodes i)) (each i).sound;
+          ∙ (sound.inodes i
+          ∙ ap (λ (all : InodeMap). block_for (in_block all i))
+          (sym (same_at_all (inode_at more root) (inode_at pages root) inodes)));
+      each = λ i.
+          subst (λ (inode : Option Inode). IsSound more (inode_root inode)) (sym (inodes i)) (each i).sound;
     };
     stores = stores;
   }

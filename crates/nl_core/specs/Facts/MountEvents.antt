@@ -25,10 +25,12 @@ module _ (allowed : AllowedBetween) (old new : Layout) (n : ℕ) (a : Answer) (p
   abbrev before : World
   before = pen.world.0
 
-  abbrev then : StepsWorld (allowed old new) (cleaned old (event.Mount n)) before (event.Mount n) (Ok a) (layout_pages new) new.lists
+  abbrev then : StepsWorld (allowed old new) (cleaned old (event.Mount n)) before (event.Mount n) (Ok a)
+      (layout_pages new) new.lists
   then = does.follows before pen.world.1
 
-  passed : (b : Bool) (e : VolError) (o : Outcome) → refused_if b e before o ≡ (Ok a, then.after) → o ≡ (Ok a, then.after)
+  passed : (b : Bool) (e : VolError) (o : Outcome) → refused_if b e before o ≡ (Ok a, then.after)
+      → o ≡ (Ok a, then.after)
   passed true e o is = let no : ◌≡◌ {A = Reply} (Err e) (Ok a) = ap (λ (o : Outcome). o.0) is in cc
   passed false e o is = is
 
@@ -36,15 +38,23 @@ module _ (allowed : AllowedBetween) (old new : Layout) (n : ℕ) (a : Answer) (p
   abbrev mounting : Result Copy VolError → Outcome
   mounting kept_copy = either before kept_copy (λ copy.
       refused_if (not (is_snapshot copy.mode)) error.NotSnapshot before (
-      refused_if (nat_le mount_number_limit (before.given + 1)) error.NumbersSpent before (
-      (Ok (answer.Mount (before.given + 1)), record before { mounts = before.mounts ++ (before.given + 1, n) ∷ []; given = before.given + 1 }))))
+      refused_if (nat_le mount_number_limit (before.given + 1)) error.NumbersSpent before ((
+        Ok (answer.Mount (before.given + 1)),
+        record before {
+          mounts = before.mounts ++ (before.given + 1, n) ∷ [];
+          given = before.given + 1;
+        },
+      ))))
 
-  answer-of : (kept_copy : Result Copy VolError) → mounting kept_copy ≡ (Ok a, then.after) → a ≡ answer.Mount (before.given + 1)
+  answer-of : (kept_copy : Result Copy VolError) → mounting kept_copy ≡ (Ok a, then.after)
+      → a ≡ answer.Mount (before.given + 1)
   answer-of (Err e) is = let no : ◌≡◌ {A = Reply} (Err e) (Ok a) = ap (λ (o : Outcome). o.0) is in cc
   answer-of (Ok copy) is =
       let numbered = passed (not (is_snapshot copy.mode)) error.NotSnapshot _ is in
       let mounted = passed (nat_le mount_number_limit (before.given + 1)) error.NumbersSpent _ numbered in
-      let same : ◌≡◌ {A = Reply} (Ok (answer.Mount (before.given + 1))) (Ok a) = ap (λ (o : Outcome). o.0) mounted in cc
+      let same : ◌≡◌ {A = Reply} (Ok (answer.Mount (before.given + 1))) (Ok a) =
+      ap (λ (o : Outcome). o.0) mounted in
+      cc
 
   -- a mount answers the next number
   pub answers-mount : a ≡ answer.Mount (old.lists.given + 1)
@@ -60,17 +70,22 @@ module _ (allowed : AllowedBetween) (old new : Layout) (m : ℕ) (a : Answer) (p
   abbrev w : World
   w = pen.world.0
 
-  abbrev next : StepsWorld (allowed old new) (cleaned old (event.Unmount m)) w (event.Unmount m) (Ok a) (layout_pages new) new.lists
+  abbrev next : StepsWorld (allowed old new) (cleaned old (event.Unmount m)) w (event.Unmount m) (Ok a)
+      (layout_pages new) new.lists
   next = does.follows w pen.world.1
 
   -- what the unmount does, once it is known what is mounted
   abbrev outcome : Option ℕ → Outcome
-  outcome o = either w (ok_or o error.BadMount) (λ _. (Ok answer.Done, record w { mounts = mounts_without m w.mounts }))
+  outcome o =
+      either w (ok_or o error.BadMount)
+      (λ _. (Ok answer.Done, record w { mounts = mounts_without m w.mounts }))
 
-  found-there : (o : Option ℕ) → find nat_cmp m (map mount_of old.lists.mounts) ≡ o → outcome o ≡ (Ok a, next.after)
+  found-there : (o : Option ℕ) → find nat_cmp m (map mount_of old.lists.mounts) ≡ o
+      → outcome o ≡ (Ok a, next.after)
       → (n : ℕ) × (find nat_cmp m (map mount_of old.lists.mounts) ≡ Some n)
   found-there (Some n) at is = (n, at)
-  found-there None at is = let no : ◌≡◌ {A = Reply} (Err error.BadMount) (Ok a) = ap (λ (o : Outcome). o.0) is in cc
+  found-there None at is =
+      let no : ◌≡◌ {A = Reply} (Err error.BadMount) (Ok a) = ap (λ (o : Outcome). o.0) is in cc
 
   -- a mount that is given back was there
   pub mounted-before : (n : ℕ) × (mounted_on (shown_of old) m ≡ Some n)

@@ -14,7 +14,8 @@ use Rattle.nl_core.specs.Layout.{AllowedBetween, Does, IsPen, Layout}
 use Rattle.nl_core.specs.Volume.{Lists, kept_by, with_minor}
 use Rattle.nl_core.specs.Facts.CountedPens.{kept-minor, latest-of}
 
-pub moved-needs : {allowed : AllowedBetween} (old new : Layout) (segment limit now : ℕ) (answer : Answer) → IsPen old
+pub moved-needs : {allowed : AllowedBetween} (old new : Layout) (segment limit now : ℕ) (answer : Answer)
+    → IsPen old
     → Does allowed old (Move segment limit now) (Ok answer) new → KeepsNeeds (kept_store old) (kept_store new)
 moved-needs old new segment limit now answer pen does v e is = by (is_moving (Ok answer)) refl
   where
@@ -30,5 +31,6 @@ moved-needs old new segment limit now answer pen does v e is = by (is_moving (Ok
         ap (λ (l : Lists). is_needed (kept l) e)
         (does.becomes.0 ∙ cond-true (is_moving (Ok answer)) (with_minor now old.lists) old.lists moving)
         ∙ ap (λ (ns : List ℕ). is_needed ns e) (kept-minor now old.lists)
-        ∙ checkpoints-keep [] [] (kept old.lists) old.lists.table.latest.number v (content_in old.store) e e tt latest.bounded latest.there
+        ∙ checkpoints-keep [] [] (kept old.lists) old.lists.table.latest.number v
+        (content_in old.store) e e tt latest.bounded latest.there
         (λ w g one has. cc) refl is is

@@ -23,7 +23,10 @@ stays c = ap (λ b. is_snapshot c.mode || b) (leb-zero c.number) ∙ or-true (is
 pub staying-all : (kept : List Checkpoint) → staying_numbers 0 (rows_of kept) ≡ map (λ c. c.number) kept
 staying-all [] = refl
 staying-all (c ∷ kept) =
-    ap (λ b. map number_of (cond b (checkpoint_row c ∷ filter (is_staying 0) (rows_of kept)) (filter (is_staying 0) (rows_of kept)))) (stays c)
+    ap (λ b.
+    map number_of (cond b (checkpoint_row c ∷ filter (is_staying 0) (rows_of kept))
+    (filter (is_staying 0) (rows_of kept))))
+    (stays c)
     ∙ ap (λ ns. c.number ∷ ns) (staying-all kept)
 
 pub needs-same : (l : Lists) → by_period (is_period_needed (staying_numbers 0 (rows l.table))) ≡ needed_by l

@@ -17,7 +17,8 @@ keeps-same old new same = record {
   writes = ap (λ (s : Store). s.failed.writes) same;
 }
 
-nothing-appended : (s : Store) (reserve : Bool) (stamp checkpoint : ℕ) → IsAppended (space_in s) (space_in s) reserve stamp checkpoint [] []
+nothing-appended : (s : Store) (reserve : Bool) (stamp checkpoint : ℕ)
+    → IsAppended (space_in s) (space_in s) reserve stamp checkpoint [] []
 nothing-appended s reserve stamp checkpoint = record {
   logs = [];
   fits = record { each = tt; total = refl; filled = tt; in_row = tt; taken = tt };

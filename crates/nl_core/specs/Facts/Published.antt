@@ -37,14 +37,18 @@ use Rattle.nl_core.specs.Facts.Ledgers.{stands-latest}
 below-push : (n : ℕ) (front : List (ℕ × Copy)) (last : ℕ × Copy)
     → IsTrue (below_all nat_cmp n (front ++ last ∷ [])) → n < last.0
 below-push n [] last below = before-lt n last.0 (and_parts (is_lt (nat_cmp n last.0)) true below).0
-below-push n (copy ∷ front) last below = below-push n front last (and_parts (is_lt (nat_cmp n copy.0)) (below_all nat_cmp n (front ++ last ∷ [])) below).1
+below-push n (copy ∷ front) last below =
+    below-push n front last
+    (and_parts (is_lt (nat_cmp n copy.0)) (below_all nat_cmp n (front ++ last ∷ [])) below).1
 
 -- where copies ascend, the last one has the greatest number
 greatest-push : (front : List (ℕ × Copy)) (last : ℕ × Copy) → IsTrue (is_sorted nat_cmp (front ++ last ∷ []))
     → greatest (numbers (front ++ last ∷ [])) ≡ last.0
 greatest-push [] last sorted = omega arith
 greatest-push (copy ∷ front) last sorted =
-    let parts = and_parts (below_all nat_cmp copy.0 (front ++ last ∷ [])) (is_sorted nat_cmp (front ++ last ∷ [])) sorted in
+    let parts =
+    and_parts (below_all nat_cmp copy.0 (front ++ last ∷ []))
+    (is_sorted nat_cmp (front ++ last ∷ [])) sorted in
     omega (arith, below-push copy.0 front last parts.0, greatest-push front last parts.1)
 
 -- a greater number does not tie
@@ -60,8 +64,11 @@ pub find-push : (front : List (ℕ × Copy)) (last : ℕ × Copy) → IsTrue (is
     → find nat_cmp last.0 (front ++ last ∷ []) ≡ Some last.1
 find-push [] last sorted = cond-true (eq_by_cmp nat_cmp last.0 last.0) (Some last.1) None (tied last.0)
 find-push (copy ∷ front) last sorted =
-    let parts = and_parts (below_all nat_cmp copy.0 (front ++ last ∷ [])) (is_sorted nat_cmp (front ++ last ∷ [])) sorted in
-    cond-false (eq_by_cmp nat_cmp last.0 copy.0) (Some copy.1) (find nat_cmp last.0 (front ++ last ∷ [])) (apart last.0 copy.0 (below-push copy.0 front last parts.0))
+    let parts =
+    and_parts (below_all nat_cmp copy.0 (front ++ last ∷ []))
+    (is_sorted nat_cmp (front ++ last ∷ [])) sorted in
+    cond-false (eq_by_cmp nat_cmp last.0 copy.0) (Some copy.1) (find nat_cmp last.0 (front ++ last ∷ []))
+    (apart last.0 copy.0 (below-push copy.0 front last parts.0))
     ∙ find-push front last parts.1
 
 -- the last copy stands for the last checkpoint
@@ -80,7 +87,12 @@ ends-in pages [] c (copy ∷ more ∷ copies) means = absurd means.1
 ends-in pages (k ∷ kept) c [] means = absurd means
 ends-in pages (k ∷ kept) c (copy ∷ copies) means =
     let rest = ends-in pages kept c copies means.1 in
-    record { front = copy ∷ rest.front; last = rest.last; is = ap (λ more. copy ∷ more) rest.is; means = rest.means }
+    record {
+      front = copy ∷ rest.front;
+      last = rest.last;
+      is = ap (λ more. copy ∷ more) rest.is;
+      means = rest.means;
+    }
 
 module _ (pages : Pages) (l : Lists) (w : World) (means : Means pages l w) where
   -- how the copies end
@@ -89,7 +101,8 @@ module _ (pages : Pages) (l : Lists) (w : World) (means : Means pages l w) where
 
   -- they ascend
   sorted : IsTrue (is_sorted nat_cmp (ends.front ++ ends.last ∷ []))
-  sorted = subst (λ (copies : List (ℕ × Copy)). IsTrue (is_sorted nat_cmp copies)) ends.is means.world.numbers_rise
+  sorted =
+      subst (λ (copies : List (ℕ × Copy)). IsTrue (is_sorted nat_cmp copies)) ends.is means.world.numbers_rise
 
   -- the latest copy is the last one
   pub latest-copy : copy_at w (latest w) ≡ Some ends.last.1
@@ -100,30 +113,36 @@ module _ (pages : Pages) (l : Lists) (w : World) (means : Means pages l w) where
 
   -- the latest number of a world is the latest checkpoint's
   pub latest-means : latest w ≡ l.table.latest.number
-  latest-means = ap (λ copies. greatest (numbers copies)) ends.is ∙ greatest-push ends.front ends.last sorted ∙ ends.means.number
+  latest-means =
+      ap (λ copies. greatest (numbers copies)) ends.is ∙ greatest-push ends.front ends.last sorted
+      ∙ ends.means.number
 
   -- and so is the latest stamp
   pub latest_stamp-means : latest_stamp w ≡ l.table.latest.stamp
   latest_stamp-means =
       let stamp_of : Option Copy → ℕ = λ found. option_map_or (λ (copy : Copy). copy.stamp) found 0 in
       ap (λ copies. stamp_of (find nat_cmp (greatest (numbers copies)) copies)) ends.is
-      ∙ ap (λ n. stamp_of (find nat_cmp n (ends.front ++ ends.last ∷ []))) (greatest-push ends.front ends.last sorted)
+      ∙ ap (λ n. stamp_of (find nat_cmp n (ends.front ++ ends.last ∷ [])))
+      (greatest-push ends.front ends.last sorted)
       ∙ ap stamp_of (find-push ends.front ends.last sorted) ∙ ends.means.stamp
 
 -- ---- copies
 
 -- one more checkpoint and its copy
-pub copies-push : (pages : Pages) (kept : List Checkpoint) (copies : List (ℕ × Copy)) (c : Checkpoint) (copy : ℕ × Copy)
+pub copies-push : (pages : Pages) (kept : List Checkpoint) (copies : List (ℕ × Copy)) (c : Checkpoint)
+    (copy : ℕ × Copy)
     → AllZip (CopyMeans pages) kept copies → CopyMeans pages c copy
     → AllZip (CopyMeans pages) (kept ++ c ∷ []) (copies ++ copy ∷ [])
 copies-push pages [] [] c copy means here = (here, means)
 copies-push pages [] (d ∷ copies) c copy means here = absurd means
 copies-push pages (k ∷ kept) [] c copy means here = absurd means
-copies-push pages (k ∷ kept) (d ∷ copies) c copy means here = (means.0, copies-push pages kept copies c copy means.1 here)
+copies-push pages (k ∷ kept) (d ∷ copies) c copy means here =
+    (means.0, copies-push pages kept copies c copy means.1 here)
 
 -- a checkpoint that stays stands for its copy
 copy-stays : (pages more : Pages) (c : Checkpoint) (copy : ℕ × Copy)
-    → CheckpointStays pages more (root_of (checkpoint_root c)) → CopyMeans pages c copy → CopyMeans more c copy
+    → CheckpointStays pages more (root_of (checkpoint_root c)) → CopyMeans pages c copy
+    → CopyMeans more c copy
 copy-stays pages more c copy stays means = record {
   number = means.number;
   mode = means.mode;
@@ -132,7 +151,10 @@ copy-stays pages more c copy stays means = record {
   inodes = means.inodes;
   tree = record {
     held = means.tree.held;
-    holds = record { stores = stays.stores means.tree.held means.tree.holds.stores; sound = means.tree.holds.sound };
+    holds = record {
+      stores = stays.stores means.tree.held means.tree.holds.stores;
+      sound = means.tree.holds.sound;
+    };
     means = means.tree.means;
   };
 }
@@ -145,8 +167,12 @@ copies-stay pages more [] [] stay means = means
 copies-stay pages more [] (copy ∷ copies) stay means = absurd means
 copies-stay pages more (c ∷ kept) [] stay means = absurd means
 copies-stay pages more (c ∷ kept) (copy ∷ copies) stay means = (
-  copy-stays pages more c copy (All-head (λ (c : Checkpoint). CheckpointStays pages more (root_of (checkpoint_root c))) c kept stay) means.0,
-  copies-stay pages more kept copies (All-tail (λ (c : Checkpoint). CheckpointStays pages more (root_of (checkpoint_root c))) c kept stay) means.1,
+  copy-stays pages more c copy
+      (All-head (λ (c : Checkpoint). CheckpointStays pages more (root_of (checkpoint_root c))) c kept stay)
+      means.0,
+  copies-stay pages more kept copies
+      (All-tail (λ (c : Checkpoint). CheckpointStays pages more (root_of (checkpoint_root c))) c kept stay)
+      means.1,
 )
 
 -- ---- the next checkpoint
@@ -173,21 +199,30 @@ root-means l now base tree stands = record {
 
 -- the copy that it makes
 abbrev copy_behind : World → Mode → ℕ → Copy
-copy_behind w mode moment = record { tree = w.tree; mode = mode; minor = false; stamp = max moment (latest_stamp w) }
+copy_behind w mode moment =
+    record { tree = w.tree; mode = mode; minor = false; stamp = max moment (latest_stamp w) }
 
 -- the world behind it
 abbrev world_behind : World → Mode → ℕ → World
-world_behind w mode moment = record w { dirty = false; copies = w.copies ++ (latest w + 1, copy_behind w mode moment) ∷ [] }
+world_behind w mode moment =
+    record w { dirty = false; copies = w.copies ++ (latest w + 1, copy_behind w mode moment) ∷ [] }
 
-module _ (old new : Layout) (mode : Mode) (moment : ℕ) (sound : IsSoundPen old) (writes : HasWrittenCheckpoint mode moment old new)
+module _ (old new : Layout) (mode : Mode) (moment : ℕ) (sound : IsSoundPen old)
+    (writes : HasWrittenCheckpoint mode moment old new)
     (cleaned : Reply) (w : World) (means : MeansWorld old w) where
   -- the world takes the step
-  stepped : step cleaned w (event.Checkpoint mode moment) ≡ (Ok (answer.Checkpoint new.lists.table.latest.number), world_behind w mode moment)
+  stepped : step cleaned w (event.Checkpoint mode moment)
+      ≡ (Ok (answer.Checkpoint new.lists.table.latest.number), world_behind w mode moment)
   stepped =
-      let number : latest w ≡ old.lists.table.latest.number = latest-means (layout_pages old) old.lists w means in
-      let next : latest w + 1 ≡ new.lists.table.latest.number = ap (λ n. n + 1) number ∙ sym (number-next old new mode moment writes) in
+      let number : latest w ≡ old.lists.table.latest.number =
+      latest-means (layout_pages old) old.lists w means in
+      let next : latest w + 1 ≡ new.lists.table.latest.number =
+      ap (λ n. n + 1) number ∙ sym (number-next old new mode moment writes) in
       let left = writes.left in
-      subst (λ n. step cleaned w (event.Checkpoint mode moment) ≡ (Ok (answer.Checkpoint n), world_behind w mode moment)) next
+      subst (λ n.
+      step cleaned w (event.Checkpoint mode moment)
+      ≡ (Ok (answer.Checkpoint n), world_behind w mode moment))
+      next
       (cond-false (nat_le checkpoint_number_limit (latest w + 1)) (Err NumbersSpent, w)
       (Ok (answer.Checkpoint (latest w + 1)), world_behind w mode moment)
       (lt-leb checkpoint_number_limit (latest w + 1) (omega (arith, number, left))))
@@ -196,7 +231,9 @@ module _ (old new : Layout) (mode : Mode) (moment : ℕ) (sound : IsSoundPen old
   held = holding_over old.lists.current.became means.tree.base
 
   stands : StandsOverLatest (ledger_of new) (root_of (latest_root new.lists)) new.lists.current held w.tree
-  stands = stands-behind old new mode moment sound means.tree.base w.tree (stands-latest old sound w.tree means.tree) writes
+  stands =
+      stands-behind old new mode moment sound means.tree.base w.tree
+      (stands-latest old sound w.tree means.tree) writes
 
   current : new.lists.current ≡ record old.lists.current { became = [] }
   current = ap (λ (l : Lists). l.current) writes.lists
@@ -204,22 +241,32 @@ module _ (old new : Layout) (mode : Mode) (moment : ℕ) (sound : IsSoundPen old
   -- the new checkpoint stands for the copy
   copied : CopyMeans (layout_pages new) new.lists.table.latest (latest w + 1, copy_behind w mode moment)
   copied = record {
-    number = ap (λ n. n + 1) (latest-means (layout_pages old) old.lists w means) ∙ sym (number-next old new mode moment writes);
+    number =
+        ap (λ n. n + 1) (latest-means (layout_pages old) old.lists w means)
+        ∙ sym (number-next old new mode moment writes);
     mode = sym (ap (λ (c : Checkpoint). c.mode) (latest-next old new mode moment writes));
     minor = sym (ap (λ (c : Checkpoint). c.minor) (latest-next old new mode moment writes));
     stamp = ap (max moment) (latest_stamp-means (layout_pages old) old.lists w means)
         ∙ sym (ap (λ (c : Checkpoint). c.stamp) (latest-next old new mode moment writes));
-    inodes = ap (λ (c : Checkpoint). c.inodes) (latest-next old new mode moment writes) ∙ sym means.tree.stands.stands.count;
+    inodes =
+        ap (λ (c : Checkpoint). c.inodes) (latest-next old new mode moment writes)
+        ∙ sym means.tree.stands.stands.count;
     tree = root-means new old.lists.current held w.tree
-        (subst (λ (now : Current). StandsOverLatest (ledger_of new) (root_of (latest_root new.lists)) now held w.tree) current stands);
+        (subst (λ (now : Current).
+        StandsOverLatest (ledger_of new) (root_of (latest_root new.lists)) now held w.tree)
+        current stands);
   }
 
-  copies_behind : AllZip (CopyMeans (layout_pages new)) (kept_by new.lists) (world_behind w mode moment).copies
+  copies_behind : AllZip (CopyMeans (layout_pages new)) (kept_by new.lists)
+      (world_behind w mode moment).copies
   copies_behind =
-      subst (λ (kept : List Checkpoint). AllZip (CopyMeans (layout_pages new)) kept (world_behind w mode moment).copies)
+      subst (λ (kept : List Checkpoint).
+      AllZip (CopyMeans (layout_pages new)) kept (world_behind w mode moment).copies)
       (sym (kept-next old new mode moment writes))
-      (copies-push (layout_pages new) (kept_by old.lists) w.copies new.lists.table.latest (latest w + 1, copy_behind w mode moment)
-      (copies-stay (layout_pages old) (layout_pages new) (kept_by old.lists) w.copies (kept-stay old new mode moment writes sound) means.copies)
+      (copies-push (layout_pages new) (kept_by old.lists) w.copies new.lists.table.latest
+      (latest w + 1, copy_behind w mode moment)
+      (copies-stay (layout_pages old) (layout_pages new) (kept_by old.lists) w.copies
+      (kept-stay old new mode moment writes sound) means.copies)
       copied)
 
   -- what is left stands for the world behind the step
@@ -235,5 +282,6 @@ module _ (old new : Layout) (mode : Mode) (moment : ℕ) (sound : IsSoundPen old
 
   -- the world that the step leaves
   pub means-published : (after : World) × (IsWorld after → MeansWorld new after)
-      × (step cleaned w (event.Checkpoint mode moment) ≡ (Ok (answer.Checkpoint new.lists.table.latest.number), after))
+      × (step cleaned w (event.Checkpoint mode moment)
+      ≡ (Ok (answer.Checkpoint new.lists.table.latest.number), after))
   means-published = (world_behind w mode moment, means_behind, stepped)

@@ -24,7 +24,8 @@ use Rattle.nl_core.specs.Layout.{AllowedBetween, Does, HasRefused, IsPen, LacksS
 use Rattle.nl_core.specs.Facts.NothingChanged.{keeps-same}
 use Rattle.nl_core.specs.Facts.Settlings.{births-alike, count-items}
 
-move-kept : (checkpoint stamp : ℕ) (numbers : List ℕ) (e : VolError) (old new : Store) → IsMoveRefused checkpoint stamp numbers old new e
+move-kept : (checkpoint stamp : ℕ) (numbers : List ℕ) (e : VolError) (old new : Store)
+    → IsMoveRefused checkpoint stamp numbers old new e
     → (e ≢ error.Fault) → KeepsStored old new
 move-kept checkpoint stamp numbers error.NoSpace old new refused other = refused.1
 move-kept checkpoint stamp numbers error.Memory old new refused other = refused
@@ -40,7 +41,8 @@ stays-same old new same = record {
   payload = ap (λ (s : Store). s.payload) same;
 }
 
-resize-kept : (segments : ℕ) (e : VolError) (old new : Store) → HasResizedNone segments old new e → (e ≢ error.Fault) → StaysStored old new
+resize-kept : (segments : ℕ) (e : VolError) (old new : Store) → HasResizedNone segments old new e
+    → (e ≢ error.Fault) → StaysStored old new
 resize-kept segments error.Fault old new refused other = absurd (other refl)
 resize-kept segments error.Memory old new refused other = refused
 resize-kept segments _ old new refused other = stays-same old new refused.0
@@ -57,24 +59,31 @@ refused_same (Remove n) e old new refused other = refused
 refused_same (RemoveRange first last) e old new refused other = refused
 refused_same (Expire now period) e old new refused other = refused
 refused_same (Retire segment) e old new refused other = refused.0
-refused_same (Resize segments) e old new refused other = (refused.0, resize-kept segments e old.store new.store refused.1 other)
+refused_same (Resize segments) e old new refused other =
+    (refused.0, resize-kept segments e old.store new.store refused.1 other)
 refused_same (Mount n) e old new refused other = refused
 refused_same (Unmount m) e old new refused other = refused
 refused_same (Listing options) e old new refused other = refused
 refused_same (MountRead m ask) e old new refused other = refused
-refused_same (Move segment limit moment) e old new refused other = (refused.0, by (judged_for old.store.segments segment limit) refused.1)
+refused_same (Move segment limit moment) e old new refused other =
+    (refused.0, by (judged_for old.store.segments segment limit) refused.1)
   where
     numbers : List ℕ
     numbers = take limit (needed_in old.store (needed_by old.lists) segment)
 
-    of : (e : VolError) → IsMoveRefusal segment limit moment old.lists old.store new.store e → (e ≢ error.Fault) → KeepsStored old.store new.store
+    of : (e : VolError) → IsMoveRefusal segment limit moment old.lists old.store new.store e
+        → (e ≢ error.Fault) → KeepsStored old.store new.store
     of error.NumbersSpent none other = keeps-same old.store new.store none.0
-    of error.NoSpace none other = move-kept (old.lists.table.latest.number + 1) moment numbers error.NoSpace old.store new.store none.1 other
+    of error.NoSpace none other =
+        move-kept
+        (old.lists.table.latest.number + 1) moment numbers error.NoSpace old.store new.store none.1 other
     of error.Fault none other = absurd (other refl)
-    of e none other = move-kept (old.lists.table.latest.number + 1) moment numbers e old.store new.store none other
+    of e none other =
+        move-kept (old.lists.table.latest.number + 1) moment numbers e old.store new.store none other
 
     by : (r : Result SegmentInfo VolError)
-        → MatchResult r (λ _. IsMoveRefusal segment limit moment old.lists old.store new.store e) (λ refusal. (e ≡ refusal) × (new.store ≡ old.store))
+        → MatchResult r (λ _. IsMoveRefusal segment limit moment old.lists old.store new.store e)
+        (λ refusal. (e ≡ refusal) × (new.store ≡ old.store))
         → KeepsStored old.store new.store
     by (Ok i) none = of e none other
     by (Err f) none = keeps-same old.store new.store none.1
@@ -88,8 +97,10 @@ refusals_have_reasons allowed old new event e held does =
     let next = does.follows held.world.0 held.world.1 in
     elim next.step [
       | inl is ↦
-          inl (subst (λ (done : Outcome). IfErr done.0 IsJudged) is (steps_judge (cleaned old event) held.world.0 event (cleaned_judges old.lists old.store event)))
-      | inr refused ↦ let same : e ≡ refused.error = cc in inr (subst (allowed old new event) (sym same) refused.may_be)
+          inl (subst (λ (done : Outcome). IfErr done.0 IsJudged) is
+          (steps_judge (cleaned old event) held.world.0 event (cleaned_judges old.lists old.store event)))
+      | inr refused ↦
+          let same : e ≡ refused.error = cc in inr (subst (allowed old new event) (sym same) refused.may_be)
     ]
 
 -- memory is a reason only where it is taken
@@ -101,9 +112,11 @@ memory_is_taken old new event held does =
     ]
 
 -- so a retirement that is refused to a pen alone is judged by the segment
-pub retirements_are_judged : (old new : Layout) (segment : ℕ) (e : VolError) → IsPen old → Does unshared old (Retire segment) (Err e) new
+pub retirements_are_judged : (old new : Layout) (segment : ℕ) (e : VolError) → IsPen old
+    → Does unshared old (Retire segment) (Err e) new
     → retired old.store (needed_by old.lists) segment ≡ Err e
-retirements_are_judged old new segment error.Memory held does = absurd (memory_is_taken old new (Retire segment) held does)
+retirements_are_judged old new segment error.Memory held does =
+    absurd (memory_is_taken old new (Retire segment) held does)
 retirements_are_judged old new segment e held does = does.becomes.1
 
 -- space is a reason only where it lacks
@@ -111,7 +124,8 @@ pub no_space_is_true : (allowed : AllowedBetween) → NoSpaceIsTrue allowed
 no_space_is_true allowed old new mode moment does = does.becomes.1.1
 
 -- no list of logs fits a settling where none fits another
-none-fits : (l : Layout) (root : Root) (lacks : LacksSpaceToSettle l) (settled : Settled l root) (logs : List Log)
+none-fits : (l : Layout) (root : Root) (lacks : LacksSpaceToSettle l) (settled : Settled l root)
+    (logs : List Log)
     → IsPen l → LogsFit l.store.segments true (length (items_of settled.changes.births)) logs → ⊥
 none-fits l root lacks settled logs held fits =
     lacks.lacks logs (subst (λ (n : ℕ). LogsFit l.store.segments true n logs)

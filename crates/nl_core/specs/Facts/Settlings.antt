@@ -34,7 +34,8 @@ root_of-one (Tree g t) (Tree h u) e =
     let top : t ≡ u = cc in
     ap (λ (k : ℕ). Tree k t) height ∙ ap (Tree h) top
 
-module _ (l : Layout) (sound : IsSoundPen l) (root other : Root) (one : Settled l root) (two : Settled l other) where
+module _ (l : Layout) (sound : IsSoundPen l) (root other : Root) (one : Settled l root)
+    (two : Settled l other) where
   abbrev old_root : roots.Root
   old_root = root_of (latest_root l.lists)
 
@@ -54,7 +55,8 @@ module _ (l : Layout) (sound : IsSoundPen l) (root other : Root) (one : Settled 
   alike : (length one.changes.births ≡ length two.changes.births) × (root_of other ≡ root_of root)
   alike = settlings-alike (content_in l.store) old_root (root_of root) (root_of other) l.lists.current.became
       one.held one.changes two.changes checkpoint one.current.sound one.settles
-      (subst (λ (held : Holding). SettlesNow (content_in l.store) l.lists other held two.changes) held-one two.settles)
+      (subst (λ (held : Holding). SettlesNow (content_in l.store) l.lists other held two.changes) held-one
+      two.settles)
 
   -- as many births
   pub births-alike : length one.changes.births ≡ length two.changes.births

@@ -29,7 +29,8 @@ pub record ShowsAll (n : ℕ) (numbers : List (Option ShownPage)) (content : Con
   pub each : (v : ℕ) → v < n → shown_at numbers v ≡ option_map shown_entry (content v)
 
 -- two lists that show the same are the same
-pub same-shown : (n : ℕ) (xs ys : List (Option ShownPage)) (content other : Content) → ShowsAll n xs content → ShowsAll n ys other
+pub same-shown : (n : ℕ) (xs ys : List (Option ShownPage)) (content other : Content) → ShowsAll n xs content
+    → ShowsAll n ys other
     → ((v : ℕ) → content v ≡ other v) → xs ≡ ys
 same-shown n xs ys content other one two same =
     ext_get_or None xs ys (one.size ∙ sym two.size) (λ v low.
@@ -40,7 +41,8 @@ same-shown n xs ys content other one two same =
 
 -- another thing is shown at a number, which stands for that then
 shows-set : (n k : ℕ) (p : Option ShownPage) (numbers : List (Option ShownPage)) (content other : Content)
-    → ShowsAll n numbers content → (k < n → p ≡ option_map shown_entry (other k)) → ((v : ℕ) → v ≢ k → other v ≡ content v)
+    → ShowsAll n numbers content → (k < n → p ≡ option_map shown_entry (other k))
+    → ((v : ℕ) → v ≢ k → other v ≡ content v)
     → ShowsAll n (set numbers k p) other
 shows-set n k p numbers content other shows is others = record {
   size = length-set numbers k p ∙ shows.size;
@@ -51,7 +53,8 @@ shows-set n k p numbers content other shows is others = record {
         ∙ is (omega (arith, same, low))
         ∙ ap (λ j. option_map shown_entry (other j)) (sym same)
     | inr apart ↦
-        get_or-set_other numbers k v p None apart ∙ shows.each v low ∙ ap (option_map shown_entry) (sym (others v apart))
+        get_or-set_other numbers k v p None apart ∙ shows.each v low
+        ∙ ap (option_map shown_entry) (sym (others v apart))
   ];
 }
 
@@ -69,40 +72,48 @@ shows-put n k e numbers content shows =
     (λ v apart. there v k (Some e) (content v) apart)
 
 ended-shown : (c : ℕ) (o : Option Entry)
-    → option_map (ended_at c) (option_map shown_entry o) ≡ option_map shown_entry (option_map (entries.ended_at c) o)
+    → option_map (ended_at c) (option_map shown_entry o)
+    ≡ option_map shown_entry (option_map (entries.ended_at c) o)
 ended-shown c None = refl
 ended-shown c (Some e) = refl
 
 shows-end : (n k c : ℕ) (numbers : List (Option ShownPage)) (content : Content) → ShowsAll n numbers content
-    → ShowsAll n (set numbers k (option_map (ended_at c) (shown_at numbers k))) (adjust (entries.ended_at c) content k)
+    → ShowsAll n (set numbers k (option_map (ended_at c) (shown_at numbers k)))
+    (adjust (entries.ended_at c) content k)
 shows-end n k c numbers content shows =
     let ended = option_map (entries.ended_at c) (content k) in
-    shows-set n k (option_map (ended_at c) (shown_at numbers k)) numbers content (adjust (entries.ended_at c) content k) shows
+    shows-set n k (option_map (ended_at c) (shown_at numbers k)) numbers content
+    (adjust (entries.ended_at c) content k) shows
     (λ low. ap (option_map (ended_at c)) (shows.each k low) ∙ ended-shown c (content k)
     ∙ ap (option_map shown_entry) (sym (here k ended (content k))))
     (λ v apart. there v k (option_map (entries.ended_at c) (content v)) (content v) apart)
 
 -- ---- many change
 
-shows-births : (n c : ℕ) (births : List Birth) (numbers : List (Option ShownPage)) (content : Content) → ShowsAll n numbers content
+shows-births : (n c : ℕ) (births : List Birth) (numbers : List (Option ShownPage)) (content : Content)
+    → ShowsAll n numbers content
     → ShowsAll n (with_births c (map new_page births) numbers) (put_all number_of (born_at c) births content)
 shows-births n c [] numbers content shows = shows
 shows-births n c (b ∷ births) numbers content shows =
-    shows-births n c births (set numbers b.number (Some (begun_at c (new_page b)))) (put content b.number (born_at c b))
+    shows-births n c births (set numbers b.number (Some (begun_at c (new_page b))))
+    (put content b.number (born_at c b))
     (shows-put n b.number (born_at c b) numbers content shows)
 
-shows-ends : (n c : ℕ) (ends : List ℕ) (numbers : List (Option ShownPage)) (content : Content) → ShowsAll n numbers content
+shows-ends : (n c : ℕ) (ends : List ℕ) (numbers : List (Option ShownPage)) (content : Content)
+    → ShowsAll n numbers content
     → ShowsAll n (with_ends c ends numbers) (adjust_all (entries.ended_at c) ends content)
 shows-ends n c [] numbers content shows = shows
 shows-ends n c (v ∷ ends) numbers content shows =
-    shows-ends n c ends (set numbers v (option_map (ended_at c) (shown_at numbers v))) (adjust (entries.ended_at c) content v)
+    shows-ends n c ends (set numbers v (option_map (ended_at c) (shown_at numbers v)))
+    (adjust (entries.ended_at c) content v)
     (shows-end n v c numbers content shows)
 
 -- the content without these numbers
 abbrev pub left_of : List ℕ → Content → Content
 left_of gone content v = cond (is_one_of gone v) None (content v)
 
-shows-same : (n : ℕ) (numbers : List (Option ShownPage)) (content other : Content) → ShowsAll n numbers content
+shows-same : (n : ℕ) (numbers : List (Option ShownPage)) (content other : Content)
+    → ShowsAll n numbers content
     → ((v : ℕ) → content v ≡ other v) → ShowsAll n numbers other
 shows-same n numbers content other shows same =
     record { size = shows.size; each = λ v low. shows.each v low ∙ ap (option_map shown_entry) (same v) }
@@ -112,7 +123,8 @@ without-either true true o = refl
 without-either true false o = refl
 without-either false b o = refl
 
-shows-left : (n : ℕ) (gone : List ℕ) (numbers : List (Option ShownPage)) (content : Content) → ShowsAll n numbers content
+shows-left : (n : ℕ) (gone : List ℕ) (numbers : List (Option ShownPage)) (content : Content)
+    → ShowsAll n numbers content
     → ShowsAll n (without_numbers gone numbers) (left_of gone content)
 shows-left n [] numbers content shows = shows
 shows-left n (k ∷ gone) numbers content shows =
@@ -131,7 +143,8 @@ stripped None = refl
 stripped (Some n) = refl
 
 -- what is shown of each number
-pub shown-each : (l : Layout) (v : ℕ) → shown_at (shown_of l).numbers v ≡ option_map shown_entry (content_in l.store v)
+pub shown-each : (l : Layout) (v : ℕ)
+    → shown_at (shown_of l).numbers v ≡ option_map shown_entry (content_in l.store v)
 shown-each l v =
     get_or-map (option_map shown_page) l.store.numbers v None ∙ stripped (get_or l.store.numbers v None)
 
@@ -141,7 +154,8 @@ shows-layout l = record {
   each = λ v low. shown-each l v;
 }
 
-page-shown : (o : Option Entry) → option_map page_of (option_map shown_entry o) ≡ option_map (λ (e : Entry). e.page) o
+page-shown : (o : Option Entry)
+    → option_map page_of (option_map shown_entry o) ≡ option_map (λ (e : Entry). e.page) o
 page-shown None = refl
 page-shown (Some e) = refl
 
@@ -155,7 +169,8 @@ pages-shown l i v = (ap (option_map page_of) (shown-each l v) ∙ page-shown (co
 abbrev pub KeepsSize : Layout → Layout → Type 0
 KeepsSize old new = length new.store.numbers ≡ length old.store.numbers
 
-size-total : (old new : Store) → IsStore old → IsStore new → total_blocks new.segments ≡ total_blocks old.segments
+size-total : (old new : Store) → IsStore old → IsStore new
+    → total_blocks new.segments ≡ total_blocks old.segments
     → length new.numbers ≡ length old.numbers
 size-total old new one two total = two.full ∙ ap (λ n. n + 1) total ∙ sym one.full
 
@@ -167,18 +182,21 @@ shown-is old new numbers content size shows same =
     let layout = shows-layout new in
     let sized : ShowsAll (length old.store.numbers) (shown_of new).numbers (content_in new.store) =
     record { size = layout.size ∙ size; each = λ v low. shown-each new v } in
-    same-shown (length old.store.numbers) (shown_of new).numbers numbers (content_in new.store) content sized shows same
+    same-shown (length old.store.numbers) (shown_of new).numbers numbers
+    (content_in new.store) content sized shows same
 
 module _ (old new : Layout) (before : IsStore old.store) (now : IsStore new.store) where
   -- the same content is shown the same
   pub numbers-same : total_blocks new.store.segments ≡ total_blocks old.store.segments
       → content_in new.store ≡ content_in old.store → (shown_of new).numbers ≡ (shown_of old).numbers
   numbers-same total same =
-      shown-is old new (shown_of old).numbers (content_in old.store) (size-total old.store new.store before now total)
+      shown-is old new (shown_of old).numbers (content_in old.store)
+      (size-total old.store new.store before now total)
       (shows-layout old) (λ v i. same i v)
 
   -- moves show nothing
-  pub numbers-moved : (segment checkpoint stamp : ℕ) (vs : List ℕ) → IsMoved segment checkpoint stamp vs old.store new.store
+  pub numbers-moved : (segment checkpoint stamp : ℕ) (vs : List ℕ)
+      → IsMoved segment checkpoint stamp vs old.store new.store
       → (shown_of new).numbers ≡ (shown_of old).numbers
   numbers-moved segment checkpoint stamp vs moved =
       numbers-same
@@ -186,9 +204,11 @@ module _ (old new : Layout) (before : IsStore old.store) (now : IsStore new.stor
       moved.content
 
   -- a batch shows its births and ends
-  pub numbers-written : (checkpoint stamp : ℕ) (changes : Changes) → IsWritten checkpoint stamp changes old.store new.store
+  pub numbers-written : (checkpoint stamp : ℕ) (changes : Changes)
+      → IsWritten checkpoint stamp changes old.store new.store
       → (shown_of new).numbers
-      ≡ with_births checkpoint (map new_page changes.births) (with_ends checkpoint changes.ends (shown_of old).numbers)
+      ≡ with_births checkpoint (map new_page changes.births)
+      (with_ends checkpoint changes.ends (shown_of old).numbers)
   numbers-written checkpoint stamp changes written =
       let size = length old.store.numbers in
       let ended = with_ends checkpoint changes.ends (shown_of old).numbers in
@@ -196,9 +216,11 @@ module _ (old new : Layout) (before : IsStore old.store) (now : IsStore new.stor
       shown-is old new (with_births checkpoint (map new_page changes.births) ended)
       (put_all number_of (born_at checkpoint) changes.births content)
       (size-total old.store new.store before now
-      (ap total_blocks written.appended.segments ∙ total-with_logs old.store.segments written.appended.logs stamp))
+      (ap total_blocks written.appended.segments
+      ∙ total-with_logs old.store.segments written.appended.logs stamp))
       (shows-births size checkpoint changes.births ended content
-      (shows-ends size checkpoint changes.ends (shown_of old).numbers (content_in old.store) (shows-layout old)))
+      (shows-ends size checkpoint changes.ends (shown_of old).numbers (content_in old.store)
+      (shows-layout old)))
       (λ v i. written.content i v)
 
   -- a retirement shows that its numbers are out of use
@@ -210,11 +232,13 @@ module _ (old new : Layout) (before : IsStore old.store) (now : IsStore new.stor
       (size-total old.store new.store before now
       (ap total_blocks reclaimed.freed.segments
       ∙ ap (λ n. n * old.store.segments.blocks) (length-set old.store.segments.each segment clean_info)))
-      (shows-left (length old.store.numbers) gone (shown_of old).numbers (content_in old.store) (shows-layout old))
+      (shows-left (length old.store.numbers) gone (shown_of old).numbers (content_in old.store)
+      (shows-layout old))
       (λ v. ap (option_map entry_now) (reclaimed.numbers v)
       ∙ left (is_inside old.store.segments segment (address_in old.store v)) (numbered_in old.store v)
       ∙ ap (λ b. cond b None (content_in old.store v)) (sym (are v)))
     where
-      left : (b : Bool) (o : Option Numbered) → option_map entry_now (cond b None o) ≡ cond b None (option_map entry_now o)
+      left : (b : Bool) (o : Option Numbered)
+          → option_map entry_now (cond b None o) ≡ cond b None (option_map entry_now o)
       left true o = refl
       left false o = refl

@@ -89,7 +89,8 @@ found-moded : (n : ℕ) (mode : Mode) (m : ℕ) (kept : List Checkpoint)
 found-moded n mode m [] = refl
 found-moded n mode m (c ∷ kept) =
     let rest = found m (map (moded n mode) kept) in
-    ap (λ k. cond (eq_by_cmp nat_cmp m k) (Some (moded n mode c)) rest) (moded-same (λ d. d.number) n mode c refl)
+    ap (λ k. cond (eq_by_cmp nat_cmp m k) (Some (moded n mode c)) rest)
+    (moded-same (λ d. d.number) n mode c refl)
     ∙ elim (eq_by_cmp nat_cmp m c.number) as (λ b. cond b (Some (moded n mode c)) rest
     ≡ option_map (moded n mode) (cond b (Some c) (found m kept))) [
       | true ↦ refl

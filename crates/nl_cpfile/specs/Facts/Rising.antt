@@ -29,12 +29,14 @@ module _ {X : Type 0} (P : X → Type 0) where
 
   pub All-filter : (p : X → Bool) (xs : List X) → AllByRecursion P xs → AllByRecursion P (filter p xs)
   All-filter p [] each = tt
-  All-filter p (x ∷ xs) each = elim (p x) as (λ b. AllByRecursion P (cond b (x ∷ filter p xs) (filter p xs))) [
-    | true ↦ (each.0, All-filter p xs each.1)
-    | false ↦ All-filter p xs each.1
-  ]
+  All-filter p (x ∷ xs) each =
+      elim (p x) as (λ b. AllByRecursion P (cond b (x ∷ filter p xs) (filter p xs))) [
+        | true ↦ (each.0, All-filter p xs each.1)
+        | false ↦ All-filter p xs each.1
+      ]
 
-  pub All-weaken : (Q : X → Type 0) (xs : List X) → ((x : X) → P x → Q x) → AllByRecursion P xs → AllByRecursion Q xs
+  pub All-weaken : (Q : X → Type 0) (xs : List X) → ((x : X) → P x → Q x) → AllByRecursion P xs
+      → AllByRecursion Q xs
   All-weaken Q [] weaker each = tt
   All-weaken Q (x ∷ xs) weaker each = (weaker x each.0, All-weaken Q xs weaker each.1)
 
@@ -49,17 +51,22 @@ IsRising-front [] ys rising = tt
 IsRising-front (c ∷ xs) ys rising = (All-front (Precedes c) xs ys rising.0, IsRising-front xs ys rising.1)
 
 -- all of them precede the last one
-pub IsRising-last : (xs : List Checkpoint) (y : Checkpoint) → IsRising (xs ++ y ∷ []) → AllByRecursion (λ (c : Checkpoint). Precedes c y) xs
+pub IsRising-last : (xs : List Checkpoint) (y : Checkpoint) → IsRising (xs ++ y ∷ [])
+    → AllByRecursion (λ (c : Checkpoint). Precedes c y) xs
 IsRising-last [] y rising = tt
 IsRising-last (c ∷ xs) y rising = (All-last (Precedes c) xs y rising.0, IsRising-last xs y rising.1)
 
 -- so the earlier ones of a table lie below its latest one
 pub earlier-low : (t : Table) → IsTable t → All (λ (c : Checkpoint). c.number < t.latest.number) t.earlier
-earlier-low t is k d within = (All-at (λ (c : Checkpoint). Precedes c t.latest) t.earlier k d (IsRising-last t.earlier t.latest is.rising) within).number
+earlier-low t is k d within =
+    (All-at (λ (c : Checkpoint). Precedes c t.latest) t.earlier k d
+    (IsRising-last t.earlier t.latest is.rising) within).number
 
-pub IsRising-push : (xs : List Checkpoint) (y : Checkpoint) → IsRising xs → AllByRecursion (λ (c : Checkpoint). Precedes c y) xs → IsRising (xs ++ y ∷ [])
+pub IsRising-push : (xs : List Checkpoint) (y : Checkpoint) → IsRising xs
+    → AllByRecursion (λ (c : Checkpoint). Precedes c y) xs → IsRising (xs ++ y ∷ [])
 IsRising-push [] y rising before = (tt, tt)
-IsRising-push (c ∷ xs) y rising before = (All-push (Precedes c) xs y rising.0 before.0, IsRising-push xs y rising.1 before.1)
+IsRising-push (c ∷ xs) y rising before =
+    (All-push (Precedes c) xs y rising.0 before.0, IsRising-push xs y rising.1 before.1)
 
 pub IsRising-filter : (p : Checkpoint → Bool) (xs : List Checkpoint) → IsRising xs → IsRising (filter p xs)
 IsRising-filter p [] rising = tt
@@ -69,23 +76,32 @@ IsRising-filter p (c ∷ xs) rising = elim (p c) as (λ b. IsRising (cond b (c �
 ]
 
 -- their numbers never fall
-pub IsRising-numbers : (xs : List Checkpoint) → IsRising xs → IsNonDecreasingBy (λ (c : Checkpoint). c.number) xs
+pub IsRising-numbers : (xs : List Checkpoint) → IsRising xs
+    → IsNonDecreasingBy (λ (c : Checkpoint). c.number) xs
 IsRising-numbers [] rising i j d le lt = absurd (omega arith)
 IsRising-numbers (c ∷ xs) rising zero zero d le lt = omega arith
 IsRising-numbers (c ∷ xs) rising zero (suc j) d le lt =
     let up = (All-at (Precedes c) xs j d rising.0 (omega arith)).number in omega (arith, up)
 IsRising-numbers (c ∷ xs) rising (suc i) zero d le lt = absurd (omega arith)
-IsRising-numbers (c ∷ xs) rising (suc i) (suc j) d le lt = IsRising-numbers xs rising.1 i j d (omega arith) (omega arith)
+IsRising-numbers (c ∷ xs) rising (suc i) (suc j) d le lt =
+    IsRising-numbers xs rising.1 i j d (omega arith) (omega arith)
 
 -- ---- a mode is changed
 
 moded-number : (n : ℕ) (mode : Mode) (c : Checkpoint) → (moded n mode c).number ≡ c.number
-moded-number n mode c = elim (c.number == n) as (λ b. (let d : Checkpoint = cond b (record c { mode = mode }) c in d).number ≡ c.number) [ true ↦ refl | false ↦ refl ]
+moded-number n mode c =
+    elim (c.number == n) as (λ b.
+    (let d : Checkpoint = cond b (record c { mode = mode }) c in d).number ≡ c.number)
+    [ true ↦ refl | false ↦ refl ]
 
 moded-stamp : (n : ℕ) (mode : Mode) (c : Checkpoint) → (moded n mode c).stamp ≡ c.stamp
-moded-stamp n mode c = elim (c.number == n) as (λ b. (let d : Checkpoint = cond b (record c { mode = mode }) c in d).stamp ≡ c.stamp) [ true ↦ refl | false ↦ refl ]
+moded-stamp n mode c =
+    elim (c.number == n) as (λ b.
+    (let d : Checkpoint = cond b (record c { mode = mode }) c in d).stamp ≡ c.stamp)
+    [ true ↦ refl | false ↦ refl ]
 
-moded-Precedes : (n : ℕ) (mode : Mode) (a b : Checkpoint) → Precedes a b → Precedes (moded n mode a) (moded n mode b)
+moded-Precedes : (n : ℕ) (mode : Mode) (a b : Checkpoint) → Precedes a b
+    → Precedes (moded n mode a) (moded n mode b)
 moded-Precedes n mode a b before =
     let p = moded-number n mode a in
     let q = moded-number n mode b in
@@ -95,7 +111,8 @@ moded-Precedes n mode a b before =
     let same = before.stamp in
     record { number = omega (arith, p, q, up); stamp = omega (arith, r, s, same) }
 
-All-moded : (n : ℕ) (mode : Mode) (c : Checkpoint) (xs : List Checkpoint) → AllByRecursion (Precedes c) xs → AllByRecursion (Precedes (moded n mode c)) (map (moded n mode) xs)
+All-moded : (n : ℕ) (mode : Mode) (c : Checkpoint) (xs : List Checkpoint) → AllByRecursion (Precedes c) xs
+    → AllByRecursion (Precedes (moded n mode c)) (map (moded n mode) xs)
 All-moded n mode c [] each = tt
 All-moded n mode c (x ∷ xs) each = (moded-Precedes n mode c x each.0, All-moded n mode c xs each.1)
 
@@ -108,7 +125,9 @@ with_mode-IsTable n mode t is =
     let same = moded-number n mode t.latest in
     let below = is.limit in
     record {
-      rising = subst IsRising (map-push (moded n mode) t.earlier t.latest) (IsRising-moded n mode (all t) is.rising);
+      rising =
+          subst IsRising (map-push (moded n mode) t.earlier t.latest)
+          (IsRising-moded n mode (all t) is.rising);
       limit = omega (arith, same, below);
     }
 
@@ -126,19 +145,23 @@ pub with_next-IsTable : (c : Checkpoint) (t : Table) → IsTable t → ComesNext
 with_next-IsTable c t is next =
     let before : AllByRecursion (λ (d : Checkpoint). Precedes d c) (all t) =
     All-push (λ (d : Checkpoint). Precedes d c) t.earlier t.latest
-    (All-weaken (λ (d : Checkpoint). Precedes d t.latest) (λ (d : Checkpoint). Precedes d c) t.earlier (λ d up. Precedes-trans d t.latest c up next.follows) (IsRising-last t.earlier t.latest is.rising))
+    (All-weaken (λ (d : Checkpoint). Precedes d t.latest) (λ (d : Checkpoint). Precedes d c) t.earlier
+    (λ d up. Precedes-trans d t.latest c up next.follows) (IsRising-last t.earlier t.latest is.rising))
     next.follows in
     record { rising = IsRising-push (all t) c is.rising before; limit = next.limit }
 
 -- ---- some leave
 
-pub filter-IsTable : (p : Checkpoint → Bool) (t : Table) → IsTable t → IsTable (record t { earlier = filter p t.earlier })
+pub filter-IsTable : (p : Checkpoint → Bool) (t : Table) → IsTable t
+    → IsTable (record t { earlier = filter p t.earlier })
 filter-IsTable p t is = record {
   rising = IsRising-push (filter p t.earlier) t.latest
       (IsRising-filter p t.earlier (IsRising-front t.earlier (t.latest ∷ []) is.rising))
-      (All-filter (λ (c : Checkpoint). Precedes c t.latest) p t.earlier (IsRising-last t.earlier t.latest is.rising));
+      (All-filter (λ (c : Checkpoint). Precedes c t.latest) p t.earlier
+      (IsRising-last t.earlier t.latest is.rising));
   limit = is.limit;
 }
 
-pub same_table : {a b : List Checkpoint} {x y : Checkpoint} → a ≡ b → x ≡ y → (let t : Table = record { earlier = a; latest = x } in t) ≡ record { earlier = b; latest = y }
+pub same_table : {a b : List Checkpoint} {x y : Checkpoint} → a ≡ b → x ≡ y
+    → (let t : Table = record { earlier = a; latest = x } in t) ≡ record { earlier = b; latest = y }
 same_table p q = rw (p, q) refl

@@ -31,7 +31,8 @@ before_not_before a b c h not = choose (name_cmp c b) refl
     choose : (o : Ordering) → name_cmp c b ≡ o → name_cmp a c ≡ Less
     choose Less e = absurd (not e)
     choose Equal e = subst (λ (n : Name). name_cmp a n ≡ Less) (sym (names_equal c b e)) h
-    choose Greater e = nat_list_cmp_total.trans a b c h (nat_list_cmp_total.antisymm b c ∙ ap ordering_reverse e)
+    choose Greater e =
+        nat_list_cmp_total.trans a b c h (nat_list_cmp_total.antisymm b c ∙ ap ordering_reverse e)
 
 -- ---- records that ascend
 
@@ -54,44 +55,57 @@ all-right P [] ys h = h
 all-right P (x ∷ xs) ys h = all-right P xs ys (All-tail P x (xs ++ ys) h)
 
 -- the records of the front come before the one behind them
-pub ascending-across : (xs : List Record) (n : Record) (rest : List Record) → NamesAscend (xs ++ n ∷ rest) → All (λ (x : Record). name_cmp x.name n.name ≡ Less) xs
+pub ascending-across : (xs : List Record) (n : Record) (rest : List Record) → NamesAscend (xs ++ n ∷ rest)
+    → All (λ (x : Record). name_cmp x.name n.name ≡ Less) xs
 ascending-across [] n rest h = All-nil (λ (x : Record). name_cmp x.name n.name ≡ Less)
 ascending-across (x ∷ xs) n rest h =
-    let here : IsBeforeAll x.name (n ∷ rest) = all-right (λ (r : Record). name_cmp x.name r.name ≡ Less) xs (n ∷ rest) (ascending-head x (xs ++ n ∷ rest) h) in
-    All-cons (λ (y : Record). name_cmp y.name n.name ≡ Less) x xs (All-head (λ (r : Record). name_cmp x.name r.name ≡ Less) n rest here)
+    let here : IsBeforeAll x.name (n ∷ rest) =
+    all-right (λ (r : Record). name_cmp x.name r.name ≡ Less) xs (n ∷ rest)
+    (ascending-head x (xs ++ n ∷ rest) h) in
+    All-cons (λ (y : Record). name_cmp y.name n.name ≡ Less) x xs
+    (All-head (λ (r : Record). name_cmp x.name r.name ≡ Less) n rest here)
     (ascending-across xs n rest (ascending-tail x (xs ++ n ∷ rest) h))
 
 -- what comes before the first comes before all
-pub before_first : (name : Name) (r : Record) (rs : List Record) → NamesAscend (r ∷ rs) → name_cmp name r.name ≡ Less → IsBeforeAll name (r ∷ rs)
+pub before_first : (name : Name) (r : Record) (rs : List Record) → NamesAscend (r ∷ rs)
+    → name_cmp name r.name ≡ Less → IsBeforeAll name (r ∷ rs)
 before_first name r rs h less = All-cons (λ (s : Record). name_cmp name s.name ≡ Less) r rs less
-    (All-weaker (λ (s : Record). name_cmp r.name s.name ≡ Less) (λ (s : Record). name_cmp name s.name ≡ Less) (λ s. nat_list_cmp_total.trans name r.name s.name less) rs (ascending-head r rs h))
+    (All-weaker (λ (s : Record). name_cmp r.name s.name ≡ Less) (λ (s : Record). name_cmp name s.name ≡ Less)
+    (λ s. nat_list_cmp_total.trans name r.name s.name less) rs (ascending-head r rs h))
 
 -- ---- what a name stands for
 
 pub entry_of-first : (r : Record) (rs : List Record) → entry_of r.name (r ∷ rs) ≡ Some (r.inode, r.kind)
-entry_of-first r rs = cond-true (same_name r.name r.name) _ _ (ap is_eq (tied_itself nat_list_cmp_total r.name))
+entry_of-first r rs =
+    cond-true (same_name r.name r.name) _ _ (ap is_eq (tied_itself nat_list_cmp_total r.name))
 
 pub entry_of-before : (name : Name) (rs : List Record) → IsBeforeAll name rs → entry_of name rs ≡ None
 entry_of-before name [] h = refl
 entry_of-before name (r ∷ rs) h =
-    cond-false (same_name name r.name) _ _ (ap is_eq (All-head (λ (s : Record). name_cmp name s.name ≡ Less) r rs h))
+    cond-false (same_name name r.name) _ _
+    (ap is_eq (All-head (λ (s : Record). name_cmp name s.name ≡ Less) r rs h))
     ∙ entry_of-before name rs (All-tail (λ (s : Record). name_cmp name s.name ≡ Less) r rs h)
 
 -- the name is behind those of the front
-pub entry_of-behind : (name : Name) (xs ys : List Record) → All (λ (x : Record). name_cmp x.name name ≡ Less) xs → entry_of name (xs ++ ys) ≡ entry_of name ys
+pub entry_of-behind : (name : Name) (xs ys : List Record)
+    → All (λ (x : Record). name_cmp x.name name ≡ Less) xs → entry_of name (xs ++ ys) ≡ entry_of name ys
 entry_of-behind name [] ys h = refl
 entry_of-behind name (x ∷ xs) ys h =
     let less : name_cmp x.name name ≡ Less = All-head (λ (r : Record). name_cmp r.name name ≡ Less) x xs h in
-    cond-false (same_name name x.name) _ _ (ap is_eq (nat_list_cmp_total.antisymm name x.name ∙ ap ordering_reverse less))
+    cond-false (same_name name x.name) _ _
+    (ap is_eq (nat_list_cmp_total.antisymm name x.name ∙ ap ordering_reverse less))
     ∙ entry_of-behind name xs ys (All-tail (λ (r : Record). name_cmp r.name name ≡ Less) x xs h)
 
-pub entry_of-front : (name : Name) (xs ys : List Record) → entry_of name ys ≡ None → entry_of name (xs ++ ys) ≡ entry_of name xs
+pub entry_of-front : (name : Name) (xs ys : List Record) → entry_of name ys ≡ None
+    → entry_of name (xs ++ ys) ≡ entry_of name xs
 entry_of-front name [] ys h = h
-entry_of-front name (x ∷ xs) ys h = ap (cond (same_name name x.name) (Some (x.inode, x.kind))) (entry_of-front name xs ys h)
+entry_of-front name (x ∷ xs) ys h =
+    ap (cond (same_name name x.name) (Some (x.inode, x.kind))) (entry_of-front name xs ys h)
 
 -- ---- lists with the same map
 
-same_record : (x y : Record) → x.name ≡ y.name → ◌≡◌ {A = Option (ℕ × Kind)} (Some (x.inode, x.kind)) (Some (y.inode, y.kind)) → x ≡ y
+same_record : (x y : Record) → x.name ≡ y.name
+    → ◌≡◌ {A = Option (ℕ × Kind)} (Some (x.inode, x.kind)) (Some (y.inode, y.kind)) → x ≡ y
 same_record x y n e =
     let pairs : ◌≡◌ {A = ℕ × Kind} (x.inode, x.kind) (y.inode, y.kind) = cc in
     let inodes : x.inode ≡ y.inode = ap (λ (p : ℕ × Kind). p.0) pairs in
@@ -99,36 +113,51 @@ same_record x y n e =
     λ i. record { name = n i; inode = inodes i; kind = kinds i }
 
 -- two lists that ascend and have the same map are the same list
-pub same_records : (xs ys : List Record) → NamesAscend xs → NamesAscend ys → ((name : Name) → entry_of name xs ≡ entry_of name ys) → xs ≡ ys
+pub same_records : (xs ys : List Record) → NamesAscend xs → NamesAscend ys
+    → ((name : Name) → entry_of name xs ≡ entry_of name ys) → xs ≡ ys
 same_records [] [] a b h = refl
-same_records [] (y ∷ ys) a b h = let e : ◌≡◌ {A = Option (ℕ × Kind)} None (Some (y.inode, y.kind)) = h y.name ∙ entry_of-first y ys in cc
-same_records (x ∷ xs) [] a b h = let e : ◌≡◌ {A = Option (ℕ × Kind)} (Some (x.inode, x.kind)) None = sym (entry_of-first x xs) ∙ h x.name in cc
+same_records [] (y ∷ ys) a b h =
+    let e : ◌≡◌ {A = Option (ℕ × Kind)} None (Some (y.inode, y.kind)) = h y.name ∙ entry_of-first y ys in cc
+same_records (x ∷ xs) [] a b h =
+    let e : ◌≡◌ {A = Option (ℕ × Kind)} (Some (x.inode, x.kind)) None =
+    sym (entry_of-first x xs) ∙ h x.name in
+    cc
 same_records (x ∷ xs) (y ∷ ys) a b h = choose (name_cmp x.name y.name) refl
-    (λ n. same_records xs ys (ascending-tail x xs a) (ascending-tail y ys b) (λ name. tails n name (same_name name x.name) refl))
+    (λ n.
+    same_records xs ys (ascending-tail x xs a) (ascending-tail y ys b)
+    (λ name. tails n name (same_name name x.name) refl))
   where
-    tails : x.name ≡ y.name → (name : Name) (t : Bool) → same_name name x.name ≡ t → entry_of name xs ≡ entry_of name ys
+    tails : x.name ≡ y.name → (name : Name) (t : Bool) → same_name name x.name ≡ t
+        → entry_of name xs ≡ entry_of name ys
     tails n name true t =
         let same : name ≡ x.name = names_equal name x.name ((Equal-is (name_cmp name x.name)).0 t) in
         subst (λ (m : Name). entry_of m xs ≡ entry_of m ys) (sym same)
         (entry_of-before x.name xs (ascending-head x xs a)
-        ∙ sym (subst (λ (m : Name). entry_of m ys ≡ None) (sym n) (entry_of-before y.name ys (ascending-head y ys b))))
+        ∙ sym (subst (λ (m : Name). entry_of m ys ≡ None) (sym n)
+        (entry_of-before y.name ys (ascending-head y ys b))))
     tails n name false t =
         let other : same_name name y.name ≡ false = subst (λ (m : Name). same_name name m ≡ false) n t in
-        sym (cond-false (same_name name x.name) _ _ t) ∙ (h name ∙ cond-false (same_name name y.name) _ _ other)
+        sym (cond-false (same_name name x.name) _ _ t)
+        ∙ (h name ∙ cond-false (same_name name y.name) _ _ other)
 
     choose : (o : Ordering) → name_cmp x.name y.name ≡ o → (x.name ≡ y.name → xs ≡ ys) → (x ∷ xs) ≡ (y ∷ ys)
     choose Less e behind =
-        let none : entry_of x.name (y ∷ ys) ≡ None = entry_of-before x.name (y ∷ ys) (before_first x.name y ys b e) in
+        let none : entry_of x.name (y ∷ ys) ≡ None =
+        entry_of-before x.name (y ∷ ys) (before_first x.name y ys b e) in
         let some : entry_of x.name (y ∷ ys) ≡ Some (x.inode, x.kind) = sym (h x.name) ∙ entry_of-first x xs in
         cc
     choose Greater e behind =
-        let less : name_cmp y.name x.name ≡ Less = nat_list_cmp_total.antisymm y.name x.name ∙ ap ordering_reverse e in
-        let none : entry_of y.name (x ∷ xs) ≡ None = entry_of-before y.name (x ∷ xs) (before_first y.name x xs a less) in
+        let less : name_cmp y.name x.name ≡ Less =
+        nat_list_cmp_total.antisymm y.name x.name ∙ ap ordering_reverse e in
+        let none : entry_of y.name (x ∷ xs) ≡ None =
+        entry_of-before y.name (x ∷ xs) (before_first y.name x xs a less) in
         let some : entry_of y.name (x ∷ xs) ≡ Some (y.inode, y.kind) = h y.name ∙ entry_of-first y ys in
         cc
     choose Equal e behind =
         let n : x.name ≡ y.name = names_equal x.name y.name e in
-        let found : entry_of x.name (y ∷ ys) ≡ Some (y.inode, y.kind) = subst (λ (m : Name). entry_of m (y ∷ ys) ≡ Some (y.inode, y.kind)) (sym n) (entry_of-first y ys) in
+        let found : entry_of x.name (y ∷ ys) ≡ Some (y.inode, y.kind) =
+        subst (λ (m : Name). entry_of m (y ∷ ys) ≡ Some (y.inode, y.kind)) (sym n)
+        (entry_of-first y ys) in
         let first : x ≡ y = same_record x y n (sym (entry_of-first x xs) ∙ (h x.name ∙ found)) in
         let rest : xs ≡ ys = behind n in
         cc

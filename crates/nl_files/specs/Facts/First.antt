@@ -29,13 +29,28 @@ no_root pages i = step (cases_eq i 6)
   where
     step : (i ≡ 6) ⊎ (i ≡ 6 → ⊥) → roots_at pages Empty i ≡ Empty
     step (inl e) = ap (λ b. cond b Empty (inode_root (inode_at pages Empty i))) (eq-eqb i 6 e)
-    step (inr n) = ap (λ b. cond b Empty (inode_root (inode_at pages Empty i))) (ne_eqb i 6 n) ∙ ap inode_root (no_inode pages i)
+    step (inr n) =
+        ap (λ b. cond b Empty (inode_root (inode_at pages Empty i))) (ne_eqb i 6 n)
+        ∙ ap inode_root (no_inode pages i)
 
 pub latest-first : IsLatest blank Empty nothing_held
 latest-first = record {
-  numbers = λ j. λ q. sym (ap (λ (r : Root). place_at (pages_of blank.content) r q.level q.offset) (no_root (pages_of blank.content) q.inode) ∙ empty-none (pages_of blank.content) q.level q.offset) j;
-  sound = record { inode_file = nothing-sound (pages_of blank.content); inodes = no_inodes (pages_of blank.content); each = λ i. subst (λ (o : Option Inode). IsSound (pages_of blank.content) (inode_root o)) (sym (no_inode (pages_of blank.content) i)) (nothing-sound (pages_of blank.content)) };
-  stores = λ i. subst (λ (o : Option Inode). StandsFor (pages_of blank.content) o None) (sym (no_inode (pages_of blank.content) i)) refl;
+  numbers = λ j.
+      λ q.
+      sym (ap (λ (r : Root). place_at (pages_of blank.content) r q.level q.offset)
+      (no_root (pages_of blank.content) q.inode)
+      ∙ empty-none (pages_of blank.content) q.level q.offset)
+      j;
+  sound = record {
+    inode_file = nothing-sound (pages_of blank.content);
+    inodes = no_inodes (pages_of blank.content);
+    each = λ i.
+        subst (λ (o : Option Inode). IsSound (pages_of blank.content) (inode_root o))
+        (sym (no_inode (pages_of blank.content) i)) (nothing-sound (pages_of blank.content));
+  };
+  stores = λ i.
+      subst (λ (o : Option Inode). StandsFor (pages_of blank.content) o None)
+      (sym (no_inode (pages_of blank.content) i)) refl;
 }
 
 pub stores-nothing : (pages : Pages) → Stores pages Empty nothing_held

@@ -27,7 +27,8 @@ as-one blocks InodeFile size a b s t = absurd s
 inode-one : (pages : Pages) (inode : Option Inode) (a b : Option Held) → StandsFor pages inode a
     → StandsFor pages inode b → a ≡ b
 inode-one pages None a b s t = s ∙ sym t
-inode-one pages (Some inode) a b s t = as-one (page_at pages (root_of inode.root)) inode.kind inode.size a b s t
+inode-one pages (Some inode) a b s t =
+    as-one (page_at pages (root_of inode.root)) inode.kind inode.size a b s t
 
 pub roots-hold_one : RootsHoldOne
 roots-hold_one pages root one other s t =

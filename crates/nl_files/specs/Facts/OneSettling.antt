@@ -26,7 +26,8 @@ use Rattle.nl_files.specs.Facts.InodesAlike.{AreInodesAlike, stand-alike}
 
 -- ---- one settling
 
-module _ (content : Content) (root new : Root) (became : List (ℕ × Became)) (held : Holding) (batch : Changes) (s : Settles content root new became held batch) where
+module _ (content : Content) (root new : Root) (became : List (ℕ × Became)) (held : Holding) (batch : Changes)
+    (s : Settles content root new became held batch) where
   abbrev old : ℕ → Root
   old = roots_at (pages_of content) root
 
@@ -35,9 +36,17 @@ module _ (content : Content) (root new : Root) (became : List (ℕ × Became)) (
 
   inodes_put : PutsAll content 6 (old 6) new s.inode_file.changes (batch_after s.files no_changes) batch
   inodes_put =
-      subst (λ (n : ℕ). PutsAll content n (old n) new s.inode_file.changes (batch_after s.files no_changes) batch) s.is_inode_file
-      (subst (λ (r : Root). PutsAll content s.inode_file.inode (old s.inode_file.inode) r s.inode_file.changes (batch_after s.files no_changes) batch) (sym s.root_is)
-      (subst (λ (b : Changes). PutsAll content s.inode_file.inode (old s.inode_file.inode) s.inode_file.root s.inode_file.changes (batch_after s.files no_changes) b) (sym s.batch_is)
+      subst
+      (λ (n : ℕ). PutsAll content n (old n) new s.inode_file.changes (batch_after s.files no_changes) batch)
+      s.is_inode_file
+      (subst (λ (r : Root).
+      PutsAll content s.inode_file.inode (old s.inode_file.inode) r s.inode_file.changes
+      (batch_after s.files no_changes) batch)
+      (sym s.root_is)
+      (subst (λ (b : Changes).
+      PutsAll content s.inode_file.inode (old s.inode_file.inode) s.inode_file.root s.inode_file.changes
+      (batch_after s.files no_changes) b)
+      (sym s.batch_is)
       (last-put content old no_changes s.files s.inode_file s.put).1))
 
   files_once : NoneTwice (inodes_of s.files)
@@ -47,55 +56,93 @@ module _ (content : Content) (root new : Root) (became : List (ℕ × Became)) (
   not_inodes i h e = apart-last s.files s.inode_file s.once i h (e ∙ sym s.is_inode_file)
 
   -- the root that an inode has in the end
-  root_after : (i : ℕ) → (i ≡ 6 → ⊥) → roots_after s.files old i ≡ inode_root (inode_at (pages_after content batch) new i)
+  root_after : (i : ℕ) → (i ≡ 6 → ⊥)
+      → roots_after s.files old i ≡ inode_root (inode_at (pages_after content batch) new i)
   root_after i not =
-      sym (past-last s.files s.inode_file old i (λ e. not (e ∙ s.is_inode_file))) ∙ (s.roots i ∙ root-at_others (pages_after content batch) new i not)
+      sym (past-last s.files s.inode_file old i (λ e. not (e ∙ s.is_inode_file)))
+      ∙ (s.roots i ∙ root-at_others (pages_after content batch) new i not)
 
 -- ---- two of them
 
-module _ (content : Content) (root new other : Root) (became : List (ℕ × Became)) (held : Holding) (one two : Changes) (checkpoint : IsCheckpointRoot content root)
-    (holding : IsHolding held) (s : Settles content root new became held one) (t : Settles content root other became held two) where
+module _ (content : Content) (root new other : Root) (became : List (ℕ × Became)) (held : Holding)
+    (one two : Changes) (checkpoint : IsCheckpointRoot content root)
+    (holding : IsHolding held) (s : Settles content root new became held one)
+    (t : Settles content root other became held two) where
   old-sound : (i : ℕ) → IsSound (pages_of content) (roots_at (pages_of content) root i)
-  old-sound = root-sound (pages_of content) root (record { inode_file = checkpoint.inode_file.sound; inodes = checkpoint.inodes; each = λ i. (checkpoint.each i).sound })
+  old-sound =
+      root-sound (pages_of content) root
+      (record {
+        inode_file = checkpoint.inode_file.sound;
+        inodes = checkpoint.inodes;
+        each = λ i. (checkpoint.each i).sound;
+      })
 
-  at : (i : ℕ) → AreInodesAlike (pages_after content one) (pages_after content two) (inode_at (pages_after content one) new i) (inode_at (pages_after content two) other i)
-  at i = stand-alike (pages_after content one) (pages_after content two) (inode_at (pages_after content one) new i) (inode_at (pages_after content two) other i) (held i) (s.stores i) (t.stores i)
+  at : (i : ℕ)
+      → AreInodesAlike (pages_after content one) (pages_after content two)
+      (inode_at (pages_after content one) new i) (inode_at (pages_after content two) other i)
+  at i =
+      stand-alike (pages_after content one) (pages_after content two)
+      (inode_at (pages_after content one) new i) (inode_at (pages_after content two) other i) (held i)
+      (s.stores i) (t.stores i)
 
   all_files : AreFilesAlike (pages_after content one) (pages_after content two) s.files t.files
-  all_files = blocks-alike (pages_after content one) (pages_after content two) (roots_at (pages_of content) root) s.files t.files (s.became_are ∙ sym t.became_are)
+  all_files =
+      blocks-alike (pages_after content one) (pages_after content two)
+      (roots_at (pages_of content) root) s.files t.files (s.became_are ∙ sym t.became_are)
       (files_once content root new became held one s)
       (λ i h b.
       let not = not_inodes content root new became held one s i h in
-      ap (λ (r : Root). page_at (pages_after content one) r b) (root_after content root new became held one s i not)
-      ∙ ((at i).blocks b ∙ sym (ap (λ (r : Root). page_at (pages_after content two) r b) (root_after content root other became held two t i not))))
+      ap (λ (r : Root). page_at (pages_after content one) r b)
+      (root_after content root new became held one s i not)
+      ∙ ((at i).blocks b
+      ∙ sym (ap (λ (r : Root). page_at (pages_after content two) r b)
+      (root_after content root other became held two t i not))))
 
-  last : PutsAll content 6 (roots_at (pages_of content) root 6) new s.inode_file.changes (batch_after s.files no_changes) one
+  last : PutsAll content 6 (roots_at (pages_of content) root 6) new s.inode_file.changes
+      (batch_after s.files no_changes) one
   last = inodes_put content root new became held one s
 
-  last' : PutsAll content 6 (roots_at (pages_of content) root 6) other t.inode_file.changes (batch_after t.files no_changes) two
+  last' : PutsAll content 6 (roots_at (pages_of content) root 6) other t.inode_file.changes
+      (batch_after t.files no_changes) two
   last' = inodes_put content root other became held two t
 
   files : (born (batch_after s.files no_changes).births ≡ born (batch_after t.files no_changes).births)
-      × ((i : ℕ) → roots_after s.files (roots_at (pages_of content) root) i ≡ roots_after t.files (roots_at (pages_of content) root) i)
-  files = files-alike content (roots_at (pages_of content) root) old-sound one two last.unused last'.unused no_changes no_changes s.files t.files
-      (files_put content root new became held one s) (files_put content root other became held two t) all_files
+      × ((i : ℕ)
+      → roots_after s.files (roots_at (pages_of content) root) i
+      ≡ roots_after t.files (roots_at (pages_of content) root) i)
+  files =
+      files-alike content
+      (roots_at (pages_of content) root) old-sound one two last.unused last'.unused no_changes no_changes
+      s.files t.files
+      (files_put content root new became held one s)
+      (files_put content root other became held two t) all_files
       (last.births, last.births_are) (last'.births, last'.births_are) refl
 
   inodes : (i : ℕ) → inode_at (pages_after content one) new i ≡ inode_at (pages_after content two) other i
   inodes i = elim (cases_eq i 6) [
     | inl is ↦
-        ap (inode_at (pages_after content one) new) is ∙ (no_inode-six (pages_after content one) (inode_at (pages_after content one) new 6) held (s.stores 6) holding
-        ∙ sym (ap (inode_at (pages_after content two) other) is ∙ no_inode-six (pages_after content two) (inode_at (pages_after content two) other 6) held (t.stores 6) holding))
-    | inr not ↦ (at i).same (sym (root_after content root new became held one s i not) ∙ (files.1 i ∙ root_after content root other became held two t i not))
+        ap (inode_at (pages_after content one) new) is
+        ∙ (no_inode-six (pages_after content one) (inode_at (pages_after content one) new 6) held
+        (s.stores 6) holding
+        ∙ sym (ap (inode_at (pages_after content two) other) is
+        ∙ no_inode-six (pages_after content two) (inode_at (pages_after content two) other 6) held
+        (t.stores 6) holding))
+    | inr not ↦
+        (at i).same (sym (root_after content root new became held one s i not)
+        ∙ (files.1 i ∙ root_after content root other became held two t i not))
   ]
 
   blocks : (b : ℕ) → page_at (pages_after content one) new b ≡ page_at (pages_after content two) other b
   blocks b =
       s.sound.inodes b ∙ (ap (λ (all : InodeMap). block_for (in_block all b))
-      (same_at_all (inode_at (pages_after content one) new) (inode_at (pages_after content two) other) inodes) ∙ sym (t.sound.inodes b))
+      (same_at_all (inode_at (pages_after content one) new) (inode_at (pages_after content two) other) inodes)
+      ∙ sym (t.sound.inodes b))
 
   both : SameBatchAndRoot one two new other
-  both = put-alike content 6 (roots_at (pages_of content) root 6) new other s.inode_file.changes t.inode_file.changes (batch_after s.files no_changes) one (batch_after t.files no_changes) two
+  both =
+      put-alike content 6
+      (roots_at (pages_of content) root 6) new other s.inode_file.changes t.inode_file.changes
+      (batch_after s.files no_changes) one (batch_after t.files no_changes) two
       last last' (old-sound 6) blocks files.0
 
   pub settlings-alike : (length one.births ≡ length two.births) × (other ≡ new)
@@ -103,7 +150,8 @@ module _ (content : Content) (root new other : Root) (became : List (ℕ × Beca
 
 -- ---- nothing differs
 
-nothing-put : (content : Content) (root : Root) → IsSound (pages_of content) root → PutsAll content 6 root root [] no_changes no_changes
+nothing-put : (content : Content) (root : Root) → IsSound (pages_of content) root
+    → PutsAll content 6 root root [] no_changes no_changes
 unfolding with_births
 nothing-put content root sound = record {
   births = [];
@@ -117,7 +165,9 @@ nothing-put content root sound = record {
     of_inode = λ k d l. absurd (omega (arith, l));
     born_placed = λ b k. absurd (let l = k.1 in omega arith);
     born_written = λ b k. absurd (let l = k.1 in omega arith);
-    written_born = λ level offset w. absurd (unwritten (pages_of content) (pages_of content) root (λ x y. refl) (λ i. refl) level offset w);
+    written_born = λ level offset w.
+        absurd
+        (unwritten (pages_of content) (pages_of content) root (λ x y. refl) (λ i. refl) level offset w);
     born_or_kept = λ level offset v e. inr e;
     ended_or_kept = λ level offset v e. inr ((level, offset), e);
     ended_once = λ i j d l m. absurd (omega (arith, m));
@@ -131,7 +181,8 @@ nothing-put content root sound = record {
 }
 
 -- a tree from which nothing differs can be settled so
-clean-settles : (content : Content) (root : Root) (held : Holding) → IsCheckpointRoot content root → Stores (pages_of content) root held → Settles content root root [] held no_changes
+clean-settles : (content : Content) (root : Root) (held : Holding) → IsCheckpointRoot content root
+    → Stores (pages_of content) root held → Settles content root root [] held no_changes
 unfolding with_births
 clean-settles content root held checkpoint stores = record {
   files = [];
@@ -144,17 +195,24 @@ clean-settles content root held checkpoint stores = record {
   batch_is = refl;
   root_is = refl;
   roots = λ i. each i (cases_eq i 6);
-  sound = record { inode_file = checkpoint.inode_file.sound; inodes = checkpoint.inodes; each = λ i. (checkpoint.each i).sound };
+  sound = record {
+    inode_file = checkpoint.inode_file.sound;
+    inodes = checkpoint.inodes;
+    each = λ i. (checkpoint.each i).sound;
+  };
   stores = stores;
 }
   where
-    each : (i : ℕ) → (i ≡ 6) ⊎ (i ≡ 6 → ⊥) → (if i == 6 then root else roots_at (pages_of content) root i) ≡ roots_at (pages_of content) root i
+    each : (i : ℕ) → (i ≡ 6) ⊎ (i ≡ 6 → ⊥)
+        → (if i == 6 then root else roots_at (pages_of content) root i) ≡ roots_at (pages_of content) root i
     each i (inl is) = rw (eq-eqb i 6 is) refl
     each i (inr not) = rw (ne_eqb i 6 not) refl
 
 pub clean-write_nothing : CleanTreesWriteNothing
 clean-write_nothing content root new held batch checkpoint holding stores s =
-    let alike = settlings-alike content root new root [] held batch no_changes checkpoint holding s (clean-settles content root held checkpoint stores) in
+    let alike =
+    settlings-alike content root new root [] held batch no_changes checkpoint holding s
+    (clean-settles content root held checkpoint stores) in
     (none batch.births alike.0, sym alike.1)
   where
     none : (births : List Birth) → length births ≡ 0 → births ≡ []

@@ -28,7 +28,8 @@ clash None s e = cc
 clash (Some x) s e = cc
 
 -- a root without a page has no place
-no_data : (pages : Pages) (root : roots.Root) → IsSound pages root → ((b : ℕ) → page_at pages root b ≡ None) → (b : ℕ) → place_at pages root 0 b ≡ None
+no_data : (pages : Pages) (root : roots.Root) → IsSound pages root → ((b : ℕ) → page_at pages root b ≡ None)
+    → (b : ℕ) → place_at pages root 0 b ≡ None
 no_data pages root sound none b = elim (cases-Option (place_at pages root 0 b)) [
   | inl e ↦ e
   | inr x ↦
@@ -37,7 +38,8 @@ no_data pages root sound none b = elim (cases-Option (place_at pages root 0 b)) 
       absurd (let no : None ≡ Some page.0 = sym (none b) ∙ here in cc)
 ]
 
-pub high-none : (pages : Pages) (top level offset : ℕ) → place_at pages (roots.Chain top) (suc (suc level)) offset ≡ None
+pub high-none : (pages : Pages) (top level offset : ℕ)
+    → place_at pages (roots.Chain top) (suc (suc level)) offset ≡ None
 unfolding place_at
 high-none pages top level offset = refl
 
@@ -50,17 +52,23 @@ pub no_root : (pages : Pages) (root : Root) → IsSound pages (root_of root) →
     ((b : ℕ) → page_at pages (root_of root) b ≡ None) → root_of root ≡ roots.Empty
 no_root pages Empty sound none = refl
 no_root pages (Chain top) sound none =
-    let first = some-of (place_at pages (roots.Chain top) 1 0) (sound.has_top (λ e. let no : OfChain ≡ NoBlocks = e in cc)) in
+    let first =
+    some-of (place_at pages (roots.Chain top) 1 0)
+    (sound.has_top (λ e. let no : OfChain ≡ NoBlocks = e in cc)) in
     let there = sound.ends_full refl 0 first.0 first.1 in
-    absurd (clash (place_at pages (roots.Chain top) 0 there.0) there.2 (no_data pages (roots.Chain top) sound none there.0))
+    absurd (clash (place_at pages (roots.Chain top) 0 there.0) there.2
+    (no_data pages (roots.Chain top) sound none there.0))
 no_root pages (Tree height top) sound none =
     let there = (sound.tree_shape refl).least in
-    absurd (clash (place_at pages (roots.Tree height top) 0 there.0) there.1 (no_data pages (roots.Tree height top) sound none there.0))
+    absurd (clash (place_at pages (roots.Tree height top) 0 there.0) there.1
+    (no_data pages (roots.Tree height top) sound none there.0))
 
-pub no_place : (pages : Pages) (root : Root) → IsSound pages (root_of root) → ((b : ℕ) → page_at pages (root_of root) b ≡ None) →
+pub no_place : (pages : Pages) (root : Root) → IsSound pages (root_of root)
+    → ((b : ℕ) → page_at pages (root_of root) b ≡ None) →
     (level offset : ℕ) → place_at pages (root_of root) level offset ≡ None
 no_place pages root sound none level offset =
-    ap (λ (r : roots.Root). place_at pages r level offset) (no_root pages root sound none) ∙ empty-none pages level offset
+    ap (λ (r : roots.Root). place_at pages r level offset) (no_root pages root sound none)
+    ∙ empty-none pages level offset
 
 -- what a shape with a root is
 record Shaped (pages : Pages) (new : Option Inode) (root : roots.Root) (held : Option Held) : Type 0 where
@@ -68,31 +76,50 @@ record Shaped (pages : Pages) (new : Option Inode) (root : roots.Root) (held : O
   pub sound : IsSound pages (inode_root new)
   pub stands : StandsFor pages new held
 
-shaped-stands : (pages : Pages) (shape : Option Shape) (root : Root) (held : Option Held) → IsSound pages (root_of root) → StandsShaped (page_at pages (root_of root)) shape held → Shaped pages (shaped shape root) (root_of root) held
+shaped-stands : (pages : Pages) (shape : Option Shape) (root : Root) (held : Option Held)
+    → IsSound pages (root_of root) → StandsShaped (page_at pages (root_of root)) shape held
+    → Shaped pages (shaped shape root) (root_of root) held
 shaped-stands pages None root held sound stands = record {
   is_root = sym (no_root pages root sound stands.1);
   sound = nothing-sound pages;
   stands = stands.0;
 }
-shaped-stands pages (Some s) root held sound stands = record { is_root = refl; sound = sound; stands = stands }
+shaped-stands pages (Some s) root held sound stands =
+    record { is_root = refl; sound = sound; stands = stands }
 
-pub settled-one : (content : Content) (i : ℕ) (old : Option Inode) (change : Became) (plan : Plan) (given : roots.Root) (root : Root) (new : Option Inode) (changes : List BlockChange) (before after : Changes) (base : Option Held) →
-    IsPlanned old change plan → changes ≡ plan.changes.items → given ≡ inode_root old → PutsAll content i given (root_of root) changes before after → new ≡ shaped plan.shape root →
-    IsBase (page_at (pages_of content) (inode_root old)) old base → IsInodeSettled content i (inode_root old) new (over_became change base) before after
-settled-one content i old change plan given root new changes before after base planned items given_is put new_is is = record {
-  changes = changes;
-  root = root_of root;
-  settled = record { put = put_old; is_root = made.is_root; sound = made.sound; stands = made.stands };
-}
+pub settled-one : (content : Content) (i : ℕ) (old : Option Inode) (change : Became) (plan : Plan)
+    (given : roots.Root) (root : Root) (new : Option Inode) (changes : List BlockChange)
+    (before after : Changes) (base : Option Held)
+    →
+    IsPlanned old change plan → changes ≡ plan.changes.items → given ≡ inode_root old
+    → PutsAll content i given (root_of root) changes before after → new ≡ shaped plan.shape root →
+    IsBase (page_at (pages_of content) (inode_root old)) old base
+    → IsInodeSettled content i (inode_root old) new (over_became change base) before after
+settled-one content i old change plan given root new changes before after base planned items given_is put
+    new_is is =
+    record {
+      changes = changes;
+      root = root_of root;
+      settled = record { put = put_old; is_root = made.is_root; sound = made.sound; stands = made.stands };
+    }
   where
     put_old : PutsAll content i (inode_root old) (root_of root) changes before after
     put_old = subst (λ (r : roots.Root). PutsAll content i r (root_of root) changes before after) given_is put
 
-    blocks_are : blocks_with plan.changes.items (page_at (pages_of content) (inode_root old)) ≡ page_at (pages_after content after) (root_of root)
-    blocks_are = λ j. λ b. (ap (λ (cs : List BlockChange). blocks_with cs (page_at (pages_of content) (inode_root old)) b) (sym items) ∙ sym (put_old.blocks b)) j
+    blocks_are : blocks_with plan.changes.items (page_at (pages_of content) (inode_root old))
+        ≡ page_at (pages_after content after) (root_of root)
+    blocks_are = λ j.
+        λ b.
+        (ap (λ (cs : List BlockChange). blocks_with cs (page_at (pages_of content) (inode_root old)) b)
+        (sym items)
+        ∙ sym (put_old.blocks b))
+        j
 
     made : Shaped (pages_after content after) new (root_of root) (over_became change base)
     made =
-        subst (λ (n : Option Inode). Shaped (pages_after content after) n (root_of root) (over_became change base)) (sym new_is)
+        subst (λ (n : Option Inode).
+        Shaped (pages_after content after) n (root_of root) (over_became change base))
+        (sym new_is)
         (shaped-stands (pages_after content after) plan.shape root (over_became change base) put_old.sound
-        (subst (λ (blocks : Pages). StandsShaped blocks plan.shape (over_became change base)) blocks_are (planned (page_at (pages_of content) (inode_root old)) base is)))
+        (subst (λ (blocks : Pages). StandsShaped blocks plan.shape (over_became change base)) blocks_are
+        (planned (page_at (pages_of content) (inode_root old)) base is)))

@@ -52,7 +52,8 @@ trees-can_be_settled ledger root now base tree over = record {
 }
 
 -- over the checkpoint that was made of it the tree stands for what it stood for
-settled_stands : (now : Current) (base : Holding) (tree : Tree) → StandsOver now base tree → StandsOver (record now { became = [] }) (holding_over now.became base) tree
+settled_stands : (now : Current) (base : Holding) (tree : Tree) → StandsOver now base tree
+    → StandsOver (record now { became = [] }) (holding_over now.became base) tree
 settled_stands now base tree stands = record {
   sound = stands.sound;
   counts = counts_settled _ now.mark (holding_over now.became base) base stands.counts;
@@ -62,7 +63,9 @@ settled_stands now base tree stands = record {
 
 pub settled_trees-go_on : SettledTreesGoOn
 settled_trees-go_on room ledger root new now base tree batch over settles fits =
-    let follows = settled-follow room ledger root new base (holding_over now.became base) now.became batch over.is_ledger over.latest settles fits in
+    let follows =
+    settled-follow room ledger root new base
+    (holding_over now.became base) now.became batch over.is_ledger over.latest settles fits in
     record {
       is_ledger = follows.is_ledger;
       latest = follows.is_latest;

@@ -11,27 +11,52 @@ use Rattle.nl_image.specs.Facts.ConditionOrder.{hold-fewer}
 module _ (bytes : List ℕ) (p : Parts) (tables : HaveTables bytes p) where
   -- only these parts can meet more conditions
   no-others : (n : ℕ) → 6 ≤ n → (MeetsFirst n bytes p → ⊥) → (q : Parts) → MeetsFirst n bytes q → ⊥
-  no-others n low never q m = never (subst (MeetsFirst n bytes) (tables.only q (hold-fewer 6 n conditions bytes q low m)) m)
+  no-others n low never q m =
+      never (subst (MeetsFirst n bytes) (tables.only q (hold-fewer 6 n conditions bytes q low m)) m)
 
   meets-7 : HasLogs bytes p → MeetsFirst 7 bytes p
-  meets-7 logs = let m = tables.meets in (m.0, (m.1.0, (m.1.1.0, (m.1.1.1.0, (m.1.1.1.1.0, (m.1.1.1.1.1.0, (logs, tt)))))))
+  meets-7 logs =
+      let m = tables.meets in
+      (m.0, (m.1.0, (m.1.1.0, (m.1.1.1.0, (m.1.1.1.1.0, (m.1.1.1.1.1.0, (logs, tt)))))))
 
   meets-8 : HasLogs bytes p → HasShapes bytes p → MeetsFirst 8 bytes p
-  meets-8 logs shapes = let m = tables.meets in (m.0, (m.1.0, (m.1.1.0, (m.1.1.1.0, (m.1.1.1.1.0, (m.1.1.1.1.1.0, (logs, (shapes, tt))))))))
+  meets-8 logs shapes =
+      let m = tables.meets in
+      (m.0, (m.1.0, (m.1.1.0, (m.1.1.1.0, (m.1.1.1.1.0, (m.1.1.1.1.1.0, (logs, (shapes, tt))))))))
 
   meets-9 : HasLogs bytes p → HasShapes bytes p → HasTrees bytes p → MeetsFirst 9 bytes p
   meets-9 logs shapes trees =
-      let m = tables.meets in (m.0, (m.1.0, (m.1.1.0, (m.1.1.1.0, (m.1.1.1.1.0, (m.1.1.1.1.1.0, (logs, (shapes, (trees, tt)))))))))
+      let m = tables.meets in
+      (m.0, (m.1.0, (m.1.1.0, (m.1.1.1.0, (m.1.1.1.1.0, (m.1.1.1.1.1.0, (logs, (shapes, (trees, tt)))))))))
 
   meets-10 : HasLogs bytes p → HasCheckedTrees bytes p → MeetsFirst 10 bytes p
   meets-10 logs c =
-      let m = tables.meets in
-      (m.0, (m.1.0, (m.1.1.0, (m.1.1.1.0, (m.1.1.1.1.0, (m.1.1.1.1.1.0, (logs, (c.shapes, (c.trees, (c.periods, tt))))))))))
+      let m = tables.meets in (
+        m.0,
+        (
+          m.1.0,
+          (
+            m.1.1.0,
+            (m.1.1.1.0, (m.1.1.1.1.0, (m.1.1.1.1.1.0, (logs, (c.shapes, (c.trees, (c.periods, tt))))))),
+          ),
+        ),
+      )
 
   pub meets-all : HasLogs bytes p → HasCheckedTrees bytes p → HasZeros bytes p → IsImage bytes p
   meets-all logs c zeros =
-      let m = tables.meets in
-      (m.0, (m.1.0, (m.1.1.0, (m.1.1.1.0, (m.1.1.1.1.0, (m.1.1.1.1.1.0, (logs, (c.shapes, (c.trees, (c.periods, (zeros, tt)))))))))))
+      let m = tables.meets in (
+        m.0,
+        (
+          m.1.0,
+          (
+            m.1.1.0,
+            (
+              m.1.1.1.0,
+              (m.1.1.1.1.0, (m.1.1.1.1.1.0, (logs, (c.shapes, (c.trees, (c.periods, (zeros, tt))))))),
+            ),
+          ),
+        ),
+      )
 
   pub logs-fail : (HasLogs bytes p → ⊥) → FirstFails 7 bytes
   logs-fail never = record {
@@ -74,17 +99,20 @@ module _ (bytes : List ℕ) (p : Parts) (tables : HaveTables bytes p) where
     Judged None = HasCheckedTrees bytes p
     Judged (Some n) = FirstFails n bytes
 
-    judged : (fault : Option ℕ) → FirstFault (pages_told bytes p) (periods_told p) (map told p.kept) fault → Judged fault
+    judged : (fault : Option ℕ) → FirstFault (pages_told bytes p) (periods_told p) (map told p.kept) fault
+        → Judged fault
     unfolding Judged
     judged fault (shapes_fail never) = shapes-fail never
     judged fault (trees_fail shapes never) = trees-fail shapes never
     judged fault (periods_fail shapes trees never) = periods-fail shapes trees never
     judged fault (all_met shapes trees periods) = record { shapes = shapes; trees = trees; periods = periods }
 
-    pub fault-fails : (n : ℕ) → FirstFault (pages_told bytes p) (periods_told p) (map told p.kept) (Some n) → FirstFails n bytes
+    pub fault-fails : (n : ℕ) → FirstFault (pages_told bytes p) (periods_told p) (map told p.kept) (Some n)
+        → FirstFails n bytes
     unfolding Judged
     fault-fails n fault = judged (Some n) fault
 
-    pub checked-trees : FirstFault (pages_told bytes p) (periods_told p) (map told p.kept) None → HasCheckedTrees bytes p
+    pub checked-trees : FirstFault (pages_told bytes p) (periods_told p) (map told p.kept) None
+        → HasCheckedTrees bytes p
     unfolding Judged
     checked-trees fault = judged None fault

@@ -41,28 +41,35 @@ found_more k x kept (c, is) = elim (cases_Bool (eq_by_cmp nat_cmp k x.number)) [
 found_filter : (p : Checkpoint → Bool) (k : ℕ) (kept last : List Checkpoint) (d : Checkpoint)
     → found k (filter p kept ++ last) ≡ Some d → WasFound k (kept ++ last)
 found_filter p k [] last d is = (d, is)
-found_filter p k (x ∷ kept) last d is = by (p x) (eq_by_cmp nat_cmp k x.number) refl is (found_filter p k kept last)
+found_filter p k (x ∷ kept) last d is =
+    by (p x) (eq_by_cmp nat_cmp k x.number) refl is (found_filter p k kept last)
   where
     by : (b t : Bool) → eq_by_cmp nat_cmp k x.number ≡ t
         → found k (cond b (x ∷ filter p kept) (filter p kept) ++ last) ≡ Some d
-        → ((e : Checkpoint) → found k (filter p kept ++ last) ≡ Some e → WasFound k (kept ++ last)) → WasFound k (x ∷ (kept ++ last))
+        → ((e : Checkpoint) → found k (filter p kept ++ last) ≡ Some e → WasFound k (kept ++ last))
+        → WasFound k (x ∷ (kept ++ last))
     by false t h is rest = found_more k x (kept ++ last) (rest d is)
     by true true h is rest = (x, cond-true (eq_by_cmp nat_cmp k x.number) (Some x) (found k (kept ++ last)) h)
     by true false h is rest = found_more k x (kept ++ last) (rest d
         (sym (cond-false (eq_by_cmp nat_cmp k x.number) (Some x) (found k (filter p kept ++ last)) h) ∙ is))
 
 moded_number : (n : ℕ) (mode : Mode) (c : Checkpoint) → (moded n mode c).number ≡ c.number
-moded_number n mode c = elim (eqb c.number n) as (λ b. (cond b (record c { mode = mode }) c).number ≡ c.number) [ true ↦ refl | false ↦ refl ]
+moded_number n mode c =
+    elim (eqb c.number n) as (λ b. (cond b (record c { mode = mode }) c).number ≡ c.number)
+    [ true ↦ refl | false ↦ refl ]
 
-found_moded : (n : ℕ) (mode : Mode) (k : ℕ) (kept : List Checkpoint) (d : Checkpoint) → found k (map (moded n mode) kept) ≡ Some d → WasFound k kept
+found_moded : (n : ℕ) (mode : Mode) (k : ℕ) (kept : List Checkpoint) (d : Checkpoint)
+    → found k (map (moded n mode) kept) ≡ Some d → WasFound k kept
 found_moded n mode k [] d is = cc
 found_moded n mode k (x ∷ kept) d is = by (eq_by_cmp nat_cmp k x.number) refl (found_moded n mode k kept)
   where
     by : (t : Bool) → eq_by_cmp nat_cmp k x.number ≡ t
-        → ((e : Checkpoint) → found k (map (moded n mode) kept) ≡ Some e → WasFound k kept) → WasFound k (x ∷ kept)
+        → ((e : Checkpoint) → found k (map (moded n mode) kept) ≡ Some e → WasFound k kept)
+        → WasFound k (x ∷ kept)
     by true h rest = (x, cond-true (eq_by_cmp nat_cmp k x.number) (Some x) (found k kept) h)
     by false h rest = found_more k x kept (rest d
-        (sym (cond-false (eq_by_cmp nat_cmp k (moded n mode x).number) (Some (moded n mode x)) (found k (map (moded n mode) kept))
+        (sym (cond-false (eq_by_cmp nat_cmp k (moded n mode x).number) (Some (moded n mode x))
+        (found k (map (moded n mode) kept))
         (ap (eq_by_cmp nat_cmp k) (moded_number n mode x) ∙ h)) ∙ is))
 
 map_push : {A B : Type 0} (f : A → B) (xs : List A) (x : A) → map f (xs ++ x ∷ []) ≡ map f xs ++ f x ∷ []
@@ -83,7 +90,8 @@ behind x (Written w) n given next =
         d,
         or_none (found n (all x.table))
             ∙ (sym (ap (option_or (found n (all x.table)))
-            (cond-false (eqb w.checkpoint.number n) (Some w.checkpoint) None (ne_eqb w.checkpoint.number n (λ same. omega (arith, above, given, same)))))
+            (cond-false (eqb w.checkpoint.number n) (Some w.checkpoint) None
+            (ne_eqb w.checkpoint.number n (λ same. omega (arith, above, given, same)))))
             ∙ (found-push n (all x.table) w.checkpoint (found n (all x.table)) refl ∙ is)),
       );
     }
@@ -95,7 +103,9 @@ behind x (ModeSet m mode) n given next =
     let same = moded_number m mode x.table.latest in
     record {
       latest = omega (arith, same);
-      kept = λ d is. found_moded m mode n (all x.table) d (ap (found n) (map_push (moded m mode) x.table.earlier x.table.latest) ∙ is);
+      kept = λ d is.
+          found_moded m mode n (all x.table) d
+          (ap (found n) (map_push (moded m mode) x.table.earlier x.table.latest) ∙ is);
     }
 behind x (Removed m) n given next = record {
   latest = omega arith;
@@ -103,7 +113,9 @@ behind x (Removed m) n given next = record {
 }
 behind x (RangeRemoved first last) n given next = record {
   latest = omega arith;
-  kept = λ d is. found_filter (is_kept_without (range_in first last x.table)) n x.table.earlier (x.table.latest ∷ []) d is;
+  kept = λ d is.
+      found_filter (is_kept_without (range_in first last x.table)) n x.table.earlier
+      (x.table.latest ∷ []) d is;
 }
 behind x (Mounted mount) n given next = record { latest = omega arith; kept = λ d is. (d, is) }
 behind x (GivenBack m) n given next = record { latest = omega arith; kept = λ d is. (d, is) }
@@ -117,7 +129,8 @@ module _ (n inode index : ℕ) (page : List ℕ) where
   record Shows (x : Shown) : Type 0 where
     given : n ≤ x.table.latest.number
     block : (c : Checkpoint) (held : Holding) → kept_at n x.table ≡ Some c
-        → HoldsTree (pages_shown x) (root_of (checkpoint_root c)) held → held_block (held inode) index ≡ Some page
+        → HoldsTree (pages_shown x) (root_of (checkpoint_root c)) held
+        → held_block (held inode) index ≡ Some page
 
   step : (x : Shown) (c : Commit) → IsImage x → IsNext x c → Shows x → Shows (applied x c)
   step x c image next shows =
@@ -128,31 +141,43 @@ module _ (n inode index : ℕ) (page : List ℕ) where
       }
     where
       block : (d : Checkpoint) (held : Holding) → kept_at n (applied x c).table ≡ Some d
-          → HoldsTree (pages_shown (applied x c)) (root_of (checkpoint_root d)) held → WasFound n (all x.table) → held_block (held inode) index ≡ Some page
+          → HoldsTree (pages_shown (applied x c)) (root_of (checkpoint_root d)) held
+          → WasFound n (all x.table) → held_block (held inode) index ≡ Some page
       block d held is holds (e, was) =
           let pages = pages_shown x in
           let more = pages_shown (applied x c) in
           let keeps = next.keeps n e d was is in
           let tree = image.trees n e was in
           let root = root_of (checkpoint_root e) in
-          let agree : AgreeAtCheckpoint pages more root = λ i level offset v at. keeps.pages (record { inode = i; level = level; offset = offset }) v at in
+          let agree : AgreeAtCheckpoint pages more root = λ i level offset v at.
+          keeps.pages (record { inode = i; level = level; offset = offset }) v at in
           let stay = checkpoints-stay pages more root tree.means.held tree.sound tree.means.holds agree in
-          let stores : Stores more root held = subst (λ (r : RootBlock). Stores more (root_of r) held) keeps.root holds.stores in
-          let one : held ≡ tree.means.held = roots-hold_one more root held tree.means.held stores (stay.stores tree.means.held tree.means.holds.stores) in
-          ap (λ (h : Holding). held_block (h inode) index) one ∙ shows.block e tree.means.held was tree.means.holds
+          let stores : Stores more root held =
+          subst (λ (r : RootBlock). Stores more (root_of r) held) keeps.root holds.stores in
+          let one : held ≡ tree.means.held =
+          roots-hold_one more root held tree.means.held stores
+          (stay.stores tree.means.held tree.means.holds.stores) in
+          ap (λ (h : Holding). held_block (h inode) index) one
+          ∙ shows.block e tree.means.held was tree.means.holds
 
   -- ---- all that come
 
-  steps : (x : Shown) (more : List Commit) → IsImage x → AllNext x more → Shows x → Shows (fold applied x more)
+  steps : (x : Shown) (more : List Commit) → IsImage x → AllNext x more → Shows x
+      → Shows (fold applied x more)
   steps x [] image next shows = shows
-  steps x (c ∷ more) image next shows = steps (applied x c) more next.0.image next.1 (step x c image next.0 shows)
+  steps x (c ∷ more) image next shows =
+      steps (applied x c) more next.0.image next.1 (step x c image next.0 shows)
 
-  page_stays : (log later : List Commit) → IsHistory later → IsPrefix log later → IsCachedPage log n inode index page → IsCachedPage later n inode index page
+  page_stays : (log later : List Commit) → IsHistory later → IsPrefix log later
+      → IsCachedPage log n inode index page → IsCachedPage later n inode index page
   page_stays log later history prefix cached =
       let whole : IsHistory (log ++ prefix.0) = subst IsHistory (sym prefix.1) history in
       let shows : Shows (image_of log) = record { given = cached.given; block = cached.block } in
-      let after = steps (image_of log) prefix.0 (history_image log cached.history) (rest_of log prefix.0 whole cached.history) shows in
-      let at : fold applied (image_of log) prefix.0 ≡ image_of later = sym (fold-grows nothing log prefix.0) ∙ ap image_of prefix.1 in
+      let after =
+      steps (image_of log) prefix.0 (history_image log cached.history)
+      (rest_of log prefix.0 whole cached.history) shows in
+      let at : fold applied (image_of log) prefix.0 ≡ image_of later =
+      sym (fold-grows nothing log prefix.0) ∙ ap image_of prefix.1 in
       let now = subst Shows at after in
       record { history = history; given = now.given; block = now.block }
 

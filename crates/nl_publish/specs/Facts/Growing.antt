@@ -7,13 +7,15 @@ use Rattle.nl_core.specs.Commits.{AllNext, IsHistory, applied, image_of}
 use Rattle.nl_core.specs.declared.commit.Commit.TheVariants as commit
 use Rattle.nl_publish.specs.Histories.{IsBegun}
 
-pub fold-grows : (x : Shown) (xs ys : List Commit) → fold applied x (xs ++ ys) ≡ fold applied (fold applied x xs) ys
+pub fold-grows : (x : Shown) (xs ys : List Commit)
+    → fold applied x (xs ++ ys) ≡ fold applied (fold applied x xs) ys
 fold-grows x [] ys = refl
 fold-grows x (c ∷ xs) ys = fold-grows (applied x c) xs ys
 
 -- ---- histories
 
-all_more : (x : Shown) (xs ys : List Commit) → AllNext x xs → AllNext (fold applied x xs) ys → AllNext x (xs ++ ys)
+all_more : (x : Shown) (xs ys : List Commit) → AllNext x xs → AllNext (fold applied x xs) ys
+    → AllNext x (xs ++ ys)
 all_more x [] ys h more = more
 all_more x (c ∷ xs) ys h more = (h.0, all_more (applied x c) xs ys h.1 more)
 
@@ -22,7 +24,8 @@ all_start x [] ys h = tt
 all_start x (c ∷ xs) ys h = (h.0, all_start (applied x c) xs ys h.1)
 
 -- a history goes on by commits that may follow
-pub history_more : (log more : List Commit) → IsHistory log → AllNext (image_of log) more → IsHistory (log ++ more)
+pub history_more : (log more : List Commit) → IsHistory log → AllNext (image_of log) more
+    → IsHistory (log ++ more)
 history_more [] more h next = absurd h
 history_more (commit.Whole w ∷ log) more h next = (h.0, all_more (whole_of w) log more h.1 next)
 history_more (commit.Written w ∷ log) more h next = absurd h

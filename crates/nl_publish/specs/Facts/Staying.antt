@@ -43,90 +43,124 @@ history_image (commit.Resized segments blocks ∷ log) h = absurd h
 abbrev pub found : ℕ → List Mounted → Option ℕ
 found m mounts = find nat_cmp m (map mount_of mounts)
 
-found_cons : (m : ℕ) (j : Mounted) (mounts : List Mounted) → found m (j ∷ mounts) ≡ cond (m == j.number) (Some j.checkpoint) (found m mounts)
+found_cons : (m : ℕ) (j : Mounted) (mounts : List Mounted)
+    → found m (j ∷ mounts) ≡ cond (m == j.number) (Some j.checkpoint) (found m mounts)
 found_cons m j mounts = ap (λ b. cond b (Some j.checkpoint) (found m mounts)) (unsigned_tied m j.number)
 
-found_here : (m : ℕ) (j : Mounted) (mounts : List Mounted) → (m == j.number) ≡ true → found m (j ∷ mounts) ≡ Some j.checkpoint
-found_here m j mounts at = found_cons m j mounts ∙ ap (λ b. cond b (Some j.checkpoint) (found m mounts)) at
+found_here : (m : ℕ) (j : Mounted) (mounts : List Mounted) → (m == j.number) ≡ true
+    → found m (j ∷ mounts) ≡ Some j.checkpoint
+found_here m j mounts at =
+    found_cons m j mounts ∙ ap (λ b. cond b (Some j.checkpoint) (found m mounts)) at
 
-found_later : (m : ℕ) (j : Mounted) (mounts : List Mounted) → (m == j.number) ≡ false → found m (j ∷ mounts) ≡ found m mounts
-found_later m j mounts at = found_cons m j mounts ∙ ap (λ b. cond b (Some j.checkpoint) (found m mounts)) at
+found_later : (m : ℕ) (j : Mounted) (mounts : List Mounted) → (m == j.number) ≡ false
+    → found m (j ∷ mounts) ≡ found m mounts
+found_later m j mounts at =
+    found_cons m j mounts ∙ ap (λ b. cond b (Some j.checkpoint) (found m mounts)) at
 
 same_number : (m : ℕ) → (m == m) ≡ true
 same_number m = eq-eqb m m refl
 
 -- a mount that another one is put behind is found as before
-before_step : (b : Bool) (m n : ℕ) (j : Mounted) (mounts : List Mounted) (k : Mounted) → (m == j.number) ≡ b → found m (j ∷ mounts ++ k ∷ []) ≡ Some n
+before_step : (b : Bool) (m n : ℕ) (j : Mounted) (mounts : List Mounted) (k : Mounted)
+    → (m == j.number) ≡ b
+    → found m (j ∷ mounts ++ k ∷ []) ≡ Some n
     → (found m (mounts ++ k ∷ []) ≡ Some n → found m mounts ≡ Some n) → found m (j ∷ mounts) ≡ Some n
-before_step true m n j mounts k at is rest = found_here m j mounts at ∙ (sym (found_here m j (mounts ++ k ∷ []) at) ∙ is)
-before_step false m n j mounts k at is rest = found_later m j mounts at ∙ rest (sym (found_later m j (mounts ++ k ∷ []) at) ∙ is)
+before_step true m n j mounts k at is rest =
+    found_here m j mounts at ∙ (sym (found_here m j (mounts ++ k ∷ []) at) ∙ is)
+before_step false m n j mounts k at is rest =
+    found_later m j mounts at ∙ rest (sym (found_later m j (mounts ++ k ∷ []) at) ∙ is)
 
-found_before : (m n : ℕ) (mounts : List Mounted) (k : Mounted) → (m == k.number) ≡ false → found m (mounts ++ k ∷ []) ≡ Some n → found m mounts ≡ Some n
+found_before : (m n : ℕ) (mounts : List Mounted) (k : Mounted) → (m == k.number) ≡ false
+    → found m (mounts ++ k ∷ []) ≡ Some n → found m mounts ≡ Some n
 found_before m n [] k other is = absurd (cc (is, found_later m k [] other))
-found_before m n (j ∷ mounts) k other is = before_step (m == j.number) m n j mounts k refl is (found_before m n mounts k other)
+found_before m n (j ∷ mounts) k other is =
+    before_step (m == j.number) m n j mounts k refl is (found_before m n mounts k other)
 
 -- where there was none, the one that is put behind is found
-behind_step : (b : Bool) (m c n : ℕ) (j : Mounted) (mounts : List Mounted) → (m == j.number) ≡ b → ((n : ℕ) → found m (j ∷ mounts) ≡ Some n → ⊥)
+behind_step : (b : Bool) (m c n : ℕ) (j : Mounted) (mounts : List Mounted) → (m == j.number) ≡ b
+    → ((n : ℕ) → found m (j ∷ mounts) ≡ Some n → ⊥)
     → found m (j ∷ mounts ++ record { number = m; checkpoint = c } ∷ []) ≡ Some n
-    → (((n : ℕ) → found m mounts ≡ Some n → ⊥) → found m (mounts ++ record { number = m; checkpoint = c } ∷ []) ≡ Some n → n ≡ c) → n ≡ c
+    → (((n : ℕ) → found m mounts ≡ Some n → ⊥)
+    → found m (mounts ++ record { number = m; checkpoint = c } ∷ []) ≡ Some n → n ≡ c)
+    → n ≡ c
 behind_step true m c n j mounts at none is rest = absurd (none j.checkpoint (found_here m j mounts at))
 behind_step false m c n j mounts at none is rest =
-    rest (λ i e. none i (found_later m j mounts at ∙ e)) (sym (found_later m j (mounts ++ record { number = m; checkpoint = c } ∷ []) at) ∙ is)
+    rest (λ i e. none i (found_later m j mounts at ∙ e))
+    (sym (found_later m j (mounts ++ record { number = m; checkpoint = c } ∷ []) at) ∙ is)
 
-found_behind : (m c n : ℕ) (mounts : List Mounted) → ((n : ℕ) → found m mounts ≡ Some n → ⊥) → found m (mounts ++ record { number = m; checkpoint = c } ∷ []) ≡ Some n → n ≡ c
+found_behind : (m c n : ℕ) (mounts : List Mounted) → ((n : ℕ) → found m mounts ≡ Some n → ⊥)
+    → found m (mounts ++ record { number = m; checkpoint = c } ∷ []) ≡ Some n → n ≡ c
 found_behind m c n [] none is =
-    let here : found m (record { number = m; checkpoint = c } ∷ []) ≡ Some c = found_here m (record { number = m; checkpoint = c }) [] (same_number m) in
+    let here : found m (record { number = m; checkpoint = c } ∷ []) ≡ Some c =
+    found_here m (record { number = m; checkpoint = c }) [] (same_number m) in
     cc (is, here)
-found_behind m c n (j ∷ mounts) none is = behind_step (m == j.number) m c n j mounts refl none is (found_behind m c n mounts)
+found_behind m c n (j ∷ mounts) none is =
+    behind_step (m == j.number) m c n j mounts refl none is (found_behind m c n mounts)
 
 pushed_step : (b : Bool) (m c : ℕ) (j : Mounted) (mounts : List Mounted) → (m == j.number) ≡ b
     → ((n : ℕ) → found m (j ∷ mounts) ≡ Some n → ⊥)
-    → (((n : ℕ) → found m mounts ≡ Some n → ⊥) → found m (mounts ++ record { number = m; checkpoint = c } ∷ []) ≡ Some c)
+    → (((n : ℕ) → found m mounts ≡ Some n → ⊥)
+    → found m (mounts ++ record { number = m; checkpoint = c } ∷ []) ≡ Some c)
     → found m (j ∷ mounts ++ record { number = m; checkpoint = c } ∷ []) ≡ Some c
 pushed_step true m c j mounts at none rest = absurd (none j.checkpoint (found_here m j mounts at))
 pushed_step false m c j mounts at none rest =
-    found_later m j (mounts ++ record { number = m; checkpoint = c } ∷ []) at ∙ rest (λ i e. none i (found_later m j mounts at ∙ e))
+    found_later m j (mounts ++ record { number = m; checkpoint = c } ∷ []) at
+    ∙ rest (λ i e. none i (found_later m j mounts at ∙ e))
 
 pub found_pushed : (m c : ℕ) (mounts : List Mounted) → ((n : ℕ) → found m mounts ≡ Some n → ⊥)
     → found m (mounts ++ record { number = m; checkpoint = c } ∷ []) ≡ Some c
 found_pushed m c [] none = found_here m (record { number = m; checkpoint = c }) [] (same_number m)
-found_pushed m c (j ∷ mounts) none = pushed_step (m == j.number) m c j mounts refl none (found_pushed m c mounts)
+found_pushed m c (j ∷ mounts) none =
+    pushed_step (m == j.number) m c j mounts refl none (found_pushed m c mounts)
 
 -- a mount that is left was there
 abbrev left : ℕ → List Mounted → List Mounted
 left gone mounts = filter (is_other_mount gone) mounts
 
-left_out : (gone : ℕ) (j : Mounted) (mounts : List Mounted) → (j.number == gone) ≡ true → left gone (j ∷ mounts) ≡ left gone mounts
+left_out : (gone : ℕ) (j : Mounted) (mounts : List Mounted) → (j.number == gone) ≡ true
+    → left gone (j ∷ mounts) ≡ left gone mounts
 left_out gone j mounts at = ap (λ b. cond (not b) (j ∷ left gone mounts) (left gone mounts)) at
 
-left_in : (gone : ℕ) (j : Mounted) (mounts : List Mounted) → (j.number == gone) ≡ false → left gone (j ∷ mounts) ≡ j ∷ left gone mounts
+left_in : (gone : ℕ) (j : Mounted) (mounts : List Mounted) → (j.number == gone) ≡ false
+    → left gone (j ∷ mounts) ≡ j ∷ left gone mounts
 left_in gone j mounts at = ap (λ b. cond (not b) (j ∷ left gone mounts) (left gone mounts)) at
 
-left_step : (b d : Bool) (m n gone : ℕ) (j : Mounted) (mounts : List Mounted) → (j.number == gone) ≡ b → (m == j.number) ≡ d
-    → found m (left gone (j ∷ mounts)) ≡ Some n → (found m (left gone mounts) ≡ Some n → (found m mounts ≡ Some n) × ((m == gone) ≡ false))
+left_step : (b d : Bool) (m n gone : ℕ) (j : Mounted) (mounts : List Mounted) → (j.number == gone) ≡ b
+    → (m == j.number) ≡ d
+    → found m (left gone (j ∷ mounts)) ≡ Some n
+    → (found m (left gone mounts) ≡ Some n → (found m mounts ≡ Some n) × ((m == gone) ≡ false))
     → (found m (j ∷ mounts) ≡ Some n) × ((m == gone) ≡ false)
 left_step true true m n gone j mounts out here is rest =
     let more = rest (ap (found m) (sym (left_out gone j mounts out)) ∙ is) in
-    absurd (true≢false (sym (eq-eqb m gone (eqb-true m j.number here ∙ eqb-true j.number gone out)) ∙ more.1))
+    absurd (true≢false
+    (sym (eq-eqb m gone (eqb-true m j.number here ∙ eqb-true j.number gone out)) ∙ more.1))
 left_step true false m n gone j mounts out here is rest =
     let more = rest (ap (found m) (sym (left_out gone j mounts out)) ∙ is) in
     (found_later m j mounts here ∙ more.0, more.1)
 left_step false true m n gone j mounts out here is rest =
-    let one : found m (j ∷ left gone mounts) ≡ Some n = ap (found m) (sym (left_in gone j mounts out)) ∙ is in
-    (found_here m j mounts here ∙ (sym (found_here m j (left gone mounts) here) ∙ one), ap (λ k. k == gone) (eqb-true m j.number here) ∙ out)
+    let one : found m (j ∷ left gone mounts) ≡ Some n =
+    ap (found m) (sym (left_in gone j mounts out)) ∙ is in (
+      found_here m j mounts here ∙ (sym (found_here m j (left gone mounts) here) ∙ one),
+      ap (λ k. k == gone) (eqb-true m j.number here) ∙ out,
+    )
 left_step false false m n gone j mounts out here is rest =
-    let one : found m (j ∷ left gone mounts) ≡ Some n = ap (found m) (sym (left_in gone j mounts out)) ∙ is in
+    let one : found m (j ∷ left gone mounts) ≡ Some n =
+    ap (found m) (sym (left_in gone j mounts out)) ∙ is in
     let more = rest (sym (found_later m j (left gone mounts) here) ∙ one) in
     (found_later m j mounts here ∙ more.0, more.1)
 
-found_left : (m n gone : ℕ) (mounts : List Mounted) → found m (left gone mounts) ≡ Some n → (found m mounts ≡ Some n) × ((m == gone) ≡ false)
+found_left : (m n gone : ℕ) (mounts : List Mounted) → found m (left gone mounts) ≡ Some n
+    → (found m mounts ≡ Some n) × ((m == gone) ≡ false)
 found_left m n gone [] is = absurd (cc (is))
-found_left m n gone (j ∷ mounts) is = left_step (j.number == gone) (m == j.number) m n gone j mounts refl refl is (found_left m n gone mounts)
+found_left m n gone (j ∷ mounts) is =
+    left_step (j.number == gone) (m == j.number) m n gone j mounts refl refl is
+    (found_left m n gone mounts)
 
 -- ---- one commit
 
 -- a mount that is found after a commit, and is no later one, was found before
-mounted_before : (x : Shown) (c : Commit) (m n : ℕ) → IsNew x c → m ≤ x.given → mounted_on (applied x c) m ≡ Some n → mounted_on x m ≡ Some n
+mounted_before : (x : Shown) (c : Commit) (m n : ℕ) → IsNew x c → m ≤ x.given
+    → mounted_on (applied x c) m ≡ Some n → mounted_on x m ≡ Some n
 mounted_before x (commit.Whole w) m n new low is = absurd new
 mounted_before x (commit.Written w) m n new low is = is
 mounted_before x (commit.ModeSet k mode) m n new low is = is
@@ -154,7 +188,8 @@ record ShowsStill (first : Shown) (m k : ℕ) (x : Shown) : Type 0 where
   given : m ≤ x.given
   shows : (n : ℕ) → mounted_on x m ≡ Some n → (n ≡ k) × ((t : Tree) → TreeOn first k t → TreeOn x n t)
 
-tree_on : (x : Shown) (c : Commit) (n : ℕ) (d : Checkpoint) (t : Tree) → IsNext x c → kept_at n (applied x c).table ≡ Some d → TreeOn x n t → TreeOn (applied x c) n t
+tree_on : (x : Shown) (c : Commit) (n : ℕ) (d : Checkpoint) (t : Tree) → IsNext x c
+    → kept_at n (applied x c).table ≡ Some d → TreeOn x n t → TreeOn (applied x c) n t
 tree_on x c n d t next kept tree =
     let stays = next.keeps n tree.checkpoint d tree.kept kept in
     record {
@@ -163,7 +198,8 @@ tree_on x c n d t next kept tree =
       means = stays.trees t tree.means;
     }
 
-shows_on : (first : Shown) (m k : ℕ) (x : Shown) (c : Commit) → IsNext x c → ShowsStill first m k x → ShowsStill first m k (applied x c)
+shows_on : (first : Shown) (m k : ℕ) (x : Shown) (c : Commit) → IsNext x c → ShowsStill first m k x
+    → ShowsStill first m k (applied x c)
 shows_on first m k x c next still = record {
   given = given_on x c m next.new still.given;
   shows = λ n is.
@@ -172,9 +208,12 @@ shows_on first m k x c next still = record {
       (was.0, λ t tree. tree_on x c n d.0 t next d.1 (was.1 t tree));
 }
 
-shows_all : (first : Shown) (m k : ℕ) (x : Shown) (log : List Commit) → AllNext x log → ShowsStill first m k x → ShowsStill first m k (fold applied x log)
+shows_all : (first : Shown) (m k : ℕ) (x : Shown) (log : List Commit) → AllNext x log
+    → ShowsStill first m k x
+    → ShowsStill first m k (fold applied x log)
 shows_all first m k x [] next still = still
-shows_all first m k x (c ∷ log) next still = shows_all first m k (applied x c) log next.1 (shows_on first m k x c next.0 still)
+shows_all first m k x (c ∷ log) next still =
+    shows_all first m k (applied x c) log next.1 (shows_on first m k x c next.0 still)
 
 -- ---- parts of a history
 
@@ -182,7 +221,8 @@ all_rest : (x : Shown) (xs ys : List Commit) → AllNext x (xs ++ ys) → AllNex
 all_rest x [] ys h = h
 all_rest x (c ∷ xs) ys h = all_rest (applied x c) xs ys h.1
 
-pub rest_of : (log more : List Commit) → IsHistory (log ++ more) → IsHistory log → AllNext (image_of log) more
+pub rest_of : (log more : List Commit) → IsHistory (log ++ more) → IsHistory log
+    → AllNext (image_of log) more
 rest_of [] more h begun = absurd begun
 rest_of (commit.Whole w ∷ log) more h begun = all_rest (whole_of w) log more h.1
 rest_of (commit.Written w ∷ log) more h begun = absurd h
@@ -194,7 +234,8 @@ rest_of (commit.GivenBack m ∷ log) more h begun = absurd h
 rest_of (commit.Freed w ∷ log) more h begun = absurd h
 rest_of (commit.Resized segments blocks ∷ log) more h begun = absurd h
 
-begun_is : (log : List Commit) (c : Commit) (mount : Mounted) → c ≡ commit.Mounted mount → IsHistory (log ++ c ∷ []) → IsBegun log → IsHistory log
+begun_is : (log : List Commit) (c : Commit) (mount : Mounted) → c ≡ commit.Mounted mount
+    → IsHistory (log ++ c ∷ []) → IsBegun log → IsHistory log
 begun_is [] c mount is h begun = absurd (subst (λ (d : Commit). IsHistory (d ∷ [])) is h)
 begun_is (x ∷ log) c mount is h begun = begun
 
@@ -208,10 +249,13 @@ pub record IsNewMount (before : List Commit) (m k : ℕ) : Type 0 where
       ≡ applied (image_of before) (commit.Mounted (record { number = m; checkpoint = k }))
 
 pub new_mount : (before : List Commit) (m k : ℕ)
-    → IsHistory (before ++ commit.Mounted (record { number = m; checkpoint = k }) ∷ []) → IsNewMount before m k
+    → IsHistory (before ++ commit.Mounted (record { number = m; checkpoint = k }) ∷ [])
+    → IsNewMount before m k
 new_mount before m k h =
     let c : Commit = commit.Mounted (record { number = m; checkpoint = k }) in
-    let begun : IsHistory before = begun_is before c (record { number = m; checkpoint = k }) refl h (history_start before (c ∷ []) h) in
+    let begun : IsHistory before =
+    begun_is before c (record { number = m; checkpoint = k }) refl h
+    (history_start before (c ∷ []) h) in
     let next : IsNext (image_of before) c = (rest_of before (c ∷ []) h begun).0 in
     record {
       next = next;
@@ -219,7 +263,8 @@ new_mount before m k h =
       grown = fold-grows nothing before (c ∷ []);
     }
 
-shows_first : (before : List Commit) (m k : ℕ) → IsHistory (before ++ commit.Mounted (record { number = m; checkpoint = k }) ∷ [])
+shows_first : (before : List Commit) (m k : ℕ)
+    → IsHistory (before ++ commit.Mounted (record { number = m; checkpoint = k }) ∷ [])
     → ShowsStill (image_of (before ++ commit.Mounted (record { number = m; checkpoint = k }) ∷ [])) m k
     (image_of (before ++ commit.Mounted (record { number = m; checkpoint = k }) ∷ []))
 shows_first before m k h =
@@ -232,17 +277,25 @@ shows_first before m k h =
           (same, λ t tree. subst (λ (j : ℕ). TreeOn (applied x c) j t) (sym same) tree);
     })
 
-pub mount_stays : (m : Claim) (log : List Commit) (n : ℕ) → IsClaim m → IsHistory log → IsPrefix m.told.commits log → mounted_on (image_of log) m.number ≡ Some n → ShowsTold m log n
+pub mount_stays : (m : Claim) (log : List Commit) (n : ℕ) → IsClaim m → IsHistory log
+    → IsPrefix m.told.commits log → mounted_on (image_of log) m.number ≡ Some n → ShowsTold m log n
 mount_stays m log n claim history prefix is =
     let told = m.told.commits in
     let c : Commit = commit.Mounted (record { number = m.number; checkpoint = m.checkpoint }) in
     let whole : IsHistory (told ++ prefix.0) = subst IsHistory (sym prefix.1) history in
-    let ends : IsHistory ((claim.0 ++ c ∷ []) ++ prefix.0) = subst (λ (l : List Commit). IsHistory (l ++ prefix.0)) claim.1 whole in
-    let begun : IsHistory (claim.0 ++ c ∷ []) = begun_more claim.0 c (history_start (claim.0 ++ c ∷ []) prefix.0 ends) in
-    let first = subst (λ (l : List Commit). ShowsStill (image_of l) m.number m.checkpoint (image_of l)) (sym claim.1) (shows_first claim.0 m.number m.checkpoint begun) in
-    let next : AllNext (image_of told) prefix.0 = rest_of told prefix.0 whole (subst IsHistory (sym claim.1) begun) in
+    let ends : IsHistory ((claim.0 ++ c ∷ []) ++ prefix.0) =
+    subst (λ (l : List Commit). IsHistory (l ++ prefix.0)) claim.1 whole in
+    let begun : IsHistory (claim.0 ++ c ∷ []) =
+    begun_more claim.0 c (history_start (claim.0 ++ c ∷ []) prefix.0 ends) in
+    let first =
+    subst (λ (l : List Commit). ShowsStill (image_of l) m.number m.checkpoint (image_of l))
+    (sym claim.1)
+    (shows_first claim.0 m.number m.checkpoint begun) in
+    let next : AllNext (image_of told) prefix.0 =
+    rest_of told prefix.0 whole (subst IsHistory (sym claim.1) begun) in
     let all = shows_all (image_of told) m.number m.checkpoint (image_of told) prefix.0 next first in
-    let at : fold applied (image_of told) prefix.0 ≡ image_of log = sym (fold-grows nothing told prefix.0) ∙ ap image_of prefix.1 in
+    let at : fold applied (image_of told) prefix.0 ≡ image_of log =
+    sym (fold-grows nothing told prefix.0) ∙ ap image_of prefix.1 in
     let still = subst (λ (y : Shown). ShowsStill (image_of told) m.number m.checkpoint y) at all in
     let shows = still.shows n is in
     record { checkpoint = shows.0; trees = shows.1 }

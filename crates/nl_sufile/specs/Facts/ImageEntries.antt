@@ -15,21 +15,26 @@ pub entry_width : HaveWidth segment_bytes 16
 entry_width info = refl
 
 -- the entry of each segment stands in its place
-pub entry_in_place : (g : Geometry) (bytes : List ℕ) (each : List SegmentInfo) (i : ℕ) → AreEntriesOf g bytes each → i < g.segments → IsEntryAt g.blocks bytes i (info_of each i)
+pub entry_in_place : (g : Geometry) (bytes : List ℕ) (each : List SegmentInfo) (i : ℕ)
+    → AreEntriesOf g bytes each → i < g.segments → IsEntryAt g.blocks bytes i (info_of each i)
 entry_in_place g bytes each i are within =
     let inside : i < length each = omega (arith, are.count, within) in
     record {
       spells = record {
         fits = are.fit i clean_info inside;
-        spelling = ap (λ (xs : List ℕ). take 16 (drop (16 * i) xs)) are.spelled ∙ piece_at segment_bytes 16 entry_width each i clean_info inside;
+        spelling =
+            ap (λ (xs : List ℕ). take 16 (drop (16 * i) xs)) are.spelled
+            ∙ piece_at segment_bytes 16 entry_width each i clean_info inside;
       };
       sound = are.sound i clean_info inside;
     }
 
 -- the entries that were read are the first of all, and so they are with one more
-pub one_more : (each : List SegmentInfo) (i : ℕ) (first : List SegmentInfo) (info : SegmentInfo) → i < length each → first ≡ take i each → Some info ≡ Some (info_of each i)
+pub one_more : (each : List SegmentInfo) (i : ℕ) (first : List SegmentInfo) (info : SegmentInfo)
+    → i < length each → first ≡ take i each → Some info ≡ Some (info_of each i)
     → first ++ info ∷ [] ≡ take (i + 1) each
-one_more each i first info within before next = let more = take_more each i clean_info within in rw (before, some_is next) (sym more)
+one_more each i first info within before next =
+    let more = take_more each i clean_info within in rw (before, some_is next) (sym more)
   where
     some_is : {A : Type 0} {a b : A} → Some a ≡ Some b → a ≡ b
     some_is e = cc
@@ -45,19 +50,27 @@ pub none_below : (each : List SegmentInfo) → IsActiveBelow each 0 None
 none_below each = record { there = λ a e. absurd (cc); only = λ i low active. absurd (omega arith) }
 
 -- the next one is not active
-pub below_other : (each : List SegmentInfo) (n : ℕ) (active : Option ℕ) → IsActiveBelow each n active → is_active (info_of each n).state ≡ false → IsActiveBelow each (n + 1) active
+pub below_other : (each : List SegmentInfo) (n : ℕ) (active : Option ℕ) → IsActiveBelow each n active
+    → is_active (info_of each n).state ≡ false → IsActiveBelow each (n + 1) active
 below_other each n active is other = record {
   there = λ a e. let t = is.there a e in (omega (arith, t.0), t.1);
   only = λ i low here. elim (cases_lt i n) [
     | inl h ↦ is.only i h here
-    | inr h ↦ absurd (let same : i ≡ n = omega (arith, h, low) in let b : is_active (info_of each n).state ≡ true = subst (λ (k : ℕ). is_active (info_of each k).state ≡ true) same here in cc)
+    | inr h ↦
+        absurd (let same : i ≡ n = omega (arith, h, low) in
+        let b : is_active (info_of each n).state ≡ true =
+        subst (λ (k : ℕ). is_active (info_of each k).state ≡ true) same here in
+        cc)
   ];
 }
 
 -- the next one is, and none before it
-pub below_this : (each : List SegmentInfo) (n : ℕ) → IsActiveBelow each n None → is_active (info_of each n).state ≡ true → IsActiveBelow each (n + 1) (Some n)
+pub below_this : (each : List SegmentInfo) (n : ℕ) → IsActiveBelow each n None
+    → is_active (info_of each n).state ≡ true → IsActiveBelow each (n + 1) (Some n)
 below_this each n is this = record {
-  there = λ a e. let same : n ≡ a = cc in (omega (arith, same), subst (λ (k : ℕ). is_active (info_of each k).state ≡ true) same this);
+  there = λ a e.
+      let same : n ≡ a = cc in
+      (omega (arith, same), subst (λ (k : ℕ). is_active (info_of each k).state ≡ true) same this);
   only = λ i low here. elim (cases_lt i n) [
     | inl h ↦ absurd (let e = is.only i h here in cc)
     | inr h ↦ ap (λ (k : ℕ). Some k) (omega (arith, h, low))
@@ -65,7 +78,8 @@ below_this each n is this = record {
 }
 
 -- that is all of them
-pub below_all : (each : List SegmentInfo) (n : ℕ) (active : Option ℕ) → n ≡ length each → IsActiveBelow each n active → IsActiveIn each active
+pub below_all : (each : List SegmentInfo) (n : ℕ) (active : Option ℕ) → n ≡ length each
+    → IsActiveBelow each n active → IsActiveIn each active
 below_all each n active all is = record {
   there = λ a e. let t = is.there a e in (omega (arith, t.0, all), t.1);
   only = λ i here. elim (cases_lt i n) [
@@ -75,23 +89,27 @@ below_all each n active all is = record {
 }
   where
     past : (info : SegmentInfo) → info ≡ clean_info → is_active info.state ≡ true → ⊥
-    past info e here = let c : is_active info.state ≡ false = ap (λ (x : SegmentInfo). is_active x.state) e in cc
+    past info e here =
+        let c : is_active info.state ≡ false = ap (λ (x : SegmentInfo). is_active x.state) e in cc
 
 pub none_from : {A : Type 0} (o : Option A) → is_some o ≡ false → o ≡ None
 none_from None e = refl
 none_from (Some x) e = cc
 
 -- two are active
-pub two_active : (each : List SegmentInfo) (n : ℕ) (active : Option ℕ) → IsActiveBelow each n active → is_some active ≡ true → is_active (info_of each n).state ≡ true → HaveOneActive each → ⊥
+pub two_active : (each : List SegmentInfo) (n : ℕ) (active : Option ℕ) → IsActiveBelow each n active
+    → is_some active ≡ true → is_active (info_of each n).state ≡ true → HaveOneActive each → ⊥
 two_active each n None is there here one = cc
-two_active each n (Some a) is there here one = let t = is.there a refl in let same = one a n t.1 here in omega (arith, t.0, same)
+two_active each n (Some a) is there here one =
+    let t = is.there a refl in let same = one a n t.1 here in omega (arith, t.0, same)
 
 -- ---- the table
 
 abbrev pub segments_of : Geometry → List SegmentInfo → Segments
 segments_of g each = record { blocks = g.blocks; each = each }
 
-pub told_table : (g : Geometry) (bytes : List ℕ) (each : List SegmentInfo) (active : Option ℕ) → AreEntriesOf g bytes each → IsActiveIn each active
+pub told_table : (g : Geometry) (bytes : List ℕ) (each : List SegmentInfo) (active : Option ℕ)
+    → AreEntriesOf g bytes each → IsActiveIn each active
     → IsSufileOf g bytes (record { blocks = g.blocks; each = each })
 told_table g bytes each active are is = record {
   spelled = are.spelled;
@@ -99,7 +117,9 @@ told_table g bytes each active are is = record {
   count = are.count;
   blocks = refl;
   tidy = record {
-    each = recursion_from_All (IsTidy g.blocks) each (All-weaker (IsSoundSegment g.blocks) (IsTidy g.blocks) (λ info sound. sound.tidy) each are.sound);
+    each =
+        recursion_from_All (IsTidy g.blocks) each
+        (All-weaker (IsSoundSegment g.blocks) (IsTidy g.blocks) (λ info sound. sound.tidy) each are.sound);
     one_active = λ i j a b. let p = is.only i a in let q = is.only j b in cc;
   };
   have_logs = λ i has. elim (cases_lt i (length each)) [
@@ -124,17 +144,21 @@ told_seg_table g bytes s told = record {
 }
 
 -- the entries of a table are sound
-pub entries_told : (g : Geometry) (bytes : List ℕ) (s : Segments) → IsSufileOf g bytes s → AreEntriesOf g bytes s.each
+pub entries_told : (g : Geometry) (bytes : List ℕ) (s : Segments) → IsSufileOf g bytes s
+    → AreEntriesOf g bytes s.each
 entries_told g bytes s told = record {
   spelled = told.spelled;
   fit = told.fit;
   count = told.count;
   sound = All-from_get_or (IsSoundSegment g.blocks) s.each clean_info (λ i within. record {
-    tidy = subst (λ (blocks : ℕ). IsTidy blocks (info_of s.each i)) told.blocks (All-from_recursion (IsTidy s.blocks) s.each told.tidy.each i clean_info within);
+    tidy =
+        subst (λ (blocks : ℕ). IsTidy blocks (info_of s.each i)) told.blocks
+        (All-from_recursion (IsTidy s.blocks) s.each told.tidy.each i clean_info within);
     logs = told.have_logs i;
   });
 }
 
 -- a table is made of its segments
-pub same_segments : (g : Geometry) (each : List SegmentInfo) (s : Segments) → each ≡ s.each → s.blocks ≡ g.blocks → segments_of g each ≡ s
+pub same_segments : (g : Geometry) (each : List SegmentInfo) (s : Segments) → each ≡ s.each
+    → s.blocks ≡ g.blocks → segments_of g each ≡ s
 same_segments g each s same blocks = rw (same, (sym blocks)) refl

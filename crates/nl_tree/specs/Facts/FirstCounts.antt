@@ -7,7 +7,8 @@ use Rattle.nl_tree.specs.Numbers.{CountsFree, CountsNumbers}
 use Rattle.nl_tree.specs.Facts.FirstTree.{absent-first}
 
 -- over the checkpoint that was made of the tree
-pub counts_settled : (IsFree : ℕ → Type 0) (mark : ℕ) (held base : Holding) → CountsNumbers IsFree mark held base → CountsNumbers IsFree mark held held
+pub counts_settled : (IsFree : ℕ → Type 0) (mark : ℕ) (held base : Holding)
+    → CountsNumbers IsFree mark held base → CountsNumbers IsFree mark held held
 counts_settled IsFree mark held base counts = record {
   first = counts.first;
   last = counts.last;
@@ -25,7 +26,8 @@ counts_new base = record {
   beyond = λ n past. inr refl;
 }
 
-pub counts_first : CountsFree (record { became = root_directory_alone; freed = []; mark = 11; names = 0 }) nothing_held
+pub counts_first : CountsFree
+    (record { became = root_directory_alone; freed = []; mark = 11; names = 0 }) nothing_held
 counts_first = record {
   first = omega arith;
   last = omega arith;

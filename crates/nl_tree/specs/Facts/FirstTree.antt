@@ -19,7 +19,8 @@ holds_nothing = record {
 }
 
 pub absent-first : (i : ℕ) → (i ≡ 2 → ⊥) → first_holding i ≡ None
-absent-first i n = ap (λ (o : Option Became). over_if_became o None) (find-there i (2, BecameDirectory []) [] n)
+absent-first i n =
+    ap (λ (o : Option Became). over_if_became o None) (find-there i (2, BecameDirectory []) [] n)
 
 pub root-first : (i : ℕ) → i ≡ 2 → first_holding i ≡ Some (Listed [])
 root-first i e = ap (λ (o : Option Became). over_if_became o None) (find-here i (2, BecameDirectory []) [] e)
@@ -33,7 +34,11 @@ root-alone i held is = step (cases_eq i 2)
     step (inr n) = absurd (let no : None ≡ Some held = sym (absent-first i n) ∙ is in cc)
 
 no_names : IsDirectoryHeld []
-no_names = record { ascending = λ i j d l m. absurd (omega arith); names = λ k d l. absurd (omega arith); count = omega arith }
+no_names = record {
+  ascending = λ i j d l m. absurd (omega arith);
+  names = λ k d l. absurd (omega arith);
+  count = omega arith;
+}
 
 pub holds_first : IsHolding first_holding
 holds_first = record {

@@ -27,19 +27,23 @@ use Rattle.nl_types.specs.Facts.Inodes.FullVolumes.{row_length}
 use Rattle.nl_types.specs.Facts.Inodes.Walks.{present}
 
 -- a record of what is there
-zipped_there : (a : Option ℕ) (x : Option Node) → is_some a ≡ is_some x → is_some x ≡ true → (link : Link) × (option_zip a (option_map node_kind x) ≡ Some link)
+zipped_there : (a : Option ℕ) (x : Option Node) → is_some a ≡ is_some x → is_some x ≡ true
+    → (link : Link) × (option_zip a (option_map node_kind x) ≡ Some link)
 zipped_there a None e there = cc
 zipped_there None (Some x) e there = cc
 zipped_there (Some i) (Some x) e there = ((i, node_kind x), refl)
 
 module _ (inodes : Inodes) (tree : Tree) (m : MeansTree inodes tree) (w : AreWithinLimits inodes) where
   turned : (path : Path) (name : Name) → reverse (name ∷ reverse path) ≡ path ++ name ∷ []
-  turned path name = reverse-append (name ∷ []) (reverse path) ∙ ap (λ (q : Path). q ++ name ∷ []) (reverse-reverse path)
+  turned path name =
+      reverse-append (name ∷ []) (reverse path) ∙ ap (λ (q : Path). q ++ name ∷ []) (reverse-reverse path)
 
-  parents : (path : Path) (name : Name) → is_some (lookup tree (path ++ name ∷ [])) ≡ true → lookup tree path ≡ Some Dir
+  parents : (path : Path) (name : Name) → is_some (lookup tree (path ++ name ∷ [])) ≡ true
+      → lookup tree path ≡ Some Dir
   parents path name is =
       let x = present (lookup tree (path ++ name ∷ [])) is in
-      sym (ap (lookup tree) (reverse-reverse path)) ∙ m.rooted.parents name (reverse path) x.0 (ap (lookup tree) (turned path name) ∙ x.1)
+      sym (ap (lookup tree) (reverse-reverse path))
+      ∙ m.rooted.parents name (reverse path) x.0 (ap (lookup tree) (turned path name) ∙ x.1)
 
   -- the inode of a path that is there
   numbered : (p : Path) → is_some (upward tree p) ≡ true → (i : ℕ) × (m.inode_of p ≡ Some i)
@@ -62,18 +66,21 @@ module _ (inodes : Inodes) (tree : Tree) (m : MeansTree inodes tree) (w : AreWit
       let x = present (upward tree (n ∷ p)) there in
       let above = spelled_upward p (ap is_some (m.rooted.parents n p x.0 x.1)) in
       ap (list_all is_name) (reverse-append (n ∷ []) p) ∙ list_all-append is_name (reverse p) (n ∷ [])
-      ∙ and_from (list_all is_name (reverse p)) (is_name n && true) above (and_from (is_name n) true (named n p there) refl)
+      ∙ and_from (list_all is_name (reverse p)) (is_name n && true) above
+      (and_from (is_name n) true (named n p there) refl)
 
   spelled : (path : Path) → is_some (lookup tree path) ≡ true → list_all is_name path ≡ true
   spelled path there =
       subst (λ (q : Path). list_all is_name q ≡ true) (reverse-reverse path)
-      (spelled_upward (reverse path) (ap (λ (q : Path). is_some (lookup tree q)) (reverse-reverse path) ∙ there))
+      (spelled_upward (reverse path)
+      (ap (λ (q : Path). is_some (lookup tree q)) (reverse-reverse path) ∙ there))
 
   -- ---- sizes
 
   sized : (path : Path) (bytes : List ℕ) → lookup tree path ≡ Some (File bytes) → length bytes ≤ file_limit
   sized path bytes file =
-      let at : upward tree (reverse path) ≡ Some (File bytes) = ap (lookup tree) (reverse-reverse path) ∙ file in
+      let at : upward tree (reverse path) ≡ Some (File bytes) =
+      ap (lookup tree) (reverse-reverse path) ∙ file in
       let i = numbered (reverse path) (ap is_some at) in
       w.sizes i.0 bytes (m.pairs.file (reverse path) i.0 bytes at i.1)
 
@@ -84,36 +91,47 @@ module _ (inodes : Inodes) (tree : Tree) (m : MeansTree inodes tree) (w : AreWit
 
   -- each of these paths has an inode
   abbrev AreNumbered : List (Path × Node) → Type 0
-  AreNumbered entries = AllByRecursion (λ (e : Path × Node). is_some (m.inode_of (reverse e.0)) ≡ true) entries
+  AreNumbered entries =
+      AllByRecursion (λ (e : Path × Node). is_some (m.inode_of (reverse e.0)) ≡ true) entries
 
   number_is : (o : Option ℕ) → is_some o ≡ true → o ≡ Some (unwrap_or o 0)
   number_is None is = cc
   number_is (Some i) is = refl
 
   -- two paths with one number are one
-  one_path : (p q : Path) → is_some (m.inode_of (reverse p)) ≡ true → is_some (m.inode_of (reverse q)) ≡ true → unwrap_or (m.inode_of (reverse p)) 0 ≡ unwrap_or (m.inode_of (reverse q)) 0 → p ≡ q
+  one_path : (p q : Path) → is_some (m.inode_of (reverse p)) ≡ true → is_some (m.inode_of (reverse q)) ≡ true
+      → unwrap_or (m.inode_of (reverse p)) 0 ≡ unwrap_or (m.inode_of (reverse q)) 0 → p ≡ q
   one_path p q a b same =
       let i = unwrap_or (m.inode_of (reverse p)) 0 in
-      let turned_same = m.pairs.once (reverse p) (reverse q) i (number_is (m.inode_of (reverse p)) a) (number_is (m.inode_of (reverse q)) b ∙ ap (λ (k : ℕ). Some k) (sym same)) in
+      let turned_same =
+      m.pairs.once (reverse p) (reverse q) i (number_is (m.inode_of (reverse p)) a)
+      (number_is (m.inode_of (reverse q)) b ∙ ap (λ (k : ℕ). Some k) (sym same)) in
       sym (reverse-reverse p) ∙ ap (λ (r : Path). reverse r) turned_same ∙ reverse-reverse q
 
-  apart : (e : Path × Node) (entries : List (Path × Node)) → T (below_all path_cmp e.0 entries) → is_some (m.inode_of (reverse e.0)) ≡ true → AreNumbered entries → AllByRecursion (λ y. nat_eq (number_of e) y ≡ false) (map number_of entries)
+  apart : (e : Path × Node) (entries : List (Path × Node)) → T (below_all path_cmp e.0 entries)
+      → is_some (m.inode_of (reverse e.0)) ≡ true → AreNumbered entries
+      → AllByRecursion (λ y. nat_eq (number_of e) y ≡ false) (map number_of entries)
   apart e [] below there all = tt
   apart e (x ∷ entries) below there all = (
     ne_eqb (number_of e) (number_of x) (λ same.
         let one : e.0 ≡ x.0 = one_path e.0 x.0 there all.0 same in
-        let less : T (is_lt (path_cmp e.0 e.0)) = subst (λ (q : Path). T (is_lt (path_cmp e.0 q))) (sym one) (first _ _ below) in
+        let less : T (is_lt (path_cmp e.0 e.0)) =
+        subst (λ (q : Path). T (is_lt (path_cmp e.0 q))) (sym one) (first _ _ below) in
         absurd (subst (λ r. T (is_lt r)) (tied_itself path_total e.0) less)),
     apart e entries (second _ _ below) there all.1,
   )
 
-  distinct : (entries : List (Path × Node)) → T (is_sorted path_cmp entries) → AreNumbered entries → IsDistinct nat_eq (map number_of entries)
+  distinct : (entries : List (Path × Node)) → T (is_sorted path_cmp entries) → AreNumbered entries
+      → IsDistinct nat_eq (map number_of entries)
   unfolding IsDistinct
   distinct [] sorted all = tt
-  distinct (e ∷ entries) sorted all = (apart e entries (first _ _ sorted) all.0 all.1, distinct entries (second _ _ sorted) all.1)
+  distinct (e ∷ entries) sorted all =
+      (apart e entries (first _ _ sorted) all.0 all.1, distinct entries (second _ _ sorted) all.1)
 
   -- what is found at each key holds of each entry
-  each_found : (P : Path → Type 0) (entries : List (Path × Node)) → ((q : Path) → is_some (lookup entries q) ≡ true → P q) → AllByRecursion (λ (e : Path × Node). P e.0) entries
+  each_found : (P : Path → Type 0) (entries : List (Path × Node))
+      → ((q : Path) → is_some (lookup entries q) ≡ true → P q)
+      → AllByRecursion (λ (e : Path × Node). P e.0) entries
   each_found P [] found = tt
   each_found P (e ∷ entries) found = (
     found e.0 (ap (λ b. is_some (cond b (Some e.1) (lookup entries e.0))) (same_path-itself e.0)),
@@ -125,7 +143,10 @@ module _ (inodes : Inodes) (tree : Tree) (m : MeansTree inodes tree) (w : AreWit
       later false o there = there
 
   all_numbered : AreNumbered tree
-  all_numbered = each_found (λ p. is_some (m.inode_of (reverse p)) ≡ true) tree (λ q there. m.pairs.paths (reverse q) ∙ ap (λ (r : Path). is_some (lookup tree r)) (reverse-reverse q) ∙ there)
+  all_numbered =
+      each_found (λ p. is_some (m.inode_of (reverse p)) ≡ true) tree
+      (λ q there.
+      m.pairs.paths (reverse q) ∙ ap (λ (r : Path). is_some (lookup tree r)) (reverse-reverse q) ∙ there)
 
   -- a number that a path has is in use
   in_use : (p : Path) (i : ℕ) → m.inode_of p ≡ Some i → (held : InodeContent) × (inodes i ≡ Some held)
@@ -138,10 +159,14 @@ module _ (inodes : Inodes) (tree : Tree) (m : MeansTree inodes tree) (w : AreWit
       by (File bytes) at = (Bytes bytes, m.pairs.file p i bytes at is)
 
   -- each number of a path is in use
-  used : (entries : List (Path × Node)) → AreNumbered entries → (q : ℕ) → is_member nat_eq (map number_of entries) q ≡ true → (held : InodeContent) × (inodes q ≡ Some held)
+  used : (entries : List (Path × Node)) → AreNumbered entries → (q : ℕ)
+      → is_member nat_eq (map number_of entries) q ≡ true → (held : InodeContent) × (inodes q ≡ Some held)
   used [] all q h = cc
   used (e ∷ entries) all q h = ⊎_elim
-      (λ here. in_use (reverse e.0) q (number_is (m.inode_of (reverse e.0)) all.0 ∙ ap (λ (k : ℕ). Some k) (sym (eqb-true q (number_of e) here))))
+      (λ here.
+      in_use (reverse e.0) q
+      (number_is (m.inode_of (reverse e.0)) all.0
+      ∙ ap (λ (k : ℕ). Some k) (sym (eqb-true q (number_of e) here))))
       (λ later. used entries all.1 q later)
       (or_cases (nat_eq q (number_of e)) (is_member nat_eq (map number_of entries) q) h)
 
@@ -150,18 +175,25 @@ module _ (inodes : Inodes) (tree : Tree) (m : MeansTree inodes tree) (w : AreWit
   in_row b (suc n) q low high =
       elim (nat_eq q b) as (λ t. nat_eq q b ≡ t → (t || is_member nat_eq (blocks_from (suc b) n) q) ≡ true) [
         | true ↦ λ _. refl
-        | false ↦ λ is. let other = eqb-false q b is in in_row (suc b) n q (above b q low other) (omega (arith, high))
+        | false ↦
+            λ is.
+            let other = eqb-false q b is in in_row (suc b) n q (above b q low other) (omega (arith, high))
       ] refl
     where
       above : (b q : ℕ) → b ≤ q → (q ≡ b → ⊥) → suc b ≤ q
       above b q low other = omega (arith, low, other)
 
-  paths_at_most : (n : ℕ) → ((i : ℕ) (held : InodeContent) → inodes i ≡ Some held → (i ≡ 2) ⊎ ((11 ≤ i) × (i < 11 + n))) → length tree ≤ n + 1
+  paths_at_most : (n : ℕ)
+      → ((i : ℕ) (held : InodeContent) → inodes i ≡ Some held → (i ≡ 2) ⊎ ((11 ≤ i) × (i < 11 + n)))
+      → length tree ≤ n + 1
   paths_at_most n within =
-      let few = length-le_from_is_member nat_eq_equiv (map number_of tree) (2 ∷ blocks_from 11 n) (distinct tree (holds _ m.ordered) all_numbered) member in
+      let few =
+      length-le_from_is_member nat_eq_equiv (map number_of tree) (2 ∷ blocks_from 11 n)
+      (distinct tree (holds _ m.ordered) all_numbered) member in
       omega (arith, few, length-map tree number_of, row_length 11 n)
     where
-      member : (q : ℕ) → is_member nat_eq (map number_of tree) q ≡ true → is_member nat_eq (2 ∷ blocks_from 11 n) q ≡ true
+      member : (q : ℕ) → is_member nat_eq (map number_of tree) q ≡ true
+          → is_member nat_eq (2 ∷ blocks_from 11 n) q ≡ true
       member q h =
           let held = used tree all_numbered q h in
           ⊎_elim
@@ -170,7 +202,11 @@ module _ (inodes : Inodes) (tree : Tree) (m : MeansTree inodes tree) (w : AreWit
           (within q held.0 held.1)
 
   counted : length tree ≤ path_limit + 1
-  counted = paths_at_most 524277 (λ i held is. ⊎_elim (λ root. inl root) (λ range. inr (range.0, omega (arith, range.1))) (w.inode_numbers i held is))
+  counted =
+      paths_at_most 524277
+      (λ i held is.
+      ⊎_elim (λ root. inl root) (λ range. inr (range.0, omega (arith, range.1)))
+      (w.inode_numbers i held is))
 
 pub limited_inodes_mean_trees : LimitedInodesMeanTrees
 limited_inodes_mean_trees inodes tree m w = record {

@@ -30,18 +30,29 @@ creates_add_one tree node path =
 
 -- a file that is found twice has one content
 same_file : (o : Option Node) (bytes old : List ℕ) → o ≡ Some (File bytes) → o ≡ Some (File old) → bytes ≡ old
-same_file o bytes old found file = let same : File bytes ≡ File old = same_Some (File bytes) (File old) (sym found ∙ file) in cc
+same_file o bytes old found file =
+    let same : File bytes ≡ File old = same_Some (File bytes) (File old) (sym found ∙ file) in cc
 
 pub writes_change_one : WritesChangeOne
 writes_change_one tree offset new old path some file =
     and_then_holds _ _ (file_at tree path) _ (file_at_is tree path) (λ bytes found.
-    let made : Changed = Ok (answer.Written (length new), insert tree path (File (overwritten bytes offset new))) in
-    elim (length new == 0) as (λ b. (length new == 0) ≡ b → IfOk (cond {A = Changed} b (Ok (answer.Written 0, tree)) (refuse_if (nat_lt file_limit (offset + length new)) error.TooBig made)) (λ done. (q : Path) → lookup done.1 q ≡ cond (same_path q path) (Some (File (overwritten old offset new))) (lookup tree q))) [
+    let made : Changed =
+    Ok (answer.Written (length new), insert tree path (File (overwritten bytes offset new))) in
+    elim (length new == 0) as (λ b.
+    (length new == 0) ≡ b
+    → IfOk (cond {A = Changed} b (Ok (answer.Written 0, tree))
+    (refuse_if (nat_lt file_limit (offset + length new)) error.TooBig made))
+    (λ done.
+    (q : Path)
+    → lookup done.1 q
+    ≡ cond (same_path q path) (Some (File (overwritten old offset new))) (lookup tree q))) [
       | true ↦ λ none. absurd (omega (arith, some, eqb-true (length new) 0 none))
       | false ↦ λ _.
           refuse_if_then _ (nat_lt file_limit (offset + length new)) error.TooBig made (λ _ q.
           lookup-insert tree path (File (overwritten bytes offset new)) q
-          ∙ ap (λ (b : List ℕ). cond (same_path q path) (Some (File (overwritten b offset new))) (lookup tree q)) (same_file (lookup tree path) bytes old found file))
+          ∙ ap
+          (λ (b : List ℕ). cond (same_path q path) (Some (File (overwritten b offset new))) (lookup tree q))
+          (same_file (lookup tree path) bytes old found file))
     ] refl)
 
 pub truncates_change_one : TruncatesChangeOne
@@ -50,7 +61,8 @@ truncates_change_one tree size old path file =
     let made : Changed = Ok (answer.Done, insert tree path (File (resized bytes size))) in
     refuse_if_then _ (nat_lt file_limit size) error.TooBig made (λ _ q.
     lookup-insert tree path (File (resized bytes size)) q
-    ∙ ap (λ (b : List ℕ). cond (same_path q path) (Some (File (resized b size))) (lookup tree q)) (same_file (lookup tree path) bytes old found file)))
+    ∙ ap (λ (b : List ℕ). cond (same_path q path) (Some (File (resized b size))) (lookup tree q))
+    (same_file (lookup tree path) bytes old found file)))
 
 same_path-turned : (p q : Path) → same_path p q ≡ same_path q p
 same_path-turned p q = by (same_path p q) (same_path q p) refl refl
@@ -58,11 +70,15 @@ same_path-turned p q = by (same_path p q) (same_path q p) refl refl
     by : (a b : Bool) → same_path p q ≡ a → same_path q p ≡ b → a ≡ b
     by true true h k = refl
     by false false h k = refl
-    by true false h k = absurd (true≢false (sym (ap (same_path q) (same_path-equal p q h) ∙ same_path-itself q) ∙ k))
-    by false true h k = absurd (true≢false (sym (ap (same_path p) (same_path-equal q p k) ∙ same_path-itself p) ∙ h))
+    by true false h k =
+        absurd (true≢false (sym (ap (same_path q) (same_path-equal p q h) ∙ same_path-itself q) ∙ k))
+    by false true h k =
+        absurd (true≢false (sym (ap (same_path p) (same_path-equal q p k) ∙ same_path-itself p) ∙ h))
 
-removes_one : (tree : Tree) (path q : Path) → lookup (remove tree path) q ≡ cond (same_path q path) None (lookup tree q)
-removes_one tree path q = lookup-remove tree path q ∙ ap (λ b. cond b None (lookup tree q)) (same_path-turned path q)
+removes_one : (tree : Tree) (path q : Path)
+    → lookup (remove tree path) q ≡ cond (same_path q path) None (lookup tree q)
+removes_one tree path q =
+    lookup-remove tree path q ∙ ap (λ b. cond b None (lookup tree q)) (same_path-turned path q)
 
 pub unlinks_remove_one : UnlinksRemoveOne
 unlinks_remove_one tree path = and_then_any _ (file_at tree path) _ (λ _. removes_one tree path)
@@ -77,12 +93,14 @@ rmdirs_remove_one tree path =
 -- ---- calls that change nothing
 
 -- what is left is the tree that there was
-pub stays : (tree : Tree) (changed : Changed) → Leaves (λ next. next ≡ tree) changed → tree_after tree changed ≡ tree
+pub stays : (tree : Tree) (changed : Changed) → Leaves (λ next. next ≡ tree) changed
+    → tree_after tree changed ≡ tree
 stays tree (Ok done) same = same
 stays tree (Err e) same = refl
 
 pub empty_writes_stay : EmptyWritesStay
-empty_writes_stay tree offset path = stays tree (write tree offset [] path) (and_then_any _ (file_at tree path) _ (λ _. refl))
+empty_writes_stay tree offset path =
+    stays tree (write tree offset [] path) (and_then_any _ (file_at tree path) _ (λ _. refl))
 
 pub renames_onto_themselves_stay : RenamesOntoThemselvesStay
 renames_onto_themselves_stay tree path = stays tree (rename tree path path) (
@@ -91,7 +109,11 @@ renames_onto_themselves_stay tree path = stays tree (rename tree path path) (
     refuse_if_then (λ done. done.1 ≡ tree) (is_dir node && is_above path path) error.IntoItself _ (λ _.
     and_then_any (λ done. done.1 ≡ tree) (walk tree path) _ (λ _.
     let made : Changed = Ok (answer.Done, move_subtree tree path path) in
-    elim (same_path path path) as (λ b. same_path path path ≡ b → Leaves (λ next. next ≡ tree) (cond {A = Changed} b (Ok (answer.Done, tree)) (and_then (may_replace tree path node (lookup tree path)) (λ _. made)))) [
+    elim (same_path path path) as (λ b.
+    same_path path path ≡ b
+    → Leaves (λ next. next ≡ tree)
+    (cond {A = Changed} b (Ok (answer.Done, tree))
+    (and_then (may_replace tree path node (lookup tree path)) (λ _. made)))) [
       | true ↦ λ _. refl
       | false ↦ λ other. absurd (true≢false (sym (same_path-itself path) ∙ other))
     ] refl)))))
@@ -99,21 +121,28 @@ renames_onto_themselves_stay tree path = stays tree (rename tree path path) (
 -- ---- renames
 
 pub renames_move_subtree : RenamesMoveSubtree
-renames_move_subtree tree from to t other = rename_then tree from to _ t (λ same. absurd (true≢false (sym same ∙ other))) (λ _ m. lookup-after tree from to t m)
+renames_move_subtree tree from to t other =
+    rename_then tree from to _ t (λ same. absurd (true≢false (sym same ∙ other)))
+    (λ _ m. lookup-after tree from to t m)
 
 pub renamed_is_below : RenamedIsBelow
 renamed_is_below tree from to t =
-    rename_then tree from to (λ done. (rest : Path) → lookup done.1 (to ++ rest) ≡ lookup tree (from ++ rest)) t
+    rename_then tree from to
+    (λ done. (rest : Path) → lookup done.1 (to ++ rest) ≡ lookup tree (from ++ rest)) t
     (λ same rest. ap (λ (p : Path). lookup tree (p ++ rest)) (sym (same_path-equal from to same)))
     (λ _ m rest.
     lookup-after tree from to t m (to ++ rest)
-    ∙ ap (λ b. cond b (lookup tree (from ++ drop (length to) (to ++ rest))) (cond (is_within from (to ++ rest)) None (lookup tree (to ++ rest)))) (is_within-append to rest)
+    ∙ ap (λ b.
+    cond b (lookup tree (from ++ drop (length to) (to ++ rest)))
+    (cond (is_within from (to ++ rest)) None (lookup tree (to ++ rest))))
+    (is_within-append to rest)
     ∙ ap (λ (p : Path). lookup tree (from ++ p)) (drop-append to rest))
 
 -- ---- one tree
 
 pub same_lookups_are_one_tree : SameLookupsAreOneTree
-same_lookups_are_one_tree one other t u same = same_entries path_cmp path_total paths_equal one other (holds _ t.ordered) (holds _ u.ordered) same
+same_lookups_are_one_tree one other t u same =
+    same_entries path_cmp path_total paths_equal one other (holds _ t.ordered) (holds _ u.ordered) same
 
 -- ---- answers
 
@@ -122,7 +151,8 @@ create-done tree node path =
     let made : Changed = Ok (answer.Done, insert tree path node) in
     and_then_any (λ done. done.0 ≡ answer.Done) (walk tree path) _ (λ _.
     refuse_if_then (λ done. done.0 ≡ answer.Done) (is_some (lookup tree path)) error.Exists _ (λ _.
-    refuse_if_then (λ done. done.0 ≡ answer.Done) (nat_lt path_limit (length tree)) error.TooBig made (λ _. refl)))
+    refuse_if_then (λ done. done.0 ≡ answer.Done) (nat_lt path_limit (length tree)) error.TooBig made
+    (λ _. refl)))
 
 truncate-done : (tree : Tree) (size : ℕ) (path : Path) → IsDone (truncate tree size path)
 truncate-done tree size path =
@@ -147,9 +177,13 @@ rename-done tree from to =
     refuse_if_then (λ done. done.0 ≡ answer.Done) (is_dir node && is_above from to) error.IntoItself _ (λ _.
     and_then_any (λ done. done.0 ≡ answer.Done) (walk tree to) _ (λ _.
     let made : Changed = Ok (answer.Done, move_subtree tree from to) in
-    elim (same_path from to) as (λ b. IsDone (cond {A = Changed} b (Ok (answer.Done, tree)) (and_then (may_replace tree to node (lookup tree to)) (λ _. made)))) [
+    elim (same_path from to) as (λ b.
+    IsDone (cond {A = Changed} b (Ok (answer.Done, tree))
+    (and_then (may_replace tree to node (lookup tree to)) (λ _. made)))) [
       | true ↦ refl
-      | false ↦ and_then_any (λ done. done.0 ≡ answer.Done) (may_replace tree to node (lookup tree to)) _ (λ _. refl)
+      | false ↦
+          and_then_any (λ done. done.0 ≡ answer.Done) (may_replace tree to node (lookup tree to)) _
+          (λ _. refl)
     ]))))
 
 pub calls_answer_done : CallsAnswerDone

@@ -27,34 +27,51 @@ use Rattle.nl_types.specs.Facts.Renames.{rename-IsTree}
 
 -- a change that is not refused leaves a tree
 pub change-IsTree : (tree : Tree) (c : Change) → IsTree tree → Leaves IsTree (change tree c)
-change-IsTree tree (Create path) t = and_then_holds _ (λ done. IsTree done.1) (path_of path) _ (path_of_spells path) (λ p spelled. create-IsTree tree (File []) p t spelled no_bytes)
-change-IsTree tree (Mkdir path) t = and_then_holds _ (λ done. IsTree done.1) (path_of path) _ (path_of_spells path) (λ p spelled. create-IsTree tree Dir p t spelled no_file)
-change-IsTree tree (Write path offset bytes) t = and_then_any (λ done. IsTree done.1) (path_of path) _ (λ p. write-IsTree tree offset bytes p t)
-change-IsTree tree (Truncate path size) t = and_then_any (λ done. IsTree done.1) (path_of path) _ (λ p. truncate-IsTree tree size p t)
-change-IsTree tree (Unlink path) t = and_then_any (λ done. IsTree done.1) (path_of path) _ (λ p. unlink-IsTree tree p t)
-change-IsTree tree (Rmdir path) t = and_then_any (λ done. IsTree done.1) (path_of path) _ (λ p. rmdir-IsTree tree p t)
+change-IsTree tree (Create path) t =
+    and_then_holds _ (λ done. IsTree done.1) (path_of path) _ (path_of_spells path)
+    (λ p spelled. create-IsTree tree (File []) p t spelled no_bytes)
+change-IsTree tree (Mkdir path) t =
+    and_then_holds _ (λ done. IsTree done.1) (path_of path) _ (path_of_spells path)
+    (λ p spelled. create-IsTree tree Dir p t spelled no_file)
+change-IsTree tree (Write path offset bytes) t =
+    and_then_any (λ done. IsTree done.1) (path_of path) _ (λ p. write-IsTree tree offset bytes p t)
+change-IsTree tree (Truncate path size) t =
+    and_then_any (λ done. IsTree done.1) (path_of path) _ (λ p. truncate-IsTree tree size p t)
+change-IsTree tree (Unlink path) t =
+    and_then_any (λ done. IsTree done.1) (path_of path) _ (λ p. unlink-IsTree tree p t)
+change-IsTree tree (Rmdir path) t =
+    and_then_any (λ done. IsTree done.1) (path_of path) _ (λ p. rmdir-IsTree tree p t)
 change-IsTree tree (Rename from to) t =
     and_then_any (λ done. IsTree done.1) (path_of from) _ (λ f.
-    and_then_holds _ (λ done. IsTree done.1) (path_of to) _ (path_of_spells to) (λ p spelled. rename-IsTree tree f p t spelled))
+    and_then_holds _ (λ done. IsTree done.1) (path_of to) _ (path_of_spells to)
+    (λ p spelled. rename-IsTree tree f p t spelled))
 
 -- what keeps the tree leaves it
-leaves_same : (tree : Tree) (changed : Changed) → tree_after tree changed ≡ tree → Leaves (λ next. next ≡ tree) changed
+leaves_same : (tree : Tree) (changed : Changed) → tree_after tree changed ≡ tree
+    → Leaves (λ next. next ≡ tree) changed
 leaves_same tree (Ok done) same = same
 leaves_same tree (Err e) same = tt
 
 -- a rename to the same path leaves the tree as it was
-rename-same : (tree : Tree) (path : Result Path VolError) → Leaves (λ next. next ≡ tree) (and_then path (λ f. and_then path (rename tree f)))
+rename-same : (tree : Tree) (path : Result Path VolError)
+    → Leaves (λ next. next ≡ tree) (and_then path (λ f. and_then path (rename tree f)))
 rename-same tree (Ok path) = leaves_same tree (rename tree path path) (renames_onto_themselves_stay tree path)
 rename-same tree (Err e) = tt
 
 -- a change that does not count as one leaves the tree as it was
-pub change-same : (tree : Tree) (c : Change) → is_dirtying c ≡ false → Leaves (λ next. next ≡ tree) (change tree c)
+pub change-same : (tree : Tree) (c : Change) → is_dirtying c ≡ false
+    → Leaves (λ next. next ≡ tree) (change tree c)
 change-same tree (Create path) clean = absurd (true≢false clean)
 change-same tree (Mkdir path) clean = absurd (true≢false clean)
 change-same tree (Write path offset bytes) clean =
     and_then_any (λ done. done.1 ≡ tree) (path_of path) _ (λ p.
     and_then_any (λ done. done.1 ≡ tree) (file_at tree p) _ (λ old.
-    elim (length bytes == 0) as (λ b. not b ≡ false → Leaves (λ next. next ≡ tree) (cond b (Ok (answer.Written 0, tree)) (refuse_if (nat_lt file_limit (offset + length bytes)) error.TooBig (Ok (answer.Written (length bytes), insert tree p (File (overwritten old offset bytes))))))) [
+    elim (length bytes == 0) as (λ b.
+    not b ≡ false
+    → Leaves (λ next. next ≡ tree)
+    (cond b (Ok (answer.Written 0, tree))
+    (refuse_if (nat_lt file_limit (offset + length bytes)) error.TooBig
+    (Ok (answer.Written (length bytes), insert tree p (File (overwritten old offset bytes))))))) [
       | true ↦ λ _. refl
       | false ↦ λ counts. absurd (true≢false counts)
     ] clean))
@@ -63,7 +80,10 @@ change-same tree (Unlink path) clean = absurd (true≢false clean)
 change-same tree (Rmdir path) clean = absurd (true≢false clean)
 change-same tree (Rename from to) clean =
     let same : from ≡ to = (bytes_eq-Decides from to).0 (not_false (bytes_eq from to) clean) in
-    subst (λ (path : List ℕ). Leaves (λ next. next ≡ tree) (and_then (path_of from) (λ f. and_then (path_of path) (rename tree f)))) same (rename-same tree (path_of from))
+    subst (λ (path : List ℕ).
+    Leaves (λ next. next ≡ tree) (and_then (path_of from) (λ f. and_then (path_of path) (rename tree f))))
+    same
+    (rename-same tree (path_of from))
   where
     not_false : (b : Bool) → not b ≡ false → b ≡ true
     not_false true is = refl
@@ -74,7 +94,8 @@ pub uncounted_changes_stay : UncountedChangesStay
 uncounted_changes_stay tree c clean = stays tree (change tree c) (change-same tree c clean)
 
 -- the tree that comes with an answer is one
-pub change_then_tree : (tree : Tree) (c : Change) (given : Answer) (next : Tree) → IsTree tree → change tree c ≡ Ok (given, next) → IsTree next
+pub change_then_tree : (tree : Tree) (c : Change) (given : Answer) (next : Tree) → IsTree tree
+    → change tree c ≡ Ok (given, next) → IsTree next
 change_then_tree tree c given next t is = subst (Leaves IsTree) is (change-IsTree tree c t)
 
 -- ---- answers
@@ -91,26 +112,43 @@ done_is_no_mount (Err e) is = tt
 
 -- a change gives no mount number
 pub change_gives_no_mount : (tree : Tree) (c : Change) → IfOk (change tree c) (λ done. IsNoMount done.0)
-change_gives_no_mount tree (Create path) = and_then_any (λ done. IsNoMount done.0) (path_of path) _ (λ p. done_is_no_mount _ ((calls_answer_done tree p).create (File [])))
-change_gives_no_mount tree (Mkdir path) = and_then_any (λ done. IsNoMount done.0) (path_of path) _ (λ p. done_is_no_mount _ ((calls_answer_done tree p).create Dir))
+change_gives_no_mount tree (Create path) =
+    and_then_any (λ done. IsNoMount done.0) (path_of path) _
+    (λ p. done_is_no_mount _ ((calls_answer_done tree p).create (File [])))
+change_gives_no_mount tree (Mkdir path) =
+    and_then_any (λ done. IsNoMount done.0) (path_of path) _
+    (λ p. done_is_no_mount _ ((calls_answer_done tree p).create Dir))
 change_gives_no_mount tree (Write path offset bytes) =
     and_then_any (λ done. IsNoMount done.0) (path_of path) _ (λ p.
     and_then_any (λ done. IsNoMount done.0) (file_at tree p) _ (λ old.
     let long = nat_lt file_limit (offset + length bytes) in
-    let made : Changed = Ok (answer.Written (length bytes), insert tree p (File (overwritten old offset bytes))) in
-    elim (length bytes == 0) as (λ b. IfOk (cond {A = Changed} b (Ok (answer.Written 0, tree)) (refuse_if long error.TooBig made)) (λ done. IsNoMount done.0)) [
+    let made : Changed =
+    Ok (answer.Written (length bytes), insert tree p (File (overwritten old offset bytes))) in
+    elim (length bytes == 0) as (λ b.
+    IfOk (cond {A = Changed} b (Ok (answer.Written 0, tree)) (refuse_if long error.TooBig made))
+    (λ done. IsNoMount done.0)) [
       | true ↦ tt
       | false ↦ refuse_if_then (λ done. IsNoMount done.0) long error.TooBig made (λ _. tt)
     ]))
-change_gives_no_mount tree (Truncate path size) = and_then_any (λ done. IsNoMount done.0) (path_of path) _ (λ p. done_is_no_mount _ ((calls_answer_done tree p).truncate size))
-change_gives_no_mount tree (Unlink path) = and_then_any (λ done. IsNoMount done.0) (path_of path) _ (λ p. done_is_no_mount _ (calls_answer_done tree p).unlink)
-change_gives_no_mount tree (Rmdir path) = and_then_any (λ done. IsNoMount done.0) (path_of path) _ (λ p. done_is_no_mount _ (calls_answer_done tree p).rmdir)
+change_gives_no_mount tree (Truncate path size) =
+    and_then_any (λ done. IsNoMount done.0) (path_of path) _
+    (λ p. done_is_no_mount _ ((calls_answer_done tree p).truncate size))
+change_gives_no_mount tree (Unlink path) =
+    and_then_any (λ done. IsNoMount done.0) (path_of path) _
+    (λ p. done_is_no_mount _ (calls_answer_done tree p).unlink)
+change_gives_no_mount tree (Rmdir path) =
+    and_then_any (λ done. IsNoMount done.0) (path_of path) _
+    (λ p. done_is_no_mount _ (calls_answer_done tree p).rmdir)
 change_gives_no_mount tree (Rename from to) =
     and_then_any (λ done. IsNoMount done.0) (path_of from) _ (λ f.
-    and_then_any (λ done. IsNoMount done.0) (path_of to) _ (λ p. done_is_no_mount _ ((calls_answer_done tree f).rename p)))
+    and_then_any (λ done. IsNoMount done.0) (path_of to) _
+    (λ p. done_is_no_mount _ ((calls_answer_done tree f).rename p)))
 
 -- nor does a call that only reads
 pub reply_gives_no_mount : (tree : Tree) (a : Ask) → IfOk (reply_to tree a) IsNoMount
-reply_gives_no_mount tree (ask.Bytes path offset len) = and_then_any IsNoMount (path_of path) _ (λ p. and_then_any IsNoMount (file_at tree p) _ (λ _. tt))
-reply_gives_no_mount tree (ask.List path) = and_then_any IsNoMount (and_then (path_of path) (list tree)) _ (λ _. tt)
-reply_gives_no_mount tree (ask.Stat path) = and_then_any IsNoMount (and_then (path_of path) (stat tree)) _ (λ _. tt)
+reply_gives_no_mount tree (ask.Bytes path offset len) =
+    and_then_any IsNoMount (path_of path) _ (λ p. and_then_any IsNoMount (file_at tree p) _ (λ _. tt))
+reply_gives_no_mount tree (ask.List path) =
+    and_then_any IsNoMount (and_then (path_of path) (list tree)) _ (λ _. tt)
+reply_gives_no_mount tree (ask.Stat path) =
+    and_then_any IsNoMount (and_then (path_of path) (stat tree)) _ (λ _. tt)

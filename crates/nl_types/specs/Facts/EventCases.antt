@@ -23,12 +23,15 @@ use Rattle.nl_types.specs.Facts.ToldCopies.{IsTold, kept_row-told, MayBecome, Ma
 -- ---- judgements
 
 -- what holds of a refusal, and of what a judgement goes on to, holds of the outcome
-pub either_gives : {A : Type 0} (Q : Outcome → Type 0) (w : World) (r : Result A VolError) (next : A → Outcome) → ((e : VolError) → Q (Err e, w)) → ((a : A) → r ≡ Ok a → Q (next a)) → Q (either w r next)
+pub either_gives : {A : Type 0} (Q : Outcome → Type 0) (w : World) (r : Result A VolError)
+    (next : A → Outcome)
+    → ((e : VolError) → Q (Err e, w)) → ((a : A) → r ≡ Ok a → Q (next a)) → Q (either w r next)
 either_gives Q w (Ok a) next refused rest = rest a refl
 either_gives Q w (Err e) next refused rest = refused e
 
 -- the same of a refusal by a test
-pub refused_if_gives : (Q : Outcome → Type 0) (test : Bool) (e : VolError) (w : World) (next : Outcome) → ((e : VolError) → Q (Err e, w)) → (test ≡ false → Q next) → Q (refused_if test e w next)
+pub refused_if_gives : (Q : Outcome → Type 0) (test : Bool) (e : VolError) (w : World) (next : Outcome)
+    → ((e : VolError) → Q (Err e, w)) → (test ≡ false → Q next) → Q (refused_if test e w next)
 refused_if_gives Q true e w next refused rest = refused e
 refused_if_gives Q false e w next refused rest = rest refl
 
@@ -63,16 +66,19 @@ pub record EachEvent (cleaned : Reply) (P : Event → Outcome → Type 0) (w : W
   pub changed : (c : Change) (done : Answer × Tree) → change w.tree c ≡ Ok done
       → P (event.Apply c) (Ok done.0, after_change w c done.1)
   pub copied : (mode : Mode) (now : ℕ) → leb checkpoint_number_limit (latest w + 1) ≡ false
-      → P (event.Checkpoint mode now) (Ok (answer.Checkpoint (latest w + 1)), after_checkpoint w (new_copy w mode now))
+      → P (event.Checkpoint mode now)
+      (Ok (answer.Checkpoint (latest w + 1)), after_checkpoint w (new_copy w mode now))
   pub minored : (segment limit now : ℕ) → leb checkpoint_number_limit (latest w + 1) ≡ false
       → P (event.Move segment limit now) (cleaned, with_minor w now)
   pub moded : (n : ℕ) (mode : Mode) → MayBecome w n mode
       → P (event.ChangeMode n mode) (Ok answer.Done, after_mode w n mode)
   pub removed : (n : ℕ) → MayGo w n → P (event.Remove n) (Ok answer.Done, take_out (n ∷ []) w)
   pub ranged : (first last : ℕ)
-      → P (event.RemoveRange first last) (Ok (answer.Removed (range_of w first last)), take_out (range_of w first last).removed w)
+      → P (event.RemoveRange first last)
+      (Ok (answer.Removed (range_of w first last)), take_out (range_of w first last).removed w)
   pub expired : (now period : ℕ)
-      → P (event.Expire now period) (Ok (answer.Expired (expiry_of w now period)), take_out (expiry_of w now period) w)
+      → P (event.Expire now period)
+      (Ok (answer.Expired (expiry_of w now period)), take_out (expiry_of w now period) w)
   pub mounted : (n : ℕ) (copy : Copy) → copy_at w n ≡ Some copy → not (is_snapshot copy.mode) ≡ false
       → leb mount_number_limit (w.given + 1) ≡ false
       → P (event.Mount n) (Ok (answer.Mount (w.given + 1)), after_mount w n)
@@ -82,53 +88,76 @@ module _ (cleaned : Reply) (P : Event → Outcome → Type 0) (w : World) (each 
   refused : (asked : Event) (e : VolError) → P asked (Err e, w)
   refused asked e = each.stays asked (Err e) tt
 
-  mode_judged : (n : ℕ) (mode : Mode) (row : Row) → kept_row n (rows w) ≡ Ok row → (is_given_up row.mode mode && is_mounted w.mounts n) ≡ false
+  mode_judged : (n : ℕ) (mode : Mode) (row : Row) → kept_row n (rows w) ≡ Ok row
+      → (is_given_up row.mode mode && is_mounted w.mounts n) ≡ false
       → P (event.ChangeMode n mode) (Ok answer.Done, after_mode w n mode)
   mode_judged n mode row is allowed =
       let told : IsTold w n row = subst (λ r. IfOk r (IsTold w n)) is (kept_row-told w n) in
       each.moded n mode (record {
         copy = told.copy;
         kept = told.kept;
-        allowed = subst (λ (r : Row). (is_given_up r.mode mode && is_mounted w.mounts n) ≡ false) told.row_is allowed;
+        allowed =
+            subst
+            (λ (r : Row). (is_given_up r.mode mode && is_mounted w.mounts n) ≡ false) told.row_is allowed;
       })
 
   range_judged : (first last : ℕ) (range : Range) → range_removal first last (latest w) (rows w) ≡ Ok range
       → P (event.RemoveRange first last) (Ok (answer.Removed range), take_out range.removed w)
   range_judged first last range is =
-      let same : range ≡ range_of w first last = subst (λ r. IfOk r (λ g. g ≡ range_of w first last)) is (range_removal-is w first last) in
-      subst (λ (g : Range). P (event.RemoveRange first last) (Ok (answer.Removed g), take_out g.removed w)) (sym same) (each.ranged first last)
+      let same : range ≡ range_of w first last =
+      subst (λ r. IfOk r (λ g. g ≡ range_of w first last)) is (range_removal-is w first last) in
+      subst (λ (g : Range). P (event.RemoveRange first last) (Ok (answer.Removed g), take_out g.removed w))
+      (sym same) (each.ranged first last)
 
   move_gives : (segment limit now : ℕ) (b : Bool)
       → P (event.Move segment limit now)
-      (cond b (refused_if (leb checkpoint_number_limit (latest w + 1)) error.NumbersSpent w (cleaned, with_minor w now)) (cleaned, w))
+      (cond b (refused_if (leb checkpoint_number_limit (latest w + 1)) error.NumbersSpent w
+      (cleaned, with_minor w now))
+      (cleaned, w))
   move_gives segment limit now true =
-      refused_if_gives (P (event.Move segment limit now)) (leb checkpoint_number_limit (latest w + 1)) error.NumbersSpent w _
+      refused_if_gives (P (event.Move segment limit now))
+      (leb checkpoint_number_limit (latest w + 1)) error.NumbersSpent w _
       (refused (event.Move segment limit now)) (each.minored segment limit now)
   move_gives segment limit now false = each.cleans (event.Move segment limit now)
 
   pub step_gives : (asked : Event) → P asked (step cleaned w asked)
-  step_gives (event.Apply c) = either_gives (P (event.Apply c)) w (change w.tree c) _ (refused (event.Apply c)) (each.changed c)
+  step_gives (event.Apply c) =
+      either_gives (P (event.Apply c)) w (change w.tree c) _ (refused (event.Apply c)) (each.changed c)
   step_gives (event.Read a) = each.stays (event.Read a) (reply_to w.tree a) (reply_gives_no_mount w.tree a)
   step_gives (event.Checkpoint mode now) =
-      refused_if_gives (P (event.Checkpoint mode now)) (leb checkpoint_number_limit (latest w + 1)) error.NumbersSpent w _ (refused (event.Checkpoint mode now)) (each.copied mode now)
+      refused_if_gives (P (event.Checkpoint mode now))
+      (leb checkpoint_number_limit (latest w + 1)) error.NumbersSpent w _
+      (refused (event.Checkpoint mode now)) (each.copied mode now)
   step_gives (event.ChangeMode n mode) =
-      either_gives (P (event.ChangeMode n mode)) w (kept_row n (rows w)) _ (refused (event.ChangeMode n mode)) (λ row is.
-      refused_if_gives (P (event.ChangeMode n mode)) (is_given_up row.mode mode && is_mounted w.mounts n) error.Mounted w _ (refused (event.ChangeMode n mode)) (mode_judged n mode row is))
+      either_gives (P (event.ChangeMode n mode)) w (kept_row n (rows w)) _ (refused (event.ChangeMode n mode))
+      (λ row is.
+      refused_if_gives (P (event.ChangeMode n mode))
+      (is_given_up row.mode mode && is_mounted w.mounts n) error.Mounted w _
+      (refused (event.ChangeMode n mode)) (mode_judged n mode row is))
   step_gives (event.Remove n) =
-      either_gives (P (event.Remove n)) w (removal n (latest w) (rows w)) _ (refused (event.Remove n)) (λ _ is.
+      either_gives (P (event.Remove n)) w (removal n (latest w) (rows w)) _ (refused (event.Remove n))
+      (λ _ is.
       each.removed n (subst (λ r. IfOk r (λ _. MayGo w n)) is (removal-may_go w n)))
   step_gives (event.RemoveRange first last) =
-      either_gives (P (event.RemoveRange first last)) w (range_removal first last (latest w) (rows w)) _ (refused (event.RemoveRange first last)) (range_judged first last)
+      either_gives (P (event.RemoveRange first last)) w (range_removal first last (latest w) (rows w)) _
+      (refused (event.RemoveRange first last)) (range_judged first last)
   step_gives (event.Expire now period) = each.expired now period
   step_gives (event.Move segment limit now) = move_gives segment limit now (is_moving cleaned)
   step_gives (event.Retire segment) = each.cleans (event.Retire segment)
   step_gives (event.Resize segments) = each.cleans (event.Resize segments)
   step_gives (event.Mount n) =
       either_gives (P (event.Mount n)) w (kept_copy w n) _ (refused (event.Mount n)) (λ copy found.
-      refused_if_gives (P (event.Mount n)) (not (is_snapshot copy.mode)) error.NotSnapshot w _ (refused (event.Mount n)) (λ snapshot.
-      let there = subst (λ r. IfOk r (λ c. copy_at w n ≡ Some c)) found (ok_or_is (copy_at w n) error.NoCheckpoint) in
-      refused_if_gives (P (event.Mount n)) (leb mount_number_limit (w.given + 1)) error.NumbersSpent w _ (refused (event.Mount n)) (each.mounted n copy there snapshot)))
-  step_gives (event.Unmount m) = either_gives (P (event.Unmount m)) w (mounted w m) _ (refused (event.Unmount m)) (λ _ _. each.unmounted m)
+      refused_if_gives (P (event.Mount n)) (not (is_snapshot copy.mode)) error.NotSnapshot w _
+      (refused (event.Mount n)) (λ snapshot.
+      let there =
+      subst (λ r. IfOk r (λ c. copy_at w n ≡ Some c)) found (ok_or_is (copy_at w n) error.NoCheckpoint) in
+      refused_if_gives (P (event.Mount n)) (leb mount_number_limit (w.given + 1)) error.NumbersSpent w _
+      (refused (event.Mount n)) (each.mounted n copy there snapshot)))
+  step_gives (event.Unmount m) =
+      either_gives (P (event.Unmount m)) w (mounted w m) _ (refused (event.Unmount m))
+      (λ _ _. each.unmounted m)
   step_gives (event.MountRead m a) =
-      each.stays (event.MountRead m a) (mount_read w m a) (and_then_any IsNoMount (mounted_copy w m) _ (λ copy. reply_gives_no_mount copy.tree a))
-  step_gives (event.Listing options) = each.stays (event.Listing options) (Ok (answer.Rows (listing options (rows w)))) tt
+      each.stays (event.MountRead m a) (mount_read w m a)
+      (and_then_any IsNoMount (mounted_copy w m) _ (λ copy. reply_gives_no_mount copy.tree a))
+  step_gives (event.Listing options) =
+      each.stays (event.Listing options) (Ok (answer.Rows (listing options (rows w)))) tt

@@ -16,17 +16,21 @@ use Rattle.nl_types.specs.Facts.TreeLaws.{IsTree-insert}
 -- ---- judgements, one after another
 
 -- what the first judgement gives, the next may build on
-pub and_then_holds : {A B : Type 0} (P : A → Type 0) (Q : B → Type 0) (r : Result A VolError) (next : A → Result B VolError) → IfOk r P → ((a : A) → P a → IfOk (next a) Q) → IfOk (and_then r next) Q
+pub and_then_holds : {A B : Type 0} (P : A → Type 0) (Q : B → Type 0) (r : Result A VolError)
+    (next : A → Result B VolError)
+    → IfOk r P → ((a : A) → P a → IfOk (next a) Q) → IfOk (and_then r next) Q
 and_then_holds P Q (Ok a) next found rest = rest a found
 and_then_holds P Q (Err e) next found rest = tt
 
 -- the next holds whatever the first judgement gives
-pub and_then_any : {A B : Type 0} (Q : B → Type 0) (r : Result A VolError) (next : A → Result B VolError) → ((a : A) → IfOk (next a) Q) → IfOk (and_then r next) Q
+pub and_then_any : {A B : Type 0} (Q : B → Type 0) (r : Result A VolError) (next : A → Result B VolError)
+    → ((a : A) → IfOk (next a) Q) → IfOk (and_then r next) Q
 and_then_any Q (Ok a) next rest = rest a
 and_then_any Q (Err e) next rest = tt
 
 -- past a refusal its test has failed
-pub refuse_if_then : {A : Type 0} (Q : A → Type 0) (test : Bool) (e : VolError) (next : Result A VolError) → (test ≡ false → IfOk next Q) → IfOk (refuse_if test e next) Q
+pub refuse_if_then : {A : Type 0} (Q : A → Type 0) (test : Bool) (e : VolError) (next : Result A VolError)
+    → (test ≡ false → IfOk next Q) → IfOk (refuse_if test e next) Q
 refuse_if_then Q true e next rest = tt
 refuse_if_then Q false e next rest = rest refl
 
@@ -40,22 +44,33 @@ ok_or_is (Some a) e = refl
 -- each name on a path that bytes spell is one
 pub path_of_spells : (bytes : List ℕ) → IfOk (path_of bytes) (λ path. list_all is_name path ≡ true)
 path_of_spells [] = tt
-path_of_spells (b ∷ bytes) = elim (b == 47 && nat_lt (length bytes) 4095) as (λ t. IfOk (cond {A = Result Path VolError} t (names_of bytes) (Err error.BadPath)) (λ path. list_all is_name path ≡ true)) [
-  | true ↦ named
-  | false ↦ tt
-]
+path_of_spells (b ∷ bytes) =
+    elim (b == 47 && nat_lt (length bytes) 4095) as (λ t.
+    IfOk (cond {A = Result Path VolError} t (names_of bytes) (Err error.BadPath))
+    (λ path. list_all is_name path ≡ true)) [
+      | true ↦ named
+      | false ↦ tt
+    ]
   where
     names : Path
     names = slice_split (λ c. c == 47) bytes
 
     named : IfOk (names_of bytes) (λ path. list_all is_name path ≡ true)
-    named = elim (length bytes == 0) as (λ t. IfOk (cond {A = Result Path VolError} t (Ok []) (cond (list_all is_name names) (Ok names) (Err error.BadName))) (λ path. list_all is_name path ≡ true)) [
-      | true ↦ refl
-      | false ↦ elim (list_all is_name names) as (λ t. list_all is_name names ≡ t → IfOk (cond {A = Result Path VolError} t (Ok names) (Err error.BadName)) (λ path. list_all is_name path ≡ true)) [
-        | true ↦ λ are. are
-        | false ↦ λ _. tt
-      ] refl
-    ]
+    named =
+        elim (length bytes == 0) as (λ t.
+        IfOk (cond {A = Result Path VolError} t (Ok [])
+        (cond (list_all is_name names) (Ok names) (Err error.BadName)))
+        (λ path. list_all is_name path ≡ true)) [
+          | true ↦ refl
+          | false ↦
+              elim (list_all is_name names) as (λ t.
+              list_all is_name names ≡ t
+              → IfOk (cond {A = Result Path VolError} t (Ok names) (Err error.BadName))
+              (λ path. list_all is_name path ≡ true)) [
+                | true ↦ λ are. are
+                | false ↦ λ _. tt
+              ] refl
+        ]
 
 -- ---- what was found
 
@@ -68,33 +83,44 @@ walk_is tree path = by (stop_from tree [] path)
     by (Some e) = tt
 
 -- a walk that goes on stands on a directory, and is not stopped later
-pub goes_on : (found : Option Node) (later : Option VolError) → option_or (stops_walk found) later ≡ None → (found ≡ Some Dir) × (later ≡ None)
+pub goes_on : (found : Option Node) (later : Option VolError) → option_or (stops_walk found) later ≡ None
+    → (found ≡ Some Dir) × (later ≡ None)
 goes_on None later is = absurd (true≢false (ap is_some is))
 goes_on (Some Dir) later is = (refl, is)
 goes_on (Some (File bytes)) later is = absurd (true≢false (ap is_some is))
 
 -- a walk that is not stopped has passed directories alone
-pub walked : (tree : Tree) (at names : Path) (name : Name) → stop_from tree at (names ++ name ∷ []) ≡ None → lookup tree (at ++ names) ≡ Some Dir
-walked tree at [] name is = subst (λ p. lookup tree p ≡ Some Dir) (sym (append-nil at)) (goes_on (lookup tree at) None is).0
+pub walked : (tree : Tree) (at names : Path) (name : Name) → stop_from tree at (names ++ name ∷ []) ≡ None
+    → lookup tree (at ++ names) ≡ Some Dir
+walked tree at [] name is =
+    subst (λ p. lookup tree p ≡ Some Dir) (sym (append-nil at)) (goes_on (lookup tree at) None is).0
 walked tree at (n ∷ names) name is =
     let later = (goes_on (lookup tree at) (stop_from tree (at ++ n ∷ []) (names ++ name ∷ [])) is).1 in
-    subst (λ p. lookup tree p ≡ Some Dir) (append_assoc at (n ∷ []) names) (walked tree (at ++ n ∷ []) names name later)
+    subst (λ p. lookup tree p ≡ Some Dir) (append_assoc at (n ∷ []) names)
+    (walked tree (at ++ n ∷ []) names name later)
 
 -- the node that is answered stands at the path
 pub node_at_is : (tree : Tree) (path : Path) → IfOk (node_at tree path) (λ node. lookup tree path ≡ Some node)
-node_at_is tree path = and_then_any (λ node. lookup tree path ≡ Some node) (walk tree path) _ (λ _. ok_or_is (lookup tree path) error.NotFound)
+node_at_is tree path =
+    and_then_any (λ node. lookup tree path ≡ Some node) (walk tree path) _
+    (λ _. ok_or_is (lookup tree path) error.NotFound)
 
 -- the bytes that are answered are those of the file at the path
-pub file_at_is : (tree : Tree) (path : Path) → IfOk (file_at tree path) (λ bytes. lookup tree path ≡ Some (File bytes))
-file_at_is tree path = and_then_holds _ (λ bytes. lookup tree path ≡ Some (File bytes)) (node_at tree path) file_in (node_at_is tree path) by
+pub file_at_is : (tree : Tree) (path : Path)
+    → IfOk (file_at tree path) (λ bytes. lookup tree path ≡ Some (File bytes))
+file_at_is tree path =
+    and_then_holds _ (λ bytes. lookup tree path ≡ Some (File bytes)) (node_at tree path) file_in
+    (node_at_is tree path) by
   where
-    by : (node : Node) → lookup tree path ≡ Some node → IfOk (file_in node) (λ bytes. lookup tree path ≡ Some (File bytes))
+    by : (node : Node) → lookup tree path ≡ Some node
+        → IfOk (file_in node) (λ bytes. lookup tree path ≡ Some (File bytes))
     by Dir found = tt
     by (File bytes) found = found
 
 -- a directory that is judged to be one is there
 pub dir_at_is : (tree : Tree) (path : Path) → IfOk (dir_at tree path) (λ _. lookup tree path ≡ Some Dir)
-dir_at_is tree path = and_then_holds _ (λ _. lookup tree path ≡ Some Dir) (node_at tree path) dir_in (node_at_is tree path) by
+dir_at_is tree path =
+    and_then_holds _ (λ _. lookup tree path ≡ Some Dir) (node_at tree path) dir_in (node_at_is tree path) by
   where
     by : (node : Node) → lookup tree path ≡ Some node → IfOk (dir_in node) (λ _. lookup tree path ≡ Some Dir)
     by Dir found = found
@@ -112,12 +138,14 @@ abbrev pub Leaves : (Tree → Type 0) → Changed → Type 0
 Leaves P changed = IfOk changed (λ done. P done.1)
 
 -- other bytes in a file
-pub IsTree-insert_file : (tree : Tree) (path : Path) (old new : List ℕ) → IsTree tree → lookup tree path ≡ Some (File old) → length new ≤ file_limit → IsTree (insert tree path (File new))
+pub IsTree-insert_file : (tree : Tree) (path : Path) (old new : List ℕ) → IsTree tree
+    → lookup tree path ≡ Some (File old) → length new ≤ file_limit → IsTree (insert tree path (File new))
 IsTree-insert_file tree path old new t file fits =
     IsTree-insert tree path (File new) t (record {
       above = λ up name is. t.parents up name (ap (λ p. is_some (lookup tree p)) is ∙ ap is_some file);
       place = λ dir. let apart : Some Dir ≡ Some (File old) = sym dir ∙ file in cc;
       spelled = t.names path (ap is_some file);
-      small = λ bytes is. let same : new ≡ bytes = cc in subst (λ (b : List ℕ). length b ≤ file_limit) same fits;
+      small = λ bytes is.
+          let same : new ≡ bytes = cc in subst (λ (b : List ℕ). length b ≤ file_limit) same fits;
       room = λ free. absurd (true≢false (sym (ap is_some file) ∙ free));
     })

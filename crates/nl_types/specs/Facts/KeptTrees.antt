@@ -37,37 +37,52 @@ none_if None no_value = refl
 none_if (Some a) no_value = absurd (no_value a refl)
 
 -- a node with nothing below it is taken out
-remove-parents : (tree : Tree) (at : Path) → Parents tree → ((name : Name) → lookup tree (at ++ name ∷ []) ≡ None) → Parents (remove tree at)
+remove-parents : (tree : Tree) (at : Path) → Parents tree
+    → ((name : Name) → lookup tree (at ++ name ∷ []) ≡ None) → Parents (remove tree at)
 remove-parents tree at parents empty path name is =
     let below = path ++ name ∷ [] in
     let there : is_some (lookup tree below) ≡ true =
-    elim (same_path at below) as (λ b. is_some (cond b None (lookup tree below)) ≡ true → is_some (lookup tree below) ≡ true) [
+    elim (same_path at below) as (λ b.
+    is_some (cond b None (lookup tree below)) ≡ true → is_some (lookup tree below) ≡ true) [
       | true ↦ λ none. absurd (true≢false (sym none))
       | false ↦ λ some. some
     ] (sym (ap is_some (lookup-remove tree at below)) ∙ is) in
     let dir = parents path name there in
-    lookup-remove tree at path ∙ elim (same_path at path) as (λ b. same_path at path ≡ b → cond b None (lookup tree path) ≡ Some Dir) [
-      | true ↦ λ same. absurd (true≢false (sym there ∙ ap is_some (ap (λ p. lookup tree (p ++ name ∷ [])) (sym (same_path-equal at path same)) ∙ empty name)))
+    lookup-remove tree at path
+    ∙ elim (same_path at path) as (λ b. same_path at path ≡ b → cond b None (lookup tree path) ≡ Some Dir) [
+      | true ↦
+          λ same.
+          absurd (true≢false
+          (sym there
+          ∙ ap is_some
+          (ap (λ p. lookup tree (p ++ name ∷ [])) (sym (same_path-equal at path same)) ∙ empty name)))
       | false ↦ λ _. dir
     ] refl
 
 -- what is left after a removal was there
-still_there : (tree : Tree) (at path : Path) (node : Node) → lookup (remove tree at) path ≡ Some node → lookup tree path ≡ Some node
+still_there : (tree : Tree) (at path : Path) (node : Node) → lookup (remove tree at) path ≡ Some node
+    → lookup tree path ≡ Some node
 still_there tree at path node is =
-    elim (same_path at path) as (λ b. cond b None (lookup tree path) ≡ Some node → lookup tree path ≡ Some node) [
+    elim (same_path at path) as (λ b.
+    cond b None (lookup tree path) ≡ Some node → lookup tree path ≡ Some node) [
       | true ↦ λ none. absurd (true≢false (sym (ap is_some none)))
       | false ↦ λ some. some
     ] (sym (lookup-remove tree at path) ∙ is)
 
-IsTree-remove : (tree : Tree) (at : Path) → IsTree tree → (at ≢ []) → ((name : Name) → lookup tree (at ++ name ∷ []) ≡ None) → IsTree (remove tree at)
+IsTree-remove : (tree : Tree) (at : Path) → IsTree tree → (at ≢ [])
+    → ((name : Name) → lookup tree (at ++ name ∷ []) ≡ None) → IsTree (remove tree at)
 IsTree-remove tree at t below_root empty = record {
   ordered = is_true _ (is_sorted-where_key path_cmp (λ x. not (same_path at x)) tree (holds _ t.ordered));
-  root = lookup-remove tree at [] ∙ elim (same_path at []) as (λ b. same_path at [] ≡ b → cond b None (lookup tree []) ≡ Some Dir) [
-    | true ↦ λ same. absurd (below_root (same_path-equal at [] same))
-    | false ↦ λ _. t.root
-  ] refl;
+  root =
+      lookup-remove tree at []
+      ∙ elim (same_path at []) as (λ b. same_path at [] ≡ b → cond b None (lookup tree []) ≡ Some Dir) [
+        | true ↦ λ same. absurd (below_root (same_path-equal at [] same))
+        | false ↦ λ _. t.root
+      ] refl;
   parents = remove-parents tree at t.parents empty;
-  names = λ path there. let node = some_node (lookup (remove tree at) path) there in t.names path (ap is_some (still_there tree at path node.0 node.1));
+  names = λ path there.
+      let node = some_node (lookup (remove tree at) path) there in
+      t.names path (ap is_some (still_there tree at path node.0 node.1));
   sizes = λ path bytes is. t.sizes path bytes (still_there tree at path (File bytes) is);
   count = omega (arith, length-filtered (λ (e : Path × Node). not (same_path at e.0)) tree, t.count);
 }
@@ -79,7 +94,9 @@ IsTree-remove tree at t below_root empty = record {
 -- ---- calls
 
 -- a node that is made leaves a tree
-pub create-IsTree : (tree : Tree) (node : Node) (path : Path) → IsTree tree → list_all is_name path ≡ true → ((bytes : List ℕ) → node ≡ File bytes → length bytes ≤ file_limit) → Leaves IsTree (create tree node path)
+pub create-IsTree : (tree : Tree) (node : Node) (path : Path) → IsTree tree → list_all is_name path ≡ true
+    → ((bytes : List ℕ) → node ≡ File bytes → length bytes ≤ file_limit)
+    → Leaves IsTree (create tree node path)
 create-IsTree tree node path t spelled small =
     let made : Changed = Ok (answer.Done, insert tree path node) in
     and_then_holds _ (λ done. IsTree done.1) (walk tree path) _ (walk_is tree path) (λ _ walking.
@@ -94,25 +111,35 @@ create-IsTree tree node path t spelled small =
     }))))
 
 -- a write leaves a tree
-pub write-IsTree : (tree : Tree) (offset : ℕ) (new : List ℕ) (path : Path) → IsTree tree → Leaves IsTree (write tree offset new path)
+pub write-IsTree : (tree : Tree) (offset : ℕ) (new : List ℕ) (path : Path) → IsTree tree
+    → Leaves IsTree (write tree offset new path)
 write-IsTree tree offset new path t =
     and_then_holds _ (λ done. IsTree done.1) (file_at tree path) _ (file_at_is tree path) (λ bytes found.
     let long = nat_lt file_limit (offset + length new) in
-    let made : Changed = Ok (answer.Written (length new), insert tree path (File (overwritten bytes offset new))) in
-    elim (length new == 0) as (λ b. Leaves IsTree (cond b (Ok (answer.Written 0, tree)) (refuse_if long error.TooBig made))) [
+    let made : Changed =
+    Ok (answer.Written (length new), insert tree path (File (overwritten bytes offset new))) in
+    elim (length new == 0) as (λ b.
+    Leaves IsTree (cond b (Ok (answer.Written 0, tree)) (refuse_if long error.TooBig made))) [
       | true ↦ t
       | false ↦ refuse_if_then (λ done. IsTree done.1) long error.TooBig made (λ fits.
           IsTree-insert_file tree path bytes (overwritten bytes offset new) t found
-          (omega (arith, written_sizes bytes offset new, t.sizes path bytes found, ltb-false file_limit (offset + length new) fits)))
+          (omega (
+            arith,
+            written_sizes bytes offset new,
+            t.sizes path bytes found,
+            ltb-false file_limit (offset + length new) fits,
+          )))
     ])
 
 -- so does a truncation
-pub truncate-IsTree : (tree : Tree) (size : ℕ) (path : Path) → IsTree tree → Leaves IsTree (truncate tree size path)
+pub truncate-IsTree : (tree : Tree) (size : ℕ) (path : Path) → IsTree tree
+    → Leaves IsTree (truncate tree size path)
 truncate-IsTree tree size path t =
     and_then_holds _ (λ done. IsTree done.1) (file_at tree path) _ (file_at_is tree path) (λ bytes found.
     let made : Changed = Ok (answer.Done, insert tree path (File (resized bytes size))) in
     refuse_if_then (λ done. IsTree done.1) (nat_lt file_limit size) error.TooBig made (λ fits.
-    IsTree-insert_file tree path bytes (resized bytes size) t found (omega (arith, truncated_sizes bytes size, ltb-false file_limit size fits))))
+    IsTree-insert_file tree path bytes (resized bytes size) t found
+    (omega (arith, truncated_sizes bytes size, ltb-false file_limit size fits))))
 
 -- and a removal of a file
 pub unlink-IsTree : (tree : Tree) (path : Path) → IsTree tree → Leaves IsTree (unlink tree path)
@@ -120,7 +147,9 @@ unlink-IsTree tree path t =
     and_then_holds _ (λ done. IsTree done.1) (file_at tree path) _ (file_at_is tree path) (λ bytes file.
     IsTree-remove tree path t
     (λ root. dir_not_file (lookup tree path) bytes (ap (lookup tree) root ∙ t.root) file)
-    (λ name. none_if (lookup tree (path ++ name ∷ [])) (λ node there. dir_not_file (lookup tree path) bytes (t.parents path name (ap is_some there)) file)))
+    (λ name.
+    none_if (lookup tree (path ++ name ∷ []))
+    (λ node there. dir_not_file (lookup tree path) bytes (t.parents path name (ap is_some there)) file)))
 
 -- and one of an empty directory
 pub rmdir-IsTree : (tree : Tree) (path : Path) → IsTree tree → Leaves IsTree (rmdir tree path)
@@ -131,17 +160,21 @@ rmdir-IsTree tree path t =
     refuse_if_then (λ done. IsTree done.1) (has_names tree path) error.NotEmpty made (λ none.
     IsTree-remove tree path t
     (λ root. true≢false (sym (ap is_root root) ∙ below_root))
-    (λ name. none_if (lookup tree (path ++ name ∷ [])) (λ node there. true≢false (sym (listed tree path name node there) ∙ none))))))
+    (λ name.
+    none_if (lookup tree (path ++ name ∷ []))
+    (λ node there. true≢false (sym (listed tree path name node there) ∙ none))))))
 
 -- ---- calls on paths that bytes spell
 
-leaves_tree : (tree : Tree) (changed : Changed) → IsTree tree → Leaves IsTree changed → IsTree (tree_after tree changed)
+leaves_tree : (tree : Tree) (changed : Changed) → IsTree tree → Leaves IsTree changed
+    → IsTree (tree_after tree changed)
 leaves_tree tree (Ok done) t left = left
 leaves_tree tree (Err e) t left = t
 
 -- a new file is small
 pub no_bytes : (bytes : List ℕ) → File [] ≡ File bytes → length bytes ≤ file_limit
-no_bytes bytes is = let same : [] ≡ bytes = cc in subst (λ (b : List ℕ). length b ≤ file_limit) same (omega arith)
+no_bytes bytes is =
+    let same : [] ≡ bytes = cc in subst (λ (b : List ℕ). length b ≤ file_limit) same (omega arith)
 
 -- a directory is no file
 pub no_file : (bytes : List ℕ) → Dir ≡ File bytes → length bytes ≤ file_limit
@@ -149,25 +182,36 @@ no_file bytes is = cc
 
 pub creates_keep_trees : CreatesKeepTrees
 creates_keep_trees path tree t =
-    leaves_tree tree _ t (and_then_holds _ (λ done. IsTree done.1) (path_of path) _ (path_of_spells path) (λ p spelled. create-IsTree tree (File []) p t spelled no_bytes))
+    leaves_tree tree _ t
+    (and_then_holds _ (λ done. IsTree done.1) (path_of path) _ (path_of_spells path)
+    (λ p spelled. create-IsTree tree (File []) p t spelled no_bytes))
 
 pub mkdirs_keep_trees : MkdirsKeepTrees
 mkdirs_keep_trees path tree t =
-    leaves_tree tree _ t (and_then_holds _ (λ done. IsTree done.1) (path_of path) _ (path_of_spells path) (λ p spelled. create-IsTree tree Dir p t spelled no_file))
+    leaves_tree tree _ t
+    (and_then_holds _ (λ done. IsTree done.1) (path_of path) _ (path_of_spells path)
+    (λ p spelled. create-IsTree tree Dir p t spelled no_file))
 
 pub writes_keep_trees : WritesKeepTrees
-writes_keep_trees path offset bytes tree t = leaves_tree tree _ t (and_then_any (λ done. IsTree done.1) (path_of path) _ (λ p. write-IsTree tree offset bytes p t))
+writes_keep_trees path offset bytes tree t =
+    leaves_tree tree _ t
+    (and_then_any (λ done. IsTree done.1) (path_of path) _ (λ p. write-IsTree tree offset bytes p t))
 
 pub truncates_keep_trees : TruncatesKeepTrees
-truncates_keep_trees path size tree t = leaves_tree tree _ t (and_then_any (λ done. IsTree done.1) (path_of path) _ (λ p. truncate-IsTree tree size p t))
+truncates_keep_trees path size tree t =
+    leaves_tree tree _ t
+    (and_then_any (λ done. IsTree done.1) (path_of path) _ (λ p. truncate-IsTree tree size p t))
 
 pub unlinks_keep_trees : UnlinksKeepTrees
-unlinks_keep_trees path tree t = leaves_tree tree _ t (and_then_any (λ done. IsTree done.1) (path_of path) _ (λ p. unlink-IsTree tree p t))
+unlinks_keep_trees path tree t =
+    leaves_tree tree _ t (and_then_any (λ done. IsTree done.1) (path_of path) _ (λ p. unlink-IsTree tree p t))
 
 pub rmdirs_keep_trees : RmdirsKeepTrees
-rmdirs_keep_trees path tree t = leaves_tree tree _ t (and_then_any (λ done. IsTree done.1) (path_of path) _ (λ p. rmdir-IsTree tree p t))
+rmdirs_keep_trees path tree t =
+    leaves_tree tree _ t (and_then_any (λ done. IsTree done.1) (path_of path) _ (λ p. rmdir-IsTree tree p t))
 
 pub renames_keep_trees : RenamesKeepTrees
 renames_keep_trees from to tree t =
     leaves_tree tree _ t (and_then_any (λ done. IsTree done.1) (path_of from) _ (λ f.
-    and_then_holds _ (λ done. IsTree done.1) (path_of to) _ (path_of_spells to) (λ p spelled. rename-IsTree tree f p t spelled)))
+    and_then_holds _ (λ done. IsTree done.1) (path_of to) _ (path_of_spells to)
+    (λ p spelled. rename-IsTree tree f p t spelled)))

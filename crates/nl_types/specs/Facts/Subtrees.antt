@@ -11,16 +11,25 @@ use Rattle.nl_types.specs.Facts.TreeLaws.{path_total}
 
 pub in_order-sorted : (entries : List (Path × Node)) → T (is_sorted path_cmp (in_order entries))
 in_order-sorted [] = tt
-in_order-sorted (e ∷ entries) = is_sorted-put path_cmp path_total e.0 e.1 (in_order entries) (in_order-sorted entries)
+in_order-sorted (e ∷ entries) =
+    is_sorted-put path_cmp path_total e.0 e.1 (in_order entries) (in_order-sorted entries)
 
 pub move_subtree-sorted : (tree : Tree) (from to : Path) → T (is_sorted path_cmp (move_subtree tree from to))
-move_subtree-sorted tree from to = in_order-sorted (map (λ e. (moved_path from to e.0, e.1)) (filter (λ e. not (is_within to e.0)) tree))
+move_subtree-sorted tree from to =
+    in_order-sorted (map (λ e. (moved_path from to e.0, e.1)) (filter (λ e. not (is_within to e.0)) tree))
 
 length-in_order : (entries : List (Path × Node)) → length (in_order entries) ≤ length entries
 length-in_order [] = omega arith
-length-in_order (e ∷ entries) = one (is_some (lookup (in_order entries) e.0)) (length-put path_cmp path_total e.0 e.1 (in_order entries) (in_order-sorted entries)) (length-in_order entries)
+length-in_order (e ∷ entries) =
+    one (is_some (lookup (in_order entries) e.0))
+    (length-put path_cmp path_total e.0 e.1 (in_order entries) (in_order-sorted entries))
+    (length-in_order entries)
   where
-    one : (there : Bool) → length (insert (in_order entries) e.0 e.1) ≡ cond there (length (in_order entries)) (length (in_order entries) + 1) → length (in_order entries) ≤ length entries → length (insert (in_order entries) e.0 e.1) ≤ length (e ∷ entries)
+    one : (there : Bool)
+        → length (insert (in_order entries) e.0 e.1)
+        ≡ cond there (length (in_order entries)) (length (in_order entries) + 1)
+        → length (in_order entries) ≤ length entries
+        → length (insert (in_order entries) e.0 e.1) ≤ length (e ∷ entries)
     one true is less = omega (arith, is, less)
     one false is less = omega (arith, is, less)
 
@@ -29,7 +38,8 @@ pub length-filtered : {X : Type 0} (p : X → Bool) (xs : List X) → length (fi
 length-filtered p [] = omega arith
 length-filtered p (x ∷ xs) = one (p x) (length-filtered p xs)
   where
-    one : (b : Bool) → length (filter p xs) ≤ length xs → length (cond b (x ∷ filter p xs) (filter p xs)) ≤ length (x ∷ xs)
+    one : (b : Bool) → length (filter p xs) ≤ length xs
+        → length (cond b (x ∷ filter p xs) (filter p xs)) ≤ length (x ∷ xs)
     one true less = omega (arith, less)
     one false less = omega (arith, less)
 
@@ -37,4 +47,9 @@ pub length-move_subtree : (tree : Tree) (from to : Path) → length (move_subtre
 length-move_subtree tree from to =
     let kept : Tree = filter (λ e. not (is_within to e.0)) tree in
     let entries : Tree = map (λ e. (moved_path from to e.0, e.1)) kept in
-    omega (arith, length-in_order entries, length-map {B = Path × Node} kept (λ e. (moved_path from to e.0, e.1)), length-filtered (λ (e : Path × Node). not (is_within to e.0)) tree)
+    omega (
+      arith,
+      length-in_order entries,
+      length-map {B = Path × Node} kept (λ e. (moved_path from to e.0, e.1)),
+      length-filtered (λ (e : Path × Node). not (is_within to e.0)) tree,
+    )

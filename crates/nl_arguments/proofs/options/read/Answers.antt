@@ -10,5 +10,6 @@ pub returns-in-Err : goal.returns-in-Err
 returns-in-Err c = λ other.
     let words : List Text = map (λ w. w.now) c.args.words.now in
     c.told.ensures other
-    ∙ error-decides (fault_of program words) (kind_of c.in-Err.error) (given (matches_of program words)) (one_fault words) c.in-Err.ensures.kinds
+    ∙ error-decides (fault_of program words) (kind_of c.in-Err.error) (given (matches_of program words))
+    (one_fault words) c.in-Err.ensures.kinds
     (λ none. other (c.told.ensures other ∙ none))

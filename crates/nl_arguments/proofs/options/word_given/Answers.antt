@@ -6,7 +6,8 @@ use Rattle.nl_arguments.proofs.options.word_given.Goals as goal
 pub returns-in_ok-from_slice-in-Some : goal.returns-in_ok-from_slice-in-Some
 returns-in_ok-from_slice-in-Some c =
     let bytes = c.in_ok-from_slice-in-Some.ensures ∙ c.as_bytes.ensures.value in
-    ap (λ (word : Text). Some word) bytes ∙ (c.in-Some.ensures ∙ first_value-rows (found_of c.args.matches.now) c.args.id.now)
+    ap (λ (word : Text). Some word) bytes
+    ∙ (c.in-Some.ensures ∙ first_value-rows (found_of c.args.matches.now) c.args.id.now)
 
 pub returns-in-None : goal.returns-in-None
 returns-in-None c = c.in-None.ensures ∙ first_value-rows (found_of c.args.matches.now) c.args.id.now

@@ -15,11 +15,23 @@ use Rattle.nl_blocktree.proofs.data.put_data.Goals as goal
 
 pub loop-change-init : goal.loop-change-init
 loop-change-init g c = record {
-  puts = subst (λ (es : List Edit). PutsData (content_in (g.V.Vstore.store c.args.store.now)) c.args.inode [] (place_at (pages_of (content_in (g.V.Vstore.store c.args.store.now))) (root_of c.args.root.now) 0) es
-      c.args.batch.now.births c.args.batch.now.births c.args.batch.now.ends c.args.batch.now.ends) (sym c.new-edits.ensures.items)
-      (puts_none (content_in (g.V.Vstore.store c.args.store.now)) c.args.inode (place_at (pages_of (content_in (g.V.Vstore.store c.args.store.now))) (root_of c.args.root.now) 0) c.args.batch.now.births c.args.batch.now.ends);
-  above = know_same (kept_levels (pages_of (content_in (g.V.Vstore.store c.args.store.now))) (root_of c.args.root.now)) 0 c.new-edits.ensures.items
-      (know_none (kept_levels (pages_of (content_in (g.V.Vstore.store c.args.store.now))) (root_of c.args.root.now)) 0);
+  puts =
+      subst (λ (es : List Edit).
+      PutsData (content_in (g.V.Vstore.store c.args.store.now)) c.args.inode []
+      (place_at (pages_of (content_in (g.V.Vstore.store c.args.store.now))) (root_of c.args.root.now) 0)
+      es
+      c.args.batch.now.births c.args.batch.now.births c.args.batch.now.ends c.args.batch.now.ends)
+      (sym c.new-edits.ensures.items)
+      (puts_none (content_in (g.V.Vstore.store c.args.store.now)) c.args.inode
+      (place_at (pages_of (content_in (g.V.Vstore.store c.args.store.now))) (root_of c.args.root.now) 0)
+      c.args.batch.now.births c.args.batch.now.ends);
+  above =
+      know_same
+      (kept_levels (pages_of (content_in (g.V.Vstore.store c.args.store.now))) (root_of c.args.root.now))
+      0 c.new-edits.ensures.items
+      (know_none
+      (kept_levels (pages_of (content_in (g.V.Vstore.store c.args.store.now))) (root_of c.args.root.now))
+      0);
   fits = c.requires.file.fits;
   node = chain_begins (g.V.VRead.pages c.args.store.now) (root_of c.args.root.now) c.first_node-node.ensures;
 }
@@ -31,19 +43,42 @@ loop-change-preserved g c =
     let x = c.change-item.result in
     let within : k < length cs = omega arith in
     let here : get_or cs k x ≡ x = sym c.change-item.is in
-    let more : take (k + 1) cs ≡ take k cs ++ x ∷ [] = take_more cs k x within ∙ ap (λ (y : BlockChange). take k cs ++ y ∷ []) here in
-    let stands : c.path_to-path.result.number ≡ place_at (pages_of (content_in (g.V.Vstore.store c.args.store.now))) (root_of c.args.root.now) 0 x.index =
-    c.path_to-path.ensures.number ∙ ap (λ (pages : Pages). place_at pages (root_of c.args.root.now) 0 x.index) (g.met.V.Vstore.reads_pages c.args.store.now) in
+    let more : take (k + 1) cs ≡ take k cs ++ x ∷ [] =
+    take_more cs k x within ∙ ap (λ (y : BlockChange). take k cs ++ y ∷ []) here in
+    let stands : c.path_to-path.result.number
+    ≡ place_at (pages_of (content_in (g.V.Vstore.store c.args.store.now)))
+    (root_of c.args.root.now) 0 x.index =
+    c.path_to-path.ensures.number
+    ∙ ap (λ (pages : Pages). place_at pages (root_of c.args.root.now) 0 x.index)
+    (g.met.V.Vstore.reads_pages c.args.store.now) in
     record {
-      puts = rw (more, c.in_ok-add_edit.ensures) (data_more x c.in_ok-number.number c.path_to-path.result.above (λ i v e. c.requires.file.sound.stored 0 i v e)
-          (λ i j v p q. let same = c.requires.file.sound.once (0, i) (0, j) v p q in ap (λ (a : ℕ × ℕ). a.1) same) c.loop-change.invariant.puts
-          (λ o i. subst (λ (y : BlockChange). o < y.index) here (below-here cs k x c.requires.ascending within o i))
-          (subst (λ (old : Option ℕ). PutsOne (content_in (g.V.Vstore.store c.args.store.now)) c.args.inode x.index x.page old c.in_ok-number.number
-          c.loop-change.batch.births c.put_block.new.batch.births c.loop-change.batch.ends c.put_block.new.batch.ends) stands c.in_ok-number.ensures.ok));
-      above = know_same (kept_levels (pages_of (content_in (g.V.Vstore.store c.args.store.now))) (root_of c.args.root.now)) 0 c.in_ok-add_edit.ensures
-          (know_edit (kept_levels (pages_of (content_in (g.V.Vstore.store c.args.store.now))) (root_of c.args.root.now)) c.loop-change.edits.items x.index c.in_ok-number.number c.path_to-path.result.above
+      puts =
+          rw (more, c.in_ok-add_edit.ensures)
+          (data_more x c.in_ok-number.number c.path_to-path.result.above
+          (λ i v e. c.requires.file.sound.stored 0 i v e)
+          (λ i j v p q.
+          let same = c.requires.file.sound.once (0, i) (0, j) v p q in ap (λ (a : ℕ × ℕ). a.1) same)
+          c.loop-change.invariant.puts
+          (λ o i.
+          subst (λ (y : BlockChange). o < y.index) here (below-here cs k x c.requires.ascending within o i))
+          (subst (λ (old : Option ℕ).
+          PutsOne (content_in (g.V.Vstore.store c.args.store.now)) c.args.inode x.index x.page old
+          c.in_ok-number.number
+          c.loop-change.batch.births c.put_block.new.batch.births c.loop-change.batch.ends
+          c.put_block.new.batch.ends)
+          stands c.in_ok-number.ensures.ok));
+      above =
+          know_same (kept_levels (pages_of (content_in (g.V.Vstore.store c.args.store.now)))
+          (root_of c.args.root.now))
+          0 c.in_ok-add_edit.ensures
+          (know_edit (kept_levels (pages_of (content_in (g.V.Vstore.store c.args.store.now)))
+          (root_of c.args.root.now))
+          c.loop-change.edits.items x.index c.in_ok-number.number c.path_to-path.result.above
           c.loop-change.invariant.above
-          (subst (λ (pages : Pages). TellsAbove (kept_levels pages (root_of c.args.root.now)) 0 x.index c.path_to-path.result.above.items) (g.met.V.Vstore.reads_pages c.args.store.now) c.path_to-path.ensures.above));
+          (subst (λ (pages : Pages).
+          TellsAbove
+          (kept_levels pages (root_of c.args.root.now)) 0 x.index c.path_to-path.result.above.items)
+          (g.met.V.Vstore.reads_pages c.args.store.now) c.path_to-path.ensures.above));
       fits = c.in_ok-number.ensures.fits;
       node = c.path_to-path.ensures.node;
     }
@@ -51,20 +86,29 @@ loop-change-preserved g c =
 pub put_block-requires-clause-live : goal.put_block-requires-clause-live
 put_block-requires-clause-live g c =
     λ v e. c.requires.file.live 0 c.change-item.result.index v
-    (sym (c.path_to-path.ensures.number ∙ ap (λ (pages : Pages). place_at pages (root_of c.args.root.now) 0 c.change-item.result.index) (g.met.V.Vstore.reads_pages c.args.store.now)) ∙ e)
+    (sym (c.path_to-path.ensures.number
+    ∙ ap (λ (pages : Pages). place_at pages (root_of c.args.root.now) 0 c.change-item.result.index)
+    (g.met.V.Vstore.reads_pages c.args.store.now))
+    ∙ e)
 
 pub returns-clause-kept : goal.returns-clause-kept
 returns-clause-kept g c =
-    goes_on-append c.args.batch.now c.loop-change.batch c.loop-change.invariant.puts.added c.loop-change.invariant.puts.gone c.loop-change.invariant.puts.births_are c.loop-change.invariant.puts.ends_are
+    goes_on-append c.args.batch.now c.loop-change.batch c.loop-change.invariant.puts.added
+    c.loop-change.invariant.puts.gone c.loop-change.invariant.puts.births_are
+    c.loop-change.invariant.puts.ends_are
 
 pub returns-in_err-number-clause-kept : goal.returns-in_err-number-clause-kept
 returns-in_err-number-clause-kept g c =
     goes_on-more c.args.batch.now c.loop-change.batch c.put_block.new.batch
-    (goes_on-append c.args.batch.now c.loop-change.batch c.loop-change.invariant.puts.added c.loop-change.invariant.puts.gone c.loop-change.invariant.puts.births_are c.loop-change.invariant.puts.ends_are)
+    (goes_on-append c.args.batch.now c.loop-change.batch c.loop-change.invariant.puts.added
+    c.loop-change.invariant.puts.gone c.loop-change.invariant.puts.births_are
+    c.loop-change.invariant.puts.ends_are)
     c.in_err-number.ensures.kept
 
 pub returns-in_err-add_edit-clause-kept : goal.returns-in_err-add_edit-clause-kept
 returns-in_err-add_edit-clause-kept g c =
     goes_on-more c.args.batch.now c.loop-change.batch c.put_block.new.batch
-    (goes_on-append c.args.batch.now c.loop-change.batch c.loop-change.invariant.puts.added c.loop-change.invariant.puts.gone c.loop-change.invariant.puts.births_are c.loop-change.invariant.puts.ends_are)
+    (goes_on-append c.args.batch.now c.loop-change.batch c.loop-change.invariant.puts.added
+    c.loop-change.invariant.puts.gone c.loop-change.invariant.puts.births_are
+    c.loop-change.invariant.puts.ends_are)
     c.in_ok-number.ensures.kept

@@ -5,4 +5,6 @@ use Rattle.nl_types.specs.Roots.{slot}
 use Rattle.nl_blocktree.proofs.height.names_later.Given as goal
 
 abbrev pub invariant-loop-at : goal.invariant-loop-at
-invariant-loop-at l = (t : ℕ) → 1 ≤ t → t < l.at → option_and_then (λ (bytes : List ℕ). slot t bytes) (option_copied l.page) ≡ None
+invariant-loop-at l =
+    (t : ℕ) → 1 ≤ t → t < l.at
+    → option_and_then (λ (bytes : List ℕ). slot t bytes) (option_copied l.page) ≡ None

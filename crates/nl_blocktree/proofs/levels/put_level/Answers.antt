@@ -15,11 +15,15 @@ use Rattle.nl_blocktree.proofs.levels.put_level.Goals as goal
 
 pub loop-at-init : goal.loop-at-init
 loop-at-init g c =
-    let kept = kept_levels (pages_of (content_in (g.V.Vstore.store c.args.store.now))) (root_of c.args.root.now) in
+    let kept =
+    kept_levels (pages_of (content_in (g.V.Vstore.store c.args.store.now))) (root_of c.args.root.now) in
     record {
-      puts = subst (λ (ups : List Edit). PutsLevel (content_in (g.V.Vstore.store c.args.store.now)) c.args.inode (suc c.args.below)
+      puts =
+          subst (λ (ups : List Edit).
+          PutsLevel (content_in (g.V.Vstore.store c.args.store.now)) c.args.inode (suc c.args.below)
           (kept (suc c.args.below)) (kept c.args.below)
-          [] ups c.args.batch.now.births c.args.batch.now.births c.args.batch.now.ends c.args.batch.now.ends) (sym c.new-ups.ensures.items)
+          [] ups c.args.batch.now.births c.args.batch.now.births c.args.batch.now.ends c.args.batch.now.ends)
+          (sym c.new-ups.ensures.items)
           (groups_none _ _ _ _ _ _ _);
       fits = c.requires.fits;
       above = know_same kept (c.args.below + 1) c.new-ups.ensures.items (know_none kept (c.args.below + 1));
@@ -32,28 +36,39 @@ put_node-requires-clause-live g c =
     let content = content_in (g.V.Vstore.store c.args.store.now) in
     let root = root_of c.args.root.now in
     let x = c.index-edits-at.result in
-    let stands : c.node_above-old.result ≡ kept_levels (pages_of content) root (suc c.args.below) (x.offset / 128) =
-    c.node_above-old.ensures ∙ subst (λ (y : Edit). numbered (get_or y.above.items c.args.below 0) ≡ kept_levels (pages_of content) root (suc c.args.below) (y.offset / 128)) (sym c.index-edits-at.is)
-    (old_above (kept_levels (pages_of content) root) c.args.below c.args.edits.now c.loop-at.at x c.loop-at-test.true c.requires.above) in
+    let stands : c.node_above-old.result
+    ≡ kept_levels (pages_of content) root (suc c.args.below) (x.offset / 128) =
+    c.node_above-old.ensures
+    ∙ subst (λ (y : Edit).
+    numbered (get_or y.above.items c.args.below 0)
+    ≡ kept_levels (pages_of content) root (suc c.args.below) (y.offset / 128))
+    (sym c.index-edits-at.is)
+    (old_above (kept_levels (pages_of content) root) c.args.below c.args.edits.now c.loop-at.at x
+    c.loop-at-test.true c.requires.above) in
     λ v e. kept_live content root c.requires.kept.live (suc c.args.below) (x.offset / 128) v (sym stands ∙ e)
 
 pub put_node-requires-clause-ascending : goal.put_node-requires-clause-ascending
 put_node-requires-clause-ascending g c =
     let x = c.index-edits-at.result in
-    group_ascends c.args.edits.now c.loop-at.at c.group_end-end.result (x.offset / 128) c.requires.ascending c.group_end-end.ensures.after c.group_end-end.ensures.within
+    group_ascends c.args.edits.now c.loop-at.at c.group_end-end.result
+    (x.offset / 128) c.requires.ascending c.group_end-end.ensures.after c.group_end-end.ensures.within
     c.loop-at.invariant.edge c.group_end-end.ensures.grouped c.group_end-end.ensures.next
-    (λ d. ap (λ (y : Edit). y.offset / 128) (c.index-edits-at.is ∙ any_default c.args.edits.now c.loop-at.at x d c.loop-at-test.true))
+    (λ d.
+    ap (λ (y : Edit). y.offset / 128)
+    (c.index-edits-at.is ∙ any_default c.args.edits.now c.loop-at.at x d c.loop-at-test.true))
 
 pub returns-in_err-number-clause-kept : goal.returns-in_err-number-clause-kept
 returns-in_err-number-clause-kept g c =
     goes_on-more c.args.batch.now c.loop-at.batch c.put_node.new.batch
-    (goes_on-append c.args.batch.now c.loop-at.batch c.loop-at.invariant.puts.added c.loop-at.invariant.puts.gone c.loop-at.invariant.puts.births_are c.loop-at.invariant.puts.ends_are)
+    (goes_on-append c.args.batch.now c.loop-at.batch c.loop-at.invariant.puts.added
+    c.loop-at.invariant.puts.gone c.loop-at.invariant.puts.births_are c.loop-at.invariant.puts.ends_are)
     (record { births = c.put_node.ensures.births_kept; ends = c.put_node.ensures.ends_kept })
 
 pub returns-in_err-add_up-clause-kept : goal.returns-in_err-add_up-clause-kept
 returns-in_err-add_up-clause-kept g c =
     goes_on-more c.args.batch.now c.loop-at.batch c.put_node.new.batch
-    (goes_on-append c.args.batch.now c.loop-at.batch c.loop-at.invariant.puts.added c.loop-at.invariant.puts.gone c.loop-at.invariant.puts.births_are c.loop-at.invariant.puts.ends_are)
+    (goes_on-append c.args.batch.now c.loop-at.batch c.loop-at.invariant.puts.added
+    c.loop-at.invariant.puts.gone c.loop-at.invariant.puts.births_are c.loop-at.invariant.puts.ends_are)
     (record { births = c.put_node.ensures.births_kept; ends = c.put_node.ensures.ends_kept })
 
 pub loop-at-preserved : goal.loop-at-preserved
@@ -69,24 +84,43 @@ loop-at-preserved g c =
     let number = c.in_ok-number.number in
     let up = c.in_ok-add_up.ensures in
     let stands : c.node_above-old.result ≡ kept_levels (pages_of content) root (suc below) (x.offset / 128) =
-    c.node_above-old.ensures ∙ subst (λ (y : Edit). numbered (get_or y.above.items below 0) ≡ kept_levels (pages_of content) root (suc below) (y.offset / 128)) (sym c.index-edits-at.is)
+    c.node_above-old.ensures
+    ∙ subst (λ (y : Edit).
+    numbered (get_or y.above.items below 0)
+    ≡ kept_levels (pages_of content) root (suc below) (y.offset / 128))
+    (sym c.index-edits-at.is)
     (old_above kept below edits k x c.loop-at-test.true c.requires.above) in
     record {
-      puts = subst (λ (ups : List Edit). PutsLevel content c.args.inode (suc below) (kept (suc below)) (kept below)
-          (take end edits) ups c.args.batch.now.births c.put_node.new.batch.births c.args.batch.now.ends c.put_node.new.batch.ends) (sym up.2)
-          (groups_more edits k end (x.offset / 128) c.requires.ascending c.group_end-end.ensures.after c.group_end-end.ensures.within
+      puts =
+          subst
+          (λ (ups : List Edit). PutsLevel content c.args.inode (suc below) (kept (suc below)) (kept below)
+          (take end edits) ups c.args.batch.now.births c.put_node.new.batch.births c.args.batch.now.ends
+          c.put_node.new.batch.ends)
+          (sym up.2)
+          (groups_more edits k end
+          (x.offset / 128) c.requires.ascending c.group_end-end.ensures.after c.group_end-end.ensures.within
           c.loop-at.invariant.edge c.group_end-end.ensures.grouped c.group_end-end.ensures.next
-          (λ d. ap (λ (y : Edit). y.offset / 128) (c.index-edits-at.is ∙ any_default edits k x d c.loop-at-test.true))
-          content c.args.inode root below number up.0 c.loop-at.ups.items c.requires.kept.sound c.requires.told
+          (λ d.
+          ap (λ (y : Edit). y.offset / 128)
+          (c.index-edits-at.is ∙ any_default edits k x d c.loop-at-test.true))
+          content c.args.inode root below number up.0 c.loop-at.ups.items c.requires.kept.sound
+          c.requires.told
           c.loop-at.invariant.puts (group_puts _ c.new-level.ensures stands c.in_ok-number.ensures.ok));
       fits = c.in_ok-number.ensures.fits;
       above = know_same kept (below + 1) up.2
-          (know_up kept below edits c.loop-at.ups.items k x (record { offset = x.offset / 128; number = number; above = up.0 }) c.loop-at-test.true c.requires.above
-          (ap (λ (y : Edit). y.offset / 128) c.index-edits-at.is) (up.1 ∙ ap (λ (y : Edit). y.above.items) c.index-edits-at.is) c.loop-at.invariant.above);
+          (know_up kept below edits c.loop-at.ups.items k x
+          (record { offset = x.offset / 128; number = number; above = up.0 }) c.loop-at-test.true
+          c.requires.above
+          (ap (λ (y : Edit). y.offset / 128) c.index-edits-at.is)
+          (up.1 ∙ ap (λ (y : Edit). y.above.items) c.index-edits-at.is) c.loop-at.invariant.above);
       within = c.group_end-end.ensures.within;
-      edge = later_edge edits k end (x.offset / 128) c.requires.ascending c.group_end-end.ensures.after c.group_end-end.ensures.within
+      edge =
+          later_edge edits k end
+          (x.offset / 128) c.requires.ascending c.group_end-end.ensures.after c.group_end-end.ensures.within
           c.loop-at.invariant.edge c.group_end-end.ensures.grouped c.group_end-end.ensures.next
-          (λ d. ap (λ (y : Edit). y.offset / 128) (c.index-edits-at.is ∙ any_default edits k x d c.loop-at-test.true));
+          (λ d.
+          ap (λ (y : Edit). y.offset / 128)
+          (c.index-edits-at.is ∙ any_default edits k x d c.loop-at-test.true));
     }
 
 pub with_top-requires : goal.with_top-requires
@@ -99,4 +133,5 @@ pub returns-clause-above : goal.returns-clause-above
 returns-clause-above g c =
     let pages = pages_of (content_in (g.V.Vstore.store c.args.store.now)) in
     let root = root_of c.args.root.now in
-    know_same (kept_levels pages root) (c.args.below + 1) c.in_ok-told.ensures (know_top pages root (c.args.below + 1) c.args.height c.loop-at.ups.items c.loop-at.invariant.above)
+    know_same (kept_levels pages root) (c.args.below + 1) c.in_ok-told.ensures
+    (know_top pages root (c.args.below + 1) c.args.height c.loop-at.ups.items c.loop-at.invariant.above)

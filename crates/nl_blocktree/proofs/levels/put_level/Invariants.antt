@@ -16,7 +16,8 @@ invariant-loop-at g l = record {
       (kept_levels (pages_of (content_in (g.V.Vstore.store l.store))) (root_of l.root) l.below)
       (take l.at l.edits) l.ups.items l.fn.batch.births l.batch.births l.fn.batch.ends l.batch.ends;
   fits : CanBeTaken (capacity (g.V.Vstore.store l.store)) (content_in (g.V.Vstore.store l.store)) l.batch;
-  above : KnowAbove (kept_levels (pages_of (content_in (g.V.Vstore.store l.store))) (root_of l.root)) (l.below + 1) l.ups.items;
+  above : KnowAbove (kept_levels (pages_of (content_in (g.V.Vstore.store l.store))) (root_of l.root))
+      (l.below + 1) l.ups.items;
   within : l.at ≤ length l.edits;
   edge : (i j : ℕ) (d e : Edit) → i < l.at → l.at ≤ j → j < length l.edits →
       (slice_index_or l.edits i d).offset / 128 < (slice_index_or l.edits j e).offset / 128;

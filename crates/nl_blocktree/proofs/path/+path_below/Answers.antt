@@ -7,10 +7,12 @@ pub returns-clause-number : goal.returns-clause-number
 returns-clause-number g t c =
     let pages = g.V.VRead.pages c.args.store.now in
     c.step_down.ensures.number ∙ (c.child_of-number.ensures
-    ∙ (ap (child pages (c.args.offset % 128)) c.path_below-node.ensures.number ∙ sym (below_step pages c.args.top c.args.levels c.args.offset c.if-levels-eq0.false)))
+    ∙ (ap (child pages (c.args.offset % 128)) c.path_below-node.ensures.number
+    ∙ sym (below_step pages c.args.top c.args.levels c.args.offset c.if-levels-eq0.false)))
 
 pub returns-clause-above : goal.returns-clause-above
 returns-clause-above g t c =
     let pages = g.V.VRead.pages c.args.store.now in
     c.step_down.ensures.above
-    ∙ (on_way c.path_below-node.ensures.number c.path_below-node.ensures.above ∙ sym (above_step pages c.args.top c.args.levels c.args.offset c.if-levels-eq0.false))
+    ∙ (on_way c.path_below-node.ensures.number c.path_below-node.ensures.above
+    ∙ sym (above_step pages c.args.top c.args.levels c.args.offset c.if-levels-eq0.false))

@@ -9,4 +9,5 @@ returns-clause-number g c =
     let pages = g.V.VRead.pages c.args.store.now in
     c.bare_path.ensures.number ∙ (c.child_of-number.ensures
     ∙ (ap (child pages (c.args.index % 127)) c.node_from-node.ensures
-    ∙ sym (data-place pages (root_of c.args.root.now) c.args.index (λ e. let no = sym c.requires.chain ∙ e in cc))))
+    ∙ sym (data-place pages (root_of c.args.root.now) c.args.index
+    (λ e. let no = sym c.requires.chain ∙ e in cc))))

@@ -17,4 +17,5 @@ returns-else-least-old-clause-room c =
     let r = c.index-edits-edits.result in
     let e = ap (λ (x : Edit). x.offset) c.index-edits-edits.is in
     let l = c.least_height-least.ensures.room in
-    all_below c.args.edits.now (128 ^ c.least_height-least.result) r c.requires.ascending (omega (arith, e, l))
+    all_below c.args.edits.now (128 ^ c.least_height-least.result) r c.requires.ascending
+    (omega (arith, e, l))

@@ -7,10 +7,17 @@ use Rattle.nl_blocktree.proofs.TreeRoots.{told_tree}
 use Rattle.nl_blocktree.proofs.put.renew_file.Goals as goal
 
 pub renew_tree-requires-clause-told : goal.renew_tree-requires-clause-told
-renew_tree-requires-clause-told g c = told_tree (pages_of (content_in (g.V.Vstore.store c.args.store.now))) (root_of c.args.root.now) c.args.edits.now (c.is_chain.ensures.no c.if-is_chain.false) c.requires.kept.sound
+renew_tree-requires-clause-told g c =
+    told_tree (pages_of (content_in (g.V.Vstore.store c.args.store.now)))
+    (root_of c.args.root.now) c.args.edits.now
+    (c.is_chain.ensures.no c.if-is_chain.false) c.requires.kept.sound
 
 pub returns-then-is_chain-clause-ok : goal.returns-then-is_chain-clause-ok
-returns-then-is_chain-clause-ok g c = IfOk-weaker c.renew_chain.result _ _ (λ new r. inl (c.is_chain.ensures.yes c.if-is_chain.true, r)) c.renew_chain.ensures.ok
+returns-then-is_chain-clause-ok g c =
+    IfOk-weaker c.renew_chain.result _ _
+    (λ new r. inl (c.is_chain.ensures.yes c.if-is_chain.true, r)) c.renew_chain.ensures.ok
 
 pub returns-clause-ok : goal.returns-clause-ok
-returns-clause-ok g c = IfOk-weaker c.renew_tree.result _ _ (λ new r. inr (c.is_chain.ensures.no c.if-is_chain.false, r)) c.renew_tree.ensures.ok
+returns-clause-ok g c =
+    IfOk-weaker c.renew_tree.result _ _
+    (λ new r. inr (c.is_chain.ensures.no c.if-is_chain.false, r)) c.renew_tree.ensures.ok

@@ -14,7 +14,8 @@ loop-offset-preserved c =
     let xs = c.args.slots.now in
     let x = c.index-slots-offset.result in
     let within : k < length xs = c.loop-offset-test.true in
-    let more : take (k + 1) xs ≡ take k xs ++ x ∷ [] = take_more xs k x within ∙ ap (λ (y : ℕ). take k xs ++ y ∷ []) (sym c.index-slots-offset.is) in
+    let more : take (k + 1) xs ≡ take k xs ++ x ∷ [] =
+    take_more xs k x within ∙ ap (λ (y : ℕ). take k xs ++ y ∷ []) (sym c.index-slots-offset.is) in
     let count : length (take k xs) ≡ k = (let l = length-take k xs in omega arith) in
     let offset : 0 + length (take k xs) ≡ k = omega (arith, count) in
     c.in_ok-push.ensures.items ∙ ap (λ (e : Edit). c.loop-offset.told.items ++ e ∷ []) c.edit_alone.ensures

@@ -15,5 +15,8 @@ loop-edit-preserved c =
     let count = c.loop-edit.invariant.count in
     record {
       count = length-set c.loop-edit.slots x.offset x.number ∙ c.loop-edit.invariant.count;
-      slots = set_more c.loop-edit.slots c.args.slots.now c.args.edits.now k x c.requires.ascending within c.edit-item.is (omega (arith, low, e, count)) c.loop-edit.invariant.slots;
+      slots =
+          set_more c.loop-edit.slots c.args.slots.now c.args.edits.now k x c.requires.ascending within
+          c.edit-item.is
+          (omega (arith, low, e, count)) c.loop-edit.invariant.slots;
     }

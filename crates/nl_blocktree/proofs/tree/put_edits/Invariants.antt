@@ -6,5 +6,8 @@ use Rattle.nl_blocktree.proofs.tree.put_edits.Given as goal
 abbrev pub invariant-loop-edit : goal.invariant-loop-edit
 invariant-loop-edit l = record {
   count : length l.slots ≡ 128;
-  slots : (s : ℕ) → s < 128 → numbered (slice_index l.slots s) ≡ edited (take l.edit-index l.group) (λ i. numbered (slice_index l.fn.slots (i % 128))) (128 * l.offset + s);
+  slots : (s : ℕ) → s < 128
+      → numbered (slice_index l.slots s)
+      ≡ edited (take l.edit-index l.group) (λ i. numbered (slice_index l.fn.slots (i % 128)))
+      (128 * l.offset + s);
 }

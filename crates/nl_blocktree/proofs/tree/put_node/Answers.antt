@@ -14,12 +14,19 @@ use Rattle.nl_blocktree.proofs.tree.put_node.Goals as goal
 
 -- what is read is what is stored
 as_stored : {read stored : Pages} (group : List Edit) (old : Option ℕ) (offset s : ℕ) → read ≡ stored →
-    edited group (λ i. child read (i % 128) old) (128 * offset + s) ≡ edited group (λ i. child stored (i % 128) old) (128 * offset + s)
-as_stored group old offset s e = ap (λ (pages : Pages). edited group (λ i. child pages (i % 128) old) (128 * offset + s)) e
+    edited group (λ i. child read (i % 128) old) (128 * offset + s)
+    ≡ edited group (λ i. child stored (i % 128) old) (128 * offset + s)
+as_stored group old offset s e =
+    ap (λ (pages : Pages). edited group (λ i. child pages (i % 128) old) (128 * offset + s)) e
 
 pub returns-then-is_blank-clause-ok : goal.returns-then-is_blank-clause-ok
 returns-then-is_blank-clause-ok g c =
-    shapes.goes c.new.ensures (λ s l. sym (c.edited_node-node.ensures.slots s l ∙ as_stored c.args.group.now c.args.old c.args.offset s (g.met.V.Vstore.reads_pages c.args.store.now)) ∙ ap numbered (c.is_blank.ensures.none c.if-is_blank.true s l))
+    shapes.goes c.new.ensures
+    (λ s l.
+    sym (c.edited_node-node.ensures.slots s l
+    ∙ as_stored c.args.group.now c.args.old c.args.offset s
+    (g.met.V.Vstore.reads_pages c.args.store.now))
+    ∙ ap numbered (c.is_blank.ensures.none c.if-is_blank.true s l))
     c.end_old.ensures.births_kept (ap (λ (x : Changes). x.ends) c.in_ok-end_old.ensures.ok)
 
 pub returns-then-is_blank-clause-fits : goal.returns-then-is_blank-clause-fits
@@ -32,8 +39,18 @@ pub returns-clause-ok : goal.returns-clause-ok
 returns-clause-ok g c = IfOk-weaker c.bear_node.result _ _ (λ n b.
     let some = c.is_blank.ensures.some c.if-is_blank.false in
     shapes.comes b.birth b.inode_is b.level_is b.offset_is b.number_is
-    (subst (λ (bs : List Birth). IsLowestFree (content_in (g.V.Vstore.store c.args.store.now)) bs b.birth.number) c.end_old.ensures.births_kept b.free)
-    (λ s l. b.slots_are s l ∙ (c.edited_node-node.ensures.slots s l ∙ as_stored c.args.group.now c.args.old c.args.offset s (g.met.V.Vstore.reads_pages c.args.store.now)))
-    some.0 some.1 (subst IsSome (c.edited_node-node.ensures.slots some.0 some.1 ∙ as_stored c.args.group.now c.args.old c.args.offset some.0 (g.met.V.Vstore.reads_pages c.args.store.now)) (some-is _ _ (numbered-nonzero _ some.2)))
+    (subst
+    (λ (bs : List Birth). IsLowestFree (content_in (g.V.Vstore.store c.args.store.now)) bs b.birth.number)
+    c.end_old.ensures.births_kept b.free)
+    (λ s l.
+    b.slots_are s l
+    ∙ (c.edited_node-node.ensures.slots s l
+    ∙ as_stored c.args.group.now c.args.old c.args.offset s (g.met.V.Vstore.reads_pages c.args.store.now)))
+    some.0 some.1 (subst IsSome
+    (c.edited_node-node.ensures.slots some.0 some.1
+    ∙ as_stored c.args.group.now c.args.old c.args.offset some.0
+    (g.met.V.Vstore.reads_pages c.args.store.now))
+    (some-is _ _ (numbered-nonzero _ some.2)))
     (b.births_are ∙ ap (λ (bs : List Birth). bs ++ b.birth ∷ []) c.end_old.ensures.births_kept)
-    (c.bear_node.ensures.ends ∙ ap (λ (x : Changes). x.ends) c.in_ok-end_old.ensures.ok)) c.bear_node.ensures.ok
+    (c.bear_node.ensures.ends ∙ ap (λ (x : Changes). x.ends) c.in_ok-end_old.ensures.ok))
+    c.bear_node.ensures.ok

@@ -21,8 +21,10 @@ pub returns-then-len-gt-INDEX_LIMIT-clause-refused : goal.returns-then-len-gt-IN
 returns-then-len-gt-INDEX_LIMIT-clause-refused g c =
     let slots = c.trim.new.slots.items in
     let n = c.trim.new.slots.ok.0 in
-    out-of-range (g.V.VRead.pages c.args.store.now) (root_of c.args.root.now) c.in_ok-chain.chain.nodes.items slots c.requires.no_tree
-    (data-places slots slots c.requires.no_tree c.in_ok-chain.ensures.lists c.trim.ensures.same refl) (node-places c.requires.no_tree c.in_ok-chain.ensures.lists)
+    out-of-range (g.V.VRead.pages c.args.store.now)
+    (root_of c.args.root.now) c.in_ok-chain.chain.nodes.items slots c.requires.no_tree
+    (data-places slots slots c.requires.no_tree c.in_ok-chain.ensures.lists c.trim.ensures.same refl)
+    (node-places c.requires.no_tree c.in_ok-chain.ensures.lists)
     c.trim.ensures.tight (omega (arith, n))
 
 pub returns-then-len-clause-refused : goal.returns-then-len-clause-refused
@@ -30,8 +32,10 @@ returns-then-len-clause-refused g c =
     let slots = c.trim.new.slots.items in
     let n = c.trim.new.slots.ok.0 in
     let m = c.in_ok-chain.chain.nodes.ok.0 in
-    empty-last (g.V.VRead.pages c.args.store.now) (root_of c.args.root.now) c.in_ok-chain.chain.nodes.items slots c.requires.no_tree
-    (data-places slots slots c.requires.no_tree c.in_ok-chain.ensures.lists c.trim.ensures.same refl) (node-places c.requires.no_tree c.in_ok-chain.ensures.lists)
+    empty-last (g.V.VRead.pages c.args.store.now)
+    (root_of c.args.root.now) c.in_ok-chain.chain.nodes.items slots c.requires.no_tree
+    (data-places slots slots c.requires.no_tree c.in_ok-chain.ensures.lists c.trim.ensures.same refl)
+    (node-places c.requires.no_tree c.in_ok-chain.ensures.lists)
     (omega (arith, n, m)) c.in_ok-chain.ensures.lists.nodes_at
 
 pub returns-clause-blocks : goal.returns-clause-blocks
@@ -39,14 +43,22 @@ returns-clause-blocks g c =
     let slots = c.trim.new.slots.items in
     let nodes = c.in_ok-chain.chain.nodes.items in
     let first : c.list_level.new.blocks.items ≡ level_from 0 0 slots =
-    c.in_ok-list_level.ensures ∙ (ap (λ (bs : List PlacedBlock). bs ++ level_from c.new.result 0 c.deref.result.now) c.new-blocks.ensures.items
-    ∙ (ap (λ (l : ℕ). level_from l 0 c.deref.result.now) c.new.ensures ∙ ap (level_from 0 0) c.deref.ensures.value)) in
+    c.in_ok-list_level.ensures
+    ∙ (ap (λ (bs : List PlacedBlock). bs ++ level_from c.new.result 0 c.deref.result.now)
+    c.new-blocks.ensures.items
+    ∙ (ap (λ (l : ℕ). level_from l 0 c.deref.result.now) c.new.ensures
+    ∙ ap (level_from 0 0) c.deref.ensures.value)) in
     let second : c.list_level-2.new.blocks.items ≡ level_from 0 0 slots ++ level_from 1 0 nodes =
-    c.in_ok-list_level-2.ensures ∙ (ap (λ (bs : List PlacedBlock). bs ++ level_from c.new-2.result 0 c.deref-2.result.now) first
-    ∙ (ap (λ (l : ℕ). level_from 0 0 slots ++ level_from l 0 c.deref-2.result.now) c.new-2.ensures ∙ ap (λ (xs : List ℕ). level_from 0 0 slots ++ level_from 1 0 xs) c.deref-2.ensures.value)) in
-    subst (λ (bs : List PlacedBlock). AreAllBlocks (g.V.VRead.pages c.args.store.now) (root_of c.args.root.now) bs) (sym second)
+    c.in_ok-list_level-2.ensures
+    ∙ (ap (λ (bs : List PlacedBlock). bs ++ level_from c.new-2.result 0 c.deref-2.result.now) first
+    ∙ (ap (λ (l : ℕ). level_from 0 0 slots ++ level_from l 0 c.deref-2.result.now) c.new-2.ensures
+    ∙ ap (λ (xs : List ℕ). level_from 0 0 slots ++ level_from 1 0 xs) c.deref-2.ensures.value)) in
+    subst (λ (bs : List PlacedBlock).
+    AreAllBlocks (g.V.VRead.pages c.args.store.now) (root_of c.args.root.now) bs)
+    (sym second)
     (all-blocks (g.V.VRead.pages c.args.store.now) (root_of c.args.root.now) nodes slots c.requires.no_tree
-    (data-places slots slots c.requires.no_tree c.in_ok-chain.ensures.lists c.trim.ensures.same refl) (node-places c.requires.no_tree c.in_ok-chain.ensures.lists))
+    (data-places slots slots c.requires.no_tree c.in_ok-chain.ensures.lists c.trim.ensures.same refl)
+    (node-places c.requires.no_tree c.in_ok-chain.ensures.lists))
 
 pub returns-clause-bounded : goal.returns-clause-bounded
 returns-clause-bounded g c =
@@ -57,5 +69,6 @@ returns-clause-bounded g c =
     let small : length slots ≤ 262144 = omega (arith, n) in
     let short : length nodes ≤ (length slots + 126) / 127 = omega (arith, n, m) in
     bounded (g.V.VRead.pages c.args.store.now) (root_of c.args.root.now) nodes slots c.requires.no_tree
-    (data-places slots slots c.requires.no_tree c.in_ok-chain.ensures.lists c.trim.ensures.same refl) (node-places c.requires.no_tree c.in_ok-chain.ensures.lists)
+    (data-places slots slots c.requires.no_tree c.in_ok-chain.ensures.lists c.trim.ensures.same refl)
+    (node-places c.requires.no_tree c.in_ok-chain.ensures.lists)
     c.trim.ensures.tight small short (λ k. c.requires.has_top k (g.V.VRead.pages c.args.store.now))

@@ -12,25 +12,42 @@ returns-then-not-is_told-clause-yes g c = λ t. cc
 pub returns-then-not-is_told-clause-no : goal.returns-then-not-is_told-clause-no
 returns-then-not-is_told-clause-no g c = λ _ t.
     let pages = g.V.VRead.pages c.args.store.now in
-    both c.is_told.result (c.is_told.ensures.1 (tree-told pages (root_of c.args.root.now) c.requires.0 c.args.kinds.now c.args.walk.now c.requires.1 c.args.entry.now t)) c.if-not-is_told.true
+    both c.is_told.result
+    (c.is_told.ensures.1
+    (tree-told pages
+    (root_of c.args.root.now) c.requires.0 c.args.kinds.now c.args.walk.now c.requires.1
+    c.args.entry.now t))
+    c.if-not-is_told.true
 
 pub returns-clause-yes : goal.returns-clause-yes
 returns-clause-yes g c =
     let pages = g.V.VRead.pages c.args.store.now in
     let root = root_of c.args.root.now in
     let told = c.is_told.ensures.0 c.if-not-is_told.false in
-    ok-then c.forms_tree.result c.forms_tree.ensures.yes (λ (holds : Bool). IsTrue holds → IsTreeOf pages root c.args.entry.now.size c.args.entry.now.inodes)
-    (λ holds f t. tree-of pages root c.requires.0 c.args.kinds.now c.args.walk.now c.requires.1 c.args.entry.now told
+    ok-then c.forms_tree.result c.forms_tree.ensures.yes
+    (λ (holds : Bool). IsTrue holds → IsTreeOf pages root c.args.entry.now.size c.args.entry.now.inodes)
+    (λ holds f t.
+    tree-of pages root c.requires.0 c.args.kinds.now c.args.walk.now c.requires.1 c.args.entry.now told
     (f t (holding-of pages root c.requires.0 c.args.kinds.now c.args.walk.now c.requires.1 told.sound)
-    (c.new.ensures (holding-of pages root c.requires.0 c.args.kinds.now c.args.walk.now c.requires.1 told.sound) (holds-of pages root c.requires.0 c.args.kinds.now c.args.walk.now c.requires.1 told.sound))
+    (c.new.ensures
+    (holding-of pages root c.requires.0 c.args.kinds.now c.args.walk.now c.requires.1 told.sound)
+    (holds-of pages root c.requires.0 c.args.kinds.now c.args.walk.now c.requires.1 told.sound))
     (limits-of pages root c.requires.0 c.args.kinds.now c.args.walk.now c.requires.1 told.sound)
-    (tells-kinds pages root c.requires.0 c.args.kinds.now c.args.walk.now c.requires.1 (holding-of pages root c.requires.0 c.args.kinds.now c.args.walk.now c.requires.1 told.sound)
+    (tells-kinds pages root c.requires.0 c.args.kinds.now c.args.walk.now c.requires.1
+    (holding-of pages root c.requires.0 c.args.kinds.now c.args.walk.now c.requires.1 told.sound)
     (stores-of pages root c.requires.0 c.args.kinds.now c.args.walk.now c.requires.1 told.sound))))
 
 pub returns-clause-no : goal.returns-clause-no
 returns-clause-no g c =
     let pages = g.V.VRead.pages c.args.store.now in
     let root = root_of c.args.root.now in
-    ok-then c.forms_tree.result c.forms_tree.ensures.no (λ (holds : Bool). holds ≡ false → IsTreeOf pages root c.args.entry.now.size c.args.entry.now.inodes → ⊥)
-    (λ holds f e t. f e t.holding (c.new.ensures t.holding (tree-holds pages root c.requires.0 c.args.kinds.now c.args.walk.now c.requires.1 c.args.entry.now.size c.args.entry.now.inodes t)) t.limits
-    (tells-kinds pages root c.requires.0 c.args.kinds.now c.args.walk.now c.requires.1 t.holding t.stores) t.forms)
+    ok-then c.forms_tree.result c.forms_tree.ensures.no
+    (λ (holds : Bool).
+    holds ≡ false → IsTreeOf pages root c.args.entry.now.size c.args.entry.now.inodes → ⊥)
+    (λ holds f e t.
+    f e t.holding (c.new.ensures t.holding
+    (tree-holds pages root c.requires.0 c.args.kinds.now c.args.walk.now c.requires.1
+    c.args.entry.now.size c.args.entry.now.inodes t))
+    t.limits
+    (tells-kinds pages root c.requires.0 c.args.kinds.now c.args.walk.now c.requires.1 t.holding t.stores)
+    t.forms)

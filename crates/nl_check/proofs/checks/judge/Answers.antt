@@ -7,12 +7,20 @@ use Rattle.nl_check.proofs.JudgedCheckpoints.{judged}
 use Rattle.nl_check.proofs.checks.judge.Goals as goal
 
 pub walk_checkpoint-requires-clause-none_told : goal.walk_checkpoint-requires-clause-none_told
-walk_checkpoint-requires-clause-none_told g c = c.clear_kinds.ensures.none (g.V.VRead.pages c.args.store.now) (root_of c.in-Some.root)
+walk_checkpoint-requires-clause-none_told g c =
+    c.clear_kinds.ensures.none (g.V.VRead.pages c.args.store.now) (root_of c.in-Some.root)
 
 pub returns-clause-yes : goal.returns-clause-yes
 returns-clause-yes g c =
     let pages = g.V.VRead.pages c.args.store.now in
-    let walked = subst (λ (o : Option Walk). IfSome o (IsWalk pages (root_of c.in-Some.root) c.walk_checkpoint.new.met c.walk_checkpoint.new.kinds)) c.in-Some-2.is c.in_ok-walk.ensures.yes in
-    judged pages (g.V.VRead.periods c.args.store.now) c.args.entry.now c.in-Some.root (sym c.in-Some.is ∙ c.root.ensures)
-    c.walk_checkpoint.new.met c.walk_checkpoint.new.kinds c.in-Some-2.walk c.in_ok-tree.tree c.are_of_periods-periods.result walked
-    c.in_ok-tree.ensures.yes c.in_ok-tree.ensures.no c.are_of_periods-periods.ensures.0 c.are_of_periods-periods.ensures.1
+    let walked =
+    subst (λ (o : Option Walk).
+    IfSome o
+    (IsWalk pages (root_of c.in-Some.root) c.walk_checkpoint.new.met c.walk_checkpoint.new.kinds))
+    c.in-Some-2.is c.in_ok-walk.ensures.yes in
+    judged pages (g.V.VRead.periods c.args.store.now) c.args.entry.now c.in-Some.root
+    (sym c.in-Some.is ∙ c.root.ensures)
+    c.walk_checkpoint.new.met c.walk_checkpoint.new.kinds c.in-Some-2.walk c.in_ok-tree.tree
+    c.are_of_periods-periods.result walked
+    c.in_ok-tree.ensures.yes c.in_ok-tree.ensures.no c.are_of_periods-periods.ensures.0
+    c.are_of_periods-periods.ensures.1

@@ -13,27 +13,40 @@ loop-entry-init g c = record {
   count = refl;
   within = c.requires.within;
   kinds = c.requires.kinds;
-  judged = judged-none (g.V.VRead.pages c.args.store.now) (g.V.VRead.periods c.args.store.now) c.args.kept.now;
+  judged =
+      judged-none (g.V.VRead.pages c.args.store.now) (g.V.VRead.periods c.args.store.now) c.args.kept.now;
 }
 
 pub returns-in_default-clause-fault : goal.returns-in_default-clause-fault
 returns-in_default-clause-fault g c =
-    shape-fails (g.V.VRead.pages c.args.store.now) (g.V.VRead.periods c.args.store.now) c.args.kept.now c.loop-entry.entry-index c.entry-item.result
-    (slice_get_read c.args.kept.now (length c.args.kept.now) c.loop-entry.entry-index c.entry-item.result refl c.loop-entry-test.true c.entry-item.is)
+    shape-fails (g.V.VRead.pages c.args.store.now)
+    (g.V.VRead.periods c.args.store.now) c.args.kept.now c.loop-entry.entry-index c.entry-item.result
+    (slice_get_read c.args.kept.now
+    (length c.args.kept.now) c.loop-entry.entry-index c.entry-item.result refl c.loop-entry-test.true
+    c.entry-item.is)
     (c.in_ok-judged.ensures.no (ap Ok (none-from c.in_ok-judged.field-0 c.in_default.not-Some)))
 
 pub loop-entry-preserved : goal.loop-entry-preserved
 loop-entry-preserved g c =
     let pages = g.V.VRead.pages c.args.store.now in
     let periods = g.V.VRead.periods c.args.store.now in
-    let judged = subst (λ (o : Option Judged). IfSome o (IsJudged pages periods (told c.entry-item.result))) c.in-Some.is c.in_ok-judged.ensures.yes in
+    let judged =
+    subst (λ (o : Option Judged). IfSome o (IsJudged pages periods (told c.entry-item.result)))
+    c.in-Some.is c.in_ok-judged.ensures.yes in
     record {
       count = c.judge.ensures.count ∙ c.loop-entry.invariant.count;
-      within = λ v s. let low = c.loop-entry.invariant.within v s in let same = c.judge.ensures.count in omega (arith, low, same);
+      within = λ v s.
+          let low = c.loop-entry.invariant.within v s in
+          let same = c.judge.ensures.count in
+          omega (arith, low, same);
       kinds = c.judge.ensures.kinds;
-      judged = judged-more pages periods c.args.kept.now c.loop-entry.entry-index c.entry-item.result c.loop-entry.trees c.loop-entry.periods
+      judged =
+          judged-more pages periods c.args.kept.now c.loop-entry.entry-index c.entry-item.result
+          c.loop-entry.trees c.loop-entry.periods
           c.both-trees.result c.both-periods.result c.in-Some.judged c.loop-entry.invariant.judged
-          (slice_get_read c.args.kept.now (length c.args.kept.now) c.loop-entry.entry-index c.entry-item.result refl c.loop-entry-test.true c.entry-item.is)
+          (slice_get_read c.args.kept.now
+          (length c.args.kept.now) c.loop-entry.entry-index c.entry-item.result refl c.loop-entry-test.true
+          c.entry-item.is)
           judged c.both-trees.ensures c.both-periods.ensures;
     }
 
@@ -42,4 +55,5 @@ returns-clause-fault g c =
     let pages = g.V.VRead.pages c.args.store.now in
     let periods = g.V.VRead.periods c.args.store.now in
     subst (FirstFault pages periods (map told c.args.kept.now)) (sym c.fault_of.ensures)
-    (judged-all pages periods c.args.kept.now c.loop-entry.entry-index c.loop-entry.trees c.loop-entry.periods c.loop-entry-test.false c.loop-entry.invariant.judged)
+    (judged-all pages periods c.args.kept.now c.loop-entry.entry-index c.loop-entry.trees c.loop-entry.periods
+    c.loop-entry-test.false c.loop-entry.invariant.judged)

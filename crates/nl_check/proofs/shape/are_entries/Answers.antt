@@ -8,7 +8,8 @@ pub returns-then-is_none : goal.returns-then-is_none
 returns-then-is_none c = (
   λ t. cc,
   λ each. absurd (not-spelled c.args.page.now c.loop-place.place c.entry_in.result c.entry_in.ensures
-      (none-by_none c.entry_in.result c.is_none.result c.is_none.ensures c.if-is_none.true) (each c.loop-place.place c.loop-place-test.true)),
+      (none-by_none c.entry_in.result c.is_none.result c.is_none.ensures c.if-is_none.true)
+      (each c.loop-place.place c.loop-place-test.true)),
 )
 
 pub loop-place-preserved : goal.loop-place-preserved
@@ -18,4 +19,5 @@ loop-place-preserved c =
     (read-spelled c.args.page.now c.loop-place.place c.entry_in.result e.0 c.entry_in.ensures e.1)
 
 pub returns : goal.returns
-returns c = (λ t place low. c.loop-place.invariant place (omega (arith, low, c.loop-place-test.false)), λ each. refl)
+returns c =
+    (λ t place low. c.loop-place.invariant place (omega (arith, low, c.loop-place-test.false)), λ each. refl)

@@ -11,4 +11,5 @@ returns-then-is_some-clause-yes c = λ t.
 pub loop-place-preserved : goal.loop-place-preserved
 loop-place-preserved c =
     below-more (λ (p : ℕ). inode_in c.args.page.now p ≡ None) c.loop-place.place c.loop-place.invariant
-    (sym c.inode_at_place.ensures ∙ none-by c.inode_at_place.result (sym c.is_some.ensures ∙ c.if-is_some.false))
+    (sym c.inode_at_place.ensures
+    ∙ none-by c.inode_at_place.result (sym c.is_some.ensures ∙ c.if-is_some.false))

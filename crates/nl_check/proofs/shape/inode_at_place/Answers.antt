@@ -7,7 +7,8 @@ use Rattle.nl_check.proofs.shape.inode_at_place.Goals as goal
 pub returns-in_err-entry_in : goal.returns-in_err-entry_in
 returns-in_err-entry_in c =
     c.from_residual.ensures
-    ∙ sym (entry-inode c.args.page.now c.args.place c.entry_in.result c.entry_in.ensures ∙ ap (option_and_then in_use) c.in_err-entry_in.was)
+    ∙ sym (entry-inode c.args.page.now c.args.place c.entry_in.result c.entry_in.ensures
+    ∙ ap (option_and_then in_use) c.in_err-entry_in.was)
 
 pub returns-in-Free : goal.returns-in-Free
 returns-in-Free c =

@@ -6,7 +6,9 @@ use Rattle.nl_check.proofs.shape.is_inode_block.Goals as goal
 pub returns-then-are_entries : goal.returns-then-are_entries
 returns-then-are_entries c =
     let len : length c.args.page.now ≡ 1024 = ap length (sym c.bytes-block.ensures) ∙ c.if-prove.false in (
-      λ t. let some = c.has_inode.ensures.yes t in block-yes c.args.page.now len (c.are_entries.ensures.0 c.if-are_entries.true) some.0 some.1 some.2,
+      λ t.
+          let some = c.has_inode.ensures.yes t in
+          block-yes c.args.page.now len (c.are_entries.ensures.0 c.if-are_entries.true) some.0 some.1 some.2,
       λ is. by c.has_inode.result (λ e. absurd (block-used c.args.page.now is (c.has_inode.ensures.no e))),
     )
   where

@@ -11,6 +11,7 @@ invariant-loop-place g l =
       count : length l.met ≡ length l.initial.met;
       within : (v : ℕ) → IsSome (pages v) → v < length l.met;
       kinds : length l.kinds ≡ 524288;
-      known : (root : Root) → page_at pages root l.index ≡ Some l.page → AreKnown pages root (8 * l.index) l.initial.met l.initial.kinds l.fn.sound
+      known : (root : Root) → page_at pages root l.index ≡ Some l.page
+          → AreKnown pages root (8 * l.index) l.initial.met l.initial.kinds l.fn.sound
           → AreKnown pages root (8 * l.index + l.place) l.met l.kinds l.are_sound;
     }

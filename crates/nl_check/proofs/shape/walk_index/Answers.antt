@@ -8,7 +8,9 @@ use Rattle.nl_check.proofs.shape.walk_index.Goals as goal
 pub returns-in_ok-found-in-Some-clause-yes : goal.returns-in_ok-found-in-Some-clause-yes
 returns-in_ok-found-in-Some-clause-yes g c =
     let pages : Pages = g.V.VRead.pages c.args.store.now in
-    some-both c.in_ok-found-in-Some.found c.in_ok-found-in-Some.ensures.yes c.in_ok-found-in-Some.ensures.block (λ now known block root at k.
+    some-both c.in_ok-found-in-Some.found c.in_ok-found-in-Some.ensures.yes
+    c.in_ok-found-in-Some.ensures.block
+    (λ now known block root at k.
     let there = sym at ∙ ap option_copied c.in-Some.is in
     (known root there k, block-of-page pages root c.args.index c.in-Some.page.now there block))
 
@@ -19,5 +21,7 @@ returns-in_ok-found-in-Some-clause-no g c = λ none root at k s.
 pub returns-in-None-clause-yes : goal.returns-in-None-clause-yes
 returns-in-None-clause-yes g c = λ root at k.
     let pages : Pages = g.V.VRead.pages c.args.store.now in
-    let none = sym (ap option_copied c.in-None.is) ∙ at in
-    (known-hole pages root c.args.index c.args.met.now c.args.kinds.now c.args.sound none k, block-of-hole pages root c.args.index (sym none))
+    let none = sym (ap option_copied c.in-None.is) ∙ at in (
+      known-hole pages root c.args.index c.args.met.now c.args.kinds.now c.args.sound none k,
+      block-of-hole pages root c.args.index (sym none),
+    )

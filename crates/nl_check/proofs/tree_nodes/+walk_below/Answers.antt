@@ -12,13 +12,15 @@ none-from (Some v) h = absurd (h v refl)
 
 pub returns-then-not-meet-clause-no : goal.returns-then-not-meet-clause-no
 returns-then-not-meet-clause-no g t c = λ height top low stands can.
-    no-block-there (g.V.VRead.pages c.args.store.now) height top c.args.level c.args.offset c.args.number c.args.met.now
+    no-block-there
+    (g.V.VRead.pages c.args.store.now) height top c.args.level c.args.offset c.args.number c.args.met.now
     stands
     (c.meet.ensures.no c.if-not-meet.true) can
 
 pub returns-then-level-eq0-clause-yes : goal.returns-then-level-eq0-clause-yes
 returns-then-level-eq0-clause-yes g t c = λ height top low stands.
-    met-data (g.V.VRead.pages c.args.store.now) height top c.args.level c.args.offset c.args.number c.args.met.now
+    met-data
+    (g.V.VRead.pages c.args.store.now) height top c.args.level c.args.offset c.args.number c.args.met.now
     c.meet.new.met c.if-level-eq0.true stands
     (c.meet.ensures.yes c.if-not-meet.false)
 
@@ -37,7 +39,8 @@ walk_below-requires g t c κs within = (
       c.loop-slot.invariant.within,
       (
         omega arith,
-        lower-offset c.args.level c.args.offset c.loop-slot.slot c.requires.level c.if-level-eq0.false c.requires.offset
+        lower-offset c.args.level c.args.offset c.loop-slot.slot c.requires.level c.if-level-eq0.false
+            c.requires.offset
             c.loop-slot-test.true,
       ),
     ),
@@ -45,7 +48,8 @@ walk_below-requires g t c κs within = (
 )
 
 pub returns-in_err-walk_below-clause-no : goal.returns-in_err-walk_below-clause-no
-returns-in_err-walk_below-clause-no g t c = rw c.from_residual-in_err-walk_below.ensures (λ height top low stands can.
+returns-in_err-walk_below-clause-no g t c =
+    rw c.from_residual-in_err-walk_below.ensures (λ height top low stands can.
     let pages : Pages = g.V.VRead.pages c.args.store.now in
     let e : c.args.level ≡ suc (c.args.level - 1) = omega arith in
     let stored : pages c.args.number ≡ Some c.in_ok-page.page.now = sym c.page.ensures
@@ -54,7 +58,8 @@ returns-in_err-walk_below-clause-no g t c = rw c.from_residual-in_err-walk_below
     (slot-child pages height top c.args.level (c.args.level - 1) c.args.offset c.args.number c.loop-slot.slot
     c.in_ok-page.page.now e low stands stored c.loop-slot-test.true
     ∙ sym c.in-Some.ensures)
-    (child-can-be-met pages height top c.args.level (c.args.level - 1) c.args.offset c.args.number e stands c.args.met.now
+    (child-can-be-met pages height top c.args.level
+    (c.args.level - 1) c.args.offset c.args.number e stands c.args.met.now
     c.meet.new.met c.loop-slot.met
     c.loop-slot.slot c.loop-slot.count c.loop-slot-test.true (c.meet.ensures.yes c.if-not-meet.false)
     (c.loop-slot.invariant.walked height top low stands) can))
@@ -79,7 +84,8 @@ loop-slot-preserved g t c =
             c.meet.new.met c.loop-slot.met w.walk_below.new.met c.loop-slot.count w.in_ok-walk_below.field-0
             (c.loop-slot.invariant.walked height top low stands)
             (w.in_ok-walk_below.ensures.yes height top (omega (arith, low))
-            (slot-child pages height top c.args.level (c.args.level - 1) c.args.offset c.args.number c.loop-slot.slot
+            (slot-child pages height top c.args.level
+            (c.args.level - 1) c.args.offset c.args.number c.loop-slot.slot
             c.in_ok-page.page.now e low stands stored
             c.loop-slot-test.true ∙ sym w.in-Some.ensures)));
       }
@@ -87,11 +93,14 @@ loop-slot-preserved g t c =
         within = λ v s. let low = c.loop-slot.invariant.within v s in let same = ap length w.met-is in
             omega (arith, low, same);
         same_count = let before = c.loop-slot.invariant.same_count in ap length w.met-is ∙ before;
-        small = subst (λ (count : Option ℕ). IfSome count (λ n. n < 2 ^ 50)) (sym w.count-is) c.loop-slot.invariant.small;
+        small =
+            subst (λ (count : Option ℕ). IfSome count (λ n. n < 2 ^ 50))
+            (sym w.count-is) c.loop-slot.invariant.small;
         walked = λ height top low stands.
             rw (w.met-is, w.count-is) (next-none pages height top c.args.level
             (c.args.level - 1) c.args.offset c.args.number e stands c.loop-slot.slot
-            c.in_ok-page.page.now c.meet.new.met c.loop-slot.met c.loop-slot.count low stored c.loop-slot-test.true
+            c.in_ok-page.page.now c.meet.new.met c.loop-slot.met c.loop-slot.count low stored
+            c.loop-slot-test.true
             (sym c.slot_in.ensures ∙ none-from c.slot_in.result w.in_default.not-Some)
             (c.loop-slot.invariant.walked height top low stands));
       }
@@ -100,13 +109,16 @@ loop-slot-preserved g t c =
 pub returns-clause-yes : goal.returns-clause-yes
 returns-clause-yes g t c =
     let all : c.loop-slot.slot ≡ 128 = omega (arith, c.loop-slot-test.false, c.loop-slot.auto.slot-end) in
-    node-yes (g.V.VRead.pages c.args.store.now) c.args.level c.args.offset c.args.number c.loop-slot.slot c.args.met.now
+    node-yes (g.V.VRead.pages c.args.store.now) c.args.level c.args.offset c.args.number c.loop-slot.slot
+    c.args.met.now
     c.meet.new.met c.loop-slot.met
-    c.if-level-eq0.false all (c.meet.ensures.yes c.if-not-meet.false) c.loop-slot.count c.loop-slot.invariant.walked
+    c.if-level-eq0.false all
+    (c.meet.ensures.yes c.if-not-meet.false) c.loop-slot.count c.loop-slot.invariant.walked
 
 pub returns-clause-no : goal.returns-clause-no
 returns-clause-no g t c =
     let all : c.loop-slot.slot ≡ 128 = omega (arith, c.loop-slot-test.false, c.loop-slot.auto.slot-end) in
-    node-no (g.V.VRead.pages c.args.store.now) c.args.level c.args.offset c.args.number c.loop-slot.slot c.args.met.now
+    node-no (g.V.VRead.pages c.args.store.now) c.args.level c.args.offset c.args.number c.loop-slot.slot
+    c.args.met.now
     c.meet.new.met c.loop-slot.met
     c.if-level-eq0.false all c.loop-slot.count c.loop-slot.invariant.walked

@@ -13,7 +13,8 @@ returns-then-height-eq0-clause-no g c = λ can.
     elim c.then-height-eq0.branch [
       | then-height-eq0-via-then-height-eq0 w ↦ no-level pages c.args.height c.args.top c.args.met.now
           (sym c.get-height.ensures.value ∙ w.if-height-eq0.true) can
-      | then-height-eq0-via-else-height-eq0+then-get-eq0 w ↦ no-tree-top pages c.args.height c.args.top c.args.met.now
+      | then-height-eq0-via-else-height-eq0+then-get-eq0 w ↦
+          no-tree-top pages c.args.height c.args.top c.args.met.now
           (sym w.get.ensures ∙ w.if-get-eq0.true) can
     ]
 
@@ -39,7 +40,8 @@ returns-then-count-indexes_below-clause-no g c = λ can.
     (sym c.get-height.ensures.value) can in
     let few : c.in_ok-count.count ≤ 128 ^ (height - 1) = omega
     (arith, c.if-count-indexes_below.true, c.indexes_below.ensures) in
-    no-lower-tree pages height (height - 1) c.args.top c.in_ok-count.count c.args.met.now c.walk_below.new.met (omega
+    no-lower-tree pages height (height - 1) c.args.top c.in_ok-count.count c.args.met.now c.walk_below.new.met
+    (omega
     (arith, c.if-height-gt1.true)) (omega (arith, c.if-height-gt1.true)) few
     (c.in_ok-count.ensures.yes height c.args.top (omega arith) (top-place pages height c.args.top
     (λ e. c.if-get-eq0.false (c.get.ensures ∙ e)))) here
@@ -49,13 +51,16 @@ returns-clause-yes g c =
     let pages : Pages = g.V.VRead.pages c.args.store.now in
     let height : ℕ = c.get-height.result in
     let some = λ (e : c.args.top ≡ 0). c.if-get-eq0.false (c.get.ensures ∙ e) in
-    let many : 1 ≤ height - 1 → 128 ^ (height - 1) < c.in_ok-count.count = λ one. elim c.else-height-gt1.branch [
+    let many : 1 ≤ height - 1 → 128 ^ (height - 1) < c.in_ok-count.count = λ one.
+    elim c.else-height-gt1.branch [
       | else-height-gt1-via-then-height-gt1+else-count-indexes_below w ↦ omega
           (arith, w.if-count-indexes_below.false, w.indexes_below.ensures)
       | else-height-gt1-via-else-height-gt1 w ↦ absurd (omega (arith, one, w.if-height-gt1.false))
     ] in
-    subst (λ (h : ℕ). IsWalked pages (Tree h c.args.top) c.args.met.now c.walk_below.new.met c.in_ok-count.count)
+    subst
+    (λ (h : ℕ). IsWalked pages (Tree h c.args.top) c.args.met.now c.walk_below.new.met c.in_ok-count.count)
     c.get-height.ensures.value
-    (walked-tree pages height (height - 1) c.args.top c.in_ok-count.count c.args.met.now c.walk_below.new.met (omega
+    (walked-tree pages height (height - 1) c.args.top c.in_ok-count.count c.args.met.now c.walk_below.new.met
+    (omega
     (arith, c.if-height-eq0.false)) some many
     (c.in_ok-count.ensures.yes height c.args.top (omega arith) (top-place pages height c.args.top some)))

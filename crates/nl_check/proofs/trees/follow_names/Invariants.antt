@@ -6,7 +6,8 @@ use Rattle.nl_check.proofs.trees.follow_names.Given as goal
 abbrev pub invariant-loop-turn : goal.invariant-loop-turn
 invariant-loop-turn g l = record {
   within : l.turn ≤ length l.queue.items;
-  naming : (held : Holding) → g.T.TreeRead.holds l.tree held → IsHolding held → IsNaming held (2 ∷ []) 0 0 l.initial.awaited
+  naming : (held : Holding) → g.T.TreeRead.holds l.tree held → IsHolding held
+      → IsNaming held (2 ∷ []) 0 0 l.initial.awaited
       → IsNaming held l.queue.items l.turn 0 l.awaited;
 }
 

@@ -8,7 +8,8 @@ abbrev pub invariant-loop-slot : goal.invariant-loop-slot
 invariant-loop-slot g l = record {
   within : (v : ℕ) → IsSome (g.V.VRead.pages l.store v) → v < length l.met;
   fewer : unmet l.met ≤ unmet l.initial.met;
-  walked : (root : Root) (p : ℕ) (old : List Bool) → kind_of root ≢ OfTree → IsNode (g.V.VRead.pages l.store) root p l.page
+  walked : (root : Root) (p : ℕ) (old : List Bool) → kind_of root ≢ OfTree
+      → IsNode (g.V.VRead.pages l.store) root p l.page
       → HasMet (g.V.VRead.pages l.store) root (IsVisited (suc p) (127 * p)) old l.initial.met
       → HasMet (g.V.VRead.pages l.store) root (IsVisited (suc p) (127 * p + l.slot)) old l.met;
 }

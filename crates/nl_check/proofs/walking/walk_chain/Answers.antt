@@ -11,7 +11,8 @@ chain top e = cc
 
 pub returns-then-get-eq0-clause-no : goal.returns-then-get-eq0-clause-no
 returns-then-get-eq0-clause-no g c = λ can.
-    no-top (g.V.VRead.pages c.args.store.now) c.args.first c.args.met.now (sym c.get.ensures ∙ c.if-get-eq0.true) can
+    no-top (g.V.VRead.pages c.args.store.now) c.args.first c.args.met.now
+    (sym c.get.ensures ∙ c.if-get-eq0.true) can
 
 pub nodes-init : goal.nodes-init
 nodes-init g c =
@@ -27,8 +28,12 @@ nodes-init g c =
 
 pub returns-in_err-page-clause-no : goal.returns-in_err-page-clause-no
 returns-in_err-page-clause-no g c =
-    subst (λ (o : Option ℕ). IfNone o (CanBeMet (g.V.VRead.pages c.args.store.now) (Chain c.args.first) c.args.met.now → ⊥)) (sym c.from_residual.ensures)
-    (λ can. c.in_err-page.ensures.no (Chain c.args.first) c.nodes.position c.args.met.now (chain c.args.first) c.nodes.invariant.at c.nodes.invariant.walked can)
+    subst (λ (o : Option ℕ).
+    IfNone o (CanBeMet (g.V.VRead.pages c.args.store.now) (Chain c.args.first) c.args.met.now → ⊥))
+    (sym c.from_residual.ensures)
+    (λ can.
+    c.in_err-page.ensures.no (Chain c.args.first) c.nodes.position c.args.met.now
+    (chain c.args.first) c.nodes.invariant.at c.nodes.invariant.walked can)
 
 pub nodes-preserved : goal.nodes-preserved
 nodes-preserved g c =
@@ -36,12 +41,20 @@ nodes-preserved g c =
     let node : IsNode pages (Chain c.args.first) c.nodes.position c.in_ok-page.page.now =
     record { number = c.nodes.number; at = c.nodes.invariant.at; stored = c.in_ok-page.ensures.page } in
     record {
-      within = λ v s. let low = c.nodes.invariant.within v s in omega (arith, low, c.in_ok-page.ensures.count);
-      left = let less = c.in_ok-page.ensures.fewer refl in let before = c.nodes.invariant.left in omega (arith, less, before);
+      within = λ v s.
+          let low = c.nodes.invariant.within v s in omega (arith, low, c.in_ok-page.ensures.count);
+      left =
+          let less = c.in_ok-page.ensures.fewer refl in
+          let before = c.nodes.invariant.left in
+          omega (arith, less, before);
       top = c.nodes.invariant.top;
-      at = next-slot pages (Chain c.args.first) c.nodes.position c.in_ok-page.page.now (chain c.args.first) node ∙ sym c.in-Some.ensures;
+      at =
+          next-slot pages (Chain c.args.first) c.nodes.position c.in_ok-page.page.now
+          (chain c.args.first) node
+          ∙ sym c.in-Some.ensures;
       walked = met-next pages (Chain c.args.first) c.nodes.position c.args.met.now c.meet_node.new.met
-          (c.in_ok-page.ensures.yes refl (Chain c.args.first) c.nodes.position c.args.met.now (chain c.args.first) c.nodes.invariant.at c.nodes.invariant.walked);
+          (c.in_ok-page.ensures.yes refl (Chain c.args.first) c.nodes.position c.args.met.now
+          (chain c.args.first) c.nodes.invariant.at c.nodes.invariant.walked);
     }
 
 pub returns-in-None-clause-yes : goal.returns-in-None-clause-yes
@@ -49,8 +62,11 @@ returns-in-None-clause-yes g c =
     let pages : Pages = g.V.VRead.pages c.args.store.now in
     let node : IsNode pages (Chain c.args.first) c.nodes.position c.in_ok-page.page.now =
     record { number = c.nodes.number; at = c.nodes.invariant.at; stored = c.in_ok-page.ensures.page } in
-    ended-yes pages c.args.first c.nodes.position c.in_ok-page.page.now c.args.met.now c.meet_node.new.met node (sym c.in-None.ensures) c.nodes.invariant.top
-    (c.in_ok-page.ensures.yes refl (Chain c.args.first) c.nodes.position c.args.met.now (chain c.args.first) c.nodes.invariant.at c.nodes.invariant.walked)
+    ended-yes pages c.args.first c.nodes.position c.in_ok-page.page.now c.args.met.now c.meet_node.new.met
+    node
+    (sym c.in-None.ensures) c.nodes.invariant.top
+    (c.in_ok-page.ensures.yes refl (Chain c.args.first) c.nodes.position c.args.met.now
+    (chain c.args.first) c.nodes.invariant.at c.nodes.invariant.walked)
     c.end_of.result c.end_of.ensures.some
 
 pub returns-in-None-clause-no : goal.returns-in-None-clause-no
@@ -58,4 +74,5 @@ returns-in-None-clause-no g c =
     let pages : Pages = g.V.VRead.pages c.args.store.now in
     let node : IsNode pages (Chain c.args.first) c.nodes.position c.in_ok-page.page.now =
     record { number = c.nodes.number; at = c.nodes.invariant.at; stored = c.in_ok-page.ensures.page } in
-    ended-no pages c.args.first c.nodes.position c.in_ok-page.page.now c.args.met.now node (sym c.in-None.ensures) c.end_of.result c.end_of.ensures.none
+    ended-no pages c.args.first c.nodes.position c.in_ok-page.page.now c.args.met.now node
+    (sym c.in-None.ensures) c.end_of.result c.end_of.ensures.none

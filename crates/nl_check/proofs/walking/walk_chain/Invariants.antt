@@ -10,7 +10,8 @@ invariant-nodes g l = record {
   left : l.position + unmet l.met ≤ length l.initial.met;
   top : IsSome (place_at (g.V.VRead.pages l.store) (Chain l.fn.first) 1 0);
   at : place_at (g.V.VRead.pages l.store) (Chain l.fn.first) 1 l.position ≡ Some l.number;
-  walked : HasMet (g.V.VRead.pages l.store) (Chain l.fn.first) (IsVisited l.position (127 * l.position)) l.initial.met l.met;
+  walked : HasMet (g.V.VRead.pages l.store) (Chain l.fn.first)
+      (IsVisited l.position (127 * l.position)) l.initial.met l.met;
 }
 
 abbrev pub decreases-nodes : goal.decreases-nodes

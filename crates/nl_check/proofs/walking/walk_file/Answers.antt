@@ -8,4 +8,5 @@ use Rattle.nl_check.proofs.walking.walk_file.Goals as goal
 pub returns-in-Empty-clause-yes : goal.returns-in-Empty-clause-yes
 returns-in-Empty-clause-yes g c =
     let pages = g.V.VRead.pages c.args.store.now in
-    subst (λ (r : Root). IsWalked pages (root_of r) c.args.met.now c.args.met.now 0) (sym c.in-Empty.is) (walked-empty pages c.args.met.now)
+    subst (λ (r : Root). IsWalked pages (root_of r) c.args.met.now c.args.met.now 0) (sym c.in-Empty.is)
+    (walked-empty pages c.args.met.now)

@@ -6,5 +6,6 @@ use Rattle.nl_cleaner.proofs.planning.candidate.Goals as goal
 pub returns-in-Err : goal.returns-in-Err
 returns-in-Err g c = λ below _.
     candidate-outside c.args.pen.now below c.args.least c.args.segment
-    (no-segment c.args.pen.now.store.segments c.segments.result.now c.args.segment (Err c.in-Err.field-0) c.in-Err.field-0
+    (no-segment c.args.pen.now.store.segments c.segments.result.now c.args.segment
+    (Err c.in-Err.field-0) c.in-Err.field-0
     c.segments.ensures refl c.in-Err.ensures.info)

@@ -6,4 +6,5 @@ use Rattle.nl_cleaner.proofs.planning.candidates.Given as goal
 
 abbrev pub invariant-loop-number : goal.invariant-loop-number
 invariant-loop-number g l =
-    (below : ℕ) → l.needed ≡ counts_after l.pen below → l.found.items ≡ candidates_in (candidate_in l.pen below l.least) l.number
+    (below : ℕ) → l.needed ≡ counts_after l.pen below
+    → l.found.items ≡ candidates_in (candidate_in l.pen below l.least) l.number

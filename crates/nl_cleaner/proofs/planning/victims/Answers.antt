@@ -15,7 +15,10 @@ choose-requires g c =
 pub returns : goal.returns
 returns g c =
     IfOk-weaker c.choose.result (λ v. AreChosen c.args.most c.in_ok-found.found.items v.items)
-    (λ v. (below : ℕ) → c.args.needed.now ≡ counts_after c.args.pen.now below → AreVictims c.args.pen.now below c.args.least c.args.most v.items)
+    (λ v.
+    (below : ℕ) → c.args.needed.now ≡ counts_after c.args.pen.now below
+    → AreVictims c.args.pen.now below c.args.least c.args.most v.items)
     (λ v are. λ below is. are-victims c.args.pen.now below c.args.least c.args.most v.items
-    (subst (λ (found : List Candidate). AreChosen c.args.most found v.items) (c.in_ok-found.ensures below is) are))
+    (subst (λ (found : List Candidate). AreChosen c.args.most found v.items)
+    (c.in_ok-found.ensures below is) are))
     c.choose.ensures

@@ -11,11 +11,14 @@ returns-in_err-given c =
     let own : List Rule = map argument_rule c.arguments_of-arguments.result.now in
     let is : c.from_residual.result ≡ Err c.in_err-given.field-0.0 = search rules in
     refused-read _ (command_given c.args.name) c.in_err-given.field-0.0 c.from_residual.result is
-    (read-by-rules c.args.name c.args.word.now words own _ c.arguments_of-arguments.ensures c.in_err-given.ensures)
+    (read-by-rules c.args.name c.args.word.now words own _ c.arguments_of-arguments.ensures
+    c.in_err-given.ensures)
 
 pub returns : goal.returns
 returns c =
     let words : List Text = map (λ w. w.now) c.args.words.now in
     let own : List Rule = map argument_rule c.arguments_of-arguments.result.now in
     meant-read _ (command_given c.args.name) c.in_ok-given.given c.command_given.result
-    (read-by-rules c.args.name c.args.word.now words own _ c.arguments_of-arguments.ensures c.in_ok-given.ensures) c.command_given.ensures
+    (read-by-rules c.args.name c.args.word.now words own _ c.arguments_of-arguments.ensures
+    c.in_ok-given.ensures)
+    c.command_given.ensures

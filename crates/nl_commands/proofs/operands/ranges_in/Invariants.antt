@@ -7,4 +7,5 @@ use Rattle.nl_commands.proofs.operands.ranges_in.Given as goal
 -- the items so far, and those of the words that are left, are those of all words
 abbrev pub invariant-loop-word : goal.invariant-loop-word
 invariant-loop-word l =
-    each_in range_in (map (λ w. w.now) l.words) ≡ behind l.ranges (each_in range_in (map (λ w. w.now) (drop l.word-index l.words)))
+    each_in range_in (map (λ w. w.now) l.words)
+    ≡ behind l.ranges (each_in range_in (map (λ w. w.now) (drop l.word-index l.words)))

@@ -11,9 +11,20 @@ pub loop-rest-preserved : goal.loop-rest-preserved
 loop-rest-preserved c =
     let before = c.loop-rest.invariant.1 in
     let some : c.loop-rest.rest.now ≢ [] = holds_something c.loop-rest.rest.now c.loop-rest-test.ensures in
-    let pushed = BeginsWith-push c.args.line.now (bytes_of c.loop-rest.words.items) before.0 c.loop-rest.rest.now c.in-Some.behind.now c.in-Some.word.now before.1 before.2 some c.in-Some.ensures in
-    let more = ap bytes_of c.in_ok-push.ensures.items ∙ map-append (λ w. w.now) c.loop-rest.words.items (c.in-Some.word ∷ []) in
-    (search, (c.in-Some.behind.now, subst (λ words. BeginsWith c.args.line.now words c.in-Some.behind.now) (sym more) pushed, c.trimmed-rest-in-loop-rest.ensures))
+    let pushed =
+    BeginsWith-push c.args.line.now
+    (bytes_of c.loop-rest.words.items) before.0 c.loop-rest.rest.now c.in-Some.behind.now
+    c.in-Some.word.now before.1 before.2 some c.in-Some.ensures in
+    let more =
+    ap bytes_of c.in_ok-push.ensures.items
+    ∙ map-append (λ w. w.now) c.loop-rest.words.items (c.in-Some.word ∷ []) in (
+      search,
+      (
+        c.in-Some.behind.now,
+        subst (λ words. BeginsWith c.args.line.now words c.in-Some.behind.now) (sym more) pushed,
+        c.trimmed-rest-in-loop-rest.ensures,
+      ),
+    )
 
 pub returns-clause-words : goal.returns-clause-words
 returns-clause-words c =

@@ -9,5 +9,6 @@ pub returns-clause-counts : goal.returns-clause-counts
 returns-clause-counts g c =
     let table = c.args.kept.now.table in
     let stay = staying_numbers c.args.below (rows table) in
-    counts-left c.after.result (g.V.Vstore.store c.args.store.now) c.args.needed.now (is_period_needed stay) _ _ (kept_numbers (all table)) stay
+    counts-left c.after.result (g.V.Vstore.store c.args.store.now) c.args.needed.now
+    (is_period_needed stay) _ _ (kept_numbers (all table)) stay
     c.after.ensures.counts c.requires.needed c.expiring_run-gone.ensures.run (λ p. refl)

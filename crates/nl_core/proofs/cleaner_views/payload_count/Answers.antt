@@ -6,4 +6,5 @@ pub returns-in-Err : goal.returns-in-Err
 returns-in-Err g c =
     let store = g.V.Vstore.store c.args.store.now in
     payload-outside store c.args.segment
-    (no-segment store.segments c.table.result.now c.args.segment (Err c.in-Err.field-0) c.in-Err.field-0 c.table.ensures refl c.in-Err.ensures.info)
+    (no-segment store.segments c.table.result.now c.args.segment
+    (Err c.in-Err.field-0) c.in-Err.field-0 c.table.ensures refl c.in-Err.ensures.info)

@@ -11,8 +11,11 @@ returns-in_err-count-clause-does g c =
     let l = c.args.tables.now.lists in
     let old = g.V.Vstore.store c.args.store.now in
     rw (p.1, p.2)
-    (does-not-retired l old old c.args.segment c.requires.pen c.requires.pen.sound.store (omega arith) c.in_err-count.field-0.0
-    (told-none old (needed_by l) c.args.segment c.in_err-count.field-0.0 (c.in_err-count.ensures.needed old (kept_numbers l) c.requires.counts)).1 refl)
+    (does-not-retired l old old c.args.segment c.requires.pen c.requires.pen.sound.store
+    (omega arith) c.in_err-count.field-0.0
+    (told-none old (needed_by l) c.args.segment c.in_err-count.field-0.0
+    (c.in_err-count.ensures.needed old (kept_numbers l) c.requires.counts)).1
+    refl)
 
 pub returns-in_err-freed-clause-does : goal.returns-in_err-freed-clause-does
 returns-in_err-freed-clause-does g c =
@@ -21,21 +24,34 @@ returns-in_err-freed-clause-does g c =
     let old = g.V.Vstore.store c.args.store.now in
     let new = g.V.Vstore.store c.retire.new.store in
     rw (p.1, p.2)
-    (does-not-retired l old new c.args.segment c.requires.pen (g.met.V.Vstore.is_store c.retire.new.store) c.retire.ensures.counted c.in_err-freed.field-0.0
-    (judged old l c.args.segment c.in_ok-count.count (c.in_ok-count.ensures.needed old (kept_numbers l) c.requires.counts) ∙ sym c.in_err-freed.ensures.answers) c.in_err-freed.ensures.same)
+    (does-not-retired l old new c.args.segment c.requires.pen
+    (g.met.V.Vstore.is_store c.retire.new.store) c.retire.ensures.counted c.in_err-freed.field-0.0
+    (judged old l c.args.segment c.in_ok-count.count
+    (c.in_ok-count.ensures.needed old (kept_numbers l) c.requires.counts)
+    ∙ sym c.in_err-freed.ensures.answers)
+    c.in_err-freed.ensures.same)
 
 pub returns-clause-does : goal.returns-clause-does
 returns-clause-does g c =
     let l = c.args.tables.now.lists in
     let old = g.V.Vstore.store c.args.store.now in
     let new = g.V.Vstore.store c.retire.new.store in
-    does-retired l old new c.args.segment c.requires.pen (g.met.V.Vstore.is_store c.retire.new.store) c.retire.ensures.counted c.in_ok-freed.freed
-    (judged old l c.args.segment c.in_ok-count.count (c.in_ok-count.ensures.needed old (kept_numbers l) c.requires.counts) ∙ sym c.in_ok-freed.ensures.answers) c.in_ok-freed.ensures.freed
+    does-retired l old new c.args.segment c.requires.pen
+    (g.met.V.Vstore.is_store c.retire.new.store) c.retire.ensures.counted c.in_ok-freed.freed
+    (judged old l c.args.segment c.in_ok-count.count
+    (c.in_ok-count.ensures.needed old (kept_numbers l) c.requires.counts)
+    ∙ sym c.in_ok-freed.ensures.answers)
+    c.in_ok-freed.ensures.freed
 
 pub returns-clause-needed : goal.returns-clause-needed
 returns-clause-needed g c =
     let l = c.args.tables.now.lists in
     let old = g.V.Vstore.store c.args.store.now in
     let new = g.V.Vstore.store c.retire.new.store in
-    retired-counts l old new c.args.segment c.args.needed.now c.requires.pen (g.met.V.Vstore.is_store c.retire.new.store) c.requires.counts
-    c.counts_stay.ensures.retired c.in_ok-freed.freed (judged old l c.args.segment c.in_ok-count.count (c.in_ok-count.ensures.needed old (kept_numbers l) c.requires.counts) ∙ sym c.in_ok-freed.ensures.answers) c.in_ok-freed.ensures.freed
+    retired-counts l old new c.args.segment c.args.needed.now c.requires.pen
+    (g.met.V.Vstore.is_store c.retire.new.store) c.requires.counts
+    c.counts_stay.ensures.retired c.in_ok-freed.freed
+    (judged old l c.args.segment c.in_ok-count.count
+    (c.in_ok-count.ensures.needed old (kept_numbers l) c.requires.counts)
+    ∙ sym c.in_ok-freed.ensures.answers)
+    c.in_ok-freed.ensures.freed

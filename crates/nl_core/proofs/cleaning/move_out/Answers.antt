@@ -17,8 +17,10 @@ returns-in_err-listed-clause-does g c =
     let l = c.args.tables.now.lists in
     let s = g.V.Vstore.store c.args.store.now in
     rw (p.1, p.2)
-    (does-not-moved l s s c.args.segment c.args.limit c.args.now c.requires.pen c.requires.pen.sound.store (omega arith) c.in_err-listed.field-0.0
-    (not-listed l s c.args.segment c.args.limit c.args.now c.in_err-listed.field-0.0 c.in_err-listed.ensures.refused))
+    (does-not-moved l s s c.args.segment c.args.limit c.args.now c.requires.pen c.requires.pen.sound.store
+    (omega arith) c.in_err-listed.field-0.0
+    (not-listed l s c.args.segment c.args.limit c.args.now c.in_err-listed.field-0.0
+    c.in_err-listed.ensures.refused))
 
 pub returns-then-is_empty-clause-does : goal.returns-then-is_empty-clause-does
 returns-then-is_empty-clause-does g c =
@@ -27,7 +29,8 @@ returns-then-is_empty-clause-does g c =
     let listed = c.in_ok-listed.listed in
     let none = eqb-true (length c.as_slice.result.now) 0 (sym c.is_empty.ensures ∙ c.if-is_empty.true) in
     does-idle l s c.args.segment c.args.limit c.args.now listed.count listed.first.items c.requires.pen
-    (listed-first l s c.args.segment c.args.limit listed.count listed.first.items c.in_ok-listed.ensures.listed)
+    (listed-first l s c.args.segment c.args.limit listed.count listed.first.items
+    c.in_ok-listed.ensures.listed)
     (sym (ap length c.as_slice.ensures.value) ∙ none)
 
 pub returns-in_err-minor-clause-does : goal.returns-in_err-minor-clause-does
@@ -37,19 +40,29 @@ returns-in_err-minor-clause-does g c =
     let s = g.V.Vstore.store c.args.store.now in
     let listed = c.in_ok-listed.listed in
     let e = c.in_err-minor.field-0.0 in
-    let other : length c.as_slice.result.now ≢ 0 = eqb-false (length c.as_slice.result.now) 0 (sym c.is_empty.ensures ∙ c.if-is_empty.false) in
-    let same : length c.as_slice.result.now ≡ length listed.first.items = ap length c.as_slice.ensures.value in
+    let other : length c.as_slice.result.now ≢ 0 =
+    eqb-false (length c.as_slice.result.now) 0 (sym c.is_empty.ensures ∙ c.if-is_empty.false) in
+    let same : length c.as_slice.result.now ≡ length listed.first.items =
+    ap length c.as_slice.ensures.value in
     let some : 0 < length listed.first.items = omega (arith, other, same) in
     rw (p.1, p.2)
-    (subst (λ (after : Lists). Does unshared (layout_of l s) (Move c.args.segment c.args.limit c.args.now) (Err e) (layout_of after s)) (sym c.draft_minor.ensures.same)
-    (does-not-moved l s s c.args.segment c.args.limit c.args.now c.requires.pen c.requires.pen.sound.store (omega arith) e
+    (subst (λ (after : Lists).
+    Does unshared (layout_of l s) (Move c.args.segment c.args.limit c.args.now) (Err e) (layout_of after s))
+    (sym c.draft_minor.ensures.same)
+    (does-not-moved l s s c.args.segment c.args.limit c.args.now c.requires.pen c.requires.pen.sound.store
+    (omega arith) e
     (not-drafted l s s c.args.segment c.args.limit c.args.now listed.count listed.first.items
-    (listed-first l s c.args.segment c.args.limit listed.count listed.first.items c.in_ok-listed.ensures.listed) e some refl c.in_err-minor.ensures.refused)))
+    (listed-first l s c.args.segment c.args.limit listed.count listed.first.items
+    c.in_ok-listed.ensures.listed)
+    e some refl c.in_err-minor.ensures.refused)))
 
 pub move_with_minor-requires-clause-listed : goal.move_with_minor-requires-clause-listed
 move_with_minor-requires-clause-listed g c =
     let l = c.args.tables.now.lists in
     let s = g.V.Vstore.store c.args.store.now in
     let listed = c.in_ok-listed.listed in
-    subst (λ (after : Lists). HasListedFirst (needed_by after) c.args.segment c.args.limit s listed.first.items listed.count) (sym c.draft_minor.ensures.same)
-    (listed-first l s c.args.segment c.args.limit listed.count listed.first.items c.in_ok-listed.ensures.listed)
+    subst (λ (after : Lists).
+    HasListedFirst (needed_by after) c.args.segment c.args.limit s listed.first.items listed.count)
+    (sym c.draft_minor.ensures.same)
+    (listed-first l s c.args.segment c.args.limit listed.count listed.first.items
+    c.in_ok-listed.ensures.listed)

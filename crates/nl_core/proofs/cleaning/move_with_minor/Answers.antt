@@ -20,16 +20,21 @@ returns-in_err-count-clause-does g c =
     let new = g.V.Vstore.store c.move_listed.new.store in
     let listed = c.args.listed.now in
     rw (p.1, p.2)
-    (does-not-moved l old new c.args.segment c.args.limit c.args.now c.requires.pen.pen (g.met.V.Vstore.is_store c.move_listed.new.store) c.move_listed.ensures.counted
+    (does-not-moved l old new c.args.segment c.args.limit c.args.now c.requires.pen.pen
+    (g.met.V.Vstore.is_store c.move_listed.new.store) c.move_listed.ensures.counted
     c.in_err-count.field-0.0
-    (not-moved l old new c.args.segment c.args.limit c.args.now listed.count listed.first.items c.requires.listed c.args.minor.now.number c.in_err-count.field-0.0
+    (not-moved l old new c.args.segment c.args.limit c.args.now listed.count listed.first.items
+    c.requires.listed c.args.minor.now.number c.in_err-count.field-0.0
     c.requires.left (ap (λ (m : Checkpoint). m.number) c.requires.minor) c.in_err-count.ensures.refused))
 
 pub returns-in_err-count-clause-needed : goal.returns-in_err-count-clause-needed
 returns-in_err-count-clause-needed g c =
-    c.refusals_keep_counts.ensures.moved c.args.minor.now.number c.args.now c.args.listed.now.first.items c.in_err-count.field-0.0
-    (kept_numbers c.args.tables.now.lists) c.args.needed.now (g.V.Vstore.store c.args.store.now) (g.V.Vstore.store c.move_listed.new.store)
-    c.requires.pen.pen.sound.store (g.met.V.Vstore.is_store c.move_listed.new.store) c.in_err-count.ensures.refused c.requires.pen.counts
+    c.refusals_keep_counts.ensures.moved c.args.minor.now.number c.args.now c.args.listed.now.first.items
+    c.in_err-count.field-0.0
+    (kept_numbers c.args.tables.now.lists) c.args.needed.now (g.V.Vstore.store c.args.store.now)
+    (g.V.Vstore.store c.move_listed.new.store)
+    c.requires.pen.pen.sound.store
+    (g.met.V.Vstore.is_store c.move_listed.new.store) c.in_err-count.ensures.refused c.requires.pen.counts
 
 pub moved-requires : goal.moved-requires
 moved-requires g c =
@@ -40,7 +45,8 @@ moved-requires g c =
       kept_numbers l,
       c.requires.pen.counts,
       moved-needed c.first_needed_stand_there.ensures l old (g.V.Vstore.store c.move_listed.new.store)
-          c.args.segment c.args.limit c.args.minor.now.number c.args.now listed.first.items c.as_slice.result.now c.requires.pen.pen.sound.store
+          c.args.segment c.args.limit c.args.minor.now.number c.args.now listed.first.items
+          c.as_slice.result.now c.requires.pen.pen.sound.store
           c.as_slice.ensures.value c.requires.listed.first c.requires.movable c.in_ok-count.ensures.moved,
     )
 
@@ -59,16 +65,25 @@ returns-clause-does g c =
     let old = g.V.Vstore.store c.args.store.now in
     let new = g.V.Vstore.store c.move_listed.new.store in
     let listed = c.args.listed.now in
-    let has = moved-listed l old new c.args.segment c.args.limit c.args.now listed.count listed.first.items c.requires.listed
-    c.listed_moves_are_moves.ensures.moved c.args.minor.now.number c.in_ok-count.count (ap (λ (m : Checkpoint). m.number) c.requires.minor)
+    let has =
+    moved-listed l old new c.args.segment c.args.limit c.args.now listed.count listed.first.items
+    c.requires.listed
+    c.listed_moves_are_moves.ensures.moved c.args.minor.now.number c.in_ok-count.count
+    (ap (λ (m : Checkpoint). m.number) c.requires.minor)
     c.in_ok-count.ensures.count c.in_ok-count.ensures.moved in
-    let some = moved-some l old new c.args.segment c.args.limit c.args.now listed.count listed.first.items c.requires.listed
+    let some =
+    moved-some l old new c.args.segment c.args.limit c.args.now listed.count listed.first.items
+    c.requires.listed
     c.in_ok-count.count c.in_ok-count.ensures.count c.requires.some in
     let lists : c.publish_minor.new.self.lists ≡ with_minor c.args.now l =
-    c.publish_minor.ensures ∙ ap (λ (m : Checkpoint). record l { table = with_next m l.table }) c.requires.minor in
-    subst (λ (after : Lists). Does unshared (layout_of l old) (Move c.args.segment c.args.limit c.args.now) (Ok (moved_answer c.in_ok-count.count)) (layout_of after new))
+    c.publish_minor.ensures
+    ∙ ap (λ (m : Checkpoint). record l { table = with_next m l.table }) c.requires.minor in
+    subst (λ (after : Lists).
+    Does unshared (layout_of l old) (Move c.args.segment c.args.limit c.args.now)
+    (Ok (moved_answer c.in_ok-count.count)) (layout_of after new))
     (sym lists)
-    (does-moved l old new c.args.segment c.args.limit c.args.now c.requires.pen.pen (g.met.V.Vstore.is_store c.move_listed.new.store) c.move_listed.ensures.counted
+    (does-moved l old new c.args.segment c.args.limit c.args.now c.requires.pen.pen
+    (g.met.V.Vstore.is_store c.move_listed.new.store) c.move_listed.ensures.counted
     c.in_ok-count.count some c.requires.left has)
 
 pub returns-clause-needed : goal.returns-clause-needed
@@ -77,16 +92,22 @@ returns-clause-needed g c =
     let old = g.V.Vstore.store c.args.store.now in
     let new = g.V.Vstore.store c.move_listed.new.store in
     let listed = c.args.listed.now in
-    let has = moved-listed l old new c.args.segment c.args.limit c.args.now listed.count listed.first.items c.requires.listed
-    c.listed_moves_are_moves.ensures.moved c.args.minor.now.number c.in_ok-count.count (ap (λ (m : Checkpoint). m.number) c.requires.minor)
+    let has =
+    moved-listed l old new c.args.segment c.args.limit c.args.now listed.count listed.first.items
+    c.requires.listed
+    c.listed_moves_are_moves.ensures.moved c.args.minor.now.number c.in_ok-count.count
+    (ap (λ (m : Checkpoint). m.number) c.requires.minor)
     c.in_ok-count.ensures.count c.in_ok-count.ensures.moved in
     let lists : c.publish_minor.new.self.lists ≡ with_minor c.args.now l =
-    c.publish_minor.ensures ∙ ap (λ (m : Checkpoint). record l { table = with_next m l.table }) c.requires.minor in
+    c.publish_minor.ensures
+    ∙ ap (λ (m : Checkpoint). record l { table = with_next m l.table }) c.requires.minor in
     subst (λ (after : Lists). AreNeededCounts (layout_of after new) c.moved.new.self) (sym lists)
     (minor-counted c.counts_stay.ensures.empty c.args.now (layout_of l new) c.moved.new.self
-    (let kept = stays l old new c.args.segment c.args.limit c.args.now c.requires.pen.pen (g.met.V.Vstore.is_store c.move_listed.new.store) c.move_listed.ensures.counted
+    (let kept = stays l old new c.args.segment c.args.limit c.args.now c.requires.pen.pen
+    (g.met.V.Vstore.is_store c.move_listed.new.store) c.move_listed.ensures.counted
     c.in_ok-count.count has in kept.pen)
     (c.moved.ensures old (kept_numbers l) c.requires.pen.counts
     (moved-needed c.first_needed_stand_there.ensures l old new
-    c.args.segment c.args.limit c.args.minor.now.number c.args.now listed.first.items c.as_slice.result.now c.requires.pen.pen.sound.store
+    c.args.segment c.args.limit c.args.minor.now.number c.args.now listed.first.items c.as_slice.result.now
+    c.requires.pen.pen.sound.store
     c.as_slice.ensures.value c.requires.listed.first c.requires.movable c.in_ok-count.ensures.moved)))

@@ -14,11 +14,14 @@ pub sized_entry-requires : goal.sized_entry-requires
 sized_entry-requires g c =
     let pages : Pages = pages_of (content_in (g.V.Vstore.store c.args.store.now)) in
     let t = c.args.checkpoints.now.table in
-    (table-sizes pages t c.earlier.result.now c.latest.result.now c.earlier.ensures.earlier c.latest.ensures.latest c.requires).1
+    (table-sizes pages t c.earlier.result.now c.latest.result.now c.earlier.ensures.earlier
+    c.latest.ensures.latest c.requires).1
 
 pub returns-clause-entries : goal.returns-clause-entries
 returns-clause-entries g c =
     let pages : Pages = pages_of (content_in (g.V.Vstore.store c.args.store.now)) in
     rw c.in_ok-push.ensures.items
-    (table-sized pages c.args.checkpoints.now.table c.earlier.result.now c.latest.result.now c.in_ok-entries.entries.items c.in_ok-latest.latest
-    c.earlier.ensures.earlier c.latest.ensures.latest c.in_ok-entries.ensures.entries c.in_ok-latest.ensures.entry)
+    (table-sized pages c.args.checkpoints.now.table c.earlier.result.now c.latest.result.now
+    c.in_ok-entries.entries.items c.in_ok-latest.latest
+    c.earlier.ensures.earlier c.latest.ensures.latest c.in_ok-entries.ensures.entries
+    c.in_ok-latest.ensures.entry)

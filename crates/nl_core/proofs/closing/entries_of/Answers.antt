@@ -8,8 +8,11 @@ use Rattle.nl_core.proofs.closing.entries_of.Goals as goal
 
 pub loop-checkpoint-preserved : goal.loop-checkpoint-preserved
 loop-checkpoint-preserved g c =
-    let more = take_more c.args.kept.now c.loop-checkpoint.checkpoint-index c.checkpoint-item.result (omega arith) in
+    let more =
+    take_more c.args.kept.now c.loop-checkpoint.checkpoint-index c.checkpoint-item.result (omega arith) in
     let item = c.checkpoint-item.is in
-    let pushed = zip_push (IsSizedEntry (pages_of (content_in (g.V.Vstore.store c.args.store.now)))) _ c.loop-checkpoint.entries.items c.checkpoint-item.result c.in_ok-entry.entry
+    let pushed =
+    zip_push (IsSizedEntry (pages_of (content_in (g.V.Vstore.store c.args.store.now)))) _
+    c.loop-checkpoint.entries.items c.checkpoint-item.result c.in_ok-entry.entry
     c.loop-checkpoint.invariant c.in_ok-entry.ensures.entry in
     rw (c.in_ok-push.ensures.items, more, (sym item)) pushed

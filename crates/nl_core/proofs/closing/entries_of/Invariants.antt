@@ -6,4 +6,5 @@ use Rattle.nl_core.proofs.closing.entries_of.Given as goal
 
 abbrev pub invariant-loop-checkpoint : goal.invariant-loop-checkpoint
 invariant-loop-checkpoint g l =
-    AreSized (pages_of (content_in (g.V.Vstore.store l.store))) (take l.checkpoint-index l.kept) l.entries.items
+    AreSized (pages_of (content_in (g.V.Vstore.store l.store)))
+    (take l.checkpoint-index l.kept) l.entries.items

@@ -13,37 +13,45 @@ use Rattle.nl_core.proofs.image.open_read.Goals as goal
 
 pub from_entries-requires-clause-roots : goal.from_entries-requires-clause-roots
 from_entries-requires-clause-roots g c =
-    subst (All HasRoot) (sym c.as_slice.ensures) (kept-rooted c.requires.image.0 c.args.read c.requires.image.1)
+    subst (All HasRoot) (sym c.as_slice.ensures)
+    (kept-rooted c.requires.image.0 c.args.read c.requires.image.1)
 
 pub restore_store-requires-clause-own : goal.restore_store-requires-clause-own
 restore_store-requires-clause-own g c = own-read c.requires.image.0 c.args.read c.requires.image.1
 
 pub opened-tables-requires : goal.opened-tables-requires
 opened-tables-requires g c =
-    c.checked_checkpoints_have_inodes.ensures (content_in c.in_ok-store.store.store) c.in_ok-checkpoints.checkpoints.table.latest
+    c.checked_checkpoints_have_inodes.ensures
+    (content_in c.in_ok-store.store.store) c.in_ok-checkpoints.checkpoints.table.latest
     (latest-was-checked c.requires.image.0 c.args.read c.requires.image.1
     c.in_ok-store.store.store c.in_ok-store.ensures.restored c.in_ok-store.store.sound
     c.in_ok-checkpoints.checkpoints.table
-    (subst (AllZip IsEntryOf (all c.in_ok-checkpoints.checkpoints.table)) c.as_slice.ensures c.in_ok-checkpoints.ensures))
+    (subst (AllZip IsEntryOf (all c.in_ok-checkpoints.checkpoints.table)) c.as_slice.ensures
+    c.in_ok-checkpoints.ensures))
 
 pub opened-requires-clause-opened : goal.opened-requires-clause-opened
 opened-requires-clause-opened g c =
     is-opened c.requires.image.0 c.args.read c.requires.image.1
     c.in_ok-store.store.store c.in_ok-store.ensures.restored c.in_ok-store.store.sound
     c.in_ok-checkpoints.checkpoints.table
-    (subst (AllZip IsEntryOf (all c.in_ok-checkpoints.checkpoints.table)) c.as_slice.ensures c.in_ok-checkpoints.ensures)
-    c.opened-tables.result.lists c.opened-tables.ensures.lists c.opened-tables.ensures.table c.opened-tables.ensures.rest
+    (subst (AllZip IsEntryOf (all c.in_ok-checkpoints.checkpoints.table)) c.as_slice.ensures
+    c.in_ok-checkpoints.ensures)
+    c.opened-tables.result.lists c.opened-tables.ensures.lists c.opened-tables.ensures.table
+    c.opened-tables.ensures.rest
 
 pub opened-requires-clause-needed : goal.opened-requires-clause-needed
 opened-requires-clause-needed g c =
     let l = layout_of c.opened-tables.result.lists c.in_ok-store.store.store in
     let pen = c.opened_images_are_pens.ensures l (opened-requires-clause-opened g c) in
-    c.in_ok-needed.ensures.counted l.lists.table.latest.number (kept_numbers l.lists) (tells-needs l.lists) (latest-of l pen.sound)
+    c.in_ok-needed.ensures.counted l.lists.table.latest.number (kept_numbers l.lists) (tells-needs l.lists)
+    (latest-of l pen.sound)
 
 pub returns-clause-image : goal.returns-clause-image
 returns-clause-image g c bytes is =
     image-opened bytes c.args.read is
-    c.in_ok-store.store.store c.in_ok-store.ensures.restored c.in_ok-store.store.sound c.images_are_spelled.ensures
+    c.in_ok-store.store.store c.in_ok-store.ensures.restored c.in_ok-store.store.sound
+    c.images_are_spelled.ensures
     c.in_ok-checkpoints.checkpoints.table
-    (subst (AllZip IsEntryOf (all c.in_ok-checkpoints.checkpoints.table)) c.as_slice.ensures c.in_ok-checkpoints.ensures)
+    (subst (AllZip IsEntryOf (all c.in_ok-checkpoints.checkpoints.table)) c.as_slice.ensures
+    c.in_ok-checkpoints.ensures)
     c.opened-tables.result.lists c.opened-tables.ensures.lists c.opened.result c.opened.ensures.layout

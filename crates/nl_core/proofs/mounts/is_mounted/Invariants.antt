@@ -5,4 +5,6 @@ use Rattle.nl_core.specs.Volume.{mount_of}
 use Rattle.nl_core.proofs.mounts.is_mounted.Given as goal
 
 abbrev pub invariant-loop-mounted : goal.invariant-loop-mounted
-invariant-loop-mounted l = is_mounted (map mount_of (drop l.mounted-index l.mounts)) l.checkpoint ≡ is_mounted (map mount_of l.mounts) l.checkpoint
+invariant-loop-mounted l =
+    is_mounted (map mount_of (drop l.mounted-index l.mounts)) l.checkpoint
+    ≡ is_mounted (map mount_of l.mounts) l.checkpoint

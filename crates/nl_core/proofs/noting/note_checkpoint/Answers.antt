@@ -35,8 +35,10 @@ pub returns-in_err-draft-clause-needed : goal.returns-in_err-draft-clause-needed
 returns-in_err-draft-clause-needed g c =
     let old = layout_of c.args.tables.now.lists (g.V.Vstore.store c.args.store.now) in
     let new = layout_of c.write_noting.new.tables.lists (g.V.Vstore.store c.write_noting.new.store) in
-    refused-counts c.refusals_keep_counts.ensures.written old new c.args.mode c.args.moment c.in_err-draft.field-0.0 c.write_noting.new.needed
-    c.requires.pen.sound.store (g.met.V.Vstore.is_store c.write_noting.new.store) c.in_err-draft.ensures.refused
+    refused-counts c.refusals_keep_counts.ensures.written old new c.args.mode c.args.moment
+    c.in_err-draft.field-0.0 c.write_noting.new.needed
+    c.requires.pen.sound.store
+    (g.met.V.Vstore.is_store c.write_noting.new.store) c.in_err-draft.ensures.refused
     (c.write_noting.ensures.needed old.store (kept_numbers old.lists) c.requires.counts)
 
 pub written-requires-clause-counted : goal.written-requires-clause-counted
@@ -47,8 +49,12 @@ written-requires-clause-counted g c =
       old.store,
       kept_numbers old.lists,
       c.write_noting.ensures.needed old.store (kept_numbers old.lists) c.requires.counts,
-      subst (λ (n : ℕ). IsNextWritten n draft.batch (kept_numbers old.lists) old.store new.store) (sym c.in_ok-draft.ensures.number)
-          (next-written old new c.args.mode c.args.moment draft.batch (written-batch old new c.args.mode c.args.moment draft.batch c.args.notes.now.items c.write_noting.new.notes.items c.in_ok-draft.ensures.written) c.requires.pen),
+      subst (λ (n : ℕ). IsNextWritten n draft.batch (kept_numbers old.lists) old.store new.store)
+          (sym c.in_ok-draft.ensures.number)
+          (next-written old new c.args.mode c.args.moment draft.batch
+          (written-batch old new c.args.mode c.args.moment draft.batch c.args.notes.now.items
+          c.write_noting.new.notes.items c.in_ok-draft.ensures.written)
+          c.requires.pen),
     )
 
 pub returns-clause-does : goal.returns-clause-does
@@ -57,9 +63,11 @@ returns-clause-does g c =
     let new = layout_of c.write_noting.new.tables.lists (g.V.Vstore.store c.write_noting.new.store) in
     let before = c.args.notes.now.items in
     let after = c.write_noting.new.notes.items in
-    subst (λ n. DoesNoting old (event.Checkpoint c.args.mode c.args.moment) (Ok (answer.Checkpoint n)) new before after)
+    subst (λ n.
+    DoesNoting old (event.Checkpoint c.args.mode c.args.moment) (Ok (answer.Checkpoint n)) new before after)
     (sym c.in_ok-draft.ensures.number)
-    (noting-written old new c.args.mode c.args.moment c.in_ok-draft.draft.batch before after c.requires.pen c.in_ok-draft.ensures.written
+    (noting-written old new c.args.mode c.args.moment c.in_ok-draft.draft.batch before after c.requires.pen
+    c.in_ok-draft.ensures.written
     (g.met.V.Vstore.is_store c.write_noting.new.store) c.write_noting.ensures.counted)
 
 pub returns-clause-needed : goal.returns-clause-needed
@@ -68,9 +76,13 @@ returns-clause-needed g c =
     let new = layout_of c.write_noting.new.tables.lists (g.V.Vstore.store c.write_noting.new.store) in
     let draft = c.in_ok-draft.draft in
     let number = c.in_ok-draft.ensures.number in
-    let has = written-batch old new c.args.mode c.args.moment draft.batch c.args.notes.now.items c.write_noting.new.notes.items c.in_ok-draft.ensures.written in
-    subst (λ (ns : List ℕ). IsCounted new.store ns c.written.new.self) (sym (numbers-next old new c.args.mode c.args.moment draft.batch has))
+    let has =
+    written-batch old new c.args.mode c.args.moment draft.batch c.args.notes.now.items
+    c.write_noting.new.notes.items c.in_ok-draft.ensures.written in
+    subst (λ (ns : List ℕ). IsCounted new.store ns c.written.new.self)
+    (sym (numbers-next old new c.args.mode c.args.moment draft.batch has))
     (subst (λ (n : ℕ). IsCounted new.store (kept_numbers old.lists ++ n ∷ []) c.written.new.self) number
-    (c.written.ensures old.store (kept_numbers old.lists) (c.write_noting.ensures.needed old.store (kept_numbers old.lists) c.requires.counts)
+    (c.written.ensures old.store (kept_numbers old.lists)
+    (c.write_noting.ensures.needed old.store (kept_numbers old.lists) c.requires.counts)
     (subst (λ (n : ℕ). IsNextWritten n draft.batch (kept_numbers old.lists) old.store new.store) (sym number)
     (next-written old new c.args.mode c.args.moment draft.batch has c.requires.pen))))

@@ -7,11 +7,14 @@ use Rattle.nl_core.proofs.noting.segment_numbers.Goals as goal
 pub returns-in-Ok : goal.returns-in-Ok
 returns-in-Ok g c =
     let store = g.V.Vstore.store c.args.store.now in
-    IfOk-weaker c.listed_numbers.result (λ numbers. numbers.items ≡ numbers_in store c.args.segment) _ (λ numbers is. λ there. is)
+    IfOk-weaker c.listed_numbers.result (λ numbers. numbers.items ≡ numbers_in store c.args.segment) _
+    (λ numbers is. λ there. is)
     c.listed_numbers.ensures
 
 pub returns-in-Err : goal.returns-in-Err
 returns-in-Err g c =
     let store = g.V.Vstore.store c.args.store.now in
-    let past = no-segment store.segments c.table.result.now c.args.segment (Err c.in-Err.field-0) c.in-Err.field-0 c.table.ensures refl c.in-Err.ensures.info in
+    let past =
+    no-segment store.segments c.table.result.now c.args.segment
+    (Err c.in-Err.field-0) c.in-Err.field-0 c.table.ensures refl c.in-Err.ensures.info in
     λ there. absurd (omega (arith, there, past))

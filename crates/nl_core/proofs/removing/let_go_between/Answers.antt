@@ -6,4 +6,5 @@ pub returns : goal.returns
 returns g c = λ old lost counted.
     let now = c.args.tables.now.lists in
     c.removed.ensures (kept_numbers old) (kept_numbers now) counted
-    (are-gone c.args.first c.args.last c.first_above-next.result old now lost c.first_above-next.ensures) (tells-needs now)
+    (are-gone c.args.first c.args.last c.first_above-next.result old now lost c.first_above-next.ensures)
+    (tells-needs now)

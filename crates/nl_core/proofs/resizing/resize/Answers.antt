@@ -13,44 +13,63 @@ use Rattle.nl_core.proofs.resizing.resize.Goals as goal
 
 pub add_segments-requires-clause-counts : goal.add_segments-requires-clause-counts
 add_segments-requires-clause-counts g c =
-    counts-are-as-many c.args.tables.now.lists (g.V.Vstore.store c.args.store.now) c.args.needed.now c.requires.counts
+    counts-are-as-many c.args.tables.now.lists
+    (g.V.Vstore.store c.args.store.now) c.args.needed.now c.requires.counts
 
 pub returns-in_err-add_segments-clause-does : goal.returns-in_err-add_segments-clause-does
 returns-in_err-add_segments-clause-does g c =
-    let p = err_from_is_err_and c.from_residual-in_err-add_segments.result c.from_residual-in_err-add_segments.ensures.1 in
+    let p =
+    err_from_is_err_and c.from_residual-in_err-add_segments.result
+    c.from_residual-in_err-add_segments.ensures.1 in
     let l = c.args.tables.now.lists in
     let old = g.V.Vstore.store c.args.store.now in
     let new = g.V.Vstore.store c.add_segments.new.store in
     rw (p.1, p.2)
-    (does-not-resized l old new c.args.segments c.requires.pen (g.met.V.Vstore.is_store c.add_segments.new.store) c.add_segments.ensures.counted
-    c.in_err-add_segments.field-0.0 (not-grown c.args.segments c.in_err-add_segments.field-0.0 old new c.in_err-add_segments.ensures.refused))
+    (does-not-resized l old new c.args.segments c.requires.pen
+    (g.met.V.Vstore.is_store c.add_segments.new.store) c.add_segments.ensures.counted
+    c.in_err-add_segments.field-0.0
+    (not-grown c.args.segments c.in_err-add_segments.field-0.0 old new
+    c.in_err-add_segments.ensures.refused))
 
 pub returns-in_err-add_segments-clause-needed : goal.returns-in_err-add_segments-clause-needed
 returns-in_err-add_segments-clause-needed g c =
     let l = c.args.tables.now.lists in
     let old = g.V.Vstore.store c.args.store.now in
     let new = g.V.Vstore.store c.add_segments.new.store in
-    subst (λ (counted : Counted). AreNeededCounts (layout_of l new) counted) (sym c.in_err-add_segments.ensures.same)
-    (c.growth_keeps_counts.ensures.refused c.in_err-add_segments.field-0.0 (kept_numbers l) c.args.needed.now old new c.requires.pen.sound.store
-    (g.met.V.Vstore.is_store c.add_segments.new.store) c.in_err-add_segments.ensures.refused c.requires.counts)
+    subst (λ (counted : Counted). AreNeededCounts (layout_of l new) counted)
+    (sym c.in_err-add_segments.ensures.same)
+    (c.growth_keeps_counts.ensures.refused c.in_err-add_segments.field-0.0
+    (kept_numbers l) c.args.needed.now old new c.requires.pen.sound.store
+    (g.met.V.Vstore.is_store c.add_segments.new.store) c.in_err-add_segments.ensures.refused
+    c.requires.counts)
 
 pub returns-clause-does : goal.returns-clause-does
 returns-clause-does g c =
     let l = c.args.tables.now.lists in
     let old = g.V.Vstore.store c.args.store.now in
     let new = g.V.Vstore.store c.add_segments.new.store in
-    let more = is-more old.segments c.table.result.now c.args.segments c.in_ok-adds_segments.field-0 c.table.ensures c.in_ok-adds_segments.ensures.adds c.if-not-branch.false in
-    does-resized l old new c.args.segments c.requires.pen (g.met.V.Vstore.is_store c.add_segments.new.store) c.add_segments.ensures.counted
+    let more =
+    is-more old.segments c.table.result.now c.args.segments c.in_ok-adds_segments.field-0 c.table.ensures
+    c.in_ok-adds_segments.ensures.adds c.if-not-branch.false in
+    does-resized l old new c.args.segments c.requires.pen
+    (g.met.V.Vstore.is_store c.add_segments.new.store) c.add_segments.ensures.counted
     (has-resized c.args.segments old new more
-    (subst (λ (s : Segments). resized_in s c.args.segments ≡ Ok answer.Done) c.table.ensures c.in_ok-adds_segments.ensures.done) c.in_ok-add_segments.ensures.grown)
+    (subst (λ (s : Segments). resized_in s c.args.segments ≡ Ok answer.Done) c.table.ensures
+    c.in_ok-adds_segments.ensures.done)
+    c.in_ok-add_segments.ensures.grown)
 
 pub returns-clause-needed : goal.returns-clause-needed
 returns-clause-needed g c =
     let l = c.args.tables.now.lists in
     let old = g.V.Vstore.store c.args.store.now in
     let new = g.V.Vstore.store c.add_segments.new.store in
-    let more = is-more old.segments c.table.result.now c.args.segments c.in_ok-adds_segments.field-0 c.table.ensures c.in_ok-adds_segments.ensures.adds c.if-not-branch.false in
+    let more =
+    is-more old.segments c.table.result.now c.args.segments c.in_ok-adds_segments.field-0 c.table.ensures
+    c.in_ok-adds_segments.ensures.adds c.if-not-branch.false in
     let low = ltb-true (length old.segments.each) c.args.segments more in
-    subst (λ (counted : Counted). AreNeededCounts (layout_of l new) counted) (sym c.in_ok-add_segments.ensures.counts)
-    (c.growth_keeps_counts.ensures.grown c.args.segments (kept_numbers l) c.args.needed.now old new c.requires.pen.sound.store
-    (g.met.V.Vstore.is_store c.add_segments.new.store) (omega (arith, low)) c.in_ok-add_segments.ensures.grown c.requires.counts)
+    subst (λ (counted : Counted). AreNeededCounts (layout_of l new) counted)
+    (sym c.in_ok-add_segments.ensures.counts)
+    (c.growth_keeps_counts.ensures.grown c.args.segments
+    (kept_numbers l) c.args.needed.now old new c.requires.pen.sound.store
+    (g.met.V.Vstore.is_store c.add_segments.new.store)
+    (omega (arith, low)) c.in_ok-add_segments.ensures.grown c.requires.counts)

@@ -26,15 +26,18 @@ returns-in_err-draft-clause-does g c =
     let old = layout_of c.args.tables.now.lists (g.V.Vstore.store c.args.store.now) in
     let new = layout_of c.write_checkpoint.new.tables.lists (g.V.Vstore.store c.write_checkpoint.new.store) in
     rw (p.1, p.2)
-    (does-refused old new c.args.mode c.args.moment c.in_err-draft.field-0.0 c.requires.pen c.in_err-draft.ensures.refused
+    (does-refused old new c.args.mode c.args.moment c.in_err-draft.field-0.0 c.requires.pen
+    c.in_err-draft.ensures.refused
     (g.met.V.Vstore.is_store c.write_checkpoint.new.store))
 
 pub returns-in_err-draft-clause-needed : goal.returns-in_err-draft-clause-needed
 returns-in_err-draft-clause-needed g c =
     let old = layout_of c.args.tables.now.lists (g.V.Vstore.store c.args.store.now) in
     let new = layout_of c.write_checkpoint.new.tables.lists (g.V.Vstore.store c.write_checkpoint.new.store) in
-    refused-counts c.refusals_keep_counts.ensures.written old new c.args.mode c.args.moment c.in_err-draft.field-0.0 c.write_checkpoint.new.needed
-    c.requires.pen.sound.store (g.met.V.Vstore.is_store c.write_checkpoint.new.store) c.in_err-draft.ensures.refused
+    refused-counts c.refusals_keep_counts.ensures.written old new c.args.mode c.args.moment
+    c.in_err-draft.field-0.0 c.write_checkpoint.new.needed
+    c.requires.pen.sound.store
+    (g.met.V.Vstore.is_store c.write_checkpoint.new.store) c.in_err-draft.ensures.refused
     (c.write_checkpoint.ensures.needed old.store (kept_numbers old.lists) c.requires.counts)
 
 pub written-requires-clause-counted : goal.written-requires-clause-counted
@@ -45,8 +48,10 @@ written-requires-clause-counted g c =
       old.store,
       kept_numbers old.lists,
       c.write_checkpoint.ensures.needed old.store (kept_numbers old.lists) c.requires.counts,
-      subst (λ (n : ℕ). IsNextWritten n draft.batch (kept_numbers old.lists) old.store new.store) (sym c.in_ok-draft.ensures.number)
-          (next-written old new c.args.mode c.args.moment draft.batch c.in_ok-draft.ensures.written c.requires.pen),
+      subst (λ (n : ℕ). IsNextWritten n draft.batch (kept_numbers old.lists) old.store new.store)
+          (sym c.in_ok-draft.ensures.number)
+          (next-written old new c.args.mode c.args.moment draft.batch c.in_ok-draft.ensures.written
+          c.requires.pen),
     )
 
 pub returns-clause-does : goal.returns-clause-does
@@ -65,8 +70,10 @@ returns-clause-needed g c =
     let draft = c.in_ok-draft.draft in
     let number = c.in_ok-draft.ensures.number in
     let has = c.in_ok-draft.ensures.written in
-    subst (λ (ns : List ℕ). IsCounted new.store ns c.written.new.self) (sym (numbers-next old new c.args.mode c.args.moment draft.batch has))
+    subst (λ (ns : List ℕ). IsCounted new.store ns c.written.new.self)
+    (sym (numbers-next old new c.args.mode c.args.moment draft.batch has))
     (subst (λ (n : ℕ). IsCounted new.store (kept_numbers old.lists ++ n ∷ []) c.written.new.self) number
-    (c.written.ensures old.store (kept_numbers old.lists) (c.write_checkpoint.ensures.needed old.store (kept_numbers old.lists) c.requires.counts)
+    (c.written.ensures old.store (kept_numbers old.lists)
+    (c.write_checkpoint.ensures.needed old.store (kept_numbers old.lists) c.requires.counts)
     (subst (λ (n : ℕ). IsNextWritten n draft.batch (kept_numbers old.lists) old.store new.store) (sym number)
     (next-written old new c.args.mode c.args.moment draft.batch has c.requires.pen))))

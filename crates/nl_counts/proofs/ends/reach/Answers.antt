@@ -4,5 +4,7 @@ use Rattle.nl_counts.specs.EndLists.{end_of}
 use Rattle.nl_counts.proofs.ends.reach.Goals as goal
 
 pub returns-clause-point : goal.returns-clause-point
-returns-clause-point c = IsPartitionPoint-from_clause (λ p. leb (end_of p) c.args.bound) c.args.ended.now _ c.partition_point.ensures.partitioned
+returns-clause-point c =
+    IsPartitionPoint-from_clause
+    (λ p. leb (end_of p) c.args.bound) c.args.ended.now _ c.partition_point.ensures.partitioned
     (IsPartitionedBy-leb end_of c.args.ended.now c.args.bound c.requires) (λ a r q k. search rules)

@@ -3,10 +3,16 @@ use Rattle.nl_counts.proofs.StayingCounts.{empty-checkpoints-keep, reads-keep, r
 use Rattle.nl_counts.proofs.laws.counts_stay.Goals as goal
 
 pub returns-clause-retired : goal.returns-clause-retired
-returns-clause-retired c = retirements-keep (follow-laws c.counts_follow_blocks.ensures.added c.counts_follow_blocks.ensures.taken c.counts_follow_blocks.ensures.few c.counts_follow_blocks.ensures.some) c.needed_numbers_are_counted.ensures
+returns-clause-retired c =
+    retirements-keep
+    (follow-laws c.counts_follow_blocks.ensures.added c.counts_follow_blocks.ensures.taken
+    c.counts_follow_blocks.ensures.few c.counts_follow_blocks.ensures.some)
+    c.needed_numbers_are_counted.ensures
 
 pub returns-clause-empty : goal.returns-clause-empty
-returns-clause-empty c = empty-checkpoints-keep c.needed_numbers_are_counted.ensures c.checkpoints_keep_needs.ensures c.writes_are_by_number.ensures
+returns-clause-empty c =
+    empty-checkpoints-keep c.needed_numbers_are_counted.ensures c.checkpoints_keep_needs.ensures
+    c.writes_are_by_number.ensures
 
 pub returns-clause-read : goal.returns-clause-read
 returns-clause-read c = reads-keep c.needed_numbers_are_counted.ensures

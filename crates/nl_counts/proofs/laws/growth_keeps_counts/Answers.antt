@@ -2,7 +2,8 @@ use Rattle.nl_counts.proofs.GrownNeeded.{growth-back, growth-keeps, growth-refus
 use Rattle.nl_counts.proofs.laws.growth_keeps_counts.Goals as goal
 
 pub returns-clause-grown : goal.returns-clause-grown
-returns-clause-grown c = growth-keeps c.counts_follow_blocks.ensures.grown c.needed_numbers_are_counted.ensures
+returns-clause-grown c =
+    growth-keeps c.counts_follow_blocks.ensures.grown c.needed_numbers_are_counted.ensures
 
 pub returns-clause-refused : goal.returns-clause-refused
 returns-clause-refused c = growth-refused c.needed_numbers_are_counted.ensures

@@ -9,6 +9,8 @@ invariant-loop-index g l = record {
   low : l.from ≤ l.index;
   high : l.index ≤ l.to;
   listed : AreListed (g.V.Vstore.store l.store) l.counts l.ends.ended;
-  gone : HasLetGoAll (needs (by_period (g.K.Keeping.test l.keeping)) (content_in (g.V.Vstore.store l.store))) l.from l.index l.fn.ends.ended l.ends.ended;
+  gone : HasLetGoAll
+      (needs (by_period (g.K.Keeping.test l.keeping)) (content_in (g.V.Vstore.store l.store))) l.from l.index
+      l.fn.ends.ended l.ends.ended;
   room : l.ends.room ≡ l.fn.ends.room;
 }

@@ -11,6 +11,11 @@ pub returns-then-take_off-clause-listed : goal.returns-then-take_off-clause-list
 returns-then-take_off-clause-listed g c =
     let store = g.V.Vstore.store c.args.store.now in
     subst (λ (r : RoomyEnds). AreListed store c.take_off.new.counts r.ended) (sym c.blank.ensures)
-    (taken-listed (follow-laws c.counts_follow_blocks.ensures.added c.counts_follow_blocks.ensures.taken c.counts_follow_blocks.ensures.few c.counts_follow_blocks.ensures.some)
-    store (g.met.V.Vstore.is_store c.args.store.now) (needs (by_period (g.K.Keeping.test c.args.keeping.now)) (content_in store)) c.args.counts.now c.take_off.new.counts
-    c.args.ends.now.ended c.args.index c.in-Some.number c.requires.listed (record { within = c.requires.index; there = sym c.number.ensures ∙ c.in-Some.is }) c.if-take_off.ensures.taken)
+    (taken-listed (follow-laws c.counts_follow_blocks.ensures.added c.counts_follow_blocks.ensures.taken
+    c.counts_follow_blocks.ensures.few c.counts_follow_blocks.ensures.some)
+    store (g.met.V.Vstore.is_store c.args.store.now)
+    (needs (by_period (g.K.Keeping.test c.args.keeping.now)) (content_in store)) c.args.counts.now
+    c.take_off.new.counts
+    c.args.ends.now.ended c.args.index c.in-Some.number c.requires.listed
+    (record { within = c.requires.index; there = sym c.number.ensures ∙ c.in-Some.is })
+    c.if-take_off.ensures.taken)

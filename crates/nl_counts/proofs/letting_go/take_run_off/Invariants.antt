@@ -10,5 +10,6 @@ invariant-loop-index g l = record {
   low : l.from ≤ l.index;
   high : l.index ≤ l.to;
   left : (left : List Ended) × AreListed (g.V.Vstore.store l.store) l.counts left
-      × HasLetGoAll (needs (by_period (g.K.Keeping.test l.keeping)) (content_in (g.V.Vstore.store l.store))) l.from l.index l.ends.ended left;
+      × HasLetGoAll (needs (by_period (g.K.Keeping.test l.keeping)) (content_in (g.V.Vstore.store l.store)))
+      l.from l.index l.ends.ended left;
 }

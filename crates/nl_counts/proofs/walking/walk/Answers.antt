@@ -5,8 +5,12 @@ use Rattle.nl_counts.proofs.walking.walk.Goals as goal
 
 pub loop-below-init : goal.loop-below-init
 loop-below-init g c = rw c.new-ended.ensures.items
-    (none-walked (g.V.Vstore.store c.args.store.now) (by_period (g.K.Keeping.test c.args.keeping.now)) (g.met.V.Vstore.is_store c.args.store.now) c.args.counts.now c.requires)
+    (none-walked (g.V.Vstore.store c.args.store.now) (by_period (g.K.Keeping.test c.args.keeping.now))
+    (g.met.V.Vstore.is_store c.args.store.now) c.args.counts.now c.requires)
 
 pub walk_one-requires : goal.walk_one-requires
-walk_one-requires g c = have-room (follow-laws c.counts_follow_blocks.ensures.added c.counts_follow_blocks.ensures.taken c.counts_follow_blocks.ensures.few c.counts_follow_blocks.ensures.some)
-    (g.V.Vstore.store c.args.store.now) (g.met.V.Vstore.is_store c.args.store.now) _ _ c.loop-below.invariant.counted
+walk_one-requires g c =
+    have-room (follow-laws c.counts_follow_blocks.ensures.added c.counts_follow_blocks.ensures.taken
+    c.counts_follow_blocks.ensures.few c.counts_follow_blocks.ensures.some)
+    (g.V.Vstore.store c.args.store.now)
+    (g.met.V.Vstore.is_store c.args.store.now) _ _ c.loop-below.invariant.counted

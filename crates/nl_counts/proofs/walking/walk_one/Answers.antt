@@ -7,13 +7,18 @@ use Rattle.nl_counts.proofs.walking.walk_one.Goals as goal
 
 pub returns-in_ok-note_end : goal.returns-in_ok-note_end
 returns-in_ok-note_end g c = λ n is walked.
-    walk-counted (follow-laws c.counts_follow_blocks.ensures.added c.counts_follow_blocks.ensures.taken c.counts_follow_blocks.ensures.few c.counts_follow_blocks.ensures.some)
-    (g.V.Vstore.store c.args.store.now) (g.met.V.Vstore.is_store c.args.store.now) (by_period (g.K.Keeping.test c.args.keeping.now)) c.args.number
+    walk-counted (follow-laws c.counts_follow_blocks.ensures.added c.counts_follow_blocks.ensures.taken
+    c.counts_follow_blocks.ensures.few c.counts_follow_blocks.ensures.some)
+    (g.V.Vstore.store c.args.store.now) (g.met.V.Vstore.is_store c.args.store.now)
+    (by_period (g.K.Keeping.test c.args.keeping.now)) c.args.number
     (sym c.is_needed.ensures ∙ c.if-is_needed.true) _ _ _ _ c.count_one.ensures
-    (c.in_ok-note_end.ensures ∙ ap (with_found c.args.ended.now.items c.args.number) c.end_of.ensures) n is walked
+    (c.in_ok-note_end.ensures ∙ ap (with_found c.args.ended.now.items c.args.number) c.end_of.ensures) n is
+    walked
 
 pub returns-else-is_needed : goal.returns-else-is_needed
 returns-else-is_needed g c = λ n is walked.
-    walk-past (follow-laws c.counts_follow_blocks.ensures.added c.counts_follow_blocks.ensures.taken c.counts_follow_blocks.ensures.few c.counts_follow_blocks.ensures.some)
-    (g.V.Vstore.store c.args.store.now) (g.met.V.Vstore.is_store c.args.store.now) (by_period (g.K.Keeping.test c.args.keeping.now)) c.args.number
+    walk-past (follow-laws c.counts_follow_blocks.ensures.added c.counts_follow_blocks.ensures.taken
+    c.counts_follow_blocks.ensures.few c.counts_follow_blocks.ensures.some)
+    (g.V.Vstore.store c.args.store.now) (g.met.V.Vstore.is_store c.args.store.now)
+    (by_period (g.K.Keeping.test c.args.keeping.now)) c.args.number
     (sym c.is_needed.ensures ∙ c.if-is_needed.false) _ _ n is walked

@@ -9,5 +9,6 @@ invariant-loop-i l = record {
   read : take (160 * l.i) l.bytes ≡ flat_map checkpoint_bytes l.kept.items;
   count : length l.kept.items ≡ l.i;
   fit : All HasSpelling l.kept.items;
-  only : (kept : List CheckpointEntry) → l.bytes ≡ flat_map checkpoint_bytes kept → All HasSpelling kept → l.kept.items ≡ take l.i kept;
+  only : (kept : List CheckpointEntry) → l.bytes ≡ flat_map checkpoint_bytes kept → All HasSpelling kept
+      → l.kept.items ≡ take l.i kept;
 }

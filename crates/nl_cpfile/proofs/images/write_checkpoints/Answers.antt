@@ -7,7 +7,13 @@ use Rattle.nl_cpfile.proofs.images.write_checkpoints.Goals as goal
 
 pub loop-i-preserved : goal.loop-i-preserved
 loop-i-preserved c = record {
-  written = put_piece checkpoint_bytes 160 entry_width c.args.kept.now c.loop-i.i (160 * c.loop-i.i + 160 - 160 * c.loop-i.i) c.index-kept-i.result c.loop-i.out c.args.out.now c.write.new.out
-      (omega arith) (omega arith) c.loop-i.invariant.written (c.write.ensures.spelling ∙ ap checkpoint_bytes c.index-kept-i.is);
-  fit = All-more HasSpelling c.args.kept.now c.loop-i.i c.index-kept-i.result (omega arith) c.loop-i.invariant.fit (subst HasSpelling c.index-kept-i.is c.write.ensures.fits);
+  written =
+      put_piece checkpoint_bytes 160 entry_width c.args.kept.now c.loop-i.i
+      (160 * c.loop-i.i + 160 - 160 * c.loop-i.i) c.index-kept-i.result c.loop-i.out c.args.out.now
+      c.write.new.out
+      (omega arith) (omega arith) c.loop-i.invariant.written
+      (c.write.ensures.spelling ∙ ap checkpoint_bytes c.index-kept-i.is);
+  fit =
+      All-more HasSpelling c.args.kept.now c.loop-i.i c.index-kept-i.result
+      (omega arith) c.loop-i.invariant.fit (subst HasSpelling c.index-kept-i.is c.write.ensures.fits);
 }

@@ -11,7 +11,8 @@ returns c =
     (YieldsList-from_take c.args.most
     (YieldsList-at c.take.ensures.source (YieldsList-from_filter _ (is_shown c.args.options.now)
     (YieldsList-at c.filter.ensures.source (YieldsList-from_map _ checkpoint_row
-    (YieldsList-from_chain (YieldsList-from_slice c.args.earlier.now (cc)) (YieldsList-from_slice (c.args.latest.now ∷ []) (cc)) (cc) (cc))
+    (YieldsList-from_chain (YieldsList-from_slice c.args.earlier.now (cc))
+    (YieldsList-from_slice (c.args.latest.now ∷ []) (cc)) (cc) (cc))
     c.map.ensures.closure (λ x r q k. search (rules, tests))))
     c.filter.ensures.closure (λ x b q k. search (rules, tests))))
     c.take.ensures.count)

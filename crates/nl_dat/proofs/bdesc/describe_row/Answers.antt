@@ -9,5 +9,7 @@ pub loop-position-preserved : goal.loop-position-preserved
 loop-position-preserved c =
     let addresses = addresses_of (entry_in c.args.table.now) in
     c.in_ok-push_desc.ensures
-    ∙ ap (λ (descs : List Bdesc). descs ++ desc_at addresses c.new.result c.row_tag-tag.result) c.loop-position.invariant
-    ∙ sym (descs-more addresses c.args.first c.loop-position.position c.new.result c.args.row.now c.row_tag-tag.result c.loop-position-test.true c.new.ensures c.row_tag-tag.ensures)
+    ∙ ap (λ (descs : List Bdesc). descs ++ desc_at addresses c.new.result c.row_tag-tag.result)
+    c.loop-position.invariant
+    ∙ sym (descs-more addresses c.args.first c.loop-position.position c.new.result c.args.row.now
+    c.row_tag-tag.result c.loop-position-test.true c.new.ensures c.row_tag-tag.ensures)

@@ -11,5 +11,6 @@ invariant-loop-i l = record {
   count : length l.numbers.items ≡ l.i;
   fit : All HasSpelling l.numbers.items;
   sound : All (IsSoundNumber l.segments l.latest) l.numbers.items;
-  only : (numbers : List (Option DatEntry)) → AreEntriesOf l.segments l.latest l.bytes numbers → l.numbers.items ≡ take l.i numbers;
+  only : (numbers : List (Option DatEntry)) → AreEntriesOf l.segments l.latest l.bytes numbers
+      → l.numbers.items ≡ take l.i numbers;
 }

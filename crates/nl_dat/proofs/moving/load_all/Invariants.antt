@@ -10,7 +10,9 @@ abbrev pub invariant-loop-number : goal.invariant-loop-number
 invariant-loop-number g l =
     let space = g.S.Space in
     record {
-      loaded : map (stored_at (entry_in l.table) (births_in (space.content l.fn.space))) (take l.number-index l.numbers) ≡ map Some (births_of l.payload.items);
+      loaded : map (stored_at (entry_in l.table) (births_in (space.content l.fn.space)))
+          (take l.number-index l.numbers)
+          ≡ map Some (births_of l.payload.items);
       same : space.content l.space ≡ space.content l.fn.space;
       failures : CountsReads (space.failed l.fn.space) (space.failed l.space);
     }

@@ -9,8 +9,14 @@ loop-position-preserved c =
     let first = c.args.first in
     let i = c.loop-position.position in
     elim c.match-take_out_at.branch [
-      | in-Some w ↦ subst (HasTakenOut first (i + 1) c.args.table.now c.take_out_at.new.table) (sym (w.taken-is ∙ w.add-taken.ensures))
-          (one-more first i c.args.table.now c.loop-position.table c.take_out_at.new.table c.loop-position.taken c.loop-position.invariant w.in-Some.number c.requires.apart w.in-Some.ensures)
-      | in_default w ↦ subst (HasTakenOut first (i + 1) c.args.table.now c.take_out_at.new.table) (sym w.taken-is)
-          (none-more first i c.args.table.now c.loop-position.table c.take_out_at.new.table c.loop-position.taken c.loop-position.invariant w.in_default.ensures)
+      | in-Some w ↦
+          subst (HasTakenOut first (i + 1) c.args.table.now c.take_out_at.new.table)
+          (sym (w.taken-is ∙ w.add-taken.ensures))
+          (one-more first i c.args.table.now c.loop-position.table c.take_out_at.new.table
+          c.loop-position.taken c.loop-position.invariant w.in-Some.number c.requires.apart
+          w.in-Some.ensures)
+      | in_default w ↦
+          subst (HasTakenOut first (i + 1) c.args.table.now c.take_out_at.new.table) (sym w.taken-is)
+          (none-more first i c.args.table.now c.loop-position.table c.take_out_at.new.table
+          c.loop-position.taken c.loop-position.invariant w.in_default.ensures)
     ]

@@ -19,7 +19,9 @@ loop-done-preserved g c =
       store = c.page_at-page.ensures.store ∙ was.store;
       root = c.page_at-page.ensures.root ∙ was.root;
       within = put_fits into part done count room c.copy_block.auto.into;
-      copied = more_copied into part done count room c.copy_block.auto.into (page_at (g.V.VRead.pages c.args.store.now) (root_of c.args.root)) _ c.args.offset short
+      copied =
+          more_copied into part done count room c.copy_block.auto.into
+          (page_at (g.V.VRead.pages c.args.store.now) (root_of c.args.root)) _ c.args.offset short
           (c.page_at-page.ensures.page
           ∙ ap (λ s. page_at (g.V.VRead.pages s) (root_of c.loop-done.cursor.root) block) was.store
           ∙ ap (λ r. page_at (g.V.VRead.pages c.args.store.now) (root_of r) block) was.root)

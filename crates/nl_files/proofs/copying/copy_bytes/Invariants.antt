@@ -10,7 +10,8 @@ invariant-loop-done g l = record {
   root : l.cursor.root ≡ l.fn.root;
   within : l.done ≤ length l.into;
   copied : (k : ℕ) → k < l.done
-      → slice_index l.into k ≡ byte_stored (page_at (g.V.VRead.pages l.store) (root_of l.fn.root)) (l.offset + k);
+      → slice_index l.into k
+      ≡ byte_stored (page_at (g.V.VRead.pages l.store) (root_of l.fn.root)) (l.offset + k);
 }
 
 abbrev pub decreases-loop-done : goal.decreases-loop-done

@@ -27,21 +27,24 @@ loop-number-preserved g c =
       changes = changes-rest number slot rest
           (subst (λ (xs : List (ℕ × Became)). EachMayBecome xs) step c.loop-number.invariant.changes);
       settling = λ base stores holding.
-          c.in_ok-settle_slot.ensures.settling base c.args.batch.now (shown_entries pair slot_shows rest) all stores holding
+          c.in_ok-settle_slot.ensures.settling base c.args.batch.now
+          (shown_entries pair slot_shows rest) all stores holding
           (subst (λ (xs : List (ℕ × Became)).
           Settling content roots base c.args.batch.now c.loop-number.batch c.loop-number.inodes.items xs all)
           (step ∙ shown-split number slot rest) (c.loop-number.invariant.settling base stores holding));
     }
 
 pub returns-in_err-settle_slot-clause-settling : goal.returns-in_err-settle_slot-clause-settling
-returns-in_err-settle_slot-clause-settling g c = IfOk-from_err c.from_residual.result _ c.from_residual.ensures.0
+returns-in_err-settle_slot-clause-settling g c =
+    IfOk-from_err c.from_residual.result _ c.from_residual.ensures.0
 
 pub returns-in_err-settle_slot-clause-fits : goal.returns-in_err-settle_slot-clause-fits
 returns-in_err-settle_slot-clause-fits g c = IfOk-from_err c.from_residual.result _ c.from_residual.ensures.0
 
 pub returns-in_err-settle_slot-clause-err : goal.returns-in_err-settle_slot-clause-err
 returns-in_err-settle_slot-clause-err g c =
-    passed_on c.from_residual.result c.in_err-settle_slot.field-0.0 Memory c.from_residual.ensures.1 c.in_err-settle_slot.ensures.err
+    passed_on c.from_residual.result c.in_err-settle_slot.field-0.0 Memory c.from_residual.ensures.1
+    c.in_err-settle_slot.ensures.err
 
 pub settle_slot-requires-clause-fits : goal.settle_slot-requires-clause-fits
 settle_slot-requires-clause-fits g c = c.loop-number.invariant.fits

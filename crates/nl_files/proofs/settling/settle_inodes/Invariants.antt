@@ -14,9 +14,11 @@ abbrev pub invariant-loop-number : goal.invariant-loop-number
 invariant-loop-number g l = record {
   fits : CanTake (g.V.Vstore.store l.store) l.batch;
   changes : EachMayBecome (shown_entries pair slot_shows l.number-iterator);
-  settling : (base : Holding) → Stores (pages_of (content_in (g.V.Vstore.store l.store))) (root_of l.root) base
+  settling : (base : Holding)
+      → Stores (pages_of (content_in (g.V.Vstore.store l.store))) (root_of l.root) base
       → IsHolding base
       → Settling (content_in (g.V.Vstore.store l.store))
       (roots_at (pages_of (content_in (g.V.Vstore.store l.store))) (root_of l.root)) base
-      l.fn.batch l.batch l.inodes.items (shown_entries pair slot_shows l.number-iterator) (became_in l.overlay);
+      l.fn.batch l.batch l.inodes.items (shown_entries pair slot_shows l.number-iterator)
+      (became_in l.overlay);
 }

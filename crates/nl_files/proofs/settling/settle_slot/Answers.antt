@@ -25,8 +25,10 @@ settle_one-requires-clause-in_use g c =
     let number = c.new-number.result in
     let old : c.inode-old.result ≡ inode_at (pages_of content) (root_of c.args.root.now) number =
     c.inode-old.ensures
-    ∙ ap (λ (pages : Pages). inode_at pages (root_of c.args.root.now) number) (g.met.V.Vstore.reads_pages c.args.store.now) in
-    subst (λ (o : Option Inode). IsRootInUse content (inode_root o)) (sym old) (c.requires.checkpoint.each number)
+    ∙ ap (λ (pages : Pages). inode_at pages (root_of c.args.root.now) number)
+    (g.met.V.Vstore.reads_pages c.args.store.now) in
+    subst (λ (o : Option Inode). IsRootInUse content (inode_root o)) (sym old)
+    (c.requires.checkpoint.each number)
 
 pub settle_one-requires-clause-sized : goal.settle_one-requires-clause-sized
 settle_one-requires-clause-sized g c =
@@ -34,7 +36,8 @@ settle_one-requires-clause-sized g c =
     let number = c.new-number.result in
     let old : c.inode-old.result ≡ inode_at (pages_of content) (root_of c.args.root.now) number =
     c.inode-old.ensures
-    ∙ ap (λ (pages : Pages). inode_at pages (root_of c.args.root.now) number) (g.met.V.Vstore.reads_pages c.args.store.now) in
+    ∙ ap (λ (pages : Pages). inode_at pages (root_of c.args.root.now) number)
+    (g.met.V.Vstore.reads_pages c.args.store.now) in
     subst (λ (o : Option Inode). inode_size o ≤ 268435456) (sym old)
     (small-in content (root_of c.args.root.now) number c.requires.checkpoint)
 
@@ -44,11 +47,13 @@ returns-clause-settling g c =
     let number = c.new-number.result in
     let old : c.inode-old.result ≡ inode_at (pages_of content) (root_of c.args.root.now) number =
     c.inode-old.ensures
-    ∙ ap (λ (pages : Pages). inode_at pages (root_of c.args.root.now) number) (g.met.V.Vstore.reads_pages c.args.store.now) in
+    ∙ ap (λ (pages : Pages). inode_at pages (root_of c.args.root.now) number)
+    (g.met.V.Vstore.reads_pages c.args.store.now) in
     IfOk-weaker c.push_inode.result _ _
     (λ x pushed. λ base before left all stores holding h.
     slot-settled content (root_of c.args.root.now) c.args.number number c.inode-old.result c.in_ok-new.new
-    c.args.slot.now c.args.batch.now c.settle_one.new.batch c.args.inodes.now.items c.push_inode.new.inodes.items
+    c.args.slot.now c.args.batch.now c.settle_one.new.batch c.args.inodes.now.items
+    c.push_inode.new.inodes.items
     c.requires.checkpoint c.new-number.ensures old c.if-not-slot.false c.requires.changes
     c.in_ok-new.ensures.settled pushed base before left all stores holding h)
     c.push_inode.ensures.ok
@@ -57,7 +62,8 @@ pub settle_one-requires-clause-fits : goal.settle_one-requires-clause-fits
 settle_one-requires-clause-fits g c = c.requires.fits
 
 pub returns-clause-fits : goal.returns-clause-fits
-returns-clause-fits g c = IfOk-weaker c.push_inode.result _ _ (λ x pushed. c.in_ok-new.ensures.fits) c.push_inode.ensures.ok
+returns-clause-fits g c =
+    IfOk-weaker c.push_inode.result _ _ (λ x pushed. c.in_ok-new.ensures.fits) c.push_inode.ensures.ok
 
 pub returns-clause-err : goal.returns-clause-err
 returns-clause-err g c = c.push_inode.ensures.err
@@ -70,7 +76,8 @@ returns-in_err-new-clause-fits g c = IfOk-from_err c.from_residual.result _ c.fr
 
 pub returns-in_err-new-clause-err : goal.returns-in_err-new-clause-err
 returns-in_err-new-clause-err g c =
-    passed_on c.from_residual.result c.in_err-new.field-0.0 Memory c.from_residual.ensures.1 c.in_err-new.ensures.err
+    passed_on c.from_residual.result c.in_err-new.field-0.0 Memory c.from_residual.ensures.1
+    c.in_err-new.ensures.err
 
 pub returns-then-not-slot-clause-fits : goal.returns-then-not-slot-clause-fits
 returns-then-not-slot-clause-fits g c = c.requires.fits
@@ -83,10 +90,13 @@ returns-then-not-slot-clause-settling g c =
     let content = content_in (g.V.Vstore.store c.args.store.now) in
     λ base before left all stores holding.
     subst (λ (o : Option Became).
-    Settling content (roots_at (pages_of content) (root_of c.args.root.now)) base before c.args.batch.now c.args.inodes.now.items
+    Settling content
+    (roots_at (pages_of content) (root_of c.args.root.now)) base before c.args.batch.now
+    c.args.inodes.now.items
     (cons_option (option_map (λ (x : Became). pair c.args.number x) o) [] ++ left) all)
     (ap (λ (live : Bool). cond live (Some (became_of c.args.slot.now.what)) None) c.if-not-slot.true)
 
 pub settle_one-requires-clause-change : goal.settle_one-requires-clause-change
 settle_one-requires-clause-change g c =
-    (subst (λ (xs : List (ℕ × Became)). EachMayBecome xs) (live-shown c.args.number c.args.slot.now c.if-not-slot.false) c.requires.changes).1
+    (subst (λ (xs : List (ℕ × Became)). EachMayBecome xs)
+    (live-shown c.args.number c.args.slot.now c.if-not-slot.false) c.requires.changes).1

@@ -9,7 +9,8 @@ abbrev pub invariant-loop-start : goal.invariant-loop-start
 invariant-loop-start g l = record {
   store : l.cursor.store.now ≡ l.store;
   root : l.cursor.root ≡ l.root;
-  blocks : AreFirstBlockChanges (page_at (g.V.VRead.pages l.store) (root_of l.root)) (inode_at (g.V.VRead.pages l.store) (root_of l.root)) l.changes l.start l.blocks.items;
+  blocks : AreFirstBlockChanges (page_at (g.V.VRead.pages l.store) (root_of l.root))
+      (inode_at (g.V.VRead.pages l.store) (root_of l.root)) l.changes l.start l.blocks.items;
 }
 
 abbrev pub decreases-loop-start : goal.decreases-loop-start

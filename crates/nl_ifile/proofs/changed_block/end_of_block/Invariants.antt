@@ -6,7 +6,8 @@ abbrev pub invariant-loop-end : goal.invariant-loop-end
 invariant-loop-end l = record {
   more : l.start < l.end;
   within : l.end ≤ length l.changes;
-  same : (k : ℕ) (next : InodeChange) → l.start ≤ k → k < l.end → (get_or l.changes k next).number / 8 ≡ l.index;
+  same : (k : ℕ) (next : InodeChange) → l.start ≤ k → k < l.end
+      → (get_or l.changes k next).number / 8 ≡ l.index;
 }
 
 abbrev pub decreases-loop-end : goal.decreases-loop-end

@@ -10,9 +10,17 @@ pub returns-in-Some-clause-bytes : goal.returns-in-Some-clause-bytes
 returns-in-Some-clause-bytes g c =
     c.bytes.ensures
     ∙ (ap (λ (o : Option (Bor (List ℕ))). unwrap_or (option_copied o) (replicate 1024 0)) (sym c.in-Some.is)
-    ∙ block_for-bytes (in_block (inode_at (g.V.VRead.pages c.args.cursor.now.store.now) (root_of c.args.cursor.now.root)) c.args.index) _ (c.page_at.ensures.page ∙ c.requires c.args.index))
+    ∙ block_for-bytes
+    (in_block (inode_at (g.V.VRead.pages c.args.cursor.now.store.now) (root_of c.args.cursor.now.root))
+    c.args.index)
+    _
+    (c.page_at.ensures.page ∙ c.requires c.args.index))
 
 pub returns-in-None-clause-bytes : goal.returns-in-None-clause-bytes
 returns-in-None-clause-bytes g c =
     ap (λ (o : Option (Bor (List ℕ))). unwrap_or (option_copied o) (replicate 1024 0)) (sym c.in-None.is)
-    ∙ block_for-bytes (in_block (inode_at (g.V.VRead.pages c.args.cursor.now.store.now) (root_of c.args.cursor.now.root)) c.args.index) _ (c.page_at.ensures.page ∙ c.requires c.args.index)
+    ∙ block_for-bytes
+    (in_block (inode_at (g.V.VRead.pages c.args.cursor.now.store.now) (root_of c.args.cursor.now.root))
+    c.args.index)
+    _
+    (c.page_at.ensures.page ∙ c.requires c.args.index)

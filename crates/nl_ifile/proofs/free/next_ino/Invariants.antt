@@ -10,5 +10,7 @@ abbrev pub invariant-loop-block : goal.invariant-loop-block
 invariant-loop-block g l = record {
   store : l.cursor.store.now ≡ l.store;
   root : l.cursor.root ≡ l.fn.root;
-  in_use : AreInUseFrom (inodes_with l.changes (inode_at (g.V.VRead.pages l.store) (root_of l.fn.root))) l.fn.from (max l.fn.from (l.block * 8));
+  in_use : AreInUseFrom
+      (inodes_with l.changes (inode_at (g.V.VRead.pages l.store) (root_of l.fn.root))) l.fn.from
+      (max l.fn.from (l.block * 8));
 }

@@ -13,7 +13,8 @@ use Rattle.nl_ifile.proofs.put.put_inodes.Goals as goal
 
 pub changed_blocks-requires-clause-inodes : goal.changed_blocks-requires-clause-inodes
 changed_blocks-requires-clause-inodes g c =
-    subst (λ (pages : Pages). IsInodeFile pages (root_of c.args.root)) (sym (g.met.V.Vstore.reads_pages c.args.store.now)) c.requires.inodes
+    subst (λ (pages : Pages). IsInodeFile pages (root_of c.args.root))
+    (sym (g.met.V.Vstore.reads_pages c.args.store.now)) c.requires.inodes
 
 pub changed_blocks-requires-clause-ascending : goal.changed_blocks-requires-clause-ascending
 changed_blocks-requires-clause-ascending g c = c.requires.ascending
@@ -25,24 +26,34 @@ pub put_all-requires-clause-file : goal.put_all-requires-clause-file
 put_all-requires-clause-file g c = c.requires.file
 
 pub put_all-requires-clause-ascending : goal.put_all-requires-clause-ascending
-put_all-requires-clause-ascending g c = subst (λ (blocks : List BlockChange). IndexesAscend blocks) (sym c.deref.ensures.value) c.in_ok-blocks.ensures.ok.ascending
+put_all-requires-clause-ascending g c =
+    subst (λ (blocks : List BlockChange). IndexesAscend blocks)
+    (sym c.deref.ensures.value) c.in_ok-blocks.ensures.ok.ascending
 
 pub put_all-requires-clause-in_range : goal.put_all-requires-clause-in_range
-put_all-requires-clause-in_range g c = subst (λ (blocks : List BlockChange). IndexesAreInRange blocks) (sym c.deref.ensures.value) c.in_ok-blocks.ensures.ok.in_range
+put_all-requires-clause-in_range g c =
+    subst (λ (blocks : List BlockChange). IndexesAreInRange blocks)
+    (sym c.deref.ensures.value) c.in_ok-blocks.ensures.ok.in_range
 
 pub returns-clause-ok : goal.returns-clause-ok
 returns-clause-ok g c =
     let root = root_of c.args.root in
     let changes = c.args.changes.now in
     let stored = content_in (g.V.Vstore.store c.args.store.now) in
-    let are : AreBlockChanges (page_at (pages_of stored) root) (inode_at (pages_of stored) root) changes c.in_ok-blocks.blocks.items =
-    subst (λ (pages : Pages). AreBlockChanges (page_at pages root) (inode_at pages root) changes c.in_ok-blocks.blocks.items)
+    let are : AreBlockChanges (page_at (pages_of stored) root)
+    (inode_at (pages_of stored) root) changes c.in_ok-blocks.blocks.items =
+    subst (λ (pages : Pages).
+    AreBlockChanges (page_at pages root) (inode_at pages root) changes c.in_ok-blocks.blocks.items)
     (g.met.V.Vstore.reads_pages c.args.store.now) c.in_ok-blocks.ensures.ok in
     IfOk-weaker c.put_all.result _ _
     (λ new puts.
     puts-inodes stored root (root_of new) changes c.deref.result.now c.args.batch.now c.put_all.new.batch
-    (subst (λ (blocks : List BlockChange). AreBlockChanges (page_at (pages_of stored) root) (inode_at (pages_of stored) root) changes blocks) (sym c.deref.ensures.value) are)
-    (subst (λ (inode : ℕ). PutsAll stored inode root (root_of new) c.deref.result.now c.args.batch.now c.put_all.new.batch) c.new.ensures puts))
+    (subst (λ (blocks : List BlockChange).
+    AreBlockChanges (page_at (pages_of stored) root) (inode_at (pages_of stored) root) changes blocks)
+    (sym c.deref.ensures.value) are)
+    (subst (λ (inode : ℕ).
+    PutsAll stored inode root (root_of new) c.deref.result.now c.args.batch.now c.put_all.new.batch)
+    c.new.ensures puts))
     c.put_all.ensures.ok
 
 pub returns-clause-fits : goal.returns-clause-fits

@@ -4,14 +4,21 @@ use Rattle.nl_image.proofs.logs.read_logs.Goals as goal
 
 pub returns-then-have_own-clause-meets : goal.returns-then-have_own-clause-meets
 returns-then-have_own-clause-meets c =
-    has-logs c.args.sections.now c.args.tables.now c.requires.sectioned c.requires.tables c.requires.numbered c.in_ok-logs.logs c.in_ok-logs.ensures.found
-    (own-same c.as_slice.result.now c.args.tables.now.numbers c.as_slice-2.result.now c.in_ok-logs.logs.payload c.as_slice.ensures c.as_slice-2.ensures (c.if-have_own.ensures.0 refl))
+    has-logs c.args.sections.now c.args.tables.now c.requires.sectioned c.requires.tables c.requires.numbered
+    c.in_ok-logs.logs c.in_ok-logs.ensures.found
+    (own-same c.as_slice.result.now c.args.tables.now.numbers c.as_slice-2.result.now
+    c.in_ok-logs.logs.payload c.as_slice.ensures c.as_slice-2.ensures
+    (c.if-have_own.ensures.0 refl))
 
 pub returns-else-have_own-clause-refused : goal.returns-else-have_own-clause-refused
 returns-else-have_own-clause-refused c = inr (
   7,
   refl,
-  own-fails c.args.sections.now c.args.tables.now c.requires.sectioned c.requires.tables c.requires.numbered c.in_ok-logs.logs c.in_ok-logs.ensures.found c.summaries_are_one.ensures.one
+  own-fails c.args.sections.now c.args.tables.now c.requires.sectioned c.requires.tables c.requires.numbered
+      c.in_ok-logs.logs c.in_ok-logs.ensures.found c.summaries_are_one.ensures.one
       (λ own. let lie : false ≡ true = c.if-have_own.ensures.1
-      (own-same c.args.tables.now.numbers c.as_slice.result.now c.in_ok-logs.logs.payload c.as_slice-2.result.now (sym c.as_slice.ensures) (sym c.as_slice-2.ensures) own) in cc),
+      (own-same c.args.tables.now.numbers c.as_slice.result.now c.in_ok-logs.logs.payload
+      c.as_slice-2.result.now
+      (sym c.as_slice.ensures) (sym c.as_slice-2.ensures) own) in
+      cc),
 )

@@ -6,13 +6,23 @@ use Rattle.nl_image.proofs.reading.read_checked.Goals as goal
 
 pub returns-then-has_zeros-clause-image : goal.returns-then-has_zeros-clause-image
 returns-then-has_zeros-clause-image c =
-    meets-all c.args.sections.now.image.now (parts_read c.args.sections.now c.args.tables.now) c.requires.tables c.in_ok-logs.ensures.meets c.in_ok-check_trees.ensures.holds
-    (has-zeros c.args.sections.now c.args.tables.now c.requires.sectioned c.requires.tables (c.if-has_zeros.ensures.0 refl))
+    meets-all c.args.sections.now.image.now
+    (parts_read c.args.sections.now c.args.tables.now) c.requires.tables c.in_ok-logs.ensures.meets
+    c.in_ok-check_trees.ensures.holds
+    (has-zeros c.args.sections.now c.args.tables.now c.requires.sectioned c.requires.tables
+    (c.if-has_zeros.ensures.0 refl))
 
 pub returns-else-has_zeros-clause-refused : goal.returns-else-has_zeros-clause-refused
 returns-else-has_zeros-clause-refused c = inr (
   11,
   refl,
-  zeros-fail c.args.sections.now.image.now (parts_read c.args.sections.now c.args.tables.now) c.requires.tables c.in_ok-logs.ensures.meets c.in_ok-check_trees.ensures.holds
-      (λ zeros. let lie : false ≡ true = c.if-has_zeros.ensures.1 (are-zeros c.args.sections.now c.args.tables.now c.requires.sectioned c.requires.tables zeros) in cc),
+  zeros-fail c.args.sections.now.image.now
+      (parts_read c.args.sections.now c.args.tables.now) c.requires.tables c.in_ok-logs.ensures.meets
+      c.in_ok-check_trees.ensures.holds
+      (λ zeros.
+      let lie : false ≡ true =
+      c.if-has_zeros.ensures.1
+      (are-zeros c.args.sections.now c.args.tables.now c.requires.sectioned c.requires.tables
+      zeros) in
+      cc),
 )

@@ -6,8 +6,10 @@ restore-requires c = length-segments c.args.sections.now c.requires
 
 pub returns-clause-found : goal.returns-clause-found
 returns-clause-found c =
-    have_segments c.args.sections.now c.requires c.restore.result c.restore.ensures.found c.restore.ensures.only
+    have_segments c.args.sections.now c.requires c.restore.result c.restore.ensures.found
+    c.restore.ensures.only
 
 pub returns-clause-refused : goal.returns-clause-refused
 returns-clause-refused c =
-    segments-refused c.args.sections.now c.requires c.restore.result c.restore.ensures.only c.restore.ensures.refused
+    segments-refused c.args.sections.now c.requires c.restore.result c.restore.ensures.only
+    c.restore.ensures.refused

@@ -11,6 +11,10 @@ assembled head segments numbers kept padding h s n k p a b c d e = rw (a, b, c, 
 
 pub returns-clause-bytes : goal.returns-clause-bytes
 returns-clause-bytes g c =
-    let total : c.args.superblock.now.segments * c.args.superblock.now.blocks ≡ c.capacity.result = rw (c.requires.shape.segments, c.requires.shape.blocks) (sym c.capacity.ensures.count) in
-    let zeros : c.fill.new.self ≡ replicate (padding_of c.args.superblock.now) 0 = c.fill.ensures.after (λ y e. e) ∙ ap (λ n. replicate n 0) (omega arith) in
-    assembled _ _ _ _ _ _ _ _ _ _ c.write.ensures.spelling (c.dump.ensures.bytes ∙ ap sufile_bytes c.table.ensures) c.dump-2.ensures c.write_checkpoints.ensures.bytes zeros
+    let total : c.args.superblock.now.segments * c.args.superblock.now.blocks ≡ c.capacity.result =
+    rw (c.requires.shape.segments, c.requires.shape.blocks) (sym c.capacity.ensures.count) in
+    let zeros : c.fill.new.self ≡ replicate (padding_of c.args.superblock.now) 0 =
+    c.fill.ensures.after (λ y e. e) ∙ ap (λ n. replicate n 0) (omega arith) in
+    assembled _ _ _ _ _ _ _ _ _ _ c.write.ensures.spelling
+    (c.dump.ensures.bytes ∙ ap sufile_bytes c.table.ensures) c.dump-2.ensures
+    c.write_checkpoints.ensures.bytes zeros

@@ -6,11 +6,14 @@ use Rattle.nl_image.proofs.writing.write_image.Goals as goal
 -- what is written fills the place, which is nothing else
 filled : (n : ℕ) (front blocks rest spelling : List ℕ) → n ≡ length (front ++ blocks) → front ≡ spelling
     → take n (front ++ blocks ++ rest) ≡ spelling ++ blocks
-filled n front blocks rest spelling count is = ap (λ k. take k (front ++ blocks ++ rest)) count ∙ take-append_seam (front ++ blocks) rest ∙ ap (λ f. f ++ blocks) is
+filled n front blocks rest spelling count is =
+    ap (λ k. take k (front ++ blocks ++ rest)) count ∙ take-append_seam (front ++ blocks) rest
+    ∙ ap (λ f. f ++ blocks) is
 
 pub returns-clause-image : goal.returns-clause-image
 returns-clause-image g c all sized =
-    let long : c.in_ok-image.image.len ≡ length (c.write_front.new.out ++ c.dump_blocks.new.out) = omega (arith, length-append c.write_front.new.out c.dump_blocks.new.out) in
+    let long : c.in_ok-image.image.len ≡ length (c.write_front.new.out ++ c.dump_blocks.new.out) =
+    omega (arith, length-append c.write_front.new.out c.dump_blocks.new.out) in
     record {
       shape = c.superblock_over-superblock.result;
       entries = c.args.kept.now;

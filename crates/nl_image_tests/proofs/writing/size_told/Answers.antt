@@ -6,6 +6,7 @@ use Rattle.nl_image_tests.proofs.writing.size_told.Goals as goal
 
 pub size_of_blocks-requires-clause-within : goal.size_of_blocks-requires-clause-within
 size_of_blocks-requires-clause-within g c = λ v some.
-    let inside = number-inside (g.S.Vstore.store c.args.store.now) (g.met.S.Vstore.is_store c.args.store.now) v
+    let inside =
+    number-inside (g.S.Vstore.store c.args.store.now) (g.met.S.Vstore.is_store c.args.store.now) v
     (subst (λ (pages : Pages). IsSome (pages v)) (g.met.S.Vstore.reads_pages c.args.store.now) some) in
     subst (λ (n : ℕ). v ≤ n) (sym c.capacity.ensures.count) inside.1

@@ -7,7 +7,10 @@ use Rattle.nl_layout.proofs.node.slots_in.Goals as goal
 
 pub loop-s-preserved : goal.loop-s-preserved
 loop-s-preserved c = record {
-  read = read_slot c.loop-s.slots c.args.bytes.now c.loop-s.s c.new.result (let r = c.loop-s.invariant.room in let t = c.loop-s-test.true in omega arith) c.loop-s.invariant.read (c.new.ensures ∙ c.read_u64.ensures);
+  read =
+      read_slot c.loop-s.slots c.args.bytes.now c.loop-s.s c.new.result
+      (let r = c.loop-s.invariant.room in let t = c.loop-s-test.true in omega arith) c.loop-s.invariant.read
+      (c.new.ensures ∙ c.read_u64.ensures);
   room = simp length-set c.loop-s.invariant.room;
 }
 
@@ -15,7 +18,8 @@ all : (c : goal.After-loop-s) → c.loop-s.slots ≡ slots_at 128 c.args.bytes.n
 all c =
     let r = c.loop-s.invariant.room in
     let done : c.loop-s.s ≡ 128 = omega arith in
-    let whole : take 128 c.loop-s.slots ≡ slots_at 128 c.args.bytes.now = subst (λ (s : ℕ). take s c.loop-s.slots ≡ slots_at s c.args.bytes.now) done c.loop-s.invariant.read in
+    let whole : take 128 c.loop-s.slots ≡ slots_at 128 c.args.bytes.now =
+    subst (λ (s : ℕ). take s c.loop-s.slots ≡ slots_at s c.args.bytes.now) done c.loop-s.invariant.read in
     sym (take_all 128 c.loop-s.slots (omega arith)) ∙ whole
 
 small : (c : goal.After-loop-s) (i : ℕ) → slice_index c.args.bytes.now i < 256
@@ -28,4 +32,6 @@ pub returns-clause-spelled : goal.returns-clause-spelled
 returns-clause-spelled c = ap slots_bytes (all c) ∙ slots_at-spelled 128 c.args.bytes.now c.requires (small c)
 
 pub returns-clause-fit : goal.returns-clause-fit
-returns-clause-fit c = subst (λ (ns : List ℕ). All (λ number. number < 2 ^ 64) ns) (sym (all c)) (slots_at-fit 128 c.args.bytes.now (small c))
+returns-clause-fit c =
+    subst (λ (ns : List ℕ). All (λ number. number < 2 ^ 64) ns) (sym (all c))
+    (slots_at-fit 128 c.args.bytes.now (small c))

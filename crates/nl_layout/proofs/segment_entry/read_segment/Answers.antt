@@ -7,8 +7,11 @@ use Rattle.nl_layout.proofs.segment_entry.read_segment.Goals as goal
 
 pub returns-else-eq-clause-only : goal.returns-else-eq-clause-only
 returns-else-eq-clause-only c = λ info spells.
-    let read : Some c.in_ok-info.info ≡ Some info = sym c.in_ok-info.was ∙ c.from_bytes.ensures ∙ segment_at-Spells c.args.bytes.now info spells in
-    let again : c.as_slice.result.now ≡ c.args.bytes.now = c.as_slice.ensures ∙ c.write_segment.ensures.spelling ∙ ap segment_bytes (some_inj read) ∙ sym spells.spelling in
+    let read : Some c.in_ok-info.info ≡ Some info =
+    sym c.in_ok-info.was ∙ c.from_bytes.ensures ∙ segment_at-Spells c.args.bytes.now info spells in
+    let again : c.as_slice.result.now ≡ c.args.bytes.now =
+    c.as_slice.ensures ∙ c.write_segment.ensures.spelling ∙ ap segment_bytes (some_inj read)
+    ∙ sym spells.spelling in
     let no : false ≡ true = (slice_eq-Decides Decides-eqb _ _ _ c.if-eq.ensures).1 again in cc
   where
     some_inj : {A : Type 0} {a b : A} → Some a ≡ Some b → a ≡ b

@@ -12,6 +12,9 @@ returns-clause-does g c =
     let old = c.args.pen.now in
     let new = c.apply.new.self in
     let found = c.in_ok-apply.field-0 in
-    let does : Does unshared old (event.ChangeMode c.args.number c.args.mode) (Ok found) new = c.in_ok-apply.ensures in
-    let same : found ≡ answer.Done = mode-done old new found c.means_a_world.ensures c.args.number c.args.mode does in
-    subst (λ (a : Answer). Does unshared old (event.ChangeMode c.args.number c.args.mode) (Ok a) new) same does
+    let does : Does unshared old (event.ChangeMode c.args.number c.args.mode) (Ok found) new =
+    c.in_ok-apply.ensures in
+    let same : found ≡ answer.Done =
+    mode-done old new found c.means_a_world.ensures c.args.number c.args.mode does in
+    subst
+    (λ (a : Answer). Does unshared old (event.ChangeMode c.args.number c.args.mode) (Ok a) new) same does

@@ -9,5 +9,10 @@ pub returns : goal.returns
 returns g c =
     let old = c.args.pen.now in
     let new = c.apply.new.self in
-    let does : Does unshared old (event.Resize c.args.segments) (Ok c.in_ok-apply.field-0) new = c.in_ok-apply.ensures in
-    record { does = subst (λ (a : Answer). Does unshared old (event.Resize c.args.segments) (Ok a) new) does.becomes.1.answer_is does }
+    let does : Does unshared old (event.Resize c.args.segments) (Ok c.in_ok-apply.field-0) new =
+    c.in_ok-apply.ensures in
+    record {
+      does =
+          subst (λ (a : Answer). Does unshared old (event.Resize c.args.segments) (Ok a) new)
+          does.becomes.1.answer_is does;
+    }

@@ -14,8 +14,10 @@ returns-then-not-is_moved g c = record {
 
 pub loop-segment-smaller : goal.loop-segment-smaller
 loop-segment-smaller g c =
-    fewer c.loop-segment.pen c.apply-reply.new.self c.args.segment c.args.now c.cleaning_event-event.result c.apply-reply.result
-    c.loop-segment.invariant.held (record { next = c.cleaning_event-event.ensures; does = c.apply-reply.ensures })
+    fewer c.loop-segment.pen c.apply-reply.new.self c.args.segment c.args.now c.cleaning_event-event.result
+    c.apply-reply.result
+    c.loop-segment.invariant.held
+    (record { next = c.cleaning_event-event.ensures; does = c.apply-reply.ensures })
     (sym c.is_moved.ensures ∙ c.if-not-is_moved.false)
 
 pub loop-segment-preserved : goal.loop-segment-preserved

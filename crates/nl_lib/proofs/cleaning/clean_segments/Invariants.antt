@@ -8,6 +8,8 @@ use Rattle.nl_lib.proofs.cleaning.clean_segments.Given as goal
 abbrev pub invariant-loop-segment : goal.invariant-loop-segment
 invariant-loop-segment g l = record {
   count : l.retired ≡ l.segment-index;
-  so_far : (result : Cleaned) (new : Layout) → CleansSegments l.fn.now (drop l.segment-index l.segments) l.pen result new
-      → CleansSegments l.fn.now l.segments l.fn.pen (record result { retired = l.retired + result.retired }) new;
+  so_far : (result : Cleaned) (new : Layout)
+      → CleansSegments l.fn.now (drop l.segment-index l.segments) l.pen result new
+      → CleansSegments l.fn.now l.segments l.fn.pen
+      (record result { retired = l.retired + result.retired }) new;
 }

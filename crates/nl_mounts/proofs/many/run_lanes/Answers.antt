@@ -9,4 +9,5 @@ returns g c =
     zip_all (HasRunBy m jobs) c.args.lanes.now now c.for_each_mut.auto.s
     (λ i d less.
     let at = (c.for_each_mut.ensures i d less).1 in
-    subst (λ (x : LaneView). HasRunBy m jobs x (slice_index_or now i d)) at.argument_is (subst (HasRunBy m jobs at.argument.now) at.left at.call))
+    subst (λ (x : LaneView). HasRunBy m jobs x (slice_index_or now i d)) at.argument_is
+    (subst (HasRunBy m jobs at.argument.now) at.left at.call))

@@ -6,5 +6,7 @@ use Rattle.nl_mounts.proofs.port.find.Goals as goal
 pub returns-clause-finds : goal.returns-clause-finds
 returns-clause-finds g c =
     let image = c.args.image.now in
-    looked_at c.args.mount.now c.args.seen.now c.in-Some.front image c.histories_show_images.ensures c.mounts_stay.ensures c.requires.claim c.requires.volume c.requires.whole
-    c.in-Some.ensures.later c.in-Some.ensures.log c.tree_of_mount.result (c.tree_of_mount.ensures ∙ ap (λ n. mounted_tree image.tables n) c.number.ensures)
+    looked_at c.args.mount.now c.args.seen.now c.in-Some.front image c.histories_show_images.ensures
+    c.mounts_stay.ensures c.requires.claim c.requires.volume c.requires.whole
+    c.in-Some.ensures.later c.in-Some.ensures.log c.tree_of_mount.result
+    (c.tree_of_mount.ensures ∙ ap (λ n. mounted_tree image.tables n) c.number.ensures)

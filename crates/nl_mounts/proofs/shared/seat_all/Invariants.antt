@@ -9,5 +9,6 @@ invariant-loop-seat g l = record {
   next : (goal.iterator-loop-seat g).can_next l.seat-iterator;
   ends : (goal.iterator-loop-seat g).is_finite l.seat-iterator;
   room : length l.ports.items + length (into_iter_items l.seat-iterator) ≤ l.ports.cap;
-  count : length l.ports.items + length (into_iter_items l.seat-iterator) ≡ length l.fn.ports.items + length l.fn.seats.items;
+  count : length l.ports.items + length (into_iter_items l.seat-iterator)
+      ≡ length l.fn.ports.items + length l.fn.seats.items;
 }

@@ -6,5 +6,7 @@ pub returns-clause-unmounted : goal.returns-clause-unmounted
 returns-clause-unmounted g c = record {
   old = c.args.locked.now;
   sound = c.is_sound.ensures;
-  comes = Came c.unmount.new.self (sym c.volume.ensures ∙ (c.if-volume.false ∙ c.volume-2.ensures)) c.unmount.ensures.ran;
+  comes =
+      Came c.unmount.new.self
+      (sym c.volume.ensures ∙ (c.if-volume.false ∙ c.volume-2.ensures)) c.unmount.ensures.ran;
 }

@@ -9,4 +9,5 @@ pub returns : goal.returns
 unfolding keyword_in
 returns c =
     c.copied.ensures
-    ∙ find_from_yields_List (λ k. bytes_eq c.args.word.now (spelling k)) _ _ c.find.result c.find.ensures.ran (YieldsList-from_slice _ c.iter.ensures.rest) (λ x b q k. search (rules, tests))
+    ∙ find_from_yields_List (λ k. bytes_eq c.args.word.now (spelling k)) _ _ c.find.result c.find.ensures.ran
+    (YieldsList-from_slice _ c.iter.ensures.rest) (λ x b q k. search (rules, tests))

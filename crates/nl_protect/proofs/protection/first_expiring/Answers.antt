@@ -11,13 +11,16 @@ use Rattle.nl_protect.proofs.protection.first_expiring.Goals as goal
 pub ending_before-requires : goal.ending_before-requires
 ending_before-requires c =
     let t = c.args.kept.now.table in
-    subst IsRising (sym c.earlier.ensures.earlier) (rising-front t.earlier (t.latest ∷ []) c.earlier.ensures.table.rising)
+    subst IsRising (sym c.earlier.ensures.earlier)
+    (rising-front t.earlier (t.latest ∷ []) c.earlier.ensures.table.rising)
 
 pub returns-clause-first : goal.returns-clause-first
 returns-clause-first c =
     let t = c.args.kept.now.table in
     c.first_plain.ensures
-    ∙ ap first_plain (c.ending_before.ensures ∙ ap (λ (xs : List Checkpoint). filter (is_before c.args.boundary) xs) c.earlier.ensures.earlier)
+    ∙ ap first_plain
+    (c.ending_before.ensures
+    ∙ ap (λ (xs : List Checkpoint). filter (is_before c.args.boundary) xs) c.earlier.ensures.earlier)
     ∙ sym (expired-first c.args.boundary t.latest t.earlier c.earlier.ensures.table.rising)
 
 pub returns-clause-low : goal.returns-clause-low

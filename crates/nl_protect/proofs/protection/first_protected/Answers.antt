@@ -10,14 +10,27 @@ use Rattle.nl_protect.proofs.protection.first_protected.Goals as goal
 pub returns : goal.returns
 returns c =
     let kept = c.args.kept.now in
-    let point = IsPartitionPoint-from_clause (is_unprotected c.args.now c.args.period) kept c.partition_point-index.result c.partition_point-index.ensures.partitioned (unprotected-first c.args.now c.args.period kept c.requires) (λ a r q k. search rules) in
+    let point =
+    IsPartitionPoint-from_clause
+    (is_unprotected c.args.now c.args.period) kept c.partition_point-index.result
+    c.partition_point-index.ensures.partitioned
+    (unprotected-first c.args.now c.args.period kept c.requires) (λ a r q k. search rules) in
     let found = c.in_ok-checkpoint.ensures.lookup in
     sym (ap (option_map (λ (x : Checkpoint). x.number))
-    (protected-at c.args.now c.args.period kept c.partition_point-index.result c.in_ok-checkpoint.checkpoint.now point (ltb-true _ _ (sym found.0)) ∙ ap Some (sym found.1)))
+    (protected-at c.args.now c.args.period kept c.partition_point-index.result
+    c.in_ok-checkpoint.checkpoint.now point
+    (ltb-true _ _ (sym found.0))
+    ∙ ap Some (sym found.1)))
 
 pub returns-in_err-checkpoint : goal.returns-in_err-checkpoint
 returns-in_err-checkpoint c =
     let kept = c.args.kept.now in
-    let point = IsPartitionPoint-from_clause (is_unprotected c.args.now c.args.period) kept c.partition_point-index.result c.partition_point-index.ensures.partitioned (unprotected-first c.args.now c.args.period kept c.requires) (λ a r q k. search rules) in
+    let point =
+    IsPartitionPoint-from_clause
+    (is_unprotected c.args.now c.args.period) kept c.partition_point-index.result
+    c.partition_point-index.ensures.partitioned
+    (unprotected-first c.args.now c.args.period kept c.requires) (λ a r q k. search rules) in
     let past = ltb-false _ _ (sym c.get.ensures.lookup.0 ∙ ap is_some c.in_err-checkpoint.was) in
-    c.from_residual.ensures ∙ sym (ap (option_map (λ (x : Checkpoint). x.number)) (protected-none c.args.now c.args.period kept c.partition_point-index.result point past))
+    c.from_residual.ensures
+    ∙ sym (ap (option_map (λ (x : Checkpoint). x.number))
+    (protected-none c.args.now c.args.period kept c.partition_point-index.result point past))

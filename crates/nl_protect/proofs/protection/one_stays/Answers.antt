@@ -7,5 +7,6 @@ use Rattle.nl_protect.proofs.protection.one_stays.Goals as goal
 
 pub returns : goal.returns
 returns c =
-    any_from_yields_List (is_staying c.args.below) _ _ c.any.result c.any.ensures.ran (YieldsList-from_rev_slice c.args.kept.now (cc)) (λ x b q k. search (rules, tests))
+    any_from_yields_List (is_staying c.args.below) _ _ c.any.result c.any.ensures.ran
+    (YieldsList-from_rev_slice c.args.kept.now (cc)) (λ x b q k. search (rules, tests))
     ∙ any-reverse (is_staying c.args.below) c.args.kept.now

@@ -5,5 +5,6 @@ abbrev pub invariant-loop : goal.invariant-loop
 invariant-loop g l = record {
   count : length l.seats.items ≡ l.counter;
   shown : l.named.writer.desk.shown ≡ l.fn.named.writer.desk.shown;
-  unseen : drop l.named.writer.behind l.named.writer.log.items ≡ drop l.fn.named.writer.behind l.fn.named.writer.log.items;
+  unseen : drop l.named.writer.behind l.named.writer.log.items
+      ≡ drop l.fn.named.writer.behind l.fn.named.writer.log.items;
 }

@@ -8,5 +8,6 @@ abbrev pub invariant-loop-birth : goal.invariant-loop-birth
 invariant-loop-birth l = record {
   next : goal.iterator-loop-birth.can_next l.birth-iterator;
   ends : goal.iterator-loop-birth.is_finite l.birth-iterator;
-  numbers : with_births l.checkpoint (into_iter_items l.birth-iterator) l.numbers ≡ with_births l.checkpoint l.fn.births.items l.fn.numbers;
+  numbers : with_births l.checkpoint (into_iter_items l.birth-iterator) l.numbers
+      ≡ with_births l.checkpoint l.fn.births.items l.fn.numbers;
 }

@@ -6,5 +6,8 @@ pub returns-clause-movable : goal.returns-clause-movable
 returns-clause-movable g c = record {
   there = c.requires.segment;
   closed = c.requires.closed;
-  inside = front-inside (g.V.Vstore.store c.args.store.now) (by_period (g.K.Keeping.test c.args.keeping.now)) c.args.segment c.args.limit _ c.in_ok-needed.ensures.first;
+  inside =
+      front-inside (g.V.Vstore.store c.args.store.now)
+      (by_period (g.K.Keeping.test c.args.keeping.now)) c.args.segment c.args.limit _
+      c.in_ok-needed.ensures.first;
 }

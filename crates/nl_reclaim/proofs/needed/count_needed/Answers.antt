@@ -6,5 +6,7 @@ use Rattle.nl_reclaim.proofs.needed.count_needed.Goals as goal
 pub loop-position-preserved : goal.loop-position-preserved
 loop-position-preserved g c =
     let store = g.V.Vstore.store c.args.store.now in
-    counted-next (needed_at store (by_period (g.K.Keeping.test c.args.keeping.now))) (c.args.segment * store.segments.blocks) c.loop-position.position c.loop-position.count c.counted-count.result c.needed_number.result
+    counted-next (needed_at store (by_period (g.K.Keeping.test c.args.keeping.now)))
+    (c.args.segment * store.segments.blocks) c.loop-position.position c.loop-position.count
+    c.counted-count.result c.needed_number.result
     c.loop-position.invariant c.needed_number.ensures c.counted-count.ensures

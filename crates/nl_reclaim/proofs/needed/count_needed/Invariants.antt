@@ -3,4 +3,6 @@ use Rattle.nl_vstore.specs.Located.{AreCounted, by_period, needed_at}
 use Rattle.nl_reclaim.proofs.needed.count_needed.Given as goal
 
 abbrev pub invariant-loop-position : goal.invariant-loop-position
-invariant-loop-position g l = AreCounted (needed_at (g.V.Vstore.store l.store) (by_period (g.K.Keeping.test l.keeping))) (l.segment * (g.V.Vstore.store l.store).segments.blocks) l.position l.count
+invariant-loop-position g l =
+    AreCounted (needed_at (g.V.Vstore.store l.store) (by_period (g.K.Keeping.test l.keeping)))
+    (l.segment * (g.V.Vstore.store l.store).segments.blocks) l.position l.count

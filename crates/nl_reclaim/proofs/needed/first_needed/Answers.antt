@@ -6,5 +6,8 @@ use Rattle.nl_reclaim.proofs.needed.first_needed.Goals as goal
 pub loop-position-preserved : goal.loop-position-preserved
 loop-position-preserved g c =
     let store = g.V.Vstore.store c.args.store.now in
-    seen-next (needed_at store (by_period (g.K.Keeping.test c.args.keeping.now))) (c.args.segment * store.segments.blocks) c.args.limit c.loop-position.position c.loop-position.count c.in_ok-count.count c.loop-position.first.items c.noted.new.first.items c.needed_number-found.result
-    c.loop-position.invariant c.needed_number-found.ensures c.in_ok-count.ensures.count c.in_ok-count.ensures.first
+    seen-next (needed_at store (by_period (g.K.Keeping.test c.args.keeping.now)))
+    (c.args.segment * store.segments.blocks) c.args.limit c.loop-position.position c.loop-position.count
+    c.in_ok-count.count c.loop-position.first.items c.noted.new.first.items c.needed_number-found.result
+    c.loop-position.invariant c.needed_number-found.ensures c.in_ok-count.ensures.count
+    c.in_ok-count.ensures.first

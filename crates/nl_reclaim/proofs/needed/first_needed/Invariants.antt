@@ -4,4 +4,6 @@ use Rattle.nl_reclaim.specs.Private.Loops.{AreSeen}
 use Rattle.nl_reclaim.proofs.needed.first_needed.Given as goal
 
 abbrev pub invariant-loop-position : goal.invariant-loop-position
-invariant-loop-position g l = AreSeen (needed_at (g.V.Vstore.store l.store) (by_period (g.K.Keeping.test l.keeping))) (l.segment * (g.V.Vstore.store l.store).segments.blocks) l.limit l.position l.count l.first.items
+invariant-loop-position g l =
+    AreSeen (needed_at (g.V.Vstore.store l.store) (by_period (g.K.Keeping.test l.keeping)))
+    (l.segment * (g.V.Vstore.store l.store).segments.blocks) l.limit l.position l.count l.first.items

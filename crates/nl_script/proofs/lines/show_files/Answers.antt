@@ -15,8 +15,12 @@ returns-in-Ok g c moment =
       text = told.text;
       does = inl (record {
         replies = replies;
-        run = subst (λ (es : List Event). Run g.V.Volume.habits.does old es replies new) c.in-Ok.ensures.events c.in-Ok.ensures.run;
-        end_is = told.does ∙ ap (λ (es : List Event). files_end c.args.number moment es c.as_slice-in-Ok.result.now) events
+        run =
+            subst (λ (es : List Event). Run g.V.Volume.habits.does old es replies new) c.in-Ok.ensures.events
+            c.in-Ok.ensures.run;
+        end_is =
+            told.does
+            ∙ ap (λ (es : List Event). files_end c.args.number moment es c.as_slice-in-Ok.result.now) events
             ∙ ap (files_end c.args.number moment _) c.as_slice-in-Ok.ensures.value;
       });
       written = told.written;

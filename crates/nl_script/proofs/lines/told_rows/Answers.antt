@@ -10,10 +10,13 @@ loop-segment-preserved g c =
     let rows = c.loop-segment.rows.items in
     let pushed : c.push.new.self.items ≡ rows ++ c.in_ok-row.row ∷ [] = grind (arith, common_steps) in
     let numbered : 0 + length rows ≡ c.new.result = grind (arith, common_steps) in
-    let told = told-more g.V.Volume.habits c.args.long c.args.volume.now 0 c.new.result rows c.in_ok-row.row numbered
+    let told =
+    told-more g.V.Volume.habits c.args.long c.args.volume.now 0 c.new.result rows c.in_ok-row.row numbered
     c.loop-segment.invariant.so_far c.in_ok-row.ensures.told in
     record {
       counted = grind (arith, common_steps);
       room = omega (arith, c.loop-segment.invariant.room, c.push.ensures.capacity);
-      so_far = subst (λ (xs : List SegmentRow). AreTold g.V.Volume.habits c.args.long c.args.volume.now 0 xs) (sym pushed) told;
+      so_far =
+          subst (λ (xs : List SegmentRow). AreTold g.V.Volume.habits c.args.long c.args.volume.now 0 xs)
+          (sym pushed) told;
     }

@@ -5,4 +5,5 @@ use Rattle.nl_script.proofs.readers.count_found.Given as goal
 
 -- none so far
 abbrev pub invariant-loop-index : goal.invariant-loop-index
-invariant-loop-index l = l.index + position_or_len is_bad_mount (drop l.index l.replies) ≡ position_or_len is_bad_mount l.replies
+invariant-loop-index l =
+    l.index + position_or_len is_bad_mount (drop l.index l.replies) ≡ position_or_len is_bad_mount l.replies

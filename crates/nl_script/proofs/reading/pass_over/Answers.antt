@@ -9,9 +9,11 @@ returns-then-ends_with_feed g c = λ whole consumes stops.
 
 pub returns-in-Ok-eq0 : goal.returns-in-Ok-eq0
 returns-in-Ok-eq0 g c = λ whole consumes stops.
-    passed-end whole (g.I.Read.remaining c.args.input.now) (g.I.Read.remaining c.skip_until.new.self) c.args.begun.now
+    passed-end whole (g.I.Read.remaining c.args.input.now)
+    (g.I.Read.remaining c.skip_until.new.self) c.args.begun.now
     c.at_end.result consumes stops (sym c.ends_with_feed.ensures ∙ c.if-ends_with_feed.false)
-    c.in-Ok-eq0.ensures.rest (c.in-Ok-eq0.ensures.end c.in-Ok-eq0.field-0-test) c.at_end.ensures.begun c.at_end.ensures.none
+    c.in-Ok-eq0.ensures.rest
+    (c.in-Ok-eq0.ensures.end c.in-Ok-eq0.field-0-test) c.at_end.ensures.begun c.at_end.ensures.none
 
 pub returns-in-Ok : goal.returns-in-Ok
 returns-in-Ok g c = λ whole consumes stops.

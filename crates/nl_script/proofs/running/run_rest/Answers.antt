@@ -22,7 +22,8 @@ loop-event-preserved g c =
     let i = c.loop-event.event-index in
     let rest = take (length c.args.events.now - c.len.result) (drop c.len.result c.args.events.now) in
     let next : take (i + 1) rest ≡ take i rest ++ c.event-item.result ∷ [] =
-    take_more rest i c.event-item.result c.loop-event-test.true ∙ ap (λ (e : Event). take i rest ++ e ∷ []) (sym c.event-item.is) in
+    take_more rest i c.event-item.result c.loop-event-test.true
+    ∙ ap (λ (e : Event). take i rest ++ e ∷ []) (sym c.event-item.is) in
     let old = c.args.volume.now in
     let now = c.apply-reply.new.self in
     let done = c.loop-event.invariant.so_far in
@@ -32,9 +33,11 @@ loop-event-preserved g c =
       room = grind (arith, common_steps);
       so_far = (
         done.0 ++ reply ∷ [],
-        c.push_reserved.ensures.items ∙ ap (λ (rs : List Reply). rs ++ reply ∷ []) done.1 ∙ append_assoc c.args.replies.items done.0 (reply ∷ []),
+        c.push_reserved.ensures.items ∙ ap (λ (rs : List Reply). rs ++ reply ∷ []) done.1
+            ∙ append_assoc c.args.replies.items done.0 (reply ∷ []),
         subst (λ (es : List Event). Run g.V.Volume.habits.does old es (done.0 ++ reply ∷ []) now) (sym next)
-            (Run-more g.V.Volume.habits.does old c.loop-event.volume now (take i rest) done.0 c.event-item.result reply done.2 c.apply-reply.ensures),
+            (Run-more g.V.Volume.habits.does old c.loop-event.volume now
+            (take i rest) done.0 c.event-item.result reply done.2 c.apply-reply.ensures),
       );
     }
 
@@ -45,5 +48,9 @@ returns-clause-run g c =
     let count : c.len.result ≡ length c.args.replies.items = grind (arith, common_steps) in
     let all : take c.loop-event.event-index rest ≡ drop (length c.args.replies.items) c.args.events.now =
     take_all c.loop-event.event-index rest (omega arith) ∙ take_rest c.args.events.now c.len.result
-    ∙ ap (λ n. drop n c.args.events.now) count in
-    (done.0, done.1, subst (λ (es : List Event). Run g.V.Volume.habits.does c.args.volume.now es done.0 c.loop-event.volume) all done.2)
+    ∙ ap (λ n. drop n c.args.events.now) count in (
+      done.0,
+      done.1,
+      subst (λ (es : List Event). Run g.V.Volume.habits.does c.args.volume.now es done.0 c.loop-event.volume)
+          all done.2,
+    )

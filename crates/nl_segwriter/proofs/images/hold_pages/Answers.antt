@@ -10,8 +10,13 @@ loop-k-preserved c =
     let table = c.loop-k.payload in
     let inside = c.requires.inside in
     rw c.set.ensures.set (record {
-      held = more_row c.args.first c.loop-k.k c.args.tags.now c.index-tags-k.result c.in_ok-page.page table (page_in c.args.pages.now) (omega arith) c.index-tags-k.is
-          (omega (arith, c.loop-k.invariant.size, c.requires.size, c.requires.inside)) c.in_ok-page.ensures.found c.loop-k.invariant.held;
-      others = same_one_more c.args.first c.loop-k.k (held_in c.args.payload.now) table _ c.loop-k.invariant.others;
+      held =
+          more_row c.args.first c.loop-k.k c.args.tags.now c.index-tags-k.result c.in_ok-page.page table
+          (page_in c.args.pages.now) (omega arith) c.index-tags-k.is
+          (omega (arith, c.loop-k.invariant.size, c.requires.size, c.requires.inside))
+          c.in_ok-page.ensures.found c.loop-k.invariant.held;
+      others =
+          same_one_more c.args.first c.loop-k.k
+          (held_in c.args.payload.now) table _ c.loop-k.invariant.others;
       size = length-set table (c.args.first + c.loop-k.k) _ ∙ c.loop-k.invariant.size;
     })

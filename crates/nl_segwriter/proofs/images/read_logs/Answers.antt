@@ -18,7 +18,10 @@ pub loop-at-preserved : goal.loop-at-preserved
 loop-at-preserved c =
     let none : Segments = record { blocks = 0; each = [] } in
     record {
-      read = more_read c.args.first c.loop-at.at c.in_ok-at.at c.args.end none (held_in c.args.payload.now) (held_in c.loop-at.payload) (held_in c.read_log.new.payload) (page_in c.args.pages.now)
-          c.loop-at.invariant.read c.in_ok-at.ensures.held c.in_ok-at.ensures.others c.in_ok-at.ensures.only c.loop-at-test.true;
+      read =
+          more_read c.args.first c.loop-at.at c.in_ok-at.at c.args.end none (held_in c.args.payload.now)
+          (held_in c.loop-at.payload) (held_in c.read_log.new.payload) (page_in c.args.pages.now)
+          c.loop-at.invariant.read c.in_ok-at.ensures.held c.in_ok-at.ensures.others c.in_ok-at.ensures.only
+          c.loop-at-test.true;
       size = c.in_ok-at.ensures.same_size ∙ c.loop-at.invariant.size;
     }

@@ -10,7 +10,8 @@ use Rattle.nl_segwriter.proofs.payload.hold_row.Goals as goal
 pub overflow_add-number : goal.overflow_add-number
 overflow_add-number c =
     let first = ap length c.in-Some.ensures.steps.0 in
-    omega (arith, c.set.ensures.small, c.loop-item.invariant.size, c.loop-item.invariant.count, c.requires, first)
+    omega
+    (arith, c.set.ensures.small, c.loop-item.invariant.size, c.loop-item.invariant.count, c.requires, first)
 
 pub loop-item-preserved : goal.loop-item-preserved
 loop-item-preserved c =
@@ -22,15 +23,23 @@ loop-item-preserved c =
     let first : into_iter_items c.loop-item.item-iterator ≡ item ∷ rest = c.in-Some.ensures.steps.0 in
     let long : length (into_iter_items c.loop-item.item-iterator) ≡ suc (length rest) = ap length first in
     let within : number < length table = omega (arith, inv.count, inv.size, c.requires, long) in
-    let others : (b : ℕ) → b ≢ number → held_in c.set.new.self b ≡ held_in table b = λ b apart. ap (λ (t : List (Option Payload)). held_in t b) c.set.ensures.set ∙ get_or-set_other table number b (Some item) None apart in
-    let there : held_in c.set.new.self number ≡ Some item = ap (λ (t : List (Option Payload)). held_in t number) c.set.ensures.set ∙ get_or-set_same table number (Some item) None within in
-    let left : (j k : ℕ) → c.args.first + j ≡ number + k → slice_get (item ∷ rest) k ≡ slice_get c.args.payload j = λ j k e. ap (λ (xs : List Payload). slice_get xs k) (sym first) ∙ inv.rest j k e in
+    let others : (b : ℕ) → b ≢ number → held_in c.set.new.self b ≡ held_in table b = λ b apart.
+    ap (λ (t : List (Option Payload)). held_in t b) c.set.ensures.set
+    ∙ get_or-set_other table number b (Some item) None apart in
+    let there : held_in c.set.new.self number ≡ Some item =
+    ap (λ (t : List (Option Payload)). held_in t number) c.set.ensures.set
+    ∙ get_or-set_same table number (Some item) None within in
+    let left : (j k : ℕ) → c.args.first + j ≡ number + k
+    → slice_get (item ∷ rest) k ≡ slice_get c.args.payload j =
+    λ j k e. ap (λ (xs : List Payload). slice_get xs k) (sym first) ∙ inv.rest j k e in
     record {
       long = omega (arith, inv.long, long, c.in-Some.ensures.steps.1);
       count = omega (arith, inv.count, long);
       low = omega (arith, inv.low);
       size = ap length c.set.ensures.set ∙ length-set table number (Some item) ∙ inv.size;
-      others = others_one c.args.first (length c.args.payload) number _ _ _ inv.low (omega (arith, inv.count, long)) others inv.others;
+      others =
+          others_one c.args.first (length c.args.payload) number _ _ _ inv.low
+          (omega (arith, inv.count, long)) others inv.others;
       stand = stand_one c.args.first number _ _ c.args.payload rest item inv.low others there inv.stand left;
       rest = λ j k e. left j (suc k) (omega (arith, e));
     }

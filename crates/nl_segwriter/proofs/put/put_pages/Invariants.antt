@@ -14,6 +14,7 @@ invariant-loop-page g l = record {
   count : l.number + length (into_iter_items l.page-iterator) ≡ length l.fn.pages;
   counted : CountsWrites (g.D.Device.failed l.fn.device) (g.D.Device.failed l.device);
   shape : g.D.Device.shape l.device ≡ g.D.Device.shape l.fn.device;
-  put : (b : ℕ) (page : List ℕ) → b < l.number → page_in l.fn.pages b ≡ Some page → g.D.Device.pages l.device b ≡ Some page;
+  put : (b : ℕ) (page : List ℕ) → b < l.number → page_in l.fn.pages b ≡ Some page
+      → g.D.Device.pages l.device b ≡ Some page;
   rest : (j : ℕ) → slice_get (into_iter_items l.page-iterator) j ≡ slice_get l.fn.pages (l.number + j);
 }

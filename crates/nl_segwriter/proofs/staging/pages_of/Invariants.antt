@@ -5,6 +5,10 @@ use Rattle.nl_segwriter.proofs.staging.pages_of.Given as goal
 
 abbrev pub invariant-loop-page : goal.invariant-loop-page
 invariant-loop-page l = record {
-  fits : SummaryHasSpelling (record { stamp = l.fn.stamp; checkpoint = l.fn.checkpoint; tags = map payload_tag l.items });
-  pages : l.pages.items ≡ summary_bytes (record { stamp = l.fn.stamp; checkpoint = l.fn.checkpoint; tags = map payload_tag l.items }) ∷ map payload_page (take l.page-index l.items);
+  fits : SummaryHasSpelling
+      (record { stamp = l.fn.stamp; checkpoint = l.fn.checkpoint; tags = map payload_tag l.items });
+  pages : l.pages.items
+      ≡ summary_bytes
+      (record { stamp = l.fn.stamp; checkpoint = l.fn.checkpoint; tags = map payload_tag l.items })
+      ∷ map payload_page (take l.page-index l.items);
 }

@@ -13,8 +13,15 @@ none_left (p ∷ payload) e = absurd (omega (arith, e))
 
 pub returns : goal.returns
 returns c =
-    let none : drop c.loop-log.log-index c.args.logs.now ≡ [] = drop_all c.loop-log.log-index c.args.logs.now c.loop-log-test.false in
-    let rest : c.loop-log.rest.now ≡ [] = none_left c.loop-log.rest.now (subst (λ (l : List Log). payload_count l ≡ length c.loop-log.rest.now) none c.loop-log.invariant.count) in
-    let last : AreStaged c.args.stamp c.args.checkpoint (drop c.loop-log.log-index c.args.logs.now) c.loop-log.rest.now [] =
-    subst (λ (l : List Log). AreStaged c.args.stamp c.args.checkpoint l c.loop-log.rest.now []) (sym none) (rest, refl) in
-    subst (λ (xs : List Staged). AreStaged c.args.stamp c.args.checkpoint c.args.logs.now c.args.items.now xs) (append-nil c.loop-log.all.items) (c.loop-log.invariant.onward [] last)
+    let none : drop c.loop-log.log-index c.args.logs.now ≡ [] =
+    drop_all c.loop-log.log-index c.args.logs.now c.loop-log-test.false in
+    let rest : c.loop-log.rest.now ≡ [] =
+    none_left c.loop-log.rest.now
+    (subst (λ (l : List Log). payload_count l ≡ length c.loop-log.rest.now) none
+    c.loop-log.invariant.count) in
+    let last : AreStaged c.args.stamp c.args.checkpoint
+    (drop c.loop-log.log-index c.args.logs.now) c.loop-log.rest.now [] =
+    subst (λ (l : List Log). AreStaged c.args.stamp c.args.checkpoint l c.loop-log.rest.now []) (sym none)
+    (rest, refl) in
+    subst (λ (xs : List Staged). AreStaged c.args.stamp c.args.checkpoint c.args.logs.now c.args.items.now xs)
+    (append-nil c.loop-log.all.items) (c.loop-log.invariant.onward [] last)

@@ -8,5 +8,6 @@ abbrev pub invariant-loop-log : goal.invariant-loop-log
 invariant-loop-log l = record {
   sized : AreSized (drop l.log-index l.logs);
   count : payload_count (drop l.log-index l.logs) ≡ length l.rest;
-  onward : (more : List Staged) → AreStaged l.stamp l.fn.checkpoint (drop l.log-index l.logs) l.rest more → AreStaged l.stamp l.fn.checkpoint l.logs l.items (l.all.items ++ more);
+  onward : (more : List Staged) → AreStaged l.stamp l.fn.checkpoint (drop l.log-index l.logs) l.rest more
+      → AreStaged l.stamp l.fn.checkpoint l.logs l.items (l.all.items ++ more);
 }

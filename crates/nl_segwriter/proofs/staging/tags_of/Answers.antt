@@ -10,6 +10,9 @@ loop-tag-preserved c =
     let items : List Payload = c.args.items.now in
     let item : Payload = c.loop-tag-item.result in
     let within : k < length items = omega arith in
-    let more : take (k + 1) items ≡ take k items ++ item ∷ [] = take_more items k item within ∙ ap (λ (x : Payload). take k items ++ x ∷ []) (sym c.loop-tag-item.is) in
+    let more : take (k + 1) items ≡ take k items ++ item ∷ [] =
+    take_more items k item within
+    ∙ ap (λ (x : Payload). take k items ++ x ∷ []) (sym c.loop-tag-item.is) in
     c.in_ok-push.ensures.items
-    ∙ (ap (λ (tags : List Tag). tags ++ payload_tag item ∷ []) c.loop-tag.invariant ∙ sym (ap (map payload_tag) more ∙ map-append payload_tag (take k items) (item ∷ [])))
+    ∙ (ap (λ (tags : List Tag). tags ++ payload_tag item ∷ []) c.loop-tag.invariant
+    ∙ sym (ap (map payload_tag) more ∙ map-append payload_tag (take k items) (item ∷ [])))

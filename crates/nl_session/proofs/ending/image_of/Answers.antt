@@ -9,6 +9,8 @@ returns-clause-saved g c =
       closed = c.settle.new.pen;
       settled = settled;
       pen = c.means_a_world.ensures;
-      can_be = can_be_closed c.args.pen.now.lists.dirty c.args.moment c.args.pen.now c.settle.new.pen refl c.requires settled;
+      can_be =
+          can_be_closed c.args.pen.now.lists.dirty c.args.moment c.args.pen.now c.settle.new.pen refl
+          c.requires settled;
       image_is = c.in_ok-image.ensures.image;
     }

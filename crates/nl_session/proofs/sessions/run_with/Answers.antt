@@ -21,7 +21,9 @@ returns-in-Ok-run_script g c = inl (record {
 pub returns-in-Err-run_script : goal.returns-in-Err-run_script
 returns-in-Err-run_script g c = inr (record {
   fault = Refused step.Start c.in-Err-run_script.error;
-  is_fault = no_memory c.args.arguments.now c.in-Ok.pen c.in-Err-run_script.error c.in-Ok.ensures.begun c.in-Err-run_script.ensures.refused;
+  is_fault =
+      no_memory c.args.arguments.now c.in-Ok.pen c.in-Err-run_script.error c.in-Ok.ensures.begun
+      c.in-Err-run_script.ensures.refused;
   no_line = c.in-Err-run_script.ensures.unprinted;
   status_is = c.refused.ensures;
 })

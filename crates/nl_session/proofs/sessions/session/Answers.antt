@@ -7,21 +7,36 @@ use Rattle.nl_session.proofs.sessions.session.Goals as goal
 
 pub returns-in-Ok-Run : goal.returns-in-Ok-Run
 returns-in-Ok-Run g c =
-    let asks = subst (λ (a : Asked). Asks (map (λ w. w.now) c.args.words.now) (Ok a)) c.in-Ok-Run.field-0-is c.in-Ok-Run.ensures in
+    let asks =
+    subst (λ (a : Asked). Asks (map (λ w. w.now) c.args.words.now) (Ok a)) c.in-Ok-Run.field-0-is
+    c.in-Ok-Run.ensures in
     record { asked = Ok (Run c.in-Ok-Run.arguments); asks = asks; comes = c.run.ensures }
 
 pub returns-in-Ok-Help : goal.returns-in-Ok-Help
 returns-in-Ok-Help g c =
-    let asks = subst (λ (a : Asked). Asks (map (λ w. w.now) c.args.words.now) (Ok a)) c.in-Ok-Help.field-0-is c.in-Ok-Help.ensures in
+    let asks =
+    subst (λ (a : Asked). Asks (map (λ w. w.now) c.args.words.now) (Ok a)) c.in-Ok-Help.field-0-is
+    c.in-Ok-Help.ensures in
     let input = g.I.Read.remaining c.args.input in
-    let s = streams input g.O.Write.contents c.args.output.now c.told.new.output c.args.errors.now c.told.new.errors in
-    let prints = subst (λ (text : List ℕ). Prints text s c.told.result) c.as_str.ensures.value (c.told.ensures input) in
+    let s =
+    streams input g.O.Write.contents c.args.output.now c.told.new.output c.args.errors.now
+    c.told.new.errors in
+    let prints =
+    subst (λ (text : List ℕ). Prints text s c.told.result) c.as_str.ensures.value
+    (c.told.ensures input) in
     record { asked = Ok (Help c.in-Ok-Help.text); asks = asks; comes = prints }
 
 pub returns-in-Ok-Version : goal.returns-in-Ok-Version
 returns-in-Ok-Version g c =
-    let asks = subst (λ (a : Asked). Asks (map (λ w. w.now) c.args.words.now) (Ok a)) c.in-Ok-Version.field-0-is c.in-Ok-Version.ensures in
+    let asks =
+    subst (λ (a : Asked). Asks (map (λ w. w.now) c.args.words.now) (Ok a)) c.in-Ok-Version.field-0-is
+    c.in-Ok-Version.ensures in
     let input = g.I.Read.remaining c.args.input in
-    let s = streams input g.O.Write.contents c.args.output.now c.told-in-Ok-Version.new.output c.args.errors.now c.told-in-Ok-Version.new.errors in
-    let prints = subst (λ (text : List ℕ). Prints text s c.told-in-Ok-Version.result) c.as_str-in-Ok-Version.ensures.value (c.told-in-Ok-Version.ensures input) in
+    let s =
+    streams input g.O.Write.contents c.args.output.now c.told-in-Ok-Version.new.output c.args.errors.now
+    c.told-in-Ok-Version.new.errors in
+    let prints =
+    subst
+    (λ (text : List ℕ). Prints text s c.told-in-Ok-Version.result) c.as_str-in-Ok-Version.ensures.value
+    (c.told-in-Ok-Version.ensures input) in
     record { asked = Ok (Version c.in-Ok-Version.text); asks = asks; comes = prints }

@@ -5,4 +5,6 @@ use Rattle.nl_session.specs.SharedVolumes.{is_numbered}
 use Rattle.nl_session.proofs.shared.place_of.Goals as goal
 
 pub returns : goal.returns
-returns g c = position_from_yields_List (is_numbered c.args.number) _ _ _ c.position.ensures.ran (YieldsList-from_slice _ c.iter.ensures.rest) (λ x b q k. search (rules, tests))
+returns g c =
+    position_from_yields_List (is_numbered c.args.number) _ _ _ c.position.ensures.ran
+    (YieldsList-from_slice _ c.iter.ensures.rest) (λ x b q k. search (rules, tests))

@@ -6,5 +6,11 @@ use Rattle.nl_session.proofs.starting.pen_for.Goals as goal
 
 pub returns-in-Some-clause-begun : goal.returns-in-Some-clause-begun
 returns-in-Some-clause-begun g c =
-    IfOk-weaker c.pen_at.result (λ (pen : Layout). (image : List ℕ) × IsOpenedPen image pen) (IsBegunBy c.args.arguments.now)
-    (λ pen opened. record { beginning = Kept opened.0; asked = sym c.in-Some.ensures.variant; pen = opened.1 }) c.pen_at.ensures.opened
+    IfOk-weaker c.pen_at.result (λ (pen : Layout). (image : List ℕ) × IsOpenedPen image pen)
+    (IsBegunBy c.args.arguments.now)
+    (λ pen opened. record {
+      beginning = Kept opened.0;
+      asked = sym c.in-Some.ensures.variant;
+      pen = opened.1;
+    })
+    c.pen_at.ensures.opened

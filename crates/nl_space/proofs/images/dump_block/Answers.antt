@@ -7,9 +7,12 @@ use Rattle.nl_space.proofs.images.dump_block.Goals as goal
 pub returns-then-not-is_used-clause-page : goal.returns-then-not-is_used-clause-page
 returns-then-not-is_used-clause-page g c =
     let segments : Segments = (g.S.Space.content c.args.space.now).segments in
-    let zeros : c.fill.new.self ≡ zero_page = c.fill.ensures.after (λ y e. e) ∙ ap (λ n. replicate n 0) c.requires.size in
+    let zeros : c.fill.new.self ≡ zero_page =
+    c.fill.ensures.after (λ y e. e) ∙ ap (λ n. replicate n 0) c.requires.size in
     let unused : IsUsed segments c.args.number → ⊥ = λ used.
-    let there : IsUsed c.table.result.now c.new-number.result = subst (λ (s : Segments). IsUsed s c.new-number.result) (sym c.table.ensures) (subst (IsUsed segments) (sym c.new-number.ensures) used) in
+    let there : IsUsed c.table.result.now c.new-number.result =
+    subst (λ (s : Segments). IsUsed s c.new-number.result) (sym c.table.ensures)
+    (subst (IsUsed segments) (sym c.new-number.ensures) used) in
     let yes = c.if-not-is_used.ensures.1 there in absurd (cc) in
     record {
       whole = ap length zeros;

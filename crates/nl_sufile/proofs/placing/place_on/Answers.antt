@@ -10,13 +10,22 @@ returns-in_default-clause-none c = λ _ logs g.
 
 pub loop-rest-preserved : goal.loop-rest-preserved
 loop-rest-preserved c =
-    let e : c.min-count.result ≡ fill c.args.blocks c.in-Some.place c.loop-rest.rest = omega (arith, c.min-count.ensures, c.min-room.ensures) in
+    let e : c.min-count.result ≡ fill c.args.blocks c.in-Some.place c.loop-rest.rest =
+    omega (arith, c.min-count.ensures, c.min-room.ensures) in
     record {
-      inside = (let fits = next_fits _ c.args.blocks c.loop-rest.left c.loop-rest.free c.in-Some.place c.next_place.new.free refl c.in-Some.ensures c.requires.few in omega (arith, c.min-count.ensures, c.min-room.ensures, fits));
-      onward = onward_more _ _ _ _ _ _ _ c.in-Some.place _ _ _ _ e c.in_ok-push.ensures.items c.in-Some.ensures c.loop-rest-test.true c.requires.few c.loop-rest.invariant.onward;
-      only = only_more _ _ _ _ _ _ _ c.in-Some.place _ _ _ _ e c.in_ok-push.ensures.items c.in-Some.ensures c.loop-rest-test.true c.loop-rest.invariant.only;
+      inside =
+          (let fits = next_fits _ c.args.blocks c.loop-rest.left c.loop-rest.free c.in-Some.place
+          c.next_place.new.free refl c.in-Some.ensures c.requires.few in
+          omega (arith, c.min-count.ensures, c.min-room.ensures, fits));
+      onward =
+          onward_more _ _ _ _ _ _ _ c.in-Some.place _ _ _ _ e c.in_ok-push.ensures.items c.in-Some.ensures
+          c.loop-rest-test.true c.requires.few c.loop-rest.invariant.onward;
+      only =
+          only_more _ _ _ _ _ _ _ c.in-Some.place _ _ _ _ e c.in_ok-push.ensures.items c.in-Some.ensures
+          c.loop-rest-test.true c.loop-rest.invariant.only;
     }
 
 pub returns-clause-fits : goal.returns-clause-fits
 returns-clause-fits c =
-    rw (← append-nil c.loop-rest.logs.items) (c.loop-rest.invariant.onward [] (go_on_nil _ _ _ _ c.loop-rest-test.false))
+    rw (← append-nil c.loop-rest.logs.items)
+    (c.loop-rest.invariant.onward [] (go_on_nil _ _ _ _ c.loop-rest-test.false))

@@ -5,4 +5,6 @@ use Rattle.nl_texts.proofs.answers.name_lines.Given as goal
 
 -- the writer got the lines so far
 abbrev pub invariant-loop-named : goal.invariant-loop-named
-invariant-loop-named g l = GoesOn (g.W.Write.contents l.fn.out) (g.W.Write.contents l.out) (name_texts (drop l.named-index l.names)) (name_texts l.names)
+invariant-loop-named g l =
+    GoesOn (g.W.Write.contents l.fn.out) (g.W.Write.contents l.out) (name_texts (drop l.named-index l.names))
+    (name_texts l.names)

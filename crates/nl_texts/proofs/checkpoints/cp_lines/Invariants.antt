@@ -5,4 +5,6 @@ use Rattle.nl_texts.proofs.checkpoints.cp_lines.Given as goal
 
 -- the writer got the lines so far
 abbrev pub invariant-loop-row : goal.invariant-loop-row
-invariant-loop-row g l = GoesOn (g.W.Write.contents l.fn.out) (g.W.Write.contents l.out) (cp_texts (drop l.row-index l.rows)) (cp_texts l.rows)
+invariant-loop-row g l =
+    GoesOn (g.W.Write.contents l.fn.out) (g.W.Write.contents l.out) (cp_texts (drop l.row-index l.rows))
+    (cp_texts l.rows)

@@ -7,4 +7,5 @@ pub returns : goal.returns
 returns g c =
     let r = c.blanks.result in
     let short : c.saturating_sub.result ≡ c.args.width - length c.args.text.now = omega arith in
-    OnOk-then r _ _ _ _ _ (Appends-same _ _ _ _ c.as_bytes.ensures.value c.in_ok-write_all.ensures.bytes) (OnOk-same r _ _ _ _ (ap blanks short) c.blanks.ensures)
+    OnOk-then r _ _ _ _ _ (Appends-same _ _ _ _ c.as_bytes.ensures.value c.in_ok-write_all.ensures.bytes)
+    (OnOk-same r _ _ _ _ (ap blanks short) c.blanks.ensures)

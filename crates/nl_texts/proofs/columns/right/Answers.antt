@@ -6,5 +6,7 @@ use Rattle.nl_texts.proofs.columns.right.Goals as goal
 
 pub returns : goal.returns
 returns g c =
-    let padded = ap (λ spec. styled_decimal spec c.args.number) c.laid_out.ensures ∙ right-is c.args.width c.args.number in
+    let padded =
+    ap (λ spec. styled_decimal spec c.args.number) c.laid_out.ensures
+    ∙ right-is c.args.width c.args.number in
     OnOk-same c.write.result _ _ _ _ padded c.write.ensures.bytes

@@ -8,5 +8,7 @@ use Rattle.nl_texts.proofs.refusals.kind.Goals as goal
 pub returns : goal.returns
 returns g c =
     let number = ap (λ n. codes "error " ++ (decimal n ++ (32 ∷ c.name.result.now))) c.number.ensures in
-    let name = ap (λ (t : Text). codes "error " ++ (decimal (refusal_number c.args.error) ++ (32 ∷ t))) c.name.ensures in
+    let name =
+    ap (λ (t : Text). codes "error " ++ (decimal (refusal_number c.args.error) ++ (32 ∷ t)))
+    c.name.ensures in
     OnOk-same c.write.result _ _ _ _ (number ∙ name) c.write.ensures.bytes

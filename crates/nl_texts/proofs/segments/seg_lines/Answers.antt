@@ -12,12 +12,17 @@ no_row = record { info = clean_info; needed = None }
 
 -- the line of the next segment, and those of the segments behind it
 seg_texts_from-drop : (all : Bool) (rows : List SegmentRow) (i segment : ℕ) → i < length rows → segment ≡ i
-    → seg_texts_from all i (drop i rows) ≡ listed_seg_text all segment (get_or rows i no_row) ++ seg_texts_from all (i + 1) (drop (i + 1) rows)
+    → seg_texts_from all i (drop i rows)
+    ≡ listed_seg_text all segment (get_or rows i no_row) ++ seg_texts_from all (i + 1) (drop (i + 1) rows)
 seg_texts_from-drop all rows i segment within numbered =
     at_drop_more (seg_texts_from all i) rows i no_row within
-    ∙ ap (λ (n : ℕ). listed_seg_text all n (get_or rows i no_row) ++ seg_texts_from all (i + 1) (drop (i + 1) rows)) (sym numbered)
+    ∙ ap (λ (n : ℕ).
+    listed_seg_text all n (get_or rows i no_row) ++ seg_texts_from all (i + 1) (drop (i + 1) rows))
+    (sym numbered)
 
 pub loop-segment-preserved : goal.loop-segment-preserved
 loop-segment-preserved g c =
-    let next = seg_texts_from-drop c.args.all c.args.rows.now c.loop-segment.segment c.new.result c.loop-segment-test.true c.new.ensures in
+    let next =
+    seg_texts_from-drop c.args.all c.args.rows.now c.loop-segment.segment c.new.result
+    c.loop-segment-test.true c.new.ensures in
     goes_on-more _ _ _ _ _ _ _ next c.loop-segment.invariant c.in_ok-listed_seg_line.ensures

@@ -5,4 +5,6 @@ use Rattle.nl_texts.proofs.segments.seg_lines.Given as goal
 
 -- the writer got the lines so far
 abbrev pub invariant-loop-segment : goal.invariant-loop-segment
-invariant-loop-segment g l = GoesOn (g.W.Write.contents l.fn.out) (g.W.Write.contents l.out) (seg_texts_from l.all l.segment (drop l.segment l.rows)) (seg_texts l.all l.rows)
+invariant-loop-segment g l =
+    GoesOn (g.W.Write.contents l.fn.out) (g.W.Write.contents l.out)
+    (seg_texts_from l.all l.segment (drop l.segment l.rows)) (seg_texts l.all l.rows)

@@ -9,7 +9,8 @@ abbrev pub invariant-loop-done : goal.invariant-loop-done
 invariant-loop-done l = record {
   within : l.done ≤ length l.into;
   copied : (k : ℕ) → k < l.done → slice_index l.into k ≡
-      byte_over (new_page_at l.file ((l.offset + k) / 1024)) ((l.offset + k) % 1024) (slice_index l.initial.into k);
+      byte_over (new_page_at l.file ((l.offset + k) / 1024)) ((l.offset + k) % 1024)
+      (slice_index l.initial.into k);
   behind : (k : ℕ) → l.done ≤ k → slice_index l.into k ≡ slice_index l.initial.into k;
 }
 

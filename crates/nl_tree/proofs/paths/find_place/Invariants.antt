@@ -10,7 +10,8 @@ use Rattle.nl_tree.proofs.paths.find_place.Given as goal
 abbrev pub invariant-loop-name : goal.invariant-loop-name
 invariant-loop-name g l =
     (walked : Path) × (parts_of l.names ≡ walked ++ parts_of l.rest)
-    × ((held : Holding) → g.T.TreeRead.holds l.tree held → resolve (inodes_of_holding held) walked ≡ Ok (l.directory, kind.Directory))
+    × ((held : Holding) → g.T.TreeRead.holds l.tree held
+    → resolve (inodes_of_holding held) walked ≡ Ok (l.directory, kind.Directory))
 
 abbrev pub decreases-loop-name : goal.decreases-loop-name
 decreases-loop-name g l = length l.rest

@@ -8,7 +8,8 @@ use Rattle.nl_tree.proofs.paths.walk.Given as goal
 abbrev pub invariant-loop-name : goal.invariant-loop-name
 invariant-loop-name g l =
     (held : Holding) → g.T.TreeRead.holds l.tree held
-    → resolve_from (inodes_of_holding held) l.fn.from (parts_of l.names) ≡ resolve_from (inodes_of_holding held) l.at (parts_of l.rest)
+    → resolve_from (inodes_of_holding held) l.fn.from (parts_of l.names)
+    ≡ resolve_from (inodes_of_holding held) l.at (parts_of l.rest)
 
 abbrev pub decreases-loop-name : goal.decreases-loop-name
 decreases-loop-name g l = length l.rest

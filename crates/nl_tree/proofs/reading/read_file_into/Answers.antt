@@ -7,6 +7,8 @@ pub returns-clause-reads : goal.returns-clause-reads
 returns-clause-reads g c = λ held h.
     let size = rw c.get.ensures at (c.size.ensures held h) in
     let copied = rw c.get-2.ensures at (c.read_bytes.ensures held h) in
-    let long : length c.read_bytes.new.into ≡ c.min-count.result = omega (arith, length-take c.min-count.result c.args.into.now) in
+    let long : length c.read_bytes.new.into ≡ c.min-count.result =
+    omega (arith, length-take c.min-count.result c.args.into.now) in
     rw (take_at c.read_bytes.new.into _ c.min-count.result long)
-    (are_bytes_from (held c.args.file) c.args.offset (length c.args.into.now) c.read_bytes.new.into (omega (arith, size, long)) copied)
+    (are_bytes_from (held c.args.file) c.args.offset (length c.args.into.now) c.read_bytes.new.into
+    (omega (arith, size, long)) copied)

@@ -9,7 +9,8 @@ use Rattle.nl_tree.proofs.renaming.find_source.Goals as goal
 pub returns-in-Err : goal.returns-in-Err
 returns-in-Err g c = λ held h.
     let to = parts_of-last c.args.target_names.now in
-    source-refused held (parts_of c.args.names.now) (parts_of c.args.target_names.now) to.0 to.1 c.in-Err.e to.2 (c.in-Err.ensures held h)
+    source-refused held (parts_of c.args.names.now)
+    (parts_of c.args.target_names.now) to.0 to.1 c.in-Err.e to.2 (c.in-Err.ensures held h)
 
 pub returns-in-None-default : goal.returns-in-None-default
 returns-in-None-default g c = λ held h.

@@ -31,11 +31,13 @@ use Rattle.nl_types.specs.Facts.Renames.{not_into}
 
 -- ---- what a judgement that is not refused has found
 
-and_then-ok : {A B : Type 0} (r : Result A VolError) (next : A → Result B VolError) (b : B) → and_then r next ≡ Ok b → (a : A) × (r ≡ Ok a) × (next a ≡ Ok b)
+and_then-ok : {A B : Type 0} (r : Result A VolError) (next : A → Result B VolError) (b : B)
+    → and_then r next ≡ Ok b → (a : A) × (r ≡ Ok a) × (next a ≡ Ok b)
 and_then-ok (Ok a) next b is = (a, refl, is)
 and_then-ok (Err e) next b is = cc
 
-refuse_if-ok : {A : Type 0} (test : Bool) (e : VolError) (next : Result A VolError) (a : A) → refuse_if test e next ≡ Ok a → (test ≡ false) × (next ≡ Ok a)
+refuse_if-ok : {A : Type 0} (test : Bool) (e : VolError) (next : Result A VolError) (a : A)
+    → refuse_if test e next ≡ Ok a → (test ≡ false) × (next ≡ Ok a)
 refuse_if-ok true e next a is = cc
 refuse_if-ok false e next a is = (refl, is)
 
@@ -49,43 +51,64 @@ as_dir-ok (i, kind.File) is = cc
 -- ---- records and what they name
 
 path_of_child : (dir : Path) (name : Name) → reverse (name ∷ reverse dir) ≡ dir ++ name ∷ []
-path_of_child dir name = reverse-append (name ∷ []) (reverse dir) ∙ ap (λ (p : Path). p ++ name ∷ []) (reverse-reverse dir)
+path_of_child dir name =
+    reverse-append (name ∷ []) (reverse dir) ∙ ap (λ (p : Path). p ++ name ∷ []) (reverse-reverse dir)
 
-record_held : (inodes : Inodes) (p : Path) (h : HasRecords inodes p) (i : ℕ) (n : Name) → h.inode ≡ i → h.records n ≡ record_in (inodes i) n
-record_held inodes p h i n e = sym (ap (λ (o : Option InodeContent). record_in o n) (ap inodes (sym e) ∙ h.holds))
+record_held : (inodes : Inodes) (p : Path) (h : HasRecords inodes p) (i : ℕ) (n : Name) → h.inode ≡ i
+    → h.records n ≡ record_in (inodes i) n
+record_held inodes p h i n e =
+    sym (ap (λ (o : Option InodeContent). record_in o n) (ap inodes (sym e) ∙ h.holds))
 
 -- the walk to a name in a directory
-resolve_from-snoc : (inodes : Inodes) (at : Link) (dir : Path) (name : Name) → resolve_from inodes at (dir ++ name ∷ []) ≡ and_then (resolve_from inodes at dir) (λ x. step_to inodes x name)
+resolve_from-snoc : (inodes : Inodes) (at : Link) (dir : Path) (name : Name)
+    → resolve_from inodes at (dir ++ name ∷ [])
+    ≡ and_then (resolve_from inodes at dir) (λ x. step_to inodes x name)
 resolve_from-snoc inodes at [] name = last (step_to inodes at name)
   where
     last : (r : Result Link VolError) → and_then r (λ next. Ok next) ≡ r
     last (Ok next) = refl
     last (Err e) = refl
-resolve_from-snoc inodes at (n ∷ dir) name = by (step_to inodes at n) (λ next. resolve_from-snoc inodes next dir name)
+resolve_from-snoc inodes at (n ∷ dir) name =
+    by (step_to inodes at n) (λ next. resolve_from-snoc inodes next dir name)
   where
-    by : (r : Result Link VolError) → ((next : Link) → resolve_from inodes next (dir ++ name ∷ []) ≡ and_then (resolve_from inodes next dir) (λ x. step_to inodes x name)) →
-        and_then r (λ next. resolve_from inodes next (dir ++ name ∷ [])) ≡ and_then (and_then r (λ next. resolve_from inodes next dir)) (λ x. step_to inodes x name)
+    by : (r : Result Link VolError)
+        → ((next : Link)
+        → resolve_from inodes next (dir ++ name ∷ [])
+        ≡ and_then (resolve_from inodes next dir) (λ x. step_to inodes x name))
+        →
+        and_then r (λ next. resolve_from inodes next (dir ++ name ∷ []))
+        ≡ and_then (and_then r (λ next. resolve_from inodes next dir)) (λ x. step_to inodes x name)
     by (Ok next) rest = rest next
     by (Err e) rest = refl
 
-resolve-child : (inodes : Inodes) (dir : Path) (name : Name) (i : ℕ) (e : Link) → resolve inodes dir ≡ Ok (i, kind.Directory) → record_in (inodes i) name ≡ Some e → resolve inodes (dir ++ name ∷ []) ≡ Ok e
+resolve-child : (inodes : Inodes) (dir : Path) (name : Name) (i : ℕ) (e : Link)
+    → resolve inodes dir ≡ Ok (i, kind.Directory) → record_in (inodes i) name ≡ Some e
+    → resolve inodes (dir ++ name ∷ []) ≡ Ok e
 resolve-child inodes dir name i e is there =
-    resolve_from-snoc inodes (2, kind.Directory) dir name ∙ ap (λ (r : Result Link VolError). and_then r (λ x. step_to inodes x name)) is ∙ ap (λ (o : Option Link). ok_or o NotFound) there
+    resolve_from-snoc inodes (2, kind.Directory) dir name
+    ∙ ap (λ (r : Result Link VolError). and_then r (λ x. step_to inodes x name)) is
+    ∙ ap (λ (o : Option Link). ok_or o NotFound) there
 
-held_as : (c : InodeContent) (y : Node) (k : Kind) (o : Option Node) → node_of c ≡ y → node_kind y ≡ k → o ≡ Some y → (node_kind (node_of c) ≡ k) × (o ≡ Some (node_of c))
+held_as : (c : InodeContent) (y : Node) (k : Kind) (o : Option Node) → node_of c ≡ y → node_kind y ≡ k
+    → o ≡ Some y → (node_kind (node_of c) ≡ k) × (o ≡ Some (node_of c))
 held_as c y k o e f h = (ap node_kind e ∙ f, h ∙ ap (λ (x : Node). Some x) (sym e))
 
 module _ (inodes : Inodes) (tree : Tree) (m : MeansTree inodes tree) where
-  mapped : (o : Option InodeContent) (y : Node) → option_map node_of o ≡ Some y → (c : InodeContent) × (o ≡ Some c) × (node_of c ≡ y)
+  mapped : (o : Option InodeContent) (y : Node) → option_map node_of o ≡ Some y
+      → (c : InodeContent) × (o ≡ Some c) × (node_of c ≡ y)
   mapped None y e = cc
   mapped (Some c) y e = (c, refl, (cc))
 
   -- what a record names is there
-  link_held : (dir : Path) (name : Name) (i : ℕ) (e : Link) → resolve inodes dir ≡ Ok (i, kind.Directory) → record_in (inodes i) name ≡ Some e →
-      (c : InodeContent) × (inodes e.0 ≡ Some c) × (node_kind (node_of c) ≡ e.1) × (lookup tree (dir ++ name ∷ []) ≡ Some (node_of c))
+  link_held : (dir : Path) (name : Name) (i : ℕ) (e : Link) → resolve inodes dir ≡ Ok (i, kind.Directory)
+      → record_in (inodes i) name ≡ Some e →
+      (c : InodeContent) × (inodes e.0 ≡ Some c) × (node_kind (node_of c) ≡ e.1)
+      × (lookup tree (dir ++ name ∷ []) ≡ Some (node_of c))
   link_held dir name i e is there =
       let s = dir_stands inodes tree m dir i is in
-      let z = zipped (inode inodes tree m (dir ++ name ∷ [])) (lookup tree (dir ++ name ∷ [])) e (sym (child_record inodes tree m dir name i s.1 s.0) ∙ there) in
+      let z =
+      zipped (inode inodes tree m (dir ++ name ∷ [])) (lookup tree (dir ++ name ∷ [])) e
+      (sym (child_record inodes tree m dir name i s.1 s.0) ∙ there) in
       let c = mapped (inodes e.0) z.1 (node_held inodes tree m (dir ++ name ∷ []) z.1 e.0 z.0 z.2) in
       let both = held_as c.0 z.1 e.1 (lookup tree (dir ++ name ∷ [])) c.2 z.3 z.2 in
       (c.0, c.1, both.0, both.1)
@@ -95,20 +118,26 @@ file_bare : (c : InodeContent) → node_kind (node_of c) ≡ kind.File → IsBar
 file_bare (Bytes bytes) e = tt
 file_bare (Records records) e = cc
 
-no_names : (names : List (Name × Link)) → nat_lt 0 (length names) ≡ false → (n : Name) → find name_cmp n names ≡ None
+no_names : (names : List (Name × Link)) → nat_lt 0 (length names) ≡ false → (n : Name)
+    → find name_cmp n names ≡ None
 no_names [] e n = refl
 no_names (x ∷ names) e n = absurd (true≢false (sym (lt-ltb 0 (length (x ∷ names)) (omega arith)) ∙ e))
 
-dir_bare : (inodes : Inodes) (listing : Listing) (l : IsListing inodes listing) (i : ℕ) (c : InodeContent) → inodes i ≡ Some c → has_any listing i ≡ false → IsBare c
+dir_bare : (inodes : Inodes) (listing : Listing) (l : IsListing inodes listing) (i : ℕ) (c : InodeContent)
+    → inodes i ≡ Some c → has_any listing i ≡ false → IsBare c
 dir_bare inodes listing l i (Bytes bytes) e none = tt
-dir_bare inodes listing l i (Records records) e none = λ n. sym ((l i records e).finds n) ∙ no_names (listing i) none n
+dir_bare inodes listing l i (Records records) e none = λ n.
+    sym ((l i records e).finds n) ∙ no_names (listing i) none n
 
-taken_bare : (inodes : Inodes) (listing : Listing) (l : IsListing inodes listing) (k : Kind) (target : Link) (c : InodeContent) → inodes target.0 ≡ Some c → node_kind (node_of c) ≡ target.1 →
+taken_bare : (inodes : Inodes) (listing : Listing) (l : IsListing inodes listing) (k : Kind) (target : Link)
+    (c : InodeContent)
+    → inodes target.0 ≡ Some c → node_kind (node_of c) ≡ target.1 →
     may_take listing k (Some target) ≡ Ok tt → IsBare c
 taken_bare inodes listing l kind.File (i, kind.Directory) c e kc is = cc
 taken_bare inodes listing l kind.File (i, kind.File) c e kc is = file_bare c kc
 taken_bare inodes listing l kind.Directory (i, kind.File) c e kc is = cc
-taken_bare inodes listing l kind.Directory (i, kind.Directory) c e kc is = dir_bare inodes listing l i c e (refuse_if-ok (has_any listing i) NotEmpty (Ok tt) tt is).0
+taken_bare inodes listing l kind.Directory (i, kind.Directory) c e kc is =
+    dir_bare inodes listing l i c e (refuse_if-ok (has_any listing i) NotEmpty (Ok tt) tt is).0
 
 -- ---- calls
 
@@ -117,16 +146,22 @@ nothing_in None e = refl
 nothing_in (Some x) e = cc
 
 -- what a call that makes a name has found
-create_found : (old : Inodes) (paths : ℕ) (dir : Path) (name : Name) (parent : ℕ) → judge_create old paths dir name ≡ Ok parent → (resolve old dir ≡ Ok (parent, kind.Directory)) × (record_in (old parent) name ≡ None)
+create_found : (old : Inodes) (paths : ℕ) (dir : Path) (name : Name) (parent : ℕ)
+    → judge_create old paths dir name ≡ Ok parent
+    → (resolve old dir ≡ Ok (parent, kind.Directory)) × (record_in (old parent) name ≡ None)
 create_found old paths dir name parent judged =
     let at = and_then-ok (resolve old dir) _ parent judged in
     let is_dir = and_then-ok (as_dir at.0) _ parent at.2 in
     let free = refuse_if-ok (is_some (record_in (old at.0.0) name)) Exists _ parent is_dir.2 in
     let few = refuse_if-ok (nat_lt path_limit paths) TooBig (Ok at.0.0) parent free.1 in
-    there at.0 at.1 (ok_same at.0.0 parent few.1) (as_dir-ok at.0 is_dir.1) (nothing_in (record_in (old at.0.0) name) free.0)
+    there at.0 at.1 (ok_same at.0.0 parent few.1) (as_dir-ok at.0 is_dir.1)
+    (nothing_in (record_in (old at.0.0) name) free.0)
   where
-    there : (at : Link) → resolve old dir ≡ Ok at → at.0 ≡ parent → at.1 ≡ kind.Directory → record_in (old at.0) name ≡ None → (resolve old dir ≡ Ok (parent, kind.Directory)) × (record_in (old parent) name ≡ None)
-    there at found same dirs none = (found ∙ (λ i. Ok (same i, dirs i)), ap (λ (j : ℕ). record_in (old j) name) (sym same) ∙ none)
+    there : (at : Link) → resolve old dir ≡ Ok at → at.0 ≡ parent → at.1 ≡ kind.Directory
+        → record_in (old at.0) name ≡ None
+        → (resolve old dir ≡ Ok (parent, kind.Directory)) × (record_in (old parent) name ≡ None)
+    there at found same dirs none =
+        (found ∙ (λ i. Ok (same i, dirs i)), ap (λ (j : ℕ). record_in (old j) name) (sym same) ∙ none)
 
 pub creates_lead : CreatesLead
 creates_lead old new tree node dir name parent j m judged adds =
@@ -140,22 +175,31 @@ creates_lead old new tree node dir name parent j m judged adds =
     let same = path_of_child dir name in
     record {
       tree = insert tree (dir ++ name ∷ []) node;
-      is = creates_are_judged old tree m node dir name ∙ ap (λ (r : Result ℕ VolError). and_then r (λ _. Ok (answer.Done, insert tree (dir ++ name ∷ []) node))) judged;
+      is =
+          creates_are_judged old tree m node dir name
+          ∙ ap (λ (r : Result ℕ VolError).
+          and_then r (λ _. Ok (answer.Done, insert tree (dir ++ name ∷ []) node)))
+          judged;
       means = subst (λ (p : Path). MeansTree new (insert tree p node)) same made.means;
       count = ap (λ (p : Path). length (insert tree p node)) (sym same) ∙ made.count;
     }
 
 -- other bytes at a path
-refilled : (old new : Inodes) (tree : Tree) → MeansTree old tree → (path : Path) (i : ℕ) (bytes : List ℕ) → resolve old path ≡ Ok (i, kind.File) → Refills old new i bytes →
+refilled : (old new : Inodes) (tree : Tree) → MeansTree old tree → (path : Path) (i : ℕ) (bytes : List ℕ)
+    → resolve old path ≡ Ok (i, kind.File) → Refills old new i bytes →
     MeansPaths new (insert tree path (File bytes)) (length tree)
 refilled old new tree m path i bytes found refills =
     let f = files_hold_bytes old tree m path i found in
-    let made = rewrites_insert old new tree (reverse path) bytes m (record { inode = i; is_reached = f.0; held = f.1; was = f.2; refills = refills }) in
+    let made =
+    rewrites_insert old new tree (reverse path) bytes m
+    (record { inode = i; is_reached = f.0; held = f.1; was = f.2; refills = refills }) in
     let same : reverse (reverse path) ≡ path = reverse-reverse path in
     subst (λ (p : Path). MeansPaths new (insert tree p (File bytes)) (length tree)) same made
 
-file_found : (old : Inodes) (tree : Tree) → MeansTree old tree → (path : Path) (i : ℕ) → resolve old path ≡ Ok (i, kind.File) → file_at tree path ≡ Ok (bytes_of (old i))
-file_found old tree m path i found = files_are_judged old tree m path ∙ ap (λ (r : Result Link VolError). and_then r (bytes_in old)) found
+file_found : (old : Inodes) (tree : Tree) → MeansTree old tree → (path : Path) (i : ℕ)
+    → resolve old path ≡ Ok (i, kind.File) → file_at tree path ≡ Ok (bytes_of (old i))
+file_found old tree m path i found =
+    files_are_judged old tree m path ∙ ap (λ (r : Result Link VolError). and_then r (bytes_in old)) found
 
 -- what a write does once the file's bytes are found
 abbrev rewrite : Tree → ℕ → List ℕ → Path → List ℕ → Changed
@@ -171,9 +215,17 @@ writes_lead old new tree offset bytes path i m found some fits refills =
     record {
       tree = insert tree path (File all);
       is =
-          ap (λ (r : Result (List ℕ) VolError). and_then r (rewrite tree offset bytes path)) (file_found old tree m path i found)
-          ∙ ap (λ b. cond {A = Changed} b (Ok (answer.Written 0, tree)) (refuse_if (nat_lt file_limit (offset + length bytes)) TooBig (Ok (answer.Written (length bytes), insert tree path (File all))))) (ne_eqb (length bytes) 0 (λ none. omega (arith, some, none)))
-          ∙ ap (λ b. refuse_if {A = Answer × Tree} b TooBig (Ok (answer.Written (length bytes), insert tree path (File all)))) (le-ltb file_limit (offset + length bytes) fits);
+          ap (λ (r : Result (List ℕ) VolError). and_then r (rewrite tree offset bytes path))
+          (file_found old tree m path i found)
+          ∙ ap (λ b.
+          cond {A = Changed} b (Ok (answer.Written 0, tree))
+          (refuse_if (nat_lt file_limit (offset + length bytes)) TooBig
+          (Ok (answer.Written (length bytes), insert tree path (File all)))))
+          (ne_eqb (length bytes) 0 (λ none. omega (arith, some, none)))
+          ∙ ap (λ b.
+          refuse_if {A = Answer × Tree} b TooBig
+          (Ok (answer.Written (length bytes), insert tree path (File all))))
+          (le-ltb file_limit (offset + length bytes) fits);
       means = made.means;
       count = made.count;
     }
@@ -185,15 +237,24 @@ truncates_lead old new tree size path i m found fits refills =
     record {
       tree = insert tree path (File all);
       is =
-          ap (λ (r : Result (List ℕ) VolError). and_then {B = Answer × Tree} r (λ held. refuse_if (nat_lt file_limit size) TooBig (Ok (answer.Done, insert tree path (File (resized held size)))))) (file_found old tree m path i found)
-          ∙ ap (λ b. refuse_if {A = Answer × Tree} b TooBig (Ok (answer.Done, insert tree path (File all)))) (le-ltb file_limit size fits);
+          ap (λ (r : Result (List ℕ) VolError).
+          and_then {B = Answer × Tree} r
+          (λ held.
+          refuse_if (nat_lt file_limit size) TooBig
+          (Ok (answer.Done, insert tree path (File (resized held size))))))
+          (file_found old tree m path i found)
+          ∙ ap (λ b. refuse_if {A = Answer × Tree} b TooBig (Ok (answer.Done, insert tree path (File all))))
+          (le-ltb file_limit size fits);
       means = made.means;
       count = made.count;
     }
 
 -- one inode and its record are gone
-dropped : (old new : Inodes) (tree : Tree) → MeansTree old tree → (dir : Path) (name : Name) (parent : ℕ) (e : Link) (c : InodeContent) → resolve old dir ≡ Ok (parent, kind.Directory) → record_in (old parent) name ≡ Some e →
-    old e.0 ≡ Some c → IsBare c → Drops old new parent name e.0 → MeansPaths new (remove tree (dir ++ name ∷ [])) (length tree - 1)
+dropped : (old new : Inodes) (tree : Tree) → MeansTree old tree
+    → (dir : Path) (name : Name) (parent : ℕ) (e : Link) (c : InodeContent)
+    → resolve old dir ≡ Ok (parent, kind.Directory) → record_in (old parent) name ≡ Some e →
+    old e.0 ≡ Some c → IsBare c → Drops old new parent name e.0
+    → MeansPaths new (remove tree (dir ++ name ∷ [])) (length tree - 1)
 dropped old new tree m dir name parent e c found there held bare drops =
     let h = directories_hold_records old tree m dir parent found in
     let made = removes_remove old new tree (reverse dir) name m (record {
@@ -213,29 +274,42 @@ unlinks_lead old new tree dir name parent i m is_named drops =
     let found = is_named.resolved in
     let there = is_named.has in
     let held = link_held old tree m dir name parent (i, kind.File) found there in
-    let made = dropped old new tree m dir name parent (i, kind.File) held.0 found there held.1 (file_bare held.0 held.2) drops in
+    let made =
+    dropped old new tree m dir name parent (i, kind.File) held.0 found there held.1
+    (file_bare held.0 held.2) drops in
     record {
       tree = remove tree (dir ++ name ∷ []);
-      is = ap (λ (r : Result (List ℕ) VolError). and_then {B = Answer × Tree} r (λ _. Ok (answer.Done, remove tree (dir ++ name ∷ [])))) (file_found old tree m (dir ++ name ∷ []) i (resolve-child old dir name parent (i, kind.File) found there));
+      is =
+          ap (λ (r : Result (List ℕ) VolError).
+          and_then {B = Answer × Tree} r (λ _. Ok (answer.Done, remove tree (dir ++ name ∷ []))))
+          (file_found old tree m (dir ++ name ∷ []) i
+          (resolve-child old dir name parent (i, kind.File) found there));
       means = made.means;
       count = made.count;
     }
 
 below_root : (dir : Path) (name : Name) → is_root (dir ++ name ∷ []) ≡ false
-below_root dir name = ne_eqb (length (dir ++ name ∷ [])) 0 (λ e. omega (arith, length-append dir (name ∷ []), e))
+below_root dir name =
+    ne_eqb (length (dir ++ name ∷ [])) 0 (λ e. omega (arith, length-append dir (name ∷ []), e))
 
 pub rmdirs_lead : RmdirsLead
 rmdirs_lead old new tree listing dir name parent i m l is_named none drops =
     let found = is_named.resolved in
     let there = is_named.has in
     let held = link_held old tree m dir name parent (i, kind.Directory) found there in
-    let made = dropped old new tree m dir name parent (i, kind.Directory) held.0 found there held.1 (dir_bare old listing l i held.0 held.1 none) drops in
+    let made =
+    dropped old new tree m dir name parent (i, kind.Directory) held.0 found there held.1
+    (dir_bare old listing l i held.0 held.1 none) drops in
     let path = dir ++ name ∷ [] in
     record {
       tree = remove tree path;
-      is = rmdirs_are_judged old tree listing m l path ∙ ap (λ (r : Result (Unit {0}) VolError). and_then {B = Answer × Tree} r (λ _. Ok (answer.Done, remove tree path)))
+      is =
+          rmdirs_are_judged old tree listing m l path
+          ∙ ap (λ (r : Result (Unit {0}) VolError).
+          and_then {B = Answer × Tree} r (λ _. Ok (answer.Done, remove tree path)))
           (ap (λ b. refuse_if b BadPath (and_then (resolve old path) judged)) (below_root dir name)
-          ∙ ap (λ (r : Result Link VolError). and_then r judged) (resolve-child old dir name parent (i, kind.Directory) found there)
+          ∙ ap (λ (r : Result Link VolError). and_then r judged)
+          (resolve-child old dir name parent (i, kind.Directory) found there)
           ∙ ap (λ b. refuse_if b NotEmpty (Ok tt)) none);
       means = made.means;
       count = made.count;
@@ -247,7 +321,8 @@ rmdirs_lead old new tree listing dir name parent i m l is_named none drops =
 -- ---- a rename
 
 -- what a rename that moves something has found
-record Judged (old : Inodes) (tree : Tree) (listing : Listing) (from dir : Path) (name : Name) (x : Node) (k : Kind) (to : ℕ) : Type 0 where
+record Judged (old : Inodes) (tree : Tree) (listing : Listing) (from dir : Path) (name : Name) (x : Node)
+    (k : Kind) (to : ℕ) : Type 0 where
   away : (is_dir x && (is_within from (dir ++ name ∷ []) && not (same_path from (dir ++ name ∷ [])))) ≡ false
   other : same_path from (dir ++ name ∷ []) ≡ false
   free : may_take listing k (record_in (old to) name) ≡ Ok tt
@@ -256,56 +331,90 @@ same_kind : (x : Node) → is_dir_kind (node_kind x) ≡ is_dir x
 same_kind Dir = refl
 same_kind (File bytes) = refl
 
-moving : (b : Bool) (r : Result (Unit {0}) VolError) → cond b (Ok false) (and_then r (λ _. Ok true)) ≡ Ok true → (b ≡ false) × (r ≡ Ok tt)
+moving : (b : Bool) (r : Result (Unit {0}) VolError) → cond b (Ok false) (and_then r (λ _. Ok true)) ≡ Ok true
+    → (b ≡ false) × (r ≡ Ok tt)
 moving true r is = cc
 moving false (Ok u) is = (refl, refl)
 moving false (Err e) is = cc
 
-has_judged : (old : Inodes) (tree : Tree) (listing : Listing) (from dir : Path) (name : Name) (x : Node) (link : Link) (to : ℕ) →
-    judge_rename old listing from dir name ≡ Ok true → resolve old from ≡ Ok link → node_kind x ≡ link.1 → resolve old dir ≡ Ok (to, kind.Directory) → Judged old tree listing from dir name x link.1 to
+has_judged : (old : Inodes) (tree : Tree) (listing : Listing) (from dir : Path) (name : Name) (x : Node)
+    (link : Link) (to : ℕ)
+    →
+    judge_rename old listing from dir name ≡ Ok true → resolve old from ≡ Ok link → node_kind x ≡ link.1
+    → resolve old dir ≡ Ok (to, kind.Directory) → Judged old tree listing from dir name x link.1 to
 has_judged old tree listing from dir name x link to judged found kinds into =
     let below = refuse_if-ok (is_root from || is_root (dir ++ name ∷ [])) BadPath _ true judged in
     let placed = sym (ap (λ (r : Result Link VolError). and_then r next) found) ∙ below.1 in
-    let out = refuse_if-ok (is_dir_kind link.1 && (is_within from (dir ++ name ∷ []) && not (same_path from (dir ++ name ∷ [])))) IntoItself _ true placed in
+    let out =
+    refuse_if-ok (is_dir_kind link.1
+    && (is_within from (dir ++ name ∷ []) && not (same_path from (dir ++ name ∷ []))))
+    IntoItself _ true placed in
     let there = sym (ap (λ (r : Result Link VolError). and_then r (last link.1)) into) ∙ out.1 in
-    let ends = moving (same_path from (dir ++ name ∷ [])) (may_take listing link.1 (record_in (old to) name)) there in
+    let ends =
+    moving (same_path from (dir ++ name ∷ []))
+    (may_take listing link.1 (record_in (old to) name)) there in
     record {
-      away = ap (λ b. b && (is_within from (dir ++ name ∷ []) && not (same_path from (dir ++ name ∷ [])))) (sym (same_kind x) ∙ ap is_dir_kind kinds) ∙ out.0;
+      away =
+          ap (λ b. b && (is_within from (dir ++ name ∷ []) && not (same_path from (dir ++ name ∷ []))))
+          (sym (same_kind x) ∙ ap is_dir_kind kinds)
+          ∙ out.0;
       other = ends.0;
       free = ends.1;
     }
   where
     last : Kind → Link → Result Bool VolError
-    last k at = and_then (as_dir at) (λ _. cond (same_path from (dir ++ name ∷ [])) (Ok false) (and_then (may_take listing k (record_in (old at.0) name)) (λ _. Ok true)))
+    last k at =
+        and_then (as_dir at)
+        (λ _.
+        cond (same_path from (dir ++ name ∷ [])) (Ok false)
+        (and_then (may_take listing k (record_in (old at.0) name)) (λ _. Ok true)))
 
     next : Link → Result Bool VolError
-    next at = refuse_if (is_dir_kind at.1 && (is_within from (dir ++ name ∷ []) && not (same_path from (dir ++ name ∷ [])))) IntoItself (and_then (resolve old dir) (last at.1))
+    next at =
+        refuse_if
+        (is_dir_kind at.1 && (is_within from (dir ++ name ∷ []) && not (same_path from (dir ++ name ∷ []))))
+        IntoItself
+        (and_then (resolve old dir) (last at.1))
 
-module _ (old new : Inodes) (tree : Tree) (listing : Listing) (m : MeansTree old tree) (l : IsListing old listing)
+module _ (old new : Inodes) (tree : Tree) (listing : Listing) (m : MeansTree old tree)
+    (l : IsListing old listing)
     (fd : Path) (fn : Name) (td : Path) (tn : Name) (a b : ℕ) (link : Link)
-    (judged : judge_rename old listing (fd ++ fn ∷ []) td tn ≡ Ok true) (found : resolve old fd ≡ Ok (a, kind.Directory)) (there : record_in (old a) fn ≡ Some link) (into : resolve old td ≡ Ok (b, kind.Directory)) where
+    (judged : judge_rename old listing (fd ++ fn ∷ []) td tn ≡ Ok true)
+    (found : resolve old fd ≡ Ok (a, kind.Directory)) (there : record_in (old a) fn ≡ Some link)
+    (into : resolve old td ≡ Ok (b, kind.Directory)) where
   abbrev from : Path
   from = fd ++ fn ∷ []
 
   abbrev to : Path
   to = td ++ tn ∷ []
 
-  source : (c : InodeContent) × (old link.0 ≡ Some c) × (node_kind (node_of c) ≡ link.1) × (lookup tree from ≡ Some (node_of c))
+  source : (c : InodeContent) × (old link.0 ≡ Some c) × (node_kind (node_of c) ≡ link.1)
+      × (lookup tree from ≡ Some (node_of c))
   source = link_held old tree m fd fn a link found there
 
   judgement : Judged old tree listing from td tn (node_of source.0) link.1 b
-  judgement = has_judged old tree listing from td tn (node_of source.0) link b judged (resolve-child old fd fn a link found there) source.2 into
+  judgement =
+      has_judged old tree listing from td tn (node_of source.0) link b judged
+      (resolve-child old fd fn a link found there) source.2 into
 
   walked : walk tree to ≡ Ok tt
   walked = parents_by_inodes old tree m td tn ∙ ap (λ (r : Result Link VolError). and_then r as_dir) into
 
   outside : is_within (reverse (fn ∷ reverse fd)) (reverse (tn ∷ reverse td)) ≡ false
-  outside = (λ i. is_within (path_of_child fd fn i) (path_of_child td tn i)) ∙ not_into tree from to (node_of source.0) source.3 judgement.away walked judgement.other
+  outside =
+      (λ i. is_within (path_of_child fd fn i) (path_of_child td tn i))
+      ∙ not_into tree from to (node_of source.0) source.3 judgement.away walked judgement.other
 
   answered : rename tree from to ≡ Ok (answer.Done, move_subtree tree from to)
-  answered = renames_are_judged old tree listing m l from td tn ∙ ap (λ (r : Result Bool VolError). and_then {B = Answer × Tree} r (λ moves. Ok (answer.Done, cond moves (move_subtree tree from to) tree))) judged
+  answered =
+      renames_are_judged old tree listing m l from td tn
+      ∙ ap (λ (r : Result Bool VolError).
+      and_then {B = Answer × Tree} r
+      (λ moves. Ok (answer.Done, cond moves (move_subtree tree from to) tree)))
+      judged
 
-  paths_are : move_subtree tree (reverse (fn ∷ reverse fd)) (reverse (tn ∷ reverse td)) ≡ move_subtree tree from to
+  paths_are : move_subtree tree (reverse (fn ∷ reverse fd)) (reverse (tn ∷ reverse td))
+      ≡ move_subtree tree from to
   paths_are = λ i. move_subtree tree (path_of_child fd fn i) (path_of_child td tn i)
 
   source_dir : (h : HasRecords old (reverse fd)) × (h.inode ≡ a)
@@ -314,7 +423,8 @@ module _ (old new : Inodes) (tree : Tree) (listing : Listing) (m : MeansTree old
   target_dir : (h : HasRecords old (reverse td)) × (h.inode ≡ b)
   target_dir = directories_hold_records old tree m td b into
 
-  moved : record_in (old b) tn ≡ None → Moves old new a fn b tn link → LeadsTo (rename tree from to) answer.Done new (length tree)
+  moved : record_in (old b) tn ≡ None → Moves old new a fn b tn link
+      → LeadsTo (rename tree from to) answer.Done new (length tree)
   moved none moves =
       let made = renames_move old new tree (reverse fd) fn (reverse td) tn m (record {
         from = source_dir.0;
@@ -323,7 +433,9 @@ module _ (old new : Inodes) (tree : Tree) (listing : Listing) (m : MeansTree old
         is_there = record_held old (reverse fd) source_dir.0 a fn source_dir.1 ∙ there;
         absent = record_held old (reverse td) target_dir.0 b tn target_dir.1 ∙ none;
         outside = outside;
-        moves = subst (λ (i : ℕ). Moves old new i fn target_dir.0.inode tn link) (sym source_dir.1) (subst (λ (i : ℕ). Moves old new a fn i tn link) (sym target_dir.1) moves);
+        moves =
+            subst (λ (i : ℕ). Moves old new i fn target_dir.0.inode tn link) (sym source_dir.1)
+            (subst (λ (i : ℕ). Moves old new a fn i tn link) (sym target_dir.1) moves);
       }) in
       record {
         tree = move_subtree tree from to;
@@ -332,10 +444,13 @@ module _ (old new : Inodes) (tree : Tree) (listing : Listing) (m : MeansTree old
         count = ap length (sym paths_are) ∙ made.count;
       }
 
-  moved_onto : (target : Link) → record_in (old b) tn ≡ Some target → MovesOnto old new a fn b tn link target.0 → LeadsTo (rename tree from to) answer.Done new (length tree - 1)
+  moved_onto : (target : Link) → record_in (old b) tn ≡ Some target
+      → MovesOnto old new a fn b tn link target.0
+      → LeadsTo (rename tree from to) answer.Done new (length tree - 1)
   moved_onto target taken moves =
       let held = link_held old tree m td tn b target into taken in
-      let free : may_take listing link.1 (Some target) ≡ Ok tt = ap (may_take listing link.1) (sym taken) ∙ judgement.free in
+      let free : may_take listing link.1 (Some target) ≡ Ok tt =
+      ap (may_take listing link.1) (sym taken) ∙ judgement.free in
       let made = replaces_move old new tree (reverse fd) fn (reverse td) tn m (record {
         from = source_dir.0;
         to = target_dir.0;
@@ -347,7 +462,9 @@ module _ (old new : Inodes) (tree : Tree) (listing : Listing) (m : MeansTree old
         was = held.1;
         bare = taken_bare old listing l link.1 target held.0 held.1 held.2 free;
         outside = outside;
-        moves = subst (λ (i : ℕ). MovesOnto old new i fn target_dir.0.inode tn link target.0) (sym source_dir.1) (subst (λ (i : ℕ). MovesOnto old new a fn i tn link target.0) (sym target_dir.1) moves);
+        moves =
+            subst (λ (i : ℕ). MovesOnto old new i fn target_dir.0.inode tn link target.0) (sym source_dir.1)
+            (subst (λ (i : ℕ). MovesOnto old new a fn i tn link target.0) (sym target_dir.1) moves);
       }) in
       record {
         tree = move_subtree tree from to;
@@ -358,8 +475,10 @@ module _ (old new : Inodes) (tree : Tree) (listing : Listing) (m : MeansTree old
 
 pub renames_lead : RenamesLead
 renames_lead old new tree listing fd fn td tn a b link m l judged source target moves =
-    moved old new tree listing m l fd fn td tn a b link judged source.resolved source.has target.resolved target.has moves
+    moved old new tree listing m l fd fn td tn a b link judged source.resolved source.has target.resolved
+    target.has moves
 
 pub renames_onto_lead : RenamesOntoLead
 renames_onto_lead old new tree listing fd fn td tn a b link taken m l judged source target moves =
-    moved_onto old new tree listing m l fd fn td tn a b link judged source.resolved source.has target.resolved taken target.has moves
+    moved_onto old new tree listing m l fd fn td tn a b link judged source.resolved source.has target.resolved
+    taken target.has moves

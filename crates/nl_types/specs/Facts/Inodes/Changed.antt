@@ -17,13 +17,17 @@ use Rattle.nl_types.specs.Facts.Booleans.{holds}
 pub creates_insert : CreatesInsert
 creates_insert old new tree dir name node inode m w = record {
   means = created old new tree dir name node inode m w;
-  count = length-insert_new tree (reverse (name ∷ dir)) node (holds _ m.ordered) (child_absent m.rooted m.pairs dir w.parent name w.absent);
+  count =
+      length-insert_new tree (reverse (name ∷ dir)) node (holds _ m.ordered)
+      (child_absent m.rooted m.pairs dir w.parent name w.absent);
 }
 
 pub rewrites_insert : RewritesInsert
 rewrites_insert old new tree path bytes m w = record {
   means = rewritten old new tree path bytes m w;
-  count = length-insert_old tree (reverse path) (File bytes) (File w.held) (holds _ m.ordered) (node_there m.rooted m.pairs path w.inode (Bytes w.held) w.is_reached w.was);
+  count =
+      length-insert_old tree (reverse path) (File bytes) (File w.held) (holds _ m.ordered)
+      (node_there m.rooted m.pairs path w.inode (Bytes w.held) w.is_reached w.was);
 }
 
 one_less : (a b : ℕ) → a + 1 ≡ b → a ≡ b - 1
@@ -38,11 +42,14 @@ removes_remove old new tree dir name m w =
     }
 
 -- what is free has nothing below it
-free_below : (tree : Tree) (p : Path) → ((r : Path) → upward tree (r ++ p) ≡ None) → (q : Path) → is_within (reverse p) q ≡ true → lookup tree q ≡ None
+free_below : (tree : Tree) (p : Path) → ((r : Path) → upward tree (r ++ p) ≡ None) → (q : Path)
+    → is_within (reverse p) q ≡ true → lookup tree q ≡ None
 free_below tree p none q inside =
-    let turned : is_within (reverse p) (reverse (reverse q)) ≡ true = ap (is_within (reverse p)) (reverse-reverse q) ∙ inside in
+    let turned : is_within (reverse p) (reverse (reverse q)) ≡ true =
+    ap (is_within (reverse p)) (reverse-reverse q) ∙ inside in
     let rest = reverse (drop (length (reverse p)) (reverse (reverse q))) in
-    let here : reverse q ≡ rest ++ p = upward_within (reverse p) (reverse q) turned ∙ ap (λ (s : Path). rest ++ s) (reverse-reverse p) in
+    let here : reverse q ≡ rest ++ p =
+    upward_within (reverse p) (reverse q) turned ∙ ap (λ (s : Path). rest ++ s) (reverse-reverse p) in
     ap (lookup tree) (sym (reverse-reverse q)) ∙ ap (upward tree) here ∙ none rest
 
 pub renames_move : RenamesMove
@@ -57,7 +64,8 @@ renames_move old new tree fp fn tp tn m w =
     w.outside w.moves in
     record {
       means = renamed old new tree fp fn tp tn m w;
-      count = length-move_subtree (reverse (fn ∷ fp)) (reverse (tn ∷ tp)) w.outside down tree (holds _ m.ordered)
+      count =
+          length-move_subtree (reverse (fn ∷ fp)) (reverse (tn ∷ tp)) w.outside down tree (holds _ m.ordered)
           (free_below tree (tn ∷ tp) (λ r. absent_below (upward tree) t (tn ∷ tp) r free));
     }
 
@@ -74,5 +82,7 @@ replaces_move old new tree fp fn tp tn m w =
     (free_below (remove tree to) (tn ∷ tp) (replaced_free old new tree fp fn tp tn m w)) in
     record {
       means = replaced old new tree fp fn tp tn m w;
-      count = one_less _ _ (ap (λ (x : Tree). length x + 1) (rename_past_removal tree from to) ∙ ap (λ n. n + 1) same ∙ less);
+      count =
+          one_less _ _ (ap (λ (x : Tree). length x + 1) (rename_past_removal tree from to)
+          ∙ ap (λ n. n + 1) same ∙ less);
     }

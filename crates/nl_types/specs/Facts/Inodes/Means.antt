@@ -31,7 +31,9 @@ same_functions : {A B : Type 0} (f g : A → B) → ((x : A) → f x ≡ g x) �
 same_functions f g h = λ i x. h x i
 
 -- a tree that is in order stands for inodes as its function does
-pub means_by : (inodes : Inodes) (tree : Tree) (g : Path → Option Node) (f : Path → Option ℕ) → T (is_sorted path_cmp tree) → ((p : Path) → g p ≡ upward tree p) → IsRooted g → Pairs inodes g f → MeansTree inodes tree
+pub means_by : (inodes : Inodes) (tree : Tree) (g : Path → Option Node) (f : Path → Option ℕ)
+    → T (is_sorted path_cmp tree) → ((p : Path) → g p ≡ upward tree p) → IsRooted g → Pairs inodes g f
+    → MeansTree inodes tree
 means_by inodes tree g f sorted h t m =
     let same = same_functions g (upward tree) h in
     record {
@@ -47,12 +49,15 @@ walks_find inodes tree m path = found-pairs m.rooted m.pairs path
 pub inodes_mean_one_tree : InodesMeanOneTree
 inodes_mean_one_tree inodes tree other m n =
     same_entries path_cmp path_total paths_equal tree other (holds _ m.ordered) (holds _ n.ordered)
-    (λ path. ap (lookup tree) (sym (reverse-reverse path)) ∙ sym (walks_find inodes tree m (reverse path)) ∙ walks_find inodes other n (reverse path) ∙ ap (lookup other) (reverse-reverse path))
+    (λ path.
+    ap (lookup tree) (sym (reverse-reverse path)) ∙ sym (walks_find inodes tree m (reverse path))
+    ∙ walks_find inodes other n (reverse path) ∙ ap (lookup other) (reverse-reverse path))
 
 -- ---- one path
 
 -- what is put at a path, by a test for it
-put_by : (path p : Path) (x o : Option Node) (b : Bool) → (p ≡ path → b ≡ true) → (b ≡ true → p ≡ path) → (tree : Path → Option Node) → o ≡ tree p → put_at path x tree p ≡ cond b x o
+put_by : (path p : Path) (x o : Option Node) (b : Bool) → (p ≡ path → b ≡ true) → (b ≡ true → p ≡ path)
+    → (tree : Path → Option Node) → o ≡ tree p → put_at path x tree p ≡ cond b x o
 unfolding put_at
 put_by path p x o b to from tree e = elim (path_cases p path) [
   | inl t ↦ rw (t.0) (rw (to t.1) refl)
@@ -66,7 +71,8 @@ put_by path p x o b to from tree e = elim (path_cases p path) [
 turned_equal : (p q : Path) → reverse p ≡ reverse q → p ≡ q
 turned_equal p q e = sym (reverse-reverse p) ∙ ap (λ (r : Path). reverse r) e ∙ reverse-reverse q
 
-inserted : (tree : Tree) (path : Path) (node : Node) (p : Path) → put_at path (Some node) (upward tree) p ≡ upward (insert tree (reverse path) node) p
+inserted : (tree : Tree) (path : Path) (node : Node) (p : Path)
+    → put_at path (Some node) (upward tree) p ≡ upward (insert tree (reverse path) node) p
 inserted tree path node p =
     put_by path p (Some node) (upward tree p) (same_path (reverse p) (reverse path))
     (λ e. ap (λ (q : Path). same_path (reverse q) (reverse path)) e ∙ same_path-itself (reverse path))
@@ -74,7 +80,8 @@ inserted tree path node p =
     (upward tree) refl
     ∙ sym (lookup-insert tree (reverse path) node (reverse p))
 
-taken_out : (tree : Tree) (path p : Path) → put_at path None (upward tree) p ≡ upward (remove tree (reverse path)) p
+taken_out : (tree : Tree) (path p : Path)
+    → put_at path None (upward tree) p ≡ upward (remove tree (reverse path)) p
 taken_out tree path p =
     put_by path p None (upward tree p) (same_path (reverse path) (reverse p))
     (λ e. ap (λ (q : Path). same_path (reverse path) (reverse q)) e ∙ same_path-itself (reverse path))
@@ -82,7 +89,9 @@ taken_out tree path p =
     (upward tree) refl
     ∙ sym (lookup-remove tree (reverse path) (reverse p))
 
-pub created : (old new : Inodes) (tree : Tree) (dir : Path) (name : Name) (node : Node) (inode : ℕ) → MeansTree old tree → Creates old new dir name node inode → MeansTree new (insert tree (reverse (name ∷ dir)) node)
+pub created : (old new : Inodes) (tree : Tree) (dir : Path) (name : Name) (node : Node) (inode : ℕ)
+    → MeansTree old tree → Creates old new dir name node inode
+    → MeansTree new (insert tree (reverse (name ∷ dir)) node)
 created old new tree dir name node inode m w =
     let t = m.rooted in
     let parent_is = inode_there t m.pairs dir w.parent.inode w.parent.is_reached in
@@ -91,10 +100,15 @@ created old new tree dir name node inode m w =
     means_by new _ _ _
     (is_sorted-put path_cmp path_total (reverse (name ∷ dir)) node tree (holds _ m.ordered))
     (inserted tree (name ∷ dir) node)
-    (created_rooted old new (upward tree) m.inode_of name dir node inode t m.pairs w.parent.inode parent_is in_dir none w.adds.free w.adds.added w.adds.others)
-    (created_pairs old new (upward tree) m.inode_of name dir node inode t m.pairs w.parent.inode parent_is in_dir none w.adds.free w.adds.added w.adds.others)
+    (created_rooted old new
+    (upward tree) m.inode_of name dir node inode t m.pairs w.parent.inode parent_is in_dir none w.adds.free
+    w.adds.added w.adds.others)
+    (created_pairs old new
+    (upward tree) m.inode_of name dir node inode t m.pairs w.parent.inode parent_is in_dir none w.adds.free
+    w.adds.added w.adds.others)
 
-pub rewritten : (old new : Inodes) (tree : Tree) (path : Path) (bytes : List ℕ) → MeansTree old tree → Rewrites old new path bytes → MeansTree new (insert tree (reverse path) (File bytes))
+pub rewritten : (old new : Inodes) (tree : Tree) (path : Path) (bytes : List ℕ) → MeansTree old tree
+    → Rewrites old new path bytes → MeansTree new (insert tree (reverse path) (File bytes))
 rewritten old new tree path bytes m w =
     let t = m.rooted in
     let inode_is = inode_there t m.pairs path w.inode w.is_reached in
@@ -102,10 +116,15 @@ rewritten old new tree path bytes m w =
     means_by new _ _ _
     (is_sorted-put path_cmp path_total (reverse path) (File bytes) tree (holds _ m.ordered))
     (inserted tree path (File bytes))
-    (rewritten_rooted old new (upward tree) m.inode_of path bytes t m.pairs w.inode inode_is w.held was w.refills.now w.refills.others)
-    (rewritten_pairs old new (upward tree) m.inode_of path bytes t m.pairs w.inode inode_is w.held was w.refills.now w.refills.others)
+    (rewritten_rooted old new
+    (upward tree) m.inode_of path bytes t m.pairs w.inode inode_is w.held was w.refills.now
+    w.refills.others)
+    (rewritten_pairs old new
+    (upward tree) m.inode_of path bytes t m.pairs w.inode inode_is w.held was w.refills.now
+    w.refills.others)
 
-pub removed : (old new : Inodes) (tree : Tree) (dir : Path) (name : Name) → MeansTree old tree → Removes old new dir name → MeansTree new (remove tree (reverse (name ∷ dir)))
+pub removed : (old new : Inodes) (tree : Tree) (dir : Path) (name : Name) → MeansTree old tree
+    → Removes old new dir name → MeansTree new (remove tree (reverse (name ∷ dir)))
 removed old new tree dir name m w =
     let t = m.rooted in
     let parent_is = inode_there t m.pairs dir w.parent.inode w.parent.is_reached in
@@ -114,27 +133,39 @@ removed old new tree dir name m w =
     means_by new _ _ _
     (is_sorted-where_key path_cmp (λ x. not (same_path (reverse (name ∷ dir)) x)) tree (holds _ m.ordered))
     (taken_out tree (name ∷ dir))
-    (removed_rooted old new (upward tree) m.inode_of t m.pairs name dir w.parent.inode w.link.0 parent_is child.0 empty w.drops.gone w.drops.others)
-    (removed_pairs old new (upward tree) m.inode_of t m.pairs name dir w.parent.inode w.link.0 parent_is child.0 empty w.drops.gone w.drops.others)
+    (removed_rooted old new
+    (upward tree) m.inode_of t m.pairs name dir w.parent.inode w.link.0 parent_is child.0 empty w.drops.gone
+    w.drops.others)
+    (removed_pairs old new
+    (upward tree) m.inode_of t m.pairs name dir w.parent.inode w.link.0 parent_is child.0 empty w.drops.gone
+    w.drops.others)
 
 -- ---- a rename
 
 module _ (top : Path) where
   outside : (p : Path) → is_within top (reverse p) ≡ false → below (reverse top) p ≡ None
   outside p away = below-none (reverse top) p (λ r e.
-      let inside : reverse p ≡ top ++ reverse r = ap (λ (q : Path). reverse q) e ∙ reverse-append r (reverse top) ∙ ap (λ (q : Path). q ++ reverse r) (reverse-reverse top) in
+      let inside : reverse p ≡ top ++ reverse r =
+      ap (λ (q : Path). reverse q) e ∙ reverse-append r (reverse top)
+      ∙ ap (λ (q : Path). q ++ reverse r) (reverse-reverse top) in
       true≢false (sym (is_within-append top (reverse r)) ∙ ap (is_within top) (sym inside) ∙ away))
 
-  pub upward_within : (p : Path) → is_within top (reverse p) ≡ true → p ≡ reverse (drop (length top) (reverse p)) ++ reverse top
+  pub upward_within : (p : Path) → is_within top (reverse p) ≡ true
+      → p ≡ reverse (drop (length top) (reverse p)) ++ reverse top
   upward_within p inside =
-      sym (reverse-reverse p) ∙ ap (λ (q : Path). reverse q) (within_is top (reverse p) inside) ∙ reverse-append top (drop (length top) (reverse p))
+      sym (reverse-reverse p) ∙ ap (λ (q : Path). reverse q) (within_is top (reverse p) inside)
+      ∙ reverse-append top (drop (length top) (reverse p))
 
 downward : (from rest : Path) → reverse (reverse rest ++ reverse from) ≡ from ++ rest
-downward from rest = reverse-append (reverse rest) (reverse from) ∙ (λ i. reverse-reverse from i ++ reverse-reverse rest i)
+downward from rest =
+    reverse-append (reverse rest) (reverse from) ∙ (λ i. reverse-reverse from i ++ reverse-reverse rest i)
 
 module _ (tree : Tree) (from to : Path) where
   abbrev Moves : Path → Bool → Bool → Type 0
-  Moves p in_to in_from = moved (reverse from) (reverse to) (upward tree) p ≡ cond in_to (lookup tree (from ++ drop (length to) (reverse p))) (cond in_from None (lookup tree (reverse p)))
+  Moves p in_to in_from =
+      moved (reverse from) (reverse to) (upward tree) p
+      ≡ cond in_to (lookup tree (from ++ drop (length to) (reverse p)))
+      (cond in_from None (lookup tree (reverse p)))
 
   moves_under : (p : Path) (b : Bool) → is_within to (reverse p) ≡ true → Moves p true b
   moves_under p b inside =
@@ -143,51 +174,74 @@ module _ (tree : Tree) (from to : Path) where
       ∙ moved-to (reverse from) (reverse to) (upward tree) (reverse rest)
       ∙ ap (lookup tree) (downward from rest)
 
-  moves_away : (p : Path) → is_within to (reverse p) ≡ false → is_within from (reverse p) ≡ true → Moves p false true
+  moves_away : (p : Path) → is_within to (reverse p) ≡ false → is_within from (reverse p) ≡ true
+      → Moves p false true
   moves_away p out inside =
       let rest = drop (length from) (reverse p) in
       let is = upward_within from p inside in
       ap (moved (reverse from) (reverse to) (upward tree)) is
-      ∙ moved-from (reverse from) (reverse to) (upward tree) (reverse rest) (ap (below (reverse to)) (sym is) ∙ outside to p out)
+      ∙ moved-from (reverse from) (reverse to) (upward tree) (reverse rest)
+      (ap (below (reverse to)) (sym is) ∙ outside to p out)
 
-  moves : (p : Path) (in_to in_from : Bool) → is_within to (reverse p) ≡ in_to → is_within from (reverse p) ≡ in_from → Moves p in_to in_from
+  moves : (p : Path) (in_to in_from : Bool) → is_within to (reverse p) ≡ in_to
+      → is_within from (reverse p) ≡ in_from → Moves p in_to in_from
   moves p true b e k = moves_under p b e
   moves p false true e k = moves_away p e k
-  moves p false false e k = moved-elsewhere (reverse from) (reverse to) (upward tree) p (outside to p e) (outside from p k)
+  moves p false false e k =
+      moved-elsewhere (reverse from) (reverse to) (upward tree) p (outside to p e) (outside from p k)
 
   -- a rename of paths is what the law of a moved record says
-  moves_paths : is_within from to ≡ false → is_within to from ≡ false → (p : Path) → moved (reverse from) (reverse to) (upward tree) p ≡ upward (move_subtree tree from to) p
+  moves_paths : is_within from to ≡ false → is_within to from ≡ false → (p : Path)
+      → moved (reverse from) (reverse to) (upward tree) p ≡ upward (move_subtree tree from to) p
   moves_paths up down p = moves p _ _ refl refl ∙ sym (lookup-move_subtree from to up down tree (reverse p))
 
-module _ (old new : Inodes) (tree : Tree) (f : Path → Option ℕ) (t : IsRooted (upward tree)) (m : Pairs old (upward tree) f) (fn : Name) (fp : Path) (tn : Name) (tp : Path)
-    (from_inode to_inode : ℕ) (link : Link) (from_is : f fp ≡ Some from_inode) (to_is : f tp ≡ Some to_inode) (to_parent : upward tree tp ≡ Some Dir)
+module _ (old new : Inodes) (tree : Tree) (f : Path → Option ℕ) (t : IsRooted (upward tree))
+    (m : Pairs old (upward tree) f) (fn : Name) (fp : Path) (tn : Name) (tp : Path)
+    (from_inode to_inode : ℕ) (link : Link) (from_is : f fp ≡ Some from_inode) (to_is : f tp ≡ Some to_inode)
+    (to_parent : upward tree tp ≡ Some Dir)
     (free : upward tree (tn ∷ tp) ≡ None) (is_there : record_of (upward tree) f (fn ∷ fp) ≡ Some link)
     (up : is_within (reverse (fn ∷ fp)) (reverse (tn ∷ tp)) ≡ false)
-    (each : (i : ℕ) → HoldsChanged (move_record from_inode fn to_inode tn (Some link) i) (old i) (new i)) where
+    (each : (i : ℕ)
+    → HoldsChanged (move_record from_inode fn to_inode tn (Some link) i) (old i) (new i)) where
   not_below : (r : Path) → tp ≡ r ++ (fn ∷ fp) → ⊥
   not_below r e =
-      let turned : reverse (tn ∷ tp) ≡ reverse (fn ∷ fp) ++ reverse (tn ∷ r) = ap (λ (q : Path). reverse (tn ∷ q)) e ∙ reverse-append (tn ∷ r) (fn ∷ fp) in
-      true≢false (sym (is_within-append (reverse (fn ∷ fp)) (reverse (tn ∷ r))) ∙ ap (is_within (reverse (fn ∷ fp))) (sym turned) ∙ up)
+      let turned : reverse (tn ∷ tp) ≡ reverse (fn ∷ fp) ++ reverse (tn ∷ r) =
+      ap (λ (q : Path). reverse (tn ∷ q)) e ∙ reverse-append (tn ∷ r) (fn ∷ fp) in
+      true≢false (sym (is_within-append (reverse (fn ∷ fp)) (reverse (tn ∷ r)))
+      ∙ ap (is_within (reverse (fn ∷ fp))) (sym turned) ∙ up)
 
   pub not_above : is_within (reverse (tn ∷ tp)) (reverse (fn ∷ fp)) ≡ false
   not_above = not_true _ (λ inside.
       let there = zipped (f (fn ∷ fp)) (upward tree (fn ∷ fp)) link is_there in
       let rest = reverse (drop (length (reverse (tn ∷ tp))) (reverse (fn ∷ fp))) in
-      let here : fn ∷ fp ≡ rest ++ (tn ∷ tp) = upward_within (reverse (tn ∷ tp)) (fn ∷ fp) inside ∙ ap (λ (q : Path). rest ++ q) (reverse-reverse (tn ∷ tp)) in
-      clash (upward tree (fn ∷ fp)) there.1 (ap (upward tree) here ∙ absent_below (upward tree) t (tn ∷ tp) rest free) there.2)
+      let here : fn ∷ fp ≡ rest ++ (tn ∷ tp) =
+      upward_within (reverse (tn ∷ tp)) (fn ∷ fp) inside
+      ∙ ap (λ (q : Path). rest ++ q) (reverse-reverse (tn ∷ tp)) in
+      clash (upward tree (fn ∷ fp)) there.1
+      (ap (upward tree) here ∙ absent_below (upward tree) t (tn ∷ tp) rest free) there.2)
 
-  each_moves : (i : ℕ) → HoldsChanged (move_record from_inode fn to_inode tn (record_of (upward tree) f (fn ∷ fp)) i) (old i) (new i)
-  each_moves i = subst (λ (e : Option Link). HoldsChanged (move_record from_inode fn to_inode tn e i) (old i) (new i)) (sym is_there) (each i)
+  each_moves : (i : ℕ)
+      → HoldsChanged (move_record from_inode fn to_inode tn (record_of (upward tree) f (fn ∷ fp)) i) (old i)
+      (new i)
+  each_moves i =
+      subst (λ (e : Option Link). HoldsChanged (move_record from_inode fn to_inode tn e i) (old i) (new i))
+      (sym is_there) (each i)
 
   pub moved_means : MeansTree new (move_subtree tree (reverse (fn ∷ fp)) (reverse (tn ∷ tp)))
   moved_means =
       means_by new _ (moved (fn ∷ fp) (tn ∷ tp) (upward tree)) _
       (move_subtree-sorted tree (reverse (fn ∷ fp)) (reverse (tn ∷ tp)))
-      (λ p. (λ i. moved (sym (reverse-reverse (fn ∷ fp)) i) (sym (reverse-reverse (tn ∷ tp)) i) (upward tree) p) ∙ moves_paths tree (reverse (fn ∷ fp)) (reverse (tn ∷ tp)) up not_above p)
-      (renamed_rooted old new (upward tree) f fn fp tn tp t m from_inode to_inode from_is to_is to_parent free not_below each_moves)
-      (renamed_pairs old new (upward tree) f fn fp tn tp t m from_inode to_inode from_is to_is to_parent free not_below each_moves)
+      (λ p.
+      (λ i. moved (sym (reverse-reverse (fn ∷ fp)) i) (sym (reverse-reverse (tn ∷ tp)) i) (upward tree) p)
+      ∙ moves_paths tree (reverse (fn ∷ fp)) (reverse (tn ∷ tp)) up not_above p)
+      (renamed_rooted old new
+      (upward tree) f fn fp tn tp t m from_inode to_inode from_is to_is to_parent free not_below each_moves)
+      (renamed_pairs old new
+      (upward tree) f fn fp tn tp t m from_inode to_inode from_is to_is to_parent free not_below each_moves)
 
-pub renamed : (old new : Inodes) (tree : Tree) (fp : Path) (fn : Name) (tp : Path) (tn : Name) → MeansTree old tree → Renames old new fp fn tp tn → MeansTree new (move_subtree tree (reverse (fn ∷ fp)) (reverse (tn ∷ tp)))
+pub renamed : (old new : Inodes) (tree : Tree) (fp : Path) (fn : Name) (tp : Path) (tn : Name)
+    → MeansTree old tree → Renames old new fp fn tp tn
+    → MeansTree new (move_subtree tree (reverse (fn ∷ fp)) (reverse (tn ∷ tp)))
 renamed old new tree fp fn tp tn m w =
     let t = m.rooted in
     moved_means old new tree m.inode_of t m.pairs fn fp tn tp w.from.inode w.to.inode w.link
@@ -201,18 +255,30 @@ renamed old new tree fp fn tp tn m w =
 -- ---- a rename onto what is there
 
 -- the rename takes out what is at `to`, and so it may be taken out before
-pub rename_past_removal : (tree : Tree) (from to : Path) → move_subtree tree from to ≡ move_subtree (remove tree to) from to
-rename_past_removal tree from to = ap (λ (es : Tree). in_order (map (λ e. (moved_path from to e.0, e.1)) es)) (past tree)
+pub rename_past_removal : (tree : Tree) (from to : Path)
+    → move_subtree tree from to ≡ move_subtree (remove tree to) from to
+rename_past_removal tree from to =
+    ap (λ (es : Tree). in_order (map (λ e. (moved_path from to e.0, e.1)) es)) (past tree)
   where
-    past : (es : Tree) → filter (λ e. not (is_within to e.0)) es ≡ filter (λ e. not (is_within to e.0)) (filter (λ e. not (same_path to e.0)) es)
+    past : (es : Tree)
+        → filter (λ e. not (is_within to e.0)) es
+        ≡ filter (λ e. not (is_within to e.0)) (filter (λ e. not (same_path to e.0)) es)
     past [] = refl
     past (e ∷ es) =
         let left = filter (λ x. not (same_path to x.0)) es in
         elim (same_path to e.0) as (λ b. same_path to e.0 ≡ b →
-        cond (not (is_within to e.0)) (e ∷ filter (λ x. not (is_within to x.0)) es) (filter (λ x. not (is_within to x.0)) es) ≡ filter (λ x. not (is_within to x.0)) (cond (not b) (e ∷ left) left)) [
+        cond (not (is_within to e.0)) (e ∷ filter (λ x. not (is_within to x.0)) es)
+        (filter (λ x. not (is_within to x.0)) es)
+        ≡ filter (λ x. not (is_within to x.0)) (cond (not b) (e ∷ left) left)) [
           | true ↦ λ same.
-              let inside : is_within to e.0 ≡ true = ap (is_within to) (sym (same_path-equal to e.0 same) ∙ sym (append-nil to)) ∙ is_within-append to [] in
-              ap (λ b. cond (not b) (e ∷ filter (λ x. not (is_within to x.0)) es) (filter (λ x. not (is_within to x.0)) es)) inside ∙ past es
+              let inside : is_within to e.0 ≡ true =
+              ap (is_within to) (sym (same_path-equal to e.0 same) ∙ sym (append-nil to))
+              ∙ is_within-append to [] in
+              ap (λ b.
+              cond (not b) (e ∷ filter (λ x. not (is_within to x.0)) es)
+              (filter (λ x. not (is_within to x.0)) es))
+              inside
+              ∙ past es
           | false ↦ λ _. ap (λ (xs : Tree). cond (not (is_within to e.0)) (e ∷ xs) xs) (past es)
         ] refl
 
@@ -224,38 +290,54 @@ dropped parent name i (Records records) = Records (λ n. put_record parent name 
 without : ℕ → Name → ℕ → Inodes → Inodes
 without parent name inode inodes i = cond (i == inode) None (option_map (dropped parent name i) (inodes i))
 
-without-there : (parent : ℕ) (name : Name) (inode : ℕ) (inodes : Inodes) → without parent name inode inodes inode ≡ None
+without-there : (parent : ℕ) (name : Name) (inode : ℕ) (inodes : Inodes)
+    → without parent name inode inodes inode ≡ None
 unfolding without
-without-there parent name inode inodes = ap (λ b. cond b None (option_map (dropped parent name inode) (inodes inode))) (eq-eqb inode inode refl)
+without-there parent name inode inodes =
+    ap (λ b. cond b None (option_map (dropped parent name inode) (inodes inode))) (eq-eqb inode inode refl)
 
-without-other : (parent : ℕ) (name : Name) (inode : ℕ) (inodes : Inodes) (i : ℕ) → (i ≡ inode → ⊥) → without parent name inode inodes i ≡ option_map (dropped parent name i) (inodes i)
+without-other : (parent : ℕ) (name : Name) (inode : ℕ) (inodes : Inodes) (i : ℕ) → (i ≡ inode → ⊥)
+    → without parent name inode inodes i ≡ option_map (dropped parent name i) (inodes i)
 unfolding without
-without-other parent name inode inodes i ne = ap (λ b. cond b None (option_map (dropped parent name i) (inodes i))) (ne_eqb i inode ne)
+without-other parent name inode inodes i ne =
+    ap (λ b. cond b None (option_map (dropped parent name i) (inodes i))) (ne_eqb i inode ne)
 
-drops : (parent : ℕ) (name : Name) (i : ℕ) (o : Option InodeContent) → HoldsChanged (put_record parent name None i) o (option_map (dropped parent name i) o)
+drops : (parent : ℕ) (name : Name) (i : ℕ) (o : Option InodeContent)
+    → HoldsChanged (put_record parent name None i) o (option_map (dropped parent name i) o)
 unfolding dropped
 drops parent name i None = refl
 drops parent name i (Some (Bytes bytes)) = refl
-drops parent name i (Some (Records records)) = ((λ n. put_record parent name None i n (records n)), refl, λ n. refl)
+drops parent name i (Some (Records records)) =
+    ((λ n. put_record parent name None i n (records n)), refl, λ n. refl)
 
 -- a record that is written over may be taken out before
-move_record-over : (from : ℕ) (fn : Name) (to : ℕ) (tn : Name) (link : Option Link) (i : ℕ) (n : Name) (old : Option Link) →
-    move_record from fn to tn link i n (put_record to tn None i n old) ≡ move_record from fn to tn link i n old
+move_record-over : (from : ℕ) (fn : Name) (to : ℕ) (tn : Name) (link : Option Link) (i : ℕ) (n : Name)
+    (old : Option Link)
+    →
+    move_record from fn to tn link i n (put_record to tn None i n old)
+    ≡ move_record from fn to tn link i n old
 unfolding put_record
 move_record-over from fn to tn link i n old =
-    elim ((i == to) && same_name n tn) as (λ b. (if b then link else if (i == from) && same_name n fn then None else if b then None else old) ≡ (if b then link else if (i == from) && same_name n fn then None else old)) [
+    elim ((i == to) && same_name n tn) as (λ b.
+    (if b then link else if (i == from) && same_name n fn then None else if b then None else old)
+    ≡ (if b then link else if (i == from) && same_name n fn then None else old)) [
       | true ↦ refl
       | false ↦ refl
     ]
 
-moves_dropped : (from : ℕ) (fn : Name) (to : ℕ) (tn : Name) (link : Option Link) (i : ℕ) (o new : Option InodeContent) →
-    HoldsChanged (move_record from fn to tn link i) o new → HoldsChanged (move_record from fn to tn link i) (option_map (dropped to tn i) o) new
+moves_dropped : (from : ℕ) (fn : Name) (to : ℕ) (tn : Name) (link : Option Link) (i : ℕ)
+    (o new : Option InodeContent)
+    →
+    HoldsChanged (move_record from fn to tn link i) o new
+    → HoldsChanged (move_record from fn to tn link i) (option_map (dropped to tn i) o) new
 unfolding dropped
 moves_dropped from fn to tn link i None new h = h
 moves_dropped from fn to tn link i (Some (Bytes bytes)) new h = h
-moves_dropped from fn to tn link i (Some (Records records)) new h = (h.0, h.1, λ n. h.2 n ∙ sym (move_record-over from fn to tn link i n (records n)))
+moves_dropped from fn to tn link i (Some (Records records)) new h =
+    (h.0, h.1, λ n. h.2 n ∙ sym (move_record-over from fn to tn link i n (records n)))
 
-module _ (old new : Inodes) (tree : Tree) (fp : Path) (fn : Name) (tp : Path) (tn : Name) (m : MeansTree old tree) (w : Replaces old new fp fn tp tn) where
+module _ (old new : Inodes) (tree : Tree) (fp : Path) (fn : Name) (tp : Path) (tn : Name)
+    (m : MeansTree old tree) (w : Replaces old new fp fn tp tn) where
   between : Inodes
   between = without w.to.inode tn w.target.0 old
 
@@ -277,9 +359,12 @@ module _ (old new : Inodes) (tree : Tree) (fp : Path) (fn : Name) (tp : Path) (t
   to_is : m.inode_of tp ≡ Some w.to.inode
   to_is = inode_there t m.pairs tp w.to.inode w.to.is_reached
 
-  others' : (i : ℕ) → (i ≡ w.target.0 → ⊥) → HoldsChanged (put_record w.to.inode tn None i) (old i) (between i)
+  others' : (i : ℕ) → (i ≡ w.target.0 → ⊥)
+      → HoldsChanged (put_record w.to.inode tn None i) (old i) (between i)
   unfolding between
-  others' i ne = subst (λ (o : Option InodeContent). HoldsChanged (put_record w.to.inode tn None i) (old i) o) (sym (without-other w.to.inode tn w.target.0 old i ne)) (drops w.to.inode tn i (old i))
+  others' i ne =
+      subst (λ (o : Option InodeContent). HoldsChanged (put_record w.to.inode tn None i) (old i) o)
+      (sym (without-other w.to.inode tn w.target.0 old i ne)) (drops w.to.inode tn i (old i))
 
   gone' : between w.target.0 ≡ None
   unfolding between
@@ -292,14 +377,22 @@ module _ (old new : Inodes) (tree : Tree) (fp : Path) (fn : Name) (tp : Path) (t
   same_trees = same_functions _ _ (taken_out tree (tn ∷ tp))
 
   t' : IsRooted (upward (remove tree to))
-  t' = subst IsRooted same_trees (removed_rooted old between (upward tree) m.inode_of t m.pairs tn tp w.to.inode w.target.0 to_is target_is empty gone' others')
+  t' =
+      subst IsRooted same_trees
+      (removed_rooted old between
+      (upward tree) m.inode_of t m.pairs tn tp w.to.inode w.target.0 to_is target_is empty gone' others')
 
   m' : Pairs between (upward (remove tree to)) f'
-  m' = subst (λ (x : Path → Option Node). Pairs between x f') same_trees (removed_pairs old between (upward tree) m.inode_of t m.pairs tn tp w.to.inode w.target.0 to_is target_is empty gone' others')
+  m' =
+      subst (λ (x : Path → Option Node). Pairs between x f') same_trees
+      (removed_pairs old between
+      (upward tree) m.inode_of t m.pairs tn tp w.to.inode w.target.0 to_is target_is empty gone' others')
 
   from_apart : fn ∷ fp ≡ tn ∷ tp → ⊥
   from_apart e =
-      let itself : is_within (reverse (fn ∷ fp)) (reverse (fn ∷ fp)) ≡ true = ap (is_within (reverse (fn ∷ fp))) (sym (append-nil (reverse (fn ∷ fp)))) ∙ is_within-append (reverse (fn ∷ fp)) [] in
+      let itself : is_within (reverse (fn ∷ fp)) (reverse (fn ∷ fp)) ≡ true =
+      ap (is_within (reverse (fn ∷ fp))) (sym (append-nil (reverse (fn ∷ fp))))
+      ∙ is_within-append (reverse (fn ∷ fp)) [] in
       true≢false (sym itself ∙ ap (λ (q : Path). is_within (reverse (fn ∷ fp)) (reverse q)) e ∙ w.outside)
 
   entry_there : record_of (upward tree) m.inode_of (fn ∷ fp) ≡ Some w.link
@@ -316,16 +409,21 @@ module _ (old new : Inodes) (tree : Tree) (fp : Path) (fn : Name) (tp : Path) (t
   up_other : (q : Path) → (q ≡ tn ∷ tp → ⊥) → upward (remove tree to) q ≡ upward tree q
   up_other q ne = sym (taken_out tree (tn ∷ tp) q) ∙ put_at-other (tn ∷ tp) None (upward tree) q ne
 
-  each : (i : ℕ) → HoldsChanged (move_record w.from.inode fn w.to.inode tn (Some w.link) i) (between i) (new i)
+  each : (i : ℕ)
+      → HoldsChanged (move_record w.from.inode fn w.to.inode tn (Some w.link) i) (between i) (new i)
   unfolding between
   each i = elim (cases_Bool (i == w.target.0)) [
     | inl e ↦
         let here : i ≡ w.target.0 = eqb-true i w.target.0 e in
         let none : between i ≡ None = ap between here ∙ gone' in
-        subst (λ (o : Option InodeContent). HoldsChanged (move_record w.from.inode fn w.to.inode tn (Some w.link) i) o (new i)) (sym none) (ap new here ∙ w.moves.gone)
+        subst (λ (o : Option InodeContent).
+        HoldsChanged (move_record w.from.inode fn w.to.inode tn (Some w.link) i) o (new i))
+        (sym none) (ap new here ∙ w.moves.gone)
     | inr e ↦
         let ne : i ≡ w.target.0 → ⊥ = eqb-false i w.target.0 e in
-        subst (λ (o : Option InodeContent). HoldsChanged (move_record w.from.inode fn w.to.inode tn (Some w.link) i) o (new i)) (sym (without-other w.to.inode tn w.target.0 old i ne))
+        subst (λ (o : Option InodeContent).
+        HoldsChanged (move_record w.from.inode fn w.to.inode tn (Some w.link) i) o (new i))
+        (sym (without-other w.to.inode tn w.target.0 old i ne))
         (moves_dropped w.from.inode fn w.to.inode tn (Some w.link) i (old i) (new i) (w.moves.others i ne))
   ]
 
@@ -342,14 +440,23 @@ module _ (old new : Inodes) (tree : Tree) (fp : Path) (fn : Name) (tp : Path) (t
   free' = sym (taken_out tree (tn ∷ tp) (tn ∷ tp)) ∙ put_at-there (tn ∷ tp) None (upward tree)
 
   entry_there' : record_of (upward (remove tree to)) f' (fn ∷ fp) ≡ Some w.link
-  entry_there' = record_cong _ _ _ _ (put_at-other (tn ∷ tp) None m.inode_of (fn ∷ fp) from_apart) (up_other (fn ∷ fp) from_apart) ∙ entry_there
+  entry_there' =
+      record_cong _ _ _ _ (put_at-other (tn ∷ tp) None m.inode_of (fn ∷ fp) from_apart)
+      (up_other (fn ∷ fp) from_apart)
+      ∙ entry_there
 
   moved_on : MeansTree new (move_subtree (remove tree to) (reverse (fn ∷ fp)) to)
-  moved_on = moved_means between new (remove tree to) f' t' m' fn fp tn tp w.from.inode w.to.inode w.link from_is' to_is' to_parent' free' entry_there' w.outside each
+  moved_on =
+      moved_means between new
+      (remove tree to) f' t' m' fn fp tn tp w.from.inode w.to.inode w.link from_is' to_is' to_parent' free'
+      entry_there' w.outside each
 
   -- the target doesn't begin the path that is moved onto it
   pub replaced_not_above : is_within to (reverse (fn ∷ fp)) ≡ false
-  replaced_not_above = not_above between new (remove tree to) f' t' m' fn fp tn tp w.from.inode w.to.inode w.link from_is' to_is' to_parent' free' entry_there' w.outside each
+  replaced_not_above =
+      not_above between new
+      (remove tree to) f' t' m' fn fp tn tp w.from.inode w.to.inode w.link from_is' to_is' to_parent' free'
+      entry_there' w.outside each
 
   -- and once it is taken out, nothing is at or below it
   pub replaced_free : (r : Path) → upward (remove tree to) (r ++ (tn ∷ tp)) ≡ None

@@ -16,14 +16,16 @@ use Rattle.nl_types.specs.Facts.Inodes.Recording.{clash, same_child, put_record-
 none-map : (o : Option Path) (n : Name) → o ≡ None → option_map (λ (r : Path). n ∷ r) o ≡ None
 none-map o n e = rw e refl
 
-child_outside : (top : Path) (n : Name) (q : Path) → (n ∷ q ≡ top → ⊥) → below top q ≡ None → below top (n ∷ q) ≡ None
+child_outside : (top : Path) (n : Name) (q : Path) → (n ∷ q ≡ top → ⊥) → below top q ≡ None
+    → below top (n ∷ q) ≡ None
 child_outside top n q ne e = below-more top n q ne ∙ none-map (below top q) n e
 
 same_inode : (f : Path → Option ℕ) (p q : Path) (i d : ℕ) → p ≡ q → f p ≡ Some i → f q ≡ Some d → i ≡ d
 same_inode f p q i d e a b = let k : Some i ≡ Some d = sym a ∙ (ap f e ∙ b) in cc
 
 -- a path is below `to`, below `from` alone, or elsewhere
-by_ways : (from to : Path) (P : Path → Type 0) → ((r : Path) → P (r ++ to)) → ((r : Path) → below to (r ++ from) ≡ None → P (r ++ from)) →
+by_ways : (from to : Path) (P : Path → Type 0) → ((r : Path) → P (r ++ to))
+    → ((r : Path) → below to (r ++ from) ≡ None → P (r ++ from)) →
     ((q : Path) → below to q ≡ None → below from q ≡ None → P q) → (q : Path) → P q
 by_ways from to P under over else q = choose (below to q) (below from q) refl refl
   where
@@ -34,10 +36,15 @@ by_ways from to P under over else q = choose (below to q) (below from q) refl re
         subst P (sym here) (over r (subst (λ x. below to x ≡ None) here e))
     choose None None e k = else q e k
 
-module _ (inodes inodes' : Inodes) (tree : Path → Option Node) (f : Path → Option ℕ) (fn : Name) (fp : Path) (tn : Name) (tp : Path)
-    (t : IsRooted tree) (m : Pairs inodes tree f) (from_inode to_inode : ℕ) (from_is : f fp ≡ Some from_inode) (to_is : f tp ≡ Some to_inode)
-    (to_parent : tree tp ≡ Some Dir) (free : tree (tn ∷ tp) ≡ None) (outside : (r : Path) → tp ≡ r ++ (fn ∷ fp) → ⊥)
-    (each : (i : ℕ) → HoldsChanged (move_record from_inode fn to_inode tn (record_of tree f (fn ∷ fp)) i) (inodes i) (inodes' i)) where
+module _ (inodes inodes' : Inodes) (tree : Path → Option Node) (f : Path → Option ℕ) (fn : Name) (fp : Path)
+    (tn : Name) (tp : Path)
+    (t : IsRooted tree) (m : Pairs inodes tree f) (from_inode to_inode : ℕ) (from_is : f fp ≡ Some from_inode)
+    (to_is : f tp ≡ Some to_inode)
+    (to_parent : tree tp ≡ Some Dir) (free : tree (tn ∷ tp) ≡ None)
+    (outside : (r : Path) → tp ≡ r ++ (fn ∷ fp) → ⊥)
+    (each : (i : ℕ)
+    → HoldsChanged (move_record from_inode fn to_inode tn (record_of tree f (fn ∷ fp)) i) (inodes i)
+    (inodes' i)) where
   abbrev pub f' : Path → Option ℕ
   f' = moved (fn ∷ fp) (tn ∷ tp) f
 
@@ -48,21 +55,27 @@ module _ (inodes inodes' : Inodes) (tree : Path → Option Node) (f : Path → O
   change = move_record from_inode fn to_inode tn (record_of tree f (fn ∷ fp))
 
   -- where the names of a directory that doesn't move go
-  there : (q : Path) (i : ℕ) (n : Name) (old : Option Link) → f q ≡ Some i → n ∷ q ≡ tn ∷ tp → change i n old ≡ record_of tree' f' (n ∷ q)
+  there : (q : Path) (i : ℕ) (n : Name) (old : Option Link) → f q ≡ Some i → n ∷ q ≡ tn ∷ tp
+      → change i n old ≡ record_of tree' f' (n ∷ q)
   there q i n old fq y =
       let en : n ≡ tn = cc in
       let ep : q ≡ tp = cc in
-      put_record-there to_inode tn (record_of tree f (fn ∷ fp)) i n (put_record from_inode fn None i n old) (same_inode f q tp i to_inode ep fq to_is) en
+      put_record-there to_inode tn (record_of tree f (fn ∷ fp)) i n (put_record from_inode fn None i n old)
+      (same_inode f q tp i to_inode ep fq to_is) en
       ∙ sym (subst (λ (p : Path). record_of tree' f' p ≡ record_of tree f (fn ∷ fp)) (sym y)
       (record_cong _ _ _ _ (moved-to (fn ∷ fp) (tn ∷ tp) f []) (moved-to (fn ∷ fp) (tn ∷ tp) tree [])))
 
-  not_there : (q : Path) (i : ℕ) (n : Name) (old : Option Link) → f q ≡ Some i → (n ∷ q ≡ tn ∷ tp → ⊥) → change i n old ≡ put_record from_inode fn None i n old
+  not_there : (q : Path) (i : ℕ) (n : Name) (old : Option Link) → f q ≡ Some i → (n ∷ q ≡ tn ∷ tp → ⊥)
+      → change i n old ≡ put_record from_inode fn None i n old
   not_there q i n old fq ne = elim (name_cases n tn) [
-    | inl y ↦ put_record-dir to_inode tn _ i n _ (λ e. ne (same_child n tn q tp y.1 (m.once q tp i fq (rw e to_is))))
+    | inl y ↦
+        put_record-dir to_inode tn _ i n _
+        (λ e. ne (same_child n tn q tp y.1 (m.once q tp i fq (rw e to_is))))
     | inr y ↦ put_record-name to_inode tn _ i n _ y.1
   ]
 
-  left : (q : Path) (i : ℕ) (n : Name) (old : Option Link) → f q ≡ Some i → below (tn ∷ tp) (n ∷ q) ≡ None → n ∷ q ≡ fn ∷ fp →
+  left : (q : Path) (i : ℕ) (n : Name) (old : Option Link) → f q ≡ Some i → below (tn ∷ tp) (n ∷ q) ≡ None
+      → n ∷ q ≡ fn ∷ fp →
       put_record from_inode fn None i n old ≡ record_of tree' f' (n ∷ q)
   left q i n old fq a y =
       let en : n ≡ fn = cc in
@@ -70,41 +83,54 @@ module _ (inodes inodes' : Inodes) (tree : Path → Option Node) (f : Path → O
       let b : below (tn ∷ tp) ([] ++ (fn ∷ fp)) ≡ None = subst (λ (p : Path). below (tn ∷ tp) p ≡ None) y a in
       put_record-there from_inode fn None i n old (same_inode f q fp i from_inode ep fq from_is) en
       ∙ sym (subst (λ (p : Path). record_of tree' f' p ≡ None) (sym y)
-      (record_cong _ _ _ _ (moved-from (fn ∷ fp) (tn ∷ tp) f [] b) (moved-from (fn ∷ fp) (tn ∷ tp) tree [] b)))
+      (record_cong _ _ _ _ (moved-from (fn ∷ fp) (tn ∷ tp) f [] b)
+      (moved-from (fn ∷ fp) (tn ∷ tp) tree [] b)))
 
-  kept : (q : Path) (i : ℕ) (n : Name) (old : Option Link) → f q ≡ Some i → (n ∷ q ≡ fn ∷ fp → ⊥) → put_record from_inode fn None i n old ≡ old
+  kept : (q : Path) (i : ℕ) (n : Name) (old : Option Link) → f q ≡ Some i → (n ∷ q ≡ fn ∷ fp → ⊥)
+      → put_record from_inode fn None i n old ≡ old
   kept q i n old fq ne = elim (name_cases n fn) [
-    | inl y ↦ put_record-dir from_inode fn _ i n _ (λ e. ne (same_child n fn q fp y.1 (m.once q fp i fq (rw e from_is))))
+    | inl y ↦
+        put_record-dir from_inode fn _ i n _
+        (λ e. ne (same_child n fn q fp y.1 (m.once q fp i fq (rw e from_is))))
     | inr y ↦ put_record-name from_inode fn _ i n _ y.1
   ]
 
-  record_elsewhere : (q : Path) (i : ℕ) (n : Name) (old : Option Link) → f q ≡ Some i → below (tn ∷ tp) q ≡ None → below (fn ∷ fp) q ≡ None →
+  record_elsewhere : (q : Path) (i : ℕ) (n : Name) (old : Option Link) → f q ≡ Some i
+      → below (tn ∷ tp) q ≡ None → below (fn ∷ fp) q ≡ None →
       old ≡ record_of tree f (n ∷ q) → change i n old ≡ record_of tree' f' (n ∷ q)
   record_elsewhere q i n old fq a b is = elim (path_cases (n ∷ q) (tn ∷ tp)) [
     | inl y ↦ there q i n old fq y.1
     | inr x ↦ not_there q i n old fq x.1 ∙ elim (path_cases (n ∷ q) (fn ∷ fp)) [
       | inl y ↦ left q i n old fq (child_outside (tn ∷ tp) n q x.1 a) y.1
       | inr z ↦ kept q i n old fq z.1 ∙ (is ∙ sym (record_cong _ _ _ _
-          (moved-elsewhere (fn ∷ fp) (tn ∷ tp) f (n ∷ q) (child_outside (tn ∷ tp) n q x.1 a) (child_outside (fn ∷ fp) n q z.1 b))
-          (moved-elsewhere (fn ∷ fp) (tn ∷ tp) tree (n ∷ q) (child_outside (tn ∷ tp) n q x.1 a) (child_outside (fn ∷ fp) n q z.1 b))))
+          (moved-elsewhere (fn ∷ fp) (tn ∷ tp) f (n ∷ q) (child_outside (tn ∷ tp) n q x.1 a)
+          (child_outside (fn ∷ fp) n q z.1 b))
+          (moved-elsewhere (fn ∷ fp) (tn ∷ tp) tree (n ∷ q) (child_outside (tn ∷ tp) n q x.1 a)
+          (child_outside (fn ∷ fp) n q z.1 b))))
     ]
   ]
 
   -- a directory below `to` keeps its records, since it is neither of the two parents
-  record_moved : (r : Path) (i : ℕ) (n : Name) (old : Option Link) → f (r ++ (fn ∷ fp)) ≡ Some i → change i n old ≡ old
+  record_moved : (r : Path) (i : ℕ) (n : Name) (old : Option Link) → f (r ++ (fn ∷ fp)) ≡ Some i
+      → change i n old ≡ old
   record_moved r i n old fq =
       put_record-dir to_inode tn _ i n _ (λ e. outside r (m.once tp (r ++ (fn ∷ fp)) i (rw e to_is) fq))
-      ∙ put_record-dir from_inode fn None i n old (λ e. above r (m.once (r ++ (fn ∷ fp)) fp i fq (rw e from_is)))
+      ∙ put_record-dir from_inode fn None i n old
+      (λ e. above r (m.once (r ++ (fn ∷ fp)) fp i fq (rw e from_is)))
     where
       above : (r : Path) → r ++ (fn ∷ fp) ≡ fp → ⊥
-      above r e = let k : length (r ++ (fn ∷ fp)) ≡ length fp = ap length e in omega (arith, length-append r (fn ∷ fp), k)
+      above r e =
+          let k : length (r ++ (fn ∷ fp)) ≡ length fp = ap length e in
+          omega (arith, length-append r (fn ∷ fp), k)
 
   abbrev DirectoryAt : Path → Type 0
   DirectoryAt p = (i : ℕ) → tree' p ≡ Some Dir → f' p ≡ Some i →
-      (records : Name → Option Link) × (inodes' i ≡ Some (Records records)) × ((n : Name) → records n ≡ record_of tree' f' (n ∷ p))
+      (records : Name → Option Link) × (inodes' i ≡ Some (Records records))
+      × ((n : Name) → records n ≡ record_of tree' f' (n ∷ p))
 
   changed : (i : ℕ) (records : Name → Option Link) → inodes i ≡ Some (Records records) →
-      (records' : Name → Option Link) × (inodes' i ≡ Some (Records records')) × ((n : Name) → records' n ≡ change i n (records n))
+      (records' : Name → Option Link) × (inodes' i ≡ Some (Records records'))
+      × ((n : Name) → records' n ≡ change i n (records n))
   changed i records e = subst (λ (o : Option InodeContent). HoldsChanged (change i) o (inodes' i)) e (each i)
 
   unchanged : (i : ℕ) (bytes : List ℕ) → inodes i ≡ Some (Bytes bytes) → inodes' i ≡ Some (Bytes bytes)
@@ -131,7 +157,8 @@ module _ (inodes inodes' : Inodes) (tree : Path → Option Node) (f : Path → O
       (c.0, c.1, λ n. c.2 n ∙ record_elsewhere q i n (k.0 n) fq a b (k.2 n))
 
   abbrev FileAt : Path → Type 0
-  FileAt p = (i : ℕ) (bytes : List ℕ) → tree' p ≡ Some (File bytes) → f' p ≡ Some i → inodes' i ≡ Some (Bytes bytes)
+  FileAt p =
+      (i : ℕ) (bytes : List ℕ) → tree' p ≡ Some (File bytes) → f' p ≡ Some i → inodes' i ≡ Some (Bytes bytes)
 
   file_under : (r : Path) → FileAt (r ++ (tn ∷ tp))
   file_under r i bytes d e = unchanged i bytes (m.file (r ++ (fn ∷ fp)) i bytes
@@ -139,11 +166,13 @@ module _ (inodes inodes' : Inodes) (tree : Path → Option Node) (f : Path → O
 
   file_else : (q : Path) → below (tn ∷ tp) q ≡ None → below (fn ∷ fp) q ≡ None → FileAt q
   file_else q a b i bytes d e = unchanged i bytes (m.file q i bytes
-      (sym (moved-elsewhere (fn ∷ fp) (tn ∷ tp) tree q a b) ∙ d) (sym (moved-elsewhere (fn ∷ fp) (tn ∷ tp) f q a b) ∙ e))
+      (sym (moved-elsewhere (fn ∷ fp) (tn ∷ tp) tree q a b) ∙ d)
+      (sym (moved-elsewhere (fn ∷ fp) (tn ∷ tp) f q a b) ∙ e))
 
   -- where an inode's path was before
   abbrev CameFrom : Path → Path → Type 0
-  CameFrom p q = ((r : Path) × (p ≡ r ++ (tn ∷ tp)) × (q ≡ r ++ (fn ∷ fp))) ⊎ ((p ≡ q) × (below (fn ∷ fp) q ≡ None))
+  CameFrom p q =
+      ((r : Path) × (p ≡ r ++ (tn ∷ tp)) × (q ≡ r ++ (fn ∷ fp))) ⊎ ((p ≡ q) × (below (fn ∷ fp) q ≡ None))
 
   abbrev Source : Path → Type 0
   Source p = (i : ℕ) → f' p ≡ Some i → (q : Path) × (f q ≡ Some i) × CameFrom p q
@@ -155,9 +184,16 @@ module _ (inodes inodes' : Inodes) (tree : Path → Option Node) (f : Path → O
       (λ q a b i e. (q, sym (moved-elsewhere (fn ∷ fp) (tn ∷ tp) f q a b) ∙ e, inr (refl, b)))
 
   both : (p p' q q' : Path) → q ≡ q' → CameFrom p q → CameFrom p' q' → p ≡ p'
-  both p p' q q' e (inl x) (inl y) = x.1 ∙ (ap (λ (r : Path). r ++ (tn ∷ tp)) (append_cancel_right x.0 y.0 (fn ∷ fp) (sym x.2 ∙ (e ∙ y.2))) ∙ sym y.1)
-  both p p' q q' e (inl x) (inr y) = absurd (clash _ x.0 (subst (λ (s : Path). below (fn ∷ fp) s ≡ None) (sym e ∙ x.2) y.1) (below-append (fn ∷ fp) x.0))
-  both p p' q q' e (inr x) (inl y) = absurd (clash _ y.0 (subst (λ (s : Path). below (fn ∷ fp) s ≡ None) (e ∙ y.2) x.1) (below-append (fn ∷ fp) y.0))
+  both p p' q q' e (inl x) (inl y) =
+      x.1
+      ∙ (ap (λ (r : Path). r ++ (tn ∷ tp)) (append_cancel_right x.0 y.0 (fn ∷ fp) (sym x.2 ∙ (e ∙ y.2)))
+      ∙ sym y.1)
+  both p p' q q' e (inl x) (inr y) =
+      absurd (clash _ x.0 (subst (λ (s : Path). below (fn ∷ fp) s ≡ None) (sym e ∙ x.2) y.1)
+      (below-append (fn ∷ fp) x.0))
+  both p p' q q' e (inr x) (inl y) =
+      absurd (clash _ y.0 (subst (λ (s : Path). below (fn ∷ fp) s ≡ None) (e ∙ y.2) x.1)
+      (below-append (fn ∷ fp) y.0))
   both p p' q q' e (inr x) (inr y) = x.0 ∙ (e ∙ sym y.0)
 
   once' : (p p' : Path) (i : ℕ) → f' p ≡ Some i → f' p' ≡ Some i → p ≡ p'
@@ -182,8 +218,11 @@ module _ (inodes inodes' : Inodes) (tree : Path → Option Node) (f : Path → O
       (λ r h i e. (r ++ (tn ∷ tp), moved-to (fn ∷ fp) (tn ∷ tp) f r ∙ e))
       (λ q a b i e. (q, moved-elsewhere (fn ∷ fp) (tn ∷ tp) f q a b ∙ e))
 
-  was_there : (i : ℕ) (o : Option InodeContent) (c : InodeContent) → inodes i ≡ o → inodes' i ≡ Some c → (c' : InodeContent) × (inodes i ≡ Some c')
-  was_there i None c e k = absurd (clash _ c (subst (λ (o : Option InodeContent). HoldsChanged (change i) o (inodes' i)) e (each i)) k)
+  was_there : (i : ℕ) (o : Option InodeContent) (c : InodeContent) → inodes i ≡ o → inodes' i ≡ Some c
+      → (c' : InodeContent) × (inodes i ≡ Some c')
+  was_there i None c e k =
+      absurd
+      (clash _ c (subst (λ (o : Option InodeContent). HoldsChanged (change i) o (inodes' i)) e (each i)) k)
   was_there i (Some c') c e k = (c', e)
 
   abbrev ThereTogether : Path → Type 0
@@ -191,9 +230,12 @@ module _ (inodes inodes' : Inodes) (tree : Path → Option Node) (f : Path → O
 
   together : (p : Path) → ThereTogether p
   together = by_ways (fn ∷ fp) (tn ∷ tp) ThereTogether
-      (λ r. rw (moved-to (fn ∷ fp) (tn ∷ tp) f r, moved-to (fn ∷ fp) (tn ∷ tp) tree r) (m.paths (r ++ (fn ∷ fp))))
+      (λ r.
+      rw (moved-to (fn ∷ fp) (tn ∷ tp) f r, moved-to (fn ∷ fp) (tn ∷ tp) tree r) (m.paths (r ++ (fn ∷ fp))))
       (λ r h. rw (moved-from (fn ∷ fp) (tn ∷ tp) f r h, moved-from (fn ∷ fp) (tn ∷ tp) tree r h) refl)
-      (λ q a b. rw (moved-elsewhere (fn ∷ fp) (tn ∷ tp) f q a b, moved-elsewhere (fn ∷ fp) (tn ∷ tp) tree q a b) (m.paths q))
+      (λ q a b.
+      rw (moved-elsewhere (fn ∷ fp) (tn ∷ tp) f q a b, moved-elsewhere (fn ∷ fp) (tn ∷ tp) tree q a b)
+      (m.paths q))
 
   pub renamed_pairs : Pairs inodes' (moved (fn ∷ fp) (tn ∷ tp) tree) (moved (fn ∷ fp) (tn ∷ tp) f)
   renamed_pairs = record {
@@ -204,7 +246,8 @@ module _ (inodes inodes' : Inodes) (tree : Path → Option Node) (f : Path → O
     directory = by_ways (fn ∷ fp) (tn ∷ tp) DirectoryAt directory_under
         (λ r h i d e. absurd (clash _ Dir (moved-from (fn ∷ fp) (tn ∷ tp) tree r h) d)) directory_else;
     file = by_ways (fn ∷ fp) (tn ∷ tp) FileAt file_under
-        (λ r h i bytes d e. absurd (clash _ (File bytes) (moved-from (fn ∷ fp) (tn ∷ tp) tree r h) d)) file_else;
+        (λ r h i bytes d e. absurd (clash _ (File bytes) (moved-from (fn ∷ fp) (tn ∷ tp) tree r h) d))
+        file_else;
   }
 
   abbrev HasParent : Path → Type 0
@@ -215,7 +258,9 @@ module _ (inodes inodes' : Inodes) (tree : Path → Option Node) (f : Path → O
       (below-none (tn ∷ tp) tp (λ r k. aside r k)) (below-none (fn ∷ fp) tp outside) ∙ to_parent)
     where
       aside : (r : Path) → tp ≡ r ++ (tn ∷ tp) → ⊥
-      aside r e = let k : length tp ≡ length (r ++ (tn ∷ tp)) = ap length e in omega (arith, length-append r (tn ∷ tp), k)
+      aside r e =
+          let k : length tp ≡ length (r ++ (tn ∷ tp)) = ap length e in
+          omega (arith, length-append r (tn ∷ tp), k)
 
   parent_under : (r : Path) → HasParent (r ++ (tn ∷ tp))
   parent_under [] n p x e k = parent_of_to p (let j : p ≡ tp = cc in j)
@@ -228,12 +273,15 @@ module _ (inodes inodes' : Inodes) (tree : Path → Option Node) (f : Path → O
   parent_else q a b n p x e k =
       let a' : below (tn ∷ tp) (n ∷ p) ≡ None = subst (λ (z : Path). below (tn ∷ tp) z ≡ None) e a in
       let b' : below (fn ∷ fp) (n ∷ p) ≡ None = subst (λ (z : Path). below (fn ∷ fp) z ≡ None) e b in
-      moved-elsewhere (fn ∷ fp) (tn ∷ tp) tree p (below-parent (tn ∷ tp) n p a') (below-parent (fn ∷ fp) n p b')
-      ∙ t.parents n p x (sym (moved-elsewhere (fn ∷ fp) (tn ∷ tp) tree (n ∷ p) a' b') ∙ (ap tree' (sym e) ∙ k))
+      moved-elsewhere (fn ∷ fp) (tn ∷ tp) tree p (below-parent (tn ∷ tp) n p a')
+      (below-parent (fn ∷ fp) n p b')
+      ∙ t.parents n p x
+      (sym (moved-elsewhere (fn ∷ fp) (tn ∷ tp) tree (n ∷ p) a' b') ∙ (ap tree' (sym e) ∙ k))
 
   pub renamed_rooted : IsRooted (moved (fn ∷ fp) (tn ∷ tp) tree)
   renamed_rooted = record {
     root = moved-elsewhere (fn ∷ fp) (tn ∷ tp) tree [] (below-root tn tp) (below-root fn fp) ∙ t.root;
     parents = λ n p x k. by_ways (fn ∷ fp) (tn ∷ tp) HasParent parent_under
-        (λ r h n p x e k. absurd (clash _ x (moved-from (fn ∷ fp) (tn ∷ tp) tree r h) k)) parent_else (n ∷ p) n p x refl k;
+        (λ r h n p x e k. absurd (clash _ x (moved-from (fn ∷ fp) (tn ∷ tp) tree r h) k)) parent_else
+        (n ∷ p) n p x refl k;
   }

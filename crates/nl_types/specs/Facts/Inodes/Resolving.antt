@@ -29,11 +29,15 @@ or_assoc None b c = refl
 or_assoc (Some e) b c = refl
 
 -- a walk to a last name stops where the walk to its directory does, or at that directory
-stop_snoc : (tree : Tree) (dir walked : Path) (n : Name) → stop_from tree walked (dir ++ n ∷ []) ≡ option_or (stop_from tree walked dir) (stops_walk (lookup tree (walked ++ dir)))
+stop_snoc : (tree : Tree) (dir walked : Path) (n : Name)
+    → stop_from tree walked (dir ++ n ∷ [])
+    ≡ option_or (stop_from tree walked dir) (stops_walk (lookup tree (walked ++ dir)))
 stop_snoc tree [] walked n = rw (append-nil walked) (or_none (stops_walk (lookup tree walked)))
 stop_snoc tree (k ∷ dir) walked n =
-    ap (λ (x : Option VolError). option_or (stops_walk (lookup tree walked)) x) (stop_snoc tree dir (walked ++ k ∷ []) n
-    ∙ ap (λ (p : Path). option_or (stop_from tree (walked ++ k ∷ []) dir) (stops_walk (lookup tree p))) (append_assoc walked (k ∷ []) dir))
+    ap (λ (x : Option VolError). option_or (stops_walk (lookup tree walked)) x)
+    (stop_snoc tree dir (walked ++ k ∷ []) n
+    ∙ ap (λ (p : Path). option_or (stop_from tree (walked ++ k ∷ []) dir) (stops_walk (lookup tree p)))
+    (append_assoc walked (k ∷ []) dir))
     ∙ sym (or_assoc (stops_walk (lookup tree walked)) _ _)
 
 module _ (inodes : Inodes) (tree : Tree) (m : MeansTree inodes tree) where
@@ -51,45 +55,61 @@ module _ (inodes : Inodes) (tree : Tree) (m : MeansTree inodes tree) where
   snoc walked n = sym (reverse-append walked (n ∷ []))
 
   -- a directory's inode has the records of its children
-  pub holds_records : (p : Path) (i : ℕ) → inode p ≡ Some i → lookup tree p ≡ Some Dir → (records : Name → Option Link) × (inodes i ≡ Some (Records records)) × ((n : Name) → records n ≡ link_at (p ++ n ∷ []))
+  pub holds_records : (p : Path) (i : ℕ) → inode p ≡ Some i → lookup tree p ≡ Some Dir
+      → (records : Name → Option Link) × (inodes i ≡ Some (Records records))
+      × ((n : Name) → records n ≡ link_at (p ++ n ∷ []))
   holds_records p i e d =
       let k = m.pairs.directory (reverse p) i (upward_at p ∙ d) e in (
         k.0,
         k.1,
         λ n. k.2 n
             ∙ ap (λ (q : Path). record_of (upward tree) m.inode_of q) (snoc p n)
-            ∙ ap (λ (x : Option Node). option_zip (inode (p ++ n ∷ [])) (option_map node_kind x)) (upward_at (p ++ n ∷ [])),
+            ∙ ap (λ (x : Option Node). option_zip (inode (p ++ n ∷ [])) (option_map node_kind x))
+            (upward_at (p ++ n ∷ [])),
       )
 
-  pub child_record : (p : Path) (n : Name) (i : ℕ) → inode p ≡ Some i → lookup tree p ≡ Some Dir → record_in (inodes i) n ≡ link_at (p ++ n ∷ [])
-  child_record p n i e d = let k = holds_records p i e d in ap (λ (o : Option InodeContent). record_in o n) k.1 ∙ k.2 n
+  pub child_record : (p : Path) (n : Name) (i : ℕ) → inode p ≡ Some i → lookup tree p ≡ Some Dir
+      → record_in (inodes i) n ≡ link_at (p ++ n ∷ [])
+  child_record p n i e d =
+      let k = holds_records p i e d in ap (λ (o : Option InodeContent). record_in o n) k.1 ∙ k.2 n
 
-  pub link_is : (p : Path) (i : ℕ) (node : Node) → inode p ≡ Some i → lookup tree p ≡ Some node → link_at p ≡ Some (i, node_kind node)
+  pub link_is : (p : Path) (i : ℕ) (node : Node) → inode p ≡ Some i → lookup tree p ≡ Some node
+      → link_at p ≡ Some (i, node_kind node)
   link_is p i node e d = rw (e, d) refl
 
   pub no_link : (p : Path) → lookup tree p ≡ None → link_at p ≡ None
   no_link p e = no_pair (inode p) (option_map node_kind (lookup tree p)) (rw e refl)
 
   pub inode_at : (p : Path) (node : Node) → lookup tree p ≡ Some node → (i : ℕ) × (inode p ≡ Some i)
-  inode_at p node d = present (inode p) (m.pairs.paths (reverse p) ∙ ap (λ (o : Option Node). is_some o) (upward_at p ∙ d))
+  inode_at p node d =
+      present (inode p) (m.pairs.paths (reverse p) ∙ ap (λ (o : Option Node). is_some o) (upward_at p ∙ d))
 
   -- what an inode holds is the node of its path
-  pub node_held : (p : Path) (node : Node) (i : ℕ) → inode p ≡ Some i → lookup tree p ≡ Some node → option_map node_of (inodes i) ≡ Some node
+  pub node_held : (p : Path) (node : Node) (i : ℕ) → inode p ≡ Some i → lookup tree p ≡ Some node
+      → option_map node_of (inodes i) ≡ Some node
   node_held p Dir i e d = ap (option_map node_of) (holds_records p i e d).1
-  node_held p (File bytes) i e d = ap (option_map node_of) (m.pairs.file (reverse p) i bytes (upward_at p ∙ d) e)
+  node_held p (File bytes) i e d =
+      ap (option_map node_of) (m.pairs.file (reverse p) i bytes (upward_at p ∙ d) e)
 
   abbrev Found : Path → Link → Path → Type 0
-  Found walked at names = resolve_from inodes at names ≡ and_then (ok_unless (stop_from tree walked names)) (λ _. ok_or (link_at (walked ++ names)) NotFound)
+  Found walked at names =
+      resolve_from inodes at names
+      ≡ and_then (ok_unless (stop_from tree walked names)) (λ _. ok_or (link_at (walked ++ names)) NotFound)
 
   not_there : (walked : Path) (n : Name) (names : Path) → lookup tree (walked ++ n ∷ []) ≡ None →
-      Err NotFound ≡ and_then (ok_unless (stop_from tree (walked ++ n ∷ []) names)) (λ _. ok_or (link_at (walked ++ n ∷ names)) NotFound)
+      Err NotFound
+      ≡ and_then (ok_unless (stop_from tree (walked ++ n ∷ []) names))
+      (λ _. ok_or (link_at (walked ++ n ∷ names)) NotFound)
   not_there walked n [] e = rw (no_link (walked ++ n ∷ []) e) refl
   not_there walked n (k ∷ names) e = rw e refl
 
-  found_from : (names walked : Path) (i : ℕ) (node : Node) → inode walked ≡ Some i → lookup tree walked ≡ Some node → Found walked (i, node_kind node) names
+  found_from : (names walked : Path) (i : ℕ) (node : Node) → inode walked ≡ Some i
+      → lookup tree walked ≡ Some node → Found walked (i, node_kind node) names
   found_from [] walked i node e d = rw (append-nil walked) (rw (link_is walked i node e d) refl)
   found_from (n ∷ names) walked i (File bytes) e d = rw d refl
-  found_from (n ∷ names) walked i Dir e d = choose (λ j node a b. found_from names (walked ++ n ∷ []) j node a b) (lookup tree (walked ++ n ∷ [])) refl
+  found_from (n ∷ names) walked i Dir e d =
+      choose (λ j node a b. found_from names (walked ++ n ∷ []) j node a b)
+      (lookup tree (walked ++ n ∷ [])) refl
     where
       record_is : record_in (inodes i) n ≡ link_at (walked ++ n ∷ [])
       record_is = child_record walked n i e d
@@ -97,47 +117,71 @@ module _ (inodes : Inodes) (tree : Tree) (m : MeansTree inodes tree) where
       on : (walked ++ n ∷ []) ++ names ≡ walked ++ n ∷ names
       on = append_assoc walked (n ∷ []) names
 
-      choose : ((j : ℕ) (node : Node) → inode (walked ++ n ∷ []) ≡ Some j → lookup tree (walked ++ n ∷ []) ≡ Some node → Found (walked ++ n ∷ []) (j, node_kind node) names) →
-          (o : Option Node) → lookup tree (walked ++ n ∷ []) ≡ o → Found walked (i, kind.Directory) (n ∷ names)
+      choose : ((j : ℕ) (node : Node) → inode (walked ++ n ∷ []) ≡ Some j
+          → lookup tree (walked ++ n ∷ []) ≡ Some node → Found (walked ++ n ∷ []) (j, node_kind node) names)
+          →
+          (o : Option Node) → lookup tree (walked ++ n ∷ []) ≡ o
+          → Found walked (i, kind.Directory) (n ∷ names)
       choose rest None h =
           let none : record_in (inodes i) n ≡ None = record_is ∙ no_link (walked ++ n ∷ []) h in
           rw (none, d) (not_there walked n names h)
       choose rest (Some node) h =
           let j = inode_at (walked ++ n ∷ []) node h in
-          let some : record_in (inodes i) n ≡ Some (j.0, node_kind node) = record_is ∙ link_is (walked ++ n ∷ []) j.0 node j.1 h in
-          rw (some, d) (rest j.0 node j.1 h ∙ ap (λ (p : Path). and_then (ok_unless (stop_from tree (walked ++ n ∷ []) names)) (λ _. ok_or (link_at p) NotFound)) on)
+          let some : record_in (inodes i) n ≡ Some (j.0, node_kind node) =
+          record_is ∙ link_is (walked ++ n ∷ []) j.0 node j.1 h in
+          rw (some, d) (rest j.0 node j.1 h
+          ∙ ap (λ (p : Path).
+          and_then (ok_unless (stop_from tree (walked ++ n ∷ []) names))
+          (λ _. ok_or (link_at p) NotFound))
+          on)
 
   -- the walk over inodes is the walk in the tree
-  found_at : (path : Path) → resolve inodes path ≡ and_then (walk tree path) (λ _. ok_or (link_at path) NotFound)
+  found_at : (path : Path)
+      → resolve inodes path ≡ and_then (walk tree path) (λ _. ok_or (link_at path) NotFound)
   found_at path = found_from path [] 2 Dir m.pairs.root m.rooted.root
 
   -- by the walk in the tree, and by what the tree has
   pub by_cases : (P : Result Link VolError → Type 0) (path : Path) →
       ((x : VolError) → stop_from tree [] path ≡ Some x → P (Err x)) →
       (stop_from tree [] path ≡ None → lookup tree path ≡ None → P (Err NotFound)) →
-      ((i : ℕ) (node : Node) → stop_from tree [] path ≡ None → lookup tree path ≡ Some node → inode path ≡ Some i → P (Ok (i, node_kind node))) →
+      ((i : ℕ) (node : Node) → stop_from tree [] path ≡ None → lookup tree path ≡ Some node
+      → inode path ≡ Some i → P (Ok (i, node_kind node)))
+      →
       P (resolve inodes path)
   by_cases P path stopped absent there = subst P (sym (found_at path)) (by_stop (stop_from tree [] path) refl)
     where
-      by_node : stop_from tree [] path ≡ None → (o : Option Node) → lookup tree path ≡ o → P (ok_or (link_at path) NotFound)
+      by_node : stop_from tree [] path ≡ None → (o : Option Node) → lookup tree path ≡ o
+          → P (ok_or (link_at path) NotFound)
       by_node k None h = subst (λ (o : Option Link). P (ok_or o NotFound)) (sym (no_link path h)) (absent k h)
-      by_node k (Some node) h = let j = inode_at path node h in subst (λ (o : Option Link). P (ok_or o NotFound)) (sym (link_is path j.0 node j.1 h)) (there j.0 node k h j.1)
+      by_node k (Some node) h =
+          let j = inode_at path node h in
+          subst (λ (o : Option Link). P (ok_or o NotFound)) (sym (link_is path j.0 node j.1 h))
+          (there j.0 node k h j.1)
 
-      by_stop : (s : Option VolError) → stop_from tree [] path ≡ s → P (and_then (ok_unless s) (λ _. ok_or (link_at path) NotFound))
+      by_stop : (s : Option VolError) → stop_from tree [] path ≡ s
+          → P (and_then (ok_unless s) (λ _. ok_or (link_at path) NotFound))
       by_stop (Some x) k = stopped x k
       by_stop None k = by_node k (lookup tree path) refl
 
-  nodes : (path : Path) → node_at tree path ≡ and_then (resolve inodes path) (λ at. ok_or (node_in inodes at) NotFound)
+  nodes : (path : Path)
+      → node_at tree path ≡ and_then (resolve inodes path) (λ at. ok_or (node_in inodes at) NotFound)
   nodes path = by_cases (λ r. node_at tree path ≡ and_then r (λ at. ok_or (node_in inodes at) NotFound)) path
       (λ x k. rw k refl)
       (λ k h. rw (k, h) refl)
-      (λ i node k h e. rw (k, h) (ap (λ (o : Option Node). ok_or o NotFound) (sym (node_held path node i e h))))
+      (λ i node k h e.
+      rw (k, h) (ap (λ (o : Option Node). ok_or o NotFound) (sym (node_held path node i e h))))
 
-  pub walk_snoc : (dir : Path) (name : Name) → walk tree (dir ++ name ∷ []) ≡ ok_unless (option_or (stop_from tree [] dir) (stops_walk (lookup tree dir)))
+  pub walk_snoc : (dir : Path) (name : Name)
+      → walk tree (dir ++ name ∷ [])
+      ≡ ok_unless (option_or (stop_from tree [] dir) (stops_walk (lookup tree dir)))
   walk_snoc dir name = ap ok_unless (stop_snoc tree dir [] name)
 
   parents : (dir : Path) (name : Name) → walk tree (dir ++ name ∷ []) ≡ and_then (resolve inodes dir) as_dir
-  parents dir name = walk_snoc dir name ∙ by_cases (λ r. ok_unless (option_or (stop_from tree [] dir) (stops_walk (lookup tree dir))) ≡ and_then r as_dir) dir
+  parents dir name =
+      walk_snoc dir name
+      ∙ by_cases (λ r.
+      ok_unless (option_or (stop_from tree [] dir) (stops_walk (lookup tree dir))) ≡ and_then r as_dir)
+      dir
       (λ x k. rw k refl)
       (λ k h. rw (k, h) refl)
       (λ i node k h e. rw (k, h) (by_node node i))
@@ -149,7 +193,8 @@ module _ (inodes : Inodes) (tree : Tree) (m : MeansTree inodes tree) where
   -- where a walk comes to
   abbrev Stands : Path → Result Link VolError → Type 0
   Stands path (Err x) = Unit {0}
-  Stands path (Ok at) = (node : Node) × (lookup tree path ≡ Some node) × (inode path ≡ Some at.0) × (node_kind node ≡ at.1)
+  Stands path (Ok at) =
+      (node : Node) × (lookup tree path ≡ Some node) × (inode path ≡ Some at.0) × (node_kind node ≡ at.1)
 
   stands : (path : Path) → Stands path (resolve inodes path)
   stands path = by_cases (Stands path) path (λ x k. tt) (λ k h. tt) (λ i node k h e. (node, h, e, refl))
@@ -165,31 +210,51 @@ module _ (inodes : Inodes) (tree : Tree) (m : MeansTree inodes tree) where
   file_of Dir e = cc
   file_of (File bytes) e = (bytes, refl)
 
-  pub dir_stands : (dir : Path) (i : ℕ) → resolve inodes dir ≡ Ok (i, kind.Directory) → (lookup tree dir ≡ Some Dir) × (inode dir ≡ Some i)
-  dir_stands dir i is = let s = stands_at dir (i, kind.Directory) is in (s.1 ∙ ap (λ (x : Node). Some x) (dir_of s.0 s.3), s.2)
+  pub dir_stands : (dir : Path) (i : ℕ) → resolve inodes dir ≡ Ok (i, kind.Directory)
+      → (lookup tree dir ≡ Some Dir) × (inode dir ≡ Some i)
+  dir_stands dir i is =
+      let s = stands_at dir (i, kind.Directory) is in (s.1 ∙ ap (λ (x : Node). Some x) (dir_of s.0 s.3), s.2)
 
-  in_record : (p : Path) (o : Option Node) → lookup tree p ≡ o → o ≡ option_and_then (node_in inodes) (link_at p)
+  in_record : (p : Path) (o : Option Node) → lookup tree p ≡ o
+      → o ≡ option_and_then (node_in inodes) (link_at p)
   in_record p None h = sym (ap (option_and_then (node_in inodes)) (no_link p h))
-  in_record p (Some node) h = let j = inode_at p node h in sym (ap (option_and_then (node_in inodes)) (link_is p j.0 node j.1 h) ∙ node_held p node j.0 j.1 h)
+  in_record p (Some node) h =
+      let j = inode_at p node h in
+      sym (ap (option_and_then (node_in inodes)) (link_is p j.0 node j.1 h) ∙ node_held p node j.0 j.1 h)
 
-  children : (dir : Path) (name : Name) (i : ℕ) → resolve inodes dir ≡ Ok (i, kind.Directory) → lookup tree (dir ++ name ∷ []) ≡ option_and_then (node_in inodes) (record_in (inodes i) name)
+  children : (dir : Path) (name : Name) (i : ℕ) → resolve inodes dir ≡ Ok (i, kind.Directory)
+      → lookup tree (dir ++ name ∷ []) ≡ option_and_then (node_in inodes) (record_in (inodes i) name)
   children dir name i is =
       let s = dir_stands dir i is in
-      in_record (dir ++ name ∷ []) (lookup tree (dir ++ name ∷ [])) refl ∙ ap (option_and_then (node_in inodes)) (sym (child_record dir name i s.1 s.0))
+      in_record (dir ++ name ∷ []) (lookup tree (dir ++ name ∷ [])) refl
+      ∙ ap (option_and_then (node_in inodes)) (sym (child_record dir name i s.1 s.0))
 
-  pub has_records : (p : Path) (i : ℕ) → inode p ≡ Some i → lookup tree p ≡ Some Dir → (h : HasRecords inodes (reverse p)) × (h.inode ≡ i)
+  pub has_records : (p : Path) (i : ℕ) → inode p ≡ Some i → lookup tree p ≡ Some Dir
+      → (h : HasRecords inodes (reverse p)) × (h.inode ≡ i)
   has_records p i e d =
-      let k = holds_records p i e d in
-      (record { inode = i; records = k.0; is_reached = reached-pairs m.rooted m.pairs (reverse p) ∙ e; holds = k.1 }, refl)
+      let k = holds_records p i e d in (
+        record {
+          inode = i;
+          records = k.0;
+          is_reached = reached-pairs m.rooted m.pairs (reverse p) ∙ e;
+          holds = k.1;
+        },
+        refl,
+      )
 
-  records_held : (dir : Path) (i : ℕ) → resolve inodes dir ≡ Ok (i, kind.Directory) → (h : HasRecords inodes (reverse dir)) × (h.inode ≡ i)
+  records_held : (dir : Path) (i : ℕ) → resolve inodes dir ≡ Ok (i, kind.Directory)
+      → (h : HasRecords inodes (reverse dir)) × (h.inode ≡ i)
   records_held dir i is = let s = dir_stands dir i is in has_records dir i s.1 s.0
 
-  bytes_held : (path : Path) (i : ℕ) → resolve inodes path ≡ Ok (i, kind.File) → (reached inodes (reverse path) ≡ Some i) × (bytes : List ℕ) × (inodes i ≡ Some (Bytes bytes))
+  bytes_held : (path : Path) (i : ℕ) → resolve inodes path ≡ Ok (i, kind.File)
+      → (reached inodes (reverse path) ≡ Some i) × (bytes : List ℕ) × (inodes i ≡ Some (Bytes bytes))
   bytes_held path i is =
       let s = stands_at path (i, kind.File) is in
-      let b = file_of s.0 s.3 in
-      (reached-pairs m.rooted m.pairs (reverse path) ∙ s.2, b.0, m.pairs.file (reverse path) i b.0 (upward_at path ∙ s.1 ∙ ap (λ (x : Node). Some x) b.1) s.2)
+      let b = file_of s.0 s.3 in (
+        reached-pairs m.rooted m.pairs (reverse path) ∙ s.2,
+        b.0,
+        m.pairs.file (reverse path) i b.0 (upward_at path ∙ s.1 ∙ ap (λ (x : Node). Some x) b.1) s.2,
+      )
 
 pub nodes_by_inodes : NodesByInodes
 nodes_by_inodes inodes tree m path = nodes inodes tree m path

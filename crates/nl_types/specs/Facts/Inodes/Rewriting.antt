@@ -11,9 +11,12 @@ use Rattle.nl_types.specs.Inodes.{InodeContent, Bytes, Inodes, IsRooted, Pairs}
 use Rattle.nl_types.specs.Facts.Inodes.Ways.{path_cases, put_at, put_at-there, put_at-other}
 use Rattle.nl_types.specs.Facts.Inodes.Recording.{same_value}
 
-module _ (inodes inodes' : Inodes) (tree : Path → Option Node) (f : Path → Option ℕ) (path : Path) (new : List ℕ)
-    (t : IsRooted tree) (m : Pairs inodes tree f) (inode : ℕ) (inode_is : f path ≡ Some inode) (old : List ℕ) (was : tree path ≡ Some (File old))
-    (holds : inodes' inode ≡ Some (Bytes new)) (others : (i : ℕ) → (i ≡ inode → ⊥) → inodes' i ≡ inodes i) where
+module _ (inodes inodes' : Inodes) (tree : Path → Option Node) (f : Path → Option ℕ) (path : Path)
+    (new : List ℕ)
+    (t : IsRooted tree) (m : Pairs inodes tree f) (inode : ℕ) (inode_is : f path ≡ Some inode) (old : List ℕ)
+    (was : tree path ≡ Some (File old))
+    (holds : inodes' inode ≡ Some (Bytes new))
+    (others : (i : ℕ) → (i ≡ inode → ⊥) → inodes' i ≡ inodes i) where
   abbrev pub tree' : Path → Option Node
   tree' = put_at path (Some (File new)) tree
 
@@ -22,7 +25,9 @@ module _ (inodes inodes' : Inodes) (tree : Path → Option Node) (f : Path → O
 
   kinds : (p : Path) → option_map node_kind (tree' p) ≡ option_map node_kind (tree p)
   kinds p = elim (path_cases p path) [
-    | inl y ↦ ap (λ q. option_map node_kind (tree' q)) y.1 ∙ ap (option_map node_kind) there ∙ sym (ap (λ q. option_map node_kind (tree q)) y.1 ∙ ap (option_map node_kind) was)
+    | inl y ↦
+        ap (λ q. option_map node_kind (tree' q)) y.1 ∙ ap (option_map node_kind) there
+        ∙ sym (ap (λ q. option_map node_kind (tree q)) y.1 ∙ ap (option_map node_kind) was)
     | inr x ↦ ap (option_map node_kind) (put_at-other path (Some (File new)) tree p x.1)
   ]
 
@@ -59,14 +64,18 @@ module _ (inodes inodes' : Inodes) (tree : Path → Option Node) (f : Path → O
       by true k = (path, inode_is ∙ ap (λ (j : ℕ). Some j) (sym (eqb-true i inode k)))
       by false k = m.all i c (sym (others i (eqb-false i inode k)) ∙ e)
 
-  file' : (p : Path) (i : ℕ) (bytes : List ℕ) → tree' p ≡ Some (File bytes) → f p ≡ Some i → inodes' i ≡ Some (Bytes bytes)
+  file' : (p : Path) (i : ℕ) (bytes : List ℕ) → tree' p ≡ Some (File bytes) → f p ≡ Some i
+      → inodes' i ≡ Some (Bytes bytes)
   file' p i bytes d e = elim (path_cases p path) [
     | inl y ↦
         let at : i ≡ inode = same_value (f p) i inode e (ap f y.1 ∙ inode_is) in
-        let is : File new ≡ File bytes = same_value (tree' path) (File new) (File bytes) there (ap tree' (sym y.1) ∙ d) in
+        let is : File new ≡ File bytes =
+        same_value (tree' path) (File new) (File bytes) there (ap tree' (sym y.1) ∙ d) in
         let b : new ≡ bytes = cc in
         ap inodes' at ∙ holds ∙ ap (λ (x : List ℕ). Some (Bytes x)) b
-    | inr x ↦ others i (apart p i x.1 e) ∙ m.file p i bytes (sym (put_at-other path (Some (File new)) tree p x.1) ∙ d) e
+    | inr x ↦
+        others i (apart p i x.1 e)
+        ∙ m.file p i bytes (sym (put_at-other path (Some (File new)) tree p x.1) ∙ d) e
   ]
 
   pub rewritten_rooted : IsRooted (put_at path (Some (File new)) tree)
@@ -84,7 +93,11 @@ module _ (inodes inodes' : Inodes) (tree : Path → Option Node) (f : Path → O
     directory = λ p i d e.
         let stood = dir_was p d in
         let k = m.directory p i stood e in
-        let ne : p ≡ path → ⊥ = λ y. (let c : Some (File old) ≡ Some Dir = sym was ∙ ap tree (sym y) ∙ stood in cc) in
-        (k.0, others i (apart p i ne e) ∙ k.1, λ n. k.2 n ∙ ap (option_zip (f (n ∷ p))) (sym (kinds (n ∷ p))));
+        let ne : p ≡ path → ⊥ = λ y.
+        (let c : Some (File old) ≡ Some Dir = sym was ∙ ap tree (sym y) ∙ stood in cc) in (
+          k.0,
+          others i (apart p i ne e) ∙ k.1,
+          λ n. k.2 n ∙ ap (option_zip (f (n ∷ p))) (sym (kinds (n ∷ p))),
+        );
     file = file';
   }

@@ -30,7 +30,10 @@ longer n p e =
 
 -- nothing stands below the root
 nothing : (n : Name) (p : Path) → upward root_alone (n ∷ p) ≡ None
-nothing n p = ap (λ b. cond b (Some Dir) None) (not_true (same_path (reverse (n ∷ p)) []) (λ same. longer n p (same_path-equal (reverse (n ∷ p)) [] same)))
+nothing n p =
+    ap (λ b. cond b (Some Dir) None)
+    (not_true (same_path (reverse (n ∷ p)) [])
+    (λ same. longer n p (same_path-equal (reverse (n ∷ p)) [] same)))
 
 apart : (i : ℕ) → Some i ≡ Some 2 → i ≡ 2
 apart i e = cc
@@ -51,7 +54,8 @@ new_inodes_mean_the_root inodes records holds none others = record {
   };
 }
   where
-    below : (n : Name) (p : Path) (x : Node) → upward root_alone (n ∷ p) ≡ Some x → upward root_alone p ≡ Some Dir
+    below : (n : Name) (p : Path) (x : Node) → upward root_alone (n ∷ p) ≡ Some x
+        → upward root_alone p ≡ Some Dir
     below n p x is = absurd (clash (upward root_alone (n ∷ p)) x (nothing n p) is)
 
     paths : (p : Path) → is_some (inode p) ≡ is_some (upward root_alone p)
@@ -70,16 +74,20 @@ new_inodes_mean_the_root inodes records holds none others = record {
         by true k = ([], ap (λ (n : ℕ). Some n) (sym (eqb-true i 2 k)))
         by false k = absurd (clash (inodes i) c (others i (eqb-false i 2 k)) e)
 
-    directory : (p : Path) (i : ℕ) → upward root_alone p ≡ Some Dir → inode p ≡ Some i → (rs : Name → Option Link) × (inodes i ≡ Some (Records rs)) × ((n : Name) → rs n ≡ record_of (upward root_alone) inode (n ∷ p))
+    directory : (p : Path) (i : ℕ) → upward root_alone p ≡ Some Dir → inode p ≡ Some i
+        → (rs : Name → Option Link) × (inodes i ≡ Some (Records rs))
+        × ((n : Name) → rs n ≡ record_of (upward root_alone) inode (n ∷ p))
     directory [] i d e = (records, ap inodes (apart i (sym e)) ∙ holds, none)
     directory (n ∷ p) i d e = cc
 
-    file : (p : Path) (i : ℕ) (bytes : List ℕ) → upward root_alone p ≡ Some (File bytes) → inode p ≡ Some i → inodes i ≡ Some (Bytes bytes)
+    file : (p : Path) (i : ℕ) (bytes : List ℕ) → upward root_alone p ≡ Some (File bytes) → inode p ≡ Some i
+        → inodes i ≡ Some (Bytes bytes)
     file [] i bytes d e = let k : Some Dir ≡ Some (File bytes) = d in cc
     file (n ∷ p) i bytes d e = cc
 
 -- what a test refuses
-refused : {A : Type 0} (test : Bool) (e : VolError) (next : Result A VolError) → test ≡ true → refuse_if test e next ≡ Err e
+refused : {A : Type 0} (test : Bool) (e : VolError) (next : Result A VolError) → test ≡ true
+    → refuse_if test e next ≡ Err e
 refused true e next is = refl
 refused false e next is = cc
 

@@ -14,17 +14,24 @@ use Rattle.nl_types.specs.Facts.Inodes.Recording.{same_value}
 -- ---- what an inode holds stands at its path
 
 -- what has a record has an inode and a node
-pub zipped : (a : Option ℕ) (x : Option Node) (e : Link) → option_zip a (option_map node_kind x) ≡ Some e → (a ≡ Some e.0) × (y : Node) × (x ≡ Some y) × (node_kind y ≡ e.1)
+pub zipped : (a : Option ℕ) (x : Option Node) (e : Link) → option_zip a (option_map node_kind x) ≡ Some e
+    → (a ≡ Some e.0) × (y : Node) × (x ≡ Some y) × (node_kind y ≡ e.1)
 zipped None x e k = cc
 zipped (Some a) None e k = cc
-zipped (Some a) (Some y) e k = let pair : (a, node_kind y) ≡ e = cc in (ap (λ (p : Link). Some p.0) pair, y, refl, ap (λ (p : Link). p.1) pair)
+zipped (Some a) (Some y) e k =
+    let pair : (a, node_kind y) ≡ e = cc in
+    (ap (λ (p : Link). Some p.0) pair, y, refl, ap (λ (p : Link). p.1) pair)
 
-module _ {inodes : Inodes} {tree : Path → Option Node} {f : Path → Option ℕ} (t : IsRooted tree) (m : Pairs inodes tree f) where
+module _ {inodes : Inodes} {tree : Path → Option Node} {f : Path → Option ℕ} (t : IsRooted tree)
+    (m : Pairs inodes tree f) where
   pub inode_there : (p : Path) (i : ℕ) → reached inodes p ≡ Some i → f p ≡ Some i
   inode_there p i e = sym (reached-pairs t m p) ∙ e
 
-  pub node_there : (p : Path) (i : ℕ) (c : InodeContent) → reached inodes p ≡ Some i → inodes i ≡ Some c → tree p ≡ Some (node_of c)
-  node_there p i c e k = sym (found-pairs t m p) ∙ ap (λ (o : Option ℕ). option_map node_of (option_and_then inodes o)) e ∙ ap (option_map node_of) k
+  pub node_there : (p : Path) (i : ℕ) (c : InodeContent) → reached inodes p ≡ Some i → inodes i ≡ Some c
+      → tree p ≡ Some (node_of c)
+  node_there p i c e k =
+      sym (found-pairs t m p) ∙ ap (λ (o : Option ℕ). option_map node_of (option_and_then inodes o)) e
+      ∙ ap (option_map node_of) k
 
   pub dir_there : (p : Path) (h : HasRecords inodes p) → tree p ≡ Some Dir
   dir_there p h = node_there p h.inode (Records h.records) h.is_reached h.holds
@@ -32,19 +39,23 @@ module _ {inodes : Inodes} {tree : Path → Option Node} {f : Path → Option �
   pub records_are : (p : Path) (h : HasRecords inodes p) (n : Name) → h.records n ≡ record_of tree f (n ∷ p)
   records_are p h n =
       let d = m.directory p h.inode (dir_there p h) (inode_there p h.inode h.is_reached) in
-      let is : Records h.records ≡ Records d.0 = same_value (inodes h.inode) (Records h.records) (Records d.0) h.holds d.1 in
+      let is : Records h.records ≡ Records d.0 =
+      same_value (inodes h.inode) (Records h.records) (Records d.0) h.holds d.1 in
       let same : h.records ≡ d.0 = cc in
       ap (λ (r : Name → Option Link). r n) same ∙ d.2 n
 
-  pub child_there : (p : Path) (h : HasRecords inodes p) (n : Name) (e : Link) → h.records n ≡ Some e → (f (n ∷ p) ≡ Some e.0) × (y : Node) × (tree (n ∷ p) ≡ Some y) × (node_kind y ≡ e.1)
+  pub child_there : (p : Path) (h : HasRecords inodes p) (n : Name) (e : Link) → h.records n ≡ Some e
+      → (f (n ∷ p) ≡ Some e.0) × (y : Node) × (tree (n ∷ p) ≡ Some y) × (node_kind y ≡ e.1)
   child_there p h n e k = zipped (f (n ∷ p)) (tree (n ∷ p)) e (sym (records_are p h n) ∙ k)
 
-  not_zipped : (a : Option ℕ) (x : Option Node) → is_some a ≡ is_some x → option_zip a (option_map node_kind x) ≡ None → x ≡ None
+  not_zipped : (a : Option ℕ) (x : Option Node) → is_some a ≡ is_some x
+      → option_zip a (option_map node_kind x) ≡ None → x ≡ None
   not_zipped a None e k = refl
   not_zipped None (Some y) e k = cc
   not_zipped (Some a) (Some y) e k = cc
 
-  pub child_absent : (p : Path) (h : HasRecords inodes p) (n : Name) → h.records n ≡ None → tree (n ∷ p) ≡ None
+  pub child_absent : (p : Path) (h : HasRecords inodes p) (n : Name) → h.records n ≡ None
+      → tree (n ∷ p) ≡ None
   child_absent p h n k = not_zipped (f (n ∷ p)) (tree (n ∷ p)) (m.paths (n ∷ p)) (sym (records_are p h n) ∙ k)
 
   not_named : (n : Name) (c : InodeContent) → IsBare c → inode_named n c ≡ None
@@ -52,10 +63,13 @@ module _ {inodes : Inodes} {tree : Path → Option Node} {f : Path → Option �
   not_named n (Records records) bare = ap (option_map (λ (r : Link). r.0)) (bare n)
 
   -- nothing lies below a file or an empty directory
-  pub nothing_below : (p : Path) (i : ℕ) (c : InodeContent) → f p ≡ Some i → inodes i ≡ Some c → IsBare c → (n : Name) → tree (n ∷ p) ≡ None
+  pub nothing_below : (p : Path) (i : ℕ) (c : InodeContent) → f p ≡ Some i → inodes i ≡ Some c → IsBare c
+      → (n : Name) → tree (n ∷ p) ≡ None
   unfolding reached
   nothing_below p i c e k bare n =
       let at : reached inodes (n ∷ p) ≡ None =
-      ap (λ (o : Option ℕ). option_and_then (λ (x : InodeContent). inode_named n x) (option_and_then inodes o)) (reached-pairs t m p ∙ e)
+      ap
+      (λ (o : Option ℕ). option_and_then (λ (x : InodeContent). inode_named n x) (option_and_then inodes o))
+      (reached-pairs t m p ∙ e)
       ∙ ap (option_and_then (λ (x : InodeContent). inode_named n x)) k ∙ not_named n c bare in
       sym (found-pairs t m (n ∷ p)) ∙ ap (λ (o : Option ℕ). option_map node_of (option_and_then inodes o)) at

@@ -18,7 +18,8 @@ present None h = cc
 present (Some x) h = (x, refl)
 
 -- the first of a pair that is there or not as a whole
-zip_first : {A B : Type 0} (a : Option A) (b : Option B) → is_some a ≡ is_some b → option_map (λ (r : A × B). r.0) (option_zip a b) ≡ a
+zip_first : {A B : Type 0} (a : Option A) (b : Option B) → is_some a ≡ is_some b
+    → option_map (λ (r : A × B). r.0) (option_zip a b) ≡ a
 zip_first None b h = refl
 zip_first (Some x) None h = cc
 zip_first (Some x) (Some y) h = refl
@@ -42,11 +43,14 @@ module _ {inodes : ℕ → Option InodeContent} {tree : Path → Option Node} {i
   step n p i Dir e f =
       let d = m.directory p i e f in
       rw (d.1) (ap (λ (o : Option (ℕ × Kind)). option_map (λ (r : ℕ × Kind). r.0) o) (d.2 n)
-      ∙ zip_first (inode_of (n ∷ p)) (option_map node_kind (tree (n ∷ p))) (m.paths (n ∷ p) ∙ sym (kinds_there (tree (n ∷ p)))))
+      ∙ zip_first (inode_of (n ∷ p)) (option_map node_kind (tree (n ∷ p)))
+      (m.paths (n ∷ p) ∙ sym (kinds_there (tree (n ∷ p)))))
   step n p i (File bytes) e f =
-      rw (m.file p i bytes e f) (sym (childless n p (λ d. let k : Some Dir ≡ Some (File bytes) = sym d ∙ e in cc)))
+      rw (m.file p i bytes e f)
+      (sym (childless n p (λ d. let k : Some Dir ≡ Some (File bytes) = sym d ∙ e in cc)))
 
-  from_parent : (n : Name) (p : Path) (o : Option ℕ) (x : Option Node) → inode_of p ≡ o → tree p ≡ x → is_some o ≡ is_some x →
+  from_parent : (n : Name) (p : Path) (o : Option ℕ) (x : Option Node) → inode_of p ≡ o → tree p ≡ x
+      → is_some o ≡ is_some x →
       option_and_then (λ c. inode_named n c) (option_and_then inodes o) ≡ inode_of (n ∷ p)
   from_parent n p None None f e h = sym (childless n p (λ d. let k : None ≡ Some Dir = sym e ∙ d in cc))
   from_parent n p None (Some x) f e h = cc

@@ -39,11 +39,13 @@ name_cases m n = elim (cases_Bool (same_name m n)) [
   | inr e ↦ inr (e, λ k. true≢false (sym (same_name-itself m) ∙ ap (same_name m) k ∙ e))
 ]
 
-pub put_at-there : {A : Type 0} (path : Path) (x : Option A) (tree : Path → Option A) → put_at path x tree path ≡ x
+pub put_at-there : {A : Type 0} (path : Path) (x : Option A) (tree : Path → Option A)
+    → put_at path x tree path ≡ x
 unfolding put_at
 put_at-there path x tree = rw (same_path-itself path) refl
 
-pub put_at-other : {A : Type 0} (path : Path) (x : Option A) (tree : Path → Option A) (p : Path) → (p ≡ path → ⊥) → put_at path x tree p ≡ tree p
+pub put_at-other : {A : Type 0} (path : Path) (x : Option A) (tree : Path → Option A) (p : Path)
+    → (p ≡ path → ⊥) → put_at path x tree p ≡ tree p
 unfolding put_at
 put_at-other path x tree p ne = elim (path_cases p path) [ inl t ↦ absurd (ne t.1) | inr f ↦ rw (f.0) refl ]
 
@@ -55,21 +57,25 @@ unfolding below
 below-here [] = refl
 below-here (n ∷ p) = rw (same_path-itself (n ∷ p)) refl
 
-pub below-more : (top : Path) (n : Name) (p : Path) → (n ∷ p ≡ top → ⊥) → below top (n ∷ p) ≡ option_map (λ (r : Path). n ∷ r) (below top p)
+pub below-more : (top : Path) (n : Name) (p : Path) → (n ∷ p ≡ top → ⊥)
+    → below top (n ∷ p) ≡ option_map (λ (r : Path). n ∷ r) (below top p)
 unfolding below
 below-more top n p ne = elim (path_cases (n ∷ p) top) [ inl t ↦ absurd (ne t.1) | inr f ↦ rw (f.0) refl ]
 
 pub below-append : (top r : Path) → below top (r ++ top) ≡ Some r
 below-append top [] = below-here top
-below-append top (n ∷ r) = below-more top n (r ++ top) (longer n r top) ∙ ap (option_map (λ (s : Path). n ∷ s)) (below-append top r)
+below-append top (n ∷ r) =
+    below-more top n (r ++ top) (longer n r top) ∙ ap (option_map (λ (s : Path). n ∷ s)) (below-append top r)
 
-mapped_some : {A B : Type 0} (f : A → B) (o : Option A) (y : B) → option_map f o ≡ Some y → (x : A) × (o ≡ Some x) × (f x ≡ y)
+mapped_some : {A B : Type 0} (f : A → B) (o : Option A) (y : B) → option_map f o ≡ Some y
+    → (x : A) × (o ≡ Some x) × (f x ≡ y)
 mapped_some f None y e = cc
 mapped_some f (Some x) y e = (x, refl, (cc))
 
 below-nil : (top r : Path) → ([] ≡ top → ⊥) → below top [] ≡ Some r → ⊥
 unfolding below
-below-nil top r ne e = elim (path_cases [] top) [ inl t ↦ ne t.1 | inr f ↦ let k : None ≡ Some r = rw (f.0) at e in cc ]
+below-nil top r ne e =
+    elim (path_cases [] top) [ inl t ↦ ne t.1 | inr f ↦ let k : None ≡ Some r = rw (f.0) at e in cc ]
 
 below-top : (top p r : Path) → p ≡ top → below top p ≡ Some r → p ≡ r ++ top
 below-top top p r q e =
@@ -80,7 +86,8 @@ below-top top p r q e =
 
 -- what `below` answers is the way down
 pub below-is : (top p r : Path) → below top p ≡ Some r → p ≡ r ++ top
-below-is top [] r e = elim (path_cases [] top) [ inl t ↦ below-top top [] r t.1 e | inr f ↦ absurd (below-nil top r f.1 e) ]
+below-is top [] r e =
+    elim (path_cases [] top) [ inl t ↦ below-top top [] r t.1 e | inr f ↦ absurd (below-nil top r f.1 e) ]
 below-is top (n ∷ p) r e = elim (path_cases (n ∷ p) top) [
   | inl t ↦ below-top top (n ∷ p) r t.1 e
   | inr f ↦
@@ -106,17 +113,22 @@ below-parent top n p h = none_by (below top p) (λ r e.
     let c : None ≡ Some (n ∷ r) = sym h ∙ k in
     cc)
 
-pub moved-to : {A : Type 0} (from to : Path) (tree : Path → Option A) (r : Path) → moved from to tree (r ++ to) ≡ tree (r ++ from)
+pub moved-to : {A : Type 0} (from to : Path) (tree : Path → Option A) (r : Path)
+    → moved from to tree (r ++ to) ≡ tree (r ++ from)
 unfolding moved
-moved-to from to tree r = ap (λ (w : Option Path). moved_by from tree (r ++ to) w (below from (r ++ to))) (below-append to r)
+moved-to from to tree r =
+    ap (λ (w : Option Path). moved_by from tree (r ++ to) w (below from (r ++ to))) (below-append to r)
 
-pub moved-from : {A : Type 0} (from to : Path) (tree : Path → Option A) (r : Path) → below to (r ++ from) ≡ None → moved from to tree (r ++ from) ≡ None
+pub moved-from : {A : Type 0} (from to : Path) (tree : Path → Option A) (r : Path)
+    → below to (r ++ from) ≡ None → moved from to tree (r ++ from) ≡ None
 unfolding moved
 moved-from from to tree r h =
     ap (λ (w : Option Path). moved_by from tree (r ++ from) w (below from (r ++ from))) h
     ∙ ap (λ (w : Option Path). moved_by from tree (r ++ from) None w) (below-append from r)
 
-pub moved-elsewhere : {A : Type 0} (from to : Path) (tree : Path → Option A) (p : Path) → below to p ≡ None → below from p ≡ None → moved from to tree p ≡ tree p
+pub moved-elsewhere : {A : Type 0} (from to : Path) (tree : Path → Option A) (p : Path) → below to p ≡ None
+    → below from p ≡ None → moved from to tree p ≡ tree p
 unfolding moved
 moved-elsewhere from to tree p h k =
-    ap (λ (w : Option Path). moved_by from tree p w (below from p)) h ∙ ap (λ (w : Option Path). moved_by from tree p None w) k
+    ap (λ (w : Option Path). moved_by from tree p w (below from p)) h
+    ∙ ap (λ (w : Option Path). moved_by from tree p None w) k

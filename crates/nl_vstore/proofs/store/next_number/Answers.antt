@@ -11,10 +11,12 @@ nothing_above s v is above = of (numbered_in s v) refl
   where
     of : (o : Option Numbered) → numbered_in s v ≡ o → is_some (option_map entry_now o) ≡ false
     of None e = refl
-    of (Some n) e = absurd (let k = is.numbers v n.block (ap (option_map block_now) e) in omega (arith, k.1, above))
+    of (Some n) e =
+        absurd (let k = is.numbers v n.block (ap (option_map block_now) e) in omega (arith, k.1, above))
 
 lowest_above : (s : Store) (changes : Changes) → IsStore s → CanBeTaken (capacity s) (content_in s) changes
-    → ((v : ℕ) → 1 ≤ v → v ≤ capacity s → is_taken (content_in s) changes.births v ≡ true) → IsLowestFree (content_in s) changes.births (max (capacity s) (last_number changes.births) + 1)
+    → ((v : ℕ) → 1 ≤ v → v ≤ capacity s → is_taken (content_in s) changes.births v ≡ true)
+    → IsLowestFree (content_in s) changes.births (max (capacity s) (last_number changes.births) + 1)
 lowest_above s changes is fits taken = record {
   positive = omega arith;
   free = ap (λ (t : Bool). t || is_born changes.births top) (nothing_above s top is (omega arith)) ∙ unborn;
@@ -36,4 +38,5 @@ lowest_above s changes is fits taken = record {
 pub returns-in-Err-clause-lowest : goal.returns-in-Err-clause-lowest
 returns-in-Err-clause-lowest g c =
     rw (c.above_all.ensures, c.capacity.ensures.count)
-    (lowest_above (g.V.Vstore.store c.args.store.now) c.args.batch.now (g.met.V.Vstore.is_store c.args.store.now) c.requires c.in-Err.ensures.all_taken)
+    (lowest_above (g.V.Vstore.store c.args.store.now) c.args.batch.now
+    (g.met.V.Vstore.is_store c.args.store.now) c.requires c.in-Err.ensures.all_taken)

@@ -11,4 +11,7 @@ returns g c =
     let event = c.in_ok-event.event in
     let step : Stepped old event c.apply-reply.result new =
     record { next = sym c.in_ok-event.ensures; does = c.apply-reply.ensures; job = c.note.ensures } in
-    record { stepped = (event, step); fewer = fewer-left old new event c.apply-reply.result c.means_a_world.ensures step }
+    record {
+      stepped = (event, step);
+      fewer = fewer-left old new event c.apply-reply.result c.means_a_world.ensures step;
+    }

@@ -5,4 +5,6 @@ use Rattle.nl_commands.proofs.Flags.{used-is}
 use Rattle.nl_commands.proofs.grammar.Given.has.Goals as goal
 
 pub returns : goal.returns
-returns c = c.is_from_words.ensures ∙ used-is (found_of c.self.inside.matches) c.args.id.now _ c.value_source.ensures ∙ ap (is_used c.args.id.now) c.self.view_is
+returns c =
+    c.is_from_words.ensures ∙ used-is (found_of c.self.inside.matches) c.args.id.now _ c.value_source.ensures
+    ∙ ap (is_used c.args.id.now) c.self.view_is

@@ -9,6 +9,7 @@ invariant_of-self-2 c =
     let s = c.self.inside in
     let mounts : List Mounted = s.each.items ++ c.args.mount ∷ [] in
     let given : s.given ≡ c.args.self.now.given = ap (λ (t : MountTable). t.given) c.self.view_is in
-    let more = given-more s.given s.each.items c.args.mount (omega (arith, given, c.requires)) c.self.invariant in
+    let more =
+    given-more s.given s.each.items c.args.mount (omega (arith, given, c.requires)) c.self.invariant in
     subst (AreGiven c.get-given.result) (sym c.in_ok-push.ensures.items)
     (subst (λ (n : ℕ). AreGiven n mounts) (sym c.get-given.ensures) more)

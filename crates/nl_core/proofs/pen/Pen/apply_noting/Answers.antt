@@ -14,5 +14,6 @@ returns-in-Apply g c =
         ]
       ]
     ] in
-    noting-unseen c.args.self.now c.apply.new.self c.args.notes.now.items c.means_a_world.ensures c.args.event.now c.apply.result unseen
+    noting-unseen c.args.self.now c.apply.new.self c.args.notes.now.items c.means_a_world.ensures
+    c.args.event.now c.apply.result unseen
     c.apply.ensures

@@ -8,6 +8,9 @@ use Rattle.nl_core.proofs.pen.Pen.counts_after.Goals as goal
 
 pub returns-clause-counts : goal.returns-clause-counts
 returns-clause-counts g c =
-    subst (λ (l : Layout). IfOk c.counts_after.result (λ counts. counts ≡ counts_after l c.args.below)) c.self.view_is
-    (subst (λ (t : Table). IfOk c.counts_after.result (λ counts. counts ≡ needed_counts c.self.inside.store.store (needed_from c.args.below t)))
+    subst (λ (l : Layout). IfOk c.counts_after.result (λ counts. counts ≡ counts_after l c.args.below))
+    c.self.view_is
+    (subst (λ (t : Table).
+    IfOk c.counts_after.result
+    (λ counts. counts ≡ needed_counts c.self.inside.store.store (needed_from c.args.below t)))
     c.checkpoints.ensures c.counts_after.ensures.counts)

@@ -12,6 +12,7 @@ invariant_of-self g c =
     record {
       pen = subst (λ (lists : Lists). IsPen (layout_of lists store)) (sym c.give_all_back.ensures)
           (pen-given_back (layout_of c.self.inside.tables.lists store) c.self.invariant.pen);
-      counts = counts-over c.self.inside.tables.lists c.give_all_back.new.self.lists store c.self.inside.needed
+      counts =
+          counts-over c.self.inside.tables.lists c.give_all_back.new.self.lists store c.self.inside.needed
           (ap kept_numbers c.give_all_back.ensures) c.self.invariant.counts;
     }

@@ -6,5 +6,6 @@ use Rattle.nl_core.proofs.pen.Pen.needed.Goals as goal
 
 pub returns : goal.returns
 returns g c =
-    c.get.ensures.needed c.self.inside.store.store (kept_numbers c.self.inside.tables.lists) c.self.invariant.counts
+    c.get.ensures.needed c.self.inside.store.store
+    (kept_numbers c.self.inside.tables.lists) c.self.invariant.counts
     ∙ ap (λ (l : Layout). needed_told l c.args.segment) c.self.view_is

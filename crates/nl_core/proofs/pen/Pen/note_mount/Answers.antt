@@ -11,17 +11,20 @@ pub returns-in_err-reserve : goal.returns-in_err-reserve
 returns-in_err-reserve g c =
     let p = err_from_is_err_and c.from_residual.result c.from_residual.ensures.1 in
     rw (p.1, p.2)
-    (noting-unlisted c.args.self.now c.args.event.now c.args.notes.now.items c.reserve.new.self.items c.means_a_world.ensures
+    (noting-unlisted c.args.self.now c.args.event.now c.args.notes.now.items c.reserve.new.self.items
+    c.means_a_world.ensures
     (subst (λ (e : Event). ChangesLists e) (sym c.requires) tt) c.reserve.ensures.items)
 
 pub returns-in_err-answer : goal.returns-in_err-answer
 returns-in_err-answer g c =
-    let p = err_from_is_err_and c.from_residual-in_err-answer.result c.from_residual-in_err-answer.ensures.1 in
+    let p =
+    err_from_is_err_and c.from_residual-in_err-answer.result c.from_residual-in_err-answer.ensures.1 in
     let old = c.args.self.now in
     let new = c.apply.new.self in
     let e = c.in_err-answer.field-0.0 in
     rw (p.1, p.2)
-    (noting-refused old c.args.event.now new c.args.notes.now.items c.reserve.new.self.items c.means_a_world.ensures e
+    (noting-refused old c.args.event.now new c.args.notes.now.items c.reserve.new.self.items
+    c.means_a_world.ensures e
     (does-shared old new c.args.event.now (Err e) c.in_err-answer.ensures) c.reserve.ensures.items)
 
 pub returns : goal.returns
@@ -30,7 +33,9 @@ returns g c =
     let new = c.apply.new.self in
     let a = c.in_ok-answer.answer in
     let more = mounted_as a c.args.checkpoint in
-    noting old c.args.event.now new c.args.notes.now.items c.note_mounted.new.notes.items c.means_a_world.ensures (Ok a) more
+    noting old c.args.event.now new c.args.notes.now.items c.note_mounted.new.notes.items
+    c.means_a_world.ensures
+    (Ok a) more
     (does-shared old new c.args.event.now (Ok a) c.in_ok-answer.ensures)
     (c.note_mounted.ensures ∙ ap (λ (ns : List Commit). ns ++ more) c.reserve.ensures.items)
     (subst (λ (e : Event). HasNoted old e a new more) (sym c.requires) refl)

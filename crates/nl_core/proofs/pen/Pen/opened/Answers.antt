@@ -8,4 +8,5 @@ invariant_of-result g c = record {
 }
 
 pub returns-clause-pen : goal.returns-clause-pen
-returns-clause-pen g c = c.opened_images_are_pens.ensures (layout_of c.args.tables.lists c.args.store.store) c.requires.opened
+returns-clause-pen g c =
+    c.opened_images_are_pens.ensures (layout_of c.args.tables.lists c.args.store.store) c.requires.opened

@@ -14,7 +14,8 @@ use Rattle.nl_core.proofs.tables.Tables.change_mode.Goals as goal
 
 pub returns-then-is_held-clause-follows : goal.returns-then-is_held-clause-follows
 returns-then-is_held-clause-follows c = λ pages.
-    held_mode-follows pages c.args.self.now.lists c.args.number c.args.mode (sym c.is_held.ensures ∙ c.if-is_held.true)
+    held_mode-follows pages c.args.self.now.lists c.args.number c.args.mode
+    (sym c.is_held.ensures ∙ c.if-is_held.true)
 
 pub returns-in_err-set_mode-clause-follows : goal.returns-in_err-set_mode-clause-follows
 returns-in_err-set_mode-clause-follows c = λ pages.
@@ -25,8 +26,11 @@ returns-in_err-set_mode-clause-follows c = λ pages.
     let e = c.in_err-set_mode.field-0.0 in
     let refused : StepsWorldsOver pages inside done (Err e) inside =
     no_mode-follows pages inside c.args.number c.args.mode e c.in_err-set_mode.ensures.judged in
-    let follows : StepsWorldsOver pages c.args.self.now.lists done (Err e) (record inside { table = c.set_mode.new.self.table }) =
-    subst (λ (t : tables.RoomyTable). StepsWorldsOver pages c.args.self.now.lists done (Err e) (record inside { table = t.table })) (sym c.in_err-set_mode.ensures.same)
+    let follows : StepsWorldsOver pages c.args.self.now.lists done (Err e)
+    (record inside { table = c.set_mode.new.self.table }) =
+    subst (λ (t : tables.RoomyTable).
+    StepsWorldsOver pages c.args.self.now.lists done (Err e) (record inside { table = t.table }))
+    (sym c.in_err-set_mode.ensures.same)
     (subst (λ (lists : Lists). StepsWorldsOver pages lists done (Err e) inside) before refused) in
     λ cleaned w m. rw (p.1, p.2) (follows cleaned w m)
 
@@ -41,4 +45,5 @@ returns-clause-follows c = λ pages.
     let done = ChangeMode c.args.number c.args.mode in
     subst (λ (l : Lists). StepsWorldsOver pages old done (Ok answer.Done) l) (sym (returns-clause-changed c))
     (mode-follows pages old c.args.number c.args.mode (sym c.is_held.ensures ∙ c.if-is_held.false)
-    (c.in_ok-set_mode.ensures.judged ∙ ap (λ (r : RoomyLists). mode_change c.args.number (tables.rows r.lists.table)) c.self.view_is))
+    (c.in_ok-set_mode.ensures.judged
+    ∙ ap (λ (r : RoomyLists). mode_change c.args.number (tables.rows r.lists.table)) c.self.view_is))

@@ -22,8 +22,11 @@ returns-in_err-gone-clause-follows c = λ pages.
     let refused : StepsWorldsOver pages inside done (Err e) inside =
     subst (λ f. StepsWorldsOver pages inside done (Err f) inside) (sym c.in_err-gone.ensures.refused)
     (no_expiry-follows pages inside c.args.now c.args.period) in
-    let follows : StepsWorldsOver pages c.args.self.now.lists done (Err e) (record inside { table = c.expire.new.kept.table }) =
-    subst (λ (t : tables.RoomyTable). StepsWorldsOver pages c.args.self.now.lists done (Err e) (record inside { table = t.table })) (sym c.in_err-gone.ensures.same)
+    let follows : StepsWorldsOver pages c.args.self.now.lists done (Err e)
+    (record inside { table = c.expire.new.kept.table }) =
+    subst (λ (t : tables.RoomyTable).
+    StepsWorldsOver pages c.args.self.now.lists done (Err e) (record inside { table = t.table }))
+    (sym c.in_err-gone.ensures.same)
     (subst (λ (lists : Lists). StepsWorldsOver pages lists done (Err e) inside) before refused) in
     λ cleaned w m. rw (p.1, p.2) (follows cleaned w m)
 
@@ -31,12 +34,17 @@ pub returns-clause-expired : goal.returns-clause-expired
 returns-clause-expired c =
     let old = c.args.self.now.lists in
     let gone = c.in_ok-gone.gone in
-    let is = c.in_ok-gone.ensures.gone ∙ ap (λ (r : RoomyLists). gone_from r.lists.table c.args.now c.args.period) c.self.view_is in
+    let is =
+    c.in_ok-gone.ensures.gone
+    ∙ ap (λ (r : RoomyLists). gone_from r.lists.table c.args.now c.args.period) c.self.view_is in
     record {
       expired = is;
       taken = record {
-        stays = ap (λ ns. is_one_of ns old.table.latest.number) is ∙ expiry-stays old c.args.now c.args.period;
-        lists = ap (λ (t : tables.Table). record (lists_of c.self.inside) { table = t }) c.in_ok-gone.ensures.removed
+        stays =
+            ap (λ ns. is_one_of ns old.table.latest.number) is ∙ expiry-stays old c.args.now c.args.period;
+        lists =
+            ap (λ (t : tables.Table). record (lists_of c.self.inside) { table = t })
+            c.in_ok-gone.ensures.removed
             ∙ ap (λ (r : RoomyLists). without_checkpoints gone r.lists) c.self.view_is;
       };
     }
@@ -46,5 +54,7 @@ returns-clause-follows c = λ pages.
     let old = c.args.self.now.lists in
     let gone = c.in_ok-gone.gone in
     let done = returns-clause-expired c in
-    subst (λ (l : Lists). StepsWorldsOver pages old (Expire c.args.now c.args.period) (Ok (answer.Expired gone)) l) (sym done.taken.lists)
+    subst (λ (l : Lists).
+    StepsWorldsOver pages old (Expire c.args.now c.args.period) (Ok (answer.Expired gone)) l)
+    (sym done.taken.lists)
     (expiry-follows pages old c.args.now c.args.period gone done.expired)

@@ -13,22 +13,28 @@ use Rattle.nl_core.specs.Facts.Events.{mount-follows, no_mount-follows, plain_mo
 use Rattle.nl_core.proofs.tables.Tables.mount.Goals as goal
 
 -- what is found in the fields is found in the lists
-found_inside : (n : ℕ) (inside now : RoomyLists) (found : Option Checkpoint) → inside ≡ now → found ≡ kept_at n inside.lists.table
+found_inside : (n : ℕ) (inside now : RoomyLists) (found : Option Checkpoint) → inside ≡ now
+    → found ≡ kept_at n inside.lists.table
     → kept_at n now.lists.table ≡ found
 found_inside n inside now found same is = ap (λ (r : RoomyLists). kept_at n r.lists.table) (sym same) ∙ sym is
 
 pub returns-in-None-clause-follows : goal.returns-in-None-clause-follows
 returns-in-None-clause-follows c = λ pages.
-    no_mount-follows pages c.args.self.now.lists c.args.number (found_inside c.args.number _ _ None c.self.view_is c.in-None.ensures)
+    no_mount-follows pages c.args.self.now.lists c.args.number
+    (found_inside c.args.number _ _ None c.self.view_is c.in-None.ensures)
 
 pub returns-in-Plain-clause-follows : goal.returns-in-Plain-clause-follows
 returns-in-Plain-clause-follows c = λ pages.
-    plain_mount-follows pages c.args.self.now.lists c.args.number c.in-Some.checkpoint.now (found_inside c.args.number _ _ (Some c.in-Some.checkpoint.now) c.self.view_is c.in-Some.ensures) c.in-Plain.is
+    plain_mount-follows pages c.args.self.now.lists c.args.number c.in-Some.checkpoint.now
+    (found_inside c.args.number _ _ (Some c.in-Some.checkpoint.now) c.self.view_is c.in-Some.ensures)
+    c.in-Plain.is
 
 pub returns-then-given-clause-follows : goal.returns-then-given-clause-follows
 returns-then-given-clause-follows c = λ pages.
     let given = c.given-given.ensures ∙ ap (λ (r : RoomyLists). r.lists.given) c.self.view_is in
-    spent_mount-follows pages c.args.self.now.lists c.args.number c.in-Some.checkpoint.now (found_inside c.args.number _ _ (Some c.in-Some.checkpoint.now) c.self.view_is c.in-Some.ensures) c.in-Snapshot.is
+    spent_mount-follows pages c.args.self.now.lists c.args.number c.in-Some.checkpoint.now
+    (found_inside c.args.number _ _ (Some c.in-Some.checkpoint.now) c.self.view_is c.in-Some.ensures)
+    c.in-Snapshot.is
     (omega (arith, given, c.if-given.true))
 
 pub returns-clause-mounted : goal.returns-clause-mounted
@@ -39,7 +45,8 @@ returns-clause-mounted c =
       given = k;
     } in
     let number = c.new-mount.ensures ∙ ap (λ k. k + 1) c.given-given.ensures in
-    ap (λ (t : MountTable). (let l : Lists = record inside { mounts = t.mounts; given = t.given } in l)) (c.in_ok-add.ensures ∙ ap added number)
+    ap (λ (t : MountTable). (let l : Lists = record inside { mounts = t.mounts; given = t.given } in l))
+    (c.in_ok-add.ensures ∙ ap added number)
     ∙ ap (λ (r : RoomyLists). with_mount c.args.number r.lists) c.self.view_is
 
 pub returns-clause-follows : goal.returns-clause-follows
@@ -48,6 +55,10 @@ returns-clause-follows c = λ pages.
     let n = c.args.number in
     let given = c.given-given.ensures ∙ ap (λ (r : RoomyLists). r.lists.given) c.self.view_is in
     let number = c.new-mount.ensures ∙ ap (λ k. k + 1) given in
-    subst (λ (l : Lists). StepsWorldsOver pages old (Mount n) (Ok (answer.Mount c.new-mount.result)) l) (sym (returns-clause-mounted c))
+    subst (λ (l : Lists). StepsWorldsOver pages old (Mount n) (Ok (answer.Mount c.new-mount.result)) l)
+    (sym (returns-clause-mounted c))
     (subst (λ k. StepsWorldsOver pages old (Mount n) (Ok (answer.Mount k)) (with_mount n old)) (sym number)
-    (mount-follows pages old n c.in-Some.checkpoint.now (found_inside c.args.number _ _ (Some c.in-Some.checkpoint.now) c.self.view_is c.in-Some.ensures) c.in-Snapshot.is (omega (arith, given, c.if-given.false))))
+    (mount-follows pages old n c.in-Some.checkpoint.now
+    (found_inside c.args.number _ _ (Some c.in-Some.checkpoint.now) c.self.view_is c.in-Some.ensures)
+    c.in-Snapshot.is
+    (omega (arith, given, c.if-given.false))))

@@ -20,5 +20,7 @@ returns g c =
     subst (λ (lists : Lists). StepsWorldsOver pages lists (Read c.args.ask.now) c.answer.result lists) before
     (read-follows pages inside c.args.ask.now c.answer.result
     (λ base tree holds stands. c.answer.ensures (holding_over inside.current.became base) tree
-    (c.view.ensures base (c.new-base.ensures base (subst (λ (r : Root). HoldsTree pages (root_of r) base) (sym root) holds)) stands.sound)
+    (c.view.ensures base
+    (c.new-base.ensures base (subst (λ (r : Root). HoldsTree pages (root_of r) base) (sym root) holds))
+    stands.sound)
     (record { sound = stands.sound; means = stands.stands.means })))

@@ -20,25 +20,35 @@ returns-in_err-remove-clause-follows c = λ pages.
     let e = c.in_err-remove.field-0.0 in
     let refused : StepsWorldsOver pages inside (Remove c.args.number) (Err e) inside =
     no_removal-follows pages inside c.args.number e c.in_err-remove.ensures.judged in
-    let follows : StepsWorldsOver pages c.args.self.now.lists (Remove c.args.number) (Err e) (record inside { table = c.remove.new.self.table }) =
-    subst (λ (t : tables.RoomyTable). StepsWorldsOver pages c.args.self.now.lists (Remove c.args.number) (Err e) (record inside { table = t.table })) (sym c.in_err-remove.ensures.same)
-    (subst (λ (lists : Lists). StepsWorldsOver pages lists (Remove c.args.number) (Err e) inside) before refused) in
+    let follows : StepsWorldsOver pages c.args.self.now.lists (Remove c.args.number) (Err e)
+    (record inside { table = c.remove.new.self.table }) =
+    subst (λ (t : tables.RoomyTable).
+    StepsWorldsOver pages c.args.self.now.lists (Remove c.args.number) (Err e)
+    (record inside { table = t.table }))
+    (sym c.in_err-remove.ensures.same)
+    (subst (λ (lists : Lists). StepsWorldsOver pages lists (Remove c.args.number) (Err e) inside) before
+    refused) in
     λ cleaned w m. rw (p.1, p.2) (follows cleaned w m)
 
 pub returns-clause-removed : goal.returns-clause-removed
 returns-clause-removed c =
     let latest = c.args.self.now.lists.table.latest.number in
     let judged = c.in_ok-remove.ensures.judged
-    ∙ ap (λ (r : RoomyLists). removal c.args.number r.lists.table.latest.number (tables.rows r.lists.table)) c.self.view_is in
+    ∙ ap (λ (r : RoomyLists). removal c.args.number r.lists.table.latest.number (tables.rows r.lists.table))
+    c.self.view_is in
     record {
       stays = removal-stays latest c.args.number (tables.rows c.args.self.now.lists.table) judged;
-      lists = ap (λ (t : tables.Table). record (lists_of c.self.inside) { table = t }) c.in_ok-remove.ensures.removed
+      lists =
+          ap (λ (t : tables.Table). record (lists_of c.self.inside) { table = t })
+          c.in_ok-remove.ensures.removed
           ∙ ap (λ (r : RoomyLists). without_checkpoints (c.args.number ∷ []) r.lists) c.self.view_is;
     }
 
 pub returns-clause-follows : goal.returns-clause-follows
 returns-clause-follows c = λ pages.
     let old = c.args.self.now.lists in
-    subst (λ (l : Lists). StepsWorldsOver pages old (Remove c.args.number) (Ok answer.Done) l) (sym (returns-clause-removed c).lists)
+    subst (λ (l : Lists). StepsWorldsOver pages old (Remove c.args.number) (Ok answer.Done) l)
+    (sym (returns-clause-removed c).lists)
     (removal-follows pages old c.args.number (c.in_ok-remove.ensures.judged
-    ∙ ap (λ (r : RoomyLists). removal c.args.number r.lists.table.latest.number (tables.rows r.lists.table)) c.self.view_is))
+    ∙ ap (λ (r : RoomyLists). removal c.args.number r.lists.table.latest.number (tables.rows r.lists.table))
+    c.self.view_is))

@@ -5,4 +5,5 @@ use Rattle.nl_counts.proofs.ends.Ends.sweep.Goals as goal
 
 pub returns-clause-swept : goal.returns-clause-swept
 returns-clause-swept c =
-    filter_same _ has_number _ (λ x b f' k. search rules) _ _ c.retain.ensures.filtered ∙ ap (λ (r : RoomyEnds). swept r.ended) c.self.view_is
+    filter_same _ has_number _ (λ x b f' k. search rules) _ _ c.retain.ensures.filtered
+    ∙ ap (λ (r : RoomyEnds). swept r.ended) c.self.view_is

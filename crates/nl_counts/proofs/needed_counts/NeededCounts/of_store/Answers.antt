@@ -12,9 +12,12 @@ overflow_cast-segments g c =
 
 pub walk-requires : goal.walk-requires
 walk-requires g c =
-    c.in_ok-counts.ensures.zeros ∙ ap (λ (n : ℕ). replicate n 0) (c.sustat-segments.ensures.segments ∙ ap (λ (s : Segments). length s.each) c.table.ensures)
+    c.in_ok-counts.ensures.zeros
+    ∙ ap (λ (n : ℕ). replicate n 0)
+    (c.sustat-segments.ensures.segments ∙ ap (λ (s : Segments). length s.each) c.table.ensures)
 
 pub returns-clause-counted : goal.returns-clause-counted
 returns-clause-counted g c = λ latest kept tells last.
-    after-walk c.needed_numbers_are_counted.ensures (g.V.Vstore.store c.args.store.now) (g.met.V.Vstore.is_store c.args.store.now) (g.K.Keeping.test c.args.keeping.now)
+    after-walk c.needed_numbers_are_counted.ensures (g.V.Vstore.store c.args.store.now)
+    (g.met.V.Vstore.is_store c.args.store.now) (g.K.Keeping.test c.args.keeping.now)
     _ _ _ c.in_ok-ended.ensures c.from_found.ensures.rising c.from_found.ensures.same _ latest kept tells last

@@ -25,5 +25,7 @@ returns-else-index-rest-clause-items c =
     let places = c.self.inside.places.items in
     let gone = c.self.inside.gone in
     ap (drop gone) c.remove.ensures.items
-    ∙ moved_down places gone c.args.index (omega (arith, c.requires, ap (λ (r : RoomyList). length r.items) c.self.view_is, length-drop gone places))
+    ∙ moved_down places gone c.args.index
+    (omega
+    (arith, c.requires, ap (λ (r : RoomyList). length r.items) c.self.view_is, length-drop gone places))
     ∙ ap (λ (r : RoomyList). remove r.items c.args.index) c.self.view_is

@@ -8,5 +8,8 @@ pub returns : goal.returns
 returns c =
     let inside = c.self.inside in
     let room = vec_capacity inside.places - vec_len inside.places in
-    ap (λ items. (let r : RoomyList = record { items = items; room = room } in r)) (drop-set-add inside.gone inside.places.items c.args.index c.args.checkpoint)
-    ∙ ap (λ (r : RoomyList). (let s : RoomyList = record r { items = slice_set r.items c.args.index c.args.checkpoint } in s)) c.self.view_is
+    ap (λ items. (let r : RoomyList = record { items = items; room = room } in r))
+    (drop-set-add inside.gone inside.places.items c.args.index c.args.checkpoint)
+    ∙ ap (λ (r : RoomyList).
+    (let s : RoomyList = record r { items = slice_set r.items c.args.index c.args.checkpoint } in s))
+    c.self.view_is

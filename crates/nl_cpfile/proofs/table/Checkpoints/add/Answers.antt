@@ -8,6 +8,11 @@ use Rattle.nl_cpfile.proofs.table.Checkpoints.add.Goals as goal
 pub invariant_of-self : goal.invariant_of-self
 invariant_of-self c =
     let t = table_of c.self.inside in
-    let next : ComesNext c.args.checkpoint t = subst (λ (r : RoomyTable). ComesNext c.args.checkpoint r.table) (sym c.self.view_is) c.requires.next in
-    let pushed = c.push.ensures.items ∙ ap (λ (x : Checkpoint). t.earlier ++ x ∷ []) c.replace-replaced.ensures.value in
-    subst IsTable (sym (same_table pushed c.replace-replaced.ensures.after)) (with_next-IsTable c.args.checkpoint t c.self.invariant next)
+    let next : ComesNext c.args.checkpoint t =
+    subst (λ (r : RoomyTable). ComesNext c.args.checkpoint r.table)
+    (sym c.self.view_is) c.requires.next in
+    let pushed =
+    c.push.ensures.items
+    ∙ ap (λ (x : Checkpoint). t.earlier ++ x ∷ []) c.replace-replaced.ensures.value in
+    subst IsTable (sym (same_table pushed c.replace-replaced.ensures.after))
+    (with_next-IsTable c.args.checkpoint t c.self.invariant next)

@@ -9,11 +9,14 @@ loop-entry-preserved c =
     let rest = c.in-Some.rest.now in
     let more = take_more rest c.loop-entry.entry-index c.entry-item.result (omega arith) in
     let item = c.entry-item.is in
-    let pushed = zip_push IsEntryOf c.loop-entry.earlier.items _ c.of_entry.result c.entry-item.result c.loop-entry.invariant c.of_entry.ensures in
+    let pushed =
+    zip_push IsEntryOf c.loop-entry.earlier.items _ c.of_entry.result c.entry-item.result
+    c.loop-entry.invariant c.of_entry.ensures in
     rw (c.in_ok-push.ensures.items, more, (sym item)) pushed
 
 pub of_entry-requires-2 : goal.of_entry-requires-2
-of_entry-requires-2 c = last_of HasRoot c.in-Some.rest.now c.in-Some.last.now (rw c.in-Some.ensures.cases.0 at c.requires.roots)
+of_entry-requires-2 c =
+    last_of HasRoot c.in-Some.rest.now c.in-Some.last.now (rw c.in-Some.ensures.cases.0 at c.requires.roots)
 
 -- all entries were gone through
 pub from_table-requires : goal.from_table-requires
@@ -21,7 +24,8 @@ from_table-requires c =
     let rest = c.in-Some.rest.now in
     let whole = take_all c.loop-entry.entry-index rest (omega arith) in
     let each = rw whole at c.loop-entry.invariant in
-    (told_table c.args.kept.now c.loop-entry.earlier.items c.of_entry-2.result rest c.in-Some.last.now c.in-Some.ensures.cases.0 c.requires.rising each c.of_entry-2.ensures).0
+    (told_table c.args.kept.now c.loop-entry.earlier.items c.of_entry-2.result rest c.in-Some.last.now
+    c.in-Some.ensures.cases.0 c.requires.rising each c.of_entry-2.ensures).0
 
 pub returns : goal.returns
 returns c =
@@ -29,4 +33,5 @@ returns c =
     let whole = take_all c.loop-entry.entry-index rest (omega arith) in
     let each = rw whole at c.loop-entry.invariant in
     rw c.from_table.ensures
-    (told_table c.args.kept.now c.loop-entry.earlier.items c.of_entry-2.result rest c.in-Some.last.now c.in-Some.ensures.cases.0 c.requires.rising each c.of_entry-2.ensures).1
+    (told_table c.args.kept.now c.loop-entry.earlier.items c.of_entry-2.result rest c.in-Some.last.now
+    c.in-Some.ensures.cases.0 c.requires.rising each c.of_entry-2.ensures).1

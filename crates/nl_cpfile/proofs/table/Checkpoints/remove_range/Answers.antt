@@ -12,4 +12,5 @@ returns-clause-removed c =
 pub returns-clause-told : goal.returns-clause-told
 returns-clause-told c =
     c.take_out_between.ensures.told
-    ∙ ap (λ (range : Range). told.without range.removed (rows c.args.self.now.table)) (sym c.in_ok-range.ensures.found)
+    ∙ ap (λ (range : Range). told.without range.removed (rows c.args.self.now.table))
+    (sym c.in_ok-range.ensures.found)

@@ -7,10 +7,14 @@ pub returns-then-not-is_no_range : goal.returns-then-not-is_no_range
 returns-then-not-is_no_range c =
     let t = c.args.self.now.table in
     c.take_out_between.ensures.taken
-    ∙ ap (λ (ns : List ℕ). without ns t) (sym (range-takes_removable c.args.first c.args.last t (sym c.is_no_range.ensures ∙ c.if-not-is_no_range.true)))
+    ∙ ap (λ (ns : List ℕ). without ns t)
+    (sym (range-takes_removable c.args.first c.args.last t
+    (sym c.is_no_range.ensures ∙ c.if-not-is_no_range.true)))
 
 pub returns-else-not-is_no_range : goal.returns-else-not-is_no_range
 returns-else-not-is_no_range c =
     let t = c.args.self.now.table in
     sym (without-none t)
-    ∙ ap (λ (ns : List ℕ). without ns t) (sym (no_range-takes_none c.args.first c.args.last t (sym c.is_no_range.ensures ∙ c.if-not-is_no_range.false)))
+    ∙ ap (λ (ns : List ℕ). without ns t)
+    (sym (no_range-takes_none c.args.first c.args.last t
+    (sym c.is_no_range.ensures ∙ c.if-not-is_no_range.false)))

@@ -12,12 +12,17 @@ pub write_numbers-requires : goal.write_numbers-requires
 write_numbers-requires g c =
     let full = c.self.inside.tabled.full in
     let same = ap (λ (s : Store). capacity s) (same_store c.self.view_is) in
-    rw (c.as_slice.ensures, take_rest c.self.inside.table 1, length-drop 1 c.self.inside.table) (omega (arith, full, same))
+    rw (c.as_slice.ensures, take_rest c.self.inside.table 1, length-drop 1 c.self.inside.table)
+    (omega (arith, full, same))
 
 pub returns : goal.returns
 returns g c =
     let space = g.S.Space.content c.self.inside.space in
     let failures = g.S.Space.failed c.self.inside.space in
-    let rest : take (length c.as_slice.result.now - 1) (drop 1 c.as_slice.result.now) ≡ drop 1 c.self.inside.table = rw c.as_slice.ensures (take_rest c.self.inside.table 1) in
+    let rest : take (length c.as_slice.result.now - 1) (drop 1 c.as_slice.result.now)
+    ≡ drop 1 c.self.inside.table =
+    rw c.as_slice.ensures (take_rest c.self.inside.table 1) in
     c.write_numbers.ensures ∙ ap dat_bytes
-    (rest ∙ (numbers-store_of c.self.inside.table space failures c.self.inside.tabled.sound ∙ ap numbers_shown (same_store c.self.view_is)))
+    (rest
+    ∙ (numbers-store_of c.self.inside.table space failures c.self.inside.tabled.sound
+    ∙ ap numbers_shown (same_store c.self.view_is)))

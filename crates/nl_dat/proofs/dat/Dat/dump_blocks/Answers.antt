@@ -13,12 +13,20 @@ invariant_of-self-inside g c =
     let table = c.self.inside.table in
     let space = c.dump.new.space in
     let tabled : IsTable table (c.self.inside.filled + 1) (g.S.Space.content space) =
-    subst (IsTable table (c.self.inside.filled + 1)) (sym c.dump.ensures.same) c.self.inside.tabled in
-    (is_store table (c.self.inside.filled + 1) (g.S.Space.content space) (g.S.Space.failed space) tabled (g.met.S.Space.limits space) (g.met.S.Space.whole_logs space) (g.met.S.Space.holds_only_used space) (g.met.S.Space.have_logs space), (tabled, tt))
+    subst (IsTable table (c.self.inside.filled + 1)) (sym c.dump.ensures.same) c.self.inside.tabled in (
+      is_store table (c.self.inside.filled + 1) (g.S.Space.content space) (g.S.Space.failed space) tabled
+          (g.met.S.Space.limits space) (g.met.S.Space.whole_logs space) (g.met.S.Space.holds_only_used space)
+          (g.met.S.Space.have_logs space),
+      (tabled, tt),
+    )
 
 pub returns-clause-blocks : goal.returns-clause-blocks
 returns-clause-blocks g c =
     let table = c.self.inside.table in
     let content : SpaceContent = g.S.Space.content c.self.inside.space in
     let failures = g.S.Space.failed c.self.inside.space in
-    on_ok_weaker c.dump.result (λ are. subst (λ (s : Store). AreBlocksOf (space_in s) c.dump.new.out) (same_store c.self.view_is) (blocks-store_of table content failures c.dump.new.out are)) c.dump.ensures.blocks
+    on_ok_weaker c.dump.result
+    (λ are.
+    subst (λ (s : Store). AreBlocksOf (space_in s) c.dump.new.out) (same_store c.self.view_is)
+    (blocks-store_of table content failures c.dump.new.out are))
+    c.dump.ensures.blocks

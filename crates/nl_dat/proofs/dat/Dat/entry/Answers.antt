@@ -8,5 +8,6 @@ use Rattle.nl_dat.proofs.dat.Dat.entry.Goals as goal
 pub returns-clause-entry : goal.returns-clause-entry
 returns-clause-entry g c =
     c.entry_at.ensures ∙ ap (λ t. entry_in t c.args.number) c.as_slice.ensures
-    ∙ entry-store_of c.self.inside.table (g.S.Space.content c.self.inside.space) (g.S.Space.failed c.self.inside.space) c.self.inside.tabled.sound c.args.number
+    ∙ entry-store_of c.self.inside.table (g.S.Space.content c.self.inside.space)
+    (g.S.Space.failed c.self.inside.space) c.self.inside.tabled.sound c.args.number
     ∙ ap (λ s. option_map dat_entry_of (numbered_in s c.args.number)) (same_store c.self.view_is)

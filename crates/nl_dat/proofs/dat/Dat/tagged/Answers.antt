@@ -11,8 +11,16 @@ returns g c =
     let space = g.S.Space.content c.self.inside.space in
     let failures = g.S.Space.failed c.self.inside.space in
     let tidy = (g.met.S.Space.limits c.self.inside.space).tidy in
-    let within = subst (λ (s : Store). c.args.position < s.segments.blocks) (sym (same_store c.self.view_is)) c.requires.position in
-    subst (λ (s : Store). (v : ℕ) → address_in s v ≡ Some (c.args.segment * s.segments.blocks + c.args.position) → c.number_in.result ≡ Some v) (same_store c.self.view_is)
+    let within =
+    subst (λ (s : Store). c.args.position < s.segments.blocks)
+    (sym (same_store c.self.view_is)) c.requires.position in
+    subst (λ (s : Store).
+    (v : ℕ) → address_in s v ≡ Some (c.args.segment * s.segments.blocks + c.args.position)
+    → c.number_in.result ≡ Some v)
+    (same_store c.self.view_is)
     (λ v at. c.number_in.ensures
-    ∙ tagged-row table (c.self.inside.filled + 1) space c.summary.result.now c.args.segment c.args.position v tidy c.self.inside.tabled c.summary.ensures.count c.summary.ensures.each within
-    (sym (ap (λ (m : Partial ℕ). m v) (address_in-store_of table space failures c.self.inside.tabled.sound)) ∙ at))
+    ∙ tagged-row table
+    (c.self.inside.filled + 1) space c.summary.result.now c.args.segment c.args.position v tidy
+    c.self.inside.tabled c.summary.ensures.count c.summary.ensures.each within
+    (sym (ap (λ (m : Partial ℕ). m v) (address_in-store_of table space failures c.self.inside.tabled.sound))
+    ∙ at))

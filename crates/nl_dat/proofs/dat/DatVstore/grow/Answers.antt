@@ -14,31 +14,50 @@ pub invariant_of-self-inside-in-Err : goal.invariant_of-self-inside-in-Err
 invariant_of-self-inside-in-Err g c =
     let table = c.self.inside.table in
     let later = g.S.Space.content c.grow.new.self in
-    let is : c.truncate.new.self ≡ table = c.truncate.ensures ∙ rw (c.in_ok-add_places.ensures.added, c.len-count.ensures) (front table _) in
+    let is : c.truncate.new.self ≡ table =
+    c.truncate.ensures ∙ rw (c.in_ok-add_places.ensures.added, c.len-count.ensures) (front table _) in
     let same : later ≡ g.S.Space.content c.self.inside.space = c.in-Err.ensures.same in
     let tabled : IsTable c.truncate.new.self (c.self.inside.filled + 1) later =
     subst (λ (t : List (Option DatEntry)). IsTable t (c.self.inside.filled + 1) later) (sym is)
-    (subst (IsTable table (c.self.inside.filled + 1)) (sym same) c.self.inside.tabled) in
-    (is_store c.truncate.new.self (c.self.inside.filled + 1) later (g.S.Space.failed c.grow.new.self) tabled (g.met.S.Space.limits c.grow.new.self) (g.met.S.Space.whole_logs c.grow.new.self) (g.met.S.Space.holds_only_used c.grow.new.self) (g.met.S.Space.have_logs c.grow.new.self), (tabled, tt))
+    (subst (IsTable table (c.self.inside.filled + 1)) (sym same) c.self.inside.tabled) in (
+      is_store c.truncate.new.self (c.self.inside.filled + 1) later (g.S.Space.failed c.grow.new.self) tabled
+          (g.met.S.Space.limits c.grow.new.self) (g.met.S.Space.whole_logs c.grow.new.self)
+          (g.met.S.Space.holds_only_used c.grow.new.self) (g.met.S.Space.have_logs c.grow.new.self),
+      (tabled, tt),
+    )
 
 -- as many places as blocks, and one for 0
-added-at : (table places : List (Option DatEntry)) (segments now blocks : ℕ) → now ≡ blocks → places ≡ table ++ replicate (segments * now + 1 - length table) None
+added-at : (table places : List (Option DatEntry)) (segments now blocks : ℕ) → now ≡ blocks
+    → places ≡ table ++ replicate (segments * now + 1 - length table) None
     → places ≡ table ++ replicate (segments * blocks + 1 - length table) None
-added-at table places segments now blocks same is = is ∙ ap (λ b. table ++ replicate (segments * b + 1 - length table) None) same
+added-at table places segments now blocks same is =
+    is ∙ ap (λ b. table ++ replicate (segments * b + 1 - length table) None) same
 
 pub invariant_of-self-inside-in-Ok : goal.invariant_of-self-inside-in-Ok
 invariant_of-self-inside-in-Ok g c =
     let table = c.self.inside.table in
     let old = g.S.Space.content c.self.inside.space in
     let later = g.S.Space.content c.grow.new.self in
-    let blocks : c.blocks-2.result ≡ old.segments.blocks = c.blocks-2.ensures.blocks ∙ ap (λ (s : Segments). s.blocks) c.table.ensures in
-    let is = added-at table c.add_places.new.places c.args.segments c.blocks-2.result old.segments.blocks blocks c.in_ok-add_places.ensures.added in
-    let more : length old.segments.each ≤ c.args.segments = subst (λ (s : Store). length s.segments.each ≤ c.args.segments) (sym (same_store c.self.view_is)) c.requires.more in
+    let blocks : c.blocks-2.result ≡ old.segments.blocks =
+    c.blocks-2.ensures.blocks ∙ ap (λ (s : Segments). s.blocks) c.table.ensures in
+    let is =
+    added-at table c.add_places.new.places c.args.segments c.blocks-2.result old.segments.blocks blocks
+    c.in_ok-add_places.ensures.added in
+    let more : length old.segments.each ≤ c.args.segments =
+    subst (λ (s : Store). length s.segments.each ≤ c.args.segments)
+    (sym (same_store c.self.view_is)) c.requires.more in
     let tabled : IsTable c.add_places.new.places (c.self.inside.filled + 1) later =
     subst (λ (t : List (Option DatEntry)). IsTable t (c.self.inside.filled + 1) later) (sym is)
-    (table-grown table (c.self.inside.filled + 1) c.args.segments old later (g.S.Space.failed c.self.inside.space) (g.S.Space.failed c.grow.new.self) c.self.inside.tabled
-    (g.met.S.Space.limits c.self.inside.space).tidy c.growing_keeps_segments.ensures.used (g.met.S.Space.holds_only_used c.self.inside.space) more c.in-Ok.ensures.grown) in
-    (is_store c.add_places.new.places (c.self.inside.filled + 1) later (g.S.Space.failed c.grow.new.self) tabled (g.met.S.Space.limits c.grow.new.self) (g.met.S.Space.whole_logs c.grow.new.self) (g.met.S.Space.holds_only_used c.grow.new.self) (g.met.S.Space.have_logs c.grow.new.self), (tabled, tt))
+    (table-grown table (c.self.inside.filled + 1) c.args.segments old later
+    (g.S.Space.failed c.self.inside.space) (g.S.Space.failed c.grow.new.self) c.self.inside.tabled
+    (g.met.S.Space.limits c.self.inside.space).tidy c.growing_keeps_segments.ensures.used
+    (g.met.S.Space.holds_only_used c.self.inside.space) more c.in-Ok.ensures.grown) in (
+      is_store c.add_places.new.places (c.self.inside.filled + 1) later
+          (g.S.Space.failed c.grow.new.self) tabled (g.met.S.Space.limits c.grow.new.self)
+          (g.met.S.Space.whole_logs c.grow.new.self) (g.met.S.Space.holds_only_used c.grow.new.self)
+          (g.met.S.Space.have_logs c.grow.new.self),
+      (tabled, tt),
+    )
 
 pub returns-in-Ok-clause-grown : goal.returns-in-Ok-clause-grown
 returns-in-Ok-clause-grown g c =
@@ -47,10 +66,19 @@ returns-in-Ok-clause-grown g c =
     let later = g.S.Space.content c.grow.new.self in
     let before = g.S.Space.failed c.self.inside.space in
     let after = g.S.Space.failed c.grow.new.self in
-    let blocks : c.blocks-2.result ≡ old.segments.blocks = c.blocks-2.ensures.blocks ∙ ap (λ (s : Segments). s.blocks) c.table.ensures in
-    let is = added-at table c.add_places.new.places c.args.segments c.blocks-2.result old.segments.blocks blocks c.in_ok-add_places.ensures.added in
-    let more : length old.segments.each ≤ c.args.segments = subst (λ (s : Store). length s.segments.each ≤ c.args.segments) (sym (same_store c.self.view_is)) c.requires.more in
-    subst (λ (s : Store). HasGrown c.args.segments s (store_of c.add_places.new.places later after)) (same_store c.self.view_is)
-    (subst (λ (t : List (Option DatEntry)). HasGrown c.args.segments (store_of table old before) (store_of t later after)) (sym is)
+    let blocks : c.blocks-2.result ≡ old.segments.blocks =
+    c.blocks-2.ensures.blocks ∙ ap (λ (s : Segments). s.blocks) c.table.ensures in
+    let is =
+    added-at table c.add_places.new.places c.args.segments c.blocks-2.result old.segments.blocks blocks
+    c.in_ok-add_places.ensures.added in
+    let more : length old.segments.each ≤ c.args.segments =
+    subst (λ (s : Store). length s.segments.each ≤ c.args.segments)
+    (sym (same_store c.self.view_is)) c.requires.more in
+    subst (λ (s : Store). HasGrown c.args.segments s (store_of c.add_places.new.places later after))
+    (same_store c.self.view_is)
+    (subst (λ (t : List (Option DatEntry)).
+    HasGrown c.args.segments (store_of table old before) (store_of t later after))
+    (sym is)
     (has-grown table (c.self.inside.filled + 1) c.args.segments old later before after c.self.inside.tabled
-    (g.met.S.Space.limits c.self.inside.space).tidy c.growing_keeps_segments.ensures.used (g.met.S.Space.holds_only_used c.self.inside.space) more c.in-Ok.ensures.grown))
+    (g.met.S.Space.limits c.self.inside.space).tidy c.growing_keeps_segments.ensures.used
+    (g.met.S.Space.holds_only_used c.self.inside.space) more c.in-Ok.ensures.grown))

@@ -14,9 +14,13 @@ returns g c =
     let table = c.self.inside.table in
     let space = g.S.Space.content c.self.inside.space in
     let blocks : c.blocks-blocks.result ≡ c.args.self.now.store.segments.blocks =
-    c.blocks-blocks.ensures.blocks ∙ ap (λ (s : Segments). s.blocks) (c.table.ensures ∙ ap (λ (s : Store). s.segments) (same_store c.self.view_is)) in
+    c.blocks-blocks.ensures.blocks
+    ∙ ap (λ (s : Segments). s.blocks)
+    (c.table.ensures ∙ ap (λ (s : Store). s.segments) (same_store c.self.view_is)) in
     let same : addresses_of (entry_in c.as_slice.result.now) ≡ address_in c.args.self.now.store =
-    ap (λ t. addresses_of (entry_in t)) c.as_slice.ensures ∙ sym (address_in-store_of table space (g.S.Space.failed c.self.inside.space) c.self.inside.tabled.sound) ∙ ap address_in (same_store c.self.view_is) in
+    ap (λ t. addresses_of (entry_in t)) c.as_slice.ensures
+    ∙ sym (address_in-store_of table space (g.S.Space.failed c.self.inside.space) c.self.inside.tabled.sound)
+    ∙ ap address_in (same_store c.self.view_is) in
     subst (IsSegmentOf c.args.self.now.store c.args.number)
     (sym (c.segment_at.ensures
     ∙ ap (λ (m : Partial ℕ). option_map (λ b. b / c.blocks-blocks.result) (m c.args.number)) same

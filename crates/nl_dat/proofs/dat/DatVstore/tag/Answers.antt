@@ -8,8 +8,20 @@ pub returns : goal.returns
 returns g c =
     let space = g.S.Space.content c.self.inside.space in
     let failures = g.S.Space.failed c.self.inside.space in
-    let within = subst (λ (s : Store). c.args.segment < length s.segments.each) (sym (same_store c.self.view_is)) c.requires.segment in
-    let low = subst (λ (s : Store). c.args.position < s.segments.blocks) (sym (same_store c.self.view_is)) c.requires.position in
+    let within =
+    subst (λ (s : Store). c.args.segment < length s.segments.each)
+    (sym (same_store c.self.view_is)) c.requires.segment in
+    let low =
+    subst (λ (s : Store). c.args.position < s.segments.blocks)
+    (sym (same_store c.self.view_is)) c.requires.position in
     c.row_tag.ensures
-    ∙ subst (λ (s : Store). Rattle.std.specs.Option.option_map Rattle.nl_space.specs.Content.payload_tag (Rattle.std.specs.Prelude.slice_index_or c.summary.result.now c.args.position Rattle.std.proofs.Common.None) ≡ tag_in s (c.args.segment * s.segments.blocks + c.args.position)) (same_store c.self.view_is)
-    (tag-row c.self.inside.table space failures c.summary.result.now c.args.segment c.args.position (g.met.S.Space.limits c.self.inside.space).tidy (g.met.S.Space.holds_only_used c.self.inside.space) within low c.summary.ensures.count c.summary.ensures.each)
+    ∙ subst (λ (s : Store).
+    Rattle.std.specs.Option.option_map Rattle.nl_space.specs.Content.payload_tag
+    (Rattle.std.specs.Prelude.slice_index_or c.summary.result.now c.args.position
+    Rattle.std.proofs.Common.None)
+    ≡ tag_in s (c.args.segment * s.segments.blocks + c.args.position))
+    (same_store c.self.view_is)
+    (tag-row c.self.inside.table space failures c.summary.result.now c.args.segment c.args.position
+    (g.met.S.Space.limits c.self.inside.space).tidy
+    (g.met.S.Space.holds_only_used c.self.inside.space) within low c.summary.ensures.count
+    c.summary.ensures.each)

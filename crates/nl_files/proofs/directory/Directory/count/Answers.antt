@@ -21,8 +21,11 @@ loop-index-preserved g c =
     record {
       store = c.page_at.ensures.store ∙ c.loop-index.invariant.store;
       root = c.page_at.ensures.root ∙ c.loop-index.invariant.root;
-      counted = counted_up_to-more _ _ c.loop-index.index _ _ _ _ read.0 c.loop-index.invariant.counted page read.1 read.2 c.saturating_add-count.ensures;
+      counted =
+          counted_up_to-more _ _ c.loop-index.index _ _ _ _ read.0 c.loop-index.invariant.counted page read.1
+          read.2 c.saturating_add-count.ensures;
     }
 
 pub returns : goal.returns
-returns g c = counted_up_to-all _ _ c.loop-index.index _ c.loop-index.invariant.counted c.loop-index-test.false
+returns g c =
+    counted_up_to-all _ _ c.loop-index.index _ c.loop-index.invariant.counted c.loop-index-test.false

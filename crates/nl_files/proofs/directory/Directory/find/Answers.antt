@@ -11,10 +11,13 @@ returns-in_err-index g c = λ records holds.
 pub returns-in_err-get : goal.returns-in_err-get
 returns-in_err-get g c = λ records holds.
     let found = c.in_ok-index.ensures holds.packed (blocks_of_records _ _ records holds) in
-    absurd (block_stored _ _ records c.args.name.now holds c.in_ok-index.index found (sym c.in_err-get.ensures))
+    absurd
+    (block_stored _ _ records c.args.name.now holds c.in_ok-index.index found (sym c.in_err-get.ensures))
 
 pub returns : goal.returns
 returns g c = λ records holds.
     let found = c.in_ok-index.ensures holds.packed (blocks_of_records _ _ records holds) in
     let read = c.find.ensures in
-    read.2 ∙ found_in_block _ _ records c.args.name.now holds c.in_ok-index.index _ read.0 found c.in_ok-get.ensures read.1
+    read.2
+    ∙ found_in_block _ _ records c.args.name.now holds c.in_ok-index.index _ read.0 found c.in_ok-get.ensures
+    read.1

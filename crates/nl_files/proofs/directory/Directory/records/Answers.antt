@@ -20,8 +20,11 @@ loop-index-preserved g c =
     record {
       store = c.page_at.ensures.store ∙ c.loop-index.invariant.store;
       root = c.page_at.ensures.root ∙ c.loop-index.invariant.root;
-      read = read_up_to-more _ _ c.loop-index.index _ _ _ c.loop-index.invariant.read page c.in_ok-add_records.ensures.added;
+      read =
+          read_up_to-more _ _ c.loop-index.index _ _ _ c.loop-index.invariant.read page
+          c.in_ok-add_records.ensures.added;
     }
 
 pub returns-clause-all : goal.returns-clause-all
-returns-clause-all g c = read_up_to-all _ _ c.loop-index.index _ c.loop-index.invariant.read c.loop-index-test.false
+returns-clause-all g c =
+    read_up_to-all _ _ c.loop-index.index _ c.loop-index.invariant.read c.loop-index-test.false

@@ -8,5 +8,6 @@ abbrev pub invariant-loop-index : goal.invariant-loop-index
 invariant-loop-index g l = record {
   store : l.cursor.store.now ≡ l.self.store.now;
   root : l.cursor.root ≡ l.self.root;
-  read : IsReadUpTo (page_at (g.V.VRead.pages l.self.store.now) (root_of l.self.root)) l.self.size l.index l.all.items;
+  read : IsReadUpTo
+      (page_at (g.V.VRead.pages l.self.store.now) (root_of l.self.root)) l.self.size l.index l.all.items;
 }

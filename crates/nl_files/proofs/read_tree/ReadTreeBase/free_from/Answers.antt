@@ -15,4 +15,5 @@ pub returns : goal.returns
 returns g c = λ held h.
     let inodes = inode_at (g.V.VRead.pages c.args.self.now.store.now) (root_of c.args.self.now.root) in
     rw c.get.ensures (lowest_free _ _ held h c.args.from c.in_ok-number.number
-    (subst (λ first. IsLowestFreeInode inodes first c.in_ok-number.number) c.new.ensures c.in_ok-number.ensures))
+    (subst
+    (λ first. IsLowestFreeInode inodes first c.in_ok-number.number) c.new.ensures c.in_ok-number.ensures))

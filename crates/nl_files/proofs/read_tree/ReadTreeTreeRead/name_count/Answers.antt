@@ -11,6 +11,8 @@ returns-in-Some g c = λ held h.
     let directory = c.in-Some.directory in
     let stands = c.in-Some.ensures.stands (held c.args.dir) (h.stores c.args.dir) in
     let few = (h.sound.each c.args.dir (Listed stands.0) stands.2).count in
-    let holds = subst (λ store. HoldsRecords (page_at (g.V.VRead.pages store) (root_of directory.root)) directory.size stands.0)
+    let holds =
+    subst (λ store.
+    HoldsRecords (page_at (g.V.VRead.pages store) (root_of directory.root)) directory.size stands.0)
     (sym c.in-Some.ensures.store) stands.1 in
     c.count.ensures stands.0 holds (omega (arith, few)) ∙ sym (ap held_count stands.2)

@@ -7,6 +7,8 @@ use Rattle.nl_layout.proofs.superblock.Superblock.read.Goals as goal
 
 pub returns-else-eq-clause-only : goal.returns-else-eq-clause-only
 returns-else-eq-clause-only c = λ s spells.
-    let read : c.from_bytes-superblock.result ≡ s = c.from_bytes-superblock.ensures ∙ superblock_at-Spells c.args.bytes.now s spells in
-    let again : c.as_slice.result.now ≡ c.args.bytes.now = c.as_slice.ensures ∙ c.write.ensures.spelling ∙ ap superblock_bytes read ∙ sym spells.spelling in
+    let read : c.from_bytes-superblock.result ≡ s =
+    c.from_bytes-superblock.ensures ∙ superblock_at-Spells c.args.bytes.now s spells in
+    let again : c.as_slice.result.now ≡ c.args.bytes.now =
+    c.as_slice.ensures ∙ c.write.ensures.spelling ∙ ap superblock_bytes read ∙ sym spells.spelling in
     let no : false ≡ true = (slice_eq-Decides Decides-eqb _ _ _ c.if-eq.ensures).1 again in cc

@@ -11,7 +11,8 @@ returns c =
     let copies : c.self.inside.copies ≡ w.copies = ap (λ (v : World). v.copies) c.self.view_is in
     let last : c.greatest_number-latest.result ≡ latest w =
     c.greatest_number-latest.ensures ∙ ap (λ cs. greatest (numbers cs)) (c.as_slice.ensures ∙ copies) in
-    let told : c.in_ok-told.told ≡ rows w = c.in_ok-told.ensures ∙ ap (map copy_row) (c.as_slice-2.ensures ∙ copies) in
+    let told : c.in_ok-told.told ≡ rows w =
+    c.in_ok-told.ensures ∙ ap (map copy_row) (c.as_slice-2.ensures ∙ copies) in
     let judged = c.as_slice-3.ensures ∙ told in
     let below : c.boundary-boundary.result ≡ boundary_of w c.args.now c.args.period =
     c.boundary-boundary.ensures ∙ (λ i. boundary c.args.now c.args.period (last i) (judged i)) in

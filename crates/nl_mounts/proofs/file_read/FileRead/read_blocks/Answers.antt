@@ -30,9 +30,15 @@ loop-seen-preserved g c =
       behind = c.read_block-done.ensures.within;
       within = omega (arith, low, next);
       edge = next_edge offset seen _ end low next;
-      touched_is = touched_next offset seen _ end low next was.edge file.checkpoint file.inode c.args.cache.now c.loop-seen.cache c.read_block-done.new.cache was.touched_is touched_is;
-      still = λ held cached. cached_still (key_of file.checkpoint file.inode ((offset + seen) / 1024)) c.loop-seen.cache c.read_block-done.new.cache file.checkpoint held touched_is (was.still held cached);
-      read = λ held h cached. c.read_block-done.ensures.read held h (was.still held cached) (was.read held h cached);
+      touched_is =
+          touched_next offset seen _ end low next was.edge file.checkpoint file.inode c.args.cache.now
+          c.loop-seen.cache c.read_block-done.new.cache was.touched_is touched_is;
+      still = λ held cached.
+          cached_still (key_of file.checkpoint file.inode ((offset + seen) / 1024)) c.loop-seen.cache
+          c.read_block-done.new.cache file.checkpoint held touched_is
+          (was.still held cached);
+      read = λ held h cached.
+          c.read_block-done.ensures.read held h (was.still held cached) (was.read held h cached);
     }
 
 pub returns-clause-touched : goal.returns-clause-touched
@@ -40,8 +46,12 @@ returns-clause-touched g c =
     let file = c.args.self.now.file.now in let offset = c.args.self.now.offset in
     let was = c.loop-seen.invariant in let within = was.within in let behind = c.loop-seen-test.false in
     let all : c.loop-seen.seen ≡ length c.args.into.now = omega (arith, within, behind) in
-    was.touched_is ∙ ap (λ (n : ℕ). touched file.checkpoint file.inode (offset / 1024) (block_count offset n) c.args.cache.now) all
+    was.touched_is
+    ∙ ap
+    (λ (n : ℕ). touched file.checkpoint file.inode (offset / 1024) (block_count offset n) c.args.cache.now)
+    all
 
 pub returns-clause-read : goal.returns-clause-read
 returns-clause-read g c = λ held h cached k low.
-    c.read_stored.ensures held h (c.loop-seen.invariant.read held h cached) k (omega (arith, low, c.read_stored.auto.into, c.loop-seen.auto.into))
+    c.read_stored.ensures held h (c.loop-seen.invariant.read held h cached) k
+    (omega (arith, low, c.read_stored.auto.into, c.loop-seen.auto.into))

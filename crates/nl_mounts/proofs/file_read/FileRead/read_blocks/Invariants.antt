@@ -10,9 +10,13 @@ invariant-loop-seen g l = record {
   behind : l.done ≤ l.seen;
   within : l.seen ≤ l.len;
   edge : IsBlockEdge l.self.offset l.seen l.len;
-  touched_is : l.cache ≡ touched l.self.file.now.checkpoint l.self.file.now.inode (l.self.offset / 1024) (block_count l.self.offset l.seen) l.fn.cache;
-  still : (held : Holding) → HasCachedBlocks l.fn.cache l.self.file.now.checkpoint held → HasCachedBlocks l.cache l.self.file.now.checkpoint held;
-  read : (held : Holding) → g.T.TreeRead.holds l.self.tree.now held → HasCachedBlocks l.fn.cache l.self.file.now.checkpoint held
+  touched_is : l.cache
+      ≡ touched l.self.file.now.checkpoint l.self.file.now.inode (l.self.offset / 1024)
+      (block_count l.self.offset l.seen) l.fn.cache;
+  still : (held : Holding) → HasCachedBlocks l.fn.cache l.self.file.now.checkpoint held
+      → HasCachedBlocks l.cache l.self.file.now.checkpoint held;
+  read : (held : Holding) → g.T.TreeRead.holds l.self.tree.now held
+      → HasCachedBlocks l.fn.cache l.self.file.now.checkpoint held
       → AreReadUpTo l.done (held_block (held l.self.file.now.inode)) l.self.offset l.into;
 }
 

@@ -12,8 +12,10 @@ invariant-loop-key g l = record {
   next : (goal.iterator-loop-key g).can_next l.key-iterator;
   ends : (goal.iterator-loop-key g).is_finite l.key-iterator;
   within : l.left ≤ length l.fn.into;
-  front : IsFront l.self.file.now.checkpoint l.self.file.now.inode (l.self.offset / 1024) (block_count l.self.offset l.left) l.key-iterator
-      → IsFront l.self.file.now.checkpoint l.self.file.now.inode (l.self.offset / 1024) (block_count l.self.offset (length l.fn.into)) l.cache.entries;
+  front : IsFront l.self.file.now.checkpoint l.self.file.now.inode (l.self.offset / 1024)
+      (block_count l.self.offset l.left) l.key-iterator
+      → IsFront l.self.file.now.checkpoint l.self.file.now.inode (l.self.offset / 1024)
+      (block_count l.self.offset (length l.fn.into)) l.cache.entries;
   inside : (e : CacheKey × List ℕ) → Contains l.key-iterator e → Contains l.cache.entries e;
   read : (held : Holding) → HasCachedBlocks l.cache l.self.file.now.checkpoint held
       → AreReadFrom l.left (length l.fn.into) (held_block (held l.self.file.now.inode)) l.self.offset l.into;

@@ -12,9 +12,18 @@ pub returns-clause-answers : goal.returns-clause-answers
 returns-clause-answers g c =
     let m = c.args.mount.now in let jobs = c.args.jobs.now in let job = c.index-jobs-index.result in
     let was = ap (λ (l : LaneView). l.answers) c.self.view_is in
-    let port : c.self.inside.port.known ≡ c.args.self.now.port = ap (λ (l : LaneView). l.port) c.self.view_is in
-    let learned : HasLearned m c.self.inside.port.known = subst (λ (k : Known). HasLearned m k) (sym port) c.requires.learned in
-    let at : slice_get jobs c.args.index ≡ Some job = slice_get-get_or jobs c.args.index job c.requires.index ∙ ap Some (sym c.index-jobs-index.is) in
-    let told = subst (λ (p : List ℕ). Told m c.self.inside.port.known (c.read-answer.result ≡ Err BadMount) (λ t. IsBytesOf t p job.offset job.len c.read-answer.result)) c.as_slice.ensures c.read-answer.ensures.told in
-    placed_more m jobs c.self.inside.answers.items c.push_answer.new.answers.items (c.args.index, c.read-answer.result) (subst (ArePlaced m jobs) (sym was) c.requires.answers)
-    (placed m c.self.inside.port.known jobs c.args.index job c.read-answer.result learned at told) c.push_answer.ensures
+    let port : c.self.inside.port.known ≡ c.args.self.now.port =
+    ap (λ (l : LaneView). l.port) c.self.view_is in
+    let learned : HasLearned m c.self.inside.port.known =
+    subst (λ (k : Known). HasLearned m k) (sym port) c.requires.learned in
+    let at : slice_get jobs c.args.index ≡ Some job =
+    slice_get-get_or jobs c.args.index job c.requires.index ∙ ap Some (sym c.index-jobs-index.is) in
+    let told =
+    subst (λ (p : List ℕ).
+    Told m c.self.inside.port.known (c.read-answer.result ≡ Err BadMount)
+    (λ t. IsBytesOf t p job.offset job.len c.read-answer.result))
+    c.as_slice.ensures c.read-answer.ensures.told in
+    placed_more m jobs c.self.inside.answers.items c.push_answer.new.answers.items
+    (c.args.index, c.read-answer.result) (subst (ArePlaced m jobs) (sym was) c.requires.answers)
+    (placed m c.self.inside.port.known jobs c.args.index job c.read-answer.result learned at told)
+    c.push_answer.ensures

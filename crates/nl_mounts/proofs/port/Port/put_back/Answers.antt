@@ -11,5 +11,8 @@ invariant_of-self g c =
     let was = ap (λ (p : PortView). p.known) c.self.view_is in
     let now = ap (λ (p : PortView). p.known) c.port.view_is in
     let prefix = subst (λ (k : Known). IsPrefix k.commits new.commits) (sym was)
-    (subst (λ (k : Known). IsPrefix c.args.self.now.known.commits k.commits) (sym now) c.requires.commits) in
-    (c.port.invariant.0, learned_pages old new c.self.inside.cache c.volume.ensures.begun prefix c.self.invariant.1)
+    (subst (λ (k : Known). IsPrefix c.args.self.now.known.commits k.commits)
+    (sym now) c.requires.commits) in (
+      c.port.invariant.0,
+      learned_pages old new c.self.inside.cache c.volume.ensures.begun prefix c.self.invariant.1,
+    )

@@ -11,30 +11,47 @@ use Rattle.nl_mounts.proofs.port.Port.read_through.Goals as goal
 pub read_in-result-requires : goal.read_in-result-requires
 read_in-result-requires g c =
     let m = c.args.mount.now in let old = c.args.self.now.known in let look = c.in_ok-look.look in
-    let finds = found_in m old look.front look.shown c.image.result.now.tables look.tree c.tree.result c.image.ensures c.tree.ensures c.in_ok-look.ensures.finds in
+    let finds =
+    found_in m old look.front look.shown c.image.result.now.tables look.tree c.tree.result c.image.ensures
+    c.tree.ensures c.in_ok-look.ensures.finds in
     is_cache m old look.front c.image.result.now.tables c.tree.result c.args.cache.now finds
-    (seen_on old look.front c.args.cache.now (finds_seen m old look.front c.image.result.now.tables c.tree.result finds) c.requires)
+    (seen_on old look.front c.args.cache.now
+    (finds_seen m old look.front c.image.result.now.tables c.tree.result finds) c.requires)
 
 pub come_back-requires : goal.come_back-requires
 come_back-requires g c =
     subst (λ (p : PortView). IsSeenOn p.known c.in_ok-look.look.front) (sym c.look.ensures.same)
-    (finds_seen c.args.mount.now c.args.self.now.known c.in_ok-look.look.front c.in_ok-look.look.shown c.in_ok-look.look.tree c.in_ok-look.ensures.finds)
+    (finds_seen c.args.mount.now c.args.self.now.known c.in_ok-look.look.front c.in_ok-look.look.shown
+    c.in_ok-look.look.tree c.in_ok-look.ensures.finds)
 
 pub returns : goal.returns
 returns g c =
     let m = c.args.mount.now in let old = c.args.self.now.known in let look = c.in_ok-look.look in
-    let image = c.image.result.now.tables in let tree = c.tree.result in let result = c.read_in-result.result in
+    let image = c.image.result.now.tables in
+    let tree = c.tree.result in
+    let result = c.read_in-result.result in
     let was = c.args.cache.now in let now = c.read_in-result.new.cache in
-    let finds = found_in m old look.front look.shown image look.tree tree c.image.ensures c.tree.ensures c.in_ok-look.ensures.finds in
+    let finds =
+    found_in m old look.front look.shown image look.tree tree c.image.ensures c.tree.ensures
+    c.in_ok-look.ensures.finds in
     let pages = seen_on old look.front was (finds_seen m old look.front image tree finds) c.requires in
-    let all = comes m old c.come_back.new.self.known look image tree _ _ c.in_ok-look.ensures.finds c.come_back.ensures.known c.image.ensures c.tree.ensures c.read_in-result.ensures.reads in
+    let all =
+    comes m old c.come_back.new.self.known look image tree _ _ c.in_ok-look.ensures.finds
+    c.come_back.ensures.known c.image.ensures c.tree.ensures c.read_in-result.ensures.reads in
     record {
       pages = subst (λ (k : Known). AreCachedPages k.commits now) (sym c.come_back.ensures.known)
-          (touched_pages look.front.commits (OfTreeFile (pages_shown image) tree c.args.path.now) c.args.offset was now result c.read_in-result.ensures.touched pages);
+          (touched_pages look.front.commits
+          (OfTreeFile (pages_shown image) tree c.args.path.now) c.args.offset was now result
+          c.read_in-result.ensures.touched pages);
       later = all.later;
       looked = all.looked;
       told = all.told;
-      touched = subst (λ (k : Known). TouchesIfAny (OfMountFile (image_of k.commits) m.number c.args.path.now) c.args.offset was result now) (sym c.come_back.ensures.known)
+      touched =
+          subst (λ (k : Known).
+          TouchesIfAny
+          (OfMountFile (image_of k.commits) m.number c.args.path.now) c.args.offset was result now)
+          (sym c.come_back.ensures.known)
           (touches_at m old look.front image tree c.args.path.now c.args.offset was now result finds
-          (read_refused (pages_shown image) tree result _ _ _ c.read_in-result.ensures.reads) c.read_in-result.ensures.touched);
+          (read_refused (pages_shown image) tree result _ _ _ c.read_in-result.ensures.reads)
+          c.read_in-result.ensures.touched);
     }

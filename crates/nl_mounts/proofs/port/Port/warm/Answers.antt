@@ -10,6 +10,10 @@ returns-clause-looked g c = λ some.
     let m = c.args.mount.now in let result = c.warm_through-result.result in
     let old = ap (λ (p : PortView). p.known) c.self.view_is in
     let new = ap (λ (p : PortView). p.known) c.self-2.view_is in
-    subst (λ (k : Known). Looked m k c.self-2.inside.front (result ≡ Err BadMount) (λ t. IsWarmingOf t c.args.path.now result)) old
-    (subst (λ (k : Known). Looked m c.self.inside.front k (result ≡ Err BadMount) (λ t. IsWarmingOf t c.args.path.now result)) (sym new)
+    subst (λ (k : Known).
+    Looked m k c.self-2.inside.front (result ≡ Err BadMount) (λ t. IsWarmingOf t c.args.path.now result))
+    old
+    (subst (λ (k : Known).
+    Looked m c.self.inside.front k (result ≡ Err BadMount) (λ t. IsWarmingOf t c.args.path.now result))
+    (sym new)
     c.warm_through-result.ensures.looked)

@@ -10,7 +10,9 @@ pub returns : goal.returns
 returns g c =
     let event : Event = c.in_ok-event.event in
     let next : next_event c.args.job.now c.begin.new.self.layout ≡ Some event =
-    subst (λ (l : Layout). next_event c.args.job.now l ≡ Some event) c.pen.ensures (sym c.next.ensures ∙ c.in_ok-event.was) in
+    subst (λ (l : Layout). next_event c.args.job.now l ≡ Some event) c.pen.ensures
+    (sym c.next.ensures ∙ c.in_ok-event.was) in
     Stepped c.begin.new.self event c.run-reply.result c.in_default.ensures next
-    (goes_by_still c.begin.new.self c.run-reply.new.self c.settle.new.self event c.run-reply.result c.run-reply.ensures c.settle.ensures.sent)
+    (goes_by_still c.begin.new.self c.run-reply.new.self c.settle.new.self event c.run-reply.result
+    c.run-reply.ensures c.settle.ensures.sent)
     refl c.note-2.ensures

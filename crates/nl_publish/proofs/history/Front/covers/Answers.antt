@@ -10,6 +10,10 @@ returns g c =
     let both = c.learn.new.self.log in
     let mine = c.self.inside.seen.log in
     let others = c.other.inside.seen.log in
-    let this : IsPrefix mine both = subst (λ (l : List Commit). IsPrefix l both) (ap (λ s. s.log) c.again-both.ensures) c.learn.ensures.2 in
-    let counts = ap (λ n. nat_le n (length mine)) (sym c.other.invariant.0) ∙ ap (λ n. nat_le c.other.inside.count n) (sym c.self.invariant.0) in
+    let this : IsPrefix mine both =
+    subst (λ (l : List Commit). IsPrefix l both)
+    (ap (λ s. s.log) c.again-both.ensures) c.learn.ensures.2 in
+    let counts =
+    ap (λ n. nat_le n (length mine)) (sym c.other.invariant.0)
+    ∙ ap (λ n. nat_le c.other.inside.count n) (sym c.self.invariant.0) in
     rw (← c.self.view_is, ← c.other.view_is) (prefix_covers mine others both this c.learn.ensures.3 _ counts)

@@ -11,12 +11,24 @@ returns-in-None g c =
 pub returns-in-Ok : goal.returns-in-Ok
 returns-in-Ok g c =
     let old : HeldPen = c.args.self.now in
-    let was : old.lost ≡ Some c.in-Some.number = sym (ap (λ (h : HeldPen). h.lost) c.self.view_is) ∙ c.in-Some.is in
-    subst (λ (h : HeldPen). IsReady old (record { volume = h.volume; published = h.published; history = h.history; lost = None; layout = h.layout })) (sym c.self-in-Some.view_is)
+    let was : old.lost ≡ Some c.in-Some.number =
+    sym (ap (λ (h : HeldPen). h.lost) c.self.view_is) ∙ c.in-Some.is in
+    subst (λ (h : HeldPen).
+    IsReady old (record {
+      volume = h.volume;
+      published = h.published;
+      history = h.history;
+      lost = None;
+      layout = h.layout;
+    }))
+    (sym c.self-in-Some.view_is)
     (gave old c.run.new.self c.in-Some.number c.in-Ok.field-0 c.run.result was c.in-Ok.is c.run.ensures)
 
 pub returns : goal.returns
 returns g c =
     let old : HeldPen = c.args.self.now in
-    let was : old.lost ≡ Some c.in-Some.number = sym (ap (λ (h : HeldPen). h.lost) c.self.view_is) ∙ c.in-Some.is in
-    (refl, stuck old c.run.new.self c.in-Some.number c.in-Err.field-0 c.run.result was c.in-Err.is c.run.ensures)
+    let was : old.lost ≡ Some c.in-Some.number =
+    sym (ap (λ (h : HeldPen). h.lost) c.self.view_is) ∙ c.in-Some.is in (
+      refl,
+      stuck old c.run.new.self c.in-Some.number c.in-Err.field-0 c.run.result was c.in-Err.is c.run.ensures,
+    )

@@ -7,5 +7,6 @@ pub returns : goal.returns
 returns g c =
     let s = c.self.inside in let w = g.W.Press in
     subst IsTold c.self.view_is
-    (told g.J.Volumes.book s.log.volume (w.shown s.writer) (w.unseen s.writer ++ listed s.unsent) s.noted s.waiting.items
+    (told g.J.Volumes.book s.log.volume (w.shown s.writer)
+    (w.unseen s.writer ++ listed s.unsent) s.noted s.waiting.items
     (g.P.NotingPen.layout s.pen) s.noted.volume s.lost c.self.invariant)

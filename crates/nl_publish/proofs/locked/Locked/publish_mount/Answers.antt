@@ -9,20 +9,30 @@ returns-in-Err g c = Stuck c.in-Err.ensures.1 (ap (λ (e : VolError). Err e) c.i
 
 pub returns-then-not-settle : goal.returns-then-not-settle
 returns-then-not-settle g c =
-    Pending (ready_still c.args.self.now c.begin.new.self c.settle.new.self c.in_default.ensures c.settle.ensures.sent) c.if-not-settle.ensures.settled refl
+    Pending (ready_still c.args.self.now c.begin.new.self c.settle.new.self c.in_default.ensures
+    c.settle.ensures.sent)
+    c.if-not-settle.ensures.settled refl
 
 pub returns-in-Err-run_mount : goal.returns-in-Err-run_mount
 returns-in-Err-run_mount g c =
-    let all = clear c.args.self.now c.begin.new.self c.settle.new.self c.in_default.ensures c.settle.ensures.sent c.if-not-settle.ensures.settled in
+    let all =
+    clear c.args.self.now c.begin.new.self c.settle.new.self c.in_default.ensures c.settle.ensures.sent
+    c.if-not-settle.ensures.settled in
     Refused c.settle.new.self c.in-Err-run_mount.refusal all c.in-Err-run_mount.ensures refl
 
 pub finish_mount-requires : goal.finish_mount-requires
 finish_mount-requires g c =
-    let all = clear c.args.self.now c.begin.new.self c.settle.new.self c.in_default.ensures c.settle.ensures.sent c.if-not-settle.ensures.settled in
-    none_lost c.args.self.now c.settle.new.self c.run_mount.new.self c.args.checkpoint all c.run_mount.result c.run_mount.ensures
+    let all =
+    clear c.args.self.now c.begin.new.self c.settle.new.self c.in_default.ensures c.settle.ensures.sent
+    c.if-not-settle.ensures.settled in
+    none_lost c.args.self.now c.settle.new.self c.run_mount.new.self c.args.checkpoint all c.run_mount.result
+    c.run_mount.ensures
 
 pub returns-in-Ok : goal.returns-in-Ok
 returns-in-Ok g c =
-    let all = clear c.args.self.now c.begin.new.self c.settle.new.self c.in_default.ensures c.settle.ensures.sent c.if-not-settle.ensures.settled in
-    mount_done c.args.self.now c.settle.new.self c.run_mount.new.self c.args.checkpoint all c.in-Ok.number c.finish_mount.result c.finish_mount.new.self
+    let all =
+    clear c.args.self.now c.begin.new.self c.settle.new.self c.in_default.ensures c.settle.ensures.sent
+    c.if-not-settle.ensures.settled in
+    mount_done c.args.self.now c.settle.new.self c.run_mount.new.self c.args.checkpoint all c.in-Ok.number
+    c.finish_mount.result c.finish_mount.new.self
     c.in-Ok.ensures c.finish_mount.ensures

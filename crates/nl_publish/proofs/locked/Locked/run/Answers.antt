@@ -7,12 +7,29 @@ use Rattle.nl_publish.proofs.locked.Locked.run.Goals as goal
 pub invariant_of-self : goal.invariant_of-self
 invariant_of-self g c =
     let s = c.self.inside in let w = g.W.Press in let layout = g.P.NotingPen.layout in
-    runs g.J.Volumes.book s.log.volume (w.shown s.writer) (w.unseen s.writer ++ listed s.unsent) s.noted s.waiting.items c.apply_noting.new.notes.items (layout s.pen) (layout c.apply_noting.new.self) c.args.event.now c.apply_noting.result
+    runs g.J.Volumes.book s.log.volume (w.shown s.writer)
+    (w.unseen s.writer ++ listed s.unsent) s.noted s.waiting.items c.apply_noting.new.notes.items
+    (layout s.pen) (layout c.apply_noting.new.self) c.args.event.now c.apply_noting.result
     c.apply_noting.ensures c.self.invariant
 
 pub returns : goal.returns
 returns g c =
     let s = c.self.inside in let w = g.W.Press in let layout = g.P.NotingPen.layout in
-    let new : HeldPen = record { volume = s.noted.volume; published = (w.shown s.writer).seen.log; history = s.noted.commits ++ c.apply_noting.new.notes.items; lost = s.lost; layout = layout c.apply_noting.new.self } in
-    let step = noted_of s.noted.commits s.waiting.items c.apply_noting.new.notes.items (layout s.pen) (layout c.apply_noting.new.self) c.args.event.now c.apply_noting.result c.apply_noting.ensures in
-    subst (λ (h : HeldPen). GoesBy h c.args.event.now c.apply_noting.result new) c.self.view_is (record { volume = refl; runs = (state_of new, step, refl); later = prefix_self (w.shown s.writer).seen.log }, refl)
+    let new : HeldPen = record {
+      volume = s.noted.volume;
+      published = (w.shown s.writer).seen.log;
+      history = s.noted.commits ++ c.apply_noting.new.notes.items;
+      lost = s.lost;
+      layout = layout c.apply_noting.new.self;
+    } in
+    let step =
+    noted_of s.noted.commits s.waiting.items c.apply_noting.new.notes.items (layout s.pen)
+    (layout c.apply_noting.new.self) c.args.event.now c.apply_noting.result c.apply_noting.ensures in
+    subst (λ (h : HeldPen). GoesBy h c.args.event.now c.apply_noting.result new) c.self.view_is (
+      record {
+        volume = refl;
+        runs = (state_of new, step, refl);
+        later = prefix_self (w.shown s.writer).seen.log;
+      },
+      refl,
+    )

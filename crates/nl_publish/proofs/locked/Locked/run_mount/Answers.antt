@@ -2,7 +2,11 @@ use Rattle.nl_publish.proofs.Running.{is_mount_reply, mount_goes}
 use Rattle.nl_publish.proofs.locked.Locked.run_mount.Goals as goal
 
 pub mount_number-requires : goal.mount_number-requires
-mount_number-requires g c = is_mount_reply c.args.self.now c.run-reply.new.self c.args.checkpoint c.run-reply.result c.means_a_world.ensures c.run-reply.ensures
+mount_number-requires g c =
+    is_mount_reply c.args.self.now c.run-reply.new.self c.args.checkpoint c.run-reply.result
+    c.means_a_world.ensures c.run-reply.ensures
 
 pub returns : goal.returns
-returns g c = mount_goes c.args.self.now c.run-reply.new.self c.args.checkpoint c.run-reply.result c.mount_number.result c.run-reply.ensures c.mount_number.ensures
+returns g c =
+    mount_goes c.args.self.now c.run-reply.new.self c.args.checkpoint c.run-reply.result c.mount_number.result
+    c.run-reply.ensures c.mount_number.ensures

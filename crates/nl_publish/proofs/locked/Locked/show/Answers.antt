@@ -11,11 +11,23 @@ show-requires g c = let s = c.self.inside in let w = g.W.Press in
 pub invariant_of-self : goal.invariant_of-self
 invariant_of-self g c =
     let s = c.self.inside in let w = g.W.Press in
-    shows g.J.Volumes.book s.log.volume (w.shown s.writer) (w.shown c.show.new.self) (w.unseen s.writer) (w.unseen c.show.new.self) (listed s.unsent) s.noted s.waiting.items (shown_of (g.P.NotingPen.layout s.pen)) c.show.result c.show.ensures c.self.invariant
+    shows g.J.Volumes.book s.log.volume (w.shown s.writer) (w.shown c.show.new.self) (w.unseen s.writer)
+    (w.unseen c.show.new.self) (listed s.unsent) s.noted s.waiting.items
+    (shown_of (g.P.NotingPen.layout s.pen)) c.show.result c.show.ensures c.self.invariant
 
 pub returns : goal.returns
 returns g c =
     let s = c.self.inside in let w = g.W.Press in
-    let more = shows_more g.J.Volumes.book s.log.volume (w.shown s.writer) (w.shown c.show.new.self) (w.unseen s.writer) (w.unseen c.show.new.self) (listed s.unsent) s.noted s.waiting.items (shown_of (g.P.NotingPen.layout s.pen)) c.show.result c.show.ensures c.self.invariant in
-    let new : HeldPen = record { volume = s.noted.volume; published = (w.shown c.show.new.self).seen.log; history = s.noted.commits ++ s.waiting.items; lost = s.lost; layout = g.P.NotingPen.layout s.pen } in
-    subst (λ (h : HeldPen). Keeps h new) c.self.view_is (record { volume = refl; runs = refl; later = more }, refl)
+    let more =
+    shows_more g.J.Volumes.book s.log.volume (w.shown s.writer) (w.shown c.show.new.self)
+    (w.unseen s.writer) (w.unseen c.show.new.self) (listed s.unsent) s.noted s.waiting.items
+    (shown_of (g.P.NotingPen.layout s.pen)) c.show.result c.show.ensures c.self.invariant in
+    let new : HeldPen = record {
+      volume = s.noted.volume;
+      published = (w.shown c.show.new.self).seen.log;
+      history = s.noted.commits ++ s.waiting.items;
+      lost = s.lost;
+      layout = g.P.NotingPen.layout s.pen;
+    } in
+    subst (λ (h : HeldPen). Keeps h new) c.self.view_is
+    (record { volume = refl; runs = refl; later = more }, refl)

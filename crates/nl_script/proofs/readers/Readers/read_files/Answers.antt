@@ -12,7 +12,9 @@ returns-clause-files g c =
     let m = c.args.mount.now in
     let paths = c.args.paths.now in
     let answers = c.in_ok-answers.answers.items in
-    let told = subst (λ (jobs : List ReadJob). AreAnswers m jobs answers) (c.as_slice.ensures.value ∙ c.in_ok-jobs.ensures) c.in_ok-answers.ensures.answers in
+    let told =
+    subst (λ (jobs : List ReadJob). AreAnswers m jobs answers)
+    (c.as_slice.ensures.value ∙ c.in_ok-jobs.ensures) c.in_ok-answers.ensures.answers in
     let found = c.count_found-found.ensures ∙ ap (position_or_len is_bad_mount) c.as_slice-2.ensures.value in
     let kept = c.truncate.ensures.items ∙ ap (λ (n : ℕ). take n c.in_ok-replies.replies.items) found
     ∙ ap (λ (rs : List Reply). take (position_or_len is_bad_mount rs) rs) c.in_ok-replies.ensures in

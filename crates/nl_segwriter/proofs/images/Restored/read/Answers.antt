@@ -9,7 +9,8 @@ returns-in-Ok-clause-found c =
     let s = c.args.table.now in
     let image = pages_of_bytes c.args.blocks.now in
     let logs : HoldLogs s (page_in c.in_ok-pages.pages) c.in-Ok.payload =
-    subst (λ (pages : List (Option (List ℕ))). HoldLogs s (page_in pages) c.in-Ok.payload) c.as_slice.ensures c.in-Ok.ensures.found in
+    subst (λ (pages : List (Option (List ℕ))). HoldLogs s (page_in pages) c.in-Ok.payload) c.as_slice.ensures
+    c.in-Ok.ensures.found in
     record {
       pages = c.in_ok-pages.ensures;
       logs = logs;
@@ -19,5 +20,8 @@ returns-in-Ok-clause-found c =
 pub returns-in-Err-clause-only : goal.returns-in-Err-clause-only
 returns-in-Err-clause-only c = λ logs.
     let s = c.args.table.now in
-    let of_pages : AreLogsIn s (page_in c.in_ok-pages.pages) = logs_of_pages s (pages_of_bytes c.args.blocks.now) c.in_ok-pages.pages c.in_ok-pages.ensures logs in
-    c.in-Err.ensures.only (subst (λ (pages : List (Option (List ℕ))). AreLogsIn s (page_in pages)) (sym c.as_slice.ensures) of_pages)
+    let of_pages : AreLogsIn s (page_in c.in_ok-pages.pages) =
+    logs_of_pages s (pages_of_bytes c.args.blocks.now) c.in_ok-pages.pages c.in_ok-pages.ensures logs in
+    c.in-Err.ensures.only
+    (subst (λ (pages : List (Option (List ℕ))). AreLogsIn s (page_in pages))
+    (sym c.as_slice.ensures) of_pages)

@@ -19,12 +19,18 @@ invariant_of-result g c =
     let pages = g.D.Device.pages c.args.device in
     record {
       segment_size = ap (λ (t : Segments). t.blocks) is ∙ ap (λ (x : Geometry). x.blocks) shape;
-      segment_count = ap (λ (t : Segments). length t.each) is ∙ length-replicate geometry.segments clean_info ∙ ap (λ (x : Geometry). x.segments) shape;
+      segment_count =
+          ap (λ (t : Segments). length t.each) is ∙ length-replicate geometry.segments clean_info
+          ∙ ap (λ (x : Geometry). x.segments) shape;
       limits = c.in_ok-table.ensures.limits;
-      sized = ap length table ∙ length-replicate c.total.result None ∙ c.total.ensures ∙ ap (λ (x : Geometry). x.segments * x.blocks) shape;
+      sized =
+          ap length table ∙ length-replicate c.total.result None ∙ c.total.ensures
+          ∙ ap (λ (x : Geometry). x.segments * x.blocks) shape;
       unheld = λ b _. ap (λ (t : List (Option Payload)). held_in t b) table ∙ none_held c.total.result b;
       logged = subst HaveLogs (sym is) (logs_new geometry.blocks geometry.segments);
-      whole = subst (λ (t : Segments). AreWholeLogs (space_content t c.in_ok-payload.payload pages)) (sym is) (whole_new geometry.blocks geometry.segments (held_in c.in_ok-payload.payload) pages);
+      whole =
+          subst (λ (t : Segments). AreWholeLogs (space_content t c.in_ok-payload.payload pages)) (sym is)
+          (whole_new geometry.blocks geometry.segments (held_in c.in_ok-payload.payload) pages);
     }
 
 pub returns-clause-content : goal.returns-clause-content
@@ -33,5 +39,6 @@ returns-clause-content g c =
     let new : Segments = record { blocks = geometry.blocks; each = replicate geometry.segments clean_info } in
     let is : c.in_ok-table.table ≡ new = c.in_ok-table.ensures.clean in
     let table : c.in_ok-payload.payload ≡ replicate c.total.result None = c.in_ok-payload.ensures in
-    let held : held_in c.in_ok-payload.payload ≡ (λ b. None) = λ i b. (ap (λ (t : List (Option Payload)). held_in t b) table ∙ none_held c.total.result b) i in
+    let held : held_in c.in_ok-payload.payload ≡ (λ b. None) = λ i b.
+    (ap (λ (t : List (Option Payload)). held_in t b) table ∙ none_held c.total.result b) i in
     λ i. record { segments = is i; held = held i; stored = g.D.Device.pages c.args.device }

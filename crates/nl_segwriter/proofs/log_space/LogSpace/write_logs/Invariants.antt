@@ -30,10 +30,14 @@ invariant-loop-staged g l =
       ready : AllByRecursion IsReady rest;
       stamps : AllByRecursion (λ x. x.stamp ≡ l.now) rest;
       table : with_logs l.self.table (logs_of rest) l.now ≡ with_logs start.table (logs_of all) l.now;
-      broken : (later : SpaceContent) → KeepsUsed l.self.table now later → BreaksOff l.now rest now later → BreaksOff l.now all before later;
+      broken : (later : SpaceContent) → KeepsUsed l.self.table now later → BreaksOff l.now rest now later
+          → BreaksOff l.now all before later;
       counted : CountsWrites (device.failed start.device) (device.failed l.self.device);
       used_stay : KeepsUsed start.table before now;
       stays : StaysUsed start.table l.self.table;
-      others : (b : ℕ) → AllByRecursion (IsOutside start.table.blocks b) (logs_of all) → AllByRecursion (IsOutside start.table.blocks b) (logs_of rest) × IsSameAt before now b;
-      stand : (later : SpaceContent) → KeepsUsed l.self.table now later → LogsStand start.table.blocks rest later.held later.stored → LogsStand start.table.blocks all later.held later.stored;
+      others : (b : ℕ) → AllByRecursion (IsOutside start.table.blocks b) (logs_of all)
+          → AllByRecursion (IsOutside start.table.blocks b) (logs_of rest) × IsSameAt before now b;
+      stand : (later : SpaceContent) → KeepsUsed l.self.table now later
+          → LogsStand start.table.blocks rest later.held later.stored
+          → LogsStand start.table.blocks all later.held later.stored;
     }

@@ -11,15 +11,18 @@ use Rattle.nl_segwriter.proofs.log_space.LogSpaceSpace.load.Goals as goal
 pub get-requires : goal.get-requires
 get-requires g c =
     let s : Segments = c.args.self.now.table in
-    let inside : c.args.number < length s.each * s.blocks = used_inside s c.args.number c.args.self.now.limits.tidy c.requires in
+    let inside : c.args.number < length s.each * s.blocks =
+    used_inside s c.args.number c.args.self.now.limits.tidy c.requires in
     rw (c.args.self.now.segment_count, c.args.self.now.segment_size) at inside
 
 pub invariant_of-self : goal.invariant_of-self
 invariant_of-self g c =
     let s : Segments = c.args.self.now.table in
     let table = c.args.self.now.payload in
-    let shape : g.D.Device.shape c.args.self.now.device ≡ g.D.Device.shape c.get.new.self = sym c.get.ensures.shape in
-    let same : g.D.Device.pages c.args.self.now.device ≡ g.D.Device.pages c.get.new.self = λ i b. sym (c.get.ensures.same b) i in
+    let shape : g.D.Device.shape c.args.self.now.device ≡ g.D.Device.shape c.get.new.self =
+    sym c.get.ensures.shape in
+    let same : g.D.Device.pages c.args.self.now.device ≡ g.D.Device.pages c.get.new.self = λ i b.
+    sym (c.get.ensures.same b) i in
     record {
       segment_size = c.args.self.now.segment_size ∙ ap (λ (x : Geometry). x.blocks) shape;
       segment_count = c.args.self.now.segment_count ∙ ap (λ (x : Geometry). x.segments) shape;
@@ -27,10 +30,14 @@ invariant_of-self g c =
       sized = c.args.self.now.sized ∙ ap (λ (x : Geometry). x.segments * x.blocks) shape;
       unheld = c.args.self.now.unheld;
       logged = c.args.self.now.logged;
-      whole = subst (λ (pages : DevicePages). AreWholeLogs (space_content s table pages)) same c.args.self.now.whole;
+      whole =
+          subst
+          (λ (pages : DevicePages). AreWholeLogs (space_content s table pages)) same c.args.self.now.whole;
     }
 
 pub unreachable-requires : goal.unreachable-requires
 unreachable-requires g c =
-    used_stored (space_content c.args.self.now.table c.args.self.now.payload (g.D.Device.pages c.args.self.now.device)) c.args.number c.args.self.now.whole c.requires
+    used_stored
+    (space_content c.args.self.now.table c.args.self.now.payload (g.D.Device.pages c.args.self.now.device))
+    c.args.number c.args.self.now.whole c.requires
     (sym c.in-Ok-None.ensures.found ∙ c.in-Ok-None.field-0-is)

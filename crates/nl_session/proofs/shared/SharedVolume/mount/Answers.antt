@@ -13,8 +13,11 @@ returns-in-Err g c =
 pub returns-in-Ok : goal.returns-in-Ok
 returns-in-Ok g c =
     let m = c.in-Ok.mount in
-    let held = c.push_reserved.ensures.items ∙ ap (λ (ms : List Claim). ms ++ m ∷ []) c.reserve.ensures.items in
+    let held =
+    c.push_reserved.ensures.items ∙ ap (λ (ms : List Claim). ms ++ m ∷ []) c.reserve.ensures.items in
     let reply = ap (λ (n : ℕ). Ok (answer.Mount n)) c.number-number.ensures in
     let new : Sharing = record { held = c.mount.new.self; mounts = c.push_reserved.new.self.items } in
-    subst (λ (s : Sharing). MountComes s c.args.checkpoint (Ok (answer.Mount c.number-number.result)) new) c.self.view_is
-    (Mounted m reply c.in-Ok.ensures.checkpoint c.in-Ok.ensures.told c.in-Ok.ensures.ran c.in-Ok.ensures.copy held)
+    subst (λ (s : Sharing). MountComes s c.args.checkpoint (Ok (answer.Mount c.number-number.result)) new)
+    c.self.view_is
+    (Mounted m reply c.in-Ok.ensures.checkpoint c.in-Ok.ensures.told c.in-Ok.ensures.ran c.in-Ok.ensures.copy
+    held)

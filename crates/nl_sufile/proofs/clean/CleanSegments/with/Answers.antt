@@ -9,9 +9,13 @@ overflow_add-result c = omega (arith, c.requires.few, c.requires.tells.count, co
 pub returns-then-is_clean_at : goal.returns-then-is_clean_at
 returns-then-is_clean_at c =
     let was = ap bit (sym c.is_clean_at.ensures ∙ c.if-is_clean_at.true) in
-    tells-with c.args.each.now c.args.self c.args.segment _ _ c.requires.tells c.requires.segment (omega (arith, was)) (omega (arith, c.min-mark.ensures, c.get.ensures)) (omega (arith, c.min-mark.ensures))
+    tells-with c.args.each.now c.args.self c.args.segment _ _ c.requires.tells c.requires.segment
+    (omega (arith, was)) (omega (arith, c.min-mark.ensures, c.get.ensures))
+    (omega (arith, c.min-mark.ensures))
 
 pub returns-else-is_clean_at : goal.returns-else-is_clean_at
 returns-else-is_clean_at c =
     let was = ap bit (sym c.is_clean_at.ensures ∙ c.if-is_clean_at.false) in
-    tells-with c.args.each.now c.args.self c.args.segment _ _ c.requires.tells c.requires.segment (omega (arith, was)) (omega (arith, c.min-mark.ensures, c.get.ensures)) (omega (arith, c.min-mark.ensures))
+    tells-with c.args.each.now c.args.self c.args.segment _ _ c.requires.tells c.requires.segment
+    (omega (arith, was)) (omega (arith, c.min-mark.ensures, c.get.ensures))
+    (omega (arith, c.min-mark.ensures))

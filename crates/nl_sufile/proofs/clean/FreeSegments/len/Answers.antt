@@ -6,4 +6,5 @@ pub returns-clause-few : goal.returns-clause-few
 returns-clause-few c =
     let each = c.self.inside.each.now in
     let from = c.self.inside.from in
-    omega (arith, c.self.invariant.0, c.self.invariant.1, count-most from (drop from each), length-drop from each)
+    omega
+    (arith, c.self.invariant.0, c.self.invariant.1, count-most from (drop from each), length-drop from each)

@@ -6,12 +6,15 @@ use Rattle.nl_sufile.proofs.table.SegTable.restore.Goals as goal
 pub returns-in_err-each-clause-only : goal.returns-in_err-each-clause-only
 returns-in_err-each-clause-only c = λ s told.
     let p = err_from_is_err_and c.from_residual.result c.from_residual.ensures.1 in
-    let only = c.in_err-each.ensures.only s.each (entries_told c.args.geometry c.args.bytes.now s told) in rw (p.1, p.2) only
+    let only = c.in_err-each.ensures.only s.each (entries_told c.args.geometry c.args.bytes.now s told) in
+    rw (p.1, p.2) only
 
 pub from_entries-requires-clause-table : goal.from_entries-requires-clause-table
 from_entries-requires-clause-table c =
     let active = rw c.as_slice.ensures at c.in-Ok.ensures.found in
-    told_seg_table c.args.geometry c.args.bytes.now _ (told_table c.args.geometry c.args.bytes.now c.in_ok-each.each c.in-Ok.active c.in_ok-each.ensures.found active)
+    told_seg_table c.args.geometry c.args.bytes.now _
+    (told_table c.args.geometry c.args.bytes.now c.in_ok-each.each c.in-Ok.active c.in_ok-each.ensures.found
+    active)
 
 pub returns-in-Err-clause-only : goal.returns-in-Err-clause-only
 returns-in-Err-clause-only c = λ s told.

@@ -14,7 +14,8 @@ invariant_of-result c = (
   blank,
   nothing_held,
   root_alone,
-  subst (λ (tree : Current). StandsOverLatest blank Empty tree nothing_held root_alone) (sym c.in_ok-first.ensures.first) first_trees-stand,
+  subst (λ (tree : Current). StandsOverLatest blank Empty tree nothing_held root_alone)
+      (sym c.in_ok-first.ensures.first) first_trees-stand,
   new_content-blank _ _ _ c.in_ok-new.ensures.new,
   refl,
 )

@@ -15,8 +15,11 @@ rename-requires g c =
     let asked = c.requires.found in
     let found = c.args.found.now in
     let held : Holding = holding_over c.args.self.now.became asked.0 in
-    let both = move-directories held asked.1 asked.5.sound asked.5.stands.means asked.2 asked.3 found asked.6 in
-    let inside = directories_inside c.self.inside.overlay c.args.self.now asked.0 found both.0 both.1 c.self.invariant c.self.view_is both.2 in
+    let both =
+    move-directories held asked.1 asked.5.sound asked.5.stands.means asked.2 asked.3 found asked.6 in
+    let inside =
+    directories_inside c.self.inside.overlay c.args.self.now asked.0 found both.0 both.1 c.self.invariant
+    c.self.view_is both.2 in
     (asked.0, both.0, both.1, asked.4, inside)
 
 pub rename_onto-requires : goal.rename_onto-requires
@@ -24,9 +27,14 @@ rename_onto-requires g c =
     let asked = c.requires.found in
     let found = c.args.found.now in
     let held : Holding = holding_over c.args.self.now.became asked.0 in
-    let both = move-directories held asked.1 asked.5.sound asked.5.stands.means asked.2 asked.3 found asked.6 in
-    let inside = directories_inside c.self.inside.overlay c.args.self.now asked.0 found both.0 both.1 c.self.invariant c.self.view_is both.2 in
-    let some = some_names held asked.1 c.args.self.now.names asked.5.stands asked.2 found.directory found.name.now found.link asked.6.place both.0 both.2.0 in
+    let both =
+    move-directories held asked.1 asked.5.sound asked.5.stands.means asked.2 asked.3 found asked.6 in
+    let inside =
+    directories_inside c.self.inside.overlay c.args.self.now asked.0 found both.0 both.1 c.self.invariant
+    c.self.view_is both.2 in
+    let some =
+    some_names held asked.1 c.args.self.now.names asked.5.stands asked.2 found.directory found.name.now
+    found.link asked.6.place both.0 both.2.0 in
     record {
       directories = (asked.0, both.0, both.1, asked.4, inside);
       counted = subst (λ (now : Current). 1 ≤ now.names) (sym c.self.view_is) some;
@@ -37,9 +45,11 @@ returns-in-None-clause-moved g c = λ b all others holds are.
     let asked = c.requires.found in
     let found = c.args.found.now in
     let held : Holding = holding_over c.args.self.now.became asked.0 in
-    let numbers = move-numbers held asked.1 asked.5.sound asked.5.stands.means asked.2 asked.3 found asked.6 in
+    let numbers =
+    move-numbers held asked.1 asked.5.sound asked.5.stands.means asked.2 asked.3 found asked.6 in
     let o = c.self.inside.overlay in
-    let inside = directories_inside o c.args.self.now b found all others c.self.invariant c.self.view_is are in
+    let inside =
+    directories_inside o c.args.self.now b found all others c.self.invariant c.self.view_is are in
     let orderly = c.rename.ensures.orderly c.self.invariant
     numbers.0 numbers.1 in
     rw c.in-None.is (as_lists o c.rename.new.self c.args.self.now b
@@ -51,11 +61,15 @@ returns-in-Some-clause-moved g c = λ b all others holds are.
     let asked = c.requires.found in
     let found = c.args.found.now in
     let held : Holding = holding_over c.args.self.now.became asked.0 in
-    let target = link-ordinary held asked.1 asked.5.sound asked.5.stands.means asked.3 found.target.directory found.target.name.now
+    let target =
+    link-ordinary held asked.1 asked.5.sound asked.5.stands.means asked.3 found.target.directory
+    found.target.name.now
     (c.in-Some.replaced, c.in-Some.field-0-1) (rw c.in-Some.is at asked.6.target_place) in
-    let numbers = move-numbers held asked.1 asked.5.sound asked.5.stands.means asked.2 asked.3 found asked.6 in
+    let numbers =
+    move-numbers held asked.1 asked.5.sound asked.5.stands.means asked.2 asked.3 found asked.6 in
     let o = c.self.inside.overlay in
-    let inside = directories_inside o c.args.self.now b found all others c.self.invariant c.self.view_is are in
+    let inside =
+    directories_inside o c.args.self.now b found all others c.self.invariant c.self.view_is are in
     let orderly = c.rename_onto.ensures.orderly c.self.invariant
     numbers.0 numbers.1
     (subst IsInodeNumber (sym c.get.ensures) target.number) in
@@ -71,7 +85,8 @@ returns-in-None-clause-done g c = λ b tree from to holds over move.
     let both = move-directories held tree over.sound over.stands.means from to found move in
     let numbers = move-numbers held tree over.sound over.stands.means from to found move in
     let o = c.self.inside.overlay in
-    let inside = directories_inside o c.args.self.now b found both.0 both.1 c.self.invariant c.self.view_is both.2 in
+    let inside =
+    directories_inside o c.args.self.now b found both.0 both.1 c.self.invariant c.self.view_is both.2 in
     let orderly = c.rename.ensures.orderly c.self.invariant
     numbers.0 numbers.1 in
     let counts = on_ok_weaker c.rename.result (counts_outside c.rename.new.self b orderly)
@@ -82,9 +97,12 @@ returns-in-None-clause-done g c = λ b tree from to holds over move.
     (with_moved found both.0 both.1) c.rename.result c.self.invariant orderly c.self.view_is
     (c.rename.ensures.moved b both.0 both.1 holds inside))
     counts counts c.rename.ensures.refused
-    (λ moved counts _. move-leads c.args.self.now (current_of c.rename.new.self) b tree over from to found.directory found.name.now found.link
+    (λ moved counts _.
+    move-leads c.args.self.now
+    (current_of c.rename.new.self) b tree over from to found.directory found.name.now found.link
     found.target.directory found.target.name.now c.requires.name both.0 both.1 both.2.0 both.2.1 counts
-    (rw c.in-None.is at move) moved (c.rename.ensures.rest.names ∙ ap (λ (now : Current). now.names) c.self.view_is))
+    (rw c.in-None.is at move) moved
+    (c.rename.ensures.rest.names ∙ ap (λ (now : Current). now.names) c.self.view_is))
 
 pub returns-in-Some-clause-done : goal.returns-in-Some-clause-done
 returns-in-Some-clause-done g c = λ b tree from to holds over move.
@@ -93,11 +111,13 @@ returns-in-Some-clause-done g c = λ b tree from to holds over move.
     let both = move-directories held tree over.sound over.stands.means from to found move in
     let numbers = move-numbers held tree over.sound over.stands.means from to found move in
     let onto = rw c.in-Some.is at move in
-    let target = link-ordinary held tree over.sound over.stands.means to found.target.directory found.target.name.now
+    let target =
+    link-ordinary held tree over.sound over.stands.means to found.target.directory found.target.name.now
     (c.in-Some.replaced, c.in-Some.field-0-1) onto.target_place in
     let number = ordinary-number held found.target.directory c.in-Some.replaced target in
     let o = c.self.inside.overlay in
-    let inside = directories_inside o c.args.self.now b found both.0 both.1 c.self.invariant c.self.view_is both.2 in
+    let inside =
+    directories_inside o c.args.self.now b found both.0 both.1 c.self.invariant c.self.view_is both.2 in
     let orderly = c.rename_onto.ensures.orderly c.self.invariant
     numbers.0 numbers.1
     (subst IsInodeNumber (sym c.get.ensures) target.number) in
@@ -108,9 +128,12 @@ returns-in-Some-clause-done g c = λ b tree from to holds over move.
     (on_ok_weaker c.rename_onto.result (counts_outside c.rename_onto.new.self b orderly)
     ((rw c.get.ensures at (c.rename_onto.ensures.counts b both.0 both.1 holds inside
     (counts_inside o c.args.self.now b c.self.invariant c.self.view_is over.counts))) number.0 number.1))
-    (subst (λ (now : Current). OnOk c.rename_onto.result (c.rename_onto.new.self.names + 1 ≡ now.names)) c.self.view_is c.rename_onto.ensures.names)
+    (subst (λ (now : Current). OnOk c.rename_onto.result (c.rename_onto.new.self.names + 1 ≡ now.names))
+    c.self.view_is c.rename_onto.ensures.names)
     c.rename_onto.ensures.refused
-    (λ moved counts names. move_onto-leads c.args.self.now (current_of c.rename_onto.new.self) b tree over from to found.directory found.name.now found.link
+    (λ moved counts names.
+    move_onto-leads c.args.self.now
+    (current_of c.rename_onto.new.self) b tree over from to found.directory found.name.now found.link
     found.target.directory found.target.name.now c.requires.name both.0 both.1 both.2.0 both.2.1 counts
     (c.in-Some.replaced, c.in-Some.field-0-1) onto moved names)
 
@@ -119,7 +142,8 @@ invariant_of-self g c =
     let asked = c.requires.found in
     let found = c.args.found.now in
     let held : Holding = holding_over c.args.self.now.became asked.0 in
-    let numbers = move-numbers held asked.1 asked.5.sound asked.5.stands.means asked.2 asked.3 found asked.6 in
+    let numbers =
+    move-numbers held asked.1 asked.5.sound asked.5.stands.means asked.2 asked.3 found asked.6 in
     c.rename.ensures.orderly c.self.invariant
     numbers.0 numbers.1
 
@@ -128,9 +152,12 @@ invariant_of-self-in-Some g c =
     let asked = c.requires.found in
     let found = c.args.found.now in
     let held : Holding = holding_over c.args.self.now.became asked.0 in
-    let target = link-ordinary held asked.1 asked.5.sound asked.5.stands.means asked.3 found.target.directory found.target.name.now
+    let target =
+    link-ordinary held asked.1 asked.5.sound asked.5.stands.means asked.3 found.target.directory
+    found.target.name.now
     (c.in-Some.replaced, c.in-Some.field-0-1) (rw c.in-Some.is at asked.6.target_place) in
-    let numbers = move-numbers held asked.1 asked.5.sound asked.5.stands.means asked.2 asked.3 found asked.6 in
+    let numbers =
+    move-numbers held asked.1 asked.5.sound asked.5.stands.means asked.2 asked.3 found asked.6 in
     c.rename_onto.ensures.orderly c.self.invariant
     numbers.0 numbers.1
     (subst IsInodeNumber (sym c.get.ensures) target.number)

@@ -17,15 +17,23 @@ returns-in_err-names-clause-done g c = λ b tree holds over.
 pub move_to_place-requires-clause-name : goal.move_to_place-requires-clause-name
 move_to_place-requires-clause-name g c =
     let asked = c.requires in
-    let move = rw c.in-Ok-Some.field-0-is at (c.in-Ok-Some.ensures (holding_over c.args.self.now.became asked.0) (c.view.ensures asked.0 asked.2 asked.3.sound)) in
-    path_of-last c.args.to.now (parts_of c.in_ok-names.target_names.now) move.target_place.dir c.in-Ok-Some.found.target.name.now
+    let move =
+    rw c.in-Ok-Some.field-0-is at
+    (c.in-Ok-Some.ensures (holding_over c.args.self.now.became asked.0)
+    (c.view.ensures asked.0 asked.2 asked.3.sound)) in
+    path_of-last c.args.to.now
+    (parts_of c.in_ok-names.target_names.now) move.target_place.dir c.in-Ok-Some.found.target.name.now
     c.in_ok-names.ensures.1 move.target_place.is_path
 
 pub returns-in-Ok-None-clause-changes : goal.returns-in-Ok-None-clause-changes
 returns-in-Ok-None-clause-changes g c = λ b tree holds over.
-    let nothing = rw c.in-Ok-None.field-0-is at (c.in-Ok-None.ensures (holding_over c.args.self.now.became b) (c.view.ensures b holds over.sound)) in
+    let nothing =
+    rw c.in-Ok-None.field-0-is at
+    (c.in-Ok-None.ensures (holding_over c.args.self.now.became b)
+    (c.view.ensures b holds over.sound)) in
     inl (
-      path_of-injective c.args.from.now c.args.to.now (parts_of c.in_ok-names.names.now) (parts_of c.in_ok-names.target_names.now)
+      path_of-injective c.args.from.now c.args.to.now (parts_of c.in_ok-names.names.now)
+          (parts_of c.in_ok-names.target_names.now)
           c.in_ok-names.ensures.0 c.in_ok-names.ensures.1 nothing.same,
       λ i. refl,
     )
@@ -38,15 +46,22 @@ returns-in-Ok-Some-clause-changes g c = λ b tree holds over.
     let names = parts_of c.in_ok-names.names.now in
     let target_names = parts_of c.in_ok-names.target_names.now in
     let move = rw c.in-Ok-Some.field-0-is at (c.in-Ok-Some.ensures old (c.view.ensures b holds over.sound)) in
-    let here = place-listed old tree over.sound over.stands.means names found.directory found.name.now _ move.place in
-    let there = place-listed old tree over.sound over.stands.means target_names found.target.directory found.target.name.now _ move.target_place in
+    let here =
+    place-listed old tree over.sound over.stands.means names found.directory found.name.now _
+    move.place in
+    let there =
+    place-listed old tree over.sound over.stands.means target_names found.target.directory
+    found.target.name.now _ move.target_place in
     on_ok_weaker c.move_to_place.result
-    (has-renamed c.args.from.now c.args.to.now names target_names old new found.directory found.name.now found.link
-    found.target.directory found.target.name.now found.target.link here.0 there.0 c.in_ok-names.ensures.0 c.in_ok-names.ensures.1 move here.1 there.1)
+    (has-renamed c.args.from.now c.args.to.now names target_names old new found.directory found.name.now
+    found.link
+    found.target.directory found.target.name.now found.target.link here.0 there.0 c.in_ok-names.ensures.0
+    c.in_ok-names.ensures.1 move here.1 there.1)
     (c.move_to_place.ensures.moved b here.0 there.0 holds (here.1, there.1))
 
 pub returns-in_err-names-clause-changes : goal.returns-in_err-names-clause-changes
-returns-in_err-names-clause-changes g c = λ _ _ _ _. IfOk-from_err c.from_residual.result _ c.from_residual.ensures.0
+returns-in_err-names-clause-changes g c = λ _ _ _ _.
+    IfOk-from_err c.from_residual.result _ c.from_residual.ensures.0
 
 pub returns-in_err-names-clause-same : goal.returns-in_err-names-clause-same
 returns-in_err-names-clause-same g c = holds_on_err c.from_residual.result _ refl

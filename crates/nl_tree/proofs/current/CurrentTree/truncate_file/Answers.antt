@@ -16,7 +16,8 @@ truncate_blocks-requires-clause-file g c =
       asked.1,
       asked.2,
       asked.3,
-      file_inside c.self.inside.overlay c.args.self.now asked.0 c.args.file asked.1 asked.2 c.self.invariant c.self.view_is
+      file_inside c.self.inside.overlay c.args.self.now asked.0 c.args.file asked.1 asked.2 c.self.invariant
+          c.self.view_is
           (file_of (holding_over c.args.self.now.became asked.0) c.args.file asked.1 asked.2 asked.4),
     )
 
@@ -24,22 +25,36 @@ pub returns-clause-resized : goal.returns-clause-resized
 returns-clause-resized g c = λ b was blocks holds is.
     let old : Holding = holding_over c.args.self.now.became b in
     let o = c.self.inside.overlay in
-    let here = file_inside o c.args.self.now b c.args.file was blocks c.self.invariant c.self.view_is (file_of old c.args.file was blocks is) in
-    let orderly = c.truncate_blocks.ensures.orderly c.self.invariant (file_number old c.args.file was blocks is) in
+    let here =
+    file_inside o c.args.self.now b c.args.file was blocks c.self.invariant c.self.view_is
+    (file_of old c.args.file was blocks is) in
+    let orderly =
+    c.truncate_blocks.ensures.orderly c.self.invariant (file_number old c.args.file was blocks is) in
     on_ok_weaker c.truncate_blocks.result
-    (is_resized old (holding_over (became_in c.truncate_blocks.new.self) b) c.args.file was blocks is c.args.size c.in_ok-pages.pages.items c.requires.fits
+    (is_resized old
+    (holding_over (became_in c.truncate_blocks.new.self) b) c.args.file was blocks is c.args.size
+    c.in_ok-pages.pages.items c.requires.fits
     (c.in_ok-pages.ensures old (c.view.ensures b holds is.sound)))
-    (as_lists o c.truncate_blocks.new.self c.args.self.now b (with_held c.args.file (Some (Stored c.args.size (blocks_below (blocks_for c.args.size) (put_from (c.args.size / 1024) c.in_ok-pages.pages.items blocks)))))
-    c.truncate_blocks.result c.self.invariant orderly c.self.view_is (c.truncate_blocks.ensures.truncated b was blocks holds here))
+    (as_lists o c.truncate_blocks.new.self c.args.self.now b
+    (with_held c.args.file
+    (Some (Stored c.args.size
+    (blocks_below (blocks_for c.args.size)
+    (put_from (c.args.size / 1024) c.in_ok-pages.pages.items blocks)))))
+    c.truncate_blocks.result c.self.invariant orderly c.self.view_is
+    (c.truncate_blocks.ensures.truncated b was blocks holds here))
 
 pub returns-clause-counts : goal.returns-clause-counts
 returns-clause-counts g c = λ b was blocks holds is counts.
     let old : Holding = holding_over c.args.self.now.became b in
     let o = c.self.inside.overlay in
-    let here = file_inside o c.args.self.now b c.args.file was blocks c.self.invariant c.self.view_is (file_of old c.args.file was blocks is) in
-    let orderly = c.truncate_blocks.ensures.orderly c.self.invariant (file_number old c.args.file was blocks is) in
+    let here =
+    file_inside o c.args.self.now b c.args.file was blocks c.self.invariant c.self.view_is
+    (file_of old c.args.file was blocks is) in
+    let orderly =
+    c.truncate_blocks.ensures.orderly c.self.invariant (file_number old c.args.file was blocks is) in
     on_ok_weaker c.truncate_blocks.result (counts_outside c.truncate_blocks.new.self b orderly)
-    (c.truncate_blocks.ensures.counts b was blocks holds here (counts_inside o c.args.self.now b c.self.invariant c.self.view_is counts))
+    (c.truncate_blocks.ensures.counts b was blocks holds here
+    (counts_inside o c.args.self.now b c.self.invariant c.self.view_is counts))
 
 pub invariant_of-self : goal.invariant_of-self
 invariant_of-self g c =

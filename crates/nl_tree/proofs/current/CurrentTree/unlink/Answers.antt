@@ -35,11 +35,15 @@ returns-in-Some-default-Directory-clause-done g c = λ b tree holds is _.
     let held = holding_over c.args.self.now.became b in
     let place = c.in-Ok.place in
     let found = c.in-Some-default-Directory in
-    let there = taken-from held tree c.args.self.now.names is.sound is.stands (parts_of names) place.directory place.name.now
-    place.link found.field-0-0 found.field-0-0 found.field-0-1 kind.Directory (c.in-Ok.ensures held (c.view.ensures b holds is.sound)) found.is refl
+    let there =
+    taken-from held tree c.args.self.now.names is.sound is.stands
+    (parts_of names) place.directory place.name.now
+    place.link found.field-0-0 found.field-0-0 found.field-0-1 kind.Directory
+    (c.in-Ok.ensures held (c.view.ensures b holds is.sound)) found.is refl
     (rw found.is at found.field-0-1-is) in
     at-parts (unlink tree) c.args.path.now names c.in_ok-names.ensures c.if-is_empty.ensures
-    ∙ unlink-directory held tree is.stands.means (parts_of names) place.directory place.name.now found.field-0-0 there.place
+    ∙ unlink-directory held tree is.stands.means
+    (parts_of names) place.directory place.name.now found.field-0-0 there.place
 
 pub remove-requires : goal.remove-requires
 remove-requires g c =
@@ -50,8 +54,11 @@ remove-requires g c =
     let held = holding_over c.args.self.now.became b in
     let place = c.in-Ok.place in
     let found = c.in-Some-default-File in
-    let there = taken-from held asked.1 c.args.self.now.names is.sound is.stands (parts_of names) place.directory place.name.now
-    place.link found.inode c.get.result found.field-0-1 kind.File (c.in-Ok.ensures held (c.view.ensures b asked.2 is.sound)) found.is c.get.ensures
+    let there =
+    taken-from held asked.1 c.args.self.now.names is.sound is.stands
+    (parts_of names) place.directory place.name.now
+    place.link found.inode c.get.result found.field-0-1 kind.File
+    (c.in-Ok.ensures held (c.view.ensures b asked.2 is.sound)) found.is c.get.ensures
     (rw found.is at found.field-0-1-is) in
     record {
       directory = (
@@ -70,21 +77,31 @@ returns-in-Some-default-File-clause-done g c = λ b tree holds is.
     let held = holding_over c.args.self.now.became b in
     let place = c.in-Ok.place in
     let found = c.in-Some-default-File in
-    let there = taken-from held tree c.args.self.now.names is.sound is.stands (parts_of names) place.directory place.name.now
-    place.link found.inode c.get.result found.field-0-1 kind.File (c.in-Ok.ensures held (c.view.ensures b holds is.sound)) found.is c.get.ensures
+    let there =
+    taken-from held tree c.args.self.now.names is.sound is.stands
+    (parts_of names) place.directory place.name.now
+    place.link found.inode c.get.result found.field-0-1 kind.File
+    (c.in-Ok.ensures held (c.view.ensures b holds is.sound)) found.is c.get.ensures
     (rw found.is at found.field-0-1-is) in
     let o = c.self.inside.overlay in
-    let here = directory_inside o c.args.self.now b place.directory there.records c.self.invariant c.self.view_is there.is in
+    let here =
+    directory_inside o c.args.self.now b place.directory there.records c.self.invariant c.self.view_is
+    there.is in
     let orderly = c.remove.ensures.orderly c.self.invariant there.numbers.0 there.numbers.1 in
-    let removed = as_lists o c.remove.new.self c.args.self.now b (without_inode place.directory there.records place.name.now c.get.result)
-    c.remove.result c.self.invariant orderly c.self.view_is (c.remove.ensures.removed b there.records holds here) in
+    let removed =
+    as_lists o c.remove.new.self c.args.self.now b
+    (without_inode place.directory there.records place.name.now c.get.result)
+    c.remove.result c.self.invariant orderly c.self.view_is
+    (c.remove.ensures.removed b there.records holds here) in
     unlinked-calls c.args.self.now b tree is c.args.path.now names c.in_ok-names.ensures c.if-is_empty.ensures
     place.directory place.name.now c.get.result there.records c.remove.result (current_of c.remove.new.self)
     there.place there.is.0 removed
     (on_ok_weaker c.remove.result (counts_outside c.remove.new.self b orderly)
-    (c.remove.ensures.counts b there.records holds here (counts_inside o c.args.self.now b c.self.invariant c.self.view_is is.counts)
+    (c.remove.ensures.counts b there.records holds here
+    (counts_inside o c.args.self.now b c.self.invariant c.self.view_is is.counts)
     there.ordinary.0 there.ordinary.1))
-    (subst (λ (now : Current). OnOk c.remove.result (c.remove.new.self.names + 1 ≡ now.names)) c.self.view_is c.remove.ensures.names)
+    (subst (λ (now : Current). OnOk c.remove.result (c.remove.new.self.names + 1 ≡ now.names)) c.self.view_is
+    c.remove.ensures.names)
     c.remove.ensures.refused
 
 pub returns-in-Some-default-File-clause-changes : goal.returns-in-Some-default-File-clause-changes
@@ -93,16 +110,26 @@ returns-in-Some-default-File-clause-changes g c = λ b tree holds is.
     let held = holding_over c.args.self.now.became b in
     let place = c.in-Ok.place in
     let found = c.in-Some-default-File in
-    let there = taken-from held tree c.args.self.now.names is.sound is.stands (parts_of names) place.directory place.name.now
-    place.link found.inode c.get.result found.field-0-1 kind.File (c.in-Ok.ensures held (c.view.ensures b holds is.sound)) found.is c.get.ensures
+    let there =
+    taken-from held tree c.args.self.now.names is.sound is.stands
+    (parts_of names) place.directory place.name.now
+    place.link found.inode c.get.result found.field-0-1 kind.File
+    (c.in-Ok.ensures held (c.view.ensures b holds is.sound)) found.is c.get.ensures
     (rw found.is at found.field-0-1-is) in
     let o = c.self.inside.overlay in
-    let here = directory_inside o c.args.self.now b place.directory there.records c.self.invariant c.self.view_is there.is in
+    let here =
+    directory_inside o c.args.self.now b place.directory there.records c.self.invariant c.self.view_is
+    there.is in
     let orderly = c.remove.ensures.orderly c.self.invariant there.numbers.0 there.numbers.1 in
-    let removed = as_lists o c.remove.new.self c.args.self.now b (without_inode place.directory there.records place.name.now c.get.result)
-    c.remove.result c.self.invariant orderly c.self.view_is (c.remove.ensures.removed b there.records holds here) in
-    removed-changes c.args.self.now b tree is c.args.path.now names c.in_ok-names.ensures c.if-is_empty.ensures
-    kind.File place.directory place.name.now c.get.result there.records c.remove.result (current_of c.remove.new.self)
+    let removed =
+    as_lists o c.remove.new.self c.args.self.now b
+    (without_inode place.directory there.records place.name.now c.get.result)
+    c.remove.result c.self.invariant orderly c.self.view_is
+    (c.remove.ensures.removed b there.records holds here) in
+    removed-changes c.args.self.now b tree is c.args.path.now names c.in_ok-names.ensures
+    c.if-is_empty.ensures
+    kind.File place.directory place.name.now c.get.result there.records c.remove.result
+    (current_of c.remove.new.self)
     there.place there.is.0 removed
 
 pub invariant_of-self : goal.invariant_of-self
@@ -114,7 +141,10 @@ invariant_of-self g c =
     let held = holding_over c.args.self.now.became b in
     let place = c.in-Ok.place in
     let found = c.in-Some-default-File in
-    let there = taken-from held asked.1 c.args.self.now.names is.sound is.stands (parts_of names) place.directory place.name.now
-    place.link found.inode c.get.result found.field-0-1 kind.File (c.in-Ok.ensures held (c.view.ensures b asked.2 is.sound)) found.is c.get.ensures
+    let there =
+    taken-from held asked.1 c.args.self.now.names is.sound is.stands
+    (parts_of names) place.directory place.name.now
+    place.link found.inode c.get.result found.field-0-1 kind.File
+    (c.in-Ok.ensures held (c.view.ensures b asked.2 is.sound)) found.is c.get.ensures
     (rw found.is at found.field-0-1-is) in
     c.remove.ensures.orderly c.self.invariant there.numbers.0 there.numbers.1

@@ -9,9 +9,12 @@ pub loop-next-preserved : goal.loop-next-preserved
 loop-next-preserved c =
     let within : c.loop-next.next-index < length c.args.records.now = omega arith in
     let step : suc c.loop-next.next-index ≡ c.loop-next.next-index + 1 = omega arith in
-    let more : drop c.loop-next.next-index c.args.records.now ≡ c.next-item.result ∷ drop (c.loop-next.next-index + 1) c.args.records.now =
+    let more : drop c.loop-next.next-index c.args.records.now
+    ≡ c.next-item.result ∷ drop (c.loop-next.next-index + 1) c.args.records.now =
     drop-cons c.args.records.now c.loop-next.next-index c.next-item.result within
     ∙ ap (λ (r : Record). r ∷ drop (suc c.loop-next.next-index) c.args.records.now) (sym c.next-item.is)
     ∙ ap (λ (n : ℕ). c.next-item.result ∷ drop n c.args.records.now) step in
-    put_next c.args.records.now (records_of c.loop-next.listing) (records_of c.add.new.self) (drop (c.loop-next.next-index + 1) c.args.records.now) c.next-item.result c.requires
-    (ap (λ (xs : List Record). records_of c.loop-next.listing ++ xs) (sym more) ∙ c.loop-next.invariant) c.in_ok-add.ensures.ok
+    put_next c.args.records.now (records_of c.loop-next.listing) (records_of c.add.new.self)
+    (drop (c.loop-next.next-index + 1) c.args.records.now) c.next-item.result c.requires
+    (ap (λ (xs : List Record). records_of c.loop-next.listing ++ xs) (sym more) ∙ c.loop-next.invariant)
+    c.in_ok-add.ensures.ok

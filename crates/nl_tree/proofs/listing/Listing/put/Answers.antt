@@ -6,5 +6,7 @@ use Rattle.nl_tree.proofs.listing.Listing.put.Goals as goal
 
 pub returns-in-Some : goal.returns-in-Some
 returns-in-Some c =
-    ap (λ es. shown_entries (record_named (λ k. k.items)) itself es) (c.get_mut.follows.holds (Some c.args.link)).0
-    ∙ put_shown (λ k. k.items) c.args.name.now c.args.link c.args.self.now.map.entries c.get_mut.ensures.ordered c.requires
+    ap (λ es. shown_entries (record_named (λ k. k.items)) itself es)
+    (c.get_mut.follows.holds (Some c.args.link)).0
+    ∙ put_shown (λ k. k.items) c.args.name.now c.args.link c.args.self.now.map.entries
+    c.get_mut.ensures.ordered c.requires

@@ -16,5 +16,9 @@ returns-in-Some-clause-taken c =
 
 pub returns-in-Some-clause-places : goal.returns-in-Some-clause-places
 returns-in-Some-clause-places c = λ other some.
-    let kept = place_written (λ k. is_at (λ k. slice_cmp nat_cmp other k.items) k) (λ k. is_at (λ k. slice_cmp nat_cmp c.args.name.now k.items) k) None c.args.self.now.map.entries some in
-    subst (λ es. IsSome (lookup (is_at (λ k. slice_cmp nat_cmp other k.items)) es)) (sym (c.get_mut.follows.holds None).0) kept
+    let kept =
+    place_written (λ k. is_at (λ k. slice_cmp nat_cmp other k.items) k)
+    (λ k. is_at (λ k. slice_cmp nat_cmp c.args.name.now k.items) k) None c.args.self.now.map.entries
+    some in
+    subst (λ es. IsSome (lookup (is_at (λ k. slice_cmp nat_cmp other k.items)) es))
+    (sym (c.get_mut.follows.holds None).0) kept

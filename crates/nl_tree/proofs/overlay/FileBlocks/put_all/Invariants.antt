@@ -8,7 +8,9 @@ use Rattle.nl_tree.proofs.overlay.FileBlocks.put_all.Given as goal
 
 abbrev pub invariant-loop-page : goal.invariant-loop-page
 invariant-loop-page l =
-    ((b : ℕ) → put_from l.index (into_iter_items l.page-iterator) (new_page_at l.self) b ≡ put_from l.fn.first l.fn.pages.items (new_page_at l.initial.self) b)
+    ((b : ℕ)
+    → put_from l.index (into_iter_items l.page-iterator) (new_page_at l.self) b
+    ≡ put_from l.fn.first l.fn.pages.items (new_page_at l.initial.self) b)
     × ((i : ℕ) → l.index ≤ i → i < l.index + length (into_iter_items l.page-iterator) → HasPage l.self i)
     × (l.index + length (into_iter_items l.page-iterator) ≡ l.fn.first + length l.fn.pages.items)
     × (l.self.size ≡ l.initial.self.size) × (l.self.cut ≡ l.initial.self.cut)

@@ -23,8 +23,10 @@ returns-clause-added g c = λ b all holds there.
     (c.in_ok-reserve.ensures.still b c.args.dir ∙ there.0, there.1) in
     let has : HasName c.reserve_name.new.self c.args.dir all c.args.name.now =
     c.in_ok-reserve_name.ensures.place all (c.in_ok-open_directory.ensures.open b all holds is) in
-    added old (holding_now c.reserve_name.new.self b) (holding_now c.link.new.self b) (holding_now c.show.new.self b)
-    (λ i. over_changed c.empty.result (b i)) c.args.dir c.args.inode c.new.result c.args.name.now c.args.kind all
+    added old (holding_now c.reserve_name.new.self b) (holding_now c.link.new.self b)
+    (holding_now c.show.new.self b)
+    (λ i. over_changed c.empty.result (b i)) c.args.dir c.args.inode c.new.result c.args.name.now c.args.kind
+    all
     (λ i. c.in_ok-reserve_name.ensures.still b i ∙ c.in_ok-open_directory.ensures.still b i
     ∙ c.in_ok-reserve.ensures.still b i)
     (c.link.ensures.shown all has b) c.new.ensures (c.show.ensures.shown b) (λ i. c.empty.ensures (b i))
@@ -57,7 +59,8 @@ returns-in_err-reserve-clause-same g c =
 
 pub returns-in_err-reserve-clause-refused : goal.returns-in_err-reserve-clause-refused
 returns-in_err-reserve-clause-refused g c =
-    passed_on c.from_residual.result c.in_err-reserve.field-0.0 Memory c.from_residual.ensures.1 c.in_err-reserve.ensures.refused
+    passed_on c.from_residual.result c.in_err-reserve.field-0.0 Memory c.from_residual.ensures.1
+    c.in_err-reserve.ensures.refused
 
 pub returns-in_err-open_directory-clause-orderly : goal.returns-in_err-open_directory-clause-orderly
 returns-in_err-open_directory-clause-orderly g c = λ is dir inode.
@@ -65,7 +68,8 @@ returns-in_err-open_directory-clause-orderly g c = λ is dir inode.
 
 pub returns-in_err-open_directory-clause-added : goal.returns-in_err-open_directory-clause-added
 returns-in_err-open_directory-clause-added g c = λ _ _ _ _.
-    IfOk-from_err c.from_residual-in_err-open_directory.result _ c.from_residual-in_err-open_directory.ensures.0
+    IfOk-from_err c.from_residual-in_err-open_directory.result _
+    c.from_residual-in_err-open_directory.ensures.0
 
 pub returns-in_err-open_directory-clause-rest : goal.returns-in_err-open_directory-clause-rest
 returns-in_err-open_directory-clause-rest g c = record {
@@ -76,15 +80,18 @@ returns-in_err-open_directory-clause-rest g c = record {
 
 pub returns-in_err-open_directory-clause-same : goal.returns-in_err-open_directory-clause-same
 returns-in_err-open_directory-clause-same g c =
-    holds_on_err c.from_residual-in_err-open_directory.result _ (c.in_err-open_directory.ensures.same ∙ c.in_ok-reserve.ensures.same)
+    holds_on_err c.from_residual-in_err-open_directory.result _
+    (c.in_err-open_directory.ensures.same ∙ c.in_ok-reserve.ensures.same)
 
 pub returns-in_err-open_directory-clause-refused : goal.returns-in_err-open_directory-clause-refused
 returns-in_err-open_directory-clause-refused g c =
-    passed_on c.from_residual-in_err-open_directory.result c.in_err-open_directory.field-0.0 Memory c.from_residual-in_err-open_directory.ensures.1 c.in_err-open_directory.ensures.refused
+    passed_on c.from_residual-in_err-open_directory.result c.in_err-open_directory.field-0.0 Memory
+    c.from_residual-in_err-open_directory.ensures.1 c.in_err-open_directory.ensures.refused
 
 pub returns-in_err-reserve_name-clause-orderly : goal.returns-in_err-reserve_name-clause-orderly
 returns-in_err-reserve_name-clause-orderly g c = λ is dir inode.
-    c.in_err-reserve_name.ensures.orderly (c.in_ok-open_directory.ensures.orderly (c.in_ok-reserve.ensures.orderly is inode) dir)
+    c.in_err-reserve_name.ensures.orderly
+    (c.in_ok-open_directory.ensures.orderly (c.in_ok-reserve.ensures.orderly is inode) dir)
 
 pub returns-in_err-reserve_name-clause-added : goal.returns-in_err-reserve_name-clause-added
 returns-in_err-reserve_name-clause-added g c = λ _ _ _ _.
@@ -92,18 +99,27 @@ returns-in_err-reserve_name-clause-added g c = λ _ _ _ _.
 
 pub returns-in_err-reserve_name-clause-rest : goal.returns-in_err-reserve_name-clause-rest
 returns-in_err-reserve_name-clause-rest g c = record {
-  freed = c.in_err-reserve_name.ensures.rest.freed ∙ c.in_ok-open_directory.ensures.rest.freed ∙ c.in_ok-reserve.ensures.rest.freed;
-  mark = c.in_err-reserve_name.ensures.rest.mark ∙ c.in_ok-open_directory.ensures.rest.mark ∙ c.in_ok-reserve.ensures.rest.mark;
-  names = c.in_err-reserve_name.ensures.rest.names ∙ c.in_ok-open_directory.ensures.rest.names ∙ c.in_ok-reserve.ensures.rest.names;
+  freed =
+      c.in_err-reserve_name.ensures.rest.freed ∙ c.in_ok-open_directory.ensures.rest.freed
+      ∙ c.in_ok-reserve.ensures.rest.freed;
+  mark =
+      c.in_err-reserve_name.ensures.rest.mark ∙ c.in_ok-open_directory.ensures.rest.mark
+      ∙ c.in_ok-reserve.ensures.rest.mark;
+  names =
+      c.in_err-reserve_name.ensures.rest.names ∙ c.in_ok-open_directory.ensures.rest.names
+      ∙ c.in_ok-reserve.ensures.rest.names;
 }
 
 pub returns-in_err-reserve_name-clause-same : goal.returns-in_err-reserve_name-clause-same
 returns-in_err-reserve_name-clause-same g c =
-    holds_on_err c.from_residual-in_err-reserve_name.result _ (c.in_err-reserve_name.ensures.same ∙ c.in_ok-open_directory.ensures.same ∙ c.in_ok-reserve.ensures.same)
+    holds_on_err c.from_residual-in_err-reserve_name.result _
+    (c.in_err-reserve_name.ensures.same ∙ c.in_ok-open_directory.ensures.same
+    ∙ c.in_ok-reserve.ensures.same)
 
 pub returns-in_err-reserve_name-clause-refused : goal.returns-in_err-reserve_name-clause-refused
 returns-in_err-reserve_name-clause-refused g c =
-    passed_on c.from_residual-in_err-reserve_name.result c.in_err-reserve_name.field-0.0 Memory c.from_residual-in_err-reserve_name.ensures.1 c.in_err-reserve_name.ensures.refused
+    passed_on c.from_residual-in_err-reserve_name.result c.in_err-reserve_name.field-0.0 Memory
+    c.from_residual-in_err-reserve_name.ensures.1 c.in_err-reserve_name.ensures.refused
 
 pub open_directory-requires : goal.open_directory-requires
 open_directory-requires g c =

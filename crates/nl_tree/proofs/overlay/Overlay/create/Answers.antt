@@ -29,14 +29,19 @@ returns-clause-counts g c = λ b all holds is counts.
     let get : ℕ → Option Bool = λ n. map.get nat_cmp old.freed n in
     let now : ℕ → Option Bool = λ n. map.get nat_cmp new.freed n in
     let taken : (n : ℕ) → now n ≡ cond (n == inode) None (get n) =
-    λ n. c.take_number.ensures.freed n ∙ ap (λ f. cond (n == inode) None (map.get nat_cmp f n)) c.add.ensures.rest.freed in
-    counts_taken (IsNumberFreed old) (IsNumberFreed new) old.mark new.mark (holding_now old b) (holding_now new b) b counts
-    inode c.args.dir (new_held c.args.kind) all (with_record r all) (c.in-Some.ensures.number b holds counts) is.0
+    λ n.
+    c.take_number.ensures.freed n
+    ∙ ap (λ f. cond (n == inode) None (map.get nat_cmp f n)) c.add.ensures.rest.freed in
+    counts_taken (IsNumberFreed old) (IsNumberFreed new) old.mark new.mark (holding_now old b)
+    (holding_now new b) b counts
+    inode c.args.dir (new_held c.args.kind) all (with_record r all)
+    (c.in-Some.ensures.number b holds counts) is.0
     (λ i. ◌∙◌ {c = with_new_inode c.args.dir all c.args.name.now c.args.kind inode (holding_now old b) i}
     (ap (λ m. over_if_slot (map.get nat_cmp m i) (b i)) c.take_number.ensures.changed)
     (c.in_ok-add.ensures.added b all holds is i))
     (taken_old get now inode taken) (taken_new get now inode taken)
-    (c.take_number.ensures.mark ∙ ap (λ (k : ℕ). if nat_le k inode then inode + 1 else k) c.add.ensures.rest.mark)
+    (c.take_number.ensures.mark
+    ∙ ap (λ (k : ℕ). if nat_le k inode then inode + 1 else k) c.add.ensures.rest.mark)
 
 pub returns-in_err-add-clause-created : goal.returns-in_err-add-clause-created
 returns-in_err-add-clause-created g c = λ _ _ _ _ _.
@@ -93,7 +98,9 @@ pub returns-clause-orderly : goal.returns-clause-orderly
 returns-clause-orderly g c = λ is dir.
     let asked = c.requires in
     let number = c.in-Some.ensures.number asked.0 asked.2 asked.4 in
-    let now = c.take_number.ensures.orderly (c.in_ok-add.ensures.orderly is dir (inr (number.first, number.last))) in
+    let now =
+    c.take_number.ensures.orderly
+    (c.in_ok-add.ensures.orderly is dir (inr (number.first, number.last))) in
     record { keys = now.keys; freed_numbers = now.freed_numbers; files = now.files; inodes = now.inodes }
 
 pub returns-clause-names : goal.returns-clause-names

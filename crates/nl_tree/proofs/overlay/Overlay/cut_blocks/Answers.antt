@@ -18,7 +18,8 @@ returns-in-Some-clause-shown c = λ b size blocks has i.
     (sym (one_slot _ slot has.0 c.in-Some.ensures.value has.1)) has.2 in
     written_at c.args.self.now.changed (c.get_mut.follows.lender written) c.args.inode written
     (Some (Stored size (blocks_below c.args.count blocks))) b
-    (c.get_mut.follows.holds written) (ap is_some has.1) (c.cut_at.ensures.cut (b c.args.inode) size blocks shows) i
+    (c.get_mut.follows.holds written) (ap is_some has.1)
+    (c.cut_at.ensures.cut (b c.args.inode) size blocks shows) i
 
 pub returns-in-Some-clause-orderly : goal.returns-in-Some-clause-orderly
 returns-in-Some-clause-orderly c =

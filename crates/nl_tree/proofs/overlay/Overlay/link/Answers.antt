@@ -13,11 +13,13 @@ pub returns-in-Some-clause-shown : goal.returns-in-Some-clause-shown
 returns-in-Some-clause-shown c = λ all has b i.
     let slot = c.in-Some.slot.now in
     let written : Slot = record { live = true; what = c.put.new.self } in
-    let records : List Record = with_record (record { name = c.args.name.now; inode = c.args.link.0; kind = c.args.link.1 }) all in
+    let records : List Record =
+    with_record (record { name = c.args.name.now; inode = c.args.link.0; kind = c.args.link.1 }) all in
     let named : IsListedWith slot.what all c.args.name.now =
     subst (λ (s : Slot). IsListedWith s.what all c.args.name.now)
     (sym (one_slot _ slot has.0 c.in-Some.ensures.value has.1)) has.2 in
-    written_over c.args.self.now.changed (c.get_mut.follows.lender written) c.args.dir written (Some (Listed records))
+    written_over c.args.self.now.changed (c.get_mut.follows.lender written) c.args.dir written
+    (Some (Listed records))
     (c.get_mut.follows.holds written) (ap is_some has.1)
     (λ base. listed_over c.put.new.self records base (c.put.ensures.listed all named)) b i
 

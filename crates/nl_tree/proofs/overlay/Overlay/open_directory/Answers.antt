@@ -62,7 +62,8 @@ pub returns-in_err-records-clause-others : goal.returns-in_err-records-clause-ot
 returns-in_err-records-clause-others g c = λ i all ne has. has
 
 pub returns-in_err-records-clause-open : goal.returns-in_err-records-clause-open
-returns-in_err-records-clause-open g c = λ _ _ _ _. IfOk-from_err c.from_residual.result _ c.from_residual.ensures.0
+returns-in_err-records-clause-open g c = λ _ _ _ _.
+    IfOk-from_err c.from_residual.result _ c.from_residual.ensures.0
 
 pub returns-in_err-listing-clause-orderly : goal.returns-in_err-listing-clause-orderly
 returns-in_err-listing-clause-orderly g c = λ is _. is
@@ -83,4 +84,5 @@ pub returns-in_err-listing-clause-others : goal.returns-in_err-listing-clause-ot
 returns-in_err-listing-clause-others g c = λ i all ne has. has
 
 pub returns-in_err-listing-clause-open : goal.returns-in_err-listing-clause-open
-returns-in_err-listing-clause-open g c = λ _ _ _ _. IfOk-from_err c.from_residual-in_err-listing.result _ c.from_residual-in_err-listing.ensures.0
+returns-in_err-listing-clause-open g c = λ _ _ _ _.
+    IfOk-from_err c.from_residual-in_err-listing.result _ c.from_residual-in_err-listing.ensures.0

@@ -17,7 +17,9 @@ put_pages-requires-clause-places c =
       b c.args.inode,
       there.1,
       there.2,
-      subst (λ (s : Slot). ShowsFileWith s.what (b c.args.inode) there.1 there.2 c.args.first (c.args.first + length c.args.pages.items))
+      subst (λ (s : Slot).
+          ShowsFileWith s.what (b c.args.inode) there.1 there.2 c.args.first
+          (c.args.first + length c.args.pages.items))
           (sym (one_slot _ slot there.3.0 c.in-Some.ensures.value there.3.1)) there.3.2,
     )
 
@@ -25,8 +27,11 @@ pub returns-in-Some-clause-shown : goal.returns-in-Some-clause-shown
 returns-in-Some-clause-shown c = λ b was blocks has i.
     let slot = c.in-Some.slot.now in
     let written : Slot = record { live = true; what = c.put_pages.new.self } in
-    let shows : ShowsFileWith slot.what (b c.args.inode) was blocks c.args.first (c.args.first + length c.args.pages.items) =
-    subst (λ (s : Slot). ShowsFileWith s.what (b c.args.inode) was blocks c.args.first (c.args.first + length c.args.pages.items))
+    let shows : ShowsFileWith slot.what (b c.args.inode) was blocks c.args.first
+    (c.args.first + length c.args.pages.items) =
+    subst (λ (s : Slot).
+    ShowsFileWith s.what (b c.args.inode) was blocks c.args.first
+    (c.args.first + length c.args.pages.items))
     (sym (one_slot _ slot has.0 c.in-Some.ensures.value has.1)) has.2 in
     written_at c.args.self.now.changed (c.get_mut.follows.lender written) c.args.inode written
     (Some (Stored c.args.size (put_from c.args.first c.args.pages.items blocks))) b
@@ -37,8 +42,11 @@ pub returns-in-Some-clause-file : goal.returns-in-Some-clause-file
 returns-in-Some-clause-file c = λ b was blocks has.
     let slot = c.in-Some.slot.now in
     let written : Slot = record { live = true; what = c.put_pages.new.self } in
-    let shows : ShowsFileWith slot.what (b c.args.inode) was blocks c.args.first (c.args.first + length c.args.pages.items) =
-    subst (λ (s : Slot). ShowsFileWith s.what (b c.args.inode) was blocks c.args.first (c.args.first + length c.args.pages.items))
+    let shows : ShowsFileWith slot.what (b c.args.inode) was blocks c.args.first
+    (c.args.first + length c.args.pages.items) =
+    subst (λ (s : Slot).
+    ShowsFileWith s.what (b c.args.inode) was blocks c.args.first
+    (c.args.first + length c.args.pages.items))
     (sym (one_slot _ slot has.0 c.in-Some.ensures.value has.1)) has.2 in (
       written,
       slot_written c.args.self.now.changed (c.get_mut.follows.lender written) c.args.inode written

@@ -20,23 +20,39 @@ move_link-requires g c =
 pub returns-clause-moved : goal.returns-clause-moved
 returns-clause-moved g c = λ b all others holds are i.
     let names = c.in_ok-reserve_move.ensures.names b all others holds are in
-    let r : Record = record { name = c.args.found.now.target.name.now; inode = c.args.found.now.link.0; kind = c.args.found.now.link.1 } in
+    let r : Record = record {
+      name = c.args.found.now.target.name.now;
+      inode = c.args.found.now.link.0;
+      kind = c.args.found.now.link.1;
+    } in
     let still : holding_now c.reserve_move.new.self b ≡ holding_now c.args.self.now b =
     λ k. λ j. c.in_ok-reserve_move.ensures.still b j k in
     c.move_link.ensures.shown all others names b i
-    ∙ ap (λ (held : Holding). with_link_moved c.args.found.now.directory all c.args.found.now.name.now c.args.found.now.target.directory others r held i) still
+    ∙ ap (λ (held : Holding).
+    with_link_moved c.args.found.now.directory all c.args.found.now.name.now
+    c.args.found.now.target.directory others r held i)
+    still
 
 pub returns-clause-counts : goal.returns-clause-counts
 returns-clause-counts g c = λ b all others holds are counts.
     let old = c.args.self.now in
     let new = c.move_link.new.self in
-    let r : Record = record { name = c.args.found.now.target.name.now; inode = c.args.found.now.link.0; kind = c.args.found.now.link.1 } in
+    let r : Record = record {
+      name = c.args.found.now.target.name.now;
+      inode = c.args.found.now.link.0;
+      kind = c.args.found.now.link.1;
+    } in
     let done = c.move_link.ensures.rest in
     let begun = c.in_ok-reserve_move.ensures.rest in
     counts_still old new b
-    (record { freed = done.freed ∙ begun.freed; mark = done.mark ∙ begun.mark; names = done.names ∙ begun.names })
+    (record {
+      freed = done.freed ∙ begun.freed;
+      mark = done.mark ∙ begun.mark;
+      names = done.names ∙ begun.names;
+    })
     (λ m. ap is_some (returns-clause-moved g c b all others holds are m)
-    ∙ moved_kept (holding_now old b) c.args.found.now.directory c.args.found.now.target.directory all others c.args.found.now.name.now r are.0.0 are.1.0 m)
+    ∙ moved_kept (holding_now old b) c.args.found.now.directory c.args.found.now.target.directory all others
+    c.args.found.now.name.now r are.0.0 are.1.0 m)
     counts
 
 pub returns-in_err-reserve_move-clause-orderly : goal.returns-in_err-reserve_move-clause-orderly
@@ -64,13 +80,15 @@ returns-in_err-reserve_move-clause-same g c =
 
 pub returns-in_err-reserve_move-clause-refused : goal.returns-in_err-reserve_move-clause-refused
 returns-in_err-reserve_move-clause-refused g c =
-    passed_on c.from_residual.result c.in_err-reserve_move.field-0.0 Memory c.from_residual.ensures.1 c.in_err-reserve_move.ensures.refused
+    passed_on c.from_residual.result c.in_err-reserve_move.field-0.0 Memory c.from_residual.ensures.1
+    c.in_err-reserve_move.ensures.refused
 
 pub reserve_move-requires : goal.reserve_move-requires
 reserve_move-requires g c = c.requires
 
 pub returns-clause-orderly : goal.returns-clause-orderly
-returns-clause-orderly g c = λ is from to. c.move_link.ensures.orderly (c.in_ok-reserve_move.ensures.orderly is from to)
+returns-clause-orderly g c = λ is from to.
+    c.move_link.ensures.orderly (c.in_ok-reserve_move.ensures.orderly is from to)
 
 pub returns-clause-rest : goal.returns-clause-rest
 returns-clause-rest g c = record {

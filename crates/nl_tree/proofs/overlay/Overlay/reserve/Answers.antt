@@ -33,8 +33,13 @@ pub returns-in_err-insert-clause-orderly : goal.returns-in_err-insert-clause-ord
 returns-in_err-insert-clause-orderly c = λ is _. record {
   keys = c.in_err-insert.ensures.ordered;
   freed_numbers = is.freed_numbers;
-  files = λ i s file at file_is. is.files i s file (sym (ap (λ (es : List (ℕ × Slot)). lookup (is_at (nat_cmp i)) es) c.in_err-insert.ensures.err) ∙ at) file_is;
-  inodes = λ i has. is.inodes i (subst (λ (es : List (ℕ × Slot)). IsSome (lookup (is_at (nat_cmp i)) es)) c.in_err-insert.ensures.err has);
+  files = λ i s file at file_is.
+      is.files i s file
+      (sym (ap (λ (es : List (ℕ × Slot)). lookup (is_at (nat_cmp i)) es) c.in_err-insert.ensures.err) ∙ at)
+      file_is;
+  inodes = λ i has.
+      is.inodes i (subst
+      (λ (es : List (ℕ × Slot)). IsSome (lookup (is_at (nat_cmp i)) es)) c.in_err-insert.ensures.err has);
 }
 
 pub returns-in_err-insert-clause-same : goal.returns-in_err-insert-clause-same
@@ -51,10 +56,14 @@ pub returns-in_err-insert-clause-rest : goal.returns-in_err-insert-clause-rest
 returns-in_err-insert-clause-rest c = record { freed = refl; mark = refl; names = refl }
 
 pub returns-in_err-insert-clause-still : goal.returns-in_err-insert-clause-still
-returns-in_err-insert-clause-still c = λ b i. ap (λ (es : List (ℕ × Slot)). over_if_slot (lookup (is_at (nat_cmp i)) es) (b i)) c.in_err-insert.ensures.err
+returns-in_err-insert-clause-still c = λ b i.
+    ap (λ (es : List (ℕ × Slot)). over_if_slot (lookup (is_at (nat_cmp i)) es) (b i))
+    c.in_err-insert.ensures.err
 
 pub returns-in_err-insert-clause-places : goal.returns-in_err-insert-clause-places
-returns-in_err-insert-clause-places c = λ i has. subst (λ (es : List (ℕ × Slot)). IsSome (lookup (is_at (nat_cmp i)) es)) (sym c.in_err-insert.ensures.err) has
+returns-in_err-insert-clause-places c = λ i has.
+    subst (λ (es : List (ℕ × Slot)). IsSome (lookup (is_at (nat_cmp i)) es))
+    (sym c.in_err-insert.ensures.err) has
 
 pub returns-in_err-insert-clause-place : goal.returns-in_err-insert-clause-place
 returns-in_err-insert-clause-place c = IfOk-from_err c.from_residual.result _ c.from_residual.ensures.0
@@ -63,8 +72,11 @@ pub returns-in_ok-insert-clause-rest : goal.returns-in_ok-insert-clause-rest
 returns-in_ok-insert-clause-rest c = record { freed = refl; mark = refl; names = refl }
 
 pub returns-in_ok-insert-clause-places : goal.returns-in_ok-insert-clause-places
-returns-in_ok-insert-clause-places c = λ i has. subst (λ (es : List (ℕ × Slot)). IsSome (lookup (is_at (nat_cmp i)) es)) (sym c.in_ok-insert.ensures.entries)
-    (place_inserted (λ k. is_at (nat_cmp i) k) nat_cmp c.args.inode (record { live = false; what = Gone }) c.args.self.now.changed.entries has)
+returns-in_ok-insert-clause-places c = λ i has.
+    subst (λ (es : List (ℕ × Slot)). IsSome (lookup (is_at (nat_cmp i)) es))
+    (sym c.in_ok-insert.ensures.entries)
+    (place_inserted (λ k. is_at (nat_cmp i) k) nat_cmp c.args.inode
+    (record { live = false; what = Gone }) c.args.self.now.changed.entries has)
 
 pub returns-in_ok-insert-clause-refused : goal.returns-in_ok-insert-clause-refused
 returns-in_ok-insert-clause-refused c = tt

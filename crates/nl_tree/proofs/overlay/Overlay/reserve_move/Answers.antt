@@ -20,7 +20,8 @@ returns-clause-names g c = λ b all others holds are.
     (λ e. c.in_ok-open_directory-2.ensures.open b all holds
     (ap (holding_now opened b) (sym e) ∙ still from ∙ are.0.0, are.0.1))
     (λ ne. c.in_ok-open_directory-2.ensures.others from all ne first) in
-    let named : HasName c.reserve_name.new.self from all c.args.found.now.name.now = c.in_ok-reserve_name.ensures.place all both_open in
+    let named : HasName c.reserve_name.new.self from all c.args.found.now.name.now =
+    c.in_ok-reserve_name.ensures.place all both_open in
     on_ok_weaker c.reserve_name-2.result
     (λ also. (c.reserve_name-2.ensures.names from all c.args.found.now.name.now named, also))
     (c.reserve_name-2.ensures.place others (c.in_ok-reserve_name.ensures.listings to others second))
@@ -51,14 +52,16 @@ returns-in_err-open_directory-clause-names g c = λ _ _ _ _ _.
 
 pub returns-in_err-open_directory-clause-refused : goal.returns-in_err-open_directory-clause-refused
 returns-in_err-open_directory-clause-refused g c =
-    passed_on c.from_residual.result c.in_err-open_directory.field-0.0 Memory c.from_residual.ensures.1 c.in_err-open_directory.ensures.refused
+    passed_on c.from_residual.result c.in_err-open_directory.field-0.0 Memory c.from_residual.ensures.1
+    c.in_err-open_directory.ensures.refused
 
 pub returns-in_err-open_directory-2-clause-orderly : goal.returns-in_err-open_directory-2-clause-orderly
 returns-in_err-open_directory-2-clause-orderly g c = λ is from to.
     c.in_err-open_directory-2.ensures.orderly (c.in_ok-open_directory.ensures.orderly is from) to
 
 pub returns-in_err-open_directory-2-clause-same : goal.returns-in_err-open_directory-2-clause-same
-returns-in_err-open_directory-2-clause-same g c = c.in_err-open_directory-2.ensures.same ∙ c.in_ok-open_directory.ensures.same
+returns-in_err-open_directory-2-clause-same g c =
+    c.in_err-open_directory-2.ensures.same ∙ c.in_ok-open_directory.ensures.same
 
 pub returns-in_err-open_directory-2-clause-rest : goal.returns-in_err-open_directory-2-clause-rest
 returns-in_err-open_directory-2-clause-rest g c = record {
@@ -68,38 +71,55 @@ returns-in_err-open_directory-2-clause-rest g c = record {
 }
 
 pub returns-in_err-open_directory-2-clause-still : goal.returns-in_err-open_directory-2-clause-still
-returns-in_err-open_directory-2-clause-still g c = λ b i. c.in_err-open_directory-2.ensures.still b i ∙ c.in_ok-open_directory.ensures.still b i
+returns-in_err-open_directory-2-clause-still g c = λ b i.
+    c.in_err-open_directory-2.ensures.still b i ∙ c.in_ok-open_directory.ensures.still b i
 
 pub returns-in_err-open_directory-2-clause-places : goal.returns-in_err-open_directory-2-clause-places
-returns-in_err-open_directory-2-clause-places g c = λ i has. c.in_err-open_directory-2.ensures.places i (c.in_ok-open_directory.ensures.places i has)
+returns-in_err-open_directory-2-clause-places g c = λ i has.
+    c.in_err-open_directory-2.ensures.places i (c.in_ok-open_directory.ensures.places i has)
 
 pub returns-in_err-open_directory-2-clause-names : goal.returns-in_err-open_directory-2-clause-names
 returns-in_err-open_directory-2-clause-names g c = λ _ _ _ _ _.
-    IfOk-from_err c.from_residual-in_err-open_directory-2.result _ c.from_residual-in_err-open_directory-2.ensures.0
+    IfOk-from_err c.from_residual-in_err-open_directory-2.result _
+    c.from_residual-in_err-open_directory-2.ensures.0
 
 pub returns-in_err-open_directory-2-clause-refused : goal.returns-in_err-open_directory-2-clause-refused
 returns-in_err-open_directory-2-clause-refused g c =
-    passed_on c.from_residual-in_err-open_directory-2.result c.in_err-open_directory-2.field-0.0 Memory c.from_residual-in_err-open_directory-2.ensures.1 c.in_err-open_directory-2.ensures.refused
+    passed_on c.from_residual-in_err-open_directory-2.result c.in_err-open_directory-2.field-0.0 Memory
+    c.from_residual-in_err-open_directory-2.ensures.1 c.in_err-open_directory-2.ensures.refused
 
 pub returns-in_err-reserve_name-clause-orderly : goal.returns-in_err-reserve_name-clause-orderly
 returns-in_err-reserve_name-clause-orderly g c = λ is from to.
-    c.in_err-reserve_name.ensures.orderly (c.in_ok-open_directory-2.ensures.orderly (c.in_ok-open_directory.ensures.orderly is from) to)
+    c.in_err-reserve_name.ensures.orderly
+    (c.in_ok-open_directory-2.ensures.orderly (c.in_ok-open_directory.ensures.orderly is from) to)
 
 pub returns-in_err-reserve_name-clause-same : goal.returns-in_err-reserve_name-clause-same
-returns-in_err-reserve_name-clause-same g c = c.in_err-reserve_name.ensures.same ∙ c.in_ok-open_directory-2.ensures.same ∙ c.in_ok-open_directory.ensures.same
+returns-in_err-reserve_name-clause-same g c =
+    c.in_err-reserve_name.ensures.same ∙ c.in_ok-open_directory-2.ensures.same
+    ∙ c.in_ok-open_directory.ensures.same
 
 pub returns-in_err-reserve_name-clause-rest : goal.returns-in_err-reserve_name-clause-rest
 returns-in_err-reserve_name-clause-rest g c = record {
-  freed = c.in_err-reserve_name.ensures.rest.freed ∙ c.in_ok-open_directory-2.ensures.rest.freed ∙ c.in_ok-open_directory.ensures.rest.freed;
-  mark = c.in_err-reserve_name.ensures.rest.mark ∙ c.in_ok-open_directory-2.ensures.rest.mark ∙ c.in_ok-open_directory.ensures.rest.mark;
-  names = c.in_err-reserve_name.ensures.rest.names ∙ c.in_ok-open_directory-2.ensures.rest.names ∙ c.in_ok-open_directory.ensures.rest.names;
+  freed =
+      c.in_err-reserve_name.ensures.rest.freed ∙ c.in_ok-open_directory-2.ensures.rest.freed
+      ∙ c.in_ok-open_directory.ensures.rest.freed;
+  mark =
+      c.in_err-reserve_name.ensures.rest.mark ∙ c.in_ok-open_directory-2.ensures.rest.mark
+      ∙ c.in_ok-open_directory.ensures.rest.mark;
+  names =
+      c.in_err-reserve_name.ensures.rest.names ∙ c.in_ok-open_directory-2.ensures.rest.names
+      ∙ c.in_ok-open_directory.ensures.rest.names;
 }
 
 pub returns-in_err-reserve_name-clause-still : goal.returns-in_err-reserve_name-clause-still
-returns-in_err-reserve_name-clause-still g c = λ b i. c.in_err-reserve_name.ensures.still b i ∙ c.in_ok-open_directory-2.ensures.still b i ∙ c.in_ok-open_directory.ensures.still b i
+returns-in_err-reserve_name-clause-still g c = λ b i.
+    c.in_err-reserve_name.ensures.still b i ∙ c.in_ok-open_directory-2.ensures.still b i
+    ∙ c.in_ok-open_directory.ensures.still b i
 
 pub returns-in_err-reserve_name-clause-places : goal.returns-in_err-reserve_name-clause-places
-returns-in_err-reserve_name-clause-places g c = λ i has. c.in_err-reserve_name.ensures.places i (c.in_ok-open_directory-2.ensures.places i (c.in_ok-open_directory.ensures.places i has))
+returns-in_err-reserve_name-clause-places g c = λ i has.
+    c.in_err-reserve_name.ensures.places i
+    (c.in_ok-open_directory-2.ensures.places i (c.in_ok-open_directory.ensures.places i has))
 
 pub returns-in_err-reserve_name-clause-names : goal.returns-in_err-reserve_name-clause-names
 returns-in_err-reserve_name-clause-names g c = λ _ _ _ _ _.
@@ -107,7 +127,8 @@ returns-in_err-reserve_name-clause-names g c = λ _ _ _ _ _.
 
 pub returns-in_err-reserve_name-clause-refused : goal.returns-in_err-reserve_name-clause-refused
 returns-in_err-reserve_name-clause-refused g c =
-    passed_on c.from_residual-in_err-reserve_name.result c.in_err-reserve_name.field-0.0 Memory c.from_residual-in_err-reserve_name.ensures.1 c.in_err-reserve_name.ensures.refused
+    passed_on c.from_residual-in_err-reserve_name.result c.in_err-reserve_name.field-0.0 Memory
+    c.from_residual-in_err-reserve_name.ensures.1 c.in_err-reserve_name.ensures.refused
 
 pub open_directory-requires : goal.open_directory-requires
 open_directory-requires g c = (c.requires.0, c.requires.1, c.requires.3, c.requires.4.0)
@@ -120,7 +141,8 @@ open_directory-requires-2 g c =
 
 pub returns-clause-orderly : goal.returns-clause-orderly
 returns-clause-orderly g c = λ is from to.
-    c.reserve_name-2.ensures.orderly (c.in_ok-reserve_name.ensures.orderly (c.in_ok-open_directory-2.ensures.orderly
+    c.reserve_name-2.ensures.orderly
+    (c.in_ok-reserve_name.ensures.orderly (c.in_ok-open_directory-2.ensures.orderly
     (c.in_ok-open_directory.ensures.orderly is from) to))
 
 pub returns-clause-same : goal.returns-clause-same

@@ -25,7 +25,8 @@ returns-in-Some-clause-place c = λ all has.
     let slot = c.in-Some.slot.now in
     let written : Slot = record { live = slot.live; what = c.reserve_name.new.self } in
     let listed : IsListed slot.what all =
-    subst (λ (s : Slot). IsListed s.what all) (sym (one_slot _ slot has.0 c.in-Some.ensures.value has.1)) has.2 in
+    subst (λ (s : Slot). IsListed s.what all)
+    (sym (one_slot _ slot has.0 c.in-Some.ensures.value has.1)) has.2 in
     on_ok_weaker c.reserve_name.result
     (λ named. (written, ((c.get_mut.follows.holds written).3 (ap is_some has.1)).1, named))
     (c.reserve_name.ensures.place all listed)
@@ -34,7 +35,8 @@ pub returns-in-Some-clause-listings : goal.returns-in-Some-clause-listings
 returns-in-Some-clause-listings c = λ i all has.
     let slot = c.in-Some.slot.now in
     let written : Slot = record { live = slot.live; what = c.reserve_name.new.self } in
-    slot_still c.args.self.now.changed (c.get_mut.follows.lender written) c.args.dir slot c.reserve_name.new.self
+    slot_still c.args.self.now.changed
+    (c.get_mut.follows.lender written) c.args.dir slot c.reserve_name.new.self
     (λ what. IsListed what all) (c.get_mut.follows.holds written) c.in-Some.ensures.value
     (c.reserve_name.ensures.listed all) i has
 
@@ -42,7 +44,8 @@ pub returns-in-Some-clause-names : goal.returns-in-Some-clause-names
 returns-in-Some-clause-names c = λ i all other has.
     let slot = c.in-Some.slot.now in
     let written : Slot = record { live = slot.live; what = c.reserve_name.new.self } in
-    slot_still c.args.self.now.changed (c.get_mut.follows.lender written) c.args.dir slot c.reserve_name.new.self
+    slot_still c.args.self.now.changed
+    (c.get_mut.follows.lender written) c.args.dir slot c.reserve_name.new.self
     (λ what. IsListedWith what all other) (c.get_mut.follows.holds written) c.in-Some.ensures.value
     (c.reserve_name.ensures.names all other) i has
 
@@ -51,7 +54,8 @@ returns-in-Some-clause-orderly c =
     let slot = c.in-Some.slot.now in
     let written : Slot = record { live = slot.live; what = c.reserve_name.new.self } in
     written_orderly c.args.self.now.changed (c.get_mut.follows.lender written) c.args.dir slot written
-    (c.get_mut.follows.holds written) c.in-Some.ensures.value c.args.self.now refl c.reserve_name.ensures.ordered
+    (c.get_mut.follows.holds written) c.in-Some.ensures.value c.args.self.now refl
+    c.reserve_name.ensures.ordered
 
 pub returns-in-Some-clause-rest : goal.returns-in-Some-clause-rest
 returns-in-Some-clause-rest c = record { freed = refl; mark = refl; names = refl }
@@ -60,7 +64,8 @@ pub returns-in-Some-clause-still : goal.returns-in-Some-clause-still
 returns-in-Some-clause-still c =
     let slot = c.in-Some.slot.now in
     let written : Slot = record { live = slot.live; what = c.reserve_name.new.self } in
-    written_still c.args.self.now.changed (c.get_mut.follows.lender written) c.args.dir slot c.reserve_name.new.self
+    written_still c.args.self.now.changed
+    (c.get_mut.follows.lender written) c.args.dir slot c.reserve_name.new.self
     (c.get_mut.follows.holds written) c.in-Some.ensures.value c.reserve_name.ensures.over
 
 pub returns-in-Some-clause-refused : goal.returns-in-Some-clause-refused
@@ -68,11 +73,13 @@ returns-in-Some-clause-refused c = c.reserve_name.ensures.refused
 
 pub returns-in-None-clause-orderly : goal.returns-in-None-clause-orderly
 returns-in-None-clause-orderly c = λ is.
-    subst (λ changed. IsOrderly (record c.args.self.now { changed = changed })) (sym c.get_mut.follows.holds-at-none) is
+    subst (λ changed. IsOrderly (record c.args.self.now { changed = changed }))
+    (sym c.get_mut.follows.holds-at-none) is
 
 pub returns-in-None-clause-same : goal.returns-in-None-clause-same
 returns-in-None-clause-same c =
-    ap {B = Current} (λ changed. current_of (record c.args.self.now { changed = changed })) c.get_mut.follows.holds-at-none
+    ap {B = Current}
+    (λ changed. current_of (record c.args.self.now { changed = changed })) c.get_mut.follows.holds-at-none
 
 pub returns-in-None-clause-place : goal.returns-in-None-clause-place
 returns-in-None-clause-place c = λ all has.
@@ -97,12 +104,15 @@ returns-in-None-clause-refused c = tt
 
 pub returns-in-None-clause-listings : goal.returns-in-None-clause-listings
 returns-in-None-clause-listings c = λ i all has.
-    subst (λ changed. HasListing (record c.args.self.now { changed = changed }) i all) (sym c.get_mut.follows.holds-at-none) has
+    subst (λ changed. HasListing (record c.args.self.now { changed = changed }) i all)
+    (sym c.get_mut.follows.holds-at-none) has
 
 pub returns-in-None-clause-names : goal.returns-in-None-clause-names
 returns-in-None-clause-names c = λ i all other has.
-    subst (λ changed. HasName (record c.args.self.now { changed = changed }) i all other) (sym c.get_mut.follows.holds-at-none) has
+    subst (λ changed. HasName (record c.args.self.now { changed = changed }) i all other)
+    (sym c.get_mut.follows.holds-at-none) has
 
 pub returns-in-None-clause-places : goal.returns-in-None-clause-places
 returns-in-None-clause-places c = λ i has.
-    subst (λ changed. HasSlot (record c.args.self.now { changed = changed }) i) (sym c.get_mut.follows.holds-at-none) has
+    subst (λ changed. HasSlot (record c.args.self.now { changed = changed }) i)
+    (sym c.get_mut.follows.holds-at-none) has

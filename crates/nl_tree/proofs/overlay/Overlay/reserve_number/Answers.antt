@@ -60,7 +60,8 @@ pub returns-in_err-insert-clause-place : goal.returns-in_err-insert-clause-place
 returns-in_err-insert-clause-place c = IfOk-from_err c.from_residual.result _ c.from_residual.ensures.0
 
 pub returns-in_err-insert-clause-freed : goal.returns-in_err-insert-clause-freed
-returns-in_err-insert-clause-freed c = λ n ne. ap (λ (es : List (ℕ × Bool)). lookup (is_at (nat_cmp n)) es) c.in_err-insert.ensures.err
+returns-in_err-insert-clause-freed c = λ n ne.
+    ap (λ (es : List (ℕ × Bool)). lookup (is_at (nat_cmp n)) es) c.in_err-insert.ensures.err
 
 pub returns-in_ok-insert-clause-orderly : goal.returns-in_ok-insert-clause-orderly
 returns-in_ok-insert-clause-orderly c = λ is. record {

@@ -42,7 +42,8 @@ returns-in-Some-clause-orderly c =
     let slot = c.in-Some.slot.now in
     let written : Slot = record { live = slot.live; what = c.reserve_pages.new.self } in
     written_orderly c.args.self.now.changed (c.get_mut.follows.lender written) c.args.inode slot written
-    (c.get_mut.follows.holds written) c.in-Some.ensures.value c.args.self.now refl c.reserve_pages.ensures.ordered
+    (c.get_mut.follows.holds written) c.in-Some.ensures.value c.args.self.now refl
+    c.reserve_pages.ensures.ordered
 
 pub returns-in-Some-clause-rest : goal.returns-in-Some-clause-rest
 returns-in-Some-clause-rest c = record { freed = refl; mark = refl; names = refl }
@@ -51,7 +52,8 @@ pub returns-in-Some-clause-still : goal.returns-in-Some-clause-still
 returns-in-Some-clause-still c =
     let slot = c.in-Some.slot.now in
     let written : Slot = record { live = slot.live; what = c.reserve_pages.new.self } in
-    written_still c.args.self.now.changed (c.get_mut.follows.lender written) c.args.inode slot c.reserve_pages.new.self
+    written_still c.args.self.now.changed
+    (c.get_mut.follows.lender written) c.args.inode slot c.reserve_pages.new.self
     (c.get_mut.follows.holds written) c.in-Some.ensures.value c.reserve_pages.ensures.over
 
 pub returns-in-Some-clause-refused : goal.returns-in-Some-clause-refused
@@ -59,11 +61,13 @@ returns-in-Some-clause-refused c = c.reserve_pages.ensures.refused
 
 pub returns-in-None-clause-orderly : goal.returns-in-None-clause-orderly
 returns-in-None-clause-orderly c = λ is.
-    subst (λ changed. IsOrderly (record c.args.self.now { changed = changed })) (sym c.get_mut.follows.holds-at-none) is
+    subst (λ changed. IsOrderly (record c.args.self.now { changed = changed }))
+    (sym c.get_mut.follows.holds-at-none) is
 
 pub returns-in-None-clause-same : goal.returns-in-None-clause-same
 returns-in-None-clause-same c =
-    ap {B = Current} (λ changed. current_of (record c.args.self.now { changed = changed })) c.get_mut.follows.holds-at-none
+    ap {B = Current}
+    (λ changed. current_of (record c.args.self.now { changed = changed })) c.get_mut.follows.holds-at-none
 
 pub returns-in-None-clause-place : goal.returns-in-None-clause-place
 returns-in-None-clause-place c = λ b size blocks has.

@@ -37,9 +37,15 @@ returns-clause-counts g c = λ b was blocks holds is counts.
     let old = holding_now c.args.self.now b in
     let done = c.cut_blocks.ensures.rest in
     let begun = c.in_ok-write_blocks.ensures.rest in
-    let now : Held = Stored c.args.size (blocks_below (blocks_for c.args.size) (put_from c.args.first c.args.pages.items blocks)) in
+    let now : Held =
+    Stored c.args.size
+    (blocks_below (blocks_for c.args.size) (put_from c.args.first c.args.pages.items blocks)) in
     counts_still c.args.self.now c.cut_blocks.new.self b
-    (record { freed = done.freed ∙ begun.freed; mark = done.mark ∙ begun.mark; names = done.names ∙ begun.names })
+    (record {
+      freed = done.freed ∙ begun.freed;
+      mark = done.mark ∙ begun.mark;
+      names = done.names ∙ begun.names;
+    })
     (held_kept old (holding_now c.cut_blocks.new.self b) c.args.inode (Stored was blocks) now is.0
     (returns-clause-truncated g c b was blocks holds is))
     counts
@@ -69,10 +75,12 @@ returns-in_err-write_blocks-clause-same g c =
 
 pub returns-in_err-write_blocks-clause-refused : goal.returns-in_err-write_blocks-clause-refused
 returns-in_err-write_blocks-clause-refused g c =
-    passed_on c.from_residual.result c.in_err-write_blocks.field-0.0 Memory c.from_residual.ensures.1 c.in_err-write_blocks.ensures.refused
+    passed_on c.from_residual.result c.in_err-write_blocks.field-0.0 Memory c.from_residual.ensures.1
+    c.in_err-write_blocks.ensures.refused
 
 pub returns-clause-orderly : goal.returns-clause-orderly
-returns-clause-orderly g c = λ is inode. c.cut_blocks.ensures.orderly (c.in_ok-write_blocks.ensures.orderly is inode)
+returns-clause-orderly g c = λ is inode.
+    c.cut_blocks.ensures.orderly (c.in_ok-write_blocks.ensures.orderly is inode)
 
 pub returns-clause-rest : goal.returns-clause-rest
 returns-clause-rest g c = record {

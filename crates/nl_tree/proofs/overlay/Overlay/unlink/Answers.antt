@@ -17,7 +17,8 @@ returns-in-Some-clause-shown c = λ all has b i.
     let named : IsListedWith slot.what all c.args.name.now =
     subst (λ (s : Slot). IsListedWith s.what all c.args.name.now)
     (sym (one_slot _ slot has.0 c.in-Some.ensures.value has.1)) has.2 in
-    written_over c.args.self.now.changed (c.get_mut.follows.lender written) c.args.dir written (Some (Listed records))
+    written_over c.args.self.now.changed (c.get_mut.follows.lender written) c.args.dir written
+    (Some (Listed records))
     (c.get_mut.follows.holds written) (ap is_some has.1)
     (λ base. listed_over c.take.new.self records base (c.take.ensures.listed all named)) b i
 

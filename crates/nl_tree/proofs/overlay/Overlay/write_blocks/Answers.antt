@@ -18,20 +18,27 @@ put_pages-requires-clause-places g c =
       asked.0,
       asked.1,
       asked.2,
-      subst (λ (end : ℕ). HasFileWith c.reserve_pages.new.self asked.0 c.args.inode asked.1 asked.2 c.args.first end)
-          (ap (λ (n : ℕ). c.args.first + n) (c.len.ensures ∙ c.args.pages.ok.0)) (c.in_ok-reserve_pages.ensures.place asked.0 asked.1 asked.2 opened),
+      subst (λ (end : ℕ).
+          HasFileWith c.reserve_pages.new.self asked.0 c.args.inode asked.1 asked.2 c.args.first end)
+          (ap (λ (n : ℕ). c.args.first + n) (c.len.ensures ∙ c.args.pages.ok.0))
+          (c.in_ok-reserve_pages.ensures.place asked.0 asked.1 asked.2 opened),
     )
 
 pub returns-clause-written : goal.returns-clause-written
 returns-clause-written g c = λ b was blocks holds is i.
     let opened = c.in_ok-open_file.ensures.open b was blocks holds is in
-    let placed : HasFileWith c.reserve_pages.new.self b c.args.inode was blocks c.args.first (c.args.first + length c.args.pages.items) =
+    let placed : HasFileWith c.reserve_pages.new.self b c.args.inode was blocks c.args.first
+    (c.args.first + length c.args.pages.items) =
     subst (λ (end : ℕ). HasFileWith c.reserve_pages.new.self b c.args.inode was blocks c.args.first end)
-    (ap (λ (n : ℕ). c.args.first + n) (c.len.ensures ∙ c.args.pages.ok.0)) (c.in_ok-reserve_pages.ensures.place b was blocks opened) in
+    (ap (λ (n : ℕ). c.args.first + n) (c.len.ensures ∙ c.args.pages.ok.0))
+    (c.in_ok-reserve_pages.ensures.place b was blocks opened) in
     let still : holding_now c.reserve_pages.new.self b ≡ holding_now c.args.self.now b =
     λ k. λ j. (c.in_ok-reserve_pages.ensures.still b j ∙ c.in_ok-open_file.ensures.still b j) k in
     c.put_pages.ensures.shown b was blocks placed i
-    ∙ ap (λ (held : Holding). with_held c.args.inode (Some (Stored c.args.size (put_from c.args.first c.args.pages.items blocks))) held i) still
+    ∙ ap (λ (held : Holding).
+    with_held c.args.inode
+    (Some (Stored c.args.size (put_from c.args.first c.args.pages.items blocks))) held i)
+    still
 
 pub returns-clause-counts : goal.returns-clause-counts
 returns-clause-counts g c = λ b was blocks holds is counts.
@@ -39,17 +46,25 @@ returns-clause-counts g c = λ b was blocks holds is counts.
     let mid = c.in_ok-reserve_pages.ensures.rest in
     let begun = c.in_ok-open_file.ensures.rest in
     counts_still c.args.self.now c.put_pages.new.self b
-    (record { freed = done.freed ∙ mid.freed ∙ begun.freed; mark = done.mark ∙ mid.mark ∙ begun.mark; names = done.names ∙ mid.names ∙ begun.names })
-    (held_kept (holding_now c.args.self.now b) (holding_now c.put_pages.new.self b) c.args.inode (Stored was blocks)
-    (Stored c.args.size (put_from c.args.first c.args.pages.items blocks)) is.0 (returns-clause-written g c b was blocks holds is))
+    (record {
+      freed = done.freed ∙ mid.freed ∙ begun.freed;
+      mark = done.mark ∙ mid.mark ∙ begun.mark;
+      names = done.names ∙ mid.names ∙ begun.names;
+    })
+    (held_kept (holding_now c.args.self.now b) (holding_now c.put_pages.new.self b) c.args.inode
+    (Stored was blocks)
+    (Stored c.args.size (put_from c.args.first c.args.pages.items blocks)) is.0
+    (returns-clause-written g c b was blocks holds is))
     counts
 
 pub returns-clause-open : goal.returns-clause-open
 returns-clause-open g c = λ b was blocks holds is.
     let opened = c.in_ok-open_file.ensures.open b was blocks holds is in
-    let placed : HasFileWith c.reserve_pages.new.self b c.args.inode was blocks c.args.first (c.args.first + length c.args.pages.items) =
+    let placed : HasFileWith c.reserve_pages.new.self b c.args.inode was blocks c.args.first
+    (c.args.first + length c.args.pages.items) =
     subst (λ (end : ℕ). HasFileWith c.reserve_pages.new.self b c.args.inode was blocks c.args.first end)
-    (ap (λ (n : ℕ). c.args.first + n) (c.len.ensures ∙ c.args.pages.ok.0)) (c.in_ok-reserve_pages.ensures.place b was blocks opened) in
+    (ap (λ (n : ℕ). c.args.first + n) (c.len.ensures ∙ c.args.pages.ok.0))
+    (c.in_ok-reserve_pages.ensures.place b was blocks opened) in
     c.put_pages.ensures.file b was blocks placed
 
 pub returns-in_err-open_file-clause-orderly : goal.returns-in_err-open_file-clause-orderly
@@ -81,7 +96,8 @@ returns-in_err-open_file-clause-same g c =
 
 pub returns-in_err-open_file-clause-refused : goal.returns-in_err-open_file-clause-refused
 returns-in_err-open_file-clause-refused g c =
-    passed_on c.from_residual.result c.in_err-open_file.field-0.0 Memory c.from_residual.ensures.1 c.in_err-open_file.ensures.refused
+    passed_on c.from_residual.result c.in_err-open_file.field-0.0 Memory c.from_residual.ensures.1
+    c.in_err-open_file.ensures.refused
 
 pub returns-in_err-reserve_pages-clause-orderly : goal.returns-in_err-reserve_pages-clause-orderly
 returns-in_err-reserve_pages-clause-orderly g c = λ is inode.
@@ -108,21 +124,30 @@ returns-in_err-reserve_pages-clause-rest g c = record {
 
 pub returns-in_err-reserve_pages-clause-same : goal.returns-in_err-reserve_pages-clause-same
 returns-in_err-reserve_pages-clause-same g c =
-    holds_on_err c.from_residual-in_err-reserve_pages.result _ (c.in_err-reserve_pages.ensures.same ∙ c.in_ok-open_file.ensures.same)
+    holds_on_err c.from_residual-in_err-reserve_pages.result _
+    (c.in_err-reserve_pages.ensures.same ∙ c.in_ok-open_file.ensures.same)
 
 pub returns-in_err-reserve_pages-clause-refused : goal.returns-in_err-reserve_pages-clause-refused
 returns-in_err-reserve_pages-clause-refused g c =
-    passed_on c.from_residual-in_err-reserve_pages.result c.in_err-reserve_pages.field-0.0 Memory c.from_residual-in_err-reserve_pages.ensures.1 c.in_err-reserve_pages.ensures.refused
+    passed_on c.from_residual-in_err-reserve_pages.result c.in_err-reserve_pages.field-0.0 Memory
+    c.from_residual-in_err-reserve_pages.ensures.1 c.in_err-reserve_pages.ensures.refused
 
 pub returns-clause-orderly : goal.returns-clause-orderly
 returns-clause-orderly g c = λ is inode.
-    c.put_pages.ensures.orderly (c.in_ok-reserve_pages.ensures.orderly (c.in_ok-open_file.ensures.orderly is inode))
+    c.put_pages.ensures.orderly
+    (c.in_ok-reserve_pages.ensures.orderly (c.in_ok-open_file.ensures.orderly is inode))
 
 pub returns-clause-rest : goal.returns-clause-rest
 returns-clause-rest g c = record {
-  freed = c.put_pages.ensures.rest.freed ∙ c.in_ok-reserve_pages.ensures.rest.freed ∙ c.in_ok-open_file.ensures.rest.freed;
-  mark = c.put_pages.ensures.rest.mark ∙ c.in_ok-reserve_pages.ensures.rest.mark ∙ c.in_ok-open_file.ensures.rest.mark;
-  names = c.put_pages.ensures.rest.names ∙ c.in_ok-reserve_pages.ensures.rest.names ∙ c.in_ok-open_file.ensures.rest.names;
+  freed =
+      c.put_pages.ensures.rest.freed ∙ c.in_ok-reserve_pages.ensures.rest.freed
+      ∙ c.in_ok-open_file.ensures.rest.freed;
+  mark =
+      c.put_pages.ensures.rest.mark ∙ c.in_ok-reserve_pages.ensures.rest.mark
+      ∙ c.in_ok-open_file.ensures.rest.mark;
+  names =
+      c.put_pages.ensures.rest.names ∙ c.in_ok-reserve_pages.ensures.rest.names
+      ∙ c.in_ok-open_file.ensures.rest.names;
 }
 
 pub returns-clause-same : goal.returns-clause-same

@@ -6,4 +6,6 @@ use Rattle.nl_tree.proofs.view.ViewTreeRead.name_count.Goals as goal
 pub returns : goal.returns
 returns g c = λ held h.
     let same = ap (λ (holding : Holding). held_count (holding c.args.dir)) h.1.2 in
-    c.name_count.ensures h.1.0 h.1.1 (subst (λ count. count < 2 ^ 64) same (names_countable held h.0 c.args.dir)) ∙ sym same
+    c.name_count.ensures h.1.0 h.1.1
+    (subst (λ count. count < 2 ^ 64) same (names_countable held h.0 c.args.dir))
+    ∙ sym same
