@@ -1,4 +1,5 @@
-"""Rounds of cleaning on the model of volumes, by the rules of docs/SPECIFICATION.md, without the program. For developers."""
+"""Rounds of cleaning on the model of volumes, by the rules of docs/SPECIFICATION.md, without the program. For
+developers."""
 
 from volume import DIRTY, LOG, Refused
 
@@ -58,7 +59,8 @@ def plan(volume, moment, configuration):
 
 
 class Round:
-    """What a round came to: how many checkpoints expired, blocks were moved and segments freed, and what ended it."""
+    """What a round came to: how many checkpoints expired, blocks were moved and segments freed, and what
+    ended it."""
 
     def __init__(self, volume, moment, configuration):
         self.expired, self.moved, self.freed, self.refusal = 0, 0, 0, None

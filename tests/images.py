@@ -1,10 +1,11 @@
 #!/usr/bin/env python3
-"""Makes the images of tests/data by the formats of docs/SPECIFICATION.md, without the program, and what is due of rows that
-clean, that save or that list what is needed.
+"""Makes the images of tests/data by the formats of docs/SPECIFICATION.md, without the program, and what is
+due of rows that clean, that save or that list what is needed.
 
-Each is written from the rules, which tests/volume.py keeps: which blocks a checkpoint writes, under which numbers and where, and
-how an image spells them. So a row that opens or saves one compares the program with the rules, not with itself. Of an image too
-large to be kept there is the sum that cksum prints. For developers: the gate doesn't run it.
+Each is written from the rules, which tests/volume.py keeps: which blocks a checkpoint writes, under which
+numbers and where, and how an image spells them. So a row that opens or saves one compares the program with
+the rules, not with itself. Of an image too large to be kept there is the sum that cksum prints. For
+developers: the gate doesn't run it.
 
 usage: tests/images.py [--check]   (with --check nothing is written, and the files that differ are told)
 """
@@ -52,7 +53,8 @@ def chain300():
 
 
 def snapshot(kind=TREE):
-    """Two checkpoints: 2 is a snapshot, and 3 has other bytes in /d/f, and the stamp of 2. Checkpoint 1 is removed."""
+    """Two checkpoints: 2 is a snapshot, and 3 has other bytes in /d/f, and the stamp of 2. Checkpoint 1 is
+    removed."""
     volume = Volume(8, 4, kind)
     volume.mkdir("/d")
     volume.create("/d/f")
@@ -96,7 +98,8 @@ def opened(volume):
 
 
 def rewritten():
-    """What an older version kept, with the bytes of a file written again, and then a name more in its directory."""
+    """What an older version kept, with the bytes of a file written again, and then a name more in its
+    directory."""
     volume = opened(keep(CHAIN))
     volume.write("/notes/plan", 0, b"final draft")
     volume.checkpoint(180)
@@ -106,7 +109,8 @@ def rewritten():
 
 
 def high():
-    """A file with a block at the greatest index and one at 128: a tree of height 3, with two nodes of level 2."""
+    """A file with a block at the greatest index and one at 128: a tree of height 3, with two nodes of level
+    2."""
     volume = Volume(8, 4)
     volume.create("/f")
     volume.write("/f", 131072, b"low")
@@ -129,8 +133,8 @@ def grown():
 
 
 def minors():
-    """What the row saved_minors leaves: a snapshot, a plain checkpoint, two minor ones of which the first became a snapshot, and
-    a plain one."""
+    """What the row saved_minors leaves: a snapshot, a plain checkpoint, two minor ones of which the first
+    became a snapshot, and a plain one."""
     volume = Volume(16, 8)
     volume.create("/f")
     for byte in b"A", b"B", b"C":
@@ -189,7 +193,11 @@ def bad_images():
     at = Places(volume)
     page = volume.latest[file_of(volume, "/d/f")].data[0][0]
     # The number of the file's block in checkpoint 2, which ended at checkpoint 3.
-    old_page = next(n for n, (block, _, end) in volume.numbers.items() if end == 3 and volume.device[block][:3] == b"old")
+    old_page = next(
+        n
+        for n, (block, _, end) in volume.numbers.items()
+        if end == 3 and volume.device[block][:3] == b"old"
+    )
     return {
         # The mark is NLVOL003.
         "condition1.img": changed(image, 7, b"3"),
@@ -221,7 +229,8 @@ def bad_flags():
     old = volume.image(FIRST_MARK)
     at = [Places(volume).entry_of_checkpoint(k) + 16 for k in (0, 1)]
     return {
-        # Of an older version, which has no minor checkpoints: 3 is plain and minor, or 2 is a snapshot and minor.
+        # Of an older version, which has no minor checkpoints: 3 is plain and minor, or 2 is a snapshot and
+        # minor.
         "first_mark_with_flag_2.img": changed(old, at[1], b"\x02"),
         "first_mark_with_flag_3.img": changed(old, at[0], b"\x03"),
         "flag_4.img": changed(volume.image(), at[1], b"\x04"),
@@ -278,7 +287,9 @@ def images():
     # The end of number 5.
     assert made["four.img"][1392] == 3
     # The flags of the five checkpoints.
-    assert [made["minors.img"][Places(minors()).entry_of_checkpoint(k) + 16] for k in range(5)] == [1, 0, 3, 2, 0]
+    places = Places(minors())
+    flags = [made["minors.img"][places.entry_of_checkpoint(k) + 16] for k in range(5)]
+    assert flags == [1, 0, 3, 2, 0]
     # Number 5 ends a checkpoint later, where nothing meets it.
     made["four_changed.img"] = changed(made["four.img"], 1392, b"\x04")
     # Without the last byte.
@@ -394,8 +405,8 @@ def row_of(name):
 
 
 def rows(data):
-    """The expected output of rows, with the sum of what they save where no image is kept, or the refusal where they save none;
-    and the file of all statuses."""
+    """The expected output of rows, with the sum of what they save where no image is kept, or the refusal
+    where they save none; and the file of all statuses."""
     made = {}
     statuses = dict(line.split() for line in contents("statuses").decode().splitlines())
     for name in ROWS:

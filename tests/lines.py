@@ -1,4 +1,5 @@
-"""Lines of scripts by the rules of docs/SPECIFICATION.md, without the program: words, options and numbers. For developers."""
+"""Lines of scripts by the rules of docs/SPECIFICATION.md, without the program: words, options and numbers.
+For developers."""
 
 # The greatest number that is read.
 MOST = 2**64 - 1
@@ -65,8 +66,8 @@ def checkpoints(text):
 
 
 class Form:
-    """What a command takes: options that stand alone and options that have a number, by their letters, and its operands. The
-    last operand may come several times."""
+    """What a command takes: options that stand alone and options that have a number, by their letters, and
+    its operands. The last operand may come several times."""
 
     def __init__(self, *operands, alone="", valued="", is_repeated=False):
         self.operands, self.alone, self.valued, self.is_repeated = operands, alone, valued, is_repeated

@@ -1,4 +1,5 @@
-"""Scripts on the model of volumes: what their lines print, the status that they end with, and the volume that they leave.
+"""Scripts on the model of volumes: what their lines print, the status that they end with, and the volume that
+they leave.
 
 It takes every line, and of the refusals of file calls only that of a name that isn't there. For developers.
 """
@@ -25,7 +26,10 @@ REFUSALS = {
 
 def line_of(columns, values):
     """Values in their columns, numbers at the right end, and no blanks behind the last one."""
-    return " ".join(f"{value:>{width}}" if width > 0 else f"{value:<{-width}}" for width, value in zip(columns, values))
+    return " ".join(
+        f"{value:>{width}}" if width > 0 else f"{value:<{-width}}"
+        for width, value in zip(columns, values)
+    )
 
 
 def segment_lines(volume, with_clean, with_needed):
@@ -61,7 +65,8 @@ def checkpoint_lines(kept):
 
 
 class Session:
-    """A script's run on a volume: what it printed so far, the moment, the mounts, and whether something is dirty."""
+    """A script's run on a volume: what it printed so far, the moment, the mounts, and whether something is
+    dirty."""
 
     def __init__(self, volume, configuration=Configuration()):
         self.volume = volume

@@ -1,5 +1,6 @@
-"""A model of volumes by the rules of docs/SPECIFICATION.md, without the program: which blocks a checkpoint writes, under which
-numbers and where, and how an image spells them. For developers: tests/images.py makes images and expected output with it."""
+"""A model of volumes by the rules of docs/SPECIFICATION.md, without the program: which blocks a checkpoint
+writes, under which numbers and where, and how an image spells them. For developers: tests/images.py makes
+images and expected output with it."""
 
 import struct
 
@@ -17,7 +18,8 @@ ROOT, INODES = 2, 6
 # The kinds of roots.
 EMPTY, CHAIN, TREE = 0, 1, 2
 
-# A log has at most 30 payload blocks, a node 128 slots, and a node of a chain that of the next node behind 127 for data.
+# A log has at most 30 payload blocks, a node 128 slots, and a node of a chain that of the next node behind
+# 127 for data.
 LOG = 30
 SLOTS = 128
 CHAIN_SLOTS = 127
@@ -80,8 +82,8 @@ class Birth:
 
 
 class Blocks:
-    """What an inode has at a checkpoint: number and bytes of each block by its index, and the numbers of the nodes by level and
-    position."""
+    """What an inode has at a checkpoint: number and bytes of each block by its index, and the numbers of the
+    nodes by level and position."""
 
     def __init__(self, kind, data):
         self.kind = kind if data else EMPTY
@@ -89,8 +91,9 @@ class Blocks:
         self.nodes = {}
 
     def places(self):
-        """Levels and positions of the nodes above the data: in a chain all up to the last one that names data, in a tree those
-        with data below, up to the least level that has one node alone, at position 0."""
+        """Levels and positions of the nodes above the data: in a chain all up to the last one that names
+        data, in a tree those with data below, up to the least level that has one node alone, at position
+        0."""
         if self.kind == EMPTY:
             return []
         last = max(self.data)
@@ -170,7 +173,8 @@ class Segment:
 
 class Checkpoint:
     def __init__(self, number, stamp, is_snapshot, inodes, record, files):
-        self.number, self.stamp, self.is_snapshot, self.inodes, self.record = number, stamp, is_snapshot, inodes, record
+        self.number, self.stamp, self.is_snapshot = number, stamp, is_snapshot
+        self.inodes, self.record = inodes, record
         # Whether the volume made it by itself, as it moved blocks.
         self.is_minor = False
         # The names and the bytes, as a mount shows them.
@@ -181,7 +185,8 @@ class Checkpoint:
 
     def minor(self, moment):
         """The same tree once more, as the volume keeps it by itself under the next number."""
-        made = Checkpoint(self.number + 1, max(moment, self.stamp), False, self.inodes, self.record, self.files)
+        stamp = max(moment, self.stamp)
+        made = Checkpoint(self.number + 1, stamp, False, self.inodes, self.record, self.files)
         made.is_minor = True
         return made
 
@@ -320,7 +325,8 @@ class Volume:
         copy = {}
         for number, inode in self.inodes.items():
             copy[number] = Inode(inode.kind)
-            copy[number].size, copy[number].blocks, copy[number].names = inode.size, dict(inode.blocks), dict(inode.names)
+            copied = copy[number]
+            copied.size, copied.blocks, copied.names = inode.size, dict(inode.blocks), dict(inode.names)
         return copy
 
     def pages_of_inodes(self, blocks):
@@ -334,9 +340,14 @@ class Volume:
         return {i: bytes(page) for i, page in pages.items()}
 
     def change(self, inode, pages, free, births, ended):
-        """What an inode with these pages has. What is new is a birth: the data by index, then the nodes by level and position."""
+        """What an inode with these pages has. What is new is a birth: the data by index, then the nodes by
+        level and position."""
         old = self.latest.get(inode, NOTHING)
-        differ = [i for i in sorted(set(pages) | set(old.data)) if i not in pages or old.data.get(i, (0, b""))[1] != pages[i]]
+        differ = [
+            i
+            for i in sorted(set(pages) | set(old.data))
+            if i not in pages or old.data.get(i, (0, b""))[1] != pages[i]
+        ]
         if not differ:
             return old
         ended += [old.data[i][0] for i in differ if i in old.data]
@@ -376,7 +387,8 @@ class Volume:
         return next((s for s in self.segments if s.flags & ACTIVE), None)
 
     def fits(self, count, reserve=2):
-        """Whether there is room for so much payload, where so many clean segments are left, as a checkpoint leaves two."""
+        """Whether there is room for so much payload, where so many clean segments are left, as a checkpoint
+        leaves two."""
         active = self.active()
         left = self.segment_blocks - active.used if active else 0
         clean = sum(s.flags == 0 for s in self.segments)
@@ -390,8 +402,8 @@ class Volume:
         return True
 
     def append(self, births, checkpoint, moment):
-        """Places logs: in the active segment as long as a summary and a block fit, else in the lowest clean one. A number that
-        is in use already keeps its period."""
+        """Places logs: in the active segment as long as a summary and a block fit, else in the lowest clean
+        one. A number that is in use already keeps its period."""
         first = 0
         while first < len(births):
             active = self.active()
@@ -421,8 +433,8 @@ class Volume:
     # -- what is needed, and what cleans a segment
 
     def needed_numbers(self, segment, kept=None):
-        """The numbers whose pages stand in a segment and that haven't ended, or belong to one of the kept checkpoints, by
-        block."""
+        """The numbers whose pages stand in a segment and that haven't ended, or belong to one of the kept
+        checkpoints, by block."""
         kept = self.kept if kept is None else kept
         found = []
         for number, (block, start, end) in self.numbers.items():
@@ -432,8 +444,8 @@ class Volume:
         return [number for _, number in sorted(found)]
 
     def move(self, numbers, moment):
-        """Writes the pages of numbers elsewhere, into any clean segment, and keeps the latest checkpoint's tree once more. No
-        number starts or ends there."""
+        """Writes the pages of numbers elsewhere, into any clean segment, and keeps the latest checkpoint's
+        tree once more. No number starts or ends there."""
         checkpoint = self.next_number()
         if not self.fits(len(numbers), reserve=0):
             raise Refused("NoSpace")
