@@ -1,5 +1,5 @@
-"""Rounds of cleaning on the model of volumes, by the rules of docs/SPECIFICATION.md, without the program. For
-developers."""
+"""Rounds of cleaning on the model of volumes, by the rules of docs/SPECIFICATION.md, without the program.
+For developers."""
 
 from volume import DIRTY, LOG, Refused
 

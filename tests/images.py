@@ -109,8 +109,7 @@ def rewritten():
 
 
 def high():
-    """A file with a block at the greatest index and one at 128: a tree of height 3, with two nodes of level
-    2."""
+    """A file with blocks at 128 and at the greatest index: a tree of height 3, with two nodes of level 2."""
     volume = Volume(8, 4)
     volume.create("/f")
     volume.write("/f", 131072, b"low")

@@ -92,8 +92,7 @@ class Blocks:
 
     def places(self):
         """Levels and positions of the nodes above the data: in a chain all up to the last one that names
-        data, in a tree those with data below, up to the least level that has one node alone, at position
-        0."""
+        data, in a tree those with data below, up to the least level that has one node alone, the first."""
         if self.kind == EMPTY:
             return []
         last = max(self.data)
