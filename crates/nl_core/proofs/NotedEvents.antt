@@ -15,7 +15,7 @@ use Rattle.nl_types.specs.Worlds.{Reply, World}
 use Rattle.nl_vstore.specs.Batches.{Changes}
 use Rattle.nl_vstore.specs.Located.{numbers_in}
 use Rattle.nl_vstore.specs.Stores.{IsStore}
-use Rattle.nl_core.specs.CleaningEvents.{needed_by}
+use Rattle.nl_core.specs.CleaningEvents.{needed_by, resized_by}
 use Rattle.nl_core.specs.Layout.{Does, HasRefused, IsPen, Layout, Becomes, cleaned, unshared}
 use Rattle.nl_core.specs.NeededBlocks.{HasWrittenBatch}
 use Rattle.nl_core.specs.Notes.{AreCommitsOf, ChangesLists, DoesNoting, HasNoted, HasNotedWrite, has_other_mode, moved_as, new_checkpoint, shared, where_any, where_true}
@@ -24,6 +24,7 @@ use Rattle.nl_core.specs.declared.commit.Commit.TheVariants.{Freed, ModeSet, Res
 use Rattle.nl_core.proofs.Checkpointing.{does-refused, does-written}
 use Rattle.nl_core.specs.Facts.Ledgers.{same-numbers}
 use Rattle.nl_core.specs.Facts.Outside.{retired-inside}
+use Rattle.nl_core.proofs.ResizedPens.{does-not-resized, not-asked}
 use Rattle.nl_core.proofs.Telling.{commits_tell_all}
 
 -- ---- beside readers
@@ -261,13 +262,25 @@ module _ (old new : Layout) (segment limit moment : ℕ) (before after : List Co
 
 -- ---- resizes
 
--- memory is refused to one
-pub noting-unreserved : (l : Layout) (segments : ℕ) (before after : List Commit) → IsPen l → after ≡ before
+-- memory is refused to one that isn't refused by what it asks for
+pub noting-unreserved : (l : Layout) (segments : ℕ) (before after : List Commit) → IsPen l
+    → resized_by l.store segments ≡ Ok answer.Done → after ≡ before
     → DoesNoting l (event.Resize segments) (Err error.Memory) l before after
-noting-unreserved l segments before after pen same =
+noting-unreserved l segments before after pen judged same =
     noting-refused l (event.Resize segments) l before after pen error.Memory
     (no-memory l (event.Resize segments) pen
-    (refl, record { numbers = refl; segments = refl; device = refl; payload = refl }))
+    (refl, (judged, record { numbers = refl; segments = refl; device = refl; payload = refl })))
+    same
+
+-- what it asks for is refused
+pub noting-not_asked : (l : Layout) (segments : ℕ) (e : VolError) (before after : List Commit) → IsPen l
+    → resized_by l.store segments ≡ Err e → after ≡ before
+    → DoesNoting l (event.Resize segments) (Err e) l before after
+noting-not_asked l segments e before after pen judged same =
+    noting-refused l (event.Resize segments) l before after pen e
+    (does-shared l l (event.Resize segments) (Err e)
+    (does-not-resized l.lists l.store l.store segments pen pen.sound.store (omega arith) e
+    (not-asked segments e l.store judged)))
     same
 
 -- what is noted of segments that are added, told of the store

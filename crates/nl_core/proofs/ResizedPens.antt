@@ -37,8 +37,8 @@ content-grown segments old new grown = λ i v. option_map entry_now (grown.numbe
 
 pub unresized-numbers : (segments : ℕ) (e : VolError) (old new : Store) → HasResizedNone segments old new e
     → new.numbers ≡ old.numbers
-unresized-numbers segments error.Fault old new refused = refused.2.numbers
-unresized-numbers segments error.Memory old new refused = refused.numbers
+unresized-numbers segments error.Fault old new refused = refused.1.2.numbers
+unresized-numbers segments error.Memory old new refused = refused.1.numbers
 unresized-numbers segments _ old new refused = ap (λ (s : Store). s.numbers) refused.0
 
 module _ (old new : Layout) (pen : IsPen old) (lists : new.lists ≡ old.lists)
@@ -106,7 +106,7 @@ module _ (l : Lists) (old new : Store) (segments : ℕ) (pen : IsPen (layout_of 
           inr (record {
             error = error.Fault;
             reply_is = refl;
-            may_be = (tt, (λ lacks. lacks, none.0, none.1));
+            may_be = (tt, (λ lacks. lacks, none.1.0, none.1.1));
             unchanged = refl;
           })
       step error.Memory w none =
@@ -116,11 +116,39 @@ module _ (l : Lists) (old new : Store) (segments : ℕ) (pen : IsPen (layout_of 
 -- ---- segments that are added, or refused
 
 -- a store that refuses to grow has not been resized
-pub not-grown : (segments : ℕ) (e : VolError) (old new : Store) → IsGrowthRefused old new e
+pub not-grown : (segments : ℕ) (e : VolError) (old new : Store) → resized_by old segments ≡ Ok answer.Done
+    → IsGrowthRefused old new e
     → HasResizedNone segments old new e
-not-grown segments error.Fault old new refused = refused
-not-grown segments error.Memory old new refused = refused
-not-grown segments _ old new refused = absurd refused
+not-grown segments error.Fault old new judged refused = (judged, refused)
+not-grown segments error.Memory old new judged refused = (judged, refused)
+not-grown segments _ old new judged refused = absurd refused
+
+-- nor has one of which what is asked for is refused
+pub not-asked : (segments : ℕ) (e : VolError) (s : Store) → resized_by s segments ≡ Err e
+    → HasResizedNone segments s s e
+not-asked segments error.Fault s is =
+    absurd (by (nat_lt segments (length s.segments.each)) (is_geometry segments s.segments.blocks) is)
+  where
+    by : (few fits : Bool)
+        → ◌≡◌ {A = Reply}
+        (cond few (Err error.BadRange) (cond fits (Ok answer.Done) (Err error.BadGeometry)))
+        (Err error.Fault)
+        → ⊥
+    by true fits wrong = cc
+    by false true wrong = cc
+    by false false wrong = cc
+not-asked segments error.Memory s is =
+    absurd (by (nat_lt segments (length s.segments.each)) (is_geometry segments s.segments.blocks) is)
+  where
+    by : (few fits : Bool)
+        → ◌≡◌ {A = Reply}
+        (cond few (Err error.BadRange) (cond fits (Ok answer.Done) (Err error.BadGeometry)))
+        (Err error.Memory)
+        → ⊥
+    by true fits wrong = cc
+    by false true wrong = cc
+    by false false wrong = cc
+not-asked segments _ s is = (refl, is)
 
 pub has-resized : (segments : ℕ) (old new : Store) → nat_lt (length old.segments.each) segments ≡ true
     → resized_by old segments ≡ Ok answer.Done → HasGrown segments old new

@@ -124,8 +124,10 @@ pub record HasResized (segments : ℕ) (answer : Answer) (old new : Store) : Typ
   pub grown : HasGrown segments old new
   pub same : segments ≡ length old.segments.each → new ≡ old
 
--- why segments are not added, and what is left then
+-- why segments are not added, and what is left then; what is asked for is judged first
 abbrev pub HasResizedNone : (segments : ℕ) → Store → Store → VolError → Type 0
-HasResizedNone segments old new error.Fault = IsGrowthRefused old new error.Fault
-HasResizedNone segments old new error.Memory = IsGrowthRefused old new error.Memory
+HasResizedNone segments old new error.Fault =
+    (resized_by old segments ≡ Ok Done) × IsGrowthRefused old new error.Fault
+HasResizedNone segments old new error.Memory =
+    (resized_by old segments ≡ Ok Done) × IsGrowthRefused old new error.Memory
 HasResizedNone segments old new e = (new ≡ old) × (resized_by old segments ≡ Err e)

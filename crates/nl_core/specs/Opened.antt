@@ -16,6 +16,7 @@ use Rattle.nl_dat.specs.Table.{entries_shown}
 use Rattle.nl_check.specs.Laws.{MeetsAll}
 use Rattle.nl_cpfile.specs.Tables.{IsTable, Table, checkpoint_root}
 use Rattle.nl_cpfile.specs.declared.checkpoint.Checkpoint.{Checkpoint}
+use Rattle.nl_image.specs.Conditions.{AreImage}
 use Rattle.nl_image.specs.Reading.{IsRefusal}
 use Rattle.nl_core.specs.Layout.{IsPen, Layout}
 use Rattle.nl_core.specs.Volume.{Lists, kept_by}
@@ -68,9 +69,9 @@ CheckedCheckpointsHaveInodes = (content : Content) (c : Checkpoint) → IsChecke
 
 -- ---- opening
 
--- the bytes are refused as no image, or for want of memory, or the device failed
+-- the bytes are an image and the device failed, or they are none, or there was no memory
 abbrev pub IsOpenRefusal : List ℕ → VolError → Type 0
-IsOpenRefusal bytes e = (e ≡ Fault) ⊎ IsRefusal bytes e
+IsOpenRefusal bytes e = ((e ≡ Fault) × AreImage bytes) ⊎ IsRefusal bytes e
 
 -- the store has these segments and entries, and what the logs hold
 pub record IsRestoredStore (segments : Segments) (logs : Restored) (numbers : List (Option DatEntry))

@@ -5,7 +5,7 @@ ghost use Rattle.nl_segwriter.specs.Images.{HoldLogs, page_in};
 ghost use Rattle.nl_segwriter.specs.Images as spaces;
 ghost use Rattle.nl_segwriter.specs.Writing.{held_in};
 ghost use Rattle.nl_dat.specs.Images.{IsTableOver};
-ghost use Rattle.nl_image.specs.Conditions.{IsShapeOf, MeetsFirst};
+ghost use Rattle.nl_image.specs.Conditions.{AreImage, IsShapeOf, MeetsFirst};
 ghost use Rattle.nl_image.specs.Parts.{Parts, with_present_mark};
 ghost use Rattle.nl_image.specs.Reading.{CanBeRestored, HaveOwn, IsReadImage};
 ghost use Rattle.nl_core.specs.Layout.{IsPen};
@@ -27,11 +27,12 @@ use nl_types::{Items, VolError};
 use std::alloc::Global;
 
 /// The volume whose image these bytes are, on a device of its geometry. It is closed to the same bytes, but
-/// for the mark where that is the first one. What the device holds is no part of it, and nothing is put there
-/// before all conditions were met. Refused by `BadImage` with the number of the first condition that the
-/// bytes fail, by `Memory`, and by `Fault` where the device failed; the device is dropped then.
+/// for the mark where that is the first one. What the device holds is no part of it. Refused by `BadImage`
+/// with the number of the first condition that the bytes fail, by `Memory`, and by `Fault` where the bytes are
+/// an image and the device failed; the device is dropped then.
 pub fn open<D: Device>(alloc: Global, bytes: &[u8], device: D) -> Result<Pen<D>, VolError>
     requires shape { (p : Parts) → MeetsFirst 2 bytes.now p → IsShapeOf (D.shape device) p.shape }
+    ensures accepted { IfOk result (λ _. AreImage bytes.now) }
     ensures rest { IfOk result (λ pen. IsAtRest pen.lists) }
     ensures pen { IfOk result IsPen }
     ensures image { IfOk result (λ pen. IsPenImage pen (with_present_mark bytes.now)) }

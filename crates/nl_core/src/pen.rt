@@ -29,7 +29,7 @@ use crate::noting::{
     whole,
 };
 use crate::removing::{expire, remove, remove_range};
-use crate::resizing::resize;
+use crate::resizing::{adds_segments, resize};
 use crate::tables::Tables;
 use crate::writing::{checkpoint, first_checkpoint};
 use nl_counts::NeededCounts;
@@ -481,7 +481,7 @@ impl<D: Device> Pen<D> {
         Ok(answer)
     }
 
-    /// A resize, which is noted where there are more segments then.
+    /// A resize, which is noted where there are more segments then. What it asks for is judged first.
     fn note_resize(&mut self, event: &Event, segments: u32, notes: &mut Vec<Commit>) -> Reply
         requires { event.now ≡ Resize segments }
         ensures { DoesNoting self.old event.now result self.new notes.old.items notes.new.items }
@@ -490,6 +490,7 @@ impl<D: Device> Pen<D> {
         let table = self.store.table();
         let present = table.sustat().segments;
         let blocks = table.blocks();
+        let _ = adds_segments(table, segments)?;
         notes.reserve(1)?;
         let answer = self.apply(event)?;
         note_resized(notes, present, segments, blocks);

@@ -18,7 +18,7 @@ use nl_vstore::Vstore;
 use std::alloc::Global;
 
 /// Whether a resize to so many segments adds any, or why a volume can't be of so many.
-fn adds_segments(table: &SegTable, segments: u32) -> Result<bool, VolError>
+pub fn adds_segments(table: &SegTable, segments: u32) -> Result<bool, VolError>
     ensures adds { IfOk result (λ adds. adds ≡ nat_lt (length table.now.each) segments) }
     ensures done { IfOk result (λ _. resized_in table.now segments ≡ Ok Done) }
     ensures refused { IfErr result (λ e. resized_in table.now segments ≡ Err e) }

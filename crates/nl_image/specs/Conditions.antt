@@ -139,6 +139,10 @@ MeetsFirst n bytes p = HoldFirst n conditions bytes p
 abbrev pub IsImage : List ℕ → Parts → Type 0
 IsImage bytes p = MeetsFirst condition_count bytes p
 
+-- the bytes are an image
+abbrev pub AreImage : List ℕ → Type 0
+AreImage bytes = (p : Parts) × IsImage bytes p
+
 -- The condition of this number is the first that fails: the bytes have parts that meet those before it, and
 -- none that meet it too.
 pub record FirstFails (n : ℕ) (bytes : List ℕ) : Type 0 where

@@ -3,4 +3,5 @@ pub mod ConditionOrder
 pub mod LaterConditions
 pub mod OnePayload
 pub mod ReadParts
+pub mod SpelledImages
 pub mod StoreNumbers

@@ -1,5 +1,5 @@
 -- How far the bytes of an image were read.
-use Rattle.std.specs.Prelude.{◌≡◌, ◌⊎◌, ◌<◌, ℕ, List, All, drop, length, replicate, IfSome, Option, Some}
+use Rattle.std.specs.Prelude.{◌≡◌, ◌⊎◌, ◌<◌, ◌≤◌, ℕ, List, All, drop, length, replicate, IfSome, Option, Some}
 use Rattle.nl_types.specs.declared.error.VolError.{VolError}
 use Rattle.nl_types.specs.declared.error.VolError.TheVariants.{BadImage, Memory}
 use Rattle.nl_types.specs.Segments as segments
@@ -26,6 +26,10 @@ use Rattle.nl_image.specs.Parts.{Parts, blocks_in, cpfile_in, dat_in, image_leng
 -- the bytes are refused by the first condition that they fail, or for want of memory
 abbrev pub IsRefusal : List ℕ → VolError → Type 0
 IsRefusal bytes e = (e ≡ Memory) ⊎ ((n : ℕ) × (e ≡ BadImage n) × FirstFails n bytes)
+
+-- the bytes fail one of the first conditions, up to this one, and are refused by the first that they fail
+abbrev pub FailsWithin : (most : ℕ) → List ℕ → VolError → Type 0
+FailsWithin most bytes e = (n : ℕ) × (n ≤ most) × (e ≡ BadImage n) × FirstFails n bytes
 
 -- ---- in front of the tables
 

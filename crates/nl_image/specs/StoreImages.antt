@@ -48,6 +48,17 @@ pub record HaveSpelling (p : Parts) : Type 0 where
   pub numbers : All numbers.HasSpelling p.numbers
   pub kept : All checkpoints.HasSpelling p.kept
 
+-- The bytes are spelled of the store and these entries: the parts in front, and all blocks as the device has
+-- them, with zeros where none is used.
+pub record IsSpelledOf (store : Store) (entries : List CheckpointEntry) (bytes : List ℕ) : Type 0 where
+  pub shape : Superblock
+  pub blocks : List ℕ
+  pub divided : IsShapeOfStore store shape
+  pub count : shape.checkpoints ≡ length entries
+  pub blocks_are : AreBlocksOf (space_in store) blocks
+  pub fit : HaveSpelling (parts_of shape store entries)
+  pub spelled : bytes ≡ image_bytes (parts_of shape store entries) blocks
+
 -- The bytes are the image: its parts, and all blocks as the device has them, with zeros where none is used.
 pub record IsImageOf (store : Store) (kept : List Checkpoint) (bytes : List ℕ) : Type 0 where
   pub shape : Superblock

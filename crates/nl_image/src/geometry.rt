@@ -1,9 +1,8 @@
 //! How the volume of an image is divided.
-ghost use Rattle.std.specs.Prelude.{◌≡◌, ℕ, IfErr, IfOk, IfSome, IsSome};
-ghost use Rattle.nl_types.specs.declared.error.VolError;
-ghost use Rattle.nl_image.specs.Conditions.{FirstFails, IsDividedBy, IsShapeOf, MeetsFirst};
+ghost use Rattle.std.specs.Prelude.{◌≡◌, IfErr, IfOk, IfSome, IsSome};
+ghost use Rattle.nl_image.specs.Conditions.{IsDividedBy, IsShapeOf, MeetsFirst};
 ghost use Rattle.nl_image.specs.Parts.{Parts};
-ghost use Rattle.nl_image.specs.Reading.{BeginsWith};
+ghost use Rattle.nl_image.specs.Reading.{BeginsWith, FailsWithin};
 
 use nl_layout::Superblock;
 use nl_types::{BLOCK_SIZE, Geometry, VolError};
@@ -21,8 +20,7 @@ pub(crate) struct Division {
 pub fn geometry_of(bytes: &[u8]) -> Result<Geometry, VolError>
     ensures found { IfOk result (λ g.
         (p : Parts) × MeetsFirst 2 bytes.now p × IsShapeOf g p.shape) }
-    ensures refused { IfErr result (λ e.
-        (n : ℕ) × (e ≡ VolError.BadImage n) × FirstFails n bytes.now) }
+    ensures refused { IfErr result (FailsWithin 2 bytes.now) }
 {
     let division = division_of(bytes)?;
     Ok(division.geometry)
@@ -32,8 +30,7 @@ pub fn geometry_of(bytes: &[u8]) -> Result<Geometry, VolError>
 pub(crate) fn division_of(bytes: &[u8]) -> Result<Division, VolError>
     ensures begins { IfOk result (λ d. BeginsWith bytes.now d.superblock) }
     ensures shape { IfOk result (λ d. IsShapeOf d.geometry d.superblock) }
-    ensures refused { IfErr result (λ e.
-        (n : ℕ) × (e ≡ VolError.BadImage n) × FirstFails n bytes.now) }
+    ensures refused { IfErr result (FailsWithin 2 bytes.now) }
 {
     if !Superblock::has_mark(bytes) {
         return Err(VolError::BadImage(1));

@@ -1,20 +1,17 @@
 //! The image of a store and of the checkpoints kept over it, written.
-ghost use Rattle.std.specs.Prelude.{◌≡◌, ◌<◌, ◌≤◌, ◌*◌, ◌+◌, ◌^◌, ◌++◌, All, IfErr, IfNone, IfOk, IfSome, IsErrOf, List, length, replicate};
-ghost use Rattle.std.specs.List.{AllZip};
+ghost use Rattle.std.specs.Prelude.{◌≡◌, ◌<◌, ◌≤◌, ◌*◌, ◌+◌, ◌^◌, ◌++◌, All, IfErr, IfNone, IfOk, IfSome, IsErrOf, length, replicate};
 ghost use Rattle.nl_types.specs.Limits as limits;
 ghost use Rattle.nl_types.specs.declared.error.VolError;
-ghost use Rattle.nl_types.specs.Roots.{pages_of};
 ghost use Rattle.nl_layout.specs.Superblock.{superblock_bytes};
 ghost use Rattle.nl_layout.specs.Superblock as superblocks;
 ghost use Rattle.nl_layout.specs.Segment as segments;
 ghost use Rattle.nl_layout.specs.Checkpoints as checkpoints;
 ghost use Rattle.nl_space.specs.Appended.{IsLoadError};
-ghost use Rattle.nl_vstore.specs.Stores.{KeepsStored, capacity, content_in};
+ghost use Rattle.nl_vstore.specs.Stores.{KeepsStored, capacity};
 ghost use Rattle.nl_dat.specs.EntryBytes as numbers;
 ghost use Rattle.nl_dat.specs.Table.{numbers_shown};
-ghost use Rattle.nl_cpfile.specs.declared.checkpoint.Checkpoint.{Checkpoint};
 ghost use Rattle.nl_image.specs.Parts.{blocks_start, entry_bytes, padding_of};
-ghost use Rattle.nl_image.specs.StoreImages.{IsImageOf, IsShapeOfStore, IsSizedEntry, parts_of};
+ghost use Rattle.nl_image.specs.StoreImages.{IsShapeOfStore, IsSpelledOf, parts_of};
 
 use nl_cpfile::write_checkpoints;
 use nl_dat::Dat;
@@ -24,18 +21,15 @@ use nl_types::{BLOCK_SIZE, VolError};
 use nl_vstore::Vstore;
 use std::alloc::Global;
 
-/// The image of a store, with the entries of the checkpoints that are kept over it. Each used block is loaded
-/// once from the device, in order, and nothing else is. Refused by `Memory`, and by `Fault` where the device
-/// failed.
+/// The image of a store, with these entries of checkpoints, whatever they name. Each used block is loaded once
+/// from the device, in order, and nothing else is. Refused by `Memory`, and by `Fault` where the device failed.
 pub fn write_image<S: Space>(
     alloc: Global,
     store: &mut Dat<S>,
     kept: &[CheckpointEntry],
 ) -> Result<Vec<u8>, VolError>
     requires { All numbers.HasSpelling (numbers_shown store.old.store) }
-    ensures image { IfOk result (λ bytes. (all : List Checkpoint)
-        → AllZip (IsSizedEntry (pages_of (content_in store.old.store))) all kept.now
-        → IsImageOf store.old.store all bytes.items) }
+    ensures image { IfOk result (λ bytes. IsSpelledOf store.old.store kept.now bytes.items) }
     ensures same { KeepsStored store.old.store store.new.store }
     ensures counted { store.old.store.failures ≤ store.new.store.failures }
     ensures fault { IsErrOf result VolError.Fault

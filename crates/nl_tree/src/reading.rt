@@ -3,7 +3,7 @@ ghost use Rattle.std.specs.Prelude.{◌≡◌, ◌+◌, ◌<◌, ◌≤◌, ◌^
 ghost use Rattle.nl_types.specs.declared.error.VolError;
 ghost use Rattle.nl_types.specs.Paths.{path_of};
 ghost use Rattle.nl_types.specs.Trees.{Tree};
-ghost use Rattle.nl_types.specs.Calls.{IsUnlessMemory, ShowsUnlessMemory, and_then, list, read, reply_to, stat};
+ghost use Rattle.nl_types.specs.Calls.{IsReadReply, IsUnlessMemory, ShowsUnlessMemory, and_then, list, read, reply_to, stat};
 ghost use Rattle.nl_dirs.specs.declared.record.Record.{Record};
 ghost use Rattle.nl_tree.specs.Held.{Holding, Listed};
 ghost use Rattle.nl_tree.specs.Reading.{ArePartOf, HoldingMeans, ShowsAs, named_of};
@@ -187,10 +187,10 @@ fn answer_stat<T: TreeRead>(tree: &T, path: &[u8]) -> Reply
     Ok(Answer::Stat(found))
 }
 
-/// What a tree answers. Refused as the call is, and by `Memory`.
+/// What a tree answers. Refused as the call is, and by `Memory` where it isn't `stat`, which takes none.
 pub fn answer<T: TreeRead>(alloc: Global, tree: &T, ask: &Ask) -> Reply
     ensures { (held : Holding) (shown : Tree) → T.holds tree.now held → HoldingMeans held shown
-        → IsUnlessMemory result (reply_to shown ask.now) }
+        → IsReadReply ask.now result (reply_to shown ask.now) }
 {
     match ask {
         Ask::Bytes { path, offset, len } => {

@@ -20,7 +20,7 @@ use Rattle.nl_types.specs.declared.reply.Answer.{Answer}
 use Rattle.nl_types.specs.declared.reply.Answer.TheVariants as answer
 use Rattle.nl_types.specs.Limits.{mount_number_limit}
 use Rattle.nl_types.specs.Trees.{Tree}
-use Rattle.nl_types.specs.Calls.{IsUnlessMemory, and_then, change, reply_to, is_dirtying, Changed}
+use Rattle.nl_types.specs.Calls.{IsReadReply, IsUnlessMemory, ReadTakesMemory, and_then, change, reply_to, is_dirtying, Changed}
 use Rattle.nl_types.specs.Worlds.{World, Copy, Reply, Outcome, IsWorld, step, either, refused_if, copy_at, mount_read}
 use Rattle.nl_types.specs.Rows.{is_snapshot}
 use Rattle.nl_types.specs.Runs.{TakesMemory, memory_alone}
@@ -189,14 +189,27 @@ answers cleaned w event (Err e) expected pages l m takes steps is =
     refuses_unless_memory cleaned w event e pages l m takes
     (λ other. steps ∙ ap (λ r. (r, w)) (sym (is (λ same. other cc))))
 
+-- a read answers what is expected, or memory lacks where it takes any
+read-answers : (cleaned : Reply) (w : World) (event : Event) (a : Ask) (reply expected : Reply)
+    (pages : Pages) (l : Lists)
+    → Means pages l w
+    → (ReadTakesMemory a → TakesMemory event) → step cleaned w event ≡ (expected, w)
+    → IsReadReply a reply expected
+    → LeadsInMemory cleaned w event reply pages l
+read-answers cleaned w event a reply expected pages l m may steps (inl same) =
+    keeps cleaned w event reply pages l m (steps ∙ ap (λ r. (r, w)) (sym same))
+read-answers cleaned w event a reply expected pages l m may steps (inr none) =
+    subst (λ r. LeadsInMemory cleaned w event r pages l) (sym none.1)
+    (lacks_memory cleaned w event pages l m (may none.0))
+
 -- what the current tree answers
 pub read-follows : (pages : Pages) (l : Lists) (a : Ask) (reply : Reply)
     → ((base : Holding) (tree : Tree) → HoldsTree pages (root_of (latest_root l)) base
     → StandsOver l.current base tree
-    → IsUnlessMemory reply (reply_to tree a))
+    → IsReadReply a reply (reply_to tree a))
     → StepsWorldsOver pages l (Read a) reply l
 read-follows pages l a reply is = λ cleaned w m.
-    answers cleaned w (Read a) reply (reply_to w.tree a) pages l m tt refl
+    read-answers cleaned w (Read a) a reply (reply_to w.tree a) pages l m (λ takes. takes) refl
     (is m.tree.base w.tree m.tree.holds m.tree.stands)
 
 -- ---- mounts
@@ -309,11 +322,11 @@ pub mount_read-follows : (pages : Pages) (l : Lists) (mount n : ℕ) (c : Checkp
     → find nat_cmp n (map by_number (kept_by l)) ≡ Some c
     → ((held : Holding) (tree : Tree) → HoldsTree pages (root_of (checkpoint_root c)) held
     → HoldingMeans held tree
-    → IsUnlessMemory reply (reply_to tree a))
+    → IsReadReply a reply (reply_to tree a))
     → StepsWorldsOver pages l (MountRead mount a) reply l
 mount_read-follows pages l mount n c a reply mounted kept is = λ cleaned w m.
     let copy = copy_of pages l w n (Some c) m kept in
-    answers cleaned w (MountRead mount a) reply (reply_to copy.0.tree a) pages l m tt
+    read-answers cleaned w (MountRead mount a) a reply (reply_to copy.0.tree a) pages l m (λ takes. takes)
     (ap (λ r. (r, w))
     (mount_read-found w mount n a (Some copy.0) (mount_at pages l w mount (Some n) m mounted) copy.1))
     (is copy.2.tree.held copy.0.tree copy.2.tree.holds copy.2.tree.means)

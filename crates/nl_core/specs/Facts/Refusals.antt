@@ -44,7 +44,7 @@ stays-same old new same = record {
 resize-kept : (segments : ℕ) (e : VolError) (old new : Store) → HasResizedNone segments old new e
     → (e ≢ error.Fault) → StaysStored old new
 resize-kept segments error.Fault old new refused other = absurd (other refl)
-resize-kept segments error.Memory old new refused other = refused
+resize-kept segments error.Memory old new refused other = refused.1
 resize-kept segments _ old new refused other = stays-same old new refused.0
 
 -- what is refused but for a fault is as it was

@@ -1,5 +1,5 @@
 -- What calls that read a tree answer, by what the inodes hold.
-use Rattle.std.proofs.Common.{◌≡◌, ℕ, ◌+◌, ◌-◌, ◌<◌, min, List, [], ◌∷◌, ◌++◌, length, take, drop, slice_index, Option, Some, None, Result, Ok, Err, refl, sym, ap, ◌∙◌, arith, length-drop}
+use Rattle.std.proofs.Common.{◌≡◌, ◌≢◌, ◌⊎◌, inl, inr, ℕ, ◌+◌, ◌-◌, ◌<◌, min, List, [], ◌∷◌, ◌++◌, length, take, drop, slice_index, Option, Some, None, Result, Ok, Err, refl, sym, ap, ◌∙◌, arith, length-drop}
 use Rattle.std.specs.Prelude.{IfErr, IfOk, map}
 use Rattle.std.specs.Option.{option_map}
 use Rattle.std.specs.Result.{IsErrAnd}
@@ -270,3 +270,19 @@ module _ (holding : Holding) (tree : Tree) (means : HoldingMeans holding tree) w
       ∙ ap (λ (names : List Named). Ok names)
       (ap (λ (held : Option Held). map shown (listing_of_held held)) listed.1
       ∙ (listed_shown listed.0 ∙ sym (names listed.0 listed.1))))
+
+-- ---- replies
+
+is_memory : (e : VolError) → (e ≡ Memory) ⊎ (e ≢ Memory)
+is_memory Memory = inl refl
+is_memory _ = inr (λ same. cc)
+
+-- a reply of a read that may take memory
+pub is_read_reply : (reply expected : Result Answer VolError) → IsUnlessMemory reply expected
+    → (reply ≡ expected) ⊎ (Unit {0} × (reply ≡ Err Memory))
+is_read_reply (Ok a) expected is = inl (is (λ same. cc))
+is_read_reply (Err e) expected is =
+    elim (is_memory e) [
+      | inl same ↦ inr (tt, ap Err same)
+      | inr other ↦ inl (is (λ same. other cc))
+    ]

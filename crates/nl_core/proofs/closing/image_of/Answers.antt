@@ -1,8 +1,12 @@
-use Rattle.std.proofs.Common.{subst, sym}
+use Rattle.std.proofs.Common.{List, subst, sym}
 use Rattle.nl_types.specs.Roots.{pages_of}
 use Rattle.nl_vstore.specs.Stores.{content_in}
 use Rattle.nl_cpfile.specs.Tables.{Table, all}
-use Rattle.nl_core.specs.Private.Closed.{HaveSizes}
+use Rattle.nl_layout.specs.declared.checkpoint_entry.CheckpointEntry.{CheckpointEntry}
+use Rattle.nl_image.specs.StoreImages.{IsSpelledOf}
+use Rattle.nl_image.specs.Facts.SpelledImages.{spelled-image}
+use Rattle.nl_core.specs.Private.Closed.{AreSized, HaveSizes}
+use Rattle.nl_core.specs.Volume.{kept_by}
 use Rattle.nl_core.specs.Layout.{layout_of}
 use Rattle.nl_core.proofs.Closed.{have-sizes, numbers-fit, pen-read}
 use Rattle.nl_core.proofs.closing.image_of.Goals as goal
@@ -25,3 +29,15 @@ pub returns-clause-pen : goal.returns-clause-pen
 returns-clause-pen g c =
     pen-read c.args.tables.now.lists c.args.store.now.store c.write_image.new.store.store c.requires
     c.write_image.new.store.sound c.write_image.ensures.same
+
+pub returns-clause-image : goal.returns-clause-image
+returns-clause-image g c =
+    let l = c.args.tables.now.lists in
+    let s = c.args.store.now.store in
+    let entries = c.in_ok-entries.entries.items in
+    let image = c.in_ok-image.image.items in
+    spelled-image s (kept_by l) entries image
+    (subst (λ (t : Table). AreSized (pages_of (content_in s)) (all t) entries) c.checkpoints.ensures
+    c.in_ok-entries.ensures.entries)
+    (subst (λ (es : List CheckpointEntry). IsSpelledOf s es image) c.as_slice.ensures.value
+    c.in_ok-image.ensures.image)

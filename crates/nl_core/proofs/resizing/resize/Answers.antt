@@ -29,6 +29,8 @@ returns-in_err-add_segments-clause-does g c =
     (g.met.V.Vstore.is_store c.add_segments.new.store) c.add_segments.ensures.counted
     c.in_err-add_segments.field-0.0
     (not-grown c.args.segments c.in_err-add_segments.field-0.0 old new
+    (subst (λ (s : Segments). resized_in s c.args.segments ≡ Ok answer.Done) c.table.ensures
+    c.in_ok-adds_segments.ensures.done)
     c.in_err-add_segments.ensures.refused))
 
 pub returns-in_err-add_segments-clause-needed : goal.returns-in_err-add_segments-clause-needed

@@ -1,4 +1,5 @@
 use Rattle.std.proofs.Common.{refl}
+use Rattle.std.proofs.lemmas.Result.{err_from_is_err_and}
 use Rattle.nl_image.proofs.FirstConditions.{other-length}
 use Rattle.nl_image.proofs.sections.sections_of.Goals as goal
 
@@ -9,3 +10,9 @@ returns-in-None-clause-refused c = (
   other-length c.args.image.now c.in_ok-division.division.superblock c.in_ok-division.ensures.begins
       c.in-None.ensures.none,
 )
+
+pub returns-in_err-division-clause-refused : goal.returns-in_err-division-clause-refused
+returns-in_err-division-clause-refused c =
+    let p = err_from_is_err_and c.from_residual.result c.from_residual.ensures.1 in
+    let fails = c.in_err-division.ensures.refused in
+    rw (p.1, p.2) (fails.0, fails.2, fails.3)

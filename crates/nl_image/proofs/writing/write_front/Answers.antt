@@ -1,6 +1,6 @@
-use Rattle.std.proofs.Common.{◌≡◌, ◌∙◌, ℕ, ◌+◌, ◌*◌, List, ◌++◌, length, replicate, ap, append_assoc, arith, sym}
+use Rattle.std.proofs.Common.{◌≡◌, ◌∙◌, ℕ, ◌*◌, List, ◌++◌, replicate, ap, append_assoc, arith, sym}
 use Rattle.nl_sufile.specs.Images.{sufile_bytes}
-use Rattle.nl_image.specs.Parts.{padding_of, padding_start}
+use Rattle.nl_image.specs.Parts.{padding_of}
 use Rattle.nl_image.proofs.writing.write_front.Goals as goal
 
 -- five parts, one after the other

@@ -1,6 +1,5 @@
 use Rattle.std.proofs.Common.{◌≡◌, ◌∙◌, ℕ, List, ◌++◌, length, ap, arith, length-append, take}
 use Rattle.std.proofs.Math.Seq.{take-append_seam}
-use Rattle.std.proofs.lemmas.Slice.Zip.{AllZip-long}
 use Rattle.nl_image.proofs.writing.write_image.Goals as goal
 
 -- what is written fills the place, which is nothing else
@@ -11,18 +10,14 @@ filled n front blocks rest spelling count is =
     ∙ ap (λ f. f ++ blocks) is
 
 pub returns-clause-image : goal.returns-clause-image
-returns-clause-image g c all sized =
+returns-clause-image g c =
     let long : c.in_ok-image.image.len ≡ length (c.write_front.new.out ++ c.dump_blocks.new.out) =
     omega (arith, length-append c.write_front.new.out c.dump_blocks.new.out) in
     record {
       shape = c.superblock_over-superblock.result;
-      entries = c.args.kept.now;
       blocks = c.dump_blocks.new.out;
-      are = record {
-        shape = c.superblock_over-superblock.ensures.shape;
-        count = c.superblock_over-superblock.ensures.kept ∙ AllZip-long _ all c.args.kept.now sized;
-        sized = sized;
-      };
+      divided = c.superblock_over-superblock.ensures.shape;
+      count = c.superblock_over-superblock.ensures.kept;
       blocks_are = c.in_ok-dump_blocks.ensures.blocks;
       fit = record {
         shape = c.write_front.ensures.superblock;
