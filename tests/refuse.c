@@ -1,6 +1,7 @@
 /* Stands before the C library (LD_PRELOAD), and lets one call of a program fail. The environment names it by its number:
    REFUSED=N    the Nth request for memory gets none;
-   FAILED=N     the Nth call that opens, reads, writes, stores, renames, or asks what stands at a path, fails with EIO;
+   FAILED=N     the Nth call that opens, locks, reads, writes, stores, links, renames, removes, gives an owner or a
+                mode, or asks what stands at a path, fails with EIO;
    SHORTENED=N  the Nth read or write of more than one byte is of one byte alone.
    Descriptor 9 is told which call it was, and of what. The calls of several threads aren't counted apart. */
 #define _GNU_SOURCE
@@ -11,6 +12,7 @@
 #include <stdio.h>
 #include <stdlib.h>
 #include <string.h>
+#include <sys/file.h>
 #include <sys/stat.h>
 #include <sys/syscall.h>
 #include <unistd.h>
@@ -32,7 +34,7 @@ static int comes(struct turn *turn, const char *call, const char *of) {
 static const char *of(int file) {
     static char name[64], path[4096];
     snprintf(name, sizeof name, file < 3 ? "%d" : "/proc/self/fd/%d", file);
-    ssize_t n = file < 3 ? -1 : readlink(name, path, sizeof path - 1);
+    ssize_t n = file < 3 ? -1 : syscall(SYS_readlinkat, AT_FDCWD, name, path, sizeof path - 1);
     return n < 0 ? name : (path[n] = 0, path);
 }
 
@@ -54,14 +56,22 @@ int open(const char *path, int flags, ...) {
 }
 ssize_t read(int f, void *p, size_t n) { REAL(read); return FAILS(read, of(f)) ? -1 : real(f, p, SHORT(read, f, n)); }
 ssize_t write(int f, const void *p, size_t n) { REAL(write); return FAILS(write, of(f)) ? -1 : real(f, p, SHORT(write, f, n)); }
+int flock(int f, int how) { REAL(flock); return FAILS(flock, of(f)) ? -1 : real(f, how); }
 int fsync(int f) { REAL(fsync); return FAILS(fsync, of(f)) ? -1 : real(f); }
 int fchmod(int f, mode_t mode) { REAL(fchmod); return FAILS(fchmod, of(f)) ? -1 : real(f, mode); }
+int fchown(int f, uid_t u, gid_t g) { REAL(fchown); return FAILS(fchown, of(f)) ? -1 : real(f, u, g); }
+int link(const char *a, const char *b) { REAL(link); return FAILS(link, b) ? -1 : real(a, b); }
+int unlink(const char *path) { REAL(unlink); return FAILS(unlink, path) ? -1 : real(path); }
 int rename(const char *a, const char *b) { REAL(rename); return FAILS(rename, b) ? -1 : real(a, b); }
-char *realpath(const char *path, char *to) { REAL(realpath); return FAILS(realpath, path) ? 0 : real(path, to); }
+ssize_t readlink(const char *path, char *to, size_t n) {
+    REAL(readlink);
+    return FAILS(readlink, path) ? -1 : real(path, to, n);
+}
 
-/* Asks of a path, or of an open file, whose path is empty then. */
+/* Asks of a path, where its links lead to or of itself, or of an open file, whose path is empty then. */
 int statx(int file, const char *path, int flags, unsigned wanted, struct statx *found) {
     REAL(statx);
-    int fails = *path ? comes(&failed, "stat", path) : comes(&failed, "fstat", of(file));
+    const char *name = flags & AT_SYMLINK_NOFOLLOW ? "lstat" : *path ? "stat" : "fstat";
+    int fails = comes(&failed, name, *path ? path : of(file));
     return fails ? -1 : real(file, path, flags, wanted, found);
 }

@@ -2,12 +2,13 @@
 //! is no command, that line is told as usage.
 use crate::counts::count;
 use nl_session::session;
+use std::fs::File;
 use std::rt::Files;
 use std::sync::Wait;
 use std::test::Fail;
 use std::thread::Threads;
 
-/// Each command once or more, with a letter of two bytes in a comment and in paths. Every line is done.
+/// Each command but `resize` once or more, with a letter of two bytes in a comment and in paths. Every line is done.
 const SCRIPT: &str = "# é
 at 7
 mkdir /d
@@ -57,14 +58,14 @@ struct Told {
 }
 
 /// The status of a script on a small volume, with what it prints.
-fn status_of<R: AllocGlobal + Files + Threads + Wait + Sync>(
+fn status_of<R: AllocGlobal + Files<File = File> + Threads + Wait + Sync>(
     rt: &R,
     script: &[u8],
     output: &mut Vec<u8>,
 ) -> u8 {
     let words = ["--segments", "16", "--blocks", "8"];
     let mut errors = Vec::new(rt.alloc());
-    session(rt, &words, script, output, &mut errors)
+    session(rt, &words, false, script, output, &mut errors).status
 }
 
 fn line_breaks(text: &[u8]) -> usize {
@@ -77,7 +78,7 @@ fn ends_in_usage<R: AllocGlobal>(rt: &R, output: &[u8], line: usize) -> Result<b
     Ok(output.ends_with(usage.as_bytes()))
 }
 
-fn run_beginning<R: AllocGlobal + Files + Threads + Wait + Sync>(
+fn run_beginning<R: AllocGlobal + Files<File = File> + Threads + Wait + Sync>(
     rt: &R,
     script: &[u8],
     told: &mut Told,
@@ -92,7 +93,9 @@ fn run_beginning<R: AllocGlobal + Files + Threads + Wait + Sync>(
     Ok(())
 }
 
-fn run_beginnings<R: AllocGlobal + Files + Threads + Wait + Sync>(rt: &R) -> Result<Told, Fail> {
+fn run_beginnings<R: AllocGlobal + Files<File = File> + Threads + Wait + Sync>(
+    rt: &R,
+) -> Result<Told, Fail> {
     let mut told = Told {
         statuses: [0; 3],
         usages: [0; LINES],

@@ -9,4 +9,6 @@ pub mod Lines
 pub mod Scripts
 pub mod Configurations
 pub mod Files
+pub mod FilesFound
+pub mod SideNames
 pub mod Private

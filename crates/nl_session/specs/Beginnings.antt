@@ -1,5 +1,5 @@
 -- What a session begins with: the pen of a new volume, or that of an image.
-use Rattle.std.specs.Prelude.{◌≡◌, ◌⊎◌, ℕ, List, IsSome, None}
+use Rattle.std.specs.Prelude.{◌≡◌, ◌⊎◌, ℕ, List, IsSome, None, Option, option_map}
 use Rattle.nl_types.specs.Limits.{IsGeometry}
 use Rattle.nl_types.specs.Worlds.{formatted}
 use Rattle.nl_types.specs.declared.error.VolError.{VolError}
@@ -7,7 +7,7 @@ use Rattle.nl_types.specs.declared.error.VolError.TheVariants.{BadGeometry, BadI
 use Rattle.nl_types.specs.declared.geometry.Geometry.{Geometry}
 use Rattle.nl_device.specs.Failures.{Failures}
 use Rattle.nl_device.specs.Pages.{DevicePages}
-use Rattle.nl_image.specs.Conditions.{FirstFails}
+use Rattle.nl_image.specs.Conditions.{AreImage, FirstFails}
 use Rattle.nl_image.specs.Parts.{with_present_mark}
 use Rattle.nl_core.specs.Layout.{IsFormatted, IsPen, Layout, MeansWorld}
 use Rattle.nl_core.specs.Opened.{IsAtRest}
@@ -17,8 +17,9 @@ use Rattle.nl_texts.specs.declared.refusals.StartStep.{StartStep}
 use Rattle.nl_texts.specs.declared.refusals.StartStep.TheVariants as step
 use Rattle.nl_script.specs.declared.files.FileFault.{FileFault}
 use Rattle.nl_script.specs.declared.files.FileFault.TheVariants as file
+use Rattle.nl_script.specs.declared.saving.SavePlace.{SavePlace}
 use Rattle.nl_session.specs.declared.starting.StartFault.{StartFault}
-use Rattle.nl_session.specs.declared.starting.StartFault.TheVariants.{Unread, Refused}
+use Rattle.nl_session.specs.declared.starting.StartFault.TheVariants.{InUse, Unread, Refused}
 
 -- the pen has this geometry and checkpoint 1 of the root alone, of moment 0
 pub record IsNewPen (geometry : Geometry) (l : Layout) : Type 0 where
@@ -27,9 +28,10 @@ pub record IsNewPen (geometry : Geometry) (l : Layout) : Type 0 where
   pub is_formatted : IsFormatted geometry pages failures 0 l
   pub means : MeansWorld l (formatted 0)
 
--- the pen has this image under the present mark, nothing differs from its latest checkpoint, and nothing was
--- mounted
+-- the bytes are an image, which is the pen's under the present mark; nothing differs from its latest
+-- checkpoint, and nothing was mounted
 pub record IsOpenedPen (image : List ℕ) (l : Layout) : Type 0 where
+  pub meets : AreImage image
   pub image_is : IsPenImage l (with_present_mark image)
   pub pen : IsPen l
   pub rest : IsAtRest l.lists
@@ -61,6 +63,10 @@ pub record IsBegunBy (arguments : Arguments) (l : Layout) : Type 0 where
   pub asked : AsksToBegin arguments beginning
   pub pen : IsPenOf beginning l
 
+-- the path of the file that is saved in the end
+abbrev pub place_path : Option SavePlace → Option (List ℕ)
+place_path = option_map (λ place. place.path.now)
+
 -- ---- refusals
 
 abbrev pub IsMemoryOrFault : VolError → Type 0
@@ -86,13 +92,15 @@ IsStartRefused arguments step.Geometry error =
     (arguments.open ≡ None) × (IsGeometry arguments.segments arguments.blocks → ⊥) × (error ≡ BadGeometry)
 IsStartRefused arguments step.Start error = IsGeometryJudged arguments × IsMemoryOrFault error
 
--- or the file of the image can't be read
+-- or the file of the image can't be read, or another program has the one that is to be saved
 abbrev pub IsStartFault : Arguments → StartFault → Type 0
+IsStartFault arguments InUse = IsSome arguments.save
 IsStartFault arguments Unread = IsSome arguments.open
 IsStartFault arguments (Refused step error) = IsStartRefused arguments step error
 
 -- a fault of an image that is asked for: its file isn't read, it is none, or there is no memory for it
 abbrev pub IsImageFault : StartFault → Type 0
+IsImageFault InUse = ⊥
 IsImageFault Unread = Unit {0}
 IsImageFault (Refused step.Image error) = IsNoImage error
 IsImageFault (Refused step.Start error) = IsMemoryOrFault error

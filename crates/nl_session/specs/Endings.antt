@@ -1,5 +1,5 @@
 -- How a session ends behind its script: where that is asked for, the volume's image is saved.
-use Rattle.std.specs.Prelude.{◌≡◌, ◌≢◌, ◌⊎◌, ℕ, Bool, true, false, List, Option, None, Ok, Err}
+use Rattle.std.specs.Prelude.{◌≡◌, ◌≢◌, ◌⊎◌, ◌++◌, ℕ, Bool, true, false, List, Option, None, Some, Ok, Err}
 use Rattle.nl_types.specs.declared.error.VolError.{VolError}
 use Rattle.nl_types.specs.declared.error.VolError.TheVariants.{Fault, Memory}
 use Rattle.nl_types.specs.declared.event.Event.TheVariants.{Checkpoint}
@@ -9,6 +9,12 @@ use Rattle.nl_core.specs.Layout.{Does, IsPen, Layout, unshared}
 use Rattle.nl_core.specs.PenImages.{CanBeClosed, IsPenImage}
 use Rattle.nl_script.specs.Scripts.{exit_status}
 use Rattle.nl_script.specs.declared.scripts.Done.{Done}
+use Rattle.nl_texts.specs.RefusalTexts.{changed_text, save_text, unwritten_text}
+use Rattle.nl_texts.specs.Texts.{Text}
+use Rattle.nl_session.specs.Telling.{Errors, Tells, failure_text}
+use Rattle.nl_session.specs.declared.ending.SaveFault.{SaveFault}
+use Rattle.nl_session.specs.declared.ending.SaveFault.TheVariants as fault
+use Rattle.nl_session.specs.declared.telling.SessionEnd.{SessionEnd}
 
 -- a plain checkpoint is made where something is dirty
 abbrev pub IsSettled : (dirty : Bool) → (moment : ℕ) → Layout → Layout → Type 0
@@ -38,17 +44,49 @@ IsSaveRefused moment left error = IsUnsettled moment left error ⊎ ((error ≡ 
 abbrev pub unsaved : Done → Done
 unsaved done = record done { refused = true }
 
--- the status is the script's, and no word is said of errors, unless a stream failed
-pub record IsQuietEnd {E : Type 0} (done : Done) (errors told : E) (status : ℕ) : Type 0 where
+-- ---- why it isn't saved
+
+-- the checkpoint or the image is refused; or its file isn't written, of which no contract speaks
+abbrev pub IsSaveFault : (moment : ℕ) → Layout → SaveFault → Type 0
+IsSaveFault moment left (fault.Refused error) = IsSaveRefused moment left error
+IsSaveFault moment left _ = Unit {0}
+
+-- what is told of it, with the path as it was given
+abbrev pub IsTextOf : (path : Text) → SaveFault → (text : Text) → Type 0
+IsTextOf path fault.Unwritten text = text ≡ unwritten_text path
+IsTextOf path (fault.Refused error) text = text ≡ save_text error
+IsTextOf path (fault.Changed side) text = (beside : Text) × (text ≡ changed_text path beside)
+
+pub record IsUnsavedText (path : Text) (moment : ℕ) (left : Layout) (text : Text) : Type 0 where
+  pub fault : SaveFault
+  pub is_fault : IsSaveFault moment left fault
+  pub is_text : IsTextOf path fault text
+
+-- ---- the end
+
+-- the status is the script's; what is to be told is which stream failed, and nothing is told if none did
+pub record IsQuietEnd {E : Type 0} (done : Done) (text : Text) (errors told : E) (status : ℕ) : Type 0 where
   pub status_is : status ≡ exit_status done
+  pub text_is : text ≡ failure_text done.failed
   pub silent : done.failed ≡ None → told ≡ errors
 
--- Nothing is to be saved; or the image of what the script left is, at its last moment; or that isn't, which
--- is told. What is in the file then is known to no contract.
-pub data Ends {E : Type 0} (save : Option (List ℕ)) (left : Layout) (done : Done)
+-- Nothing is to be saved; or the image of what the script left is, at its last moment; or that isn't. Then
+-- why is to be told too. What is in the file then is known to no contract.
+pub data Ends {E : Type 0} (save : Option Text) (left : Layout) (done : Done) (text : Text)
     (errors told : E) (status : ℕ) : Type 0 where
-  Plainly : save ≡ None → IsQuietEnd done errors told status → Ends save left done errors told status
+  Plainly : save ≡ None → IsQuietEnd done text errors told status
+      → Ends save left done text errors told status
   Saved : (image : List ℕ) → save ≢ None → SavesFrom done.moment left image
-      → IsQuietEnd done errors told status
-      → Ends save left done errors told status
-  Unsaved : save ≢ None → status ≡ exit_status (unsaved done) → Ends save left done errors told status
+      → IsQuietEnd done text errors told status
+      → Ends save left done text errors told status
+  Unsaved : (path why : Text) → save ≡ Some path → IsUnsavedText path done.moment left why
+      → text ≡ failure_text done.failed ++ why
+      → status ≡ exit_status (unsaved done)
+      → Ends save left done text errors told status
+
+-- and the text is told
+pub record TellsEnd {E : Type 0} (save : Option Text) (left : Layout) (done : Done) (errors : Errors E)
+    (end : SessionEnd) : Type 0 where
+  pub text : Text
+  pub ends : Ends save left done text errors.before errors.after end.status
+  pub tells : Tells text errors end.told

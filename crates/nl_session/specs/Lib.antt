@@ -4,3 +4,4 @@ pub mod Laws
 pub mod SharedLaws
 pub mod Beginnings
 pub mod Endings
+pub mod Telling

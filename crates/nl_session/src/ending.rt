@@ -1,25 +1,34 @@
 //! How a session ends behind its script: where that is asked for, the volume's image is saved.
-ghost use Rattle.std.specs.Prelude.{◌≡◌, IfErr, IfOk, IsOk, List, [], option_map, ℕ};
+ghost use Rattle.std.specs.Prelude.{◌≡◌, IfErr, IfOk, IsOk, List, [], ℕ};
 ghost use Rattle.nl_script.specs.Scripts.{exit_status};
-ghost use Rattle.nl_session.specs.Endings.{Ends, IsSaveRefused, IsSettled, IsUnsettled, SavesFrom, unsaved};
+ghost use Rattle.nl_session.specs.Beginnings.{place_path};
+ghost use Rattle.nl_core.specs.Layout.{Layout};
+ghost use Rattle.nl_texts.specs.Texts.{Text};
+ghost use Rattle.nl_session.specs.Endings as endings;
+ghost use Rattle.nl_session.specs.Endings.{IsSaveFault, IsSaveRefused, IsSettled, IsTextOf, IsUnsettled, SavesFrom, TellsEnd};
+ghost use Rattle.nl_session.specs.Telling.{Tells, TellsMore, errors_of};
 
-use nl_arguments::Arguments;
+use crate::telling::{SessionEnd, tell_stream};
 use nl_core::Pen;
 use nl_device::Device;
-use nl_script::{Done, write_file};
-use nl_texts::{StandardStream, save_text, stream_text, unwritten_text};
-use nl_types::{Event, Items, Mode, VolError};
+use nl_script::{Done, SavePlace, Saved};
+use nl_texts::{changed_text, save_text, unwritten_text};
+use nl_types::{Event, Mode, VolError};
+use std::fs::File;
 use std::io;
 use std::io::{ErrorKind, Write};
+use std::path::PathBuf;
 use std::rt::Files;
 
 /// Why a volume isn't saved.
-#[derive(Clone, Copy, Debug, PartialEq, Eq)]
-enum SaveFault {
+#[derive(Debug, Drop)]
+pub enum SaveFault {
     /// The file can't be written.
     Unwritten,
-    /// The last checkpoint or the image is refused.
+    /// The last checkpoint or the image is refused, or there is no memory to write it.
     Refused(VolError),
+    /// Another program changed the file. The image is in the one at this path.
+    Changed(PathBuf),
 }
 
 /// Makes a plain checkpoint where something is dirty.
@@ -49,92 +58,101 @@ fn image_of<D: Device>(pen: &mut Pen<D>, moment: u64) -> Result<Vec<u8>, VolErro
 }
 
 /// A write that fails for want of memory isn't the file's fault.
-fn write_fault(error: &io::Error) -> SaveFault {
+fn write_fault(error: &io::Error) -> SaveFault
+    ensures { (moment : ℕ) (left : Layout) → IsSaveFault moment left result }
+{
     if error.kind() == ErrorKind::OutOfMemory {
         return SaveFault::Refused(VolError::Memory);
     }
     SaveFault::Unwritten
 }
 
-/// Saves the image of what a script left, in the file at a path.
-fn save<R: AllocGlobal + Files, D: Device>(
+/// Saves the image of what a script left, at a place.
+fn save<R: AllocGlobal + Files<File = File>, D: Device>(
     rt: &R,
-    path: &[u8],
+    place: &mut SavePlace<'_>,
     mut pen: Pen<D>,
     moment: u64,
 ) -> Result<(), SaveFault>
     requires { pen.lists.mounts ≡ [] }
-    ensures { IsOk result → (image : List ℕ) × SavesFrom moment pen image }
+    ensures saved { IsOk result → (image : List ℕ) × SavesFrom moment pen image }
+    ensures refused { IfErr result (IsSaveFault moment pen) }
 {
     let image = match image_of(&mut pen, moment) {
         Ok(image) => image,
         Err(error) => return Err(SaveFault::Refused(error)),
     };
-    match write_file(rt, path, image.as_slice()) {
-        Ok(()) => Ok(()),
+    match place.save(rt, image.as_slice()) {
+        Ok(Saved::There) => Ok(()),
+        Ok(Saved::Beside(side)) => Err(SaveFault::Changed(side)),
         Err(error) => Err(write_fault(&error)),
     }
 }
 
 /// Tells why the volume isn't saved.
-fn tell_unsaved<E: Write>(path: &[u8], fault: SaveFault, errors: &mut E) {
-    // Where this can't be told either, the status still says it.
-    let _ = match fault {
-        SaveFault::Unwritten => unwritten_text(path, errors),
-        SaveFault::Refused(error) => save_text(error, errors),
-    };
+fn tell_unsaved<E: Write>(path: &[u8], fault: &SaveFault, errors: &mut E) -> bool
+    ensures { (text : Text) × IsTextOf path.now fault.now text
+        × Tells text (errors_of E.contents errors.old errors.new) result }
+{
+    match fault {
+        SaveFault::Unwritten => unwritten_text(path, errors).is_ok(),
+        SaveFault::Refused(error) => save_text(*error, errors).is_ok(),
+        SaveFault::Changed(side) => changed_text(path, side.as_str().as_bytes(), errors).is_ok(),
+    }
 }
 
 /// The status of a script behind which the volume wasn't saved.
 fn unsaved_status(mut done: Done) -> u8
-    ensures { result ≡ exit_status (unsaved done) }
+    ensures { result ≡ exit_status (endings.unsaved done) }
 {
     done.refused = true;
     done.exit_status()
 }
 
-/// Tells that a standard stream failed.
-pub fn tell_failure<E: Write>(stream: StandardStream, errors: &mut E) {
-    // Where this can't be told either, the status still says it.
-    let _ = stream_text(stream, errors);
-}
-
-/// Tells which stream failed, if one did.
-fn tell_stream<E: Write>(done: Done, errors: &mut E)
-    ensures { done.failed ≡ None → errors.new ≡ errors.old }
+/// Tells why the volume isn't saved, behind what was told, and ends the session.
+fn unsaved<E: Write>(
+    path: &[u8],
+    done: Done,
+    fault: &SaveFault,
+    told: bool,
+    errors: &mut E,
+) -> SessionEnd
+    ensures status { result.status ≡ exit_status (endings.unsaved done) }
+    ensures told { (text : Text) × IsTextOf path.now fault.now text
+        × TellsMore told text (errors_of E.contents errors.old errors.new) result.told }
 {
-    if let Some(stream) = done.failed {
-        tell_failure(stream, errors);
+    let is_told = tell_unsaved(path, fault, errors);
+    SessionEnd {
+        status: unsaved_status(done),
+        told: told && is_told,
     }
 }
 
-fn save_path(arguments: &Arguments) -> Option<&[u8]>
-    ensures { option_map (λ p. p.now) result ≡ arguments.now.save }
-{
-    arguments.save.as_ref().map(Items::as_slice)
-}
-
-/// Ends a session: tells which stream failed, if one did, and saves what the script left where that was asked
-/// for. Answers the status.
-pub fn end<R: AllocGlobal + Files, D: Device, E: Write>(
+/// Ends a session: tells which stream failed, if one did, and saves what the script left where there is a
+/// place for it.
+pub fn end<R: AllocGlobal + Files<File = File>, D: Device, E: Write>(
     rt: &R,
-    arguments: &Arguments,
+    place: Option<SavePlace<'_>>,
     done: Done,
     pen: Pen<D>,
     errors: &mut E,
-) -> u8
+) -> SessionEnd
     requires { pen.lists.mounts ≡ [] }
-    ensures { Ends arguments.now.save pen done errors.old errors.new result }
+    ensures { TellsEnd (place_path place.entry) pen done (errors_of E.contents errors.old errors.new) result }
 {
-    tell_stream(done, errors);
-    let Some(path) = save_path(arguments) else {
-        return done.exit_status();
+    let told = tell_stream(done.failed, errors);
+    let Some(mut place) = place else {
+        return SessionEnd {
+            status: done.exit_status(),
+            told,
+        };
     };
-    match save(rt, path, pen, done.moment) {
-        Ok(()) => done.exit_status(),
-        Err(fault) => {
-            tell_unsaved(path, fault, errors);
-            unsaved_status(done)
-        }
+    let path = place.path;
+    match save(rt, &mut place, pen, done.moment) {
+        Ok(()) => SessionEnd {
+            status: done.exit_status(),
+            told,
+        },
+        Err(fault) => unsaved(path, done, &fault, told, errors),
     }
 }

@@ -5,10 +5,13 @@
 #![tactic(auto)]
 
 mod ending;
+mod inputs;
 pub mod laws;
 mod sessions;
 mod shared;
 mod starting;
+mod telling;
 
 pub use sessions::session;
 pub use shared::SharedVolume;
+pub use telling::SessionEnd;

@@ -1,23 +1,30 @@
 //! A session of the program: the words behind its name, and then a script on a volume in memory.
-ghost use Rattle.std.specs.Prelude.{◌≡◌, map, option_map, IfErr, IfOk, IsOkUnless, List, None, OnErr, OnOk, Option, ℕ};
+ghost use Rattle.std.specs.Prelude.{◌≡◌, Bool, map, option_map, IfErr, IfOk, IsOkUnless, List, None, OnErr, OnOk, Option, ℕ};
 ghost use Rattle.std.specs.Io.KnownBytes.{Appends};
-ghost use Rattle.nl_arguments.specs.Statuses.{fault_status};
-ghost use Rattle.nl_session.specs.Sessions.{IsScriptRun, IsSession, Prints, RunsOn, RunsOrRefuses, RunsWith, printing_of, streams};
+ghost use Rattle.nl_session.specs.Beginnings.{IsBegunBy, IsStartFault, place_path};
+ghost use Rattle.nl_session.specs.Sessions.{IsScriptRun, IsSession, Prints, RunsBegun, RunsOn, RunsOrRefuses, RunsWith, printing_of, streams};
+ghost use Rattle.nl_session.specs.Telling.{errors_of};
 
-use crate::ending::{end, tell_failure};
+use crate::ending::end;
+use crate::inputs::buffered;
 use crate::shared::SharedVolume;
-use crate::starting::{MOMENT, StartFault, pen_for};
-use nl_arguments::{Arguments, ArgumentsFault, Asked, read};
+use crate::starting::{MOMENT, StartFault, pen_for, place_for};
+use crate::telling::{
+    SessionEnd, save_path, tell_configuration, tell_failure, tell_fault, tell_notice, tell_refusal,
+    tell_words,
+};
+use nl_arguments::{Arguments, Asked, read};
 use nl_core::Pen;
 use nl_device::MemDevice;
 use nl_protect::Config;
 use nl_publish::{Opened, Volumes};
-use nl_script::{Done, FileFault, Readers, configuration, script};
-use nl_texts::{StandardStream, StartStep, start_text, unread_text};
+use nl_script::{Done, Readers, SavePlace, configuration, script};
+use nl_texts::{StandardStream, StartStep};
 use nl_types::{Items, VolError};
 use std::alloc::Global;
+use std::fs::File;
 use std::io;
-use std::io::{BufReader, Read, Write};
+use std::io::{Read, Write};
 use std::marker::Brand;
 use std::rt::Files;
 use std::sync::Wait;
@@ -38,7 +45,7 @@ fn run_on<J: Volumes + Send + Sync, R: Threads + Wait + Sync, I: Read + Drop, O:
     ensures refused { IsOkUnless result VolError.Memory }
     ensures unprinted { OnErr result (output.new ≡ output.old) }
 {
-    let input = BufReader::new(alloc, input).map_err(|_| VolError::Memory)?;
+    let input = buffered(alloc, input)?;
     Ok(script(alloc, volume, readers, config, MOMENT, input, output))
 }
 
@@ -68,15 +75,6 @@ fn run_script<J: Volumes + Send + Sync, R: Threads + Wait + Sync, I: Read + Drop
     Ok((done, pen))
 }
 
-/// Tells of a refusal before the first line, and answers the status for it.
-fn refused<E: Write>(step: StartStep, error: VolError, errors: &mut E) -> u8
-    ensures { result ≡ 1 }
-{
-    // Where this can't be told either, the status still says that something was refused.
-    let _ = start_text(step, error, errors);
-    1
-}
-
 /// Writes a text, and hands it on.
 fn written<O: Write>(text: &[u8], output: &mut O) -> io::Result<()>
     ensures { OnOk result (Appends (O.contents output.old) (O.contents output.new) text.now) }
@@ -86,82 +84,96 @@ fn written<O: Write>(text: &[u8], output: &mut O) -> io::Result<()>
 }
 
 /// Writes the text that a person asked for. An empty one would be no answer.
-fn told<O: Write, E: Write>(text: &str, output: &mut O, errors: &mut E) -> u8
-    ensures { (input : Option (List ℕ)) → Prints text.now
-        (streams input O.contents output.old output.new errors.old errors.new) result }
+fn print_asked<O: Write, E: Write>(text: &str, output: &mut O, errors: &mut E) -> SessionEnd
+    ensures { (is_typed : Bool) (input : Option (List ℕ)) → Prints text.now
+        (streams is_typed (printing_of input O.contents output.old output.new)
+        (errors_of E.contents errors.old errors.new)) result }
 {
     if written(text.as_bytes(), output).is_err() {
-        tell_failure(StandardStream::Output, errors);
-        return 1;
+        return SessionEnd {
+            status: 1,
+            told: tell_failure(StandardStream::Output, errors),
+        };
     }
-    u8::from(text.is_empty())
-}
-
-/// Tells what is wrong with the words.
-fn misread<E: Write>(fault: &ArgumentsFault, errors: &mut E) -> u8
-    ensures { result ≡ fault_status fault.now }
-{
-    // Where this can't be told, the status still says it.
-    let _ = match fault {
-        ArgumentsFault::Misread(text) => errors.write_all(text.as_bytes()),
-        ArgumentsFault::Memory => start_text(StartStep::Start, VolError::Memory, errors),
-    };
-    fault.status()
-}
-
-/// Tells why there is no configuration, and answers the status for it.
-fn unconfigured<E: Write>(path: &[u8], fault: FileFault, errors: &mut E) -> u8
-    ensures { result ≡ 1 }
-{
-    match fault {
-        FileFault::Unread => {
-            // Where this can't be told either, the status still says that something was refused.
-            let _ = unread_text(path, errors);
-            1
-        }
-        FileFault::Refused(VolError::Memory) => {
-            refused(StartStep::Start, VolError::Memory, errors)
-        }
-        FileFault::Refused(error) => refused(StartStep::Configuration, error, errors),
+    SessionEnd {
+        status: u8::from(text.is_empty()),
+        told: true,
     }
 }
 
-/// Tells why there is no volume, and answers the status for it.
-fn unstarted<E: Write>(arguments: &Arguments, fault: StartFault, errors: &mut E) -> u8
-    ensures { result ≡ 1 }
-{
-    match fault {
-        StartFault::Unread => {
-            let path = arguments.open.as_ref().map(Items::as_slice);
-            // Where this can't be told either, the status still says that something was refused.
-            let _ = unread_text(path.unwrap_or_default(), errors);
-            1
-        }
-        StartFault::Refused(step, error) => refused(step, error, errors),
-    }
-}
-
-fn run_with<R: AllocGlobal + Files + Threads + Wait + Sync, I: Read + Drop, O: Write, E: Write>(
+/// What a session begins with: the place where it saves, if it does, and then its volume.
+fn begin<'a, R: AllocGlobal + Files<File = File>>(
     rt: &R,
-    arguments: &Arguments,
+    arguments: &'a Arguments,
+) -> Result<(Option<SavePlace<'a>>, Pen<MemDevice>), StartFault>
+    ensures place { IfOk result (λ begun. place_path begun.0 ≡ arguments.now.save) }
+    ensures begun { IfOk result (λ begun. IsBegunBy arguments.now begun.1) }
+    ensures refused { IfErr result (IsStartFault arguments.now) }
+{
+    let place = place_for(rt, arguments)?;
+    let pen = pen_for(rt, arguments)?;
+    Ok((place, pen))
+}
+
+/// Runs the script on its volume and ends, behind what was told.
+fn run_begun<
+    R: AllocGlobal + Files<File = File> + Threads + Wait + Sync,
+    I: Read + Drop,
+    O: Write,
+    E: Write,
+>(
+    rt: &R,
+    begun: (Option<SavePlace<'_>>, Pen<MemDevice>),
     config: &Config,
     input: I,
     output: &mut O,
     errors: &mut E,
-) -> u8
-    ensures { RunsWith arguments.now config.now (streams (I.remaining input) O.contents
-        output.old output.new errors.old errors.new) result }
+) -> SessionEnd
+    ensures { RunsBegun (place_path begun.entry.0) begun.entry.1 config.now
+        (printing_of (I.remaining input) O.contents output.old output.new)
+        (errors_of E.contents errors.old errors.new) result }
 {
-    let pen = match pen_for(rt, arguments) {
-        Ok(pen) => pen,
-        Err(fault) => return unstarted(arguments, fault, errors),
-    };
+    let (place, pen) = begun;
     // The session has one shared volume.
     let opened = Opened::new(1);
     match run_script::<Brand, _, _, _>(rt, rt.alloc(), pen, opened, config, input, output) {
-        Ok((done, pen)) => end(rt, arguments, done, pen, errors),
-        Err(error) => refused(StartStep::Start, error, errors),
+        Ok((done, pen)) => end(rt, place, done, pen, errors),
+        Err(error) => SessionEnd {
+            status: 1,
+            told: tell_refusal(StartStep::Start, error, errors),
+        },
     }
+}
+
+fn run_with<
+    R: AllocGlobal + Files<File = File> + Threads + Wait + Sync,
+    I: Read + Drop,
+    O: Write,
+    E: Write,
+>(
+    rt: &R,
+    arguments: &Arguments,
+    config: &Config,
+    is_typed: bool,
+    input: I,
+    output: &mut O,
+    errors: &mut E,
+) -> SessionEnd
+    ensures { RunsWith arguments.now config.now
+        (streams is_typed (printing_of (I.remaining input) O.contents output.old output.new)
+        (errors_of E.contents errors.old errors.new)) result }
+{
+    let begun = match begin(rt, arguments) {
+        Ok(begun) => begun,
+        Err(fault) => {
+            return SessionEnd {
+                status: 1,
+                told: tell_fault(arguments, fault, errors),
+            };
+        }
+    };
+    let noticed = tell_notice(save_path(arguments), is_typed, errors);
+    run_begun(rt, begun, config, input, output, errors).behind(noticed)
 }
 
 fn path_of(arguments: &Arguments) -> Option<&[u8]>
@@ -171,43 +183,57 @@ fn path_of(arguments: &Arguments) -> Option<&[u8]>
 }
 
 /// The configuration is read before anything else is judged.
-fn run<R: AllocGlobal + Files + Threads + Wait + Sync, I: Read + Drop, O: Write, E: Write>(
+fn run<
+    R: AllocGlobal + Files<File = File> + Threads + Wait + Sync,
+    I: Read + Drop,
+    O: Write,
+    E: Write,
+>(
     rt: &R,
     arguments: &Arguments,
+    is_typed: bool,
     input: I,
     output: &mut O,
     errors: &mut E,
-) -> u8
-    ensures { RunsOrRefuses arguments.now (streams (I.remaining input) O.contents
-        output.old output.new errors.old errors.new) result }
+) -> SessionEnd
+    ensures { RunsOrRefuses arguments.now
+        (streams is_typed (printing_of (I.remaining input) O.contents output.old output.new)
+        (errors_of E.contents errors.old errors.new)) result }
 {
     let path = path_of(arguments);
     match configuration(rt, path) {
-        Ok(config) => run_with(rt, arguments, &config, input, output, errors),
-        Err(fault) => unconfigured(path.unwrap_or_default(), fault, errors),
+        Ok(config) => run_with(rt, arguments, &config, is_typed, input, output, errors),
+        Err(fault) => SessionEnd {
+            status: 1,
+            told: tell_configuration(path, fault, errors),
+        },
     }
 }
 
 /// What the words behind the program's name ask for: a script on a volume in memory, or a text about the
 /// program. The volume is new, or that of an image in a file, and its image is saved in the end where that is
-/// asked for. Answers the exit status: 2 where the words or a line were no command, else 1 where anything was
+/// asked for. The exit status is 2 where the words or a line were no command, else 1 where anything was
 /// refused, or a stream or the configuration's file failed, else 0. What the lines answer goes to the output,
 /// which is best buffered: it is flushed behind each line. Only why no line was run, that a stream failed,
-/// and why the volume isn't saved goes to `errors`.
-pub fn session<R: AllocGlobal + Files + Threads + Wait + Sync, I: Read + Drop, O: Write, E: Write>(
-    rt: &R,
-    words: &[&str],
-    input: I,
-    output: &mut O,
-    errors: &mut E,
-) -> u8
-    ensures { IsSession (map (λ w. w.now) words.now) (streams (I.remaining input) O.contents
-        output.old output.new errors.old errors.new) result }
+/// and why the volume isn't saved goes to `errors`; and, if a person types the script at a terminal and reads
+/// `errors` there, when it will be saved.
+pub fn session<
+    R: AllocGlobal + Files<File = File> + Threads + Wait + Sync,
+    I: Read + Drop,
+    O: Write,
+    E: Write,
+>(rt: &R, words: &[&str], is_typed: bool, input: I, output: &mut O, errors: &mut E) -> SessionEnd
+    ensures { IsSession (map (λ w. w.now) words.now)
+        (streams is_typed (printing_of (I.remaining input) O.contents output.old output.new)
+        (errors_of E.contents errors.old errors.new)) result }
 {
     match read(rt.alloc(), words) {
-        Ok(Asked::Run(arguments)) => run(rt, &arguments, input, output, errors),
-        Ok(Asked::Help(text)) => told(text.as_str(), output, errors),
-        Ok(Asked::Version(text)) => told(text.as_str(), output, errors),
-        Err(fault) => misread(&fault, errors),
+        Ok(Asked::Run(arguments)) => run(rt, &arguments, is_typed, input, output, errors),
+        Ok(Asked::Help(text)) => print_asked(text.as_str(), output, errors),
+        Ok(Asked::Version(text)) => print_asked(text.as_str(), output, errors),
+        Err(fault) => SessionEnd {
+            status: fault.status(),
+            told: tell_words(&fault, errors),
+        },
     }
 }

@@ -1,15 +1,17 @@
-//! What a session begins with: the pen of a new volume, or of an image.
+//! What a session begins with: the place where it saves, and the pen of a new volume, or of an image.
 ghost use Rattle.std.specs.Prelude.{◌≡◌, IfErr, IfOk, List, None, ℕ};
 ghost use Rattle.nl_core.specs.Opened.{IsOpenRefusal};
-ghost use Rattle.nl_session.specs.Beginnings.{IsBegunBy, IsImageFault, IsMemoryOrFault, IsNewPen, IsOpenedPen, IsStartFault, image_fault, step_of};
+ghost use Rattle.nl_session.specs.Beginnings.{IsBegunBy, IsImageFault, IsMemoryOrFault, IsNewPen, IsOpenedPen, IsStartFault, image_fault, place_path, step_of};
 
+use crate::telling::save_path;
 use nl_arguments::Arguments;
 use nl_core::{Pen, geometry_of, open};
 use nl_device::MemDevice;
-use nl_script::{FileFault, read_file};
+use nl_script::{FileFault, InUse, SavePlace, read_file};
 use nl_texts::StartStep;
 use nl_types::{Geometry, VolError};
 use std::alloc::Global;
+use std::fs::File;
 use std::rt::Files;
 
 /// When a new volume is formatted, and the moment of the first lines, in whole seconds.
@@ -22,6 +24,28 @@ pub enum StartFault {
     Unread,
     /// A step before the first line is refused.
     Refused(StartStep, VolError),
+    /// Another program has the file in use that is to be saved.
+    InUse,
+}
+
+// ---- the file that is saved
+
+/// Takes the place where the session saves, if that was asked for. Nothing is read before that but the
+/// configuration.
+pub fn place_for<'a, R: Files<File = File>>(
+    files: &R,
+    arguments: &'a Arguments,
+) -> Result<Option<SavePlace<'a>>, StartFault>
+    ensures asked { IfOk result (λ place. place_path place ≡ arguments.now.save) }
+    ensures refused { IfErr result (IsStartFault arguments.now) }
+{
+    let Some(path) = save_path(arguments) else {
+        return Ok(None);
+    };
+    match SavePlace::take(files, path) {
+        Ok(place) => Ok(Some(place)),
+        Err(InUse) => Err(StartFault::InUse),
+    }
 }
 
 // ---- a new volume

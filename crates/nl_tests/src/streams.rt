@@ -1,6 +1,7 @@
 //! How a session ends where a stream fails, and that it begins at all. What it prints is shown by the scripts
 //! of tests/rows.
-use nl_session::session;
+use nl_session::{SessionEnd, session};
+use std::fs::File;
 use std::io::{self, BufWriter, ErrorKind, Read, Write};
 use std::rt::Files;
 use std::sync::Wait;
@@ -177,32 +178,44 @@ const ROWS: [Row; 29] = [
     ),
 ];
 
-/// The status of a row, where its reader gives at most so many bytes at a call. There is memory for the
-/// output's buffer.
-fn status_of<R: AllocGlobal + Files + Threads + Wait + Sync>(
+/// How a row ends, where its reader gives at most so many bytes at a call. There is memory for the output's
+/// buffer.
+fn end_of<R: AllocGlobal + Files<File = File> + Threads + Wait + Sync>(
     rt: &R,
     row: &Row,
     most: usize,
     output: &mut Vec<u8>,
     errors: &mut Vec<u8>,
-) -> Option<u8> {
+) -> Option<SessionEnd> {
     let (failing, script, _, _, _) = *row;
     let mut output = BufWriter::new(rt.alloc(), failing.taking(output)).ok()?;
-    Some(session(rt, &[], failing.giving(script, most), &mut output, errors))
+    Some(session(
+        rt,
+        &[],
+        false,
+        failing.giving(script, most),
+        &mut output,
+        errors,
+    ))
 }
 
 /// Whether a row comes to what is due, where its reader gives at most so many bytes at a call.
-fn ends<R: AllocGlobal + Files + Threads + Wait + Sync>(rt: &R, row: &Row, most: usize) -> bool {
+fn ends<R: AllocGlobal + Files<File = File> + Threads + Wait + Sync>(
+    rt: &R,
+    row: &Row,
+    most: usize,
+) -> bool {
     let (_, _, printed, told, status) = *row;
     let (mut output, mut errors) = (Vec::new(rt.alloc()), Vec::new(rt.alloc()));
-    let code = status_of(rt, row, most, &mut output, &mut errors);
-    code == Some(status)
+    let end = end_of(rt, row, most, &mut output, &mut errors);
+    let due = SessionEnd { status, told: true };
+    end == Some(due)
         && output.as_slice() == printed.as_bytes()
         && errors.as_slice() == told.as_bytes()
 }
 
 /// The first row that comes to something else.
-fn first_other<R: AllocGlobal + Files + Threads + Wait + Sync>(
+fn first_other<R: AllocGlobal + Files<File = File> + Threads + Wait + Sync>(
     rt: &R,
     most: usize,
 ) -> Option<usize> {

@@ -55,3 +55,12 @@ unread_text path = path ++ (codes ": cannot be read" ++ (line_feed ∷ []))
 
 abbrev pub unwritten_text : (path : List ℕ) → Text
 unwritten_text path = path ++ (codes ": cannot be written" ++ (line_feed ∷ []))
+
+-- another program has the file
+abbrev pub in_use_text : (path : List ℕ) → Text
+in_use_text path = path ++ (codes ": is in use by another program" ++ (line_feed ∷ []))
+
+-- another program changed the file, and the image is in one beside it
+abbrev pub changed_text : (path side : List ℕ) → Text
+changed_text path side =
+    path ++ (codes ": was changed by another program: this session is in " ++ (side ++ (line_feed ∷ [])))

@@ -1,5 +1,5 @@
--- What is said of a standard stream that fails.
-use Rattle.std.specs.Prelude.{[], ◌∷◌, ◌++◌, codes}
+-- What is said of a standard stream that fails, and to a terminal.
+use Rattle.std.specs.Prelude.{ℕ, List, [], ◌∷◌, ◌++◌, codes}
 use Rattle.nl_types.specs.Characters.{line_feed}
 use Rattle.nl_texts.specs.Texts.{Text}
 use Rattle.nl_texts.specs.declared.streams.StandardStream.{StandardStream}
@@ -8,3 +8,7 @@ use Rattle.nl_texts.specs.declared.streams.StandardStream.TheVariants.{Input, Ou
 abbrev pub stream_text : StandardStream → Text
 stream_text Input = codes "standard input: cannot be read" ++ (line_feed ∷ [])
 stream_text Output = codes "standard output: cannot be written" ++ (line_feed ∷ [])
+
+-- the file is saved once the input of a terminal ends
+abbrev pub notice_text : (path : List ℕ) → Text
+notice_text path = path ++ (codes ": is saved at the end of input (Ctrl-D)" ++ (line_feed ∷ []))

@@ -19,7 +19,8 @@ pub use answers::{clean_line, content_line, name_line, name_lines, number_line, 
 pub use checkpoints::{cp_header, cp_line, cp_lines};
 pub use columns::{left, right};
 pub use refusals::{
-    StartStep, refusal_text, save_text, start_text, unread_text, unwritten_text, usage_text,
+    StartStep, changed_text, in_use_text, refusal_text, save_text, start_text, unread_text,
+    unwritten_text, usage_text,
 };
 pub use segments::{SegmentRow, listed_seg_line, seg_header, seg_line, seg_lines};
-pub use streams::{StandardStream, stream_text};
+pub use streams::{StandardStream, notice_text, stream_text};

@@ -1,7 +1,7 @@
 //! Refusals, and lines that are no command.
 ghost use Rattle.std.specs.Prelude.{◌≡◌, OnOk};
 ghost use Rattle.std.specs.Io.KnownBytes.{Appends};
-ghost use Rattle.nl_texts.specs.RefusalTexts.{place_text, kind_text, detail_of, detail_text, refusal_text, save_text, start_text, step_text, unread_text, unwritten_text, usage_text};
+ghost use Rattle.nl_texts.specs.RefusalTexts.{changed_text, place_text, kind_text, detail_of, detail_text, in_use_text, refusal_text, save_text, start_text, step_text, unread_text, unwritten_text, usage_text};
 
 use nl_types::VolError;
 use std::io;
@@ -128,4 +128,24 @@ pub fn unwritten_text<W: Write>(path: &[u8], out: &mut W) -> io::Result<()>
 {
     out.write_all(path)?;
     out.write_all(b": cannot be written\n")
+}
+
+/// Writes that another program has a file in use.
+pub fn in_use_text<W: Write>(path: &[u8], out: &mut W) -> io::Result<()>
+    ensures { OnOk result (Appends (W.contents out.old) (W.contents out.new)
+        (in_use_text path.now)) }
+{
+    out.write_all(path)?;
+    out.write_all(b": is in use by another program\n")
+}
+
+/// Writes that another program changed a file, and where the image is that was to be in it.
+pub fn changed_text<W: Write>(path: &[u8], side: &[u8], out: &mut W) -> io::Result<()>
+    ensures { OnOk result (Appends (W.contents out.old) (W.contents out.new)
+        (changed_text path.now side.now)) }
+{
+    out.write_all(path)?;
+    out.write_all(b": was changed by another program: this session is in ")?;
+    out.write_all(side)?;
+    out.write_all(b"\n")
 }

@@ -1,7 +1,7 @@
-//! Standard streams that fail.
+//! Standard streams that fail, and what is typed at a terminal.
 ghost use Rattle.std.specs.Prelude.{◌≡◌, OnOk};
 ghost use Rattle.std.specs.Io.KnownBytes.{Appends};
-ghost use Rattle.nl_texts.specs.StreamTexts.{stream_text};
+ghost use Rattle.nl_texts.specs.StreamTexts.{notice_text, stream_text};
 
 use std::io;
 use std::io::Write;
@@ -28,4 +28,13 @@ pub fn stream_text<W: Write>(stream: StandardStream, out: &mut W) -> io::Result<
         (stream_text stream)) }
 {
     out.write_all(failure(stream))
+}
+
+/// Writes that a file is saved at the end of input, and which key of a terminal ends it.
+pub fn notice_text<W: Write>(path: &[u8], out: &mut W) -> io::Result<()>
+    ensures { OnOk result (Appends (W.contents out.old) (W.contents out.new)
+        (notice_text path.now)) }
+{
+    out.write_all(path)?;
+    out.write_all(b": is saved at the end of input (Ctrl-D)\n")
 }

@@ -2,7 +2,8 @@
 #![tactic(auto)]
 
 use nl_session::session;
-use std::io::{BufWriter, ErrorKind};
+use std::fs::File;
+use std::io::{BufWriter, ErrorKind, IsTerminal};
 use std::process::ExitCode;
 use std::rt::Files;
 use std::sync::Wait;
@@ -27,21 +28,23 @@ fn arguments<'a>(rt: &HostRuntime, words: &'a [String]) -> io::Result<Vec<&'a st
 
 /// Answers the exit status. `handles` is the system too, with what `main` alone may hand on: threads, and
 /// that a call may wait.
-fn run<R: AllocGlobal + Files + Threads + Wait + Sync>(
+fn run<R: AllocGlobal + Files<File = File> + Threads + Wait + Sync>(
     rt: &HostRuntime,
     handles: &R,
 ) -> io::Result<u8> {
     let words = words(rt)?;
     let arguments = arguments(rt, words.as_slice())?;
     let mut output = BufWriter::new(rt.alloc(), rt.stdout())?;
-    let status = session(
+    let is_typed = rt.stdin().is_terminal() && rt.stderr().is_terminal();
+    let end = session(
         handles,
         arguments.as_slice(),
+        is_typed,
         rt.stdin(),
         &mut output,
         &mut rt.stderr(),
     );
-    Ok(status)
+    Ok(end.status)
 }
 
 /// Tells why the words can't be read or the output has no buffer, and answers the exit status.

@@ -2,7 +2,8 @@ use Rattle.std.proofs.Common.{List, ℕ, Ok, map, subst}
 use Rattle.nl_arguments.specs.Meanings.{Asks}
 use Rattle.nl_arguments.specs.declared.asked.Asked.{Asked}
 use Rattle.nl_arguments.specs.declared.asked.Asked.TheVariants.{Help, Run, Version}
-use Rattle.nl_session.specs.Sessions.{Prints, streams}
+use Rattle.nl_session.specs.Sessions.{Prints, printing_of, streams}
+use Rattle.nl_session.specs.Telling.{errors_of}
 use Rattle.nl_session.proofs.sessions.session.Goals as goal
 
 pub returns-in-Ok-Run : goal.returns-in-Ok-Run
@@ -19,11 +20,11 @@ returns-in-Ok-Help g c =
     c.in-Ok-Help.ensures in
     let input = g.I.Read.remaining c.args.input in
     let s =
-    streams input g.O.Write.contents c.args.output.now c.told.new.output c.args.errors.now
-    c.told.new.errors in
+    streams c.args.is_typed (printing_of input g.O.Write.contents c.args.output.now c.print_asked.new.output)
+    (errors_of g.E.Write.contents c.args.errors.now c.print_asked.new.errors) in
     let prints =
-    subst (λ (text : List ℕ). Prints text s c.told.result) c.as_str.ensures.value
-    (c.told.ensures input) in
+    subst (λ (text : List ℕ). Prints text s c.print_asked.result) c.as_str.ensures.value
+    (c.print_asked.ensures c.args.is_typed input) in
     record { asked = Ok (Help c.in-Ok-Help.text); asks = asks; comes = prints }
 
 pub returns-in-Ok-Version : goal.returns-in-Ok-Version
@@ -33,10 +34,11 @@ returns-in-Ok-Version g c =
     c.in-Ok-Version.ensures in
     let input = g.I.Read.remaining c.args.input in
     let s =
-    streams input g.O.Write.contents c.args.output.now c.told-in-Ok-Version.new.output c.args.errors.now
-    c.told-in-Ok-Version.new.errors in
+    streams c.args.is_typed
+    (printing_of input g.O.Write.contents c.args.output.now c.print_asked-in-Ok-Version.new.output)
+    (errors_of g.E.Write.contents c.args.errors.now c.print_asked-in-Ok-Version.new.errors) in
     let prints =
     subst
-    (λ (text : List ℕ). Prints text s c.told-in-Ok-Version.result) c.as_str-in-Ok-Version.ensures.value
-    (c.told-in-Ok-Version.ensures input) in
+    (λ (text : List ℕ). Prints text s c.print_asked-in-Ok-Version.result) c.as_str-in-Ok-Version.ensures.value
+    (c.print_asked-in-Ok-Version.ensures c.args.is_typed input) in
     record { asked = Ok (Version c.in-Ok-Version.text); asks = asks; comes = prints }

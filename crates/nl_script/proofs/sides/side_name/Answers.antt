@@ -1,0 +1,38 @@
+use Rattle.std.proofs.Common.{◌≡◌, ◌∙◌, ◌++◌, IfOk, List, ap, arith, codes, decimal, string_bytes, take, ℕ}
+use Rattle.std.proofs.lemmas.Result.{IfOk-weaker}
+use Rattle.nl_script.proofs.SideNamesFit.{side_fits}
+use Rattle.nl_script.proofs.sides.side_name.Goals as goal
+
+pub written : (c : goal.After-format) → IfOk c.format.result (λ side. string_bytes side
+    ≡ codes "." ++ (take c.floor_char_boundary.result c.args.name.now
+    ++ (codes ".nlvol-save-" ++ decimal c.args.number)))
+written c =
+    let ends : List ℕ = codes ".nlvol-save-" ++ decimal c.args.number in
+    let begin_is : c.range-begin.result.now ≡ take c.floor_char_boundary.result c.args.name.now =
+    c.range-begin.ensures.value ∙ ap (λ (k : ℕ). take k c.args.name.now) (omega arith) in
+    let same = ap (λ (begin : List ℕ). codes "." ++ (begin ++ ends)) begin_is in
+    let begin = c.range-begin.result.now in
+    let ok : IfOk c.format.result (λ side. string_bytes side ≡ codes "." ++ (begin ++ ends)) =
+    c.format.ensures.ok in
+    IfOk-weaker c.format.result _ _ (λ side is. is ∙ same) ok
+
+pub returns-clause-name : goal.returns-clause-name
+returns-clause-name c =
+    IfOk-weaker c.format.result _ _
+    (λ side is. record {
+      cut = c.floor_char_boundary.result;
+      is_cut = record {
+        within = c.floor_char_boundary.ensures.bound;
+        boundary = c.floor_char_boundary.ensures.boundary;
+        last = c.floor_char_boundary.ensures.nearest;
+      };
+      side_is = is;
+    })
+    (written c)
+
+pub returns-clause-fits : goal.returns-clause-fits
+returns-clause-fits c = λ small.
+    IfOk-weaker c.format.result _ _
+    (λ side is. side_fits c.args.name.now (string_bytes side) c.floor_char_boundary.result c.args.number
+    c.floor_char_boundary.ensures.bound small is)
+    (written c)

@@ -1,0 +1,132 @@
+//! New files beside the ones that they are to replace.
+ghost use Rattle.std.specs.Prelude.{◌≡◌, ◌<◌, ◌≤◌, IfOk, length, string_bytes};
+ghost use Rattle.nl_script.specs.SideNames.{IsSideName, kept_bits};
+
+use std::alloc::{AllocError, Global};
+use std::fs::{File, Metadata, OpenOptions};
+use std::io::{ErrorKind, Write};
+use std::os::unix::fs::{MetadataExt, OpenOptionsExt, PermissionsExt, fchown};
+use std::path::{Path, PathBuf};
+use std::rt::Files;
+use std::{fs, io};
+
+/// How many names a new file may have.
+const NAMES: u8 = 100;
+
+/// How much of the old file's name a new one's has at most. With what stands around it that is 255 bytes, the
+/// longest name of Linux: a dot, `.nlvol-save-` and two digits.
+const MOST_BYTES: usize = 240;
+
+/// Who may do what with a new file until it has the old one's mode: its owner may read and write it.
+const OWNER_ALONE: u32 = 0o600;
+
+/// Who may do so with a new file that has no old one: anybody whom the umask leaves.
+const ANYBODY: u32 = 0o666;
+
+/// The name of a new file beside the one of this name, which is cut where it is long.
+pub fn side_name(alloc: Global, name: &str, number: u8) -> Result<String, AllocError>
+    ensures name { IfOk result (λ side. IsSideName name.now number (string_bytes side)) }
+    ensures fits { number < 100 → IfOk result (λ side. length (string_bytes side) ≤ 255) }
+{
+    let begin = &name[..name.floor_char_boundary(MOST_BYTES)];
+    format!(in alloc; ".{begin}.nlvol-save-{number}")
+}
+
+/// A new file, and its path. It is locked where the system has locks.
+#[derive(Drop)]
+pub struct Side {
+    pub file: File,
+    pub path: PathBuf,
+}
+
+/// Opens a file that nobody has made yet, nor put a link there.
+fn create_new<R: Files<File = File>>(files: &R, path: Path<'_>, mode: u32) -> io::Result<File> {
+    let mut how = OpenOptions::new();
+    let _ = how.write(true);
+    let _ = how.create_new(true);
+    let _ = how.mode(mode);
+    how.open(files, path)
+}
+
+/// Makes a new file beside a path, under the first of its names that is free. What stands at one of them is
+/// neither opened nor moved.
+fn create_beside<R: AllocGlobal + Files<File = File>>(
+    rt: &R,
+    target: Path<'_>,
+    mode: u32,
+) -> io::Result<Side> {
+    let name = target
+        .file_name()
+        .ok_or_else(|| io::Error::from(ErrorKind::InvalidInput))?;
+    for number in 0..NAMES {
+        let side_name = side_name(rt.alloc(), name, number)?;
+        let path = target.with_file_name(rt.alloc(), side_name.as_str())?;
+        match create_new(rt, path.as_path(), mode) {
+            Err(error) if error.kind() == ErrorKind::AlreadyExists => {}
+            Err(error) => return Err(error),
+            Ok(file) => return Ok(Side { file, path }),
+        }
+    }
+    Err(io::Error::from(ErrorKind::AlreadyExists))
+}
+
+/// The bits of a mode that a new file has too. Without the old owner it isn't run as its own, and without the
+/// old group its own one may do nothing.
+fn kept_bits(has_owner: bool, has_group: bool) -> u32
+    ensures { result ≡ kept_bits has_owner has_group }
+{
+    match (has_owner, has_group) {
+        (true, true) => 0o7777,
+        (true, false) => 0o5707,
+        (false, true) => 0o3777,
+        (false, false) => 0o1707,
+    }
+}
+
+impl Side {
+    /// Makes a new file beside a path. With an old file it may be used by its owner alone, until it gets that
+    /// one's mode; else as any new file.
+    pub fn create<R: AllocGlobal + Files<File = File>>(
+        rt: &R,
+        target: Path<'_>,
+        is_alone: bool,
+    ) -> io::Result<Side> {
+        let side = create_beside(rt, target, if is_alone { OWNER_ALONE } else { ANYBODY })?;
+        // Where there are no locks it has none.
+        let _ = side.file.try_lock();
+        Ok(side)
+    }
+
+    /// Gives it the owner, the group and the mode of an old file. The owner and the group stay as they are
+    /// where the system doesn't let them be given.
+    fn give_mode(&self, old: &Metadata) -> io::Result<()> {
+        let _ = fchown(&self.file, Some(old.uid()), None);
+        let _ = fchown(&self.file, None, Some(old.gid()));
+        let now = self.file.metadata()?;
+        let bits = kept_bits(now.uid() == old.uid(), now.gid() == old.gid());
+        // Last, since a new owner takes bits of the mode away.
+        let mode = old.mode() & bits;
+        self.file.set_permissions(PermissionsExt::from_mode(mode))
+    }
+
+    /// Writes and stores it whole, and gives it what an old file had.
+    pub fn fill(&mut self, old: Option<&Metadata>, bytes: &[u8]) -> io::Result<()> {
+        self.file.write_all(bytes)?;
+        if let Some(old) = old {
+            self.give_mode(old)?;
+        }
+        self.file.sync_all()
+    }
+
+    /// Lets its owner alone use it, whatever mode it had.
+    pub fn shut(&self) {
+        let _ = self
+            .file
+            .set_permissions(PermissionsExt::from_mode(OWNER_ALONE));
+    }
+
+    /// Takes its name away. Where that fails it stays.
+    pub fn remove<R: Files>(&self, files: &R) {
+        let _ = fs::remove_file(files, self.path.as_path());
+    }
+}
