@@ -28,8 +28,8 @@ use std::alloc::Global;
 
 /// The volume whose image these bytes are, on a device of its geometry. It is closed to the same bytes, but
 /// for the mark where that is the first one. What the device holds is no part of it. Refused by `BadImage`
-/// with the number of the first condition that the bytes fail, by `Memory`, and by `Fault` where the bytes are
-/// an image and the device failed; the device is dropped then.
+/// with the number of the first condition that the bytes fail, by `Memory`, and by `Fault` where the bytes
+/// are an image and the device failed; the device is dropped then.
 pub fn open<D: Device>(alloc: Global, bytes: &[u8], device: D) -> Result<Pen<D>, VolError>
     requires shape { (p : Parts) → MeetsFirst 2 bytes.now p → IsShapeOf (D.shape device) p.shape }
     ensures accepted { IfOk result (λ _. AreImage bytes.now) }

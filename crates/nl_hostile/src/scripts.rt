@@ -8,7 +8,8 @@ use std::sync::Wait;
 use std::test::Fail;
 use std::thread::Threads;
 
-/// Each command but `resize` once or more, with a letter of two bytes in a comment and in paths. Every line is done.
+/// Each command but `resize` once or more, with a letter of two bytes in a comment and in paths. Every line
+/// is done.
 const SCRIPT: &str = "# é
 at 7
 mkdir /d

@@ -21,8 +21,9 @@ use nl_types::{BLOCK_SIZE, VolError};
 use nl_vstore::Vstore;
 use std::alloc::Global;
 
-/// The image of a store, with these entries of checkpoints, whatever they name. Each used block is loaded once
-/// from the device, in order, and nothing else is. Refused by `Memory`, and by `Fault` where the device failed.
+/// The image of a store, with these entries of checkpoints, whatever they name. Each used block is loaded
+/// once from the device, in order, and nothing else is. Refused by `Memory`, and by `Fault` where the device
+/// failed.
 pub fn write_image<S: Space>(
     alloc: Global,
     store: &mut Dat<S>,

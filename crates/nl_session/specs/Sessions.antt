@@ -150,7 +150,8 @@ RunsIfRead (Ok config) arguments s end = RunsWith arguments config s end
 RunsIfRead (Err fault) arguments s end = IsRefused (configuration_text arguments.configuration fault) s end
 
 -- the configuration is read first
-pub record RunsOrRefuses {O E : Type 0} (arguments : Arguments) (s : Streams O E) (end : SessionEnd) : Type 0 where
+pub record RunsOrRefuses {O E : Type 0} (arguments : Arguments) (s : Streams O E)
+    (end : SessionEnd) : Type 0 where
   pub read : ConfigurationRead
   pub is_read : IsConfigured arguments.configuration read
   pub runs : RunsIfRead read arguments s end

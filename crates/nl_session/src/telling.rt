@@ -1,5 +1,5 @@
-//! What a session tells on the stream of errors. Where that stream fails, the status still says that something
-//! was refused.
+//! What a session tells on the stream of errors. Where that stream fails, the status still says that
+//! something was refused.
 ghost use Rattle.std.specs.Prelude.{◌≡◌, None, option_map, true};
 ghost use Rattle.nl_texts.specs.RefusalTexts.{start_text};
 ghost use Rattle.nl_texts.specs.StreamTexts.{stream_text};
