@@ -34,7 +34,7 @@ Tells text e told = told ≡ true → Appends (e.contents e.before) (e.contents 
 -- the text is told too, behind what was told
 abbrev pub TellsMore : {E : Type 0} → (before : Bool) → Text → Errors E → (told : Bool) → Type 0
 TellsMore before text e told =
-  told ≡ true → (before ≡ true) × Appends (e.contents e.before) (e.contents e.after) text
+    told ≡ true → (before ≡ true) × Appends (e.contents e.before) (e.contents e.after) text
 
 -- ---- texts
 
