@@ -33,6 +33,8 @@ MEMORY = 3_000_000_000
 TRIES = 2
 # What a check says where a proof names what an edit took away: it tells nothing of the contract.
 NAMES = re.compile(r"has no field|is not in scope|has no `|was not admitted")
+# What a check notes of a goal that is open.
+GOAL = re.compile(r"it is not proved that|found no proof")
 # A line that stands behind a function, or begins another item.
 OTHER_ITEM = re.compile(r"\}|(pub(\([a-z]+\))? )?(const \w+:|static|struct|enum|type|use|mod)\b|#\[derive")
 FUNCTION = re.compile(r"(\s*)(?:pub(?:\([a-z]+\))? )?(?:const )?(?:unsafe )?fn (\w+)")
@@ -163,13 +165,17 @@ class Checked:
 
     def open_goal(self, function):
         """Returns a goal of the function that is open, or None."""
-        paths = [path for path, said in self.lines if f"::{path}".endswith(f"::{function.name}") and said != "proved"]
-        if len(paths) != 1:
+        found = [it for it in self.lines if f"::{it[0]}".endswith(f"::{function.name}") and it[1] != "proved"]
+        if len(found) != 1:
             return None
-        for line, said in re.findall(rf"^note: {function.path}:(\d+):\d+: (it is not proved that .*)$", self.text, re.M):
-            if function.first <= int(line) <= function.last:
-                return said
-        folder = re.escape("/".join(paths[0].split("::")[1:]))
+        path, said = found[0]
+        for line, told in re.findall(rf"^note: {function.path}:(\d+):\d+: (.*)$", self.text, re.M):
+            if function.first <= int(line) <= function.last and GOAL.search(told):
+                return told
+        goal = re.search(r"did not prove `[^`]*`", said)
+        if goal:
+            return goal[0]
+        folder = re.escape("/".join(path.split("::")[1:]))
         errors = re.findall(rf"^(?:\./)?proofs/{folder}/\S+:\d+:\d+: error: (.*)$", self.text, re.M)
         return next((it for it in errors if not NAMES.search(it)), None)
 
