@@ -31,8 +31,9 @@ from budget import below
 MEMORY = 3_000_000_000
 # How often an edit is tried in batches. The second time those of functions that it calls are mostly done.
 TRIES = 2
-# What a check says where a proof names what an edit took away: it tells nothing of the contract.
-NAMES = re.compile(r"has no field|is not in scope|has no `|was not admitted")
+# What a check says where a proof names what an edit took away, or rests on such a proof: it tells nothing of
+# the contract.
+NAMES = re.compile(r"has no field|is not in scope|has no `|was not admitted|which was rejected")
 # What a check notes of a goal that is open.
 GOAL = re.compile(r"it is not proved that|found no proof")
 # A line that stands behind a function, or begins another item.
