@@ -42,10 +42,12 @@ FUNCTION = re.compile(r"(\s*)(?:pub(?:\([a-z]+\))? )?(?:const )?(?:unsafe )?fn (
 
 
 class Edit:
-    """An edit of a crate: the texts that it changes, and the functions of the crate that these stand in."""
+    """An edit of a crate: the texts that it changes, and the functions of the crate that these stand in, or
+    that its lines `function: FILE TEXT` name, where it is refused by one that holds another text."""
 
     def __init__(self, crate, file):
         self.crate, self.file, self.changes, self.functions, self.tries = crate, file, [], set(), 0
+        self.names_functions = False
         path = old = None
         with open(f"{crate.edits}/{file}", encoding="utf-8") as it:
             for line in it.read().split("\n"):
@@ -55,10 +57,14 @@ class Edit:
                     old = line[len("old: ") :]
                 elif line.startswith("new:"):
                     self.changes.append((path, old, line[len("new:") :].removeprefix(" ")))
+                elif line.startswith("function: "):
+                    where, text = line[len("function: ") :].split(" ", 1)
+                    self.functions.add(function_at(where, crate.text(where), text))
+                    self.names_functions = True
         texts = {}
         for path, old, new in self.changes:
             text = texts.get(path) or crate.text(path)
-            if path.startswith("src/"):
+            if path.startswith("src/") and not self.names_functions:
                 self.functions.add(function_at(path, text, old))
             # A later text may be one that this makes.
             texts[path] = text.replace(old, new)
@@ -115,8 +121,8 @@ def implementor(line):
         rest = rest[1:].strip() if not depth or rest[0] in "<>" else rest[1:]
         if not depth:
             break
-    found = re.match(r"(?:([\w:]+)(?:<.*?>)? for )?(\w+)", rest.strip())
-    return found[2] + (found[1] or "").split("::")[-1]
+    found = re.match(r"(?:([\w:]+)(?:<(.*?)>)? for )?(\w+)", rest.strip())
+    return found[3] + (found[1] or "").split("::")[-1] + "".join(re.findall(r"\w+", found[2] or ""))
 
 
 class Crate:
@@ -231,8 +237,12 @@ class Trial:
         if self.split:
             return self.split.pop()
         batch, taken = [], set()
+        if self.waiting[0].names_functions:
+            # It may bear on the proofs of all.
+            batch.append(self.waiting.pop(0))
+            return batch
         for edit in self.waiting:
-            if not edit.functions & taken:
+            if not edit.names_functions and not edit.functions & taken:
                 batch.append(edit)
                 taken |= edit.functions
         self.waiting = [it for it in self.waiting if it not in batch]

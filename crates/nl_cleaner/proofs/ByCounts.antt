@@ -9,8 +9,8 @@ use Rattle.nl_types.specs.declared.error.VolError.{VolError}
 use Rattle.nl_types.specs.declared.error.VolError.TheVariants.{BadRange}
 use Rattle.nl_types.specs.Segments.{info_of}
 use Rattle.nl_vstore.specs.Located.{needed_count, onto, payload_block, payload_count_in, picked}
-use Rattle.nl_core.specs.CleanerViews.{counts_after, needed_after, needed_from}
-use Rattle.nl_core.specs.Layout.{Layout}
+use Rattle.nl_commit.specs.CleanerViews.{counts_after, needed_after, needed_from}
+use Rattle.nl_commit.specs.Layout.{Layout}
 use Rattle.nl_cleaner.specs.declared.choice.Candidate.{Candidate}
 use Rattle.nl_cleaner.specs.Plan.{candidate_in, is_dirty, stamp_in}
 

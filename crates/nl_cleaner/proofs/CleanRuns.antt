@@ -15,8 +15,8 @@ use Rattle.nl_vstore.specs.Located.{numbers_in}
 use Rattle.nl_reclaim.specs.Moves.{FullMoves, HasMovedPages, KeepsNeeds, Retires}
 use Rattle.nl_reclaim.specs.Facts.Moves.{full-moves-come-clean}
 use Rattle.nl_core.specs.CleanedPens.{kept_store, kept_number}
-use Rattle.nl_core.specs.Layout.{AllowedBetween, Does, IsPen, Layout, unshared}
-use Rattle.nl_core.specs.Volume.{Lists, kept_by}
+use Rattle.nl_commit.specs.Layout.{AllowedBetween, Does, IsPen, Layout, unshared}
+use Rattle.nl_commit.specs.Volume.{Lists, kept_by}
 use Rattle.nl_core.specs.Facts.MovedNeeds.{moved-needs}
 use Rattle.nl_core.specs.Facts.Refusals.{retirements_are_judged}
 use Rattle.nl_cleaner.specs.Laws.{AreMoves, SegmentsComeClean}

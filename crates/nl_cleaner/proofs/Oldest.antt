@@ -11,9 +11,9 @@ use Rattle.nl_types.specs.Worlds.{Reply}
 use Rattle.nl_vstore.specs.Located.{needed_count}
 use Rattle.nl_protect.specs.declared.config.Config.{Config}
 use Rattle.nl_protect.specs.Rounds.{ends_round}
-use Rattle.nl_core.specs.CleanerViews.{cleaning_event}
-use Rattle.nl_core.specs.CleaningEvents.{needed_by}
-use Rattle.nl_core.specs.Layout.{Layout}
+use Rattle.nl_commit.specs.CleanerViews.{cleaning_event}
+use Rattle.nl_commit.specs.CleaningEvents.{needed_by}
+use Rattle.nl_commit.specs.Layout.{Layout}
 use Rattle.nl_cleaner.specs.declared.job.Stage.{Stage}
 use Rattle.nl_cleaner.specs.Job.{Cleaning, Ended, Expiring, JobView, job_after_answer, at_stage, first_done, next_by, next_cleaning, next_event, job_after_reply, noted_by}
 use Rattle.nl_cleaner.specs.Laws.{TheOldestComesNext}

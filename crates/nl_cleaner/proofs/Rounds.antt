@@ -14,9 +14,9 @@ use Rattle.nl_vstore.specs.Located.{needed_count}
 use Rattle.nl_reclaim.specs.Rounds.{IsRoundEvent, AreRoundEvents}
 use Rattle.nl_reclaim.specs.Facts.Rounds.{rounds-leave-nothing-dead}
 use Rattle.nl_core.specs.CleanedPens.{kept_store}
-use Rattle.nl_core.specs.CleanerViews.{cleaning_event}
-use Rattle.nl_core.specs.CleaningEvents.{needed_by}
-use Rattle.nl_core.specs.Layout.{Does, IsPen, Layout, unshared}
+use Rattle.nl_commit.specs.CleanerViews.{cleaning_event}
+use Rattle.nl_commit.specs.CleaningEvents.{needed_by}
+use Rattle.nl_commit.specs.Layout.{Does, IsPen, Layout, unshared}
 use Rattle.nl_cleaner.specs.Job.{Cleaning, Expiring, JobView, Stepped, job_after_answer, next_by, next_event, job_after_reply, noted_by}
 use Rattle.nl_cleaner.specs.declared.job.Stage.{Stage}
 use Rattle.nl_cleaner.specs.Laws.{RoundsLeaveNothingDead}

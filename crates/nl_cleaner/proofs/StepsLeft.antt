@@ -17,10 +17,10 @@ use Rattle.nl_reclaim.specs.Cleaning.{judged_segment, judged_by, judged_info}
 use Rattle.nl_reclaim.specs.Moves.{needed_now}
 use Rattle.nl_reclaim.specs.Facts.Moves.{move-takes-first}
 use Rattle.nl_core.specs.CleanedPens.{kept_store}
-use Rattle.nl_core.specs.CleanerViews.{cleaning_event}
-use Rattle.nl_core.specs.CleaningEvents.{needed_by}
-use Rattle.nl_core.specs.Layout.{AllowedBetween, Does, IsPen, Layout, layout_of}
-use Rattle.nl_core.specs.Volume.{without_mount}
+use Rattle.nl_commit.specs.CleanerViews.{cleaning_event}
+use Rattle.nl_commit.specs.CleaningEvents.{needed_by}
+use Rattle.nl_commit.specs.Layout.{AllowedBetween, Does, IsPen, Layout, layout_of}
+use Rattle.nl_commit.specs.Volume.{without_mount}
 use Rattle.nl_protect.specs.Rounds.{ends_round}
 use Rattle.nl_cleaner.specs.Job.{Cleaning, Ended, Expiring, JobView, Stepped, job_after_answer, at_stage, cleaning_left, first_done, left_by, next_by, next_cleaning, next_event, job_after_reply, noted_by, steps_left}
 use Rattle.nl_cleaner.specs.declared.job.Stage.{Stage}

@@ -10,7 +10,7 @@ use Rattle.nl_types.specs.declared.segment.SegmentInfo.{SegmentInfo}
 use Rattle.nl_types.specs.declared.segment.SegmentState.{SegmentState}
 use Rattle.nl_types.specs.declared.segment.SegmentState.TheVariants.{Active, Clean, Dirty, Error}
 use Rattle.nl_types.specs.Segments.{clean_info, info_of}
-use Rattle.nl_core.specs.Layout.{Layout}
+use Rattle.nl_commit.specs.Layout.{Layout}
 use Rattle.nl_cleaner.specs.Private.Choice.{AreChosen, AreFirst, Ascend, IsOlderCandidate, with_candidate, candidates_in, segment_of}
 use Rattle.nl_cleaner.specs.declared.choice.Candidate.{Candidate}
 use Rattle.nl_cleaner.specs.Plan.{AreVictims, IsOlder, Qualifies, candidate_by, candidate_in, is_dirty, reclaimable, stamp_in}

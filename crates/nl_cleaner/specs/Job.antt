@@ -7,9 +7,9 @@ use Rattle.nl_types.specs.declared.reply.Answer.TheVariants.{Freed}
 use Rattle.nl_types.specs.Worlds.{Reply}
 use Rattle.nl_protect.specs.Rounds.{ends_round}
 use Rattle.nl_vstore.specs.Located.{needed_count}
-use Rattle.nl_core.specs.CleanerViews.{cleaning_event}
-use Rattle.nl_core.specs.CleaningEvents.{needed_by}
-use Rattle.nl_core.specs.Layout.{Does, Layout, unshared}
+use Rattle.nl_commit.specs.CleanerViews.{cleaning_event}
+use Rattle.nl_commit.specs.CleaningEvents.{needed_by}
+use Rattle.nl_commit.specs.Layout.{Does, Layout, unshared}
 use Rattle.nl_cleaner.specs.declared.job.Stage.{Stage}
 pub use Rattle.nl_cleaner.specs.declared.job.Stage.TheVariants.{Cleaning, Ended, Expiring}
 

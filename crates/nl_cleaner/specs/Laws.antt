@@ -11,9 +11,9 @@ use Rattle.nl_vstore.specs.Located.{needed_count, numbers_in}
 use Rattle.nl_vstore.specs.Stores.{address_in}
 use Rattle.nl_reclaim.specs.Rounds.{IsLeftOut, IsNeeded}
 use Rattle.nl_core.specs.CleanedPens.{kept_store}
-use Rattle.nl_core.specs.CleaningEvents.{needed_by}
-use Rattle.nl_core.specs.Layout.{Does, IsPen, Layout, unshared}
-use Rattle.nl_core.specs.Notes.{shared}
+use Rattle.nl_commit.specs.CleaningEvents.{needed_by}
+use Rattle.nl_commit.specs.Layout.{Does, IsPen, Layout, unshared}
+use Rattle.nl_commit.specs.Notes.{shared}
 use Rattle.nl_cleaner.specs.Job.{Expiring, JobView, Stepped, next_event, job_after_reply, steps_left}
 use Rattle.nl_cleaner.specs.Plan.{IsPlanned, TakesOldest}
 

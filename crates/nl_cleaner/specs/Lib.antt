@@ -1,4 +1,5 @@
 pub mod Job
 pub mod Plan
+pub mod Rounds
 pub mod Laws
 pub mod Private

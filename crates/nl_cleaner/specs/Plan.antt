@@ -12,9 +12,9 @@ use Rattle.nl_vstore.specs.Located.{payload_count_in}
 use Rattle.nl_protect.specs.declared.amount.Amount.{Amount}
 use Rattle.nl_protect.specs.declared.config.Config.{Config}
 use Rattle.nl_protect.specs.Configuration.{amount_of}
-use Rattle.nl_core.specs.CleanerViews.{needed_after}
-use Rattle.nl_core.specs.Layout.{Layout}
-use Rattle.nl_core.specs.Volume.{boundary_in}
+use Rattle.nl_commit.specs.CleanerViews.{needed_after}
+use Rattle.nl_commit.specs.Layout.{Layout}
+use Rattle.nl_commit.specs.Volume.{boundary_in}
 use Rattle.nl_cleaner.specs.declared.choice.Candidate.{Candidate}
 use Rattle.nl_cleaner.specs.Job.{JobView, Expiring, job_after_reply}
 

@@ -6,6 +6,7 @@ mod choice;
 mod job;
 pub mod laws;
 mod planning;
+mod shared_rounds;
 
 pub use job::Job;
 pub use planning::plan;

@@ -1,8 +1,8 @@
 //! Which segments a round takes.
 ghost use Rattle.std.specs.Prelude.{◌≡◌, ℕ, ◌-◌, ◌<◌, ◌&&◌, nat_le, length, slice_index_or, IfOk, IsOkUnless};
 ghost use Rattle.nl_types.specs.Segments.{info_of};
-ghost use Rattle.nl_core.specs.CleanerViews.{counts_after};
-ghost use Rattle.nl_core.specs.Volume.{boundary_in};
+ghost use Rattle.nl_commit.specs.CleanerViews.{counts_after};
+ghost use Rattle.nl_commit.specs.Volume.{boundary_in};
 ghost use Rattle.nl_cleaner.specs.Private.Choice.{candidates_in};
 ghost use Rattle.nl_cleaner.specs.Plan as asked;
 ghost use Rattle.nl_cleaner.specs.Plan.{AreTaken, AreVictims, IsPlan, candidate_by, candidate_in, is_dirty};

@@ -25,7 +25,7 @@ use Rattle.nl_tree.specs.Held.{Held, Holding, IsHolding, IsInodeNumber, Listed, 
 use Rattle.nl_check.specs.Laws.{StandsForTree}
 use Rattle.nl_cpfile.specs.Tables.{IsRising, Precedes, checkpoint_root}
 use Rattle.nl_cpfile.specs.declared.checkpoint.Checkpoint.{Checkpoint}
-use Rattle.nl_core.specs.Means.{CopyMeans}
+use Rattle.nl_commit.specs.Means.{CopyMeans}
 
 -- ---- limits
 

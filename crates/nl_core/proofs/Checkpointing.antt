@@ -22,10 +22,10 @@ use Rattle.nl_vstore.specs.Batches.{items_of}
 use Rattle.nl_vstore.specs.Stores.{Store, IsStore, content_in, entry_now}
 use Rattle.nl_files.specs.CheckpointRoots.{IsTreeSound}
 use Rattle.nl_cpfile.specs.declared.checkpoint.Checkpoint.{Checkpoint}
-use Rattle.nl_core.specs.Layout.{Layout, IsPen, IsSoundPen, IsCheckpointRefusal, Does, StepsWorlds, HasFaulted, HasRefused, HasWrittenCheckpoint, LacksSpaceToSettle, MeansWorld, Becomes, cleaned, layout_of, ledger_of, unshared}
-use Rattle.nl_core.specs.Means.{Means}
+use Rattle.nl_commit.specs.Layout.{Layout, IsPen, IsSoundPen, IsCheckpointRefusal, Does, StepsWorlds, HasFaulted, HasRefused, HasWrittenCheckpoint, LacksSpaceToSettle, MeansWorld, Becomes, cleaned, layout_of, ledger_of, unshared}
+use Rattle.nl_commit.specs.Means.{Means}
 use Rattle.nl_cpfile.specs.Tables.{by_number, checkpoint_root}
-use Rattle.nl_core.specs.Volume.{Lists, kept_by}
+use Rattle.nl_commit.specs.Volume.{Lists, kept_by}
 use Rattle.nl_core.specs.Facts.Checkpoints.{differs-behind, numbers-behind, sound-behind}
 use Rattle.nl_core.specs.Facts.Ledgers.{same-numbers, stands-latest}
 use Rattle.nl_core.specs.Facts.Published.{latest-means, means-published}

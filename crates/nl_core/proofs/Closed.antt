@@ -21,8 +21,8 @@ use Rattle.nl_cpfile.specs.Tables.{Table, all, checkpoint_root}
 use Rattle.nl_cpfile.specs.Facts.ImageEntries.{zip_push}
 use Rattle.nl_cpfile.specs.declared.checkpoint.Checkpoint.{Checkpoint}
 use Rattle.nl_core.specs.Private.Closed.{AreSized, HasSize, HaveSizes}
-use Rattle.nl_core.specs.Layout.{IsPen, Layout, layout_of, layout_pages, reached_by}
-use Rattle.nl_core.specs.Volume.{Lists, kept_by}
+use Rattle.nl_commit.specs.Layout.{IsPen, Layout, layout_of, layout_pages, reached_by}
+use Rattle.nl_commit.specs.Volume.{Lists, kept_by}
 use Rattle.nl_core.specs.Facts.CleanedPens.{all-held, content-of, same-content}
 use Rattle.nl_core.specs.Facts.KeptNumbers.{found-own}
 

@@ -7,17 +7,17 @@ use Rattle.nl_types.specs.declared.event.Event.TheVariants as event
 use Rattle.nl_types.specs.declared.event.Mode.{Mode}
 use Rattle.nl_vstore.specs.Stores.{Store, IsWritten, IsWriteRefused, content_in}
 use Rattle.nl_files.specs.Laws.{SettledNumbersAreLowest}
-use Rattle.nl_core.specs.Draft.{CanBeDrafted, IsNextDraft}
-use Rattle.nl_core.specs.Layout.{HasRefused, HasWrittenCheckpoint, Settled, layout_of}
+use Rattle.nl_commit.specs.Draft.{CanBeDrafted, IsNextDraft}
+use Rattle.nl_commit.specs.Layout.{HasRefused, HasWrittenCheckpoint, Settled, layout_of}
 use Rattle.nl_layout.specs.Root.{root_of}
 use Rattle.nl_core.specs.NeededBlocks.{HasWrittenBatch}
-use Rattle.nl_core.specs.Notes.{HasNotedWrite, new_checkpoint}
-use Rattle.nl_core.specs.declared.commit.Commit.{Commit}
-use Rattle.nl_core.specs.declared.commit.Commit.TheVariants.{Written}
+use Rattle.nl_commit.specs.Notes.{HasNotedWrite, new_checkpoint}
+use Rattle.nl_commit.specs.declared.commit.Commit.{Commit}
+use Rattle.nl_commit.specs.declared.commit.Commit.TheVariants.{Written}
 use Rattle.nl_cpfile.specs.Tables.{ComesNext, checkpoint_root}
-use Rattle.nl_core.specs.Volume.{Lists, latest_root, published}
+use Rattle.nl_commit.specs.Volume.{Lists, latest_root, published}
 use Rattle.nl_cpfile.specs.declared.checkpoint.Checkpoint.{Checkpoint}
-use Rattle.nl_core.specs.declared.draft.Draft.{Draft}
+use Rattle.nl_commit.specs.declared.draft.Draft.{Draft}
 
 module _ (lists : Lists) (store : Store) (mode : Mode) (moment : ℕ) (draft : Draft)
     (can : CanBeDrafted (content_in store) lists) (drafted : IsNextDraft store mode moment lists draft) where

@@ -17,10 +17,10 @@ use Rattle.nl_counts.specs.Counted.{Counted, IsCounted}
 use Rattle.nl_counts.specs.Events.{IsNextWritten}
 use Rattle.nl_counts.specs.Laws.{UnusedStoresAreCounted}
 use Rattle.nl_tree.specs.FirstTree.{nothing_held}
-use Rattle.nl_core.specs.CleaningEvents.{kept_numbers}
-use Rattle.nl_core.specs.Layout.{Layout, blank_layout}
+use Rattle.nl_commit.specs.CleaningEvents.{kept_numbers}
+use Rattle.nl_commit.specs.Layout.{Layout, blank_layout}
 use Rattle.nl_core.specs.NeededBlocks.{HasWrittenBatch}
-use Rattle.nl_core.specs.Volume.{Lists, latest_alone}
+use Rattle.nl_commit.specs.Volume.{Lists, latest_alone}
 use Rattle.nl_core.specs.Facts.CountedPens.{written-over}
 use Rattle.nl_core.specs.Facts.Checkpoints.{number-next}
 use Rattle.nl_core.proofs.Formats.{none-in-use, sound-before, stands-before}

@@ -38,12 +38,12 @@ use Rattle.nl_files.specs.Facts.Few.{few-births}
 use Rattle.nl_files.specs.Facts.First.{latest-first, stores-nothing}
 use Rattle.nl_files.specs.Facts.TreeLaws.{first_trees-stand, trees-can_be_settled}
 use Rattle.nl_files.specs.Facts.Holdings.{roots-hold_one}
-use Rattle.nl_core.specs.Draft.{CanBeDrafted, HasFewNames, SettlesNow}
-use Rattle.nl_core.specs.Layout.{HasRefused, HasWrittenCheckpoint, IsFormatted, IsPen, IsSoundPen, LacksSpaceToSettle, Layout, MeansWorld, Settled, blank_layout, layout_of, ledger_of, layout_pages, reached_by}
-use Rattle.nl_core.specs.Means.{RootMeans}
-use Rattle.nl_core.specs.Tables.{blank_checkpoint, blank_lists}
+use Rattle.nl_commit.specs.Draft.{CanBeDrafted, HasFewNames, SettlesNow}
+use Rattle.nl_commit.specs.Layout.{HasRefused, HasWrittenCheckpoint, IsFormatted, IsPen, IsSoundPen, LacksSpaceToSettle, Layout, MeansWorld, Settled, blank_layout, layout_of, ledger_of, layout_pages, reached_by}
+use Rattle.nl_commit.specs.Means.{RootMeans}
+use Rattle.nl_commit.specs.Tables.{blank_checkpoint, blank_lists}
 use Rattle.nl_cpfile.specs.Tables.{by_number, kept_at, checkpoint_root}
-use Rattle.nl_core.specs.Volume.{Lists, latest_alone, mount_of}
+use Rattle.nl_commit.specs.Volume.{Lists, latest_alone, mount_of}
 use Rattle.nl_cpfile.specs.declared.checkpoint.Checkpoint.{Checkpoint as Kept}
 use Rattle.nl_core.specs.Facts.Checkpoints.{differs-behind, ledger-behind, stands-behind}
 use Rattle.nl_core.proofs.FirstLogs.{first_logs}

@@ -1,8 +1,8 @@
 -- A pen whose mounts are all given back.
 use Rattle.std.proofs.Common.{[], refl}
 use Rattle.nl_types.specs.Worlds.{World}
-use Rattle.nl_core.specs.Layout.{IsPen, Layout, MeansWorld, layout_of}
-use Rattle.nl_core.specs.Volume.{without_mounts}
+use Rattle.nl_commit.specs.Layout.{IsPen, Layout, MeansWorld, layout_of}
+use Rattle.nl_commit.specs.Volume.{without_mounts}
 
 abbrev pub given_back : Layout → Layout
 given_back l = layout_of (without_mounts l.lists) l.store

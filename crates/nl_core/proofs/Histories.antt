@@ -9,12 +9,12 @@ use Rattle.nl_types.specs.Entries.{Place}
 use Rattle.nl_types.specs.Roots.{Pages}
 use Rattle.nl_cpfile.specs.declared.checkpoint.Checkpoint.{Checkpoint}
 use Rattle.nl_cpfile.specs.Facts.Found.{eq_by_cmp-nat_cmp}
-use Rattle.nl_core.specs.Commits.{IsNew, KeepsCheckpoint, MountsStillShow, applied}
-use Rattle.nl_core.specs.Shown.{Shown, mounted_on, pages_shown}
-use Rattle.nl_core.specs.Volume.{is_other_mount, mount_of}
-use Rattle.nl_core.specs.declared.commit.Commit.{Commit}
-use Rattle.nl_core.specs.declared.commit.Commit.TheVariants as commit
-use Rattle.nl_core.specs.declared.mounts.Mounted.{Mounted}
+use Rattle.nl_commit.specs.Commits.{IsNew, KeepsCheckpoint, MountsStillShow, applied}
+use Rattle.nl_commit.specs.Shown.{Shown, mounted_on, pages_shown}
+use Rattle.nl_commit.specs.Volume.{is_other_mount, mount_of}
+use Rattle.nl_commit.specs.declared.commit.Commit.{Commit}
+use Rattle.nl_commit.specs.declared.commit.Commit.TheVariants as commit
+use Rattle.nl_commit.specs.declared.mounts.Mounted.{Mounted}
 
 -- ---- a checkpoint that is kept on
 

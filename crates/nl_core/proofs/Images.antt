@@ -18,14 +18,14 @@ use Rattle.nl_layout.specs.Root.{root_of}
 use Rattle.nl_files.specs.CheckpointRoots.{IsTreeSound}
 use Rattle.nl_cpfile.specs.Tables.{IsRising, IsTable, Precedes, kept_at, checkpoint_root}
 use Rattle.nl_cpfile.specs.declared.checkpoint.Checkpoint.{Checkpoint}
-use Rattle.nl_core.specs.Commits.{HasTree, IsImage}
-use Rattle.nl_core.specs.Layout.{IsPen, Layout, layout_pages}
-use Rattle.nl_core.specs.Means.{CopyMeans, Means}
-use Rattle.nl_core.specs.Notes.{shown_of}
-use Rattle.nl_core.specs.Volume.{kept_by, mount_of}
-use Rattle.nl_core.specs.Facts.Events.{HasCopy, copy_of}
+use Rattle.nl_commit.specs.Commits.{HasTree, IsImage}
+use Rattle.nl_commit.specs.Layout.{IsPen, Layout, layout_pages}
+use Rattle.nl_commit.specs.Means.{CopyMeans, Means}
+use Rattle.nl_commit.specs.Notes.{shown_of}
+use Rattle.nl_commit.specs.Volume.{kept_by, mount_of}
+use Rattle.nl_commit.specs.Facts.Events.{HasCopy, copy_of}
 use Rattle.nl_core.specs.Facts.Ledgers.{found-all}
-use Rattle.nl_core.specs.Facts.ShownNumbers.{pages-shown}
+use Rattle.nl_commit.specs.Facts.ShownNumbers.{pages-shown}
 
 -- ---- the table
 

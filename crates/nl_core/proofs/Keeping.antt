@@ -16,15 +16,15 @@ use Rattle.nl_files.specs.Facts.Staying.{checkpoints-stay}
 use Rattle.nl_cpfile.specs.Tables.{Table, all, kept_at, moded, checkpoint_root, with_mode, with_next, without}
 use Rattle.nl_cpfile.specs.declared.checkpoint.Checkpoint.{Checkpoint}
 use Rattle.nl_cpfile.specs.Facts.Found.{found-push}
-use Rattle.nl_core.specs.Commits.{KeepsCheckpoint, KeepsCheckpoints}
-use Rattle.nl_core.specs.Layout.{IsPen, KeepsNumbers, Layout, layout_pages, reached_by}
-use Rattle.nl_core.specs.Means.{RootMeans}
-use Rattle.nl_core.specs.Notes.{shown_of}
-use Rattle.nl_core.specs.Shown.{pages_shown}
-use Rattle.nl_core.specs.Volume.{kept_by}
-use Rattle.nl_core.specs.Facts.Events.{copy_of}
+use Rattle.nl_commit.specs.Commits.{KeepsCheckpoint, KeepsCheckpoints}
+use Rattle.nl_commit.specs.Layout.{IsPen, KeepsNumbers, Layout, layout_pages, reached_by}
+use Rattle.nl_commit.specs.Means.{RootMeans}
+use Rattle.nl_commit.specs.Notes.{shown_of}
+use Rattle.nl_commit.specs.Shown.{pages_shown}
+use Rattle.nl_commit.specs.Volume.{kept_by}
+use Rattle.nl_commit.specs.Facts.Events.{copy_of}
 use Rattle.nl_core.specs.Facts.Ledgers.{found-all}
-use Rattle.nl_core.specs.Facts.ShownNumbers.{pages-shown}
+use Rattle.nl_commit.specs.Facts.ShownNumbers.{pages-shown}
 use Rattle.nl_core.specs.Facts.TableChanges.{kept-with_mode, kept-without, moded-same, unless}
 
 -- ---- which roots there are

@@ -18,11 +18,11 @@ use Rattle.nl_vstore.specs.Stores.{IsMoveRefused, IsStore}
 use Rattle.nl_reclaim.specs.Cleaning.{judged_for}
 use Rattle.nl_reclaim.specs.Reclaims.{stood_in}
 use Rattle.nl_core.specs.CleanedPens.{AddsMinor, LeavesPen, StaysPen}
-use Rattle.nl_core.specs.CleaningEvents.{HasMovedOut, IsMoveRefusal, needed_by}
-use Rattle.nl_core.specs.Draft.{HasNextNumber}
+use Rattle.nl_commit.specs.CleaningEvents.{HasMovedOut, IsMoveRefusal, needed_by}
+use Rattle.nl_commit.specs.Draft.{HasNextNumber}
 use Rattle.nl_core.specs.LedgerEvents.{EventsAreLedgerEvents, LedgerGoesOn, RunsAreLedgerEvents, RunsKeepNumbers, done_events}
-use Rattle.nl_core.specs.Layout.{AllowedBetween, HasDone, HasPublished, HasRefused, HasRetired, IsPen, Layout, layout_of, ledger_of}
-use Rattle.nl_core.specs.Volume.{IsTakenOut, Lists, moved_lists, with_minor}
+use Rattle.nl_commit.specs.Layout.{AllowedBetween, HasDone, HasPublished, HasRefused, HasRetired, IsPen, Layout, layout_of, ledger_of}
+use Rattle.nl_commit.specs.Volume.{IsTakenOut, Lists, moved_lists, with_minor}
 use Rattle.nl_core.proofs.Checkpointing.{ledger-same}
 use Rattle.nl_core.specs.Facts.Checkpoints.{allowed-behind, ledger-behind}
 use Rattle.nl_core.specs.Facts.CleanedPens.{moves_keep_pens, refused_moves_keep_pens, retirements_keep_pens}

@@ -1,4 +1,3 @@
-pub mod MountTables
 pub mod OneWorld
 pub mod Moving
 pub mod Removals

@@ -11,8 +11,8 @@ use Rattle.nl_layout.specs.declared.root.Root.{Root}
 use Rattle.nl_files.specs.CheckpointRoots.{IsTreeSound}
 use Rattle.nl_cpfile.specs.declared.checkpoint.Checkpoint.{Checkpoint}
 use Rattle.nl_cpfile.specs.Tables.{all, kept_at, moded, checkpoint_root, with_mode}
-use Rattle.nl_core.specs.Layout.{IsSoundPen, KeepsNumbers, Layout, layout_of, ledger_of, layout_pages, reached_by}
-use Rattle.nl_core.specs.Volume.{with_checkpoint_mode}
+use Rattle.nl_commit.specs.Layout.{IsSoundPen, KeepsNumbers, Layout, layout_of, ledger_of, layout_pages, reached_by}
+use Rattle.nl_commit.specs.Volume.{with_checkpoint_mode}
 use Rattle.nl_core.specs.Facts.Ledgers.{same-numbers}
 use Rattle.nl_core.specs.Facts.TableChanges.{all-with_mode, kept-with_mode, moded-same}
 

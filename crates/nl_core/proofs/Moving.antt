@@ -17,11 +17,11 @@ use Rattle.nl_types.specs.Worlds.{World, Reply}
 use Rattle.nl_types.specs.Runs.{Step, memory_alone}
 use Rattle.nl_vstore.specs.Stores.{Store, content_in}
 use Rattle.nl_tree.specs.Became.{Current}
-use Rattle.nl_core.specs.Changes.{HasChanged}
-use Rattle.nl_core.specs.Means.{StepsWorldsOver}
-use Rattle.nl_core.specs.Volume.{IsExpired, IsTakenOut, IsTakenOutRange, Lists, with_change, with_checkpoint_mode, with_mount, without_mount}
-use Rattle.nl_core.specs.Layout.{Does, StepsWorlds, HasDone, IsPen, IsSoundPen, KeepsNumbers, Becomes, cleaned, layout_of, unshared}
-use Rattle.nl_core.specs.declared.mounts.Mounted.{Mounted}
+use Rattle.nl_commit.specs.Changes.{HasChanged}
+use Rattle.nl_commit.specs.Means.{StepsWorldsOver}
+use Rattle.nl_commit.specs.Volume.{IsExpired, IsTakenOut, IsTakenOutRange, Lists, with_change, with_checkpoint_mode, with_mount, without_mount}
+use Rattle.nl_commit.specs.Layout.{Does, StepsWorlds, HasDone, IsPen, IsSoundPen, KeepsNumbers, Becomes, cleaned, layout_of, unshared}
+use Rattle.nl_commit.specs.declared.mounts.Mounted.{Mounted}
 use Rattle.nl_core.specs.Facts.Ledgers.{same-numbers}
 use Rattle.nl_core.proofs.ModeChanges.{numbers-moded, sound-moded}
 use Rattle.nl_core.proofs.Removals.{numbers-left, sound-left}

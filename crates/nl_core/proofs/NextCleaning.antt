@@ -4,9 +4,9 @@ use Rattle.std.proofs.lemmas.Bool.{eq-eqb, ne_eqb}
 use Rattle.nl_types.specs.declared.event.Event.{Event}
 use Rattle.nl_types.specs.declared.event.Event.TheVariants.{Move, Retire}
 use Rattle.nl_vstore.specs.Located.{needed_count}
-use Rattle.nl_core.specs.CleanerViews.{cleaning_event}
-use Rattle.nl_core.specs.CleaningEvents.{needed_by}
-use Rattle.nl_core.specs.Layout.{Layout}
+use Rattle.nl_commit.specs.CleanerViews.{cleaning_event}
+use Rattle.nl_commit.specs.CleaningEvents.{needed_by}
+use Rattle.nl_commit.specs.Layout.{Layout}
 
 module _ (l : Layout) (segment now n : ℕ) (is : n ≡ needed_count l.store (needed_by l.lists) segment) where
   counted : needed_count l.store (needed_by l.lists) segment ≡ n

@@ -15,12 +15,12 @@ use Rattle.nl_types.specs.Worlds.{Reply, World}
 use Rattle.nl_vstore.specs.Batches.{Changes}
 use Rattle.nl_vstore.specs.Located.{numbers_in}
 use Rattle.nl_vstore.specs.Stores.{IsStore}
-use Rattle.nl_core.specs.CleaningEvents.{needed_by, resized_by}
-use Rattle.nl_core.specs.Layout.{Does, HasRefused, IsPen, Layout, Becomes, cleaned, unshared}
+use Rattle.nl_commit.specs.CleaningEvents.{needed_by, resized_by}
+use Rattle.nl_commit.specs.Layout.{Does, HasRefused, IsPen, Layout, Becomes, cleaned, unshared}
 use Rattle.nl_core.specs.NeededBlocks.{HasWrittenBatch}
-use Rattle.nl_core.specs.Notes.{AreCommitsOf, ChangesLists, DoesNoting, HasNoted, HasNotedWrite, has_other_mode, moved_as, new_checkpoint, shared, where_any, where_true}
-use Rattle.nl_core.specs.declared.commit.Commit.{Commit}
-use Rattle.nl_core.specs.declared.commit.Commit.TheVariants.{Freed, ModeSet, Resized, Written}
+use Rattle.nl_commit.specs.Notes.{AreCommitsOf, ChangesLists, DoesNoting, HasNoted, HasNotedWrite, has_other_mode, moved_as, new_checkpoint, shared, where_any, where_true}
+use Rattle.nl_commit.specs.declared.commit.Commit.{Commit}
+use Rattle.nl_commit.specs.declared.commit.Commit.TheVariants.{Freed, ModeSet, Resized, Written}
 use Rattle.nl_core.proofs.Checkpointing.{does-refused, does-written}
 use Rattle.nl_core.specs.Facts.Ledgers.{same-numbers}
 use Rattle.nl_core.specs.Facts.Outside.{retired-inside}

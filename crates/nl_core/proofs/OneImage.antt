@@ -20,10 +20,10 @@ use Rattle.nl_image.specs.Conditions.{pages_told}
 use Rattle.nl_image.specs.Laws.{ImagesHaveOneParts, StoreImagesAreImages, StoreImagesTellPages}
 use Rattle.nl_image.specs.Parts.{Parts}
 use Rattle.nl_image.specs.StoreImages.{parts_of}
-use Rattle.nl_core.specs.Layout.{IsPen, Layout, MeansWorld, layout_pages}
-use Rattle.nl_core.specs.Means.{CopyMeans}
+use Rattle.nl_commit.specs.Layout.{IsPen, Layout, MeansWorld, layout_pages}
+use Rattle.nl_commit.specs.Means.{CopyMeans}
 use Rattle.nl_core.specs.PenImages.{CanBeClosed, ImagesMeanOneWorld, IsPenImage}
-use Rattle.nl_core.specs.Volume.{kept_by, mount_of}
+use Rattle.nl_commit.specs.Volume.{kept_by, mount_of}
 use Rattle.nl_core.proofs.OneWorld.{copies-one}
 use Rattle.nl_core.proofs.PenImages.{entries-of, pen_images_are_images}
 

@@ -11,10 +11,10 @@ use Rattle.nl_layout.specs.declared.root.Root.{Root}
 use Rattle.nl_tree.specs.Became.{Current, holding_over}
 use Rattle.nl_tree.specs.Held.{Holding, inodes_of_holding}
 use Rattle.nl_files.specs.Facts.Holdings.{roots-hold_one}
-use Rattle.nl_core.specs.Laws.{MeansOneWorld}
-use Rattle.nl_core.specs.Means.{CopyMeans, CurrentMeans, RootMeans}
+use Rattle.nl_commit.specs.Laws.{MeansOneWorld}
+use Rattle.nl_commit.specs.Means.{CopyMeans, CurrentMeans, RootMeans}
 use Rattle.nl_cpfile.specs.Tables.{checkpoint_root}
-use Rattle.nl_core.specs.Volume.{kept_by, latest_root}
+use Rattle.nl_commit.specs.Volume.{kept_by, latest_root}
 use Rattle.nl_cpfile.specs.declared.checkpoint.Checkpoint.{Checkpoint}
 
 -- what is held stands for one tree

@@ -25,9 +25,9 @@ use Rattle.nl_cpfile.specs.Tables.{Precedes, Table, by_number, kept_at, checkpoi
 use Rattle.nl_cpfile.specs.declared.checkpoint.Checkpoint.{Checkpoint}
 use Rattle.nl_cpfile.specs.Facts.Found.{eq_by_cmp-nat_cmp, kept-last}
 use Rattle.nl_cpfile.specs.Facts.Rising.{IsRising-last}
-use Rattle.nl_core.specs.Layout.{IsPen, IsSoundPen, Layout, MeansWorld, ledger_of, layout_pages, reached_by}
+use Rattle.nl_commit.specs.Layout.{IsPen, IsSoundPen, Layout, MeansWorld, ledger_of, layout_pages, reached_by}
 use Rattle.nl_core.specs.Opened.{CheckedCheckpointsHaveInodes, IsChecked, IsOpened, OpenedImagesArePens}
-use Rattle.nl_core.specs.Volume.{kept_by, mount_of}
+use Rattle.nl_commit.specs.Volume.{kept_by, mount_of}
 use Rattle.nl_core.proofs.CheckedCopies.{HasTree, InLimits, copies-fit, copies-last, copies-mean, copies-sorted, copies-stamped, copies_of, copy_of, copy_of-tree, found-tree, is-tree, last_tree, some-inode}
 use Rattle.nl_core.specs.Facts.Ledgers.{found-all}
 

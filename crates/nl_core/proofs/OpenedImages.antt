@@ -26,9 +26,9 @@ use Rattle.nl_image.specs.Conditions.{HasCheckpoints, HasLogs, HasNumbers, HasPe
 use Rattle.nl_image.specs.Parts.{Parts, dat_in}
 use Rattle.nl_image.specs.Reading.{HaveOwn, IsReadImage}
 use Rattle.nl_image.specs.Facts.OnePayload.{own_by_both, used_page}
-use Rattle.nl_core.specs.Layout.{layout_of}
+use Rattle.nl_commit.specs.Layout.{layout_of}
 use Rattle.nl_core.specs.Opened.{IsAtRest, IsChecked, IsOpened, IsRestoredStore, opened_lists}
-use Rattle.nl_core.specs.Volume.{Lists}
+use Rattle.nl_commit.specs.Volume.{Lists}
 use Rattle.nl_core.proofs.Opening.{each-checked, each-rooted, latest-checked, periods-bounded}
 
 last-behind : (e f : CheckpointEntry) (kept : List CheckpointEntry)

@@ -34,10 +34,10 @@ use Rattle.nl_image.specs.Laws.{AreKeptOver, StoreImagesAreImages, StoresHaveOne
 use Rattle.nl_image.specs.StoreImages.{IsSizedEntry}
 use Rattle.nl_image.specs.Facts.StoreNumbers.{entry-of}
 use Rattle.nl_core.specs.Private.Closed.{AreSized}
-use Rattle.nl_core.specs.Layout.{IsPen, Layout, layout_pages, reached_by}
-use Rattle.nl_core.specs.Means.{CopyMeans}
+use Rattle.nl_commit.specs.Layout.{IsPen, Layout, layout_pages, reached_by}
+use Rattle.nl_commit.specs.Means.{CopyMeans}
 use Rattle.nl_core.specs.PenImages.{PenImagesAreImages, PensHaveOneImage}
-use Rattle.nl_core.specs.Volume.{kept_by}
+use Rattle.nl_commit.specs.Volume.{kept_by}
 use Rattle.nl_core.proofs.CheckedCopies.{HasTree}
 use Rattle.nl_core.specs.Facts.KeptNumbers.{found-own}
 use Rattle.nl_core.proofs.OpenedImages.{last-number}

@@ -11,9 +11,9 @@ use Rattle.nl_layout.specs.Root.{root_of}
 use Rattle.nl_files.specs.CheckpointRoots.{IsTreeSound}
 use Rattle.nl_cpfile.specs.declared.checkpoint.Checkpoint.{Checkpoint}
 use Rattle.nl_cpfile.specs.Tables.{all, is_kept_without, kept_at, checkpoint_root}
-use Rattle.nl_core.specs.Laws.{ExpiriesGoOneByOne, RangesGoOneByOne}
-use Rattle.nl_core.specs.Layout.{AllowedBetween, IsSoundPen, KeepsNumbers, Layout, layout_of, ledger_of, layout_pages, reached_by}
-use Rattle.nl_core.specs.Volume.{without_checkpoints}
+use Rattle.nl_commit.specs.Laws.{ExpiriesGoOneByOne, RangesGoOneByOne}
+use Rattle.nl_commit.specs.Layout.{AllowedBetween, IsSoundPen, KeepsNumbers, Layout, layout_of, ledger_of, layout_pages, reached_by}
+use Rattle.nl_commit.specs.Volume.{without_checkpoints}
 use Rattle.nl_core.specs.Facts.TableChanges.{all-without, kept-without, unless}
 
 -- ---- the ledger, one removal after another

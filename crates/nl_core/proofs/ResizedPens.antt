@@ -21,13 +21,13 @@ use Rattle.nl_vstore.specs.Located.{needed_count}
 use Rattle.nl_vstore.specs.Stores.{HasGrown, IsGrowthRefused, IsStore, Store, capacity, content_in, entry_now}
 use Rattle.nl_counts.specs.Counted.{Counted}
 use Rattle.nl_core.specs.CleanedPens.{StaysPen}
-use Rattle.nl_core.specs.CleaningEvents.{HasResized, HasResizedNone, kept_numbers, resized_by}
-use Rattle.nl_core.specs.Commits.{with_room}
-use Rattle.nl_core.specs.Layout.{Does, HasRefused, IsPen, Layout, layout_of, ledger_of, unshared}
+use Rattle.nl_commit.specs.CleaningEvents.{HasResized, HasResizedNone, kept_numbers, resized_by}
+use Rattle.nl_commit.specs.Commits.{with_room}
+use Rattle.nl_commit.specs.Layout.{Does, HasRefused, IsPen, Layout, layout_of, ledger_of, unshared}
 use Rattle.nl_core.specs.NeededBlocks.{AreNeededCounts}
-use Rattle.nl_core.specs.Notes.{shown_of, shown_page}
-use Rattle.nl_core.specs.Volume.{Lists}
-use Rattle.nl_core.specs.declared.commit.ShownPage.{ShownPage}
+use Rattle.nl_commit.specs.Notes.{shown_of, shown_page}
+use Rattle.nl_commit.specs.Volume.{Lists}
+use Rattle.nl_commit.specs.declared.commit.ShownPage.{ShownPage}
 use Rattle.nl_core.specs.Facts.CleanedPens.{content-of, same-content}
 
 -- ---- what numbers stand for stays

@@ -30,9 +30,9 @@ use Rattle.nl_image.specs.Parts.{Parts, blocks_in, blocks_start, cpfile_in, cpfi
 use Rattle.nl_image.specs.Reading.{IsReadImage}
 use Rattle.nl_image.specs.StoreImages.{AreOf, HaveSpelling, IsImageOf, IsShapeOfStore, IsSizedEntry, parts_of}
 use Rattle.nl_image.specs.Facts.ReadParts.{part-length}
-use Rattle.nl_core.specs.Layout.{Layout, layout_of}
+use Rattle.nl_commit.specs.Layout.{Layout, layout_of}
 use Rattle.nl_core.specs.Opened.{IsRestoredStore, opened_lists}
-use Rattle.nl_core.specs.Volume.{Lists, kept_by}
+use Rattle.nl_commit.specs.Volume.{Lists, kept_by}
 use Rattle.nl_core.proofs.BlockPages.{IsPageAt, cut-at, cut-count, cut-spelled, cut_pages}
 use Rattle.nl_core.proofs.OpenedImages.{numbers-shown, pages-are}
 use Rattle.nl_core.proofs.Opening.{told-root}

@@ -9,7 +9,7 @@ use Rattle.nl_cpfile.specs.Tables.{IsRising, IsTable, Precedes, Table, kept_at, 
 use Rattle.nl_cpfile.specs.declared.checkpoint.Checkpoint.{Checkpoint}
 use Rattle.nl_cpfile.specs.Facts.Found.{earlier-IsRising, eq_by_cmp-nat_cmp, found, found-push, kept-last, moded-here}
 use Rattle.nl_cpfile.specs.Facts.Rising.{same_table}
-use Rattle.nl_core.specs.Notes.{has_other_mode, is_other_mode}
+use Rattle.nl_commit.specs.Notes.{has_other_mode, is_other_mode}
 
 same-mode : (old new : Mode) → is_other_mode old new ≡ false → old ≡ new
 same-mode Plain Plain same = refl

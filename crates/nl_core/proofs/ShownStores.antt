@@ -8,9 +8,9 @@ use Rattle.nl_types.specs.Entries.{Birth, Entry, period_of}
 use Rattle.nl_vstore.specs.Batches.{birth_of_item, births_of}
 use Rattle.nl_space.specs.Content.{Payload}
 use Rattle.nl_vstore.specs.Stores.{Numbered, Store, entry_now, numbered_in}
-use Rattle.nl_core.specs.Notes.{new_page, shown_page}
-use Rattle.nl_core.specs.declared.commit.NewPage.{NewPage}
-use Rattle.nl_core.specs.declared.commit.ShownPage.{ShownPage}
+use Rattle.nl_commit.specs.Notes.{new_page, shown_page}
+use Rattle.nl_commit.specs.declared.commit.NewPage.{NewPage}
+use Rattle.nl_commit.specs.declared.commit.ShownPage.{ShownPage}
 
 -- ---- one number
 

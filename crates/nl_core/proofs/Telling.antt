@@ -20,24 +20,24 @@ use Rattle.nl_vstore.specs.Facts.NumberAt.{in-numbers}
 use Rattle.nl_reclaim.specs.Cleaning.{judged_for}
 use Rattle.nl_cpfile.specs.Tables.{Table, range_in, with_mode, with_next, without}
 use Rattle.nl_cpfile.specs.declared.checkpoint.Checkpoint.{Checkpoint}
-use Rattle.nl_core.specs.CleaningEvents.{HasMovedOut, HasResized, IsMoveRefusal, needed_by}
-use Rattle.nl_core.specs.Commits.{AllNext, IsImage, IsNew, KeepsCheckpoints, applied, numbers_written, with_room, without_numbers}
-use Rattle.nl_core.specs.Layout.{AllowedBetween, Does, HasRefused, HasWrittenCheckpoint, IsPen, KeepsNumbers, Layout, layout_of}
-use Rattle.nl_core.specs.Notes.{AreCommitsOf, CommitsTellAll, HasNoted, freed_in, has_other_mode, mounted_as, moved_as, new_checkpoint, shown_of, shown_page, where_any, where_true, without_changes}
-use Rattle.nl_core.specs.Shown.{Shown}
-use Rattle.nl_core.specs.Volume.{IsTakenOut, Lists, boundary_in, minor_checkpoint, moved_lists, with_checkpoint_mode, with_minor}
-use Rattle.nl_core.specs.declared.commit.Commit.{Commit}
-use Rattle.nl_core.specs.declared.commit.Commit.TheVariants.{Freed, GivenBack, ModeSet, Mounted, RangeRemoved, Removed, Resized, Written}
-use Rattle.nl_core.specs.declared.commit.ShownPage.{ShownPage}
-use Rattle.nl_core.specs.declared.mounts.Mounted.{Mounted as Mount}
+use Rattle.nl_commit.specs.CleaningEvents.{HasMovedOut, HasResized, IsMoveRefusal, needed_by}
+use Rattle.nl_commit.specs.Commits.{AllNext, IsImage, IsNew, KeepsCheckpoints, applied, numbers_written, with_room, without_numbers}
+use Rattle.nl_commit.specs.Layout.{AllowedBetween, Does, HasRefused, HasWrittenCheckpoint, IsPen, KeepsNumbers, Layout, layout_of}
+use Rattle.nl_commit.specs.Notes.{AreCommitsOf, CommitsTellAll, HasNoted, freed_in, has_other_mode, mounted_as, moved_as, new_checkpoint, shown_of, shown_page, where_any, where_true, without_changes}
+use Rattle.nl_commit.specs.Shown.{Shown}
+use Rattle.nl_commit.specs.Volume.{IsTakenOut, Lists, boundary_in, minor_checkpoint, moved_lists, with_checkpoint_mode, with_minor}
+use Rattle.nl_commit.specs.declared.commit.Commit.{Commit}
+use Rattle.nl_commit.specs.declared.commit.Commit.TheVariants.{Freed, GivenBack, ModeSet, Mounted, RangeRemoved, Removed, Resized, Written}
+use Rattle.nl_commit.specs.declared.commit.ShownPage.{ShownPage}
+use Rattle.nl_commit.specs.declared.mounts.Mounted.{Mounted as Mount}
 use Rattle.nl_core.specs.Facts.Checkpoints.{latest-next, number-next}
 use Rattle.nl_core.specs.Facts.CleanedPens.{refused-numbers}
 use Rattle.nl_core.specs.Facts.ExpiredNumbers.{without-none}
 use Rattle.nl_core.proofs.Images.{pen-image, pen-table}
 use Rattle.nl_core.proofs.Keeping.{KeepsRoots, keeps-checkpoints, roots-moded, roots-next, roots-same, roots-without}
-use Rattle.nl_core.specs.Facts.MountEvents.{answers-mount, mounted-before}
+use Rattle.nl_commit.specs.Facts.MountEvents.{answers-mount, mounted-before}
 use Rattle.nl_core.proofs.SameModes.{no-other_mode}
-use Rattle.nl_core.specs.Facts.ShownNumbers.{numbers-freed, numbers-moved, numbers-written}
+use Rattle.nl_commit.specs.Facts.ShownNumbers.{numbers-freed, numbers-moved, numbers-written}
 use Rattle.nl_core.proofs.ResizedPens.{numbers-resized, resized-as-many, room-resized, unresized-numbers}
 
 -- ---- commits that tell what readers see

@@ -9,9 +9,9 @@ use Rattle.nl_types.specs.Rows.{is_snapshot}
 use Rattle.nl_types.specs.Worlds.{Copy, World, boundary_of}
 use Rattle.nl_cpfile.specs.Tables.{cpstat_of}
 use Rattle.nl_cpfile.specs.declared.checkpoint.Checkpoint.{Checkpoint}
-use Rattle.nl_core.specs.Means.{CopyMeans, Means}
+use Rattle.nl_commit.specs.Means.{CopyMeans, Means}
 use Rattle.nl_core.specs.Views.{counted}
-use Rattle.nl_core.specs.Volume.{Lists, boundary_in, kept_by, mount_of}
+use Rattle.nl_commit.specs.Volume.{Lists, boundary_in, kept_by, mount_of}
 use Rattle.nl_core.specs.Facts.CheckpointEvents.{latest-same, rows-means}
 
 count-told : (pages : Pages) (kept : List Checkpoint) (copies : List (ℕ × Copy))

@@ -9,9 +9,9 @@ use Rattle.nl_cpfile.specs.declared.checkpoint.Checkpoint.{Checkpoint}
 use Rattle.nl_vstore.specs.Stores.{IsMoved, IsMoveRefused, IsReclaimed, IsStore, address_in, is_inside}
 use Rattle.nl_reclaim.specs.Moves.{KeptStore, needed_now}
 use Rattle.nl_reclaim.specs.Reclaims.{stood_in}
-use Rattle.nl_core.specs.Draft.{HasNextNumber}
-use Rattle.nl_core.specs.Layout.{IsPen, KeepsNumbers, Layout, MeansWorld, layout_of, ledger_of}
-use Rattle.nl_core.specs.Volume.{kept_by, with_minor}
+use Rattle.nl_commit.specs.Draft.{HasNextNumber}
+use Rattle.nl_commit.specs.Layout.{IsPen, KeepsNumbers, Layout, MeansWorld, layout_of, ledger_of}
+use Rattle.nl_commit.specs.Volume.{kept_by, with_minor}
 
 abbrev pub kept_number : Checkpoint → ℕ
 kept_number c = c.number

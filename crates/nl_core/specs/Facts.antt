@@ -4,15 +4,12 @@ pub mod Checkpoints
 pub mod CleanedPens
 pub mod CleaningEvents
 pub mod CountedPens
-pub mod Events
 pub mod ExpiredNumbers
 pub mod KeptLists
 pub mod KeptNumbers
-pub mod Leading
 pub mod Ledgers
 pub mod MinorPens
 pub mod MorePages
-pub mod MountEvents
 pub mod MovedNeeds
 pub mod NeededNumbers
 pub mod NothingChanged
@@ -20,5 +17,4 @@ pub mod Outside
 pub mod Published
 pub mod Refusals
 pub mod Settlings
-pub mod ShownNumbers
 pub mod TableChanges

@@ -1,6 +1,6 @@
 -- What the fields of the pen's tables hold.
-use Rattle.nl_core.specs.Volume.{Lists}
-use Rattle.nl_core.specs.Tables.{RoomyLists}
+use Rattle.nl_commit.specs.Volume.{Lists}
+use Rattle.nl_commit.specs.Tables.{RoomyLists}
 use Rattle.nl_core.specs.declared.tables.Tables.TheInside.{Inside}
 
 abbrev pub lists_of : Inside → Lists

@@ -8,7 +8,7 @@ use Rattle.nl_types.specs.Lifetimes.{EachAllowed, EndsOnceSince, KeepsCovered, L
 use Rattle.nl_types.specs.Runs.{Run}
 use Rattle.nl_types.specs.Worlds.{Reply, is_moving}
 use Rattle.nl_reclaim.specs.Reclaims.{stood_in}
-use Rattle.nl_core.specs.Layout.{AllowedBetween, Does, HasDone, IsPen, Layout, Becomes, ledger_of}
+use Rattle.nl_commit.specs.Layout.{AllowedBetween, Does, HasDone, IsPen, Layout, Becomes, ledger_of}
 
 -- ---- which they are
 

@@ -8,9 +8,9 @@ use Rattle.nl_device.specs.Failures.{Failures}
 use Rattle.nl_device.specs.Pages.{DevicePages}
 use Rattle.nl_vstore.specs.Batches.{Changes}
 use Rattle.nl_counts.specs.Counted.{Counted, IsCounted}
-use Rattle.nl_core.specs.CleaningEvents.{kept_numbers}
-use Rattle.nl_core.specs.Layout.{HasWrittenCheckpoint, IsPen, Layout, blank_layout}
-use Rattle.nl_core.specs.Volume.{Lists}
+use Rattle.nl_commit.specs.CleaningEvents.{kept_numbers}
+use Rattle.nl_commit.specs.Layout.{HasWrittenCheckpoint, IsPen, Layout, blank_layout}
+use Rattle.nl_commit.specs.Volume.{Lists}
 
 -- Each segment's count is the number of needed blocks that stand there: those that a kept checkpoint has, or
 -- that have not ended.

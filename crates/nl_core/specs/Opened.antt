@@ -18,8 +18,8 @@ use Rattle.nl_cpfile.specs.Tables.{IsTable, Table, checkpoint_root}
 use Rattle.nl_cpfile.specs.declared.checkpoint.Checkpoint.{Checkpoint}
 use Rattle.nl_image.specs.Conditions.{AreImage}
 use Rattle.nl_image.specs.Reading.{IsRefusal}
-use Rattle.nl_core.specs.Layout.{IsPen, Layout}
-use Rattle.nl_core.specs.Volume.{Lists, kept_by}
+use Rattle.nl_commit.specs.Layout.{IsPen, Layout}
+use Rattle.nl_commit.specs.Volume.{Lists, kept_by}
 
 -- the lists over checkpoints that an image keeps: nothing differs from the latest one, and nothing was
 -- mounted

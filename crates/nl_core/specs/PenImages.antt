@@ -3,8 +3,8 @@ use Rattle.std.specs.Prelude.{◌≡◌, ℕ, List, [], false}
 use Rattle.nl_types.specs.Worlds.{World}
 use Rattle.nl_image.specs.Conditions.{IsImage}
 use Rattle.nl_image.specs.StoreImages.{IsImageOf, parts_of}
-use Rattle.nl_core.specs.Layout.{IsPen, Layout, MeansWorld}
-use Rattle.nl_core.specs.Volume.{Lists, kept_by}
+use Rattle.nl_commit.specs.Layout.{IsPen, Layout, MeansWorld}
+use Rattle.nl_commit.specs.Volume.{Lists, kept_by}
 
 -- the bytes are the image of what the pen holds
 abbrev pub IsPenImage : Layout → List ℕ → Type 0

@@ -7,7 +7,7 @@ ghost use Rattle.nl_vstore.specs.Counts.{needed_counts};
 ghost use Rattle.nl_vstore.specs.Located.{needed_count, payload_count_in};
 ghost use Rattle.nl_counts.specs.Counted.{IsCounted};
 ghost use Rattle.nl_cpfile.specs.Tables.{all, kept_numbers, rows};
-ghost use Rattle.nl_core.specs.CleanerViews.{needed_from};
+ghost use Rattle.nl_commit.specs.CleanerViews.{needed_from};
 
 use nl_counts::NeededCounts;
 use nl_cpfile::Checkpoints;

@@ -2,12 +2,12 @@
 ghost use Rattle.std.specs.Prelude.{◌≡◌, ◌<◌, ◌∷◌, [], length, IfOk};
 ghost use Rattle.nl_types.specs.declared.event.Event.TheVariants.{Move, Retire};
 ghost use Rattle.nl_reclaim.specs.Cleaning.{CanBeMoved, HasListedFirst};
-ghost use Rattle.nl_core.specs.CleaningEvents.{needed_by};
-ghost use Rattle.nl_core.specs.Draft.{HasNextNumber};
-ghost use Rattle.nl_core.specs.Layout.{Does, layout_of, unshared};
+ghost use Rattle.nl_commit.specs.CleaningEvents.{needed_by};
+ghost use Rattle.nl_commit.specs.Draft.{HasNextNumber};
+ghost use Rattle.nl_commit.specs.Layout.{Does, layout_of, unshared};
 ghost use Rattle.nl_core.specs.NeededBlocks.{AreNeededCounts, IsCountedPen};
-ghost use Rattle.nl_core.specs.Notes.{moved_as, without_changes};
-ghost use Rattle.nl_core.specs.Volume.{minor_checkpoint};
+ghost use Rattle.nl_commit.specs.Notes.{moved_as, without_changes};
+ghost use Rattle.nl_commit.specs.Volume.{minor_checkpoint};
 
 use crate::tables::Tables;
 use nl_counts::NeededCounts;

@@ -7,7 +7,7 @@ ghost use Rattle.nl_vstore.specs.Stores.{KeepsStored, content_in};
 ghost use Rattle.nl_cpfile.specs.Tables as tables;
 ghost use Rattle.nl_image.specs.StoreImages.{IsSizedEntry};
 ghost use Rattle.nl_core.specs.Private.Closed.{AreSized, HasSize, HaveSizes};
-ghost use Rattle.nl_core.specs.Layout.{IsPen, layout_of};
+ghost use Rattle.nl_commit.specs.Layout.{IsPen, layout_of};
 ghost use Rattle.nl_core.specs.PenImages.{IsPenImage};
 
 use crate::tables::Tables;

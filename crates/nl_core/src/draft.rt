@@ -4,24 +4,15 @@ ghost use Rattle.nl_cpfile.specs.Tables.{ComesNext};
 ghost use Rattle.nl_vstore.specs.Batches.{CanBeTaken};
 ghost use Rattle.nl_vstore.specs.Stores.{IsWriteRefused, IsWritten, Store, capacity, content_in};
 ghost use Rattle.nl_counts.specs.Counted.{IsCounted};
-ghost use Rattle.nl_core.specs.Draft.{CanBeDrafted, HasFewNames, IsDraftRefusal, IsNextDraft};
-ghost use Rattle.nl_core.specs.Volume.{published};
+ghost use Rattle.nl_commit.specs.Draft.{CanBeDrafted, HasFewNames, IsDraftRefusal, IsNextDraft};
+ghost use Rattle.nl_commit.specs.Volume.{published};
 
 use crate::tables::Tables;
+use nl_commit::Draft;
 use nl_counts::NeededCounts;
-use nl_cpfile::Checkpoint;
 use nl_types::{CheckpointNumber, Mode, VolError};
-use nl_vstore::{Batch, Vstore};
+use nl_vstore::Vstore;
 use std::alloc::Global;
-
-/// The next checkpoint, and what a store has to write for it.
-#[derive(Drop)]
-pub struct Draft {
-    pub checkpoint: Checkpoint,
-    /// The blocks that differ from those of the latest checkpoint, each under a number of its own, and the
-    /// numbers that end.
-    pub batch: Batch,
-}
 
 /// The next checkpoint, with all the memory that it takes, and with room for its ends among the counts of
 /// needed blocks. Refused by `NumbersSpent` and `Memory`.

@@ -2,7 +2,7 @@
 ghost use Rattle.std.specs.Prelude.{◌≡◌, ◌<◌, [], if◌then◌else◌, All, IfOk, IsOkUnless, OnErr};
 ghost use Rattle.std.specs.List.{AllPairs};
 ghost use Rattle.nl_cpfile.specs.Tables as cpfile;
-ghost use Rattle.nl_core.specs.Volume.{gone_from, is_memory};
+ghost use Rattle.nl_commit.specs.Volume.{gone_from, is_memory};
 
 use nl_cpfile::Checkpoints;
 use nl_protect::boundary;

@@ -8,7 +8,7 @@ ghost use Rattle.nl_dat.specs.Images.{IsTableOver};
 ghost use Rattle.nl_image.specs.Conditions.{AreImage, IsShapeOf, MeetsFirst};
 ghost use Rattle.nl_image.specs.Parts.{Parts, with_present_mark};
 ghost use Rattle.nl_image.specs.Reading.{CanBeRestored, HaveOwn, IsReadImage};
-ghost use Rattle.nl_core.specs.Layout.{IsPen};
+ghost use Rattle.nl_commit.specs.Layout.{IsPen};
 ghost use Rattle.nl_core.specs.Opened.{IsAtRest, IsOpenRefusal, IsRestoredStore};
 ghost use Rattle.nl_core.specs.PenImages.{IsPenImage};
 

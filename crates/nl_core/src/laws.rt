@@ -1,12 +1,12 @@
 //! What the pen's definitions mean, as contracts of functions that do nothing.
 ghost use Rattle.nl_core.specs.CleanedPens.{MinorsKeepPens, MovesKeepPens, RefusedMovesKeepPens, RetirementsKeepPens};
-ghost use Rattle.nl_core.specs.Commits.{MountsStillShow};
-ghost use Rattle.nl_core.specs.Layout.{unshared};
+ghost use Rattle.nl_commit.specs.Commits.{MountsStillShow};
+ghost use Rattle.nl_commit.specs.Layout.{unshared};
 ghost use Rattle.nl_core.specs.LedgerEvents.{EventsAreLedgerEvents, RunsAreLedgerEvents, RunsKeepNumbers};
-ghost use Rattle.nl_core.specs.Notes.{CommitsTellAll, PensAreImages, shared};
+ghost use Rattle.nl_commit.specs.Notes.{CommitsTellAll, PensAreImages, shared};
 ghost use Rattle.nl_core.specs.PenImages.{ImagesMeanOneWorld, PenImagesAreImages, PensHaveOneImage};
 ghost use Rattle.nl_core.specs.Opened.{CheckedCheckpointsHaveInodes, OpenedImagesArePens};
-ghost use Rattle.nl_core.specs.Laws.{MeansOneWorld, EventsLeadOn, RunsLeadOn, RefusalsKeepPens, RefusalsHaveReasons, NoSpaceIsSaid, NoSpaceIsTrue, MemoryIsTaken, RangesGoOneByOne, ExpiriesGoOneByOne, SettlingsAreAlike};
+ghost use Rattle.nl_commit.specs.Laws.{MeansOneWorld, EventsLeadOn, RunsLeadOn, RefusalsKeepPens, RefusalsHaveReasons, NoSpaceIsSaid, NoSpaceIsTrue, MemoryIsTaken, RangesGoOneByOne, ExpiriesGoOneByOne, SettlingsAreAlike};
 
 use nl_check::laws::{checked_checkpoints_are_sound, sound_checkpoints_meet_all};
 use nl_image::laws::{

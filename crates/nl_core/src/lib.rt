@@ -4,22 +4,20 @@
 mod cleaner_views;
 mod cleaning;
 mod closing;
-mod commit;
 mod draft;
 mod expiry;
 mod image;
 pub mod laws;
-mod mounts;
 mod noting;
+mod noting_pen;
 mod pen;
 mod removing;
 mod resizing;
 mod tables;
 mod writing;
 
-pub use commit::{Commit, NewPage, ShownPage, Whole, Written};
 pub use image::open;
-pub use mounts::{Mounted, Mounts};
+pub use nl_commit::{Commit, Mounted, Mounts, NewPage, NotingPen, ShownPage, Whole, Written};
 pub use nl_cpfile::Cpstat;
 pub use nl_image::geometry_of;
 pub use pen::{Pen, run};

@@ -12,17 +12,16 @@ ghost use Rattle.nl_vstore.specs.Stores.{capacity, content_in, numbered_in};
 ghost use Rattle.nl_dat.specs.Table.{dat_entry_of};
 ghost use Rattle.nl_vstore.specs.Summaries.{payload_row};
 ghost use Rattle.nl_vstore.specs.Located.{needed_count, payload_count_in};
-ghost use Rattle.nl_core.specs.CleaningEvents.{needed_by};
-ghost use Rattle.nl_core.specs.CleanerViews.{cleaning_event, counts_after, needed_after, needed_told};
-ghost use Rattle.nl_core.specs.Commits.{IsHistory, image_of};
-ghost use Rattle.nl_core.specs.Shown.{MountsRise};
-ghost use Rattle.nl_core.specs.Notes.{ChangesLists, DoesNoting, HasNoted, has_other_mode, shown_of, where_gone};
-ghost use Rattle.nl_core.specs.Volume.{boundary_in, without_mounts};
+ghost use Rattle.nl_commit.specs.CleaningEvents.{needed_by};
+ghost use Rattle.nl_commit.specs.CleanerViews.{cleaning_event, counts_after, needed_after, needed_told};
+ghost use Rattle.nl_commit.specs.Commits.{IsHistory, image_of};
+ghost use Rattle.nl_commit.specs.Shown.{MountsRise};
+ghost use Rattle.nl_commit.specs.Notes.{ChangesLists, DoesNoting, HasNoted, has_other_mode, shown_of, where_gone};
+ghost use Rattle.nl_commit.specs.Volume.{boundary_in, without_mounts};
 
 use crate::cleaner_views::{counts_after, needed_in, payload_count};
 use crate::cleaning::{empty, move_out};
 use crate::closing::image_of;
-use crate::commit::Commit;
 use crate::laws::opened_images_are_pens;
 use crate::noting::{
     note, note_checkpoint, note_mounted, note_move, note_resized, note_retirement, note_where_gone,
@@ -32,6 +31,7 @@ use crate::removing::{expire, remove, remove_range};
 use crate::resizing::{adds_segments, resize};
 use crate::tables::Tables;
 use crate::writing::{checkpoint, first_checkpoint};
+use nl_commit::Commit;
 use nl_counts::NeededCounts;
 use nl_counts::laws::counts_stay;
 use nl_cpfile::Cpstat;
@@ -59,7 +59,7 @@ pub struct Pen<D: Device> {
 }
 
 impl<D: Device> Model for Pen<D> {
-    ghost use Rattle.nl_core.specs.Layout.{Layout, layout_of};
+    ghost use Rattle.nl_commit.specs.Layout.{Layout, layout_of};
     ghost use Rattle.nl_core.specs.NeededBlocks.{IsCountedPen};
 
     ghost Value = { Layout };
@@ -69,11 +69,11 @@ impl<D: Device> Model for Pen<D> {
     ghost invariant = { λ p. IsCountedPen (layout_of p.tables.lists p.store.store) p.needed };
 }
 
-ghost use Rattle.nl_core.specs.Layout.{IsPen, Does, MeansWorld, layout_of, unshared};
+ghost use Rattle.nl_commit.specs.Layout.{IsPen, Does, MeansWorld, layout_of, unshared};
 ghost use Rattle.nl_types.specs.declared.event.Event.TheVariants.{ChangeMode, Mount, Resize};
 
 impl<D: Device> Pen<D> {
-    ghost use Rattle.nl_core.specs.Layout.{IsFormatted, Layout};
+    ghost use Rattle.nl_commit.specs.Layout.{IsFormatted, Layout};
     ghost use Rattle.nl_core.specs.NeededBlocks.{AreNeededCounts};
     ghost use Rattle.nl_core.specs.Opened.{IsOpened};
     ghost use Rattle.nl_vstore.specs.Stores.{KeepsStored};
@@ -548,7 +548,7 @@ impl<D: Device> Pen<D> {
     }
 }
 
-ghost use Rattle.nl_core.specs.Layout.{Runs};
+ghost use Rattle.nl_commit.specs.Layout.{Runs};
 
 /// Does the events in order. Each reply is that of plain files with a whole copied tree for each checkpoint.
 /// Refused by `Memory` before the first event, or not at all.

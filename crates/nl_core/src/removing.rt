@@ -1,11 +1,11 @@
 //! Removals of checkpoints from a pen, and what they let go of its needed blocks.
 ghost use Rattle.std.specs.Prelude.{◌≡◌, ◌∷◌, [], ◌<◌, ◌≤◌, MatchOption};
 ghost use Rattle.nl_types.specs.declared.event.Event.TheVariants.{Expire, Remove, RemoveRange};
-ghost use Rattle.nl_core.specs.CleaningEvents.{kept_numbers};
-ghost use Rattle.nl_core.specs.Layout.{Does, layout_of, unshared};
+ghost use Rattle.nl_commit.specs.CleaningEvents.{kept_numbers};
+ghost use Rattle.nl_commit.specs.Layout.{Does, layout_of, unshared};
 ghost use Rattle.nl_core.specs.LedgerEvents.{taken_out};
 ghost use Rattle.nl_core.specs.NeededBlocks.{AreEarlier, AreNeededCounts, HasLostBetween, IsCountedPen, IsSpanOf};
-ghost use Rattle.nl_core.specs.Volume.{IsTakenOut, Lists};
+ghost use Rattle.nl_commit.specs.Volume.{IsTakenOut, Lists};
 
 use crate::tables::Tables;
 use nl_counts::NeededCounts;

@@ -5,8 +5,8 @@ ghost use Rattle.nl_types.specs.declared.reply.Answer.TheVariants.{Done};
 ghost use Rattle.nl_types.specs.Limits.{IsGeometry};
 ghost use Rattle.nl_counts.specs.Counted.{with_segments};
 ghost use Rattle.nl_vstore.specs.Stores.{HasGrown, IsGrowthRefused};
-ghost use Rattle.nl_core.specs.CleaningEvents.{resized_in};
-ghost use Rattle.nl_core.specs.Layout.{Does, layout_of, unshared};
+ghost use Rattle.nl_commit.specs.CleaningEvents.{resized_in};
+ghost use Rattle.nl_commit.specs.Layout.{Does, layout_of, unshared};
 ghost use Rattle.nl_core.specs.NeededBlocks.{AreNeededCounts, IsCountedPen};
 
 use crate::tables::Tables;

@@ -8,12 +8,10 @@ ghost use Rattle.nl_types.specs.Worlds as worlds;
 ghost use Rattle.nl_cpfile.specs.Tables as cpfile;
 ghost use Rattle.nl_types.specs.Worlds.{World};
 ghost use Rattle.nl_vstore.specs.Stores.{content_in};
-ghost use Rattle.nl_core.specs.Notes as notes;
+ghost use Rattle.nl_commit.specs.Notes as notes;
 
-use crate::commit::{ShownPage, Whole};
-use crate::draft::Draft;
 use crate::expiry::expire;
-use crate::mounts::{Mounted, Mounts};
+use nl_commit::{Draft, Mounted, Mounts, ShownPage, Whole};
 use nl_cpfile::{Checkpoint, Checkpoints, Cpstat};
 use nl_files::{ReadTree, settle};
 use nl_layout::Root;
@@ -41,7 +39,7 @@ pub struct Tables {
 }
 
 impl Model for Tables {
-    ghost use Rattle.nl_core.specs.Tables.{RoomyLists};
+    ghost use Rattle.nl_commit.specs.Tables.{RoomyLists};
 
     ghost Value = { RoomyLists };
 
@@ -54,17 +52,17 @@ impl Tables {
     ghost use Rattle.nl_types.specs.declared.event.Event.TheVariants.{Apply, Read, ChangeMode, Remove, RemoveRange, Expire, Mount, Unmount, MountRead, Listing};
     ghost use Rattle.nl_cpfile.specs.Searching.{IsLeastAbove};
     ghost use Rattle.nl_cpfile.specs.Tables.{ComesNext, IsTable, with_next};
-    ghost use Rattle.nl_core.specs.CleaningEvents.{kept_numbers};
+    ghost use Rattle.nl_commit.specs.CleaningEvents.{kept_numbers};
     ghost use Rattle.nl_core.specs.LedgerEvents.{taken_out};
     ghost use Rattle.nl_core.specs.NeededBlocks.{AreEarlier};
-    ghost use Rattle.nl_core.specs.Changes.{HasChanged};
-    ghost use Rattle.nl_core.specs.Draft.{CanBeDrafted, HasFewNames, HasNextNumber, IsDraftRefusal, IsNextDraft};
-    ghost use Rattle.nl_core.specs.Means.{StepsWorldsOver, Means};
-    ghost use Rattle.nl_core.specs.Tables.{blank_lists};
-    ghost use Rattle.nl_core.specs.Volume.{IsTakenOut, IsExpired, IsTakenOutRange, is_held_at, latest_alone, latest_root, minor_checkpoint, published, with_change, with_checkpoint_mode, with_mount, without_mount, without_mounts};
-    ghost use Rattle.nl_core.specs.Notes.{has_other_mode};
+    ghost use Rattle.nl_commit.specs.Changes.{HasChanged};
+    ghost use Rattle.nl_commit.specs.Draft.{CanBeDrafted, HasFewNames, HasNextNumber, IsDraftRefusal, IsNextDraft};
+    ghost use Rattle.nl_commit.specs.Means.{StepsWorldsOver, Means};
+    ghost use Rattle.nl_commit.specs.Tables.{blank_lists};
+    ghost use Rattle.nl_commit.specs.Volume.{IsTakenOut, IsExpired, IsTakenOutRange, is_held_at, latest_alone, latest_root, minor_checkpoint, published, with_change, with_checkpoint_mode, with_mount, without_mount, without_mounts};
+    ghost use Rattle.nl_commit.specs.Notes.{has_other_mode};
     ghost use Rattle.nl_core.specs.Opened.{IsAtRest, opened_lists};
-    ghost use Rattle.nl_core.specs.Shown.{MountsRise, whole_of};
+    ghost use Rattle.nl_commit.specs.Shown.{MountsRise, whole_of};
 
     /// The tables before a volume is formatted: the root alone, over a checkpoint 0 without files. Refused by
     /// `Memory` alone.

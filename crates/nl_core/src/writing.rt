@@ -7,12 +7,13 @@ ghost use Rattle.nl_device.specs.Failures.{Failures};
 ghost use Rattle.nl_device.specs.Pages.{DevicePages};
 ghost use Rattle.nl_vstore.specs.Stores.{Store, content_in};
 ghost use Rattle.nl_counts.specs.Counted.{IsCounted};
-ghost use Rattle.nl_core.specs.Draft.{CanBeDrafted, HasFewNames};
-ghost use Rattle.nl_core.specs.Layout.{Does, HasRefused, IsFormatted, MeansWorld, blank_layout, layout_of, unshared};
+ghost use Rattle.nl_commit.specs.Draft.{CanBeDrafted, HasFewNames};
+ghost use Rattle.nl_commit.specs.Layout.{Does, HasRefused, IsFormatted, MeansWorld, blank_layout, layout_of, unshared};
 ghost use Rattle.nl_core.specs.NeededBlocks.{AreNeededCounts, HasWrittenBatch, IsBlank, IsCountedPen};
 
-use crate::draft::{Draft, draft_next, write_draft};
+use crate::draft::{draft_next, write_draft};
 use crate::tables::Tables;
+use nl_commit::Draft;
 use nl_counts::NeededCounts;
 use nl_counts::laws::{refusals_keep_counts, unused_stores_are_counted};
 use nl_files::laws::settled_numbers_are_lowest;

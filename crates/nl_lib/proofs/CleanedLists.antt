@@ -4,7 +4,7 @@ use Rattle.std.proofs.Math.ListN.{drop_of_length-le}
 use Rattle.std.proofs.lemmas.List.{at_drop_more}
 use Rattle.nl_types.specs.declared.error.VolError.{VolError}
 use Rattle.nl_types.specs.declared.reply.Answer.{Answer}
-use Rattle.nl_core.specs.Layout.{Layout}
+use Rattle.nl_commit.specs.Layout.{Layout}
 use Rattle.nl_lib.specs.CleanedSegments.{CleansSegment, CleansSegments, none_cleaned, one_more, refused_by}
 use Rattle.nl_lib.specs.declared.cleaning.Cleaned.{Cleaned}
 

@@ -11,8 +11,8 @@ use Rattle.nl_types.specs.Limits.{checkpoint_number_limit}
 use Rattle.nl_types.specs.Rows.{kept_row, removal}
 use Rattle.nl_types.specs.Worlds.{Copy, Outcome, Reply, World, change_mode, checkpoint, copies_with_mode, is_given_up, is_mounted, latest, latest_stamp, refused_if, remove, rows, take_out}
 use Rattle.nl_types.specs.Facts.EventCases.{either_gives, refused_if_gives}
-use Rattle.nl_core.specs.Layout.{Does, IsPen, Layout, layout_pages, unshared}
-use Rattle.nl_core.specs.Volume.{Lists}
+use Rattle.nl_commit.specs.Layout.{Does, IsPen, Layout, layout_pages, unshared}
+use Rattle.nl_commit.specs.Volume.{Lists}
 use Rattle.nl_core.specs.Facts.CheckpointEvents.{latest-same}
 
 -- the answer in a reply, or another one

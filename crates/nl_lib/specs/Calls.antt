@@ -5,7 +5,7 @@ use Rattle.nl_types.specs.declared.event.Event.TheVariants as event
 use Rattle.nl_types.specs.declared.event.Mode.TheVariants.{Plain}
 use Rattle.nl_types.specs.declared.reply.Answer.TheVariants as answer
 use Rattle.nl_types.specs.Worlds.{Reply}
-use Rattle.nl_core.specs.Layout.{Layout, Does, unshared}
+use Rattle.nl_commit.specs.Layout.{Layout, Does, unshared}
 
 -- the reply to an event that answers nothing
 abbrev pub done_reply : Result (Unit {0}) VolError → Reply

@@ -4,8 +4,8 @@ use Rattle.nl_types.specs.declared.error.VolError.{VolError}
 use Rattle.nl_types.specs.declared.event.Event.{Event}
 use Rattle.nl_types.specs.declared.event.Event.TheVariants.{Move}
 use Rattle.nl_types.specs.Worlds.{Reply}
-use Rattle.nl_core.specs.CleanerViews.{cleaning_event}
-use Rattle.nl_core.specs.Layout.{Does, Layout, unshared}
+use Rattle.nl_commit.specs.CleanerViews.{cleaning_event}
+use Rattle.nl_commit.specs.Layout.{Does, Layout, unshared}
 use Rattle.nl_lib.specs.declared.cleaning.Cleaned.{Cleaned}
 
 -- what cleans the segment next is done or refused

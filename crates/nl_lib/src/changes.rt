@@ -4,7 +4,7 @@ ghost use Rattle.nl_types.specs.declared.event.Event.TheVariants.{ChangeMode, Ch
 ghost use Rattle.nl_types.specs.declared.event.Mode.TheVariants.{Plain};
 ghost use Rattle.nl_types.specs.Worlds as worlds;
 ghost use Rattle.nl_types.specs.Worlds.{World};
-ghost use Rattle.nl_core.specs.Layout.{Does, MeansWorld, unshared};
+ghost use Rattle.nl_commit.specs.Layout.{Does, MeansWorld, unshared};
 ghost use Rattle.nl_lib.specs.Calls.{Syncs, checkpoint_reply, done_reply};
 
 use nl_core::Pen;

@@ -10,8 +10,8 @@ ghost use Rattle.nl_dat.specs.Described.{descs_of};
 ghost use Rattle.nl_vstore.specs.Stores.{capacity, numbered_in};
 ghost use Rattle.nl_dat.specs.Table.{dat_entry_of};
 ghost use Rattle.nl_vstore.specs.Summaries.{IsOfLogs, payload_row};
-ghost use Rattle.nl_core.specs.CleanerViews.{needed_told};
-ghost use Rattle.nl_core.specs.Layout.{MeansWorld};
+ghost use Rattle.nl_commit.specs.CleanerViews.{needed_told};
+ghost use Rattle.nl_commit.specs.Layout.{MeansWorld};
 ghost use Rattle.nl_core.specs.Views.{counted};
 
 use nl_core::{Cpstat, Pen};

@@ -1,37 +1,26 @@
 -- What a look at an image comes to.
-use Rattle.std.proofs.Common.{◌≡◌, ℕ, zero, suc, inl, inr, List, [], ◌∷◌, ◌++◌, refl, ap, sym, ◌∙◌, subst, append_assoc, Option, None, Some}
+use Rattle.std.proofs.Common.{◌≡◌, ℕ, zero, suc, inl, inr, List, [], ◌∷◌, refl, ap, sym, ◌∙◌, subst, Option, None, Some}
 use Rattle.std.specs.Prelude.{slice_set}
 use Rattle.std.specs.Option.{option_and_then, option_map}
 use mathlib.Core.Option.{some, some-injective}
-use mathlib.Core.List.{IsPrefix}
 use lib.ListN.{get_elem?}
 use Rattle.crossbeam_utils.specs.Register.{Turns}
 use Rattle.nl_types.specs.Roots.{Pages}
 use Rattle.nl_types.specs.Trees.{Tree}
 use Rattle.nl_cpfile.specs.Tables.{kept_at, checkpoint_root}
 use Rattle.nl_cpfile.specs.declared.checkpoint.Checkpoint.{Checkpoint}
-use Rattle.nl_core.specs.Commits.{IsHistory, IsImage, image_of}
-use Rattle.nl_core.specs.Means.{RootMeans}
-use Rattle.nl_core.specs.Shown.{Shown, mounted_on, pages_shown}
+use Rattle.nl_commit.specs.Commits.{IsHistory, IsImage, image_of}
+use Rattle.nl_commit.specs.Means.{RootMeans}
+use Rattle.nl_commit.specs.Shown.{Shown, mounted_on, pages_shown}
 use Rattle.nl_publish.specs.declared.image.Image.{Image}
 use Rattle.nl_publish.specs.Histories.{Known}
 use Rattle.nl_publish.specs.Images.{IsWhole, Kept, Looks}
 use Rattle.nl_publish.specs.Mounts.{Claim, IsClaim}
 use Rattle.nl_publish.specs.Told.{HistoriesShowImages, MountsStay, TreeOn}
 use Rattle.nl_mounts.specs.declared.port.MountedTree.{MountedTree}
-use Rattle.nl_mounts.specs.Ports.{Entered, Finds, IsLater, IsMountTree, IsOfTree, Lacks, LookView, Looked, NoImage, NoMount, Older, Shows, Told, mounted_tree, tree_of}
-
--- ---- what has been seen
-
-prefix_self : {A : Type 0} (xs : List A) → IsPrefix xs xs
-prefix_self [] = ([], refl)
-prefix_self (x ∷ xs) = (let rest = prefix_self xs in rest.0, ap (λ ys. x ∷ ys) (prefix_self xs).1)
-
-pub prefix_trans : {A : Type 0} (xs ys zs : List A) → IsPrefix xs ys → IsPrefix ys zs → IsPrefix xs zs
-prefix_trans xs ys zs p q = (p.0 ++ q.0, sym (append_assoc xs p.0 q.0) ∙ (ap (λ w. w ++ q.0) p.1 ∙ q.1))
-
-pub later_self : (k : Known) → IsLater k k
-later_self k = record { volume = refl; commits = prefix_self k.commits }
+use Rattle.nl_lanes.specs.Reading.{Entered, IsLater, Looked, NoImage, NoMount, Told}
+use Rattle.nl_lanes.specs.Facts.Later.{later_self, prefix_trans}
+use Rattle.nl_mounts.specs.Ports.{Finds, IsMountTree, IsOfTree, Lacks, LookView, Older, Shows, mounted_tree, tree_of}
 
 -- ---- the rule of images
 

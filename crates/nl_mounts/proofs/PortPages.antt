@@ -17,9 +17,9 @@ use Rattle.nl_cpfile.specs.Tables.{IsRising, Precedes, kept_at, checkpoint_root}
 use Rattle.nl_cpfile.specs.declared.checkpoint.Checkpoint.{Checkpoint}
 use Rattle.nl_cpfile.specs.Facts.Found.{eq_by_cmp-nat_cmp, found}
 use Rattle.nl_cpfile.specs.Facts.Rising.{All-last}
-use Rattle.nl_core.specs.Commits.{IsHistory, image_of}
-use Rattle.nl_core.specs.Shown.{Shown, pages_shown}
-use Rattle.nl_core.specs.declared.commit.Commit.{Commit}
+use Rattle.nl_commit.specs.Commits.{IsHistory, image_of}
+use Rattle.nl_commit.specs.Shown.{Shown, pages_shown}
+use Rattle.nl_commit.specs.declared.commit.Commit.{Commit}
 use Rattle.nl_publish.specs.Cached.{IsCachedPage}
 use Rattle.nl_publish.specs.Histories.{IsBegun, Known}
 use Rattle.nl_publish.specs.Mounts.{Claim}

@@ -7,7 +7,7 @@ use Rattle.nl_types.specs.declared.error.VolError.{VolError}
 use Rattle.nl_types.specs.declared.error.VolError.TheVariants.{BadRange, Memory}
 use Rattle.nl_types.specs.Roots.{Blocks}
 use Rattle.nl_tree.specs.Held.{Holding, held_block}
-use Rattle.nl_core.specs.declared.commit.Commit.{Commit}
+use Rattle.nl_commit.specs.declared.commit.Commit.{Commit}
 use Rattle.nl_publish.specs.Cached.{IsCachedPage}
 use Rattle.nl_mounts.specs.declared.cache.CacheKey.{CacheKey}
 

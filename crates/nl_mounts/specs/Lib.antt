@@ -1,5 +1,4 @@
 pub mod Caching
 pub mod Warming
 pub mod Ports
-pub mod Jobs
 pub mod Sharing

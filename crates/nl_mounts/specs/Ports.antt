@@ -1,7 +1,7 @@
 -- What a port answers.
-use Rattle.std.specs.Prelude.{ℕ, ◌≡◌, ◌≢◌, ◌⊎◌, List, Contains, length, take, drop, IfOk, OnErr, Option, None, Some, Result, Ok, Err}
+use Rattle.std.specs.Prelude.{ℕ, ◌≡◌, ◌⊎◌, List, Contains, length, take, drop, IfOk, OnErr, Option, None, Some, Result, Ok, Err}
+use Rattle.std.specs.List.{AllZip}
 use Rattle.std.specs.Option.{option_and_then, option_map}
-use mathlib.Core.List.{IsPrefix}
 use Rattle.nl_types.specs.declared.error.VolError.{VolError}
 use Rattle.nl_types.specs.declared.error.VolError.TheVariants.{BadMount}
 use Rattle.nl_types.specs.declared.reply.Answer.TheVariants.{Bytes}
@@ -17,12 +17,13 @@ use Rattle.nl_cpfile.specs.declared.checkpoint.Checkpoint.{Checkpoint}
 use Rattle.nl_tree.specs.Held.{Holding}
 use Rattle.nl_tree.specs.Reading.{ShowsAs}
 use Rattle.nl_files.specs.CheckpointTrees.{HoldsTree}
-use Rattle.nl_core.specs.Commits.{IsHistory, image_of}
-use Rattle.nl_core.specs.Means.{RootMeans}
-use Rattle.nl_core.specs.Shown.{Shown, mounted_on, pages_shown}
+use Rattle.nl_commit.specs.Commits.{IsHistory, image_of}
+use Rattle.nl_commit.specs.Means.{RootMeans}
+use Rattle.nl_commit.specs.Shown.{Shown, mounted_on, pages_shown}
 use Rattle.nl_publish.specs.Histories.{Known}
 use Rattle.nl_publish.specs.Mounts.{Claim}
 use Rattle.nl_publish.specs.Told.{TreeOn}
+use Rattle.nl_lanes.specs.Reading.{HasLearned, IsLater}
 use Rattle.nl_mounts.specs.declared.cache.CacheKey.{CacheKey}
 use Rattle.nl_mounts.specs.declared.port.MountedTree.{MountedTree}
 use Rattle.nl_mounts.specs.Caching.{Cache, HasCachedBlocks}
@@ -37,15 +38,22 @@ pub record PortView : Type 0 where
 abbrev pub bare : Known → PortView
 bare known = record { known = known; cache = None }
 
--- the second is known later than the first, of the same volume
-pub record IsLater (old new : Known) : Type 0 where
-  pub volume : new.volume ≡ old.volume
-  pub commits : IsPrefix old.commits new.commits
+-- a port that has seen this instead, and keeps what it kept
+abbrev pub seeing : PortView → Known → PortView
+seeing p k = record { known = k; cache = p.cache }
 
 -- nothing more is seen, or a history that goes on
 pub data IsSeenOn (old new : Known) : Type 0 where
   Same : new ≡ old → IsSeenOn old new
   More : IsLater old new → IsHistory new.commits → IsSeenOn old new
+
+-- a port is later, and keeps what it kept
+pub record IsLaterPort (old new : PortView) : Type 0 where
+  pub later : IsLater old.known new.known
+  pub cache : new.cache ≡ old.cache
+
+abbrev pub AreLater : (old new : List PortView) → Type 0
+AreLater old new = AllZip IsLaterPort old new
 
 -- ---- answers
 
@@ -64,11 +72,6 @@ pub record IsReadOf (t : Tree) (path : List ℕ) (offset : ℕ) (was : List ℕ)
   pub rest : IfOk result (λ count. drop count now ≡ drop count was)
   pub same : OnErr result (now ≡ was)
 
--- the bytes, or a refusal as the tree says, or one for memory
-abbrev pub IsBytesOf : Tree → List ℕ → (offset len : ℕ) → Result (List ℕ) VolError → Type 0
-IsBytesOf t path offset len result =
-    ShowsUnlessMemory Bytes result (and_then (path_of path) (read t offset len))
-
 abbrev pub IsStatOf : Tree → List ℕ → Result Stat VolError → Type 0
 IsStatOf t path result = result ≡ and_then (path_of path) (stat t)
 
@@ -85,10 +88,6 @@ tree_of n c = record { checkpoint = n; root = checkpoint_root c }
 -- the tree that a mount shows
 abbrev pub mounted_tree : Shown → ℕ → Option MountedTree
 mounted_tree x m = option_and_then (λ n. option_map (tree_of n) (kept_at n x.table)) (mounted_on x m)
-
--- what was seen begins with what the mount was told, where it is of the same volume
-abbrev pub HasLearned : Claim → Known → Type 0
-HasLearned m k = m.told.volume ≡ k.volume → IsPrefix m.told.commits k.commits
 
 -- The tree that a mount shows in the image x of what has been seen. Where the mount was learned of, its root
 -- means the tree that its checkpoint had when the mount was told.
@@ -126,25 +125,6 @@ pub record LookView : Type 0 where
 abbrev pub IsOfTree : Pages → Option MountedTree → (Refused : Type 0) → (Answers : Tree → Type 0) → Type 0
 IsOfTree pages None Refused Answers = Refused
 IsOfTree pages (Some tree) Refused Answers = (t : Tree) → RootMeans pages tree.root t → Answers t
-
--- What a call of a port comes to. It is refused where the mount is another volume's, where no image was
--- entered that is as new as what was seen, and where the image that was entered lacks the mount. Else the
--- answer is that of the mount's checkpoint in the image of one history, which goes on from what was seen, and
--- is what has been seen then.
-pub data Looked (m : Claim) (old new : Known) (Refused : Type 0) (Answers : Tree → Type 0) : Type 0 where
-  Foreign : m.told.volume ≢ old.volume → new ≡ old → Refused → Looked m old new Refused Answers
-  NoImage : new ≡ old → Refused → Looked m old new Refused Answers
-  NoMount : IsHistory new.commits → mounted_on (image_of new.commits) m.number ≡ None → Refused
-      → Looked m old new Refused Answers
-  Entered : (n : ℕ) → m.told.volume ≡ old.volume → IsHistory new.commits
-      → mounted_on (image_of new.commits) m.number ≡ Some n
-      → ((t : Tree) → TreeOn (image_of new.commits) n t → Answers t) → Looked m old new Refused Answers
-
--- where the mount was learned of, what is answered is true of the tree that its checkpoint had when the mount
--- was told
-abbrev pub Told : Claim → Known → (Refused : Type 0) → (Answers : Tree → Type 0) → Type 0
-Told m old Refused Answers = HasLearned m old
-    → (t : Tree) → TreeOn (image_of m.told.commits) m.checkpoint t → Refused ⊎ Answers t
 
 -- ---- what is kept of files
 

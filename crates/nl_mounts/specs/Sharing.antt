@@ -14,12 +14,11 @@ use Rattle.nl_sufile.specs.declared.table.Sustat.{Sustat}
 use Rattle.nl_cpfile.specs.Tables.{cpstat_of}
 use Rattle.nl_cpfile.specs.declared.table.Cpstat.{Cpstat}
 use Rattle.nl_protect.specs.declared.config.Config.{Config}
-use Rattle.nl_core.specs.CleanerViews.{needed_told}
-use Rattle.nl_core.specs.Commits.{image_of}
-use Rattle.nl_core.specs.Layout.{IsPen, Layout, MeansWorld, layout_of}
-use Rattle.nl_core.specs.Volume.{without_mounts}
-use Rattle.nl_cleaner.specs.Job.{JobView}
-use Rattle.nl_cleaner.specs.Plan.{IsPlan}
+use Rattle.nl_commit.specs.CleanerViews.{needed_told}
+use Rattle.nl_commit.specs.Commits.{image_of}
+use Rattle.nl_commit.specs.Layout.{IsPen, Layout, MeansWorld, layout_of}
+use Rattle.nl_commit.specs.Volume.{without_mounts}
+use Rattle.nl_commit.specs.Rounds.{RoundHabits}
 use Rattle.nl_publish.specs.Cleaning.{CleanRan}
 use Rattle.nl_publish.specs.Histories.{Known}
 use Rattle.nl_publish.specs.Locks.{HeldPen, IsTold, MountReply, MountRan, Ran}
@@ -97,16 +96,18 @@ pub record HasUnmounted (m : Claim) (result : Returned) : Type 0 where
 
 -- ---- rounds of cleaning, and what is told
 
-pub record HasCleaned (job : JobView) (reply : Option Reply) (now : JobView) : Type 0 where
+pub record HasCleaned {J : Type 0} (rounds : RoundHabits J) (round : J) (reply : Option Reply)
+    (now : J) : Type 0 where
   pub old : HeldPen
   pub new : HeldPen
   pub sound : IsSoundState old
-  pub ran : CleanRan old job reply new now
+  pub ran : CleanRan rounds old round reply new now
 
-pub record IsRoundPlanned (config : Config) (moment : ℕ) (job : JobView) : Type 0 where
+pub record IsRoundPlanned {J : Type 0} (rounds : RoundHabits J) (config : Config) (moment : ℕ)
+    (round : J) : Type 0 where
   pub state : HeldPen
   pub sound : IsSoundState state
-  pub plan : IsPlan state.layout config moment job
+  pub plan : rounds.plans state.layout config moment round
 
 pub record IsSegmentTold (segment : ℕ) (result : Result SegmentInfo VolError) : Type 0 where
   pub state : HeldPen

@@ -9,6 +9,7 @@ mod many;
 mod port;
 mod shared;
 
-pub use many::{Gate, JobAnswer, ReadJob, read_many};
+pub use many::read_many;
+pub use nl_lanes::{Gate, JobAnswer, ReadJob};
 pub use port::Port;
 pub use shared::{Shared, seat_all, share, spend_all};

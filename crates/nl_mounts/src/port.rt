@@ -2,12 +2,13 @@
 ghost use Rattle.std.specs.Prelude.{◌≡◌, ◌≢◌, ◌⊎◌, [], None, Some, IfErr, IfOk, IfSome, OnErr, OnOk, IsSome, length};
 ghost use Rattle.std.specs.Option.{option_map_or};
 ghost use Rattle.lru.specs.LruCache.{lru_cache};
-ghost use Rattle.nl_core.specs.Commits.{image_of};
-ghost use Rattle.nl_core.specs.Shown.{pages_shown};
+ghost use Rattle.nl_commit.specs.Commits.{image_of};
+ghost use Rattle.nl_commit.specs.Shown.{pages_shown};
 ghost use Rattle.nl_publish.specs.Images.{IsWhole};
 ghost use Rattle.nl_publish.specs.Mounts.{IsClaim};
 ghost use Rattle.nl_mounts.specs.Caching.{AreCachedPages, IsCacheRefused, IsCacheSize};
-ghost use Rattle.nl_mounts.specs.Ports.{Finds, HasLearned, IsBytesOf, IsCacheOf, IsLater, IsListOf, IsNotRead, IsOfTree, IsReadOf, IsSeenOn, IsStatOf, Looked, OfMountFile, OfTreeFile, PutsOfTree, Told, TouchesIfAny, WarmsIfAny, bare, mounted_tree};
+ghost use Rattle.nl_lanes.specs.Reading.{HasLearned, IsBytesOf, IsLater, Looked, Told};
+ghost use Rattle.nl_mounts.specs.Ports.{Finds, IsCacheOf, IsListOf, IsNotRead, IsOfTree, IsReadOf, IsSeenOn, IsStatOf, OfMountFile, OfTreeFile, PutsOfTree, TouchesIfAny, WarmsIfAny, bare, mounted_tree};
 ghost use Rattle.nl_mounts.specs.Warming.{IsWarmingOf, Warms};
 
 use crate::cache::{Cache, new_cache};

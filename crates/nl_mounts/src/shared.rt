@@ -1,12 +1,11 @@
 //! A volume that threads share.
 ghost use Rattle.std.specs.Prelude.{◌≡◌, ◌≤◌, ◌+◌, IfErr, IfOk, IsOkUnless, length};
-ghost use Rattle.nl_mounts.specs.Ports.{HasLearned, IsLater};
+ghost use Rattle.nl_lanes.specs.Reading.{HasLearned, IsLater};
 ghost use Rattle.nl_mounts.specs.Sharing.{AreCheckpointsCounted, AreSegmentsCounted, IsPenBack, HasCleaned, HasMounted, HasRun, HasUnmounted, IsNeededTold, IsRoundPlanned, IsPortCount, IsSegmentTold, IsShareRefused, IsSoundState};
 
 use crate::port::Port;
-use nl_cleaner::Job;
-use nl_core::{Cpstat, Pen};
-use nl_device::Device;
+use nl_commit::Round;
+use nl_cpfile::Cpstat;
 use nl_protect::Config;
 use nl_publish::{Locked, Mount, NotingPen, Opened, Press, Publisher, Seat, Volumes};
 use nl_sufile::Sustat;
@@ -135,32 +134,32 @@ impl<P: NotingPen, J: Volumes, W: Press> Shared<P, J, W> {
 
 // ---- rounds of cleaning, and what is told
 
-fn clean_in<D: Device, J: Volumes, W: Press, R: Wait>(
+fn clean_in<P: NotingPen, G: Round<P>, J: Volumes, W: Press, R: Wait>(
     rt: &R,
-    locked: &mut Locked<Pen<D>, J, W>,
-    job: &mut Job,
+    locked: &mut Locked<P, J, W>,
+    round: &mut G,
 ) -> Option<Reply>
-    ensures { HasCleaned job.old result job.new }
+    ensures { HasCleaned G.habits round.old result round.new }
 {
     is_sound(locked);
-    locked.clean_step(rt, job)
+    locked.clean_step(rt, round)
 }
 
-fn planned_in<D: Device, J: Volumes, W: Press>(
-    locked: &Locked<Pen<D>, J, W>,
+fn planned_in<P: NotingPen, G: Round<P>, J: Volumes, W: Press>(
+    locked: &Locked<P, J, W>,
     alloc: Global,
     config: &Config,
     now: u64,
-) -> Result<Job, VolError>
-    ensures planned { IfOk result (IsRoundPlanned config.now now) }
+) -> Result<G, VolError>
+    ensures planned { IfOk result (IsRoundPlanned G.habits config.now now) }
     ensures refused { IsOkUnless result VolError.Memory }
 {
     is_sound(locked);
     locked.plan(alloc, config, now)
 }
 
-fn segment_in<D: Device, J: Volumes, W: Press>(
-    locked: &Locked<Pen<D>, J, W>,
+fn segment_in<P: NotingPen, J: Volumes, W: Press>(
+    locked: &Locked<P, J, W>,
     segment: Segment,
 ) -> Result<SegmentInfo, VolError>
     ensures { IsSegmentTold segment result }
@@ -169,8 +168,8 @@ fn segment_in<D: Device, J: Volumes, W: Press>(
     locked.suinfo(segment)
 }
 
-fn needed_in<D: Device, J: Volumes, W: Press>(
-    locked: &Locked<Pen<D>, J, W>,
+fn needed_in<P: NotingPen, J: Volumes, W: Press>(
+    locked: &Locked<P, J, W>,
     segment: Segment,
 ) -> Result<u32, VolError>
     ensures { IsNeededTold segment result }
@@ -179,41 +178,41 @@ fn needed_in<D: Device, J: Volumes, W: Press>(
     locked.needed(segment)
 }
 
-fn segments_in<D: Device, J: Volumes, W: Press>(locked: &Locked<Pen<D>, J, W>) -> Sustat
+fn segments_in<P: NotingPen, J: Volumes, W: Press>(locked: &Locked<P, J, W>) -> Sustat
     ensures { AreSegmentsCounted result }
 {
     is_sound(locked);
     locked.sustat()
 }
 
-fn checkpoints_in<D: Device, J: Volumes, W: Press>(locked: &Locked<Pen<D>, J, W>) -> Cpstat
+fn checkpoints_in<P: NotingPen, J: Volumes, W: Press>(locked: &Locked<P, J, W>) -> Cpstat
     ensures { AreCheckpointsCounted result }
 {
     is_sound(locked);
     locked.cpstat()
 }
 
-impl<D: Device, J: Volumes, W: Press> Shared<Pen<D>, J, W> {
+impl<P: NotingPen, J: Volumes, W: Press> Shared<P, J, W> {
     /// Does the next event of a round of cleaning, and notes the reply in the round; None where the round is
     /// over.
-    pub fn clean_step<R: Wait>(&self, rt: &R, job: &mut Job) -> Option<Reply>
-        ensures { HasCleaned job.old result job.new }
+    pub fn clean_step<G: Round<P>, R: Wait>(&self, rt: &R, round: &mut G) -> Option<Reply>
+        ensures { HasCleaned G.habits round.old result round.new }
     {
-        clean_in(rt, &mut self.locked.lock(rt), job)
+        clean_in(rt, &mut self.locked.lock(rt), round)
     }
 
     /// The round of cleaning that a configuration asks for at a moment, in whole seconds. It only looks.
     ///
     /// # Errors
     /// `Memory`.
-    pub fn plan<R: Wait>(
+    pub fn plan<G: Round<P>, R: Wait>(
         &self,
         rt: &R,
         alloc: Global,
         config: &Config,
         now: u64,
-    ) -> Result<Job, VolError>
-        ensures planned { IfOk result (IsRoundPlanned config.now now) }
+    ) -> Result<G, VolError>
+        ensures planned { IfOk result (IsRoundPlanned G.habits config.now now) }
         ensures refused { IsOkUnless result VolError.Memory }
     {
         planned_in(&self.locked.lock(rt), alloc, config, now)

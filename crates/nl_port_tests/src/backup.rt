@@ -14,13 +14,29 @@ use std::thread::{Threads, join};
 
 type Volume<J> = Shared<Pen<MemDevice>, J>;
 
+fn create_notes(alloc: Global, pen: &mut Pen<MemDevice>) -> Result<(), VolError> {
+    let path = Items::from_slice(alloc, b"/notes")?;
+    pen.apply(&Event::Apply(Change::Create { path }))?;
+    Ok(())
+}
+
 /// A volume with the file `/notes`.
 fn pen_with_notes(alloc: Global) -> Result<Pen<MemDevice>, VolError> {
     let geometry = Geometry::new(64, 64)?;
     let mut pen = Pen::format(alloc, MemDevice::new(alloc, geometry)?, geometry, 0)?;
-    let path = Items::from_slice(alloc, b"/notes")?;
-    pen.apply(&Event::Apply(Change::Create { path }))?;
+    create_notes(alloc, &mut pen)?;
     Ok(pen)
+}
+
+/// A text for the file.
+fn writing(alloc: Global, text: &[u8]) -> Result<Event, VolError> {
+    let path = Items::from_slice(alloc, b"/notes")?;
+    let bytes = Items::from_slice(alloc, text)?;
+    Ok(Event::Apply(Change::Write {
+        path,
+        offset: 0,
+        bytes,
+    }))
 }
 
 /// Writes a text into the file, with a checkpoint behind it.
@@ -31,17 +47,9 @@ fn write<J: Volumes, R: Wait>(
     text: &[u8],
     mode: Mode,
 ) -> Result<(), VolError> {
-    let path = Items::from_slice(alloc, b"/notes")?;
-    let bytes = Items::from_slice(alloc, text)?;
+    let event = writing(alloc, text)?;
     // The reply is that of the event in one state of the volume. A refusal changes nothing.
-    volume.apply(
-        rt,
-        &Event::Apply(Change::Write {
-            path,
-            offset: 0,
-            bytes,
-        }),
-    )?;
+    volume.apply(rt, &event)?;
     volume.apply(rt, &Event::Checkpoint { mode, moment: 0 })?;
     Ok(())
 }
@@ -57,6 +65,20 @@ fn write_on<J: Volumes, R: Wait>(
     Ok(())
 }
 
+/// The bytes of a file in a mount's root.
+fn read_file<J: Volumes>(
+    alloc: Global,
+    port: &mut Port<J>,
+    mount: &Mount<J>,
+    name: &[u8],
+) -> Result<Items<u8>, VolError> {
+    let mut path = b"/".to_vec(alloc)?;
+    path.extend_from_slice(name)?;
+    // They are as they were in the mount's checkpoint, whatever is written, removed and cleaned meanwhile. No
+    // call of a port waits for anyone.
+    port.read(alloc, mount, path.as_slice(), 0, u64::MAX)
+}
+
 /// The files of a mount's root, each with its bytes.
 fn back_up<J: Volumes>(
     alloc: Global,
@@ -67,11 +89,7 @@ fn back_up<J: Volumes>(
     // The names are those of the tree that the mount's checkpoint had when it was mounted.
     let names = port.list(alloc, mount, b"/")?;
     for named in names.as_slice() {
-        let mut path = b"/".to_vec(alloc)?;
-        path.extend_from_slice(named.name.as_slice())?;
-        // So are the bytes, whatever is written, removed and cleaned meanwhile. No call of a port waits for
-        // anyone.
-        files.push(port.read(alloc, mount, path.as_slice(), 0, u64::MAX)?)?;
+        files.push(read_file(alloc, port, mount, named.name.as_slice())?)?;
     }
     Ok(files)
 }
@@ -150,13 +168,18 @@ fn backed_up<J: Volumes + Send + Sync, R: Threads + Wait + Sync>(
     files
 }
 
+/// Whether a backup has one file, with the text of the snapshot.
+fn is_of_snapshot(files: &[Items<u8>]) -> bool {
+    match files {
+        [file] => file.as_slice() == b"draft".as_slice(),
+        _ => false,
+    }
+}
+
 #[test]
 fn backups_are_of_one_moment(rt: HostRuntime) -> Result<(), Fail> {
     // Each shared volume of a program has an id of its own.
     let files = backed_up::<Brand, _>(&rt, rt.alloc(), Opened::new(1))?;
-    assert_eq!(rt; files.len(), 1);
-    for file in &files {
-        assert!(rt; file.as_slice() == b"draft".as_slice());
-    }
+    assert!(rt; is_of_snapshot(files.as_slice()));
     Ok(())
 }

@@ -2,11 +2,14 @@
 //! checkpoint had, whatever is written, removed and moved meanwhile.
 ghost use Rattle.std.specs.Prelude.{◌≡◌};
 
-use crate::volume::{File, Volume, checkpoint, cleans, ends, files, fill, shared_among};
+use crate::ports::{all_hold, caches, has_cached, has_stat, learns, reads, warms};
+use crate::volume::{
+    File, Volume, cleans, ends, files, fills, makes_checkpoint, mounts, shared_among, unmounts,
+};
 use nl_mounts::Port;
 use nl_protect::{Amount, Config};
 use nl_publish::{Mount, Opened, Volumes};
-use nl_types::{Answer, CheckpointNumber, Mode, Reply, Stat, VolError};
+use nl_types::{Mode, Stat, VolError};
 use std::alloc::Global;
 use std::marker::Brand;
 use std::sync::Wait;
@@ -32,9 +35,32 @@ fn reads_file<J: Volumes>(
 ) -> bool {
     let (path, byte, size) = file;
     into.fill(b'?');
-    port.stat(mount, path) == Ok(Stat::File(size as u64))
-        && port.read_into(mount, path, 0, into) == Ok(size)
-        && is_all(into, byte, size)
+    let told = has_stat(port, mount, path, Ok(Stat::File(size as u64)));
+    let read = reads(port, mount, path, 0, into, Ok(size));
+    told && read && is_all(into, byte, size)
+}
+
+fn reads_each<J: Volumes>(port: &mut Port<J>, mount: &Mount<J>, into: &mut [u8]) -> bool {
+    for file in files() {
+        if !reads_file(port, mount, *file, into) {
+            return false;
+        }
+    }
+    true
+}
+
+fn reads_often<J: Volumes>(
+    port: &mut Port<J>,
+    mount: &Mount<J>,
+    into: &mut [u8],
+    times: usize,
+) -> bool {
+    for _ in 0..times {
+        if !reads_each(port, mount, into) {
+            return false;
+        }
+    }
+    true
 }
 
 /// Reads the files so many times.
@@ -45,14 +71,7 @@ fn reads_files<J: Volumes>(
     times: usize,
 ) -> Result<bool, VolError> {
     let mut into = vec![in alloc; b'?'; 300_100]?;
-    for _ in 0..times {
-        for file in files() {
-            if !reads_file(port, mount, *file, into.as_mut_slice()) {
-                return Ok(false);
-            }
-        }
-    }
-    Ok(true)
+    Ok(reads_often(port, mount, into.as_mut_slice(), times))
 }
 
 /// No checkpoint is protected, and a segment is cleaned where a block of it isn't needed.
@@ -77,12 +96,29 @@ fn small_file(turn: u64) -> File {
     }
 }
 
-/// The number of the checkpoint that was made, 0 where none was.
-fn number_made(reply: &Reply) -> u64 {
-    match reply {
-        Ok(Answer::Checkpoint(made)) => made.get(),
-        _ => 0,
+/// Writes a small file, and answers the number of the checkpoint behind it.
+fn writes_one<J: Volumes, R: Wait>(
+    rt: &R,
+    alloc: Global,
+    shared: &Volume<J>,
+    turn: u64,
+) -> Result<u64, VolError> {
+    let (path, _, size) = small_file(turn);
+    fills(rt, alloc, shared, path, (turn % 100) as u8, size)?;
+    Ok(makes_checkpoint(rt, shared, Mode::Plain, turn))
+}
+
+/// A round of cleaning behind ten turns.
+fn cleans_at<J: Volumes, R: Wait>(
+    rt: &R,
+    alloc: Global,
+    shared: &Volume<J>,
+    turn: u64,
+) -> Result<(), VolError> {
+    if turn % 10 != 9 {
+        return Ok(());
     }
+    cleans(rt, alloc, shared, &config(), turn)
 }
 
 /// Writes the files again and again, with a checkpoint behind each write, and a round of cleaning behind
@@ -94,16 +130,12 @@ fn writes<J: Volumes, R: Wait>(
 ) -> Result<bool, VolError> {
     let mut last = 2;
     for turn in 0..CHECKPOINTS {
-        let (path, _, size) = small_file(turn);
-        shared.apply(rt, &fill(alloc, path, (turn % 100) as u8, size)?)?;
-        let made = number_made(&shared.apply(rt, &checkpoint(Mode::Plain, turn)));
+        let made = writes_one(rt, alloc, shared, turn)?;
         if made <= last {
             return Ok(false);
         }
         last = made;
-        if turn % 10 == 9 {
-            cleans(rt, alloc, shared, &config(), turn)?;
-        }
+        cleans_at(rt, alloc, shared, turn)?;
     }
     Ok(true)
 }
@@ -120,57 +152,101 @@ fn cleans_often<J: Volumes, R: Wait>(
 }
 
 /// A port keeps some blocks of the files from now on.
-fn keeps_blocks<J: Volumes>(
+fn keeps_blocks<J: Volumes>(alloc: Global, port: &mut Port<J>, mount: &Mount<J>) -> bool {
+    all_hold(&[
+        caches(alloc, port, 100, Ok(())),
+        warms(port, mount, b"/more", 0, 1025, Ok(2)),
+        warms(port, mount, b"/long", 50_000, 200_000, Ok(197)),
+        has_cached(port, 100),
+    ])
+}
+
+/// A port reads the files, through pages that it keeps or without.
+fn reads_on<J: Volumes>(
     alloc: Global,
     port: &mut Port<J>,
     mount: &Mount<J>,
+    keeps: bool,
 ) -> Result<bool, VolError> {
-    port.set_cache(alloc, 100)?;
-    let small = port.warm(mount, b"/more", 0, 1025)?;
-    let long = port.warm(mount, b"/long", 50_000, 200_000)?;
-    Ok(small == 2 && long == 197 && port.cached() == 100)
+    learns(port, mount);
+    let kept = !keeps || keeps_blocks(alloc, port, mount);
+    let read = reads_files(alloc, port, mount, 50)?;
+    Ok(kept && read)
 }
 
-/// Whether two of the ports read what is due, one of them through pages that it keeps.
+/// Whether the first of some ports reads what is due.
+fn first_reads<J: Volumes>(
+    alloc: Global,
+    ports: &mut [Port<J>],
+    mount: &Mount<J>,
+    keeps: bool,
+) -> bool {
+    match ports.first_mut() {
+        Some(port) => reads_on(alloc, port, mount, keeps) == Ok(true),
+        None => false,
+    }
+}
+
+/// Whether two ports read what is due, one of them through pages that it keeps.
 fn both_read<J: Volumes + Send + Sync, R: Threads + Sync>(
     rt: &R,
     alloc: Global,
-    one: &mut Port<J>,
-    other: &mut Port<J>,
+    ports: &mut [Port<J>],
     mount: &Mount<J>,
 ) -> bool {
-    one.learn(mount);
-    other.learn(mount);
+    if ports.len() != 2 {
+        return false;
+    }
+    let (one, other) = ports.split_at_mut(1);
     let (a, b) = join(
         rt,
-        || match keeps_blocks(alloc, one, mount) {
-            Ok(true) => reads_files(alloc, one, mount, 50),
-            other => other,
-        },
-        || reads_files(alloc, other, mount, 50),
+        || first_reads(alloc, one, mount, true),
+        || first_reads(alloc, other, mount, false),
     );
-    a == Ok(true) && b == Ok(true)
+    a && b
 }
 
 /// Whether four ports read what is due.
 fn all_read<J: Volumes + Send + Sync, R: Threads + Sync>(
     rt: &R,
     alloc: Global,
+    ports: &mut [Port<J>],
+    mount: &Mount<J>,
+) -> bool {
+    if ports.len() != 4 {
+        return false;
+    }
+    let (front, back) = ports.split_at_mut(2);
+    let (a, b) = join(
+        rt,
+        || both_read(rt, alloc, front, mount),
+        || both_read(rt, alloc, back, mount),
+    );
+    a && b
+}
+
+/// Whether the ports read what is due. They end here, beside the writer.
+fn spent_reading<J: Volumes + Send + Sync, R: Threads + Sync>(
+    rt: &R,
+    alloc: Global,
     mut ports: Vec<Port<J>>,
     mount: &Mount<J>,
 ) -> bool {
-    let (Some(mut first), Some(mut second)) = (ports.pop(), ports.pop()) else {
-        return false;
-    };
-    let (Some(mut third), Some(mut fourth)) = (ports.pop(), ports.pop()) else {
-        return false;
-    };
-    let (a, b) = join(
+    all_read(rt, alloc, ports.as_mut_slice(), mount)
+}
+
+/// Whether a writer and a cleaner beside it get on.
+fn both_write<J: Volumes + Send + Sync, R: Threads + Wait + Sync>(
+    rt: &R,
+    alloc: Global,
+    shared: &Volume<J>,
+) -> bool {
+    let (written, cleaned) = join(
         rt,
-        || both_read(rt, alloc, &mut first, &mut second, mount),
-        || both_read(rt, alloc, &mut third, &mut fourth, mount),
+        || writes(rt, alloc, shared),
+        || cleans_often(rt, alloc, shared),
     );
-    a && b
+    written == Ok(true) && cleaned == Ok(true)
 }
 
 /// Whether readers of a mount see what is due beside a writer and a cleaner.
@@ -181,16 +257,24 @@ fn stands_still<J: Volumes + Send + Sync, R: Threads + Wait + Sync>(
     ports: Vec<Port<J>>,
     mount: &Mount<J>,
 ) -> bool {
-    let (read, (written, cleaned)) = join(
+    let (read, written) = join(
         rt,
-        || all_read(rt, alloc, ports, mount),
-        || join(
-            rt,
-            || writes(rt, alloc, shared),
-            || cleans_often(rt, alloc, shared),
-        ),
+        || spent_reading(rt, alloc, ports, mount),
+        || both_write(rt, alloc, shared),
     );
-    read && written == Ok(true) && cleaned == Ok(true)
+    read && written
+}
+
+/// Mounts the snapshot of the files.
+fn mounts_for_first<J: Volumes, R: Wait>(
+    rt: &R,
+    shared: &Volume<J>,
+    ports: &mut [Port<J>],
+) -> Result<Mount<J>, VolError> {
+    match ports.first_mut() {
+        Some(first) => mounts(rt, shared, first, 2),
+        None => Err(VolError::BadRange),
+    }
 }
 
 /// Mounts the snapshot of the files, reads it beside a writer and a cleaner, and gives it back.
@@ -200,19 +284,12 @@ fn stands_still_on<J: Volumes + Send + Sync, R: Threads + Wait + Sync>(
     shared: &Volume<J>,
     mut ports: Vec<Port<J>>,
 ) -> Result<bool, VolError> {
-    let Some(first) = ports.first_mut() else {
-        return Ok(false);
-    };
-    let mount = match shared.mount(rt, first, CheckpointNumber::new(2)) {
-        Err(refusal) => return Err(refusal),
-        Ok(mount) => mount,
-    };
-    let good = stands_still(rt, alloc, shared, ports, &mount);
-    match shared.unmount(rt, mount) {
-        Ok(()) => Ok(good),
-        Err((refusal, mount)) => {
-            mount.spend();
-            Err(refusal)
+    match mounts_for_first(rt, shared, ports.as_mut_slice()) {
+        Err(refusal) => Err(refusal),
+        Ok(mount) => {
+            let good = stands_still(rt, alloc, shared, ports, &mount);
+            unmounts(rt, shared, mount)?;
+            Ok(good)
         }
     }
 }

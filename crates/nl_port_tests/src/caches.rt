@@ -1,13 +1,17 @@
 //! Ports that keep pages of a file, of which two checkpoints have different bytes.
 ghost use Rattle.std.specs.Prelude.{◌≡◌};
 
-use crate::volume::{Volume, checkpoint, cleans, create, fill, is_checkpoint, share_pen};
+use crate::ports::{all_hold, caches, has_cached, reads, warms};
+use crate::volume::{
+    Volume, applies, cleans, creates, empty_pen, ends, fills, keeps_all, makes_checkpoint, mounts,
+    puts, share_pen,
+};
 use nl_core::Pen;
 use nl_device::MemDevice;
 use nl_mounts::Port;
 use nl_protect::{Amount, Config};
 use nl_publish::{Mount, Opened, Volumes};
-use nl_types::{CheckpointNumber, Event, Geometry, Mode, VolError};
+use nl_types::{CheckpointNumber, Event, Mode, VolError};
 use std::alloc::Global;
 use std::marker::Brand;
 use std::sync::Wait;
@@ -30,7 +34,8 @@ fn config() -> Config {
 
 fn reads_byte<J: Volumes>(port: &mut Port<J>, mount: &Mount<J>, byte: u8) -> bool {
     let mut into = [b'?'; 2];
-    port.read_into(mount, b"/f", 0, &mut into) == Ok(1) && into[0] == byte && into[1] == b'?'
+    let read = reads(port, mount, b"/f", 0, &mut into, Ok(1));
+    read && into[0] == byte && into[1] == b'?'
 }
 
 /// Writes a byte over the file's, and makes the checkpoint of a number.
@@ -39,11 +44,16 @@ fn writes<J: Volumes, R: Wait>(
     alloc: Global,
     shared: &Volume<J>,
     byte: u8,
-    mode: Mode,
     number: u64,
 ) -> Result<bool, VolError> {
-    shared.apply(rt, &fill(alloc, b"/f", byte, 1)?)?;
-    Ok(is_checkpoint(&shared.apply(rt, &checkpoint(mode, 0)), number))
+    fills(rt, alloc, shared, b"/f", byte, 1)?;
+    Ok(makes_checkpoint(rt, shared, Mode::Plain, 0) == number)
+}
+
+/// Makes the last checkpoint a snapshot.
+fn keeps_last<J: Volumes, R: Wait>(rt: &R, shared: &Volume<J>) -> Result<(), VolError> {
+    let event = Event::ChangeMode(CheckpointNumber::new(LAST), Mode::Snapshot);
+    applies(rt, shared, &event)
 }
 
 /// Writes on, lets go of what no snapshot has, and cleans. The blocks of the first snapshot are moved.
@@ -52,15 +62,23 @@ fn goes_on<J: Volumes, R: Wait>(
     alloc: Global,
     shared: &Volume<J>,
 ) -> Result<bool, VolError> {
-    let second = writes(rt, alloc, shared, b'B', Mode::Plain, 3)?;
-    let third = writes(rt, alloc, shared, b'C', Mode::Plain, 4)?;
+    let second = writes(rt, alloc, shared, b'B', 3)?;
+    let third = writes(rt, alloc, shared, b'C', 4)?;
     cleans(rt, alloc, shared, &config(), 0)?;
-    let last = writes(rt, alloc, shared, b'D', Mode::Plain, LAST)?;
-    shared.apply(
-        rt,
-        &Event::ChangeMode(CheckpointNumber::new(LAST), Mode::Snapshot),
-    )?;
+    let last = writes(rt, alloc, shared, b'D', LAST)?;
+    keeps_last(rt, shared)?;
     Ok(second && third && last)
+}
+
+/// Whether a port reads what two mounts have, the last one first, and keeps both pages.
+fn reads_each<J: Volumes>(port: &mut Port<J>, first: &Mount<J>, last: &Mount<J>) -> bool {
+    all_hold(&[
+        reads_byte(port, last, b'D'),
+        warms(port, last, b"/f", 0, 1, Ok(1)),
+        reads_byte(port, last, b'D'),
+        reads_byte(port, first, b'A'),
+        has_cached(port, 2),
+    ])
 }
 
 /// Mounts the last checkpoint beside the first one's mount, and reads both.
@@ -70,39 +88,67 @@ fn reads_both<J: Volumes, R: Wait>(
     port: &mut Port<J>,
     first: &Mount<J>,
 ) -> Result<bool, VolError> {
-    let last = match shared.mount(rt, port, CheckpointNumber::new(LAST)) {
-        Err(refusal) => return Err(refusal),
-        Ok(mount) => mount,
-    };
-    let good = reads_byte(port, &last, b'D')
-        && port.warm(&last, b"/f", 0, 1) == Ok(1)
-        && reads_byte(port, &last, b'D')
-        && reads_byte(port, first, b'A')
-        && port.cached() == 2;
-    last.spend();
-    Ok(good)
+    match mounts(rt, shared, port, LAST) {
+        Err(refusal) => Err(refusal),
+        Ok(last) => {
+            let good = reads_each(port, first, &last);
+            last.spend();
+            Ok(good)
+        }
+    }
+}
+
+/// Reads the first snapshot's byte through the cache.
+fn warms_first<J: Volumes>(alloc: Global, port: &mut Port<J>, first: &Mount<J>) -> bool {
+    all_hold(&[
+        caches(alloc, port, 8, Ok(())),
+        warms(port, first, b"/f", 0, 1, Ok(1)),
+        reads_byte(port, first, b'A'),
+    ])
 }
 
 /// Reads the first snapshot's byte through the cache, writes on, and reads both.
+fn tells_them_apart<J: Volumes, R: Wait>(
+    rt: &R,
+    alloc: Global,
+    shared: &Volume<J>,
+    port: &mut Port<J>,
+    first: &Mount<J>,
+) -> Result<bool, VolError> {
+    let warmed = warms_first(alloc, port, first);
+    let written = goes_on(rt, alloc, shared)?;
+    let good = reads_both(rt, shared, port, first)?;
+    Ok(warmed && written && good)
+}
+
+/// Mounts the first snapshot, and tells it from the last one.
 fn tells_apart<J: Volumes, R: Wait>(
     rt: &R,
     alloc: Global,
     shared: &Volume<J>,
     port: &mut Port<J>,
 ) -> Result<bool, VolError> {
-    let first = match shared.mount(rt, port, CheckpointNumber::new(2)) {
-        Err(refusal) => return Err(refusal),
-        Ok(mount) => mount,
-    };
-    let warmed = port.set_cache(alloc, 8) == Ok(())
-        && port.warm(&first, b"/f", 0, 1) == Ok(1)
-        && reads_byte(port, &first, b'A');
-    let good = match goes_on(rt, alloc, shared) {
-        Ok(true) => reads_both(rt, shared, port, &first),
-        other => other,
-    };
-    first.spend();
-    good.map(|good| good && warmed)
+    match mounts(rt, shared, port, 2) {
+        Err(refusal) => Err(refusal),
+        Ok(first) => {
+            let good = tells_them_apart(rt, alloc, shared, port, &first);
+            first.spend();
+            good
+        }
+    }
+}
+
+fn write_file(alloc: Global, pen: &mut Pen<MemDevice>) -> Result<(), VolError> {
+    creates(alloc, pen, b"/f")?;
+    puts(alloc, pen, b"/f", 0, b'A', 1)?;
+    keeps_all(pen)
+}
+
+/// A volume with `/f`, of one byte, in snapshot 2.
+fn first_pen(alloc: Global) -> Result<Pen<MemDevice>, VolError> {
+    let mut pen = empty_pen(alloc, 16, 8)?;
+    write_file(alloc, &mut pen)?;
+    Ok(pen)
 }
 
 fn tells_apart_on<J: Volumes, R: Wait>(
@@ -112,17 +158,12 @@ fn tells_apart_on<J: Volumes, R: Wait>(
 ) -> Result<bool, VolError>
     requires { opened.seen.book ≡ J.book opened.id }
 {
-    let geometry = Geometry::new(16, 8)?;
-    let mut pen = Pen::format(alloc, MemDevice::new(alloc, geometry)?, geometry, 0)?;
-    pen.apply(&create(alloc, b"/f")?)?;
-    pen.apply(&fill(alloc, b"/f", b'A', 1)?)?;
-    pen.apply(&checkpoint(Mode::Snapshot, 0))?;
-    let (shared, mut ports) = share_pen::<J, _>(rt, alloc, pen, 1, opened)?;
+    let (shared, mut ports) = share_pen::<J, _>(rt, alloc, first_pen(alloc)?, 1, opened)?;
     let good = match ports.first_mut() {
         Some(port) => tells_apart(rt, alloc, &shared, port),
         None => Ok(false),
     };
-    let _pen = shared.end(rt, Vec::new(alloc));
+    ends(rt, alloc, shared);
     good
 }
 

@@ -1,14 +1,50 @@
 //! Volumes that know no mounts of one another, and numbers of ports that no volume has.
 ghost use Rattle.std.specs.Prelude.{◌≡◌};
 
-use crate::volume::{Volume, ends, new_pen, shared_among};
+use crate::ports::{has_stat, learns};
+use crate::volume::{Volume, ends, mounts, new_pen, shared_among, unmounts};
 use nl_mounts::{Port, share};
-use nl_publish::{Opened, Volumes};
-use nl_types::{CheckpointNumber, Stat, VolError};
+use nl_publish::{Mount, Opened, Volumes};
+use nl_types::{Stat, VolError};
 use std::alloc::Global;
 use std::marker::Brand;
 use std::sync::Wait;
 use std::test::Fail;
+
+/// Whether a volume refuses to mount for another one's port.
+fn refuses_port<J: Volumes, R: Wait>(rt: &R, other: &Volume<J>, port: &mut Port<J>) -> bool {
+    match mounts(rt, other, port, 2) {
+        Err(refusal) => refusal == VolError::BadMount,
+        Ok(mount) => {
+            mount.spend();
+            false
+        }
+    }
+}
+
+/// Whether a volume refuses another one's mount, which goes back to its own.
+fn refuses_mount<J: Volumes, R: Wait>(
+    rt: &R,
+    one: &Volume<J>,
+    other: &Volume<J>,
+    mount: Mount<J>,
+) -> Result<bool, VolError> {
+    match other.unmount(rt, mount) {
+        Ok(()) => Ok(false),
+        Err((refusal, mount)) => {
+            unmounts(rt, one, mount)?;
+            Ok(refusal == VolError::BadMount)
+        }
+    }
+}
+
+/// Whether a port finds nothing in another volume's mount, in which that volume's own port finds the file.
+fn is_unread<J: Volumes>(port: &mut Port<J>, others: &mut Port<J>, mount: &Mount<J>) -> bool {
+    learns(others, mount);
+    let unread = has_stat(others, mount, b"/one", Err(VolError::BadMount));
+    let read = has_stat(port, mount, b"/one", Ok(Stat::File(1)));
+    unread && read
+}
 
 /// Whether a mount of one volume is refused by another one and its port.
 fn is_foreign<J: Volumes, R: Wait>(
@@ -18,30 +54,14 @@ fn is_foreign<J: Volumes, R: Wait>(
     other: &Volume<J>,
     others: &mut Port<J>,
 ) -> Result<bool, VolError> {
-    let number = CheckpointNumber::new(2);
-    let mount = match one.mount(rt, port, number) {
-        Err(refusal) => return Err(refusal),
-        Ok(mount) => mount,
-    };
-    others.learn(&mount);
-    let unread = others.stat(&mount, b"/one") == Err(VolError::BadMount);
-    let read = port.stat(&mount, b"/one") == Ok(Stat::File(1));
-    let unmounted = match other.mount(rt, port, number) {
-        Err(refusal) => refusal == VolError::BadMount,
+    match mounts(rt, one, port, 2) {
+        Err(refusal) => Err(refusal),
         Ok(mount) => {
-            mount.spend();
-            false
+            let unread = is_unread(port, others, &mount);
+            let unmounted = refuses_port(rt, other, port);
+            let refused = refuses_mount(rt, one, other, mount)?;
+            Ok(unread && unmounted && refused)
         }
-    };
-    match other.unmount(rt, mount) {
-        Ok(()) => Ok(false),
-        Err((refusal, mount)) => match one.unmount(rt, mount) {
-            Ok(()) => Ok(unread && read && unmounted && refusal == VolError::BadMount),
-            Err((refusal, mount)) => {
-                mount.spend();
-                Err(refusal)
-            }
-        },
     }
 }
 
@@ -99,12 +119,23 @@ fn refusal_of<J: Volumes, R: Wait>(
     }
 }
 
+/// Whether no volume has so many ports.
+fn refuses_ports<J: Volumes, R: Wait>(
+    rt: &R,
+    alloc: Global,
+    ports: usize,
+    opened: Opened,
+) -> Result<bool, VolError>
+    requires { opened.seen.book ≡ J.book opened.id }
+{
+    Ok(refusal_of::<J, _>(rt, alloc, ports, opened)? == Some((VolError::BadRange, 2)))
+}
+
 #[test]
 fn volumes_keep_apart(rt: HostRuntime) -> Result<(), Fail> {
     assert!(rt; are_foreign::<Brand, _>(&rt, rt.alloc(), Opened::new(1), Opened::new(2))?);
     for ports in [0, 33] {
-        let refused = refusal_of::<Brand, _>(&rt, rt.alloc(), ports, Opened::new(1))?;
-        assert_eq!(rt; refused, Some((VolError::BadRange, 2)));
+        assert!(rt; refuses_ports::<Brand, _>(&rt, rt.alloc(), ports, Opened::new(1))?);
     }
     Ok(())
 }

@@ -16,4 +16,6 @@ mod foreign;
 #[cfg(test)]
 mod many_reads;
 #[cfg(test)]
+mod ports;
+#[cfg(test)]
 mod volume;

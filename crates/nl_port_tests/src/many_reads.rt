@@ -1,10 +1,11 @@
 //! Many reads at once, each port on a thread of its own.
 ghost use Rattle.std.specs.Prelude.{◌≡◌};
 
-use crate::volume::{Volume, ends, shared_among};
+use crate::ports::{all_hold, has_stat, reads};
+use crate::volume::{Volume, applies, ends, mounts, shared_among};
 use nl_mounts::{Gate, JobAnswer, Port, ReadJob, read_many};
 use nl_publish::{Mount, Opened, Volumes};
-use nl_types::{Answer, CheckpointNumber, Event, Items, Segment, VolError};
+use nl_types::{Answer, Event, Items, Reply, Segment, VolError};
 use std::alloc::Global;
 use std::marker::Brand;
 use std::sync::Wait;
@@ -67,27 +68,34 @@ impl Gate for Meeting {
     fn after(&self, _job: usize) {}
 }
 
-/// Moves out of each segment, and frees it.
+/// Moves out of a segment, and frees it, where that can be done.
+fn moves_out<J: Volumes, R: Wait>(rt: &R, shared: &Volume<J>, segment: Segment) {
+    let moving = Event::Move {
+        segment,
+        limit: 30,
+        now: 0,
+    };
+    let _moved = applies(rt, shared, &moving);
+    let _freed = applies(rt, shared, &Event::Retire(segment));
+}
+
 fn moves_all<J: Volumes, R: Wait>(rt: &R, shared: &Volume<J>) {
     for segment in 0..64 {
-        let segment = Segment::new(segment);
-        let moving = Event::Move {
-            segment,
-            limit: 30,
-            now: 0,
-        };
-        let _moved = shared.apply(rt, &moving);
-        let _freed = shared.apply(rt, &Event::Retire(segment));
+        moves_out(rt, shared, Segment::new(segment));
     }
+}
+
+fn has_grown(reply: &Reply) -> bool {
+    matches!(reply, Ok(Answer::Done))
 }
 
 /// Makes the volume larger once both jobs have begun, and then moves all its blocks.
 fn grows<J: Volumes, R: Wait>(rt: &R, shared: &Volume<J>, meeting: &Meeting) -> bool {
     let both = meeting.waits_for_both();
-    let grown = shared.apply(rt, &Event::Resize(128));
+    let grown = has_grown(&shared.apply(rt, &Event::Resize(128)));
     meeting.grown.store(true, Ordering::SeqCst);
     moves_all(rt, shared);
-    both && matches!(grown, Ok(Answer::Done))
+    both && grown
 }
 
 /// A job, with what is due.
@@ -117,6 +125,32 @@ fn is_due(answer: &JobAnswer, due: &Due<'_>) -> bool {
     }
 }
 
+fn are_due(answers: &[JobAnswer], all: &[Due<'_>]) -> bool {
+    for (answer, due) in answers.iter().zip(all) {
+        if !is_due(answer, due) {
+            return false;
+        }
+    }
+    answers.len() == all.len()
+}
+
+/// Whether the ports answer these jobs as is due.
+fn answer_jobs<J: Volumes + Send + Sync, G: Gate + Sync, R: Threads + Sync>(
+    rt: &R,
+    alloc: Global,
+    ports: &mut [Port<J>],
+    mount: &Mount<J>,
+    jobs: &[ReadJob],
+    all: &[Due<'_>],
+    gate: &G,
+) -> Result<bool, VolError> {
+    if ports.is_empty() {
+        return Ok(false);
+    }
+    let answers = read_many(rt, alloc, ports, mount, jobs, gate)?;
+    Ok(are_due(answers.as_slice(), all))
+}
+
 /// Whether the ports answer the jobs as is due.
 fn answer_all<J: Volumes + Send + Sync, G: Gate + Sync, R: Threads + Sync>(
     rt: &R,
@@ -126,17 +160,8 @@ fn answer_all<J: Volumes + Send + Sync, G: Gate + Sync, R: Threads + Sync>(
     all: &[Due<'_>],
     gate: &G,
 ) -> Result<bool, VolError> {
-    if ports.is_empty() {
-        return Ok(false);
-    }
     let jobs = jobs_of(alloc, all)?;
-    let answers = read_many(rt, alloc, ports, mount, jobs.as_slice(), gate)?;
-    for (answer, due) in answers.iter().zip(all) {
-        if !is_due(answer, due) {
-            return Ok(false);
-        }
-    }
-    Ok(answers.len() == all.len())
+    answer_jobs(rt, alloc, ports, mount, jobs.as_slice(), all, gate)
 }
 
 /// Refusals stand in their places, and a path may come twice.
@@ -196,14 +221,14 @@ fn meet<J: Volumes + Send + Sync, R: Threads + Wait + Sync>(
     shared: &Volume<J>,
     ports: &mut [Port<J>],
     mount: &Mount<J>,
-) -> Result<bool, VolError> {
+) -> bool {
     let meeting = Meeting::new();
     let (grown, answered) = join(
         rt,
         || grows(rt, shared, &meeting),
         || answer_all(rt, alloc, ports, mount, two(), &meeting),
     );
-    Ok(answered? && grown && meeting.took_place())
+    answered == Ok(true) && grown && meeting.took_place()
 }
 
 /// Whether many reads are answered in the order of their jobs, by any number of ports, and at once by two.
@@ -213,21 +238,33 @@ fn answers_at_once<J: Volumes + Send + Sync, R: Threads + Wait + Sync>(
     shared: &Volume<J>,
     ports: &mut [Port<J>],
     mount: &Mount<J>,
-) -> Result<bool, VolError> {
-    Ok(any_number_answers(rt, alloc, ports, mount)? && meet(rt, alloc, shared, ports, mount)?)
+) -> bool {
+    any_number_answers(rt, alloc, ports, mount) == Ok(true) && meet(rt, alloc, shared, ports, mount)
+}
+
+fn reads_nothing<J: Volumes>(port: &mut Port<J>, mount: &Mount<J>) -> bool {
+    let mut into = [b'?'; 4];
+    let refused = reads(port, mount, b"/one", 0, &mut into, Err(VolError::BadMount));
+    refused && into == [b'?'; 4]
+}
+
+fn lists_nothing<J: Volumes>(alloc: Global, port: &mut Port<J>, mount: &Mount<J>) -> bool {
+    matches!(port.list(alloc, mount, b"/"), Err(VolError::BadMount))
+}
+
+fn gives_nothing<J: Volumes>(alloc: Global, port: &mut Port<J>, mount: &Mount<J>) -> bool {
+    let read = port.read(alloc, mount, b"/one", 0, 9);
+    matches!(read, Err(VolError::BadMount))
 }
 
 /// Whether a port finds nothing once its volume has ended.
 fn finds_nothing<J: Volumes>(alloc: Global, port: &mut Port<J>, mount: &Mount<J>) -> bool {
-    let mut into = [b'?'; 4];
-    port.read_into(mount, b"/one", 0, &mut into) == Err(VolError::BadMount)
-        && into == [b'?'; 4]
-        && port.stat(mount, b"/one") == Err(VolError::BadMount)
-        && matches!(port.list(alloc, mount, b"/"), Err(VolError::BadMount))
-        && matches!(
-            port.read(alloc, mount, b"/one", 0, 9),
-            Err(VolError::BadMount)
-        )
+    all_hold(&[
+        reads_nothing(port, mount),
+        has_stat(port, mount, b"/one", Err(VolError::BadMount)),
+        lists_nothing(alloc, port, mount),
+        gives_nothing(alloc, port, mount),
+    ])
 }
 
 /// Mounts the snapshot, and says whether many reads of it come out as is due.
@@ -235,16 +272,16 @@ fn read_all_at_once<J: Volumes + Send + Sync, R: Threads + Wait + Sync>(
     rt: &R,
     alloc: Global,
     shared: &Volume<J>,
-    ports: &mut Vec<Port<J>>,
+    ports: &mut [Port<J>],
 ) -> Result<(bool, Mount<J>), VolError> {
     let Some(first) = ports.first_mut() else {
         return Err(VolError::BadRange);
     };
-    match shared.mount(rt, first, CheckpointNumber::new(2)) {
+    match mounts(rt, shared, first, 2) {
         Err(refusal) => Err(refusal),
         Ok(mount) => {
-            let good = answers_at_once(rt, alloc, shared, ports.as_mut_slice(), &mount);
-            Ok((good == Ok(true), mount))
+            let good = answers_at_once(rt, alloc, shared, ports, &mount);
+            Ok((good, mount))
         }
     }
 }
@@ -258,6 +295,13 @@ fn all_find_nothing<J: Volumes>(alloc: Global, ports: &mut [Port<J>], mount: &Mo
     true
 }
 
+/// Whether the ports find nothing through a mount whose volume has ended.
+fn spent_unseen<J: Volumes>(alloc: Global, ports: &mut [Port<J>], mount: Mount<J>) -> bool {
+    let nothing = all_find_nothing(alloc, ports, &mount);
+    mount.spend();
+    nothing
+}
+
 fn many_reads<J: Volumes + Send + Sync, R: Threads + Wait + Sync>(
     rt: &R,
     alloc: Global,
@@ -266,13 +310,12 @@ fn many_reads<J: Volumes + Send + Sync, R: Threads + Wait + Sync>(
     requires { opened.seen.book ≡ J.book opened.id }
 {
     let (shared, mut ports) = shared_among::<J, _>(rt, alloc, 3, opened)?;
-    let came = read_all_at_once(rt, alloc, &shared, &mut ports);
+    let came = read_all_at_once(rt, alloc, &shared, ports.as_mut_slice());
     let ended = ends(rt, alloc, shared);
     match came {
         Err(refusal) => Err(refusal),
         Ok((good, mount)) => {
-            let nothing = all_find_nothing(alloc, ports.as_mut_slice(), &mount);
-            mount.spend();
+            let nothing = spent_unseen(alloc, ports.as_mut_slice(), mount);
             Ok(good && nothing && ended)
         }
     }

@@ -5,7 +5,7 @@ use Rattle.std.proofs.lemmas.Bool.Decides.{nat_tests}
 use mathlib.Core.List.{IsPrefix}
 use prog.Atomic.{either}
 use Rattle.logbook.specs.Pages.{Cell, cell, keeps, no_nib, step, Moves, Goes}
-use Rattle.nl_core.specs.declared.commit.Commit.{Commit}
+use Rattle.nl_commit.specs.declared.commit.Commit.{Commit}
 use Rattle.nl_publish.specs.Histories.{IsBegun}
 use Rattle.nl_publish.specs.Rules.{IsRecorded, Adds}
 use Rattle.nl_publish.proofs.Fronts.{prefix_whole}

@@ -3,15 +3,15 @@ use Rattle.std.proofs.Common.{◌≡◌, ℕ, List, [], ◌∷◌, ◌++◌, Som
 use Rattle.nl_types.specs.Roots.{Pages}
 use Rattle.nl_types.specs.Worlds.{World}
 use Rattle.nl_cpfile.specs.Tables.{checkpoint_root}
-use Rattle.nl_core.specs.Commits.{IsHistory, IsImage, image_of}
-use Rattle.nl_core.specs.Layout.{MeansWorld, layout_pages}
-use Rattle.nl_core.specs.Means.{RootMeans}
-use Rattle.nl_core.specs.Notes.{shown_of}
-use Rattle.nl_core.specs.Shown.{Shown, mounted_on}
-use Rattle.nl_core.specs.declared.commit.Commit.{Commit}
-use Rattle.nl_core.specs.declared.commit.Commit.TheVariants as commit
-use Rattle.nl_core.specs.Facts.Events.{copy_of}
-use Rattle.nl_core.specs.Facts.ShownNumbers.{pages-shown}
+use Rattle.nl_commit.specs.Commits.{IsHistory, IsImage, image_of}
+use Rattle.nl_commit.specs.Layout.{MeansWorld, layout_pages}
+use Rattle.nl_commit.specs.Means.{RootMeans}
+use Rattle.nl_commit.specs.Notes.{shown_of}
+use Rattle.nl_commit.specs.Shown.{Shown, mounted_on}
+use Rattle.nl_commit.specs.declared.commit.Commit.{Commit}
+use Rattle.nl_commit.specs.declared.commit.Commit.TheVariants as commit
+use Rattle.nl_commit.specs.Facts.Events.{copy_of}
+use Rattle.nl_commit.specs.Facts.ShownNumbers.{pages-shown}
 use Rattle.nl_publish.specs.Locks.{HeldPen, IsTold}
 use Rattle.nl_publish.specs.Told.{ShowsCopy}
 use Rattle.nl_publish.proofs.Running.{HasMounted}

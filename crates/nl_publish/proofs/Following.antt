@@ -10,10 +10,10 @@ use Rattle.nl_types.specs.declared.event.Mode.{Mode}
 use Rattle.nl_types.specs.declared.row.Row.{Row}
 use Rattle.nl_cpfile.specs.Tables.{ComesNext, IsRising, Precedes, RoomyTable, Table, moded, checkpoint_row, rows, rows_of, with_mode}
 use Rattle.nl_cpfile.specs.declared.checkpoint.Checkpoint.{Checkpoint}
-use Rattle.nl_core.specs.Commits.{IsNext}
-use Rattle.nl_core.specs.Shown.{Shown}
-use Rattle.nl_core.specs.declared.commit.Commit.TheVariants.{Written}
-use Rattle.nl_core.specs.declared.commit.Written.{Written as NewCheckpoint}
+use Rattle.nl_commit.specs.Commits.{IsNext}
+use Rattle.nl_commit.specs.Shown.{Shown}
+use Rattle.nl_commit.specs.declared.commit.Commit.TheVariants.{Written}
+use Rattle.nl_commit.specs.declared.commit.Written.{Written as NewCheckpoint}
 
 -- ---- checkpoints that come next
 

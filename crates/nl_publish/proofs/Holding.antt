@@ -7,11 +7,11 @@ use mathlib.Core.List.{IsPrefix}
 use Rattle.logbook.specs.Pages.{Book}
 use Rattle.nl_types.specs.declared.event.Event.{Event}
 use Rattle.nl_types.specs.Worlds.{Reply}
-use Rattle.nl_core.specs.declared.commit.Commit.{Commit}
-use Rattle.nl_core.specs.Shown.{Shown, nothing}
-use Rattle.nl_core.specs.Commits.{AllNext, IsHistory, applied, image_of}
-use Rattle.nl_core.specs.Layout.{Layout}
-use Rattle.nl_core.specs.Notes.{shown_of}
+use Rattle.nl_commit.specs.declared.commit.Commit.{Commit}
+use Rattle.nl_commit.specs.Shown.{Shown, nothing}
+use Rattle.nl_commit.specs.Commits.{AllNext, IsHistory, applied, image_of}
+use Rattle.nl_commit.specs.Layout.{Layout}
+use Rattle.nl_commit.specs.Notes.{shown_of}
 use Rattle.nl_publish.specs.declared.image.Image.{Image}
 use Rattle.nl_publish.specs.declared.image.Entry.{Entry}
 use Rattle.nl_publish.specs.Histories.{IsBegun, Known}

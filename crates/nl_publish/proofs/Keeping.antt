@@ -8,9 +8,9 @@ use Rattle.atomic_table.proofs.Lists.{at_set, at_snoc}
 use Rattle.logbook.specs.Pages.{Book}
 use Rattle.nl_publish.specs.declared.image.Image.{Image}
 use Rattle.nl_publish.specs.declared.image.Entry.{Entry}
-use Rattle.nl_core.specs.Shown.{Shown}
-use Rattle.nl_core.specs.Commits.{applied}
-use Rattle.nl_core.specs.Commits.{image_of}
+use Rattle.nl_commit.specs.Shown.{Shown}
+use Rattle.nl_commit.specs.Commits.{applied}
+use Rattle.nl_commit.specs.Commits.{image_of}
 use Rattle.nl_publish.specs.Images.{Knows, Kept, Looks, Learns, IsWhole, IsNextEntry, AreNext, absorbed, name_of}
 use Rattle.nl_publish.proofs.Fronts.{prefix_self, prefix_trans}
 use Rattle.nl_publish.specs.Facts.Growing.{fold-grows}

@@ -6,11 +6,11 @@ use Rattle.nl_types.specs.declared.error.VolError.{VolError}
 use Rattle.nl_types.specs.declared.reply.Answer.{Answer}
 use Rattle.nl_types.specs.Runs.{Run}
 use Rattle.nl_types.specs.Worlds.{Reply}
-use Rattle.nl_core.specs.Layout.{Does, IsPen}
-use Rattle.nl_core.specs.Notes.{shared}
-use Rattle.nl_core.specs.declared.commit.Commit.TheVariants as commit
-use Rattle.nl_core.specs.Facts.Leading.{runs_lead_on}
-use Rattle.nl_core.specs.Facts.MountEvents.{answers-mount}
+use Rattle.nl_commit.specs.Layout.{Does, IsPen}
+use Rattle.nl_commit.specs.Notes.{shared}
+use Rattle.nl_commit.specs.declared.commit.Commit.TheVariants as commit
+use Rattle.nl_commit.specs.Facts.Leading.{runs_lead_on}
+use Rattle.nl_commit.specs.Facts.MountEvents.{answers-mount}
 use Rattle.nl_publish.specs.Histories.{EndsWith}
 use Rattle.nl_publish.specs.Locks.{Begins, Done, Finished, Goes, GoesBy, HeldPen, IsClear, IsMountReply, IsReady, IsStuck, Keeps, Lost, MountGoes, MountRan, MountReply, Mounted, NotedStep, Pending, Ran, Refused, State, Stuck, as_replies, given_back, mount_reply, state_of}
 use Rattle.nl_publish.specs.Told.{LockedRunsLeadOn}

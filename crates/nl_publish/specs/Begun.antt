@@ -1,7 +1,7 @@
 -- How a shared volume begins.
 use Rattle.std.specs.Prelude.{◌≡◌, ℕ, [], ◌∷◌, None}
-use Rattle.nl_core.specs.Layout.{Layout}
-use Rattle.nl_core.specs.declared.commit.Commit.{Commit}
+use Rattle.nl_commit.specs.Layout.{Layout}
+use Rattle.nl_commit.specs.declared.commit.Commit.{Commit}
 use Rattle.nl_publish.specs.Locks.{HeldPen}
 
 -- one commit shows all of the pen, and it is published

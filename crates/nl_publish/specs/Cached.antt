@@ -6,9 +6,9 @@ use Rattle.nl_tree.specs.Held.{Holding, held_block}
 use Rattle.nl_files.specs.CheckpointTrees.{HoldsTree}
 use Rattle.nl_cpfile.specs.Tables.{kept_at, checkpoint_root}
 use Rattle.nl_cpfile.specs.declared.checkpoint.Checkpoint.{Checkpoint}
-use Rattle.nl_core.specs.Commits.{IsHistory, image_of}
-use Rattle.nl_core.specs.Shown.{pages_shown}
-use Rattle.nl_core.specs.declared.commit.Commit.{Commit}
+use Rattle.nl_commit.specs.Commits.{IsHistory, image_of}
+use Rattle.nl_commit.specs.Shown.{pages_shown}
+use Rattle.nl_commit.specs.declared.commit.Commit.{Commit}
 use Rattle.nl_publish.specs.Histories.{IsBegun}
 
 -- The history has given the checkpoint's number. Where it still keeps the checkpoint, the file of the inode

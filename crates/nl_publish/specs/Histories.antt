@@ -1,7 +1,7 @@
 -- Beginnings of a published history.
 use Rattle.std.specs.Prelude.{ℕ, ◌≡◌, ◌≤◌, ◌^◌, List, [], ◌∷◌, ◌++◌, length}
-use Rattle.nl_core.specs.Commits.{IsHistory}
-use Rattle.nl_core.specs.declared.commit.Commit.{Commit}
+use Rattle.nl_commit.specs.Commits.{IsHistory}
+use Rattle.nl_commit.specs.declared.commit.Commit.{Commit}
 
 -- a history, or nothing of it yet
 abbrev pub IsBegun : List Commit → Type 0

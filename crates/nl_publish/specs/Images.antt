@@ -3,7 +3,7 @@ use Rattle.std.specs.Prelude.{ℕ, ◌≡◌, ◌⊎◌, ◌++◌, Bool, List, [
 use mathlib.Core.Option.{some}
 use lib.ListN.{get_elem?}
 use Rattle.logbook.specs.Pages.{Book}
-use Rattle.nl_core.specs.Commits.{IsHistory, applied, image_of}
+use Rattle.nl_commit.specs.Commits.{IsHistory, applied, image_of}
 use Rattle.nl_publish.specs.declared.image.Image.{Image}
 use Rattle.nl_publish.specs.declared.image.Entry.{Entry}
 use Rattle.nl_publish.specs.Histories.{Known}

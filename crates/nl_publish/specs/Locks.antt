@@ -10,11 +10,11 @@ use Rattle.nl_types.specs.declared.reply.Answer.{Answer}
 use Rattle.nl_types.specs.declared.reply.Answer.TheVariants as answer
 use Rattle.nl_types.specs.Runs.{Run}
 use Rattle.nl_types.specs.Worlds.{Reply}
-use Rattle.nl_core.specs.Commits.{IsHistory, image_of}
-use Rattle.nl_core.specs.Layout.{Layout}
-use Rattle.nl_core.specs.Notes.{DoesNoting, shown_of}
-use Rattle.nl_core.specs.Shown.{Shown}
-use Rattle.nl_core.specs.declared.commit.Commit.{Commit}
+use Rattle.nl_commit.specs.Commits.{IsHistory, image_of}
+use Rattle.nl_commit.specs.Layout.{Layout}
+use Rattle.nl_commit.specs.Notes.{DoesNoting, shown_of}
+use Rattle.nl_commit.specs.Shown.{Shown}
+use Rattle.nl_commit.specs.declared.commit.Commit.{Commit}
 use Rattle.nl_publish.specs.declared.image.Image.{Image}
 use Rattle.nl_publish.specs.declared.image.Entry.{Entry}
 use Rattle.nl_publish.specs.Histories.{Known}

@@ -1,6 +1,6 @@
 -- Mounts, as their holders have them.
 use Rattle.std.specs.Prelude.{ℕ}
-use Rattle.nl_core.specs.declared.commit.Commit.TheVariants.{Mounted}
+use Rattle.nl_commit.specs.declared.commit.Commit.TheVariants.{Mounted}
 use Rattle.nl_publish.specs.Histories.{EndsWith, Known}
 
 -- a mount: its number, its checkpoint, and the history that ends with its own commit

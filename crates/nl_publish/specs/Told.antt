@@ -6,12 +6,12 @@ use Rattle.nl_types.specs.Trees.{Tree}
 use Rattle.nl_types.specs.Worlds.{Copy, Reply, World, copy_at}
 use Rattle.nl_cpfile.specs.Tables.{kept_at, checkpoint_root}
 use Rattle.nl_cpfile.specs.declared.checkpoint.Checkpoint.{Checkpoint}
-use Rattle.nl_core.specs.Commits.{IsHistory, IsImage, image_of}
-use Rattle.nl_core.specs.Layout.{Runs}
-use Rattle.nl_core.specs.Means.{RootMeans}
-use Rattle.nl_core.specs.Notes.{shared}
-use Rattle.nl_core.specs.Shown.{Shown, mounted_on, pages_shown}
-use Rattle.nl_core.specs.declared.commit.Commit.{Commit}
+use Rattle.nl_commit.specs.Commits.{IsHistory, IsImage, image_of}
+use Rattle.nl_commit.specs.Layout.{Runs}
+use Rattle.nl_commit.specs.Means.{RootMeans}
+use Rattle.nl_commit.specs.Notes.{shared}
+use Rattle.nl_commit.specs.Shown.{Shown, mounted_on, pages_shown}
+use Rattle.nl_commit.specs.declared.commit.Commit.{Commit}
 use Rattle.nl_publish.specs.Locks.{Goes, HeldPen}
 use Rattle.nl_publish.specs.Mounts.{Claim, IsClaim}
 

@@ -3,47 +3,45 @@ ghost use Rattle.std.specs.Prelude.{◌≡◌, ◌+◌, IfOk, IsOkUnless, length
 ghost use Rattle.std.specs.Option.{ok_or};
 ghost use Rattle.nl_types.specs.Segments.{clean_segments};
 ghost use Rattle.nl_cpfile.specs.Tables.{cpstat_of};
-ghost use Rattle.nl_core.specs.CleanerViews.{needed_told};
-ghost use Rattle.nl_cleaner.specs.Plan.{IsPlan};
+ghost use Rattle.nl_commit.specs.CleanerViews.{needed_told};
 ghost use Rattle.nl_publish.specs.Cleaning.{CleanRan};
 
 use crate::history::Volumes;
 use crate::locked::Locked;
 use crate::press::Press;
-use nl_cleaner::{Job, plan};
-use nl_core::{Cpstat, Pen};
-use nl_device::Device;
+use nl_commit::{NotingPen, Round};
+use nl_cpfile::Cpstat;
 use nl_protect::Config;
 use nl_sufile::Sustat;
 use nl_types::{Reply, Segment, SegmentInfo, VolError};
 use std::alloc::Global;
 use std::sync::Wait;
 
-impl<D: Device, J: Volumes, W: Press> Locked<Pen<D>, J, W> {
+impl<P: NotingPen, J: Volumes, W: Press> Locked<P, J, W> {
     /// Does the next event of a round of cleaning, and notes the reply in the round; None where the round is
     /// over. Where the give-back of a lost mount is refused, that is the reply to the event.
-    pub fn clean_step<R: Wait>(&mut self, rt: &R, job: &mut Job) -> Option<Reply>
-        ensures { CleanRan self.old job.old result self.new job.new }
+    pub fn clean_step<G: Round<P>, R: Wait>(&mut self, rt: &R, round: &mut G) -> Option<Reply>
+        ensures { CleanRan G.habits self.old round.old result self.new round.new }
     {
         if let Err(refusal) = self.begin(rt) {
             let refused = Err(refusal);
-            job.note(&refused);
+            round.note(&refused);
             return Some(refused);
         }
-        let event = job.next(self.pen())?;
+        let event = round.next(self.pen())?;
         let reply = self.run(&event);
         self.settle(rt);
-        job.note(&reply);
+        round.note(&reply);
         Some(reply)
     }
 
     /// The round of cleaning that a configuration asks for at a moment. It only looks. Refused by `Memory`
     /// alone.
-    pub fn plan(&self, alloc: Global, config: &Config, now: u64) -> Result<Job, VolError>
-        ensures plan { IfOk result (IsPlan self.now.layout config.now now) }
+    pub fn plan<G: Round<P>>(&self, alloc: Global, config: &Config, now: u64) -> Result<G, VolError>
+        ensures plan { IfOk result (G.habits.plans self.now.layout config.now now) }
         ensures refused { IsOkUnless result VolError.Memory }
     {
-        plan(alloc, self.pen(), config, now)
+        G::plan(alloc, self.pen(), config, now)
     }
 
     /// What is known of a segment. Refused by `BadRange` where there is no such segment. It takes no memory.

@@ -8,7 +8,7 @@ ghost use Rattle.nl_publish.specs.Images.{IsWhole};
 
 use crate::image::Image;
 use logbook::{Gain, Offer, Plain, Play, Rule, Seen, Start, Word};
-use nl_core::Commit;
+use nl_commit::Commit;
 use std::marker::{Brand, Model, PhantomData};
 
 /// A history has no more commits. The word counts up to it.

@@ -1,8 +1,8 @@
 //! What is published. It is generic in nothing: the rule ties the id of its volume to its book, seat by seat.
 ghost use Rattle.std.specs.Prelude.{◌≡◌, [], ◌∷◌, IfOk};
-ghost use Rattle.nl_core.specs.Commits.{image_of};
+ghost use Rattle.nl_commit.specs.Commits.{image_of};
 ghost use Rattle.nl_publish.specs.Images.{IsWhole};
-ghost use Rattle.nl_core.specs.Shown.{MountsRise};
+ghost use Rattle.nl_commit.specs.Shown.{MountsRise};
 
 use crate::history::{Front, Law, Volumes};
 use crate::tables::Tables;
@@ -10,7 +10,7 @@ use atomic_table::{Join, Split};
 use crossbeam_utils::rule::{Outcome, Protocol};
 use left_right::Absorb;
 use logbook::Seen;
-use nl_core::Commit;
+use nl_commit::Commit;
 use std::alloc::{AllocError, Global};
 
 /// What readers see, and the history that made it, which has so many commits.

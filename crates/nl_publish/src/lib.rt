@@ -9,7 +9,6 @@ pub mod laws;
 mod locked;
 mod mount;
 mod opening;
-mod pen;
 mod press;
 mod tables;
 
@@ -17,7 +16,7 @@ pub use history::{Front, Opened, Record, Volumes};
 pub use image::{Entry, Image, Keeps, Name, Sees};
 pub use locked::Locked;
 pub use mount::Mount;
+pub use nl_commit::NotingPen;
 pub use opening::{Seat, publish};
-pub use pen::NotingPen;
 pub use press::{ImageReader, Press, Publisher};
 pub use tables::{ApplyError, Tables};

@@ -3,10 +3,10 @@ ghost use Rattle.std.specs.Prelude.{◌≡◌, ◌≢◌, ◌++◌, ◌∷◌, [
 ghost use Rattle.nl_types.specs.declared.event.Event.TheVariants as event;
 ghost use Rattle.nl_types.specs.declared.reply.Answer.{Answer};
 ghost use Rattle.nl_types.specs.Worlds.{World};
-ghost use Rattle.nl_core.specs.Commits.{image_of};
-ghost use Rattle.nl_core.specs.Layout.{IsPen, MeansWorld, layout_of};
-ghost use Rattle.nl_core.specs.Notes.{shown_of};
-ghost use Rattle.nl_core.specs.Volume.{without_mounts};
+ghost use Rattle.nl_commit.specs.Commits.{image_of};
+ghost use Rattle.nl_commit.specs.Layout.{IsPen, MeansWorld, layout_of};
+ghost use Rattle.nl_commit.specs.Notes.{shown_of};
+ghost use Rattle.nl_commit.specs.Volume.{without_mounts};
 ghost use Rattle.nl_publish.specs.Images.{IsPublished};
 ghost use Rattle.nl_publish.specs.Locks.{Begins, Finished, GoesBy, IsMountReply, IsTold, Keeps, MountGoes, MountRan, Ran};
 ghost use Rattle.nl_publish.specs.Locks.{mount_reply};
@@ -15,9 +15,8 @@ ghost use Rattle.nl_publish.specs.Told.{ShowsCopy};
 use crate::history::{Front, Record, Volumes};
 use crate::image::Entry;
 use crate::mount::Mount;
-use crate::pen::NotingPen;
 use crate::press::{Press, Publisher};
-use nl_core::Commit;
+use nl_commit::{Commit, NotingPen};
 use nl_types::{Answer, CheckpointNumber, Event, MountNumber, Reply, VolError};
 use std::alloc::Global;
 use std::marker::Model;
@@ -42,7 +41,7 @@ pub struct Locked<P: NotingPen, J: Volumes, W: Press> {
 
 impl<P: NotingPen, J: Volumes, W: Press> Model for Locked<P, J, W> {
     ghost use Rattle.std.specs.Prelude.{◌++◌};
-    ghost use Rattle.nl_core.specs.Notes.{shown_of};
+    ghost use Rattle.nl_commit.specs.Notes.{shown_of};
     ghost use Rattle.nl_publish.specs.Locks.{HeldPen, IsHeld, listed};
 
     ghost Value = { HeldPen };

@@ -1,17 +1,16 @@
 //! How a shared volume begins: all that readers see of its pen is published, and each reader has a seat.
 ghost use Rattle.std.specs.Prelude.{◌≡◌, ◌<◌, ◌^◌, ◌∷◌, [], drop, length, IfErr, IfOk};
-ghost use Rattle.nl_core.specs.Commits.{image_of};
+ghost use Rattle.nl_commit.specs.Commits.{image_of};
 ghost use Rattle.nl_publish.specs.Begun.{HasBegun};
 ghost use Rattle.nl_publish.specs.Images.{IsPublished, name_of};
-ghost use Rattle.nl_core.specs.Shown.{MountsRise};
+ghost use Rattle.nl_commit.specs.Shown.{MountsRise};
 ghost use Rattle.nl_publish.specs.Seats.{known_to};
 
 use crate::history::{Front, Opened, Volumes};
 use crate::image::Image;
 use crate::locked::Locked;
-use crate::pen::NotingPen;
 use crate::press::{ImageReader, Named, Press, Publisher, open};
-use nl_core::Commit;
+use nl_commit::{Commit, NotingPen};
 use nl_types::VolError;
 use std::alloc::{AllocError, Global};
 use std::sync::Wait;

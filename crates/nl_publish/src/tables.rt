@@ -2,10 +2,10 @@
 ghost use Rattle.std.specs.Prelude.{◌≡◌, ◌≤◌, [], ◌∷◌, ◌++◌, None, replicate, slice_set, IfOk, IsOkUnless, IsErrOf, MatchResult};
 ghost use Rattle.std.specs.Option.{option_copied};
 ghost use Rattle.nl_cpfile.specs.Tables.{ComesNext, kept_at, with_mode, with_next};
-ghost use Rattle.nl_core.specs.Shown.{MountsRise, mounted_on, shown_at};
-ghost use Rattle.nl_core.specs.Commits.{IsHistory, IsNext, applied, image_of, numbers_written, with_births, with_ends, with_room, without_numbers};
+ghost use Rattle.nl_commit.specs.Shown.{MountsRise, mounted_on, shown_at};
+ghost use Rattle.nl_commit.specs.Commits.{IsHistory, IsNext, applied, image_of, numbers_written, with_births, with_ends, with_room, without_numbers};
 
-use nl_core::{Commit, Mounted, Mounts, NewPage, ShownPage, Written};
+use nl_commit::{Commit, Mounted, Mounts, NewPage, ShownPage, Written};
 use nl_cpfile::{Checkpoint, Checkpoints};
 use nl_types::{CheckpointNumber, Mode, MountNumber, Page, Period, VirtualNumber, empty_places};
 use nl_vstore::VRead;
@@ -24,7 +24,7 @@ pub struct Tables {
 }
 
 impl Model for Tables {
-    ghost use Rattle.nl_core.specs.Shown.{Shown};
+    ghost use Rattle.nl_commit.specs.Shown.{Shown};
 
     ghost Value = { Shown };
 
@@ -351,7 +351,7 @@ impl Tables {
 }
 
 impl VRead for Tables {
-    ghost use Rattle.nl_core.specs.Shown.{pages_shown, periods_shown};
+    ghost use Rattle.nl_commit.specs.Shown.{pages_shown, periods_shown};
 
     ghost pages = { pages_shown };
 

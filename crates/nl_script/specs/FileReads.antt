@@ -10,11 +10,11 @@ use Rattle.nl_types.specs.Limits.{file_limit}
 use Rattle.nl_types.specs.Trees.{Tree}
 use Rattle.nl_types.specs.Worlds.{Reply}
 use Rattle.nl_commands.specs.declared.command.Shown.TheVariants.{Content}
-use Rattle.nl_core.specs.Commits.{image_of}
+use Rattle.nl_commit.specs.Commits.{image_of}
 use Rattle.nl_publish.specs.Mounts.{Claim}
 use Rattle.nl_publish.specs.Told.{TreeOn}
-use Rattle.nl_mounts.specs.Jobs.{JobAnswer}
-use Rattle.nl_mounts.specs.declared.many.ReadJob.{ReadJob}
+use Rattle.nl_lanes.specs.Jobs.{JobAnswer}
+use Rattle.nl_lanes.specs.declared.many.ReadJob.{ReadJob}
 use Rattle.nl_script.specs.Events.{asked}
 
 -- what each tree says that the mount's checkpoint had when it was mounted, unless memory is refused

@@ -10,7 +10,7 @@ use std::rt::Files;
 use std::{fs, io, str};
 
 /// Why what a file is to hold isn't there.
-#[derive(Clone, Copy, Debug, PartialEq, Eq)]
+#[derive(Clone, Copy)]
 pub enum FileFault {
     /// The file can't be read.
     Unread,
@@ -44,10 +44,20 @@ pub fn read_all<I: Read>(alloc: Global, input: &mut I) -> Result<Vec<u8>, FileFa
 pub fn open_file<R: Files>(files: &R, path: &[u8]) -> Result<R::File, FileFault>
     ensures refused { IfErr result IsUnread }
 {
-    let path = str::from_utf8(path).map_err(|_| FileFault::Unread)?;
+    let Ok(path) = str::from_utf8(path) else {
+        return Err(FileFault::Unread);
+    };
     match fs::open(files, path) {
         Ok(file) => Ok(file),
         Err(error) => Err(read_fault(&error)),
+    }
+}
+
+/// How long a file is, where that is told.
+fn length_of<F: OpenFile>(file: &F) -> u64 {
+    match file.metadata() {
+        Ok(metadata) => metadata.len(),
+        Err(_) => 0,
     }
 }
 
@@ -60,8 +70,7 @@ pub fn read_file<R: AllocGlobal + Files>(rt: &R, path: &[u8]) -> Result<Vec<u8>,
 {
     let mut file = open_file(rt, path)?;
     // Room for all of it is made at once, as a list that grows is copied time and again.
-    let length = file.metadata().map_or(0, |metadata| metadata.len());
-    let room = usize::try_from(length).unwrap_or(usize::MAX);
+    let room = usize::try_from(length_of(&file)).unwrap_or(usize::MAX);
     let Ok(mut bytes) = Vec::with_capacity(rt.alloc(), room) else {
         return Err(FileFault::Refused(VolError::Memory));
     };

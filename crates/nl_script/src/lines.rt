@@ -21,6 +21,7 @@ use crate::status::{LineResult, Status};
 use crate::telling::tell_all;
 use crate::volume::Volume;
 use nl_commands::{CheckpointRange, Command, LineError, read_line};
+use nl_lanes::FileReader;
 use nl_protect::Config;
 use nl_texts as texts;
 use nl_texts::SegmentRow;
@@ -263,10 +264,10 @@ fn clean<V: Volume, W: Write>(
 }
 
 /// Reads files of a mount by the readers, where it is held, up to the first that they don't find.
-fn first_files<V: Volume, R: Threads + Sync>(
+fn first_files<V: Volume, P: FileReader<V::Book> + Send, R: Threads + Sync>(
     alloc: Global,
     volume: &V,
-    readers: &mut Readers<'_, V::Book, R>,
+    readers: &mut Readers<'_, P, R>,
     mount: MountNumber,
     paths: &[Items<u8>],
 ) -> Result<Vec<Reply>, VolError>
@@ -282,10 +283,10 @@ fn first_files<V: Volume, R: Threads + Sync>(
 }
 
 /// Reads files of a mount. The volume itself is asked from the first one on that the readers don't find.
-fn read_files<V: Volume, R: Threads + Sync>(
+fn read_files<V: Volume, P: FileReader<V::Book> + Send, R: Threads + Sync>(
     alloc: Global,
     volume: &mut V,
-    readers: &mut Readers<'_, V::Book, R>,
+    readers: &mut Readers<'_, P, R>,
     mount: MountNumber,
     paths: &[Items<u8>],
 ) -> Result<(Vec<Event>, Vec<Reply>), VolError>
@@ -321,10 +322,10 @@ fn tell_files<W: Write>(number: u64, events: &[Event], replies: &[Reply], out: &
 }
 
 /// Reads files of a mount, and tells of them.
-fn show_files<V: Volume, R: Threads + Sync, W: Write>(
+fn show_files<V: Volume, P: FileReader<V::Book> + Send, R: Threads + Sync, W: Write>(
     alloc: Global,
     volume: &mut V,
-    readers: &mut Readers<'_, V::Book, R>,
+    readers: &mut Readers<'_, P, R>,
     number: u64,
     mount: MountNumber,
     paths: &[Items<u8>],
@@ -341,10 +342,10 @@ fn show_files<V: Volume, R: Threads + Sync, W: Write>(
     }
 }
 
-fn run_command<V: Volume, R: Threads + Sync, W: Write>(
+fn run_command<V: Volume, P: FileReader<V::Book> + Send, R: Threads + Sync, W: Write>(
     alloc: Global,
     volume: &mut V,
-    readers: &mut Readers<'_, V::Book, R>,
+    readers: &mut Readers<'_, P, R>,
     config: &Config,
     moment: &mut u64,
     number: u64,
@@ -374,10 +375,10 @@ fn run_command<V: Volume, R: Threads + Sync, W: Write>(
 
 /// Runs a line, without its line break, and writes what is told of it. Rounds of cleaning go by the
 /// configuration, and files of a mount are read by the readers.
-pub fn run_line<V: Volume, R: Threads + Sync, W: Write>(
+pub fn run_line<V: Volume, P: FileReader<V::Book> + Send, R: Threads + Sync, W: Write>(
     alloc: Global,
     volume: &mut V,
-    readers: &mut Readers<'_, V::Book, R>,
+    readers: &mut Readers<'_, P, R>,
     config: &Config,
     moment: &mut u64,
     number: u64,

@@ -7,7 +7,7 @@ ghost use Rattle.nl_types.specs.declared.reply.Answer.TheVariants as answered;
 ghost use Rattle.nl_script.specs.FileReads.{AreFirstFiles, is_bad_mount, job_of, reply_of};
 
 use crate::events::MOST_BYTES;
-use nl_mounts::{Gate, JobAnswer, Port, ReadJob, read_many};
+use nl_lanes::{FileReader, Gate, JobAnswer, ReadJob, read_many};
 use nl_publish::{Mount, Volumes};
 use nl_types::{Answer, Items, Reply, VolError};
 use std::alloc::{AllocError, Global};
@@ -15,11 +15,11 @@ use std::thread::Threads;
 
 /// What reads files side by side.
 #[derive(Drop)]
-pub struct Readers<'a, J: Volumes, R> {
+pub struct Readers<'a, P, R> {
     /// What makes threads.
     pub rt: &'a R,
     /// Ports of the volume whose mounts are read, each for a thread of its own.
-    pub ports: Vec<Port<J>>,
+    pub ports: Vec<P>,
 }
 
 /// Nothing stands round a read.
@@ -80,18 +80,20 @@ fn count_found(replies: &[Reply]) -> usize
     replies.len()
 }
 
-impl<J: Volumes + Send + Sync, R: Threads + Sync> Readers<'_, J, R> {
+impl<P, R: Threads + Sync> Readers<'_, P, R> {
     /// Reads whole files of a mount side by side, and answers the first of them: those before one whose port
     /// doesn't find the mount, and none without ports.
     ///
     /// # Errors
     /// `Memory`. Each file has refusals of its own.
-    pub(crate) fn read_files(
+    pub(crate) fn read_files<J: Volumes + Send + Sync>(
         &mut self,
         alloc: Global,
         mount: &Mount<J>,
         paths: &[Items<u8>],
     ) -> Result<Vec<Reply>, VolError>
+    where
+        P: FileReader<J> + Send,
         ensures files { IfOk result (λ replies. AreFirstFiles mount.now paths.now replies.items) }
         ensures refused { IsOkUnless result VolError.Memory }
     {

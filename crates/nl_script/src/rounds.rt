@@ -11,7 +11,7 @@ use std::io;
 use std::io::Write;
 
 /// What a round came to. A count that 64 bits can't hold stays at the greatest that they can.
-#[derive(Clone, Copy, Debug, PartialEq, Eq)]
+#[derive(Clone, Copy)]
 pub struct RoundSum {
     /// Checkpoints that expired.
     pub expired: u64,

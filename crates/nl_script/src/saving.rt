@@ -13,7 +13,7 @@ use std::{fs, io, str};
 const TRIES: usize = 100;
 
 /// Another program has the lock of the file.
-#[derive(Clone, Copy, Debug, PartialEq, Eq)]
+#[derive(Clone, Copy)]
 pub struct InUse;
 
 /// Where a file is written in the end, and what stood there at the start. A regular file is locked from then
@@ -39,19 +39,30 @@ pub enum Saved {
 
 // ---- the start
 
-/// A file that is there, open to be locked; none where it can't be opened. It is neither made nor changed.
-/// Network file systems lock only what is open to be written. If a pipe came to stand there just now, one
-/// that may be read and written is opened at once; else its other end is awaited.
+/// A file that is there, open to be read or written; none where it can't be. It is neither made nor changed.
+fn open_to<R: Files<File = File>>(
+    files: &R,
+    path: &str,
+    reads: bool,
+    writes: bool,
+) -> Option<File> {
+    let mut how = OpenOptions::new();
+    let _ = how.read(reads);
+    let _ = how.write(writes);
+    how.open(files, path).ok()
+}
+
+/// A file that is there, open to be locked; none where it can't be opened. Network file systems lock only
+/// what is open to be written. If a pipe came to stand there just now, one that may be read and written is
+/// opened at once; else its other end is awaited.
 fn open_old<R: Files<File = File>>(files: &R, path: &str) -> Option<File> {
-    for (reads, writes) in [(true, true), (true, false), (false, true)] {
-        let mut how = OpenOptions::new();
-        let _ = how.read(reads);
-        let _ = how.write(writes);
-        if let Ok(file) = how.open(files, path) {
-            return Some(file);
-        }
+    if let Some(file) = open_to(files, path, true, true) {
+        return Some(file);
     }
-    None
+    if let Some(file) = open_to(files, path, true, false) {
+        return Some(file);
+    }
+    open_to(files, path, false, true)
 }
 
 /// What came of one try to lock what stands at a path.
@@ -85,6 +96,16 @@ fn locked<R: Files>(files: &R, path: &str, file: File) -> Try {
     }
 }
 
+/// What came of one try to lock a regular file that was opened at a path.
+fn try_file<R: Files>(files: &R, path: &str, file: File) -> Try {
+    match file.try_lock() {
+        Ok(()) => locked(files, path, file),
+        Err(TryLockError::WouldBlock) => Try::Busy,
+        // Opening it may have made another file of it, where a layer of the system is only read.
+        Err(TryLockError::Error(_)) => Try::Done(found_at(files, path).ok(), None),
+    }
+}
+
 fn try_once<R: Files<File = File>>(files: &R, path: &str) -> Try {
     let Ok(found) = found_at(files, path) else {
         return Try::Done(None, None);
@@ -92,14 +113,9 @@ fn try_once<R: Files<File = File>>(files: &R, path: &str) -> Try {
     if !matches!(found, Found::Regular(_)) {
         return Try::Done(Some(found), None);
     }
-    let Some(file) = open_old(files, path) else {
-        return Try::Done(Some(found), None);
-    };
-    match file.try_lock() {
-        Ok(()) => locked(files, path, file),
-        Err(TryLockError::WouldBlock) => Try::Busy,
-        // Opening it may have made another file of it, where a layer of the system is only read.
-        Err(TryLockError::Error(_)) => Try::Done(found_at(files, path).ok(), None),
+    match open_old(files, path) {
+        Some(file) => try_file(files, path, file),
+        None => Try::Done(Some(found), None),
     }
 }
 
@@ -207,32 +223,48 @@ fn old_file(told: Option<Metadata>, found: Option<Found>) -> Option<Metadata> {
     }
 }
 
+/// Fills a new file, and puts it at a path where this was found at the start. Returns whether it did.
+fn fill_and_put<R: Files>(
+    files: &R,
+    side: &mut Side,
+    target: Path<'_>,
+    old: Option<&Metadata>,
+    found: Option<Found>,
+    bytes: &[u8],
+) -> io::Result<bool> {
+    side.fill(old, bytes)?;
+    put(files, side.path.as_path(), target, found)
+}
+
 impl SavePlace<'_> {
+    /// Keeps the lock of a new file that was put in its place. Another one is kept beside it.
+    fn keep(&mut self, side: Side, is_put: bool) -> Saved {
+        if is_put {
+            self.locked = Some(side.file);
+            return Saved::There;
+        }
+        side.shut();
+        Saved::Beside(side.path)
+    }
+
     /// Writes a new file beside the old one, and then puts it there.
     fn replace<R: AllocGlobal + Files<File = File>>(
         &mut self,
         rt: &R,
-        path: &str,
+        target: Path<'_>,
         bytes: &[u8],
     ) -> io::Result<Saved> {
-        let target = behind_links(rt, path)?;
-        let target = target.as_path();
         let told = told_at(rt, target)?;
         let is_new = told.is_none() && self.found == Some(Found::Nothing);
         let old = old_file(told, self.found);
         let mut side = Side::create(rt, target, !is_new)?;
-        let put = side
-            .fill(old.as_ref(), bytes)
-            .and_then(|()| put(rt, side.path.as_path(), target, self.found));
-        if put.is_err() {
-            side.remove(rt);
+        match fill_and_put(rt, &mut side, target, old.as_ref(), self.found, bytes) {
+            Ok(is_put) => Ok(self.keep(side, is_put)),
+            Err(error) => {
+                side.remove(rt);
+                Err(error)
+            }
         }
-        if put? {
-            self.locked = Some(side.file);
-            return Ok(Saved::There);
-        }
-        side.shut();
-        Ok(Saved::Beside(side.path))
     }
 
     /// Writes the file, if what stands there is what stood there at the start. It is replaced whole or not at
@@ -248,11 +280,14 @@ impl SavePlace<'_> {
         rt: &R,
         bytes: &[u8],
     ) -> io::Result<Saved> {
-        let path = str::from_utf8(self.path).map_err(|_| io::Error::from(ErrorKind::InvalidInput))?;
+        let Ok(path) = str::from_utf8(self.path) else {
+            return Err(io::Error::from(ErrorKind::InvalidInput));
+        };
         if self.found == Some(Found::Other) && found_at(rt, path)? == Found::Other {
             write_into(rt, path, bytes)?;
             return Ok(Saved::There);
         }
-        self.replace(rt, path, bytes)
+        let target = behind_links(rt, path)?;
+        self.replace(rt, target.as_path(), bytes)
     }
 }

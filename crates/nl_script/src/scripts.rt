@@ -11,6 +11,7 @@ use crate::readers::Readers;
 use crate::reading::{Next, next_line};
 use crate::status::{LineResult, Status};
 use crate::volume::Volume;
+use nl_lanes::FileReader;
 use nl_protect::Config;
 use nl_texts::{self as texts, StandardStream};
 use nl_types::VolError;
@@ -20,7 +21,7 @@ use std::io::{BufRead, Write};
 use std::thread::Threads;
 
 /// How a script went.
-#[derive(Clone, Copy, Debug, PartialEq, Eq)]
+#[derive(Clone, Copy)]
 pub struct Done {
     /// The moment that the last `at` set, in whole seconds.
     pub moment: u64,
@@ -75,10 +76,10 @@ impl Done {
 }
 
 /// Runs a line, and hands on at once what is told of it.
-fn run_flushed<V: Volume, R: Threads + Sync, W: Write>(
+fn run_flushed<V: Volume, P: FileReader<V::Book> + Send, R: Threads + Sync, W: Write>(
     alloc: Global,
     volume: &mut V,
-    readers: &mut Readers<'_, V::Book, R>,
+    readers: &mut Readers<'_, P, R>,
     config: &Config,
     moment: &mut u64,
     number: u64,
@@ -98,10 +99,10 @@ fn run_flushed<V: Volume, R: Threads + Sync, W: Write>(
 
 /// Runs a line, and counts what it came to. Returns whether the script goes on: what is told of the line was
 /// written.
-fn run_counted<V: Volume, R: Threads + Sync, W: Write>(
+fn run_counted<V: Volume, P: FileReader<V::Book> + Send, R: Threads + Sync, W: Write>(
     alloc: Global,
     volume: &mut V,
-    readers: &mut Readers<'_, V::Book, R>,
+    readers: &mut Readers<'_, P, R>,
     config: &Config,
     done: &mut Done,
     number: u64,
@@ -148,10 +149,10 @@ fn refuse_counted<W: Write>(done: &mut Done, number: u64, out: &mut W) -> bool
 }
 
 /// Does the next line, and counts it. Returns whether the script goes on.
-fn run_next<V: Volume, R: Threads + Sync, I: BufRead, O: Write>(
+fn run_next<V: Volume, P: FileReader<V::Book> + Send, R: Threads + Sync, I: BufRead, O: Write>(
     alloc: Global,
     volume: &mut V,
-    readers: &mut Readers<'_, V::Book, R>,
+    readers: &mut Readers<'_, P, R>,
     config: &Config,
     done: &mut Done,
     number: u64,
@@ -189,10 +190,16 @@ fn run_next<V: Volume, R: Threads + Sync, I: BufRead, O: Write>(
 /// done, and what follows one that can't be told of isn't done either. A line that there is no memory for is
 /// refused by `Memory`, and the script goes on behind it. Rounds of cleaning go by the configuration, and
 /// files of a mount are read by the readers.
-pub fn script<V: Volume, R: Threads + Sync, I: BufRead + Drop, O: Write>(
+pub fn script<
+    V: Volume,
+    P: FileReader<V::Book> + Send,
+    R: Threads + Sync,
+    I: BufRead + Drop,
+    O: Write,
+>(
     alloc: Global,
     volume: &mut V,
-    readers: &mut Readers<'_, V::Book, R>,
+    readers: &mut Readers<'_, P, R>,
     config: &Config,
     moment: u64,
     mut input: I,

@@ -48,6 +48,26 @@ fn create_new<R: Files<File = File>>(files: &R, path: Path<'_>, mode: u32) -> io
     how.open(files, path)
 }
 
+/// The path of a new file beside a path.
+fn side_path(alloc: Global, target: Path<'_>, name: &str, number: u8) -> io::Result<PathBuf> {
+    let side_name = side_name(alloc, name, number)?;
+    let path = target.with_file_name(alloc, side_name.as_str())?;
+    Ok(path)
+}
+
+/// Makes a new file at a path, unless the path is taken.
+fn create_at<R: Files<File = File>>(
+    files: &R,
+    path: PathBuf,
+    mode: u32,
+) -> io::Result<Option<Side>> {
+    match create_new(files, path.as_path(), mode) {
+        Ok(file) => Ok(Some(Side { file, path })),
+        Err(error) if error.kind() == ErrorKind::AlreadyExists => Ok(None),
+        Err(error) => Err(error),
+    }
+}
+
 /// Makes a new file beside a path, under the first of its names that is free. What stands at one of them is
 /// neither opened nor moved.
 fn create_beside<R: AllocGlobal + Files<File = File>>(
@@ -55,16 +75,13 @@ fn create_beside<R: AllocGlobal + Files<File = File>>(
     target: Path<'_>,
     mode: u32,
 ) -> io::Result<Side> {
-    let name = target
-        .file_name()
-        .ok_or_else(|| io::Error::from(ErrorKind::InvalidInput))?;
+    let Some(name) = target.file_name() else {
+        return Err(io::Error::from(ErrorKind::InvalidInput));
+    };
     for number in 0..NAMES {
-        let side_name = side_name(rt.alloc(), name, number)?;
-        let path = target.with_file_name(rt.alloc(), side_name.as_str())?;
-        match create_new(rt, path.as_path(), mode) {
-            Err(error) if error.kind() == ErrorKind::AlreadyExists => {}
-            Err(error) => return Err(error),
-            Ok(file) => return Ok(Side { file, path }),
+        let path = side_path(rt.alloc(), target, name, number)?;
+        if let Some(side) = create_at(rt, path, mode)? {
+            return Ok(side);
         }
     }
     Err(io::Error::from(ErrorKind::AlreadyExists))

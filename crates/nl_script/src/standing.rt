@@ -14,7 +14,7 @@ use std::{fs, io};
 const MOST_LINKS: usize = 40;
 
 /// What tells one state of a regular file from another.
-#[derive(Clone, Copy, Debug, PartialEq, Eq)]
+#[derive(Clone, Copy, PartialEq)]
 pub struct FileState {
     device: u64,
     inode: u64,
@@ -25,7 +25,7 @@ pub struct FileState {
 }
 
 /// What stands at a path.
-#[derive(Clone, Copy, Debug, PartialEq, Eq)]
+#[derive(Clone, Copy, PartialEq)]
 pub enum Found {
     /// Nothing.
     Nothing,
@@ -91,10 +91,17 @@ pub fn told_at<R: Files>(files: &R, path: Path<'_>) -> io::Result<Option<Metadat
     unless_absent(fs::symlink_metadata(files, path))
 }
 
+/// Whether a link stands at a path.
+fn is_link<R: Files>(files: &R, path: Path<'_>) -> io::Result<bool> {
+    match told_at(files, path)? {
+        Some(metadata) => Ok(metadata.is_symlink()),
+        None => Ok(false),
+    }
+}
+
 /// The path that a link leads to, or none where no link stands at the path.
 fn next_path<R: AllocGlobal + Files>(rt: &R, path: Path<'_>) -> io::Result<Option<PathBuf>> {
-    let is_link = told_at(rt, path)?.is_some_and(|metadata| metadata.is_symlink());
-    if !is_link {
+    if !is_link(rt, path)? {
         return Ok(None);
     }
     let link = fs::read_link(rt, path)?;

@@ -3,7 +3,7 @@
 use std::io;
 
 /// What a line came to.
-#[derive(Clone, Copy, Debug, PartialEq, Eq)]
+#[derive(Clone, Copy)]
 pub enum Status {
     /// It did what it asked for.
     Fine,

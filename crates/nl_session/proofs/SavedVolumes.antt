@@ -2,10 +2,10 @@
 use Rattle.std.proofs.Common.{◌≡◌, ◌∙◌, subst}
 use Rattle.nl_types.specs.Worlds.{World}
 use Rattle.nl_image.specs.Laws.{PresentMarkStays}
-use Rattle.nl_core.specs.Layout.{Layout, MeansWorld}
+use Rattle.nl_commit.specs.Layout.{Layout, MeansWorld}
 use Rattle.nl_core.specs.Opened.{IsAtRest}
 use Rattle.nl_core.specs.PenImages.{CanBeClosed, ImagesMeanOneWorld, IsPenImage}
-use Rattle.nl_core.specs.Volume.{Lists, kept_by}
+use Rattle.nl_commit.specs.Volume.{Lists, kept_by}
 use Rattle.nl_session.specs.Laws.{SavedVolumesComeBack}
 
 -- a pen at rest could be closed at once

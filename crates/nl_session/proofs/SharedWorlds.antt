@@ -20,9 +20,9 @@ use Rattle.nl_types.specs.Trees.{Tree}
 use Rattle.nl_types.specs.Worlds.{Copy, IsWorld, Outcome, Reply, World, copy_at, kept_copy, mounted, step}
 use Rattle.nl_types.specs.Facts.EventCases.{after_mount, either_gives, refused_if_gives}
 use Rattle.nl_types.specs.Facts.NumberedLists.{AllBelow, find-push_same, list_all_weaken}
-use Rattle.nl_core.specs.Commits.{image_of}
-use Rattle.nl_core.specs.Layout.{DoesIn, Layout, cleaned}
-use Rattle.nl_core.specs.Notes.{shared}
+use Rattle.nl_commit.specs.Commits.{image_of}
+use Rattle.nl_commit.specs.Layout.{DoesIn, Layout, cleaned}
+use Rattle.nl_commit.specs.Notes.{shared}
 use Rattle.nl_publish.specs.Locks.{mount_reply}
 use Rattle.nl_publish.specs.Mounts.{Claim}
 use Rattle.nl_publish.specs.Told.{LockedRunsLeadOn, TreeOn}

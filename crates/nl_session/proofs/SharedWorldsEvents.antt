@@ -15,13 +15,14 @@ use Rattle.nl_types.specs.declared.event.Event.TheVariants.{Mount, Unmount}
 use Rattle.nl_types.specs.Calls.{IsUnlessMemory, and_then, reply_to}
 use Rattle.nl_types.specs.Laws.{GivesBack}
 use Rattle.nl_types.specs.Worlds.{Copy, Reply, World, copy_at, formatted, mount_read}
-use Rattle.nl_core.specs.Layout.{DoesIn, Layout, MeansWorld}
-use Rattle.nl_core.specs.Notes.{shared}
+use Rattle.nl_commit.specs.Layout.{DoesIn, Layout, MeansWorld}
+use Rattle.nl_commit.specs.Notes.{shared}
 use Rattle.nl_cleaner.specs.Job.{JobView, next_by, next_cleaning}
+use Rattle.nl_cleaner.specs.Rounds.{cleaning_habits}
 use Rattle.nl_cleaner.specs.declared.job.Stage.{Stage}
 use Rattle.nl_cleaner.specs.declared.job.Stage.TheVariants.{Cleaning, Ended, Expiring}
-use Rattle.nl_core.specs.CleanerViews.{cleaning_event}
-use Rattle.nl_core.specs.CleaningEvents.{needed_by}
+use Rattle.nl_commit.specs.CleanerViews.{cleaning_event}
+use Rattle.nl_commit.specs.CleaningEvents.{needed_by}
 use Rattle.nl_vstore.specs.Located.{needed_count}
 use Rattle.nl_publish.specs.Cleaning.{CleanRan}
 use Rattle.nl_publish.specs.Cleaning as cleaning
@@ -31,8 +32,8 @@ use Rattle.nl_publish.specs.Mounts.{Claim}
 use Rattle.nl_mounts.specs.Sharing.{MountsCopy}
 use Rattle.nl_session.specs.SharedLaws.{Came, ComesBeside, DifferAll, IsBeside, IsDoneBeside, IsMountIn, IsReadBeside, IsSteppedBeside, KeptVolumesAreBeside, MountLost, NewVolumesAreBeside, Next, NoNext, SharedEventsFollowWorlds, SharedStepsFollowWorlds, Stayed, number_of}
 use Rattle.nl_session.specs.Sessions.{IsUnused}
-use Rattle.nl_session.specs.SharedVolumes.{IsHeldTold, IsRoundOver, MountComes, ReadComes, Sharing, mounts_left_by, mount_of, without_mount}
-use Rattle.nl_session.specs.SharedVolumes as volume
+use Rattle.nl_shared.specs.SharedVolumes.{IsHeldTold, IsRoundOver, MountComes, ReadComes, Sharing, mounts_left_by, mount_of, without_mount}
+use Rattle.nl_shared.specs.SharedVolumes as volume
 use Rattle.nl_script.specs.FileReads.{IsToldThrough}
 use Rattle.nl_session.proofs.SharedWorlds.{Beside, Laws, all_hold, back_refused, mount_found, mount_is_new}
 use Rattle.nl_session.proofs.SharedWorldsMounts.{all_and_one, differ_more, differ_none, differ_rest, differ_some, each_so, found_so, left_differ, left_others, left_so}
@@ -300,7 +301,7 @@ next_gives_none Cleaning job l asked is = left_gives_none job.left job.moment l 
 next_gives_none Ended job l asked is = absurd (cc is)
 
 stepped : (laws : Laws) (w : World) (old new : Sharing) (job next : JobView) (reply : Option Reply)
-    → IsBeside w old → CleanRan old.held job reply new.held next
+    → IsBeside w old → CleanRan cleaning_habits old.held job reply new.held next
     → new.mounts ≡ old.mounts → IsSteppedBeside w old job reply new
 stepped laws w old new job next reply before
     (cleaning.Stepped begun asked answer ready is goes replied now) same =

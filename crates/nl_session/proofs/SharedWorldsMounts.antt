@@ -10,7 +10,7 @@ use Rattle.std.specs.Prelude.{slice_get}
 use Rattle.nl_publish.specs.Locks.{listed}
 use Rattle.nl_publish.specs.Mounts.{Claim}
 use Rattle.nl_session.specs.SharedLaws.{DifferAll, number_of}
-use Rattle.nl_session.specs.SharedVolumes.{is_numbered, mount_of, removed_at, without_mount}
+use Rattle.nl_shared.specs.SharedVolumes.{is_numbered, mount_of, removed_at, without_mount}
 
 -- ---- what holds of all
 

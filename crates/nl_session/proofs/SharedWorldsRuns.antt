@@ -8,12 +8,12 @@ use Rattle.nl_types.specs.Laws.{GivesBack}
 use Rattle.nl_types.specs.Runs.{Run}
 use Rattle.nl_types.specs.Worlds.{Reply, World}
 use Rattle.nl_types.specs.Facts.Runs.{Run-more}
-use Rattle.nl_core.specs.Layout.{DoesIn, MeansWorld}
-use Rattle.nl_core.specs.Notes.{shared}
+use Rattle.nl_commit.specs.Layout.{DoesIn, MeansWorld}
+use Rattle.nl_commit.specs.Notes.{shared}
 use Rattle.nl_publish.specs.Locks.{Goes, HeldPen, IsReady, IsStuck, as_replies, given_back, listed}
 use Rattle.nl_publish.specs.Mounts.{Claim}
 use Rattle.nl_session.specs.SharedLaws.{ComesBeside, DifferAll, IsBeside, IsMountIn, LeadsBeside, StaysBeside, number_of}
-use Rattle.nl_session.specs.SharedVolumes.{Sharing}
+use Rattle.nl_shared.specs.SharedVolumes.{Sharing}
 use Rattle.nl_session.proofs.SharedWorlds.{Beside, Laws, all_hold}
 use Rattle.nl_session.proofs.SharedWorldsMounts.{differ_none, differ_rest, each_so, none_is_lost}
 

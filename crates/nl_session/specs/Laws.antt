@@ -1,17 +1,9 @@
 -- What sessions know of their volumes.
-use Rattle.std.specs.Prelude.{◌≡◌, ℕ, Bool, List}
+use Rattle.std.specs.Prelude.{◌≡◌, ℕ, List}
 use Rattle.nl_types.specs.Worlds.{World}
-use Rattle.nl_core.specs.Layout.{Layout, MeansWorld}
-use Rattle.nl_session.specs.Beginnings.{IsOpenedPen}
-use Rattle.nl_session.specs.Endings.{SavesFrom}
-use Rattle.nl_types.specs.declared.error.VolError.{VolError}
-use Rattle.nl_script.specs.Lines.{IsUntold}
-use Rattle.nl_session.specs.SharedVolumes.{Sharing, shared_habits}
-
--- No shared volume refuses to tell of a segment that there is, or of its needed blocks.
-abbrev pub VolumesTellOfSegments : Type 0
-VolumesTellOfSegments =
-    (long : Bool) (s : Sharing) (error : VolError) → IsUntold shared_habits long s error → ⊥
+use Rattle.nl_commit.specs.Layout.{Layout, MeansWorld}
+use Rattle.nl_keeping.specs.Beginnings.{IsOpenedPen}
+use Rattle.nl_keeping.specs.Endings.{SavesFrom}
 
 -- A volume that was saved comes back: what is opened of its image means the world that was saved, where no
 -- mount number was given yet.

@@ -11,16 +11,16 @@ use Rattle.nl_types.specs.declared.reply.Answer.{Answer}
 use Rattle.nl_types.specs.Calls.{IsUnlessMemory}
 use Rattle.nl_types.specs.Runs.{Run}
 use Rattle.nl_types.specs.Worlds.{Reply, World, formatted, mount_read}
-use Rattle.nl_core.specs.Commits.{image_of}
-use Rattle.nl_core.specs.Layout.{DoesIn, Layout, MeansWorld}
-use Rattle.nl_core.specs.Notes.{shared}
+use Rattle.nl_commit.specs.Commits.{image_of}
+use Rattle.nl_commit.specs.Layout.{DoesIn, Layout, MeansWorld}
+use Rattle.nl_commit.specs.Notes.{shared}
 use Rattle.nl_cleaner.specs.Job.{JobView, next_event}
 use Rattle.nl_publish.specs.Locks.{as_replies, given_back, listed, mount_reply}
 use Rattle.nl_publish.specs.Mounts.{Claim}
 use Rattle.nl_publish.specs.Told.{ShowsCopy}
-use Rattle.nl_session.specs.Beginnings.{Kept, New}
+use Rattle.nl_keeping.specs.Beginnings.{Kept, New}
 use Rattle.nl_session.specs.Sessions.{IsVolumeOf}
-use Rattle.nl_session.specs.SharedVolumes.{Sharing, shared_does, shared_steps}
+use Rattle.nl_shared.specs.SharedVolumes.{Sharing, shared_does, shared_steps}
 
 -- ---- a volume beside a world
 

@@ -1,17 +1,11 @@
 //! What sessions know of their volumes, as contracts of functions that do nothing.
-ghost use Rattle.nl_session.specs.Laws.{SavedVolumesComeBack, VolumesTellOfSegments};
+ghost use Rattle.nl_session.specs.Laws.{SavedVolumesComeBack};
 ghost use Rattle.nl_session.specs.SharedLaws.{KeptVolumesAreBeside, NewVolumesAreBeside, SharedEventsFollowWorlds, SharedStepsFollowWorlds};
 
 use nl_core::laws::pens_of_one_image_mean_one_world;
 use nl_image::laws::store_images_have_the_present_mark;
 use nl_publish::laws::locked_runs_lead_on;
 use nl_types::laws::{copies_stay, mounts_stay};
-
-/// A volume tells of each segment that there is, and of its needed blocks. So `lssu` is refused for memory
-/// alone.
-pub fn volumes_tell_of_segments()
-    ensures { VolumesTellOfSegments }
-{}
 
 /// Where a shared volume is beside a world, each event on it is answered as that of plain files with whole
 /// copies, and it is beside a world then too. So are steps of rounds. A new volume is beside a new world, and

@@ -4,14 +4,8 @@
 //! kept by public contracts alone.
 #![tactic(auto)]
 
-mod ending;
-mod inputs;
 pub mod laws;
 mod sessions;
-mod shared;
-mod starting;
-mod telling;
 
+pub use nl_keeping::SessionEnd;
 pub use sessions::session;
-pub use shared::SharedVolume;
-pub use telling::SessionEnd;

@@ -1,2 +1,3 @@
 pub mod TreesStand
 pub mod NamesCounted
+pub mod UsedNumbers

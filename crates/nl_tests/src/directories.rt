@@ -108,18 +108,26 @@ fn begins_with_a(page: &Page) -> bool {
         && find(page, b"b").is_none()
 }
 
-/// The page of the four records. Refused by `BadImage` where they take not one block.
-fn page_of_four(alloc: Global) -> Result<Page, VolError> {
-    let blocks = packed(alloc, &records_of(alloc, &FOUR)?)?;
-    match blocks.as_slice() {
+/// The page of the one block of some. Refused by `BadImage` where there are none or more.
+fn page_of(alloc: Global, blocks: &[Block]) -> Result<Page, VolError> {
+    match blocks {
         [block] => Ok(Page::new(alloc, Block::new(*block.bytes()))?),
         _ => Err(VolError::BadImage(0)),
     }
 }
 
+fn page_of_four(alloc: Global) -> Result<Page, VolError> {
+    let blocks = packed(alloc, &records_of(alloc, &FOUR)?)?;
+    page_of(alloc, blocks.as_slice())
+}
+
+fn is_of_four(alloc: Global, page: &Page) -> Result<bool, VolError> {
+    Ok(spells_four(page) && begins_with_a(page) && reads_four(alloc, page)?)
+}
+
 fn has_four(alloc: Global) -> Result<bool, VolError> {
     let page = page_of_four(alloc)?;
-    Ok(spells_four(&page) && begins_with_a(&page) && reads_four(alloc, &page)?)
+    is_of_four(alloc, &page)
 }
 
 #[test]

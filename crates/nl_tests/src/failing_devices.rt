@@ -2,16 +2,16 @@
 //! then, and what they come to when they are asked for again.
 ghost use Rattle.std.specs.Prelude.{◌≡◌};
 
-use crate::events::{ALL, Call, PLAIN, Row, Want};
+use crate::events::{ALL, Call, Row, Want};
 use crate::logs::are_segments;
-use crate::ports::image_of;
 use crate::rows::first_unwanted;
+use crate::volumes::image_of;
 use nl_core::{Pen, geometry_of, open};
 use nl_device::{Device, FaultDevice, MemDevice};
 use nl_protect::{Amount, Config};
 use nl_publish::{Opened, Volumes};
 use nl_script::{Readers, script};
-use nl_session::SharedVolume;
+use nl_shared::SharedVolume;
 use nl_types::SegmentState::{Active, Dirty, Error};
 use nl_types::{BLOCK_SIZE, Geometry, SegmentState, VolError};
 use std::alloc::Global;
@@ -57,12 +57,12 @@ const FAILED_PUTS: &[FailedPuts] = &[
 const REFUSED: &[Row<'static>] = &[
     (Call::Create(b"/f"), Want::Done),
     (Call::Write(b"/f", 0, b"A"), Want::Written(1)),
-    (PLAIN, Want::Refused(VolError::Fault)),
+    (Call::Checkpoint, Want::Refused(VolError::Fault)),
     (Call::Mount(2), Want::Refused(VolError::NoCheckpoint)),
 ];
 
 const DONE: &[Row<'static>] = &[
-    (PLAIN, Want::Checkpoint(2)),
+    (Call::Checkpoint, Want::Checkpoint(2)),
     (Call::Read(b"/f", 0, ALL), Want::Bytes(b"A")),
 ];
 
@@ -137,21 +137,30 @@ fn leaves<D: Device>(
 
 /// The image of a volume behind a put that fails and the same checkpoint once more, empty where these come to
 /// something else.
+fn image_of_refused<D: Device>(
+    alloc: Global,
+    pen: &mut Pen<D>,
+    due: &FailedPuts,
+) -> Result<Vec<u8>, VolError> {
+    let (_, _, left, again, clean) = *due;
+    let is_refused = leaves(alloc, pen, refused(), left)?;
+    let is_done = leaves(alloc, pen, done(), again)?;
+    if is_refused && is_done && pen.segments().sustat().clean == clean {
+        image_of(alloc, pen)
+    } else {
+        Ok(Vec::new(alloc))
+    }
+}
+
+/// That image of a new volume of which the put of this number fails.
 fn image_behind(
     alloc: Global,
     put: u64,
     torn: bool,
     due: &FailedPuts,
 ) -> Result<Vec<u8>, VolError> {
-    let (_, _, left, again, clean) = *due;
     let mut pen = volume(alloc, put, 0, torn)?;
-    let is_refused = leaves(alloc, &mut pen, refused(), left)?;
-    let is_done = leaves(alloc, &mut pen, done(), again)?;
-    if is_refused && is_done && pen.segments().sustat().clean == clean {
-        image_of(alloc, &mut pen)
-    } else {
-        Ok(Vec::new(alloc))
-    }
+    image_of_refused(alloc, &mut pen, due)
 }
 
 /// Whether a put that fails leads to an image, torn or not.

@@ -7,19 +7,16 @@
 //! over a constant's value at each step of the function that names it, and its time grows faster than the
 //! value.
 //!
-//! But for `streams`, `beside`, `library`, `commits`, `ports` and `failing_devices`, a step of a row that is
-//! refused for memory has to leave what is seen as it was, and is done again: so with one allocation failing,
-//! each row still passes (`rt try --test --fail-alloc N`).
+//! Rows of events with due replies are data: `tests/data/events`, which `nl_trials` does. Here stand tests
+//! that reach below a volume's events, or take a device, a writer or a stream of their own.
+//!
+//! A step of a row of `trees` and `failing_devices` that is refused for memory has to leave what is seen as it
+//! was, and is done again; so are the steps of `logs` and `numbers`. So with one allocation failing, each of
+//! these rows still passes (`rt try --test --fail-alloc N`).
 #![tactic(auto)]
 
 #[cfg(test)]
-mod beside;
-#[cfg(test)]
 mod calls;
-#[cfg(test)]
-mod checkpoints;
-#[cfg(test)]
-mod commits;
 #[cfg(test)]
 mod directories;
 #[cfg(test)]
@@ -27,21 +24,17 @@ mod events;
 #[cfg(test)]
 mod failing_devices;
 #[cfg(test)]
-mod file_calls;
-#[cfg(test)]
 mod formats;
 #[cfg(test)]
-mod growing;
+mod hostile;
 #[cfg(test)]
-mod library;
+mod images;
 #[cfg(test)]
 mod lines;
 #[cfg(test)]
 mod logs;
 #[cfg(test)]
 mod numbers;
-#[cfg(test)]
-mod ports;
 #[cfg(test)]
 mod protection;
 #[cfg(test)]
@@ -53,9 +46,9 @@ mod rows;
 #[cfg(test)]
 mod scripts;
 #[cfg(test)]
-mod segments;
-#[cfg(test)]
 mod streams;
+#[cfg(test)]
+mod tree_rows;
 #[cfg(test)]
 mod trees;
 #[cfg(test)]

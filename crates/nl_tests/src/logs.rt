@@ -245,11 +245,12 @@ pub(crate) fn space(alloc: Global, shape: Shape) -> Result<LogSpace<FaultDevice>
     LogSpace::new(alloc, device, geometry)
 }
 
-/// Rows on a new device of a shape.
-type Case = (Shape, &'static [&'static [Step<'static>]]);
-
-fn other_in(alloc: Global, case: &Case) -> Result<Option<(usize, usize)>, VolError> {
-    let (shape, rows) = *case;
+/// The first step of rows on a new device of a shape that comes out otherwise.
+fn other_in(
+    alloc: Global,
+    shape: Shape,
+    rows: &[&[Step<'_>]],
+) -> Result<Option<(usize, usize)>, VolError> {
     let mut space = space(alloc, shape)?;
     first_other(alloc, &mut space, rows)
 }
@@ -337,29 +338,63 @@ const LARGE: &[Step<'static>] = &[
     Step::Stored(1, 0, Stored::Summary(&[61, 62])),
 ];
 
-const FILLED: &[Case] = &[
-    (
-        (8, 4, NONE_FAILS),
-        &[NINE, HAS_NINE, NOTHING, HAS_NINE, FREED],
-    ),
-    ((8, 4, NONE_FAILS), &[NINE, SEVEN]),
-    ((8, 4, NONE_FAILS), &[NINE, EIGHT]),
-    ((8, 4, NONE_FAILS), &[NINE, THIRTEEN]),
-    ((8, 4, NONE_FAILS), &[NINE, FOURTEEN]),
-    // Where space lacks nothing is put: the next put would fail.
-    ((8, 4, 14), &[NINE, EIGHT, FOURTEEN, HAS_NINE, FAILS]),
-    ((8, 64, NONE_FAILS), &[LARGE]),
-];
+const SMALL: Shape = (8, 4, NONE_FAILS);
 
-fn filled() -> &'static [Case] {
-    FILLED
+type Rows = &'static [&'static [Step<'static>]];
+
+const NINE_ROWS: Rows = &[NINE, HAS_NINE, NOTHING, HAS_NINE, FREED];
+
+fn nine() -> Rows {
+    NINE_ROWS
+}
+
+const NINE_AND_SEVEN_ROWS: Rows = &[NINE, SEVEN];
+
+fn nine_and_seven() -> Rows {
+    NINE_AND_SEVEN_ROWS
+}
+
+const NINE_AND_EIGHT_ROWS: Rows = &[NINE, EIGHT];
+
+fn nine_and_eight() -> Rows {
+    NINE_AND_EIGHT_ROWS
+}
+
+const NINE_AND_THIRTEEN_ROWS: Rows = &[NINE, THIRTEEN];
+
+fn nine_and_thirteen() -> Rows {
+    NINE_AND_THIRTEEN_ROWS
+}
+
+const NINE_AND_FOURTEEN_ROWS: Rows = &[NINE, FOURTEEN];
+
+fn nine_and_fourteen() -> Rows {
+    NINE_AND_FOURTEEN_ROWS
+}
+
+/// Where space lacks nothing is put: the next put would fail.
+const WITHOUT_SPACE_ROWS: Rows = &[NINE, EIGHT, FOURTEEN, HAS_NINE, FAILS];
+
+fn without_space() -> Rows {
+    WITHOUT_SPACE_ROWS
+}
+
+const LARGE_ROWS: Rows = &[LARGE];
+
+fn large() -> Rows {
+    LARGE_ROWS
 }
 
 #[test]
 fn logs_fill_segments(rt: HostRuntime) -> Result<(), Fail> {
-    for case in filled() {
-        assert_eq!(rt; other_in(rt.alloc(), case)?, None);
-    }
+    let alloc = rt.alloc();
+    assert_eq!(rt; other_in(alloc, SMALL, nine())?, None);
+    assert_eq!(rt; other_in(alloc, SMALL, nine_and_seven())?, None);
+    assert_eq!(rt; other_in(alloc, SMALL, nine_and_eight())?, None);
+    assert_eq!(rt; other_in(alloc, SMALL, nine_and_thirteen())?, None);
+    assert_eq!(rt; other_in(alloc, SMALL, nine_and_fourteen())?, None);
+    assert_eq!(rt; other_in(alloc, (8, 4, 14), without_space())?, None);
+    assert_eq!(rt; other_in(alloc, (8, 64, NONE_FAILS), large())?, None);
     Ok(())
 }
 
@@ -397,24 +432,33 @@ const FAILED_IN_5: &[Step<'static>] = &[
     Step::Append(1, false, Ok(&[25])),
 ];
 
-/// The 7 pages go to block 15, after a summary at 14, then to 17, 18 and 19, after one at 16, and so on.
-const FAULTS: &[Case] = &[
-    ((8, 4, 14), &[NINE, FAILS, STAYS, FAILED_IN_3]),
-    ((8, 4, 15), &[NINE, FAILS, STAYS, FAILED_IN_3]),
-    ((8, 4, 16), &[NINE, FAILS, STAYS, FAILED_IN_4]),
-    ((8, 4, 17), &[NINE, FAILS, STAYS, FAILED_IN_4]),
-    ((8, 4, 19), &[NINE, FAILS, STAYS, FAILED_IN_4]),
-    ((8, 4, 20), &[NINE, FAILS, STAYS, FAILED_IN_5]),
-];
+const FAILING_IN_3_ROWS: Rows = &[NINE, FAILS, STAYS, FAILED_IN_3];
 
-fn faults() -> &'static [Case] {
-    FAULTS
+fn failing_in_3() -> Rows {
+    FAILING_IN_3_ROWS
 }
 
+const FAILING_IN_4_ROWS: Rows = &[NINE, FAILS, STAYS, FAILED_IN_4];
+
+fn failing_in_4() -> Rows {
+    FAILING_IN_4_ROWS
+}
+
+const FAILING_IN_5_ROWS: Rows = &[NINE, FAILS, STAYS, FAILED_IN_5];
+
+fn failing_in_5() -> Rows {
+    FAILING_IN_5_ROWS
+}
+
+/// The 7 pages go to block 15, after a summary at 14, then to 17, 18 and 19, after one at 16, and so on.
 #[test]
 fn a_failed_put_marks_its_segment(rt: HostRuntime) -> Result<(), Fail> {
-    for case in faults() {
-        assert_eq!(rt; other_in(rt.alloc(), case)?, None);
-    }
+    let alloc = rt.alloc();
+    assert_eq!(rt; other_in(alloc, (8, 4, 14), failing_in_3())?, None);
+    assert_eq!(rt; other_in(alloc, (8, 4, 15), failing_in_3())?, None);
+    assert_eq!(rt; other_in(alloc, (8, 4, 16), failing_in_4())?, None);
+    assert_eq!(rt; other_in(alloc, (8, 4, 17), failing_in_4())?, None);
+    assert_eq!(rt; other_in(alloc, (8, 4, 19), failing_in_4())?, None);
+    assert_eq!(rt; other_in(alloc, (8, 4, 20), failing_in_5())?, None);
     Ok(())
 }

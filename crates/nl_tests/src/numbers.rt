@@ -316,11 +316,12 @@ fn first_other<S: Space>(
     Ok(None)
 }
 
-/// Rows on a new device of a shape.
-type Case = (Shape, &'static [&'static [Step<'static>]]);
-
-fn other_in(alloc: Global, case: &Case) -> Result<Option<(usize, usize)>, VolError> {
-    let (shape, rows) = *case;
+/// The first step of rows on a new device of a shape that comes out otherwise.
+fn other_in(
+    alloc: Global,
+    shape: Shape,
+    rows: &[&[Step<'_>]],
+) -> Result<Option<(usize, usize)>, VolError> {
     let mut dat = Dat::new(alloc, space(alloc, shape)?)?;
     first_other(alloc, &mut dat, rows)
 }
@@ -475,23 +476,54 @@ const FAILED_MOVE: &[Step<'static>] = &[
     Step::Page(2, Some(b'B')),
 ];
 
-const CASES: &[Case] = &[
-    ((8, 4, NONE_FAILS), &[ROW, HAS_ROW, MOVED]),
-    ((8, 4, NONE_FAILS), &[ROW, TAKEN_OUT]),
-    ((8, 4, NONE_FAILS), &[FREED]),
-    ((8, 4, NONE_FAILS), &[FULL]),
-    ((8, 4, 6), &[FAILED_WRITE]),
-    ((8, 4, 10), &[ROW, FAILED_MOVE]),
-];
+const SMALL: Shape = (8, 4, NONE_FAILS);
 
-fn cases() -> &'static [Case] {
-    CASES
+type Rows = &'static [&'static [Step<'static>]];
+
+const MOVED_ROWS: Rows = &[ROW, HAS_ROW, MOVED];
+
+fn moved() -> Rows {
+    MOVED_ROWS
+}
+
+const TAKEN_OUT_ROWS: Rows = &[ROW, TAKEN_OUT];
+
+fn taken_out() -> Rows {
+    TAKEN_OUT_ROWS
+}
+
+const FREED_ROWS: Rows = &[FREED];
+
+fn freed() -> Rows {
+    FREED_ROWS
+}
+
+const FULL_ROWS: Rows = &[FULL];
+
+fn full() -> Rows {
+    FULL_ROWS
+}
+
+const FAILED_WRITE_ROWS: Rows = &[FAILED_WRITE];
+
+fn failed_write() -> Rows {
+    FAILED_WRITE_ROWS
+}
+
+const FAILED_MOVE_ROWS: Rows = &[ROW, FAILED_MOVE];
+
+fn failed_move() -> Rows {
+    FAILED_MOVE_ROWS
 }
 
 #[test]
 fn numbers_have_periods_and_blocks(rt: HostRuntime) -> Result<(), Fail> {
-    for case in cases() {
-        assert_eq!(rt; other_in(rt.alloc(), case)?, None);
-    }
+    let alloc = rt.alloc();
+    assert_eq!(rt; other_in(alloc, SMALL, moved())?, None);
+    assert_eq!(rt; other_in(alloc, SMALL, taken_out())?, None);
+    assert_eq!(rt; other_in(alloc, SMALL, freed())?, None);
+    assert_eq!(rt; other_in(alloc, SMALL, full())?, None);
+    assert_eq!(rt; other_in(alloc, (8, 4, 6), failed_write())?, None);
+    assert_eq!(rt; other_in(alloc, (8, 4, 10), failed_move())?, None);
     Ok(())
 }

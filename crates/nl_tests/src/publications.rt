@@ -4,9 +4,10 @@ ghost use Rattle.std.specs.Prelude.{◌≡◌};
 
 use crate::logs::{NONE_FAILS, Shape};
 use crate::volumes::volume;
-use nl_core::Commit;
+use nl_core::{Commit, Cpstat};
 use nl_publish::{Entry, Image, Locked, Mount, NotingPen, Opened, Press, Volumes, publish};
-use nl_types::{Answer, CheckpointNumber, Event, Mode, Reply, VolError};
+use nl_sufile::SegTable;
+use nl_types::{Answer, CheckpointNumber, Event, Mode, Reply, Segment, VolError};
 use std::alloc::Global;
 use std::marker::Brand;
 use std::mem::replace;
@@ -100,6 +101,18 @@ impl<P: NotingPen> NotingPen for RefusingPen<P> {
 
     fn give_all_back(&mut self) {
         self.pen.give_all_back();
+    }
+
+    fn segments(&self) -> &SegTable {
+        self.pen.segments()
+    }
+
+    fn needed(&self, segment: Segment) -> Result<u32, VolError> {
+        self.pen.needed(segment)
+    }
+
+    fn cpstat(&self) -> Cpstat {
+        self.pen.cpstat()
     }
 }
 

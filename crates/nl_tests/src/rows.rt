@@ -1,9 +1,8 @@
 //! Rows of events with the replies that are due, on anything that does events.
-use crate::events::{Call, Row, Want, event_of, is_wanted, path_of, same_reply};
+use crate::events::{Call, Row, Want, event_of, is_wanted, path_of, same_look};
 use nl_core::Pen;
 use nl_device::Device;
-use nl_model::World;
-use nl_types::{Answer, Event, Reply, VolError};
+use nl_types::{Event, Reply, VolError};
 use std::alloc::{AllocError, Global};
 
 /// What does events.
@@ -14,12 +13,6 @@ pub(crate) trait Volume {
 impl<D: Device> Volume for Pen<D> {
     fn answer(&mut self, _: Global, event: &Event) -> Reply {
         self.apply(event)
-    }
-}
-
-impl Volume for World {
-    fn answer(&mut self, alloc: Global, event: &Event) -> Reply {
-        self.apply(alloc, event, &Ok(Answer::Done))
     }
 }
 
@@ -58,7 +51,7 @@ fn comes_out<V: Volume>(
     if let Some(is_due) = outcome(alloc, volume, event, want) {
         return is_due;
     }
-    same_reply(&before, &insist(alloc, volume, look))
+    same_look(&before, &insist(alloc, volume, look))
         && outcome(alloc, volume, event, want) == Some(true)
 }
 

@@ -1,5 +1,6 @@
 //! A script over a volume that answers from a list.
 use nl_cpfile::Cpstat;
+use nl_mounts::Port;
 use nl_protect::Config;
 use nl_publish::Mount;
 use nl_script::{Readers, Volume, script};
@@ -92,10 +93,8 @@ fn a_script_is_told_of_line_by_line(rt: HostRuntime) {
           lssu -a\nclean\ncatm 1 /f /g"
         .as_slice();
     let config = Config::standard();
-    let mut readers = Readers {
-        rt: &rt,
-        ports: Vec::new(alloc),
-    };
+    let ports: Vec<Port<Brand>> = Vec::new(alloc);
+    let mut readers = Readers { rt: &rt, ports };
     let done = script(
         alloc,
         &mut volume,

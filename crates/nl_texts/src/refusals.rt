@@ -68,7 +68,7 @@ pub fn usage_text<W: Write>(line: u64, out: &mut W) -> io::Result<()>
 }
 
 /// What the program does before the first line.
-#[derive(Clone, Copy, Debug, PartialEq, Eq)]
+#[derive(Clone, Copy)]
 pub enum StartStep {
     /// It reads the configuration.
     Configuration,

@@ -9,7 +9,7 @@ use std::io;
 use std::io::Write;
 
 /// What a listing has of a segment.
-#[derive(Clone, Copy, Debug, PartialEq, Eq)]
+#[derive(Clone, Copy)]
 pub struct SegmentRow {
     pub info: SegmentInfo,
     /// How many needed blocks it has, where the listing has a column for them.

@@ -7,7 +7,7 @@ use std::io;
 use std::io::Write;
 
 /// A standard stream, whose failure is told.
-#[derive(Clone, Copy, Debug, PartialEq, Eq)]
+#[derive(Clone, Copy)]
 pub enum StandardStream {
     Input,
     Output,

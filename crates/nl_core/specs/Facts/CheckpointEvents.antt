@@ -28,10 +28,10 @@ use Rattle.nl_cpfile.specs.Tables as tables
 use Rattle.nl_cpfile.specs.Tables.{moded, checkpoint_root, rows_of}
 use Rattle.nl_cpfile.specs.declared.checkpoint.Checkpoint.{Checkpoint}
 use Rattle.nl_types.specs.Facts.Expiries.{expiries_are_removals}
-use Rattle.nl_core.specs.Means.{CopyMeans, CurrentMeans, StepsWorldsOver, Means}
-use Rattle.nl_core.specs.Volume.{Lists, gone_from, is_held, is_held_at, is_other_mount, kept_by, mount_of, with_checkpoint_mode, without_checkpoints, without_mount}
-use Rattle.nl_core.specs.declared.mounts.Mounted.{Mounted}
-use Rattle.nl_core.specs.Facts.Events.{answers, keeps, leads, mount_at, refuses_unless_memory}
+use Rattle.nl_commit.specs.Means.{CopyMeans, CurrentMeans, StepsWorldsOver, Means}
+use Rattle.nl_commit.specs.Volume.{Lists, gone_from, is_held, is_held_at, is_other_mount, kept_by, mount_of, with_checkpoint_mode, without_checkpoints, without_mount}
+use Rattle.nl_commit.specs.declared.mounts.Mounted.{Mounted}
+use Rattle.nl_commit.specs.Facts.Events.{answers, keeps, leads, mount_at, refuses_unless_memory}
 use Rattle.nl_core.specs.Facts.Published.{latest-means}
 use Rattle.nl_core.specs.Facts.TableChanges.{all-with_mode, all-without, left, moded-same}
 

@@ -32,9 +32,9 @@ use Rattle.nl_files.specs.TreeLaws.{StandsOverLatest}
 use Rattle.nl_files.specs.Facts.Following.{settled-differ, settled-follow}
 use Rattle.nl_files.specs.Facts.TreeLaws.{settled_trees-go_on}
 use Rattle.nl_files.specs.Facts.Holdings.{roots-hold_one}
-use Rattle.nl_core.specs.Layout.{HasWrittenCheckpoint, IsSoundPen, KeepsNumbers, Layout, WritesBetween, ledger_of, layout_pages, reached_by}
+use Rattle.nl_commit.specs.Layout.{HasWrittenCheckpoint, IsSoundPen, KeepsNumbers, Layout, WritesBetween, ledger_of, layout_pages, reached_by}
 use Rattle.nl_cpfile.specs.Tables.{by_number, checkpoint_root}
-use Rattle.nl_core.specs.Volume.{Lists, kept_by, latest_root, next_checkpoint}
+use Rattle.nl_commit.specs.Volume.{Lists, kept_by, latest_root, next_checkpoint}
 use Rattle.nl_cpfile.specs.declared.checkpoint.Checkpoint.{Checkpoint}
 use Rattle.nl_cpfile.specs.Facts.Found.{found-push}
 use Rattle.nl_core.specs.Facts.Ledgers.{found-all, none-next}

@@ -26,9 +26,9 @@ use Rattle.nl_reclaim.specs.Moves.{needed_now}
 use Rattle.nl_reclaim.specs.Reclaims.{stood_in}
 use Rattle.nl_reclaim.specs.Facts.Reclaims.{retired-segments-are-unreached, retiring-is-allowed}
 use Rattle.nl_core.specs.CleanedPens.{LeavesPen, MovesKeepPens, RefusedMovesKeepPens, RetirementsKeepPens, StaysPen, kept_store}
-use Rattle.nl_core.specs.Layout.{IsPen, IsSoundPen, KeepsNumbers, Layout, MeansWorld, layout_of, ledger_of, layout_pages, reached_by}
-use Rattle.nl_core.specs.Means.{CopyMeans, Means}
-use Rattle.nl_core.specs.Volume.{Lists, kept_by}
+use Rattle.nl_commit.specs.Layout.{IsPen, IsSoundPen, KeepsNumbers, Layout, MeansWorld, layout_of, ledger_of, layout_pages, reached_by}
+use Rattle.nl_commit.specs.Means.{CopyMeans, Means}
+use Rattle.nl_commit.specs.Volume.{Lists, kept_by}
 use Rattle.nl_core.specs.Facts.KeptNumbers.{found-own, kept-ledger}
 use Rattle.nl_core.specs.Facts.Ledgers.{found-all, same-numbers}
 use Rattle.nl_core.specs.Facts.Published.{copies-stay}

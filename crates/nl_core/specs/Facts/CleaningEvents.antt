@@ -25,10 +25,10 @@ use Rattle.nl_vstore.specs.Stores.{IsMoveBrokenOff, IsMoveRefused, IsMoved, IsRe
 use Rattle.nl_reclaim.specs.Cleaning.{HasListedFirst, HasMovedFirst, freed_by, judged_segment, judged_by, judged_for, judged_info, retired, split}
 use Rattle.nl_reclaim.specs.declared.moving.MoveCount.{MoveCount}
 use Rattle.nl_core.specs.CleanedPens.{AddsMinor, LeavesPen, StaysPen}
-use Rattle.nl_core.specs.CleaningEvents.{HasMovedNothing, IsMoveRefusal, LacksSpaceToMove, cleaned_by, move_count, moved_answer, moved_by, needed_by, retired_by, resized_by}
-use Rattle.nl_core.specs.Draft.{HasNextNumber}
-use Rattle.nl_core.specs.Layout.{Does, IsPen, IsRetirementRefusal, MeansWorld, layout_of, ledger_of, layout_pages, unshared}
-use Rattle.nl_core.specs.Volume.{Lists, with_minor}
+use Rattle.nl_commit.specs.CleaningEvents.{HasMovedNothing, IsMoveRefusal, LacksSpaceToMove, cleaned_by, move_count, moved_answer, moved_by, needed_by, retired_by, resized_by}
+use Rattle.nl_commit.specs.Draft.{HasNextNumber}
+use Rattle.nl_commit.specs.Layout.{Does, IsPen, IsRetirementRefusal, MeansWorld, layout_of, ledger_of, layout_pages, unshared}
+use Rattle.nl_commit.specs.Volume.{Lists, with_minor}
 use Rattle.nl_core.specs.Facts.CleanedPens.{moves_keep_pens, refused_moves_keep_pens, retirements_keep_pens}
 use Rattle.nl_core.specs.Facts.Ledgers.{same-numbers}
 use Rattle.nl_core.specs.Facts.MinorPens.{minors_keep_pens, moves-on}

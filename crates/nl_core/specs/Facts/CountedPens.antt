@@ -38,12 +38,12 @@ use Rattle.nl_cpfile.specs.Facts.Rising.{map-push}
 use Rattle.nl_layout.specs.Root.{root_of}
 use Rattle.nl_tree.specs.Held.{Holding}
 use Rattle.nl_files.specs.TreeLaws.{StandsOverLatest}
-use Rattle.nl_core.specs.CleaningEvents.{HasMovedNothing, IsMoveRefusal, kept_numbers, needed_by}
-use Rattle.nl_core.specs.Draft.{HasNextNumber, IsDraftRefusal}
-use Rattle.nl_core.specs.Layout.{HasRefused, IsPen, IsSoundPen, Layout, layout_of, ledger_of, layout_pages, reached_by}
+use Rattle.nl_commit.specs.CleaningEvents.{HasMovedNothing, IsMoveRefusal, kept_numbers, needed_by}
+use Rattle.nl_commit.specs.Draft.{HasNextNumber, IsDraftRefusal}
+use Rattle.nl_commit.specs.Layout.{HasRefused, IsPen, IsSoundPen, Layout, layout_of, ledger_of, layout_pages, reached_by}
 use Rattle.nl_core.specs.NeededBlocks.{AreNeededCounts, HasLostBetween, HasWrittenBatch, IsSpanOf}
 use Rattle.nl_core.specs.LedgerEvents.{taken_out}
-use Rattle.nl_core.specs.Volume.{IsExpired, IsTakenOut, IsTakenOutRange, Lists, kept_by, latest_root, minor_checkpoint, with_checkpoint_mode, with_minor, without_checkpoints}
+use Rattle.nl_commit.specs.Volume.{IsExpired, IsTakenOut, IsTakenOutRange, Lists, kept_by, latest_root, minor_checkpoint, with_checkpoint_mode, with_minor, without_checkpoints}
 use Rattle.nl_core.specs.Facts.Checkpoints.{differs-behind, kept-next, number-next}
 use Rattle.nl_core.specs.Facts.CleaningEvents.{none_needed}
 use Rattle.nl_core.specs.Facts.ExpiredNumbers.{without-none}

@@ -6,7 +6,7 @@ use Rattle.nl_types.specs.declared.error.VolError.{VolError}
 use Rattle.nl_types.specs.declared.error.VolError.TheVariants.{Memory}
 use Rattle.nl_cpfile.specs.Tables.{Table, is_kept_without, without}
 use Rattle.nl_cpfile.specs.declared.checkpoint.Checkpoint.{Checkpoint}
-use Rattle.nl_core.specs.Volume.{is_memory}
+use Rattle.nl_commit.specs.Volume.{is_memory}
 
 all-left : (kept : List Checkpoint) → filter (is_kept_without []) kept ≡ kept
 all-left [] = refl

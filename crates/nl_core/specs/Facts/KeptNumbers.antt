@@ -17,9 +17,9 @@ use Rattle.nl_cpfile.specs.declared.checkpoint.Checkpoint.{Checkpoint}
 use Rattle.nl_cpfile.specs.Facts.Found.{found}
 use Rattle.nl_reclaim.specs.Reclaims.{IsLedgerOf}
 use Rattle.nl_core.specs.CleanedPens.{kept_store, kept_number}
-use Rattle.nl_core.specs.Layout.{Layout, ledger_of, layout_pages, reached_by}
-use Rattle.nl_core.specs.Means.{CopyMeans}
-use Rattle.nl_core.specs.Volume.{kept_by}
+use Rattle.nl_commit.specs.Layout.{Layout, ledger_of, layout_pages, reached_by}
+use Rattle.nl_commit.specs.Means.{CopyMeans}
+use Rattle.nl_commit.specs.Volume.{kept_by}
 
 -- ---- numbers under which there is a checkpoint
 

@@ -15,11 +15,11 @@ use Rattle.nl_files.specs.CheckpointRoots.{IsTreeSound, Stores}
 use Rattle.nl_files.specs.Laws.{IsLatest}
 use Rattle.nl_files.specs.TreeLaws.{StandsOverLatest}
 use Rattle.nl_files.specs.Facts.TreeLaws.{trees-can_be_settled}
-use Rattle.nl_core.specs.Draft.{CanBeDrafted, HasFewNames}
-use Rattle.nl_core.specs.Layout.{IsPen, IsSoundPen, KeepsNumbers, Layout, ledger_of, layout_pages, reached_by}
-use Rattle.nl_core.specs.Means.{CurrentMeans}
+use Rattle.nl_commit.specs.Draft.{CanBeDrafted, HasFewNames}
+use Rattle.nl_commit.specs.Layout.{IsPen, IsSoundPen, KeepsNumbers, Layout, ledger_of, layout_pages, reached_by}
+use Rattle.nl_commit.specs.Means.{CurrentMeans}
 use Rattle.nl_cpfile.specs.Tables.{by_number, checkpoint_root}
-use Rattle.nl_core.specs.Volume.{kept_by, latest_root}
+use Rattle.nl_commit.specs.Volume.{kept_by, latest_root}
 use Rattle.nl_cpfile.specs.declared.checkpoint.Checkpoint.{Checkpoint}
 
 -- ---- the same ledger

@@ -21,10 +21,10 @@ use Rattle.nl_cpfile.specs.declared.checkpoint.Checkpoint.{Checkpoint}
 use Rattle.nl_cpfile.specs.Tables.{kept_at, checkpoint_root}
 use Rattle.nl_cpfile.specs.Facts.Found.{found-push}
 use Rattle.nl_core.specs.CleanedPens.{MinorsKeepPens}
-use Rattle.nl_core.specs.Draft.{HasNextNumber}
-use Rattle.nl_core.specs.Layout.{IsSoundPen, KeepsNumbers, Layout, MeansWorld, layout_of, ledger_of, layout_pages, reached_by}
-use Rattle.nl_core.specs.Means.{CopyMeans}
-use Rattle.nl_core.specs.Volume.{kept_by, minor_checkpoint, with_minor}
+use Rattle.nl_commit.specs.Draft.{HasNextNumber}
+use Rattle.nl_commit.specs.Layout.{IsSoundPen, KeepsNumbers, Layout, MeansWorld, layout_of, ledger_of, layout_pages, reached_by}
+use Rattle.nl_commit.specs.Means.{CopyMeans}
+use Rattle.nl_commit.specs.Volume.{kept_by, minor_checkpoint, with_minor}
 use Rattle.nl_core.specs.Facts.Ledgers.{found-all, none-next}
 use Rattle.nl_core.specs.Facts.Published.{copies-push, ends, latest-copy, latest-means, latest_stamp-means}
 

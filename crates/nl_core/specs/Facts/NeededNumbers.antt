@@ -9,8 +9,8 @@ use Rattle.nl_types.specs.Rows.{is_snapshot, number_of}
 use Rattle.nl_vstore.specs.Located.{by_period}
 use Rattle.nl_cpfile.specs.Tables.{checkpoint_row, rows, rows_of}
 use Rattle.nl_cpfile.specs.declared.checkpoint.Checkpoint.{Checkpoint}
-use Rattle.nl_core.specs.CleaningEvents.{needed_by}
-use Rattle.nl_core.specs.Volume.{Lists, kept_by}
+use Rattle.nl_commit.specs.CleaningEvents.{needed_by}
+use Rattle.nl_commit.specs.Volume.{Lists, kept_by}
 
 or-true : (b : Bool) → (b || true) ≡ true
 or-true true = refl

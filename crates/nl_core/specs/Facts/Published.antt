@@ -24,10 +24,10 @@ use Rattle.nl_tree.specs.Held.{Holding}
 use Rattle.nl_files.specs.Staying.{CheckpointStays}
 use Rattle.nl_files.specs.TreeLaws.{StandsOverLatest}
 use Rattle.nl_cpfile.specs.declared.checkpoint.Checkpoint.{Checkpoint}
-use Rattle.nl_core.specs.Layout.{HasWrittenCheckpoint, IsSoundPen, Layout, MeansWorld, ledger_of, layout_pages}
-use Rattle.nl_core.specs.Means.{CopyMeans, CurrentMeans, Means, RootMeans}
+use Rattle.nl_commit.specs.Layout.{HasWrittenCheckpoint, IsSoundPen, Layout, MeansWorld, ledger_of, layout_pages}
+use Rattle.nl_commit.specs.Means.{CopyMeans, CurrentMeans, Means, RootMeans}
 use Rattle.nl_cpfile.specs.Tables.{checkpoint_root}
-use Rattle.nl_core.specs.Volume.{Lists, kept_by, latest_root, mount_of}
+use Rattle.nl_commit.specs.Volume.{Lists, kept_by, latest_root, mount_of}
 use Rattle.nl_core.specs.Facts.Checkpoints.{kept-next, kept-stay, latest-next, number-next, stands-behind}
 use Rattle.nl_core.specs.Facts.Ledgers.{stands-latest}
 

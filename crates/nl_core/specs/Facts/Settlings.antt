@@ -13,10 +13,10 @@ use Rattle.nl_files.specs.CheckpointRoots.{IsCheckpointRoot}
 use Rattle.nl_files.specs.Facts.Following.{latest-hold}
 use Rattle.nl_files.specs.Facts.OneSettling.{settlings-alike}
 use Rattle.nl_files.specs.Facts.Holdings.{roots-hold_one}
-use Rattle.nl_core.specs.Draft.{SettlesNow}
-use Rattle.nl_core.specs.Laws.{SettlingsAreAlike}
-use Rattle.nl_core.specs.Volume.{latest_root}
-use Rattle.nl_core.specs.Layout.{IsSoundPen, Layout, Settled, ledger_of, layout_pages}
+use Rattle.nl_commit.specs.Draft.{SettlesNow}
+use Rattle.nl_commit.specs.Laws.{SettlingsAreAlike}
+use Rattle.nl_commit.specs.Volume.{latest_root}
+use Rattle.nl_commit.specs.Layout.{IsSoundPen, Layout, Settled, ledger_of, layout_pages}
 use Rattle.nl_core.specs.Facts.Ledgers.{is-latest}
 
 -- the root that is kept tells the root

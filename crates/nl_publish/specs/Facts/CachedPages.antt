@@ -18,10 +18,10 @@ use Rattle.nl_files.specs.Facts.Staying.{checkpoints-stay}
 use Rattle.nl_cpfile.specs.Tables.{Table, all, is_kept_without, kept_at, moded, range_in, checkpoint_root}
 use Rattle.nl_cpfile.specs.declared.checkpoint.Checkpoint.{Checkpoint}
 use Rattle.nl_cpfile.specs.Facts.Found.{found, found-push}
-use Rattle.nl_core.specs.Commits.{AllNext, IsHistory, IsImage, IsNext, applied, image_of}
-use Rattle.nl_core.specs.Shown.{Shown, nothing, pages_shown}
-use Rattle.nl_core.specs.declared.commit.Commit.{Commit}
-use Rattle.nl_core.specs.declared.commit.Commit.TheVariants.{Freed, GivenBack, ModeSet, Mounted, RangeRemoved, Removed, Resized, Whole, Written}
+use Rattle.nl_commit.specs.Commits.{AllNext, IsHistory, IsImage, IsNext, applied, image_of}
+use Rattle.nl_commit.specs.Shown.{Shown, nothing, pages_shown}
+use Rattle.nl_commit.specs.declared.commit.Commit.{Commit}
+use Rattle.nl_commit.specs.declared.commit.Commit.TheVariants.{Freed, GivenBack, ModeSet, Mounted, RangeRemoved, Removed, Resized, Whole, Written}
 use Rattle.nl_publish.specs.Cached.{CachedPagesStay, IsCachedPage}
 use Rattle.nl_publish.specs.Histories.{IsBegun}
 use Rattle.nl_publish.specs.Facts.Growing.{fold-grows}

@@ -1,10 +1,10 @@
 -- What one more commit does to a history and to its content.
 use Rattle.std.proofs.Common.{◌≡◌, List, [], ◌∷◌, ◌++◌, fold, refl}
-use Rattle.nl_core.specs.declared.commit.Commit.{Commit}
-use Rattle.nl_core.specs.Shown.{Shown}
-use Rattle.nl_core.specs.Shown.{whole_of}
-use Rattle.nl_core.specs.Commits.{AllNext, IsHistory, applied, image_of}
-use Rattle.nl_core.specs.declared.commit.Commit.TheVariants as commit
+use Rattle.nl_commit.specs.declared.commit.Commit.{Commit}
+use Rattle.nl_commit.specs.Shown.{Shown}
+use Rattle.nl_commit.specs.Shown.{whole_of}
+use Rattle.nl_commit.specs.Commits.{AllNext, IsHistory, applied, image_of}
+use Rattle.nl_commit.specs.declared.commit.Commit.TheVariants as commit
 use Rattle.nl_publish.specs.Histories.{IsBegun}
 
 pub fold-grows : (x : Shown) (xs ys : List Commit)

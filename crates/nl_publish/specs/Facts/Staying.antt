@@ -9,12 +9,12 @@ use mathlib.Core.List.{IsPrefix}
 use Rattle.nl_types.specs.Trees.{Tree}
 use Rattle.nl_cpfile.specs.Tables.{kept_at}
 use Rattle.nl_cpfile.specs.declared.checkpoint.Checkpoint.{Checkpoint}
-use Rattle.nl_core.specs.Commits.{AllNext, IsHistory, IsImage, IsNext, IsNew, applied, image_of}
-use Rattle.nl_core.specs.Shown.{Shown, mounted_on, whole_of, nothing}
-use Rattle.nl_core.specs.Volume.{is_other_mount, mount_of}
-use Rattle.nl_core.specs.declared.commit.Commit.{Commit}
-use Rattle.nl_core.specs.declared.commit.Commit.TheVariants as commit
-use Rattle.nl_core.specs.declared.mounts.Mounted.{Mounted}
+use Rattle.nl_commit.specs.Commits.{AllNext, IsHistory, IsImage, IsNext, IsNew, applied, image_of}
+use Rattle.nl_commit.specs.Shown.{Shown, mounted_on, whole_of, nothing}
+use Rattle.nl_commit.specs.Volume.{is_other_mount, mount_of}
+use Rattle.nl_commit.specs.declared.commit.Commit.{Commit}
+use Rattle.nl_commit.specs.declared.commit.Commit.TheVariants as commit
+use Rattle.nl_commit.specs.declared.mounts.Mounted.{Mounted}
 use Rattle.nl_publish.specs.Histories.{IsBegun}
 use Rattle.nl_publish.specs.Mounts.{Claim, IsClaim}
 use Rattle.nl_publish.specs.Told.{ShowsTold, TreeOn}

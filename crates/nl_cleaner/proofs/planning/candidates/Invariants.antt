@@ -1,5 +1,5 @@
 use Rattle.std.proofs.Common.{◌≡◌, ℕ}
-use Rattle.nl_core.specs.CleanerViews.{counts_after}
+use Rattle.nl_commit.specs.CleanerViews.{counts_after}
 use Rattle.nl_cleaner.specs.Private.Choice.{candidates_in}
 use Rattle.nl_cleaner.specs.Plan.{candidate_in}
 use Rattle.nl_cleaner.proofs.planning.candidates.Given as goal

@@ -1,7 +1,7 @@
 use Rattle.std.proofs.Common.{◌≡◌, ℕ, ◌-◌, Bool, false, ◌&&◌, List, ap, subst, ◌∙◌}
 use Rattle.std.specs.Prelude.{nat_le, slice_index_or}
 use Rattle.nl_types.specs.declared.segment.SegmentInfo.{SegmentInfo}
-use Rattle.nl_core.specs.CleanerViews.{needed_after}
+use Rattle.nl_commit.specs.CleanerViews.{needed_after}
 use Rattle.nl_cleaner.specs.Plan.{candidate_by, is_dirty, reclaimable}
 use Rattle.nl_cleaner.proofs.ByCounts.{count-of, too-few-used}
 use Rattle.nl_cleaner.proofs.planning.known_candidate.Goals as goal

@@ -1,6 +1,6 @@
 use Rattle.std.proofs.Common.{◌≡◌, ℕ, List, ap, ◌∙◌, arith}
 use Rattle.std.specs.Prelude.{slice_index_or}
-use Rattle.nl_core.specs.CleanerViews.{needed_after}
+use Rattle.nl_commit.specs.CleanerViews.{needed_after}
 use Rattle.nl_cleaner.proofs.ByCounts.{count-of}
 use Rattle.nl_cleaner.proofs.planning.reclaimable.Goals as goal
 

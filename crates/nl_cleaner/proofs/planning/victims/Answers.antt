@@ -1,6 +1,6 @@
 use Rattle.std.proofs.Common.{◌≡◌, ℕ, List, subst, sym}
 use Rattle.std.proofs.lemmas.Result.{IfOk-weaker}
-use Rattle.nl_core.specs.CleanerViews.{counts_after}
+use Rattle.nl_commit.specs.CleanerViews.{counts_after}
 use Rattle.nl_cleaner.specs.Plan.{AreVictims}
 use Rattle.nl_cleaner.specs.Private.Choice.{AreChosen, Ascend}
 use Rattle.nl_cleaner.specs.declared.choice.Candidate.{Candidate}

@@ -1,5 +1,5 @@
 use Rattle.std.proofs.Common.{Err, refl}
-use Rattle.nl_core.specs.CleanerViews.{needed_from}
+use Rattle.nl_commit.specs.CleanerViews.{needed_from}
 use Rattle.nl_core.specs.Facts.Outside.{needed-outside, no-segment}
 use Rattle.nl_core.proofs.cleaner_views.needed_in.Goals as goal
 

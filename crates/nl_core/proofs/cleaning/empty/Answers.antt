@@ -1,6 +1,6 @@
 use Rattle.std.proofs.Common.{refl, sym, ◌∙◌, arith}
 use Rattle.std.proofs.lemmas.Result.{err_from_is_err_and}
-use Rattle.nl_core.specs.CleaningEvents.{kept_numbers, needed_by}
+use Rattle.nl_commit.specs.CleaningEvents.{kept_numbers, needed_by}
 use Rattle.nl_core.specs.Facts.CleaningEvents.{does-not-retired, does-retired}
 use Rattle.nl_core.specs.Facts.CountedPens.{judged, retired-counts, told-none}
 use Rattle.nl_core.proofs.cleaning.empty.Goals as goal

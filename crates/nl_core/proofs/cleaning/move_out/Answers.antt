@@ -4,9 +4,9 @@ use Rattle.std.proofs.lemmas.Bool.{eqb-false, eqb-true}
 use Rattle.std.proofs.lemmas.Result.{err_from_is_err_and}
 use Rattle.nl_types.specs.declared.event.Event.TheVariants.{Move}
 use Rattle.nl_reclaim.specs.Cleaning.{HasListedFirst}
-use Rattle.nl_core.specs.CleaningEvents.{needed_by}
-use Rattle.nl_core.specs.Layout.{Does, layout_of, unshared}
-use Rattle.nl_core.specs.Volume.{Lists}
+use Rattle.nl_commit.specs.CleaningEvents.{needed_by}
+use Rattle.nl_commit.specs.Layout.{Does, layout_of, unshared}
+use Rattle.nl_commit.specs.Volume.{Lists}
 use Rattle.nl_core.specs.Facts.CleaningEvents.{does-idle, does-not-moved}
 use Rattle.nl_core.specs.Facts.CountedPens.{listed-first, not-drafted, not-listed}
 use Rattle.nl_core.proofs.cleaning.move_out.Goals as goal

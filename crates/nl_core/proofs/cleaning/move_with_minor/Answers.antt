@@ -4,10 +4,10 @@ use Rattle.std.specs.Prelude.{Ok}
 use Rattle.nl_types.specs.declared.event.Event.TheVariants.{Move}
 use Rattle.nl_cpfile.specs.declared.checkpoint.Checkpoint.{Checkpoint}
 use Rattle.nl_cpfile.specs.Tables.{with_next}
-use Rattle.nl_core.specs.CleaningEvents.{kept_numbers, moved_answer}
-use Rattle.nl_core.specs.Layout.{Does, layout_of, unshared}
+use Rattle.nl_commit.specs.CleaningEvents.{kept_numbers, moved_answer}
+use Rattle.nl_commit.specs.Layout.{Does, layout_of, unshared}
 use Rattle.nl_core.specs.NeededBlocks.{AreNeededCounts}
-use Rattle.nl_core.specs.Volume.{Lists, with_minor}
+use Rattle.nl_commit.specs.Volume.{Lists, with_minor}
 use Rattle.nl_core.specs.Facts.CleaningEvents.{does-moved, does-not-moved, stays}
 use Rattle.nl_core.specs.Facts.CountedPens.{minor-counted, moved-listed, moved-needed, moved-some, not-moved}
 use Rattle.nl_core.proofs.cleaning.move_with_minor.Goals as goal

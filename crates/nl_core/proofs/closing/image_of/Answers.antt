@@ -6,8 +6,8 @@ use Rattle.nl_layout.specs.declared.checkpoint_entry.CheckpointEntry.{Checkpoint
 use Rattle.nl_image.specs.StoreImages.{IsSpelledOf}
 use Rattle.nl_image.specs.Facts.SpelledImages.{spelled-image}
 use Rattle.nl_core.specs.Private.Closed.{AreSized, HaveSizes}
-use Rattle.nl_core.specs.Volume.{kept_by}
-use Rattle.nl_core.specs.Layout.{layout_of}
+use Rattle.nl_commit.specs.Volume.{kept_by}
+use Rattle.nl_commit.specs.Layout.{layout_of}
 use Rattle.nl_core.proofs.Closed.{have-sizes, numbers-fit, pen-read}
 use Rattle.nl_core.proofs.closing.image_of.Goals as goal
 

@@ -4,8 +4,8 @@ use Rattle.std.specs.List.{AllZip}
 use Rattle.nl_cpfile.specs.Images.{HasRoot, IsEntryOf}
 use Rattle.nl_cpfile.specs.Tables.{all}
 use Rattle.nl_vstore.specs.Stores.{content_in}
-use Rattle.nl_core.specs.CleaningEvents.{kept_numbers}
-use Rattle.nl_core.specs.Layout.{layout_of}
+use Rattle.nl_commit.specs.CleaningEvents.{kept_numbers}
+use Rattle.nl_commit.specs.Layout.{layout_of}
 use Rattle.nl_core.specs.Facts.CountedPens.{latest-of, tells-needs}
 use Rattle.nl_core.proofs.OpenedImages.{is-opened, kept-rooted, latest-was-checked, own-read}
 use Rattle.nl_core.proofs.RestoredImages.{image-opened}

@@ -1,5 +1,5 @@
-use Rattle.nl_core.specs.Layout.{unshared}
-use Rattle.nl_core.specs.Notes.{shared}
+use Rattle.nl_commit.specs.Layout.{unshared}
+use Rattle.nl_commit.specs.Notes.{shared}
 use Rattle.nl_core.proofs.Telling.{commits_tell_all}
 use Rattle.nl_core.proofs.laws.commits_tell_all.Goals as goal
 

@@ -1,4 +1,4 @@
-use Rattle.nl_core.specs.Layout.{unshared}
+use Rattle.nl_commit.specs.Layout.{unshared}
 use Rattle.nl_core.proofs.LedgerEvents.{events_are_ledger_events, runs_are_ledger_events}
 use Rattle.nl_core.proofs.laws.events_are_ledger_events.Goals as goal
 

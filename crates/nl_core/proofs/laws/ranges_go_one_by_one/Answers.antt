@@ -1,4 +1,4 @@
-use Rattle.nl_core.specs.Layout.{unshared}
+use Rattle.nl_commit.specs.Layout.{unshared}
 use Rattle.nl_core.proofs.Removals.{expiries_go_one_by_one, ranges_go_one_by_one}
 use Rattle.nl_core.proofs.laws.ranges_go_one_by_one.Goals as goal
 

@@ -1,4 +1,4 @@
-use Rattle.nl_core.specs.Layout.{unshared}
+use Rattle.nl_commit.specs.Layout.{unshared}
 use Rattle.nl_core.specs.Facts.Refusals.{refusals_keep_pens}
 use Rattle.nl_core.proofs.laws.refusals_keep_pens.Goals as goal
 

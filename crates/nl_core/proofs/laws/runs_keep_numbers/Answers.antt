@@ -1,4 +1,4 @@
-use Rattle.nl_core.specs.Layout.{unshared}
+use Rattle.nl_commit.specs.Layout.{unshared}
 use Rattle.nl_core.proofs.LedgerEvents.{runs_keep_numbers}
 use Rattle.nl_core.proofs.laws.runs_keep_numbers.Goals as goal
 

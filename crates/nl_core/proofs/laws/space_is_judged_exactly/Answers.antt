@@ -1,4 +1,4 @@
-use Rattle.nl_core.specs.Layout.{unshared}
+use Rattle.nl_commit.specs.Layout.{unshared}
 use Rattle.nl_core.specs.Facts.Refusals.{no_space_is_true, no_space_is_said}
 use Rattle.nl_core.proofs.laws.space_is_judged_exactly.Goals as goal
 

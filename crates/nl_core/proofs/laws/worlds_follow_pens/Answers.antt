@@ -1,5 +1,5 @@
-use Rattle.nl_core.specs.Layout.{unshared}
-use Rattle.nl_core.specs.Facts.Leading.{leads_on, runs_lead_on}
+use Rattle.nl_commit.specs.Layout.{unshared}
+use Rattle.nl_commit.specs.Facts.Leading.{leads_on, runs_lead_on}
 use Rattle.nl_core.proofs.laws.worlds_follow_pens.Goals as goal
 
 pub returns-clause-event : goal.returns-clause-event

@@ -1,6 +1,6 @@
 use Rattle.std.proofs.Common.{◌≡◌, map, take}
 use Rattle.nl_vstore.specs.Batches.{births_of}
-use Rattle.nl_core.specs.Notes.{new_page}
+use Rattle.nl_commit.specs.Notes.{new_page}
 use Rattle.nl_core.proofs.noting.new_pages.Given as goal
 
 abbrev pub invariant-loop-birth : goal.invariant-loop-birth

@@ -5,9 +5,9 @@ use Rattle.nl_types.specs.declared.event.Event.TheVariants as event
 use Rattle.nl_types.specs.declared.reply.Answer.TheVariants as answer
 use Rattle.nl_counts.specs.Counted.{IsCounted}
 use Rattle.nl_counts.specs.Events.{IsNextWritten}
-use Rattle.nl_core.specs.CleaningEvents.{kept_numbers}
-use Rattle.nl_core.specs.Layout.{layout_of}
-use Rattle.nl_core.specs.Notes.{DoesNoting}
+use Rattle.nl_commit.specs.CleaningEvents.{kept_numbers}
+use Rattle.nl_commit.specs.Layout.{layout_of}
+use Rattle.nl_commit.specs.Notes.{DoesNoting}
 use Rattle.nl_core.specs.Facts.CountedPens.{next-written, numbers-next, refused-counts}
 use Rattle.nl_core.specs.Facts.Ledgers.{can_be-drafted, has_few-names}
 use Rattle.nl_core.proofs.NotedEvents.{noting-unwritten, noting-written, written-batch}

@@ -7,10 +7,10 @@ use Rattle.nl_types.specs.declared.error.VolError.TheVariants as error
 use Rattle.nl_types.specs.declared.event.Event.TheVariants.{Move}
 use Rattle.nl_types.specs.declared.reply.Answer.TheVariants as answer
 use Rattle.nl_reclaim.specs.Cleaning.{HasListedFirst}
-use Rattle.nl_core.specs.CleaningEvents.{needed_by}
-use Rattle.nl_core.specs.Layout.{Does, layout_of, unshared}
-use Rattle.nl_core.specs.Volume.{Lists}
-use Rattle.nl_core.specs.declared.commit.Commit.{Commit}
+use Rattle.nl_commit.specs.CleaningEvents.{needed_by}
+use Rattle.nl_commit.specs.Layout.{Does, layout_of, unshared}
+use Rattle.nl_commit.specs.Volume.{Lists}
+use Rattle.nl_commit.specs.declared.commit.Commit.{Commit}
 use Rattle.nl_core.specs.Facts.CleaningEvents.{does-idle, does-not-moved}
 use Rattle.nl_core.specs.Facts.CountedPens.{listed-first, not-drafted, not-listed}
 use Rattle.nl_core.proofs.NotedEvents.{noting-moved, noting-not_moved}

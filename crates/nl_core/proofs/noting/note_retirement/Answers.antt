@@ -1,9 +1,9 @@
 use Rattle.std.proofs.Common.{◌++◌, List, refl, ap, ◌∙◌}
 use Rattle.std.proofs.lemmas.Result.{err_from_is_err_and}
-use Rattle.nl_core.specs.Layout.{layout_of}
-use Rattle.nl_core.specs.Notes.{where_any}
-use Rattle.nl_core.specs.declared.commit.Commit.{Commit}
-use Rattle.nl_core.specs.declared.commit.Commit.TheVariants.{Freed}
+use Rattle.nl_commit.specs.Layout.{layout_of}
+use Rattle.nl_commit.specs.Notes.{where_any}
+use Rattle.nl_commit.specs.declared.commit.Commit.{Commit}
+use Rattle.nl_commit.specs.declared.commit.Commit.TheVariants.{Freed}
 use Rattle.nl_core.proofs.NotedEvents.{noting-not_retired, noting-retired, noting-unretired}
 use Rattle.nl_core.proofs.noting.note_retirement.Goals as goal
 

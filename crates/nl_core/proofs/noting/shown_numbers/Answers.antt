@@ -1,7 +1,7 @@
 use Rattle.std.proofs.Common.{ℕ, ap, ◌∙◌, arith}
 use Rattle.std.specs.Option.{option_map}
 use Rattle.nl_vstore.specs.Stores.{numbered_in}
-use Rattle.nl_core.specs.Notes.{shown_page}
+use Rattle.nl_commit.specs.Notes.{shown_page}
 use Rattle.nl_core.proofs.ShownStores.{shown-more}
 use Rattle.nl_core.proofs.noting.shown_numbers.Goals as goal
 

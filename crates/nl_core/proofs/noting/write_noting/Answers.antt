@@ -1,7 +1,7 @@
 use Rattle.std.proofs.Common.{[], ◌∷◌, ◌++◌, List, ap, ◌∙◌}
 use Rattle.std.proofs.lemmas.Result.{err_from_is_err_and}
-use Rattle.nl_core.specs.Volume.{published}
-use Rattle.nl_core.specs.declared.commit.Commit.{Commit}
+use Rattle.nl_commit.specs.Volume.{published}
+use Rattle.nl_commit.specs.declared.commit.Commit.{Commit}
 use Rattle.nl_core.proofs.Drafted.{draft-comes_next, noted-draft, refused-draft}
 use Rattle.nl_core.proofs.noting.write_noting.Goals as goal
 

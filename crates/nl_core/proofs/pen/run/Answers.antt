@@ -6,8 +6,8 @@ use Rattle.nl_types.specs.Runs.{Run}
 use Rattle.nl_types.specs.Worlds.{Reply}
 use Rattle.nl_types.specs.declared.event.Event.{Event}
 use Rattle.nl_types.specs.Facts.Runs.{Run-more}
-use Rattle.nl_core.specs.Layout.{Does, unshared}
-use Rattle.nl_core.specs.Facts.Leading.{runs_lead_on}
+use Rattle.nl_commit.specs.Layout.{Does, unshared}
+use Rattle.nl_commit.specs.Facts.Leading.{runs_lead_on}
 use Rattle.nl_core.proofs.pen.run.Goals as goal
 
 pub loop-event-preserved : goal.loop-event-preserved

@@ -1,7 +1,7 @@
 use Rattle.std.proofs.Common.{◌≡◌, ◌≤◌, take, length, vec_len}
 use Rattle.std.specs.Prelude.{vec_capacity}
 use Rattle.nl_types.specs.Runs.{Run}
-use Rattle.nl_core.specs.Layout.{Does, unshared}
+use Rattle.nl_commit.specs.Layout.{Does, unshared}
 use Rattle.nl_core.proofs.pen.run.Given as goal
 
 abbrev pub invariant-loop-event : goal.invariant-loop-event

@@ -1,7 +1,7 @@
 use Rattle.std.proofs.Common.{ℕ, List, subst, sym}
 use Rattle.std.specs.Prelude.{Ok, Err}
 use Rattle.std.proofs.lemmas.Result.{err_from_is_err_and}
-use Rattle.nl_core.specs.Volume.{IsTakenOut}
+use Rattle.nl_commit.specs.Volume.{IsTakenOut}
 use Rattle.nl_core.specs.Facts.CountedPens.{expiry-taken}
 use Rattle.nl_core.proofs.Moving.{does-Expire, pages_under}
 use Rattle.nl_core.proofs.removing.expire.Goals as goal

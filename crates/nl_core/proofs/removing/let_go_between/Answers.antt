@@ -1,4 +1,4 @@
-use Rattle.nl_core.specs.CleaningEvents.{kept_numbers}
+use Rattle.nl_commit.specs.CleaningEvents.{kept_numbers}
 use Rattle.nl_core.specs.Facts.CountedPens.{are-gone, tells-needs}
 use Rattle.nl_core.proofs.removing.let_go_between.Goals as goal
 

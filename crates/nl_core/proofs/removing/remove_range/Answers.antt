@@ -1,7 +1,7 @@
 use Rattle.std.proofs.Common.{ℕ, List, subst, sym}
 use Rattle.std.specs.Prelude.{Ok, Err}
 use Rattle.std.proofs.lemmas.Result.{err_from_is_err_and}
-use Rattle.nl_core.specs.Volume.{IsTakenOut}
+use Rattle.nl_commit.specs.Volume.{IsTakenOut}
 use Rattle.nl_core.specs.Facts.CountedPens.{range-taken}
 use Rattle.nl_core.proofs.Moving.{does-RemoveRange, pages_under}
 use Rattle.nl_core.proofs.removing.remove_range.Goals as goal

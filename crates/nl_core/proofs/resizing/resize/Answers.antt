@@ -5,8 +5,8 @@ use Rattle.std.proofs.lemmas.Result.{err_from_is_err_and}
 use Rattle.nl_types.specs.declared.reply.Answer.TheVariants as answer
 use Rattle.nl_types.specs.Segments.{Segments}
 use Rattle.nl_counts.specs.Counted.{Counted}
-use Rattle.nl_core.specs.CleaningEvents.{kept_numbers, resized_in}
-use Rattle.nl_core.specs.Layout.{layout_of}
+use Rattle.nl_commit.specs.CleaningEvents.{kept_numbers, resized_in}
+use Rattle.nl_commit.specs.Layout.{layout_of}
 use Rattle.nl_core.specs.NeededBlocks.{AreNeededCounts}
 use Rattle.nl_core.proofs.ResizedPens.{counts-are-as-many, does-not-resized, does-resized, has-resized, is-more, not-grown}
 use Rattle.nl_core.proofs.resizing.resize.Goals as goal

@@ -5,8 +5,8 @@ use Rattle.nl_types.specs.declared.event.Event.TheVariants as event
 use Rattle.nl_types.specs.declared.reply.Answer.TheVariants as answer
 use Rattle.nl_counts.specs.Counted.{IsCounted}
 use Rattle.nl_counts.specs.Events.{IsNextWritten}
-use Rattle.nl_core.specs.CleaningEvents.{kept_numbers}
-use Rattle.nl_core.specs.Layout.{Does, layout_of, unshared}
+use Rattle.nl_commit.specs.CleaningEvents.{kept_numbers}
+use Rattle.nl_commit.specs.Layout.{Does, layout_of, unshared}
 use Rattle.nl_core.proofs.Checkpointing.{does-refused, does-written}
 use Rattle.nl_core.specs.Facts.CountedPens.{next-written, numbers-next, refused-counts}
 use Rattle.nl_core.specs.Facts.Ledgers.{can_be-drafted, has_few-names}

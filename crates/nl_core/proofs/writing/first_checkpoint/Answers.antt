@@ -1,7 +1,7 @@
 use Rattle.std.proofs.Common.{[], ◌∷◌, ◌++◌}
 use Rattle.std.proofs.lemmas.Result.{err_from_is_err_and}
-use Rattle.nl_core.specs.CleaningEvents.{kept_numbers}
-use Rattle.nl_core.specs.Layout.{layout_of}
+use Rattle.nl_commit.specs.CleaningEvents.{kept_numbers}
+use Rattle.nl_commit.specs.Layout.{layout_of}
 use Rattle.nl_core.specs.Facts.CountedPens.{tells-needs}
 use Rattle.nl_core.proofs.FirstCounts.{blank-counted, blank-gone, first-written}
 use Rattle.nl_core.proofs.Formats.{can_be-drafted, has_few-names, new-volume, refused-first}

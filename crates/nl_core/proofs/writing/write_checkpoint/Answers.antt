@@ -1,6 +1,6 @@
 use Rattle.std.proofs.Common.{ap, ◌∙◌}
 use Rattle.std.proofs.lemmas.Result.{err_from_is_err_and}
-use Rattle.nl_core.specs.Volume.{published}
+use Rattle.nl_commit.specs.Volume.{published}
 use Rattle.nl_core.proofs.Drafted.{draft-comes_next, refused-draft, written-draft}
 use Rattle.nl_core.proofs.writing.write_checkpoint.Goals as goal
 

@@ -3,7 +3,7 @@ use Rattle.std.specs.Prelude.{Ok}
 use Rattle.nl_types.specs.declared.event.Event.TheVariants as event
 use Rattle.nl_types.specs.declared.reply.Answer.{Answer}
 use Rattle.nl_types.specs.declared.reply.Answer.TheVariants as answer
-use Rattle.nl_core.specs.Layout.{Does, unshared}
+use Rattle.nl_commit.specs.Layout.{Does, unshared}
 use Rattle.nl_lib.proofs.Replies.{mode-done}
 use Rattle.nl_lib.proofs.changes.change_cpmode.Goals as goal
 

@@ -4,7 +4,7 @@ use Rattle.nl_types.specs.declared.event.Event.TheVariants as event
 use Rattle.nl_types.specs.declared.event.Mode.TheVariants.{Plain}
 use Rattle.nl_types.specs.declared.reply.Answer.{Answer}
 use Rattle.nl_types.specs.declared.reply.Answer.TheVariants as answer
-use Rattle.nl_core.specs.Layout.{Does, unshared}
+use Rattle.nl_commit.specs.Layout.{Does, unshared}
 use Rattle.nl_lib.proofs.Replies.{checkpoint-done}
 use Rattle.nl_lib.proofs.changes.make_checkpoint.Goals as goal
 

@@ -2,7 +2,7 @@ use Rattle.std.proofs.Common.{subst}
 use Rattle.std.specs.Prelude.{Ok}
 use Rattle.nl_types.specs.declared.event.Event.TheVariants as event
 use Rattle.nl_types.specs.declared.reply.Answer.{Answer}
-use Rattle.nl_core.specs.Layout.{Does, unshared}
+use Rattle.nl_commit.specs.Layout.{Does, unshared}
 use Rattle.nl_lib.proofs.changes.resize.Goals as goal
 
 pub returns : goal.returns

@@ -1,5 +1,5 @@
 use Rattle.std.proofs.Common.{ℕ}
-use Rattle.nl_core.specs.Layout.{IsPen}
+use Rattle.nl_commit.specs.Layout.{IsPen}
 use Rattle.nl_lib.specs.CleanedSegments.{AreMoved}
 use Rattle.nl_lib.proofs.MovedAway.{needed_of}
 use Rattle.nl_lib.proofs.cleaning.clean_segment.Given as goal

@@ -1,5 +1,5 @@
 use Rattle.std.proofs.Common.{◌≡◌, ◌+◌, drop}
-use Rattle.nl_core.specs.Layout.{Layout}
+use Rattle.nl_commit.specs.Layout.{Layout}
 use Rattle.nl_lib.specs.CleanedSegments.{CleansSegments}
 use Rattle.nl_lib.specs.declared.cleaning.Cleaned.{Cleaned}
 use Rattle.nl_lib.proofs.cleaning.clean_segments.Given as goal

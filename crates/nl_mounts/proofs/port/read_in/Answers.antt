@@ -1,4 +1,4 @@
-use Rattle.nl_core.specs.Shown.{pages_shown}
+use Rattle.nl_commit.specs.Shown.{pages_shown}
 use Rattle.nl_mounts.proofs.Looking.{of_tree}
 use Rattle.nl_mounts.proofs.PortPages.{touches_in}
 use Rattle.nl_mounts.proofs.port.read_in.Goals as goal

@@ -1,6 +1,6 @@
 use Rattle.std.proofs.Common.{refl}
 use Rattle.nl_types.specs.declared.error.VolError.TheVariants.{BadMount}
-use Rattle.nl_core.specs.Shown.{pages_shown}
+use Rattle.nl_commit.specs.Shown.{pages_shown}
 use Rattle.nl_mounts.specs.Warming.Warms.{Nothing}
 use Rattle.nl_mounts.proofs.Looking.{of_tree}
 use Rattle.nl_mounts.proofs.PortPages.{puts_in, warms_in}

@@ -1,5 +1,5 @@
 use Rattle.std.proofs.Common.{◌≡◌, drop}
-use Rattle.nl_core.specs.Commits.{with_ends}
+use Rattle.nl_commit.specs.Commits.{with_ends}
 use Rattle.nl_publish.proofs.tables.end_numbers.Given as goal
 
 -- with the numbers that are left, the table is the one that is promised

@@ -1,6 +1,6 @@
 use Rattle.std.proofs.Common.{◌≡◌}
 use Rattle.std.specs.Vec.Iter.{into_iter_items}
-use Rattle.nl_core.specs.Commits.{with_births}
+use Rattle.nl_commit.specs.Commits.{with_births}
 use Rattle.nl_publish.proofs.tables.enter_births.Given as goal
 
 -- with the births that are left, the table is the one that is promised

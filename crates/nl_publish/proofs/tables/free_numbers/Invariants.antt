@@ -1,5 +1,5 @@
 use Rattle.std.proofs.Common.{◌≡◌, drop}
-use Rattle.nl_core.specs.Commits.{without_numbers}
+use Rattle.nl_commit.specs.Commits.{without_numbers}
 use Rattle.nl_publish.proofs.tables.free_numbers.Given as goal
 
 abbrev pub invariant-loop-number : goal.invariant-loop-number

@@ -1,6 +1,6 @@
 use Rattle.std.proofs.Common.{ap, ◌∙◌}
-use Rattle.nl_core.specs.Layout.{Layout, layout_pages}
-use Rattle.nl_core.specs.Volume.{boundary_in}
+use Rattle.nl_commit.specs.Layout.{Layout, layout_pages}
+use Rattle.nl_commit.specs.Volume.{boundary_in}
 use Rattle.nl_core.proofs.Views.{boundary-means}
 use Rattle.nl_core.proofs.pen.Pen.boundary.Goals as goal
 

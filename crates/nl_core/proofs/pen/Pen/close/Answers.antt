@@ -1,4 +1,4 @@
-use Rattle.nl_core.specs.CleaningEvents.{kept_numbers}
+use Rattle.nl_commit.specs.CleaningEvents.{kept_numbers}
 use Rattle.nl_core.proofs.pen.Pen.close.Goals as goal
 
 pub invariant_of-self : goal.invariant_of-self

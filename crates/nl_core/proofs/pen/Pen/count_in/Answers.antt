@@ -1,4 +1,4 @@
-use Rattle.nl_core.specs.CleaningEvents.{needed_by}
+use Rattle.nl_commit.specs.CleaningEvents.{needed_by}
 use Rattle.nl_core.specs.Facts.CountedPens.{told-count, told-none}
 use Rattle.nl_core.specs.Facts.Outside.{needed-outside}
 use Rattle.nl_core.proofs.pen.Pen.count_in.Goals as goal

@@ -2,8 +2,8 @@ use Rattle.std.proofs.Common.{◌≡◌, subst}
 use Rattle.std.specs.Prelude.{IfOk}
 use Rattle.nl_cpfile.specs.Tables.{Table}
 use Rattle.nl_vstore.specs.Counts.{needed_counts}
-use Rattle.nl_core.specs.CleanerViews.{counts_after, needed_from}
-use Rattle.nl_core.specs.Layout.{Layout}
+use Rattle.nl_commit.specs.CleanerViews.{counts_after, needed_from}
+use Rattle.nl_commit.specs.Layout.{Layout}
 use Rattle.nl_core.proofs.pen.Pen.counts_after.Goals as goal
 
 pub returns-clause-counts : goal.returns-clause-counts

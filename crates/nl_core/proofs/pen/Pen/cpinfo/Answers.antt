@@ -1,7 +1,7 @@
 use Rattle.nl_cpfile.specs.Tables.{rows}
 use Rattle.std.proofs.Common.{ap, ◌∙◌}
 use Rattle.nl_types.specs.Rows.{kept_row}
-use Rattle.nl_core.specs.Layout.{Layout, layout_pages}
+use Rattle.nl_commit.specs.Layout.{Layout, layout_pages}
 use Rattle.nl_core.specs.Facts.CheckpointEvents.{rows-means}
 use Rattle.nl_core.proofs.pen.Pen.cpinfo.Goals as goal
 

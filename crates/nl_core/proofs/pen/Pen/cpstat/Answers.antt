@@ -1,6 +1,6 @@
 use Rattle.nl_cpfile.specs.Tables.{cpstat_of}
 use Rattle.std.proofs.Common.{ap, ◌∙◌}
-use Rattle.nl_core.specs.Layout.{Layout, layout_pages}
+use Rattle.nl_commit.specs.Layout.{Layout, layout_pages}
 use Rattle.nl_core.proofs.Views.{counts-means}
 use Rattle.nl_core.proofs.pen.Pen.cpstat.Goals as goal
 

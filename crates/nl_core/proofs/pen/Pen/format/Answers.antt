@@ -1,4 +1,4 @@
-use Rattle.nl_core.specs.Layout.{layout_of}
+use Rattle.nl_commit.specs.Layout.{layout_of}
 use Rattle.nl_core.proofs.FirstCounts.{as-many-segments}
 use Rattle.nl_core.proofs.Formats.{blank-volume}
 use Rattle.nl_core.proofs.pen.Pen.format.Goals as goal

@@ -1,4 +1,4 @@
-use Rattle.nl_core.specs.Layout.{Layout}
+use Rattle.nl_commit.specs.Layout.{Layout}
 use Rattle.std.proofs.Common.{ap, sym, ◌∙◌}
 use Rattle.nl_core.proofs.pen.Pen.is_dirty.Goals as goal
 

@@ -1,5 +1,5 @@
 use Rattle.std.proofs.Common.{ap, ◌∙◌}
-use Rattle.nl_core.specs.Layout.{Layout, layout_pages}
+use Rattle.nl_commit.specs.Layout.{Layout, layout_pages}
 use Rattle.nl_core.specs.Facts.CheckpointEvents.{latest-same}
 use Rattle.nl_core.proofs.pen.Pen.latest.Goals as goal
 

@@ -1,5 +1,5 @@
 use Rattle.std.proofs.Common.{subst}
-use Rattle.nl_core.specs.Layout.{IsPen}
+use Rattle.nl_commit.specs.Layout.{IsPen}
 use Rattle.nl_core.proofs.pen.Pen.means_a_world.Goals as goal
 
 pub returns : goal.returns

@@ -1,5 +1,5 @@
 use Rattle.std.proofs.Common.{length, ap, ◌∙◌}
-use Rattle.nl_core.specs.Layout.{Layout, layout_pages}
+use Rattle.nl_commit.specs.Layout.{Layout, layout_pages}
 use Rattle.nl_core.proofs.Views.{mounts-means}
 use Rattle.nl_core.proofs.pen.Pen.mount_count.Goals as goal
 

@@ -1,7 +1,7 @@
 use Rattle.std.proofs.Common.{ap, ◌∙◌}
-use Rattle.nl_core.specs.CleanerViews.{needed_told}
-use Rattle.nl_core.specs.CleaningEvents.{kept_numbers}
-use Rattle.nl_core.specs.Layout.{Layout}
+use Rattle.nl_commit.specs.CleanerViews.{needed_told}
+use Rattle.nl_commit.specs.CleaningEvents.{kept_numbers}
+use Rattle.nl_commit.specs.Layout.{Layout}
 use Rattle.nl_core.proofs.pen.Pen.needed.Goals as goal
 
 pub returns : goal.returns

@@ -1,8 +1,8 @@
 use Rattle.std.proofs.Common.{[], ◌∷◌, ap, sym, subst, ◌∙◌}
 use Rattle.nl_types.specs.declared.event.Event.{Event}
-use Rattle.nl_core.specs.Layout.{Does, unshared}
-use Rattle.nl_core.specs.Notes.{ChangesLists, DoesNoting, HasNoted, where_true}
-use Rattle.nl_core.specs.declared.commit.Commit.TheVariants.{ModeSet}
+use Rattle.nl_commit.specs.Layout.{Does, unshared}
+use Rattle.nl_commit.specs.Notes.{ChangesLists, DoesNoting, HasNoted, where_true}
+use Rattle.nl_commit.specs.declared.commit.Commit.TheVariants.{ModeSet}
 use Rattle.nl_core.proofs.NotedEvents.{noting-same_mode}
 use Rattle.nl_core.proofs.pen.Pen.note_mode.Goals as goal
 

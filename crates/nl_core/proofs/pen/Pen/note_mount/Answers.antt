@@ -2,8 +2,8 @@ use Rattle.std.proofs.Common.{◌++◌, List, refl, ap, sym, subst, ◌∙◌}
 use Rattle.std.specs.Prelude.{Ok, Err}
 use Rattle.std.proofs.lemmas.Result.{err_from_is_err_and}
 use Rattle.nl_types.specs.declared.event.Event.{Event}
-use Rattle.nl_core.specs.Notes.{ChangesLists, HasNoted, mounted_as}
-use Rattle.nl_core.specs.declared.commit.Commit.{Commit}
+use Rattle.nl_commit.specs.Notes.{ChangesLists, HasNoted, mounted_as}
+use Rattle.nl_commit.specs.declared.commit.Commit.{Commit}
 use Rattle.nl_core.proofs.NotedEvents.{does-shared, noting, noting-refused, noting-unlisted}
 use Rattle.nl_core.proofs.pen.Pen.note_mount.Goals as goal
 

@@ -5,10 +5,10 @@ use Rattle.nl_types.specs.declared.error.VolError.TheVariants as error
 use Rattle.nl_types.specs.declared.event.Event.{Event}
 use Rattle.nl_types.specs.Segments.{Segments}
 use Rattle.nl_types.specs.declared.reply.Answer.TheVariants as answer
-use Rattle.nl_core.specs.CleaningEvents.{resized_in}
-use Rattle.nl_core.specs.Layout.{Layout}
-use Rattle.nl_core.specs.Notes.{DoesNoting, HasNoted, where_true}
-use Rattle.nl_core.specs.declared.commit.Commit.TheVariants.{Resized}
+use Rattle.nl_commit.specs.CleaningEvents.{resized_in}
+use Rattle.nl_commit.specs.Layout.{Layout}
+use Rattle.nl_commit.specs.Notes.{DoesNoting, HasNoted, where_true}
+use Rattle.nl_commit.specs.declared.commit.Commit.TheVariants.{Resized}
 use Rattle.nl_core.proofs.NotedEvents.{does-shared, noted-more, noting, noting-not_asked, noting-refused, noting-unreserved}
 use Rattle.nl_core.proofs.pen.Pen.note_resize.Goals as goal
 

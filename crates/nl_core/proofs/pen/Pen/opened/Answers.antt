@@ -1,4 +1,4 @@
-use Rattle.nl_core.specs.Layout.{layout_of}
+use Rattle.nl_commit.specs.Layout.{layout_of}
 use Rattle.nl_core.proofs.pen.Pen.opened.Goals as goal
 
 pub invariant_of-result : goal.invariant_of-result

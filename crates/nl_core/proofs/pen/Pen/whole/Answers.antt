@@ -1,6 +1,6 @@
 use Rattle.std.proofs.Common.{subst, sym}
-use Rattle.nl_core.specs.Commits.{IsImage}
-use Rattle.nl_core.specs.Layout.{layout_of}
+use Rattle.nl_commit.specs.Commits.{IsImage}
+use Rattle.nl_commit.specs.Layout.{layout_of}
 use Rattle.nl_core.proofs.Images.{pen-image}
 use Rattle.nl_core.proofs.pen.Pen.whole.Goals as goal
 

@@ -8,12 +8,12 @@ use Rattle.nl_layout.specs.Root.{root_of}
 use Rattle.nl_layout.specs.declared.root.Root.{Root}
 use Rattle.nl_tree.specs.Held.{Holding}
 use Rattle.nl_files.specs.CheckpointTrees.{HoldsTree}
-use Rattle.nl_core.specs.Changes.{HasChanged}
+use Rattle.nl_commit.specs.Changes.{HasChanged}
 use Rattle.nl_core.specs.Inside.{lists_of}
-use Rattle.nl_core.specs.Means.{StepsWorldsOver, Means}
-use Rattle.nl_core.specs.Tables.{RoomyLists}
-use Rattle.nl_core.specs.Volume.{Lists, latest_root}
-use Rattle.nl_core.specs.Facts.Events.{change-follows, refused_change-follows}
+use Rattle.nl_commit.specs.Means.{StepsWorldsOver, Means}
+use Rattle.nl_commit.specs.Tables.{RoomyLists}
+use Rattle.nl_commit.specs.Volume.{Lists, latest_root}
+use Rattle.nl_commit.specs.Facts.Events.{change-follows, refused_change-follows}
 use Rattle.nl_core.proofs.tables.Tables.change.Goals as goal
 use Rattle.nl_core.proofs.tables.Tables.change.Goals.{then-self, else-self}
 

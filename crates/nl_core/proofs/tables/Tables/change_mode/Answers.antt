@@ -6,9 +6,9 @@ use Rattle.nl_types.specs.declared.reply.Answer.TheVariants as answer
 use Rattle.nl_types.specs.Rows.{mode_change}
 use Rattle.nl_cpfile.specs.Tables as tables
 use Rattle.nl_core.specs.Inside.{lists_of}
-use Rattle.nl_core.specs.Means.{StepsWorldsOver}
-use Rattle.nl_core.specs.Tables.{RoomyLists}
-use Rattle.nl_core.specs.Volume.{Lists, with_checkpoint_mode}
+use Rattle.nl_commit.specs.Means.{StepsWorldsOver}
+use Rattle.nl_commit.specs.Tables.{RoomyLists}
+use Rattle.nl_commit.specs.Volume.{Lists, with_checkpoint_mode}
 use Rattle.nl_core.specs.Facts.CheckpointEvents.{held_mode-follows, mode-follows, no_mode-follows}
 use Rattle.nl_core.proofs.tables.Tables.change_mode.Goals as goal
 

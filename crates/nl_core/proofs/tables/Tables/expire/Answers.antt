@@ -6,9 +6,9 @@ use Rattle.nl_types.specs.declared.reply.Answer.TheVariants as answer
 use Rattle.nl_types.specs.NumberLists.{is_one_of}
 use Rattle.nl_cpfile.specs.Tables as tables
 use Rattle.nl_core.specs.Inside.{lists_of}
-use Rattle.nl_core.specs.Means.{StepsWorldsOver}
-use Rattle.nl_core.specs.Tables.{RoomyLists}
-use Rattle.nl_core.specs.Volume.{Lists, gone_from, without_checkpoints}
+use Rattle.nl_commit.specs.Means.{StepsWorldsOver}
+use Rattle.nl_commit.specs.Tables.{RoomyLists}
+use Rattle.nl_commit.specs.Volume.{Lists, gone_from, without_checkpoints}
 use Rattle.nl_core.specs.Facts.CheckpointEvents.{expiry-follows, expiry-stays, no_expiry-follows}
 use Rattle.nl_core.proofs.tables.Tables.expire.Goals as goal
 

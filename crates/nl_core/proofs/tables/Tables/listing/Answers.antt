@@ -3,7 +3,7 @@ use Rattle.std.specs.Prelude.{Ok}
 use Rattle.nl_types.specs.declared.reply.Answer.TheVariants as answer
 use Rattle.nl_types.specs.Rows as told
 use Rattle.nl_cpfile.specs.Tables as tables
-use Rattle.nl_core.specs.Tables.{RoomyLists}
+use Rattle.nl_commit.specs.Tables.{RoomyLists}
 use Rattle.nl_core.specs.Facts.CheckpointEvents.{listing-follows}
 use Rattle.nl_core.proofs.tables.Tables.listing.Goals as goal
 

@@ -5,11 +5,11 @@ use Rattle.nl_types.specs.declared.reply.Answer.TheVariants as answer
 use Rattle.nl_cpfile.specs.Tables.{kept_at}
 use Rattle.nl_cpfile.specs.declared.checkpoint.Checkpoint.{Checkpoint}
 use Rattle.nl_core.specs.Inside.{lists_of}
-use Rattle.nl_core.specs.Means.{StepsWorldsOver}
-use Rattle.nl_core.specs.MountTables.{MountTable}
-use Rattle.nl_core.specs.Tables.{RoomyLists}
-use Rattle.nl_core.specs.Volume.{Lists, with_mount}
-use Rattle.nl_core.specs.Facts.Events.{mount-follows, no_mount-follows, plain_mount-follows, spent_mount-follows}
+use Rattle.nl_commit.specs.Means.{StepsWorldsOver}
+use Rattle.nl_commit.specs.MountTables.{MountTable}
+use Rattle.nl_commit.specs.Tables.{RoomyLists}
+use Rattle.nl_commit.specs.Volume.{Lists, with_mount}
+use Rattle.nl_commit.specs.Facts.Events.{mount-follows, no_mount-follows, plain_mount-follows, spent_mount-follows}
 use Rattle.nl_core.proofs.tables.Tables.mount.Goals as goal
 
 -- what is found in the fields is found in the lists

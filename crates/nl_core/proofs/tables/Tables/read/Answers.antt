@@ -5,10 +5,10 @@ use Rattle.nl_layout.specs.Root.{root_of}
 use Rattle.nl_layout.specs.declared.root.Root.{Root}
 use Rattle.nl_files.specs.CheckpointTrees.{HoldsTree}
 use Rattle.nl_core.specs.Inside.{lists_of}
-use Rattle.nl_core.specs.Means.{StepsWorldsOver}
-use Rattle.nl_core.specs.Tables.{RoomyLists}
-use Rattle.nl_core.specs.Volume.{Lists, latest_root}
-use Rattle.nl_core.specs.Facts.Events.{read-follows}
+use Rattle.nl_commit.specs.Means.{StepsWorldsOver}
+use Rattle.nl_commit.specs.Tables.{RoomyLists}
+use Rattle.nl_commit.specs.Volume.{Lists, latest_root}
+use Rattle.nl_commit.specs.Facts.Events.{read-follows}
 use Rattle.nl_core.proofs.tables.Tables.read.Goals as goal
 
 pub returns : goal.returns

@@ -3,9 +3,9 @@ use Rattle.std.specs.Prelude.{map, Some}
 use Rattle.std.specs.Ordering.{nat_cmp}
 use Rattle.std.specs.FinMap.{find}
 use Rattle.nl_cpfile.specs.Tables.{kept_at}
-use Rattle.nl_core.specs.Tables.{RoomyLists}
-use Rattle.nl_core.specs.Volume.{mount_of}
-use Rattle.nl_core.specs.Facts.Events.{gone_mount_read-follows, mount_read-follows}
+use Rattle.nl_commit.specs.Tables.{RoomyLists}
+use Rattle.nl_commit.specs.Volume.{mount_of}
+use Rattle.nl_commit.specs.Facts.Events.{gone_mount_read-follows, mount_read-follows}
 use Rattle.nl_core.proofs.tables.Tables.read_mounted.Goals as goal
 
 pub returns-in_default-kept : goal.returns-in_default-kept

@@ -6,9 +6,9 @@ use Rattle.nl_types.specs.declared.reply.Answer.TheVariants as answer
 use Rattle.nl_types.specs.Rows.{range_removal}
 use Rattle.nl_cpfile.specs.Tables as tables
 use Rattle.nl_core.specs.Inside.{lists_of}
-use Rattle.nl_core.specs.Means.{StepsWorldsOver}
-use Rattle.nl_core.specs.Tables.{RoomyLists}
-use Rattle.nl_core.specs.Volume.{Lists, without_checkpoints}
+use Rattle.nl_commit.specs.Means.{StepsWorldsOver}
+use Rattle.nl_commit.specs.Tables.{RoomyLists}
+use Rattle.nl_commit.specs.Volume.{Lists, without_checkpoints}
 use Rattle.nl_core.specs.Facts.CheckpointEvents.{no_range_removal-follows, range_removal-follows, range-stays}
 use Rattle.nl_core.proofs.tables.Tables.remove_range.Goals as goal
 

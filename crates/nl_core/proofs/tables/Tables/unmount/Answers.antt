@@ -4,10 +4,10 @@ use Rattle.std.specs.Option.{is_some}
 use Rattle.nl_types.specs.declared.event.Event.TheVariants.{Unmount}
 use Rattle.nl_types.specs.declared.reply.Answer.TheVariants as answer
 use Rattle.nl_core.specs.Inside.{lists_of}
-use Rattle.nl_core.specs.Means.{StepsWorldsOver}
-use Rattle.nl_core.specs.MountTables.{MountTable}
-use Rattle.nl_core.specs.Tables.{RoomyLists}
-use Rattle.nl_core.specs.Volume.{Lists, without_mount}
+use Rattle.nl_commit.specs.Means.{StepsWorldsOver}
+use Rattle.nl_commit.specs.MountTables.{MountTable}
+use Rattle.nl_commit.specs.Tables.{RoomyLists}
+use Rattle.nl_commit.specs.Volume.{Lists, without_mount}
 use Rattle.nl_core.specs.Facts.CheckpointEvents.{has_mount, no_unmount-follows, unmount-follows}
 use Rattle.nl_core.proofs.tables.Tables.unmount.Goals as goal
 

@@ -1,6 +1,6 @@
 use Rattle.std.proofs.Common.{sym, subst}
-use Rattle.nl_core.specs.Commits.{image_of}
-use Rattle.nl_core.specs.Shown.{pages_shown}
+use Rattle.nl_commit.specs.Commits.{image_of}
+use Rattle.nl_commit.specs.Shown.{pages_shown}
 use Rattle.nl_publish.specs.Histories.{Known}
 use Rattle.nl_mounts.specs.Caching.{AreCachedPages}
 use Rattle.nl_mounts.specs.Ports.{IsSeenOn, OfMountFile, OfTreeFile, PortView, TouchesIfAny}

@@ -1,7 +1,8 @@
 use Rattle.std.proofs.Common.{◌≡◌, Err, ap, sym, subst}
 use Rattle.nl_types.specs.declared.error.VolError.TheVariants.{BadMount}
 use Rattle.nl_publish.specs.Histories.{Known}
-use Rattle.nl_mounts.specs.Ports.{Looked, PortView}
+use Rattle.nl_lanes.specs.Reading.{Looked}
+use Rattle.nl_mounts.specs.Ports.{PortView}
 use Rattle.nl_mounts.specs.Warming.{IsWarmingOf}
 use Rattle.nl_mounts.proofs.port.Port.warm.Goals as goal
 

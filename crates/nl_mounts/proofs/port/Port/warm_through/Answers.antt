@@ -1,7 +1,7 @@
 use Rattle.std.proofs.Common.{Some, sym, refl, subst}
 use Rattle.std.proofs.lemmas.Result.{err_from_is_err_and}
-use Rattle.nl_core.specs.Commits.{image_of}
-use Rattle.nl_core.specs.Shown.{pages_shown}
+use Rattle.nl_commit.specs.Commits.{image_of}
+use Rattle.nl_commit.specs.Shown.{pages_shown}
 use Rattle.nl_publish.specs.Histories.{Known}
 use Rattle.nl_mounts.specs.Caching.{AreCachedPages}
 use Rattle.nl_mounts.specs.Ports.{IsSeenOn, OfMountFile, PortView}

@@ -1,7 +1,7 @@
 use Rattle.std.proofs.Common.{◌∙◌, ap, sym, subst, length, List}
 use Rattle.std.specs.Prelude.{nat_le}
 use mathlib.Core.List.{IsPrefix}
-use Rattle.nl_core.specs.declared.commit.Commit.{Commit}
+use Rattle.nl_commit.specs.declared.commit.Commit.{Commit}
 use Rattle.nl_publish.proofs.Fronts.{prefix_covers}
 use Rattle.nl_publish.proofs.history.Front.covers.Goals as goal
 

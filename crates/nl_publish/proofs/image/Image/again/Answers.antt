@@ -1,6 +1,6 @@
 use Rattle.std.proofs.Common.{ap, ◌∙◌, subst}
-use Rattle.nl_core.specs.Commits.{image_of}
-use Rattle.nl_core.specs.Shown.{MountsRise}
+use Rattle.nl_commit.specs.Commits.{image_of}
+use Rattle.nl_commit.specs.Shown.{MountsRise}
 use Rattle.nl_publish.proofs.image.Image.again.Goals as goal
 
 pub first-requires-clause-mounts : goal.first-requires-clause-mounts

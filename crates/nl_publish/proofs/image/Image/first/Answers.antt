@@ -1,8 +1,8 @@
 use Rattle.std.proofs.Common.{◌≡◌, [], ◌∷◌, List, ap, sym, ◌∙◌, subst, length}
-use Rattle.nl_core.specs.Commits.{IsHistory, image_of}
-use Rattle.nl_core.specs.declared.commit.Commit.{Commit}
+use Rattle.nl_commit.specs.Commits.{IsHistory, image_of}
+use Rattle.nl_commit.specs.declared.commit.Commit.{Commit}
 use Rattle.nl_publish.specs.Histories.{IsBegun}
-use Rattle.nl_core.specs.Shown.{MountsRise}
+use Rattle.nl_commit.specs.Shown.{MountsRise}
 use Rattle.nl_publish.proofs.image.Image.first.Goals as goal
 
 pub first-requires : goal.first-requires

@@ -1,7 +1,7 @@
 use Rattle.std.proofs.Common.{rules, ◌≡◌, ◌≢◌, [], ap, eqb, sym, ◌∙◌, subst, length, ◌++◌, ◌==◌, List, MatchBool}
 use Rattle.std.proofs.lemmas.Bool.{eqb-false}
-use Rattle.nl_core.specs.declared.commit.Commit.{Commit}
-use Rattle.nl_core.specs.Notes.{shown_of}
+use Rattle.nl_commit.specs.declared.commit.Commit.{Commit}
+use Rattle.nl_commit.specs.Notes.{shown_of}
 use Rattle.nl_publish.specs.declared.image.Image.{Image}
 use Rattle.nl_publish.specs.Locks.{HeldPen, IsHeld, listed}
 use Rattle.nl_publish.proofs.Holding.{settled, pending, empty_where}

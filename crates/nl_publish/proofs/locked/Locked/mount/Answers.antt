@@ -1,6 +1,6 @@
 use Rattle.std.proofs.Common.{ap, ◌≡◌, ℕ, sym, ◌∙◌, subst, Ok}
-use Rattle.nl_core.specs.Commits.{image_of}
-use Rattle.nl_core.specs.declared.commit.Commit.TheVariants as commit
+use Rattle.nl_commit.specs.Commits.{image_of}
+use Rattle.nl_commit.specs.declared.commit.Commit.TheVariants as commit
 use Rattle.nl_publish.specs.Histories.{EndsWith, Known}
 use Rattle.nl_publish.specs.Locks.{MountReply, MountRan}
 use Rattle.nl_publish.specs.Mounts.{Claim}

@@ -1,8 +1,8 @@
 use Rattle.std.proofs.Common.{rules, refl, ◌≡◌, [], ◌∷◌, ◌++◌, ap, sym, length, remove, ◌==◌, ◌∙◌, subst, List, append_assoc}
-use Rattle.nl_core.specs.declared.commit.Commit.{Commit}
+use Rattle.nl_commit.specs.declared.commit.Commit.{Commit}
 use Rattle.nl_publish.specs.declared.image.Entry.{Entry}
-use Rattle.nl_core.specs.Commits.{IsHistory}
-use Rattle.nl_core.specs.Notes.{shown_of}
+use Rattle.nl_commit.specs.Commits.{IsHistory}
+use Rattle.nl_commit.specs.Notes.{shown_of}
 use Rattle.nl_publish.specs.Histories.{Known, IsBegun}
 use Rattle.nl_publish.specs.Locks.{IsHeld, listed}
 use Rattle.std.proofs.lemmas.List.{append-nil}

@@ -1,5 +1,5 @@
 use Rattle.std.proofs.Common.{subst, refl, ◌++◌}
-use Rattle.nl_core.specs.Notes.{shown_of}
+use Rattle.nl_commit.specs.Notes.{shown_of}
 use Rattle.nl_publish.specs.Locks.{HeldPen, Keeps, listed}
 use Rattle.nl_publish.proofs.Holding.{shows, shows_more, next_start}
 use Rattle.nl_publish.proofs.locked.Locked.show.Goals as goal

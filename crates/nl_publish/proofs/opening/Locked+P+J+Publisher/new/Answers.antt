@@ -1,8 +1,8 @@
 use Rattle.std.proofs.Common.{◌≡◌, ◌++◌, ◌∷◌, [], List, ap, sym, ◌∙◌, subst}
-use Rattle.nl_core.specs.Commits.{image_of}
-use Rattle.nl_core.specs.declared.commit.Commit.{Commit}
+use Rattle.nl_commit.specs.Commits.{image_of}
+use Rattle.nl_commit.specs.declared.commit.Commit.{Commit}
 use Rattle.nl_publish.specs.Histories.{Known}
-use Rattle.nl_core.specs.Shown.{MountsRise}
+use Rattle.nl_commit.specs.Shown.{MountsRise}
 use Rattle.nl_publish.proofs.opening.Locked+P+J+Publisher.new.Goals as goal
 
 pub publish-requires-clause-mounts : goal.publish-requires-clause-mounts

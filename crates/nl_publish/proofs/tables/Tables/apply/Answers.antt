@@ -1,7 +1,7 @@
 use Rattle.std.proofs.Common.{ap, sym, ◌∙◌, subst}
-use Rattle.nl_core.specs.Commits.{IsNext, applied}
-use Rattle.nl_core.specs.Shown.{Shown}
-use Rattle.nl_core.specs.declared.commit.Commit.TheVariants.{RangeRemoved}
+use Rattle.nl_commit.specs.Commits.{IsNext, applied}
+use Rattle.nl_commit.specs.Shown.{Shown}
+use Rattle.nl_commit.specs.declared.commit.Commit.TheVariants.{RangeRemoved}
 use Rattle.nl_cpfile.specs.Tables.{Table}
 use Rattle.nl_publish.proofs.Following.{written-comes_next}
 use Rattle.nl_publish.proofs.tables.Tables.apply.Goals as goal

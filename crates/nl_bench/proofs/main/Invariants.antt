@@ -1,4 +1,0 @@
-use Rattle.nl_bench.proofs.main.Given as goal
-
-abbrev pub ghosts-work : goal.ghosts-work
-ghosts-work g a = record { book = λ id. a.opened.seen.book }

@@ -1,0 +1,27 @@
+//! Rounds of cleaning beside readers.
+use crate::job::Job;
+use crate::planning::plan;
+use nl_commit::Round;
+use nl_core::Pen;
+use nl_device::Device;
+use nl_protect::Config;
+use nl_types::{Event, Reply, VolError};
+use std::alloc::Global;
+
+impl<D: Device> Round<Pen<D>> for Job {
+    ghost use Rattle.nl_cleaner.specs.Rounds.{cleaning_habits};
+
+    ghost habits = { cleaning_habits };
+
+    fn plan(alloc: Global, pen: &Pen<D>, config: &Config, now: u64) -> Result<Self, VolError> {
+        plan(alloc, pen, config, now)
+    }
+
+    fn next(&self, pen: &Pen<D>) -> Option<Event> {
+        Job::next(self, pen)
+    }
+
+    fn note(&mut self, reply: &Reply) {
+        Job::note(self, reply)
+    }
+}

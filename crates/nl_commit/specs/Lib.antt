@@ -1,0 +1,15 @@
+pub mod MountTables
+pub mod Volume
+pub mod Means
+pub mod Draft
+pub mod Changes
+pub mod Tables
+pub mod CleaningEvents
+pub mod Layout
+pub mod Shown
+pub mod Commits
+pub mod Notes
+pub mod Laws
+pub mod CleanerViews
+pub mod Rounds
+pub mod Facts

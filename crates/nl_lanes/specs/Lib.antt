@@ -1,0 +1,3 @@
+pub mod Reading
+pub mod Jobs
+pub mod Facts

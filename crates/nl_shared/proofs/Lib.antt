@@ -1,0 +1,4 @@
+pub mod ToldSegments
+pub mod SharedReads
+pub mod SharedRounds
+pub mod SharedEvents

@@ -1,0 +1,10 @@
+use Rattle.std.proofs.Common.{refl, subst}
+use Rattle.nl_shared.specs.SharedVolumes.{Sharing, shared_steps}
+use Rattle.nl_shared.proofs.shared.SharedVolumeVolume.clean_step.Goals as goal
+
+pub returns-clause-steps : goal.returns-clause-steps
+returns-clause-steps g c =
+    let new : Sharing = record { held = c.step_round.new.locked; mounts = c.self.inside.mounts.items } in
+    subst (λ (s : Sharing). shared_steps s c.args.job.now c.step_round.result new c.step_round.new.job)
+    c.self.view_is
+    (c.step_round.ensures.stepped, refl)

@@ -1,0 +1,2 @@
+pub mod SharedVolumes
+pub mod Laws

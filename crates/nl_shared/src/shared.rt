@@ -1,0 +1,310 @@
+//! A shared volume as the volume of a script. One thread has its writer and its ports.
+ghost use Rattle.std.specs.Prelude.{◌≡◌, ◌<◌, IfOk, IfSome, IsOkUnless, OnSome, length, option_map};
+ghost use Rattle.nl_cleaner.specs.Job.{steps_left};
+ghost use Rattle.nl_commit.specs.Layout.{layout_of};
+ghost use Rattle.nl_commit.specs.Volume.{without_mounts};
+ghost use Rattle.nl_publish.specs.Locks.{Ran};
+ghost use Rattle.nl_shared.specs.SharedVolumes.{HasBegunShared, IsHeldTold, IsRoundStep, MountComes, ReadComes, mounts_left_by, mount_of, names_reply, place_of, reader_count, shared_habits, stat_reply, without_mount};
+ghost use Rattle.nl_script.specs.FileReads.{IsPortReply};
+ghost use Rattle.nl_types.specs.declared.event.Ask.TheVariants as question;
+ghost use Rattle.nl_types.specs.declared.event.Event.TheVariants as event;
+
+use nl_cleaner::Job;
+use nl_cleaner::laws::{steps_end_rounds, unmounts_leave_rounds};
+use nl_core::Pen;
+use nl_cpfile::Cpstat;
+use nl_device::Device;
+use nl_mounts::{Port, seat_all, spend_all};
+use nl_protect::Config;
+use nl_publish::{Locked, Mount, Opened, Publisher, Volumes};
+use nl_script::{Volume, is_bad_mount, reply_of};
+use nl_sufile::Sustat;
+use nl_types::{
+    Answer, Ask, CheckpointNumber, Event, Items, MountNumber, Named, Reply, Segment, SegmentInfo,
+    Stat, VolError,
+};
+use std::alloc::Global;
+use std::marker::Model;
+use std::sync::Wait;
+
+/// How many ports read files side by side.
+const READERS: usize = 4;
+
+/// A volume whose commits are published, a port of its own, and the mounts that are held. A contract sees
+/// what lies under the lock, and the mounts.
+pub struct SharedVolume<'a, D: Device, J: Volumes, R: Wait> {
+    rt: &'a R,
+    alloc: Global,
+    locked: Locked<Pen<D>, J, Publisher>,
+    port: Port<J>,
+    mounts: Vec<Mount<J>>,
+}
+
+impl<'a, D: Device, J: Volumes, R: Wait> Model for SharedVolume<'a, D, J, R> {
+    ghost use Rattle.nl_shared.specs.SharedVolumes.{Sharing};
+
+    ghost Value = { Sharing };
+
+    ghost view = { λ v. record { held = v.locked; mounts = v.mounts.items } };
+}
+
+// ---- mounts
+
+fn place_of<J: Volumes>(mounts: &[Mount<J>], number: MountNumber) -> Option<usize>
+    ensures { result ≡ place_of number mounts.now }
+{
+    mounts.iter().position(|mount| mount.number() == number)
+}
+
+fn mount_of<J: Volumes>(mounts: &[Mount<J>], number: MountNumber) -> Option<&Mount<J>>
+    ensures { option_map (λ m. m.now) result ≡ mount_of number mounts.now }
+{
+    mounts.get(place_of(mounts, number)?)
+}
+
+/// Takes the mount of a number out, which was given back.
+fn forget<J: Volumes>(mounts: &mut Vec<Mount<J>>, number: MountNumber)
+    ensures { mounts.new.items ≡ without_mount number mounts.old.items }
+{
+    if let Some(place) = place_of(mounts.as_slice(), number) {
+        mounts.remove(place).spend();
+    }
+}
+
+// ---- reads
+
+fn names_reply(names: Result<Items<Named>, VolError>) -> Reply
+    ensures { result ≡ names_reply names }
+{
+    Ok(Answer::Names(names?))
+}
+
+fn stat_reply(stat: Result<Stat, VolError>) -> Reply
+    ensures { result ≡ stat_reply stat }
+{
+    Ok(Answer::Stat(stat?))
+}
+
+fn bytes_through<J: Volumes>(
+    alloc: Global,
+    port: &mut Port<J>,
+    mount: &Mount<J>,
+    path: &[u8],
+    offset: u64,
+    len: u64,
+) -> Reply
+    ensures { IsPortReply mount.now (question.Bytes path.now offset len) result }
+{
+    port.learn(mount);
+    reply_of(port.read(alloc, mount, path, offset, len))
+}
+
+fn names_through<J: Volumes>(
+    alloc: Global,
+    port: &mut Port<J>,
+    mount: &Mount<J>,
+    path: &[u8],
+) -> Reply
+    ensures { IsPortReply mount.now (question.List path.now) result }
+{
+    port.learn(mount);
+    names_reply(port.list(alloc, mount, path))
+}
+
+fn stat_through<J: Volumes>(port: &mut Port<J>, mount: &Mount<J>, path: &[u8]) -> Reply
+    ensures { IsPortReply mount.now (question.Stat path.now) result }
+{
+    port.learn(mount);
+    stat_reply(port.stat(mount, path))
+}
+
+/// What the port replies to a question about a mount.
+fn told<J: Volumes>(alloc: Global, port: &mut Port<J>, mount: &Mount<J>, ask: &Ask) -> Reply
+    ensures { IsPortReply mount.now ask.now result }
+{
+    match ask {
+        Ask::Bytes { path, offset, len } => {
+            bytes_through(alloc, port, mount, path.as_slice(), *offset, *len)
+        }
+        Ask::List { path } => names_through(alloc, port, mount, path.as_slice()),
+        Ask::Stat { path } => stat_through(port, mount, path.as_slice()),
+    }
+}
+
+// ---- beginning and end
+
+impl<'a, D: Device, J: Volumes, R: Wait> SharedVolume<'a, D, J, R> {
+    /// Shares a volume with four ports beside its own, which are handed out. `opened` has its id, and an
+    /// empty history.
+    ///
+    /// # Errors
+    /// `Memory`.
+    pub fn new(
+        rt: &'a R,
+        alloc: Global,
+        pen: Pen<D>,
+        opened: Opened,
+    ) -> Result<(Self, Vec<Port<J>>), VolError>
+        requires id { opened.seen.book ≡ J.book opened.id }
+        ensures begun { IfOk result (λ made. HasBegunShared opened.id pen made.0) }
+        ensures ports { IfOk result (λ made. length made.1.items ≡ reader_count) }
+        ensures refused { IsOkUnless result VolError.Memory }
+    {
+        let mut ports = Vec::with_capacity(alloc, READERS)?;
+        match Locked::new(alloc, rt, pen, opened, READERS + 1) {
+            Err((refusal, _pen)) => Err(refusal),
+            Ok((locked, mut seats)) => {
+                let seat = seats.remove(0);
+                seat_all(&mut ports, seats);
+                let volume = SharedVolume {
+                    rt,
+                    alloc,
+                    locked,
+                    port: Port::new(seat),
+                    mounts: Vec::new(alloc),
+                };
+                Ok((volume, ports))
+            }
+        }
+    }
+
+    /// Takes all mounts out, and gives the pen back. It takes no memory.
+    pub fn end(self) -> Pen<D>
+        ensures { result ≡ layout_of
+            (without_mounts self.entry.held.layout.lists) self.entry.held.layout.store }
+    {
+        let SharedVolume {
+            rt,
+            alloc: _,
+            locked,
+            port: _port,
+            mounts,
+        } = self;
+        spend_all(mounts);
+        locked.end(rt)
+    }
+}
+
+// ---- rounds of cleaning
+
+/// Does the next step of a round, where one is left.
+fn step_round<D: Device, J: Volumes, R: Wait>(
+    rt: &R,
+    locked: &mut Locked<Pen<D>, J, Publisher>,
+    job: &mut Job,
+) -> Option<Reply>
+    ensures stepped { IsRoundStep locked.old job.old result locked.new job.new }
+    ensures fewer { OnSome result
+        (steps_left job.new locked.new.layout < steps_left job.old locked.old.layout) }
+{
+    steps_end_rounds();
+    unmounts_leave_rounds();
+    locked.means_a_world();
+    job.next(locked.pen())?;
+    locked.clean_step(rt, job)
+}
+
+// ---- events
+
+impl<D: Device, J: Volumes, R: Wait> SharedVolume<'_, D, J, R> {
+    /// Mounts a checkpoint, and holds the mount. Its place is there before it is made.
+    fn mount(&mut self, checkpoint: CheckpointNumber) -> Reply
+        ensures { MountComes self.old checkpoint result self.new }
+    {
+        if self.mounts.reserve(1).is_err() {
+            return Err(VolError::Memory);
+        }
+        // `match`, as behind `?` the refusal would need a lemma of its own
+        match self.locked.mount(self.rt, checkpoint) {
+            Err(refusal) => Err(refusal),
+            Ok(mount) => {
+                let number = mount.number();
+                self.mounts.push_reserved(mount);
+                Ok(Answer::Mount(number))
+            }
+        }
+    }
+
+    /// Gives a mount back. Refused, it is held on.
+    fn unmount(&mut self, number: MountNumber) -> Reply
+        ensures ran { Ran self.old.held (event.Unmount number) result self.new.held }
+        ensures mounts { self.new.mounts ≡ mounts_left_by number result self.old.mounts }
+    {
+        let reply = self.locked.apply(self.rt, &Event::Unmount(number));
+        if reply.is_ok() {
+            forget(&mut self.mounts, number);
+        }
+        reply
+    }
+
+    /// What the port tells of a mount that is held, unless it doesn't find the mount.
+    fn told(&mut self, number: MountNumber, ask: &Ask) -> Option<Reply>
+        ensures told { IfSome result (IsHeldTold (mount_of number self.old.mounts) ask.now) }
+        ensures same { self.new ≡ self.old }
+    {
+        let mount = mount_of(self.mounts.as_slice(), number)?;
+        let reply = told(self.alloc, &mut self.port, mount, ask);
+        if is_bad_mount(&reply) {
+            None
+        } else {
+            Some(reply)
+        }
+    }
+
+    /// Reads through a mount, of which the pen is asked where the port doesn't tell.
+    fn read(&mut self, number: MountNumber, ask: &Ask, asked: &Event) -> Reply
+        requires { asked.now ≡ event.MountRead number ask.now }
+        ensures { ReadComes self.old number ask.now result self.new }
+    {
+        match self.told(number, ask) {
+            Some(reply) => reply,
+            None => self.locked.apply(self.rt, asked),
+        }
+    }
+}
+
+impl<D: Device, J: Volumes + Send + Sync, R: Wait> Volume for SharedVolume<'_, D, J, R> {
+    type Job = Job;
+
+    type Book = J;
+
+    ghost habits = { shared_habits };
+
+    fn apply(&mut self, event: &Event) -> Reply {
+        match event {
+            Event::Mount(checkpoint) => self.mount(*checkpoint),
+            Event::Unmount(number) => self.unmount(*number),
+            Event::MountRead(number, ask) => self.read(*number, ask, event),
+            _ => self.locked.apply(self.rt, event),
+        }
+    }
+
+    fn mount_of(&self, mount: MountNumber) -> Option<&Mount<J>> {
+        mount_of(self.mounts.as_slice(), mount)
+    }
+
+    fn suinfo(&self, segment: Segment) -> Result<SegmentInfo, VolError> {
+        self.locked.suinfo(segment)
+    }
+
+    fn needed(&self, segment: Segment) -> Result<u32, VolError> {
+        self.locked.needed(segment)
+    }
+
+    fn sustat(&self) -> Sustat {
+        self.locked.means_a_world();
+        self.locked.sustat()
+    }
+
+    fn cpstat(&self) -> Cpstat {
+        self.locked.cpstat()
+    }
+
+    fn plan(&self, alloc: Global, config: &Config, now: u64) -> Result<Job, VolError> {
+        self.locked.plan(alloc, config, now)
+    }
+
+    fn clean_step(&mut self, job: &mut Job) -> Option<Reply> {
+        step_round(self.rt, &mut self.locked, job)
+    }
+}

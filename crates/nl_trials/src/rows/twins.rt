@@ -1,0 +1,272 @@
+//! A pen and a shared volume with one port: each line is done on both. No contract says that a shared call
+//! does what its event does, so that their replies are compared, and what both are in the end.
+use crate::looks::look_at_pen;
+use crate::rows::answers::{add_counted, add_word, reply_text};
+use crate::rows::events::event_of;
+use crate::rows::ports::Ported;
+use crate::rows::questions::add_asked;
+use crate::rows::words::{number_at, small_at, word_at, words_of};
+use crate::volumes::closed;
+use nl_core::Pen;
+use nl_device::FaultDevice;
+use nl_lib::{
+    Cleaned, change_cpmode, clean_segments, delete_checkpoint, get_bdescs, get_suinfo, resize, sync,
+};
+use nl_publish::Volumes;
+use nl_types::{Answer, Event, Mode, Reply, Segment};
+use std::alloc::Global;
+use std::io;
+use std::sync::Wait;
+
+// ---- lines
+
+fn add_line(out: &mut Vec<u8>, line: &[u8]) -> io::Result<()> {
+    out.extend_from_slice(line)?;
+    out.push(b'\n')?;
+    Ok(())
+}
+
+/// Adds a line that no row expects where both tell other things.
+fn add_difference(out: &mut Vec<u8>, one: &[u8], other: &[u8]) -> io::Result<()> {
+    if one != other {
+        out.extend_from_slice(b"differs shared ")?;
+        add_line(out, other)?;
+    }
+    Ok(())
+}
+
+/// Adds the line that both tell.
+fn add_both(out: &mut Vec<u8>, one: &[u8], other: &[u8]) -> io::Result<()> {
+    add_line(out, one)?;
+    add_difference(out, one, other)
+}
+
+/// Adds the line that both replies are.
+fn add_replies(alloc: Global, one: &Reply, other: &Reply, out: &mut Vec<u8>) -> io::Result<()> {
+    let one = reply_text(alloc, one)?;
+    let other = reply_text(alloc, other)?;
+    add_both(out, one.as_slice(), other.as_slice())
+}
+
+// ---- events
+
+/// An event on a pen; by the call after libnilfs, where there is one.
+fn reply_of(pen: &mut Pen<FaultDevice>, event: &Event) -> Reply {
+    let done = match event {
+        Event::ChangeMode(number, mode) => change_cpmode(pen, *number, *mode),
+        Event::Remove(number) => delete_checkpoint(pen, *number),
+        Event::Resize(segments) => resize(pen, *segments),
+        _ => return pen.apply(event),
+    };
+    done.map(|()| Answer::Done)
+}
+
+fn do_event<J: Volumes, R: Wait>(
+    alloc: Global,
+    pen: &mut Pen<FaultDevice>,
+    ported: &mut Ported<'_, J, R>,
+    event: &Event,
+    out: &mut Vec<u8>,
+) -> io::Result<()> {
+    let one = reply_of(pen, event);
+    let other = ported.apply(alloc, event);
+    add_replies(alloc, &one, &other, out)
+}
+
+// ---- calls after libnilfs that are no events
+
+/// A sync on the shared volume: a checkpoint, where something is dirty.
+fn synced_by_event<J: Volumes, R: Wait>(
+    alloc: Global,
+    ported: &mut Ported<'_, J, R>,
+    is_dirty: bool,
+    moment: u64,
+) -> Reply {
+    if is_dirty {
+        let mode = Mode::Plain;
+        ported.apply(alloc, &Event::Checkpoint { mode, moment })
+    } else {
+        Ok(Answer::Checkpoint(ported.latest()))
+    }
+}
+
+fn do_sync<J: Volumes, R: Wait>(
+    alloc: Global,
+    pen: &mut Pen<FaultDevice>,
+    ported: &mut Ported<'_, J, R>,
+    moment: u64,
+    out: &mut Vec<u8>,
+) -> io::Result<()> {
+    let is_dirty = pen.is_dirty();
+    let one = sync(pen, moment).map(Answer::Checkpoint);
+    let other = synced_by_event(alloc, ported, is_dirty, moment);
+    add_replies(alloc, &one, &other, out)
+}
+
+/// How many segments were retired, and the refusal that ended it.
+fn cleaned_text(alloc: Global, cleaned: Cleaned) -> io::Result<Vec<u8>> {
+    let mut text = Vec::new(alloc);
+    add_counted(&mut text, "cleaned", cleaned.retired as u64)?;
+    if let Some(refusal) = cleaned.refusal {
+        add_word(&mut text, refusal.name())?;
+    }
+    Ok(text)
+}
+
+/// Adds the line that both come to.
+fn add_cleaned(alloc: Global, one: Cleaned, other: Cleaned, out: &mut Vec<u8>) -> io::Result<()> {
+    let one = cleaned_text(alloc, one)?;
+    let other = cleaned_text(alloc, other)?;
+    add_both(out, one.as_slice(), other.as_slice())
+}
+
+fn do_cleaning<J: Volumes, R: Wait>(
+    alloc: Global,
+    pen: &mut Pen<FaultDevice>,
+    ported: &Ported<'_, J, R>,
+    words: &[&str],
+    out: &mut Vec<u8>,
+) -> io::Result<()> {
+    let segments = [
+        Segment::new(small_at(words, 1)),
+        Segment::new(small_at(words, 2)),
+    ];
+    let now = number_at(words, 3);
+    let one = clean_segments(pen, &segments, now);
+    let other = ported.clean(&segments, now);
+    add_cleaned(alloc, one, other, out)
+}
+
+// ---- questions
+
+/// The answer to what only the pen is asked. In the end all of it is compared.
+fn do_question(
+    alloc: Global,
+    pen: &Pen<FaultDevice>,
+    words: &[&str],
+    out: &mut Vec<u8>,
+) -> io::Result<()> {
+    let mut text = Vec::new(alloc);
+    add_asked(alloc, &mut text, pen, words)?;
+    add_line(out, text.as_slice())
+}
+
+fn do_words<J: Volumes, R: Wait>(
+    alloc: Global,
+    pen: &mut Pen<FaultDevice>,
+    ported: &mut Ported<'_, J, R>,
+    words: &[&str],
+    out: &mut Vec<u8>,
+) -> io::Result<()> {
+    match word_at(words, 0) {
+        "sync" => do_sync(alloc, pen, ported, number_at(words, 1), out),
+        "clean" => do_cleaning(alloc, pen, ported, words, out),
+        _ => match event_of(alloc, words)? {
+            Some(event) => do_event(alloc, pen, ported, &event, out),
+            None => do_question(alloc, pen, words, out),
+        },
+    }
+}
+
+fn do_line<J: Volumes, R: Wait>(
+    alloc: Global,
+    pen: &mut Pen<FaultDevice>,
+    ported: &mut Ported<'_, J, R>,
+    line: &str,
+    out: &mut Vec<u8>,
+) -> io::Result<()> {
+    let words = words_of(alloc, line)?;
+    do_words(alloc, pen, ported, words.as_slice(), out)
+}
+
+/// Does lines on both, and tells what each comes to.
+pub(crate) fn do_lines<J: Volumes, R: Wait>(
+    alloc: Global,
+    pen: &mut Pen<FaultDevice>,
+    ported: &mut Ported<'_, J, R>,
+    lines: &[&str],
+    out: &mut Vec<u8>,
+) -> io::Result<()> {
+    for line in lines {
+        do_line(alloc, pen, ported, line, out)?;
+    }
+    Ok(())
+}
+
+// ---- the end
+
+/// Adds a line where the replies differ.
+fn add_other_reply(alloc: Global, one: &Reply, other: &Reply, out: &mut Vec<u8>) -> io::Result<()> {
+    let one = reply_text(alloc, one)?;
+    let other = reply_text(alloc, other)?;
+    add_difference(out, one.as_slice(), other.as_slice())
+}
+
+/// Makes a last checkpoint on both, behind which neither is dirty, where there is space for it.
+pub(crate) fn do_last<J: Volumes, R: Wait>(
+    alloc: Global,
+    pen: &mut Pen<FaultDevice>,
+    ported: &mut Ported<'_, J, R>,
+    out: &mut Vec<u8>,
+) -> io::Result<()> {
+    let mode = Mode::Snapshot;
+    let event = Event::Checkpoint { mode, moment: 0 };
+    let one = pen.apply(&event);
+    let other = ported.apply(alloc, &event);
+    add_other_reply(alloc, &one, &other, out)
+}
+
+fn same_blocks(
+    alloc: Global,
+    one: &Pen<FaultDevice>,
+    other: &Pen<FaultDevice>,
+    segment: Segment,
+) -> bool {
+    match (
+        get_bdescs(alloc, one, segment),
+        get_bdescs(alloc, other, segment),
+    ) {
+        (Ok(one), Ok(other)) => one.as_slice() == other.as_slice(),
+        _ => false,
+    }
+}
+
+/// Whether two pens describe the same payload blocks in each segment of the first one.
+fn same_in_segments(alloc: Global, one: &Pen<FaultDevice>, other: &Pen<FaultDevice>) -> bool {
+    for number in 0..=u32::MAX {
+        let segment = Segment::new(number);
+        if get_suinfo(one, segment).is_err() {
+            return true;
+        }
+        if !same_blocks(alloc, one, other, segment) {
+            return false;
+        }
+    }
+    true
+}
+
+/// Whether two pens close to the same bytes, or neither can be closed.
+fn close_alike(one: &mut Pen<FaultDevice>, other: &mut Pen<FaultDevice>) -> bool {
+    match (closed(one), closed(other)) {
+        (Ok(one), Ok(other)) => one.as_slice() == other.as_slice(),
+        (Err(one), Err(other)) => one == other,
+        _ => false,
+    }
+}
+
+/// Adds a line that no row expects where two pens tell other things of checkpoints, segments, payload blocks
+/// or numbers, or close to other bytes.
+pub(crate) fn add_ends(
+    alloc: Global,
+    one: &mut Pen<FaultDevice>,
+    other: &mut Pen<FaultDevice>,
+    out: &mut Vec<u8>,
+) -> io::Result<()> {
+    if look_at_pen(one) != look_at_pen(other) || !same_in_segments(alloc, one, other) {
+        add_line(out, b"differs in what is told")?;
+    }
+    if !close_alike(one, other) {
+        add_line(out, b"differs in the bytes")?;
+    }
+    Ok(())
+}
