@@ -182,7 +182,8 @@ class Checked:
         goal = re.search(r"did not prove `[^`]*`", said)
         if goal:
             return goal[0]
-        folder = re.escape("/".join(path.split("::")[1:]))
+        *folders, last = map(re.escape, path.split("::")[1:])
+        folder = "/".join([*folders, rf"\+?{last}"])
         errors = re.findall(rf"^(?:\./)?proofs/{folder}/\S+:\d+:\d+: error: (.*)$", self.text, re.M)
         return next((it for it in errors if not NAMES.search(it)), None)
 

@@ -146,6 +146,16 @@ def minors():
     return volume
 
 
+def two():
+    """A file was removed between two others, before the checkpoint: inode 12 is free."""
+    volume = Volume(8, 4)
+    for path in "/a", "/b", "/c":
+        volume.create(path)
+    volume.drop("/b")
+    volume.checkpoint(0)
+    return volume
+
+
 def last_number():
     """A file that is written over, and one number left for checkpoints."""
     volume = Volume(8, 4)
@@ -277,6 +287,7 @@ def images():
         "first_mark.img": snapshot().image(FIRST_MARK),
         "minors.img": minors().image(),
         "last_number.img": last_number().image(),
+        "two.img": two().image(),
     }
     # Sizes and places that the formats give for these volumes.
     assert len(made["formatted.img"]) == 35840
@@ -313,6 +324,7 @@ OPENED = {
     "minors.img": minors,
     "old.img": lambda: opened(keep(CHAIN)),
     "snapshot.img": snapshot,
+    "two.img": two,
 }
 
 # Rows whose output and status are made here.
@@ -348,9 +360,13 @@ ROWS = [
     "open_a_high_tree",
     "open_and_clean",
     "open_minors",
+    "open_two_files",
     "room_for_a_checkpoint",
     "round_after_overwrites",
     "round_by_the_standard_values",
+    "round_from_five_blocks",
+    "round_from_four_blocks",
+    "round_from_six_blocks",
     "round_under_a_mount",
     "rounds_by_the_standard_values",
     "save_refused",

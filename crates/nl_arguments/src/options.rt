@@ -1,6 +1,6 @@
 //! The program's options. This module alone knows the library that reads them.
-ghost use Rattle.std.specs.Prelude.{◌≡◌, IfOk, Some, map};
-ghost use Rattle.clap.specs.Words.{FailsBy, app_of, fault_of, first_of, found_of, kind_of, matches_of, rows_of, with_rule};
+ghost use Rattle.std.specs.Prelude.{◌≡◌, IfOk, Some, false, map};
+ghost use Rattle.clap.specs.Words.{FailsBy, app_of, fault_of, first_of, found_of, kind_of, matches_of, rows_of, rule_of};
 ghost use Rattle.nl_arguments.specs.NumberWords.{number_in};
 ghost use Rattle.nl_arguments.specs.Options.{arguments_given, bare, geometry_given, number_given, program, value_rule};
 ghost use Rattle.nl_arguments.specs.Meanings.{Asks, IsRead, MeansUnlessMemory, error_meaning, fault_meaning, given, misread};
@@ -20,23 +20,55 @@ const USAGE: &str = "\
 nlvol [OPTIONS] < SCRIPT
 A script is read from standard input, a command a line.";
 
-/// With an option that takes a value.
-fn with_value<'a>(
-    alloc: Global,
-    command: Command<'a>,
+/// An option that takes a value.
+#[derive(Clone, Copy)]
+struct Valued<'a> {
     name: &'a str,
+    /// What the help calls the value.
     value: &'a str,
+    /// What the help says of the option.
     help: &'a str,
-) -> Result<Command<'a>, AllocError>
-    ensures { IfOk result
-        (λ c. app_of c ≡ with_rule (app_of command.entry) (value_rule name.entry.now)) }
+}
+
+/// The program's options.
+const OPTIONS: &[Valued<'static>] = &[
+    Valued {
+        name: "segments",
+        value: "S",
+        help: "Segments of the device [default: 64]",
+    },
+    Valued {
+        name: "blocks",
+        value: "B",
+        help: "Blocks in each segment [default: 64]",
+    },
+    Valued {
+        name: "conf",
+        value: "FILE",
+        help: "Cleaner's configuration, in a part of the language of nilfs_cleanerd.conf(5)",
+    },
+    Valued {
+        name: "open",
+        value: "FILE",
+        help: "Image of the volume, in place of a new one",
+    },
+    Valued {
+        name: "save",
+        value: "FILE",
+        help: "Where the image of the volume is saved in the end",
+    },
+];
+
+/// An option, as one of the library's.
+fn library_option(alloc: Global, option: Valued<'_>) -> Arg<'_>
+    ensures local { result.global ≡ false }
+    ensures rule { rule_of result ≡ value_rule option.entry.name.now }
 {
-    let option = Arg::new(alloc, name)
-        .long(name)
-        .value_name(value)
-        .help(help)
-        .action(ArgAction::Set);
-    command.arg(option)
+    Arg::new(alloc, option.name)
+        .long(option.name)
+        .value_name(option.value)
+        .help(option.help)
+        .action(ArgAction::Set)
 }
 
 /// A command that is given nothing but a request for help or for the version: the library adds
@@ -52,20 +84,17 @@ fn bare<'a>(alloc: Global) -> Command<'a>
         .no_binary_name(true)
 }
 
-/// The program's options.
+/// The program, with its options.
 fn program<'a>(alloc: Global) -> Result<Command<'a>, AllocError>
     ensures { IfOk result (λ c. app_of c ≡ program) }
 {
-    let segments = "Segments of the device [default: 64]";
-    let blocks = "Blocks in each segment [default: 64]";
-    let conf = "Cleaner's configuration, in a part of the language of nilfs_cleanerd.conf(5)";
-    let open = "Image of the volume, in place of a new one";
-    let save = "Where the image of the volume is saved in the end";
-    let command = with_value(alloc, bare(alloc), "segments", "S", segments)?;
-    let command = with_value(alloc, command, "blocks", "B", blocks)?;
-    let command = with_value(alloc, command, "conf", "FILE", conf)?;
-    let command = with_value(alloc, command, "open", "FILE", open)?;
-    with_value(alloc, command, "save", "FILE", save)
+    // named for the loop's invariant
+    let options = OPTIONS;
+    let mut command = bare(alloc);
+    for option in options {
+        command = command.arg(library_option(alloc, *option))?;
+    }
+    Ok(command)
 }
 
 fn matches<'a>(alloc: Global, words: &'a [&'a str]) -> Result<ArgMatches<'a>, clap::Error>

@@ -59,8 +59,10 @@ fn mode_in(word: &str) -> Result<Mode, LineError>
 fn mode_at(given: &Given<'_>, id: &str) -> Result<Mode, LineError>
     ensures { result ≡ mode_at id.now given.now }
 {
-    let word = given.text(id).ok_or(LineError::Usage)?;
-    mode_in(word)
+    match given.text(id) {
+        Some(word) => mode_in(word),
+        None => Err(LineError::Usage),
+    }
 }
 
 /// `chcp cp|ss NUMBER..`

@@ -2,7 +2,7 @@
 use nl_types::{Change, CheckpointNumber, Items, ListOptions, Mode, MountNumber};
 
 /// Checkpoints that are to be removed.
-#[derive(Clone, Copy, Debug, PartialEq, Eq)]
+#[derive(Clone, Copy)]
 pub enum CheckpointRange {
     /// `N`
     One(CheckpointNumber),
@@ -16,7 +16,7 @@ pub enum CheckpointRange {
 }
 
 /// What is shown of a path.
-#[derive(Clone, Copy, Debug, PartialEq, Eq)]
+#[derive(Clone, Copy)]
 pub enum Shown {
     /// The bytes of a file.
     Content,

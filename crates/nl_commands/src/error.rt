@@ -5,7 +5,7 @@ use clap::error::ErrorKind;
 use std::alloc::{AllocError, AllocFailed};
 
 /// A line that is no command that can be tried.
-#[derive(Clone, Copy, Debug, PartialEq, Eq)]
+#[derive(Clone, Copy)]
 pub enum LineError {
     /// It is no command, or not of its command's form.
     Usage,

@@ -1,9 +1,9 @@
 //! The words behind a command's name, by the arguments that it may be given. This module alone knows
 //! the library that reads them.
 ghost use Rattle.std.specs.Prelude.{◌≡◌, IfOk, false, map, option_map, true};
-ghost use Rattle.clap.specs.Words.{all_of, app_of, first_of, rule_of, with_rule};
+ghost use Rattle.clap.specs.Words.{all_of, app_of, first_of, rule_of};
 ghost use Rattle.nl_types.specs.Calls.{IsUnless};
-ghost use Rattle.nl_commands.specs.Grammars.{Reads, argument_rule, bare_grammar, has_hyphen, is_from_words, is_readable, is_used, parsed, with_rules};
+ghost use Rattle.nl_commands.specs.Grammars.{Reads, argument_rule, bare_grammar, grammar, has_hyphen, is_from_words, is_readable, is_used, parsed};
 
 use crate::error::LineError;
 use clap::parser::ValueSource;
@@ -88,35 +88,6 @@ fn library_argument(alloc: Global, argument: Argument<'_>) -> Arg<'_>
     }
 }
 
-fn with_argument<'a>(
-    alloc: Global,
-    command: Command<'a>,
-    argument: Argument<'a>,
-) -> Result<Command<'a>, AllocError>
-    ensures { IfOk result (λ more.
-        app_of more ≡ with_rule (app_of command.entry) (argument_rule argument.entry)) }
-{
-    let argument = library_argument(alloc, argument);
-    command.arg(argument)
-}
-
-fn with_arguments<'a>(
-    alloc: Global,
-    command: Command<'a>,
-    arguments: &[Argument<'a>],
-) -> Result<Command<'a>, AllocError>
-    ensures { IfOk result (λ all.
-        app_of all ≡ with_rules (app_of command.entry) (map argument_rule arguments.now)) }
-{
-    match arguments.split_first() {
-        None => Ok(command),
-        Some((argument, rest)) => {
-            let command = with_argument(alloc, command, *argument)?;
-            with_arguments(alloc, command, rest)
-        }
-    }
-}
-
 /// A command that is given nothing. It has no help of its own.
 fn bare<'a>(alloc: Global, name: &'a str) -> Command<'a>
     ensures { app_of result ≡ bare_grammar name.entry.now }
@@ -124,6 +95,22 @@ fn bare<'a>(alloc: Global, name: &'a str) -> Command<'a>
     Command::new(alloc, name)
         .no_binary_name(true)
         .disable_help_flag(true)
+}
+
+/// A command that may be given these arguments.
+fn command_of<'a>(
+    alloc: Global,
+    name: &'a str,
+    arguments: &[Argument<'a>],
+) -> Result<Command<'a>, AllocError>
+    ensures { IfOk result (λ command.
+        app_of command ≡ grammar name.entry.now (map argument_rule arguments.now)) }
+{
+    let mut command = bare(alloc, name);
+    for argument in arguments {
+        command = command.arg(library_argument(alloc, *argument))?;
+    }
+    Ok(command)
 }
 
 /// What the words give by the arguments that the command of this name may be given.
@@ -139,8 +126,7 @@ pub fn read<'a>(
     ensures { Reads name.entry.now (map argument_rule arguments.now)
         (map (λ w. w.now) words.entry.now) result }
 {
-    let bare = bare(alloc, name);
-    let command = with_arguments(alloc, bare, arguments)?;
+    let command = command_of(alloc, name, arguments)?;
     read_by(command, words)
 }
 

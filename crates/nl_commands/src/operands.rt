@@ -14,8 +14,10 @@ use std::alloc::Global;
 pub fn number_at(given: &Given<'_>, id: &str) -> Result<u64, LineError>
     ensures { result ≡ number_at id.now given.now }
 {
-    let word = given.text(id).ok_or(LineError::Usage)?;
-    number(word)
+    match given.text(id) {
+        Some(word) => number(word),
+        None => Err(LineError::Usage),
+    }
 }
 
 /// The number, where one is given.
@@ -71,8 +73,10 @@ pub fn bytes_of(alloc: Global, word: &str) -> Result<Items<u8>, LineError>
 pub fn bytes_at(alloc: Global, given: &Given<'_>, id: &str) -> Result<Items<u8>, LineError>
     ensures { IsUnless LineError.Memory result (word_at id.now given.now) }
 {
-    let word = given.text(id).ok_or(LineError::Usage)?;
-    bytes_of(alloc, word)
+    match given.text(id) {
+        Some(word) => bytes_of(alloc, word),
+        None => Err(LineError::Usage),
+    }
 }
 
 fn paths_in(alloc: Global, words: &[&str]) -> Result<Items<Items<u8>>, LineError>
@@ -89,8 +93,10 @@ fn paths_in(alloc: Global, words: &[&str]) -> Result<Items<Items<u8>>, LineError
 pub fn paths_at(alloc: Global, given: &Given<'_>, id: &str) -> Result<Items<Items<u8>>, LineError>
     ensures { IsUnless LineError.Memory result (words_at id.now given.now) }
 {
-    let words = given.texts(id).ok_or(LineError::Usage)?;
-    paths_in(alloc, words)
+    match given.texts(id) {
+        Some(words) => paths_in(alloc, words),
+        None => Err(LineError::Usage),
+    }
 }
 
 fn numbers_in(alloc: Global, words: &[&str]) -> Result<Items<CheckpointNumber>, LineError>
@@ -112,8 +118,10 @@ pub fn numbers_at(
 ) -> Result<Items<CheckpointNumber>, LineError>
     ensures { IsUnless LineError.Memory result (numbers_at id.now given.now) }
 {
-    let words = given.texts(id).ok_or(LineError::Usage)?;
-    numbers_in(alloc, words)
+    match given.texts(id) {
+        Some(words) => numbers_in(alloc, words),
+        None => Err(LineError::Usage),
+    }
 }
 
 fn ranges_in(alloc: Global, words: &[&str]) -> Result<Items<CheckpointRange>, LineError>
@@ -135,6 +143,8 @@ pub fn ranges_at(
 ) -> Result<Items<CheckpointRange>, LineError>
     ensures { IsUnless LineError.Memory result (ranges_at id.now given.now) }
 {
-    let words = given.texts(id).ok_or(LineError::Usage)?;
-    ranges_in(alloc, words)
+    match given.texts(id) {
+        Some(words) => ranges_in(alloc, words),
+        None => Err(LineError::Usage),
+    }
 }

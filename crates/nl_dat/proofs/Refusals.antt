@@ -1,19 +1,20 @@
 -- What an append that is refused leaves.
-use Rattle.std.proofs.Common.{◌≡◌, ℕ, ◌<◌, List, Option, Some, None, inl, inr, sym, refl, ap, subst, ◌∙◌, map, length}
+use Rattle.std.proofs.Common.{◌≡◌, ℕ, ◌<◌, ◌≤◌, List, Option, Some, None, inl, inr, sym, refl, ap, subst, ◌∙◌, map, length, arith}
 use Rattle.std.specs.Prelude.{Bool, true}
+use Rattle.std.specs.List.{range_with_len}
 use Rattle.std.specs.Option.{option_map}
 use Rattle.std.proofs.lemmas.List.{ext_get_or, length-map}
 use Rattle.nl_types.specs.declared.error.VolError.{VolError}
 use Rattle.nl_types.specs.declared.error.VolError.TheVariants.{NoSpace, Fault, Memory}
 use Rattle.nl_types.specs.Segments.{AreTidy, total_blocks}
 use Rattle.nl_types.specs.Placing.{LacksSpace, with_logs}
-use Rattle.nl_device.specs.Failures.{Failures, failure_count, no_failures}
+use Rattle.nl_device.specs.Failures.{CountsReads, CountsWrites, FailsToWrite, Failures, failure_count, no_failures}
 use Rattle.nl_space.specs.Content.{Payload, SpaceContent, KeepsUsed}
-use Rattle.nl_space.specs.Appended.{IsAppendError, IsBrokenOff}
+use Rattle.nl_space.specs.Appended.{IsAppendError, IsBrokenOff, IsLoadError}
 use Rattle.nl_vstore.specs.Batches.{Changes, items_of}
 use Rattle.nl_dat.specs.declared.entries.DatEntry.{DatEntry}
 use Rattle.nl_dat.specs.Table.{entry_in, addresses_of, block_of}
-use Rattle.nl_vstore.specs.Stores.{Store, IsFaulted, IsWriteRefused}
+use Rattle.nl_vstore.specs.Stores.{Store, IsFaulted, IsGrowthRefused, IsWriteRefused, StaysStored}
 use Rattle.nl_dat.specs.Inside.{births_in, numbered_of, numbered_with, store_of, IsTable}
 use Rattle.nl_dat.proofs.Contents.{KeepsAt}
 use Rattle.nl_dat.proofs.StoreOf.{numbered_in-store_of}
@@ -91,3 +92,40 @@ write-refused checkpoint stamp changes old new e why lacks no_space memory fault
     | inr is ↦ subst (IsWriteRefused checkpoint stamp changes old new) (sym is) (memory is)
   ]
 ]
+
+-- ---- failures are counted on
+
+pub reads-counted : (old new : Failures) → CountsReads old new → failure_count old ≤ failure_count new
+reads-counted old new h = omega (arith, h.0, h.1)
+
+pub writes-counted : (old new : Failures) → CountsWrites old new → failure_count old ≤ failure_count new
+writes-counted old new h = omega (arith, h.0, h.1)
+
+pub both-counted : (old mid new : Failures) → CountsReads old mid → CountsWrites mid new
+    → failure_count old ≤ failure_count new
+both-counted old mid new reads writes = omega (arith, reads.0, reads.1, writes.0, writes.1)
+
+-- ---- a store that doesn't grow
+
+pub growth-refused : (table now : List (Option DatEntry)) (old later : SpaceContent) (before after : Failures)
+    (e : VolError)
+    → IsLoadError e → now ≡ table → later ≡ old → (e ≡ Fault → FailsToWrite before after)
+    → IsGrowthRefused (store_of table old before) (store_of now later after) e
+growth-refused table now old later before after e why is same fault = elim why [
+  | inl at ↦
+      let risen = fault at in
+      subst (IsGrowthRefused (store_of table old before) (store_of now later after)) (sym at)
+      (omega (arith, risen.0, risen.1), risen.1, stays)
+  | inr at ↦ subst (IsGrowthRefused (store_of table old before) (store_of now later after)) (sym at) stays
+]
+  where
+    stays : StaysStored (store_of table old before) (store_of now later after)
+    stays = record {
+      numbers =
+          ap (map (numbered_of (births_in later))) is
+          ∙ ap (λ (s : SpaceContent). map (numbered_of (births_in s)) table) same;
+      segments = ap (λ (s : SpaceContent). s.segments) same;
+      device =
+          ap (λ (s : SpaceContent). map s.stored (range_with_len 0 (total_blocks s.segments))) same;
+      payload = ap (λ (s : SpaceContent). map s.held (range_with_len 0 (total_blocks s.segments))) same;
+    }

@@ -7,7 +7,8 @@ use Rattle.std.proofs.lemmas.List.{get_or_past, length-map, length-replicate}
 use Rattle.std.proofs.lemmas.Bool.{cases_lt}
 use Rattle.nl_types.specs.Segments.{HaveLogs, total_blocks}
 use Rattle.nl_types.specs.PartialMaps.{Partial}
-use Rattle.nl_types.specs.Entries.{Birth, number_of, period_of}
+use Rattle.nl_types.specs.Entries.{Birth, Entry, number_of, period_of}
+use Rattle.nl_types.specs.Roots.{pages_of}
 use Rattle.nl_types.specs.Facts.PartialMaps.{same_at_all}
 use Rattle.nl_sufile.specs.Table.{IsSegTable}
 use Rattle.nl_space.specs.Content.{Payload, SpaceContent, HoldsOnlyUsed, payload_page}
@@ -91,6 +92,23 @@ module _ (table : List (Option DatEntry)) (space : SpaceContent) (failures : Fai
       sym (ap (λ f. option_map period_of (f v)) content_in-store_of
       ∙ ap (λ o. option_map period_of (option_and_then (meaning_at (births_in space)) o)) is
       ∙ ap (λ o. option_map period_of (option_map (meaning_of e) o)) p.1)
+
+  -- and its page
+  pub page-store_of : (v : ℕ) (e : DatEntry) → entry_in table v ≡ Some e
+      → option_map payload_page (space.held e.block) ≡ pages_of (content_in (store_of table space failures)) v
+  page-store_of v e is =
+      sym (ap (λ f. pages_of f v) content_in-store_of
+      ∙ (ap (λ o. option_map page_of (option_and_then (meaning_at (births_in space)) o)) is
+      ∙ of_held (space.held e.block)))
+    where
+      page_of : Entry → List ℕ
+      page_of entry = entry.page
+
+      of_held : (o : Option Payload)
+          → option_map page_of (option_map (meaning_of e) (option_map birth_of_item o))
+          ≡ option_map payload_page o
+      of_held None = refl
+      of_held (Some p) = refl
 
 -- ---- what is true of every store
 

@@ -2,7 +2,9 @@
 ghost use Rattle.std.specs.Prelude.{◌≡◌, IfErr, IfOk, IsOk, List, [], ℕ};
 ghost use Rattle.nl_script.specs.Scripts.{exit_status};
 ghost use Rattle.nl_keeping.specs.Beginnings.{place_path};
-ghost use Rattle.nl_commit.specs.Layout.{Layout};
+ghost use Rattle.nl_commit.specs.Layout.{Does, Layout, unshared};
+ghost use Rattle.nl_types.specs.declared.event.Event.TheVariants as event;
+ghost use Rattle.nl_types.specs.declared.event.Mode.TheVariants as mode;
 ghost use Rattle.nl_texts.specs.Texts.{Text};
 ghost use Rattle.nl_keeping.specs.Endings as endings;
 ghost use Rattle.nl_keeping.specs.Endings.{IsSaveFault, IsSaveRefused, IsSettled, IsTextOf, IsUnsettled, SavesFrom, TellsEnd};
@@ -13,7 +15,7 @@ use nl_core::Pen;
 use nl_device::Device;
 use nl_script::{Done, SavePlace, Saved};
 use nl_texts::{changed_text, save_text, unwritten_text};
-use nl_types::{Event, Mode, VolError};
+use nl_types::{Event, Mode, Reply, VolError};
 use std::fs::File;
 use std::io;
 use std::io::{ErrorKind, Write};
@@ -31,16 +33,26 @@ pub enum SaveFault {
     Changed(PathBuf),
 }
 
+/// Makes a plain checkpoint. It stands apart from `settle`, so that no event is alive where that leaves.
+fn checkpoint<D: Device>(pen: &mut Pen<D>, moment: u64) -> Reply
+    ensures { Does unshared pen.old (event.Checkpoint mode.Plain moment) result pen.new }
+{
+    let event = Event::Checkpoint {
+        mode: Mode::Plain,
+        moment,
+    };
+    let reply = pen.apply(&event);
+    drop(event);
+    reply
+}
+
 /// Makes a plain checkpoint where something is dirty.
 fn settle<D: Device>(pen: &mut Pen<D>, moment: u64) -> Result<(), VolError>
     ensures settled { IsOk result → IsSettled pen.old.lists.dirty moment pen.old pen.new }
     ensures refused { IfErr result (IsUnsettled moment pen.old) }
 {
     if pen.is_dirty() {
-        pen.apply(&Event::Checkpoint {
-            mode: Mode::Plain,
-            moment,
-        })?;
+        checkpoint(pen, moment)?;
     }
     Ok(())
 }
@@ -86,14 +98,14 @@ fn write_image<R: AllocGlobal + Files<File = File>>(
 fn save<R: AllocGlobal + Files<File = File>, D: Device>(
     rt: &R,
     place: &mut SavePlace<'_>,
-    mut pen: Pen<D>,
+    pen: &mut Pen<D>,
     moment: u64,
 ) -> Result<(), SaveFault>
-    requires { pen.lists.mounts ≡ [] }
-    ensures saved { IsOk result → (image : List ℕ) × SavesFrom moment pen image }
-    ensures refused { IfErr result (IsSaveFault moment pen) }
+    requires { pen.old.lists.mounts ≡ [] }
+    ensures saved { IsOk result → (image : List ℕ) × SavesFrom moment pen.old image }
+    ensures refused { IfErr result (IsSaveFault moment pen.old) }
 {
-    match image_of(&mut pen, moment) {
+    match image_of(pen, moment) {
         Ok(image) => write_image(rt, place, image.as_slice()),
         Err(error) => Err(SaveFault::Refused(error)),
     }
@@ -138,17 +150,16 @@ fn unsaved<E: Write>(
     }
 }
 
-/// Ends a session: tells which stream failed, if one did, and saves what the script left where there is a
-/// place for it.
-pub fn end<R: AllocGlobal + Files<File = File>, D: Device, E: Write>(
+/// Ends a session on a volume that stays with the caller, so that none is alive where this leaves.
+fn end_on<R: AllocGlobal + Files<File = File>, D: Device, E: Write>(
     rt: &R,
     place: Option<SavePlace<'_>>,
     done: Done,
-    pen: Pen<D>,
+    pen: &mut Pen<D>,
     errors: &mut E,
 ) -> SessionEnd
-    requires { pen.lists.mounts ≡ [] }
-    ensures { TellsEnd (place_path place.entry) pen done (errors_of E.contents errors.old errors.new) result }
+    requires { pen.old.lists.mounts ≡ [] }
+    ensures { TellsEnd (place_path place.entry) pen.old done (errors_of E.contents errors.old errors.new) result }
 {
     let told = tell_stream(done.failed, errors);
     let Some(mut place) = place else {
@@ -165,4 +176,22 @@ pub fn end<R: AllocGlobal + Files<File = File>, D: Device, E: Write>(
         },
         Err(fault) => unsaved(path, done, &fault, told, errors),
     }
+}
+
+/// Ends a session: tells which stream failed, if one did, and saves what the script left where there is a
+/// place for it.
+pub fn end<R: AllocGlobal + Files<File = File>, D: Device, E: Write>(
+    rt: &R,
+    place: Option<SavePlace<'_>>,
+    done: Done,
+    mut pen: Pen<D>,
+    errors: &mut E,
+) -> SessionEnd
+    requires { pen.lists.mounts ≡ [] }
+    ensures { TellsEnd (place_path place.entry) pen done (errors_of E.contents errors.old errors.new) result }
+{
+    let end = end_on(rt, place, done, &mut pen, errors);
+    // By one call: else each part of it would be let go for itself.
+    drop(pen);
+    end
 }

@@ -1,19 +1,23 @@
 -- What events of checkpoints answer once they are done.
-use Rattle.std.proofs.Common.{◌≡◌, ℕ, ◌+◌, max, leb, false, [], ◌∷◌, ◌++◌, sym, ap, ◌∙◌, inl, inr}
-use Rattle.std.specs.Prelude.{◌&&◌, Ok, Err}
+use Rattle.std.proofs.Common.{◌≡◌, ◌≢◌, ℕ, ◌+◌, max, leb, false, [], ◌∷◌, ◌++◌, sym, ap, subst, ◌∙◌, inl, inr}
+use Rattle.std.specs.Prelude.{◌&&◌, Result, Ok, Err, IfErr, MatchResult}
 use Rattle.nl_types.specs.declared.error.VolError.{VolError}
 use Rattle.nl_types.specs.declared.error.VolError.TheVariants as error
+use Rattle.nl_types.specs.declared.event.Event.{Event}
 use Rattle.nl_types.specs.declared.event.Event.TheVariants as event
 use Rattle.nl_types.specs.declared.event.Mode.{Mode}
 use Rattle.nl_types.specs.declared.reply.Answer.{Answer}
 use Rattle.nl_types.specs.declared.reply.Answer.TheVariants as answer
 use Rattle.nl_types.specs.Limits.{checkpoint_number_limit}
 use Rattle.nl_types.specs.Rows.{kept_row, removal}
+use Rattle.nl_types.specs.Runs.{TakesMemory}
 use Rattle.nl_types.specs.Worlds.{Copy, Outcome, Reply, World, change_mode, checkpoint, copies_with_mode, is_given_up, is_mounted, latest, latest_stamp, refused_if, remove, rows, take_out}
 use Rattle.nl_types.specs.Facts.EventCases.{either_gives, refused_if_gives}
 use Rattle.nl_commit.specs.Layout.{Does, IsPen, Layout, layout_pages, unshared}
 use Rattle.nl_commit.specs.Volume.{Lists}
 use Rattle.nl_core.specs.Facts.CheckpointEvents.{latest-same}
+use Rattle.nl_core.specs.Facts.Refusals.{memory_is_taken}
+use Rattle.nl_lib.specs.Calls.{done_reply}
 
 -- the answer in a reply, or another one
 abbrev answer_in : Reply → Answer → Answer
@@ -103,3 +107,32 @@ module _ (old new : Layout) (found : Answer) (held : IsPen old) where
         | inr never ↦
             ap (λ (r : Reply). answer_in r (answer.Checkpoint new.lists.table.latest.number)) never.reply_is
       ]
+
+-- an event is done, or it is refused
+abbrev pub IsDone : Layout → Event → Result (Unit {0}) VolError → Layout → Type 0
+IsDone old e result new = MatchResult result (λ _. (found : Answer) × Does unshared old e (Ok found) new)
+    (λ refusal. Does unshared old e (Err refusal) new)
+
+pub is_done : (old new : Layout) (e : Event) (r : Reply) (result : Result (Unit {0}) VolError)
+    → Does unshared old e r new
+    → MatchResult result (λ _. (found : Answer) × (r ≡ Ok found)) (λ refusal. r ≡ Err refusal)
+    → IsDone old e result new
+is_done old new e r (Ok u) does is = (is.0, subst (λ (q : Reply). Does unshared old e q new) is.1 does)
+is_done old new e r (Err refusal) does is = subst (λ (q : Reply). Does unshared old e q new) is does
+
+pub done-replied : (old new : Layout) (e : Event) (result : Result (Unit {0}) VolError)
+    → ((found : Answer) → Does unshared old e (Ok found) new → found ≡ answer.Done)
+    → IsDone old e result new
+    → Does unshared old e (done_reply result) new
+done-replied old new e (Ok u) nothing does =
+    subst (λ (a : Answer). Does unshared old e (Ok a) new) (nothing does.0 does.1) does.1
+done-replied old new e (Err refusal) nothing does = does
+
+-- memory is refused only to what takes it
+pub not-memory : (old new : Layout) (e : Event) (result : Result (Unit {0}) VolError) → IsPen old
+    → (TakesMemory e → ⊥)
+    → IsDone old e result new
+    → IfErr result (λ refusal. refusal ≢ error.Memory)
+not-memory old new e (Ok u) held none does = tt
+not-memory old new e (Err refusal) held none does = λ is.
+    none (memory_is_taken old new e held (subst (λ (x : VolError). Does unshared old e (Err x) new) is does))

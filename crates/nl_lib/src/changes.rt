@@ -1,7 +1,8 @@
 //! Changes of a volume's checkpoints and of its size. Each call is one event of the pen, or none.
-ghost use Rattle.std.specs.Prelude.{◌≡◌, ◌≢◌, IfErr, IfOk};
+ghost use Rattle.std.specs.Prelude.{◌≡◌, ◌≢◌, Ok, Err, IfErr, IfOk, MatchResult};
 ghost use Rattle.nl_types.specs.declared.event.Event.TheVariants.{ChangeMode, Checkpoint, Remove, Resize};
 ghost use Rattle.nl_types.specs.declared.event.Mode.TheVariants.{Plain};
+ghost use Rattle.nl_types.specs.declared.reply.Answer.{Answer};
 ghost use Rattle.nl_types.specs.Worlds as worlds;
 ghost use Rattle.nl_types.specs.Worlds.{World};
 ghost use Rattle.nl_commit.specs.Layout.{Does, MeansWorld, unshared};
@@ -9,7 +10,24 @@ ghost use Rattle.nl_lib.specs.Calls.{Syncs, checkpoint_reply, done_reply};
 
 use nl_core::Pen;
 use nl_device::Device;
-use nl_types::{CheckpointNumber, Event, Mode, VolError};
+use nl_types::{CheckpointNumber, Event, Mode, Reply, VolError};
+
+/// Whether an event was done, without its answer.
+fn without_answer(reply: Reply) -> Result<(), VolError>
+    ensures { MatchResult result (λ _. (answer : Answer) × (reply ≡ Ok answer)) (λ e. reply ≡ Err e) }
+{
+    reply?;
+    Ok(())
+}
+
+/// Applies an event whose answer isn't needed.
+fn apply<D: Device>(pen: &mut Pen<D>, event: Event) -> Result<(), VolError>
+    ensures { MatchResult result
+        (λ _. (answer : Answer) × Does unshared pen.old event (Ok answer) pen.new)
+        (λ e. Does unshared pen.old event (Err e) pen.new) }
+{
+    without_answer(pen.apply(&event))
+}
 
 /// Makes a plain checkpoint a snapshot or a snapshot a plain checkpoint, after `nilfs_change_cpmode`. A
 /// checkpoint that has the mode stays as it is. Refused by `NoCheckpoint` where it isn't kept, and by
@@ -23,8 +41,7 @@ pub fn change_cpmode<D: Device>(
     ensures memory { IfErr result (λ e. e ≢ VolError.Memory) }
 {
     pen.means_a_world();
-    pen.apply(&Event::ChangeMode(number, mode))?;
-    Ok(())
+    apply(pen, Event::ChangeMode(number, mode))
 }
 
 /// Removes a plain checkpoint, after `nilfs_delete_checkpoint`. Refused by `NoCheckpoint` where it isn't
@@ -38,8 +55,7 @@ pub fn delete_checkpoint<D: Device>(
     ensures memory { IfErr result (λ e. e ≢ VolError.Memory) }
 {
     pen.means_a_world();
-    pen.apply(&Event::Remove(number))?;
-    Ok(())
+    apply(pen, Event::Remove(number))
 }
 
 /// Makes a plain checkpoint, and answers its number.
@@ -49,10 +65,13 @@ fn make_checkpoint<D: Device>(pen: &mut Pen<D>, now: u64) -> Result<CheckpointNu
     ensures told { IfOk result (λ number. (w : World) → MeansWorld pen.new w → number ≡ worlds.latest w) }
 {
     pen.means_a_world();
-    pen.apply(&Event::Checkpoint {
-        mode: Mode::Plain,
-        moment: now,
-    })?;
+    apply(
+        pen,
+        Event::Checkpoint {
+            mode: Mode::Plain,
+            moment: now,
+        },
+    )?;
     Ok(pen.latest())
 }
 
@@ -82,6 +101,5 @@ pub fn resize<D: Device>(pen: &mut Pen<D>, segments: u32) -> Result<(), VolError
     ensures does { Does unshared pen.old (Resize segments) (done_reply result) pen.new }
 {
     pen.means_a_world();
-    pen.apply(&Event::Resize(segments))?;
-    Ok(())
+    apply(pen, Event::Resize(segments))
 }

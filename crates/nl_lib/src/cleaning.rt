@@ -1,5 +1,5 @@
 //! Segments are cleaned.
-ghost use Rattle.std.specs.Prelude.{◌≡◌};
+ghost use Rattle.std.specs.Prelude.{◌≡◌, true, false, IfNone, IfSome};
 ghost use Rattle.nl_lib.specs.CleanedSegments.{CleansSegment, CleansSegments, is_moved};
 
 use nl_core::Pen;
@@ -16,13 +16,24 @@ pub struct Cleaned {
 }
 
 /// Whether a move was done.
-fn is_moved(event: &Event, reply: &Reply) -> bool
-    ensures { result ≡ is_moved event.now reply.now }
+fn is_moved(event: Event, reply: &Reply) -> bool
+    ensures { result ≡ is_moved event reply.now }
 {
     match event {
         Event::Move { .. } => reply.is_ok(),
         _ => false,
     }
+}
+
+/// The reply, where the event is no move that was done.
+fn last_reply(event: Event, reply: Reply) -> Option<Reply>
+    ensures last { IfSome result (λ last. (last ≡ reply) × (is_moved event reply ≡ false)) }
+    ensures moved { IfNone result (is_moved event reply ≡ true) }
+{
+    if is_moved(event, &reply) {
+        return None;
+    }
+    Some(reply)
 }
 
 /// Moves what is needed out of a segment and retires it. It answers the last event's reply: the retirement's,
@@ -34,8 +45,8 @@ fn clean_segment<D: Device>(pen: &mut Pen<D>, segment: Segment, now: u64) -> Rep
     loop {
         let event = pen.cleaning_event(segment, now);
         let reply = pen.apply(&event);
-        if !is_moved(&event, &reply) {
-            return reply;
+        if let Some(last) = last_reply(event, reply) {
+            return last;
         }
     }
 }

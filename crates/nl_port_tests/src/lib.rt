@@ -8,10 +8,6 @@ mod backup;
 #[cfg(test)]
 mod beside_a_writer;
 #[cfg(test)]
-mod cached_blocks;
-#[cfg(test)]
-mod caches;
-#[cfg(test)]
 mod foreign;
 #[cfg(test)]
 mod many_reads;

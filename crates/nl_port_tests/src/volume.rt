@@ -67,17 +67,13 @@ fn runs(pen: &mut Pen<MemDevice>, event: &Event) -> Result<(), VolError> {
     outcome(&pen.apply(event))
 }
 
-pub(crate) fn creates(
-    alloc: Global,
-    pen: &mut Pen<MemDevice>,
-    path: &[u8],
-) -> Result<(), VolError> {
+fn creates(alloc: Global, pen: &mut Pen<MemDevice>, path: &[u8]) -> Result<(), VolError> {
     let event = create(alloc, path)?;
     runs(pen, &event)
 }
 
 /// Writes a byte so many times, from an offset on.
-pub(crate) fn puts(
+fn puts(
     alloc: Global,
     pen: &mut Pen<MemDevice>,
     path: &[u8],
@@ -90,7 +86,7 @@ pub(crate) fn puts(
 }
 
 /// Makes a snapshot.
-pub(crate) fn keeps_all(pen: &mut Pen<MemDevice>) -> Result<(), VolError> {
+fn keeps_all(pen: &mut Pen<MemDevice>) -> Result<(), VolError> {
     let event = Event::Checkpoint {
         mode: Mode::Snapshot,
         moment: 0,
@@ -99,11 +95,7 @@ pub(crate) fn keeps_all(pen: &mut Pen<MemDevice>) -> Result<(), VolError> {
 }
 
 /// A volume of so many segments and blocks in each, which has no files.
-pub(crate) fn empty_pen(
-    alloc: Global,
-    segments: u32,
-    blocks: u32,
-) -> Result<Pen<MemDevice>, VolError> {
+fn empty_pen(alloc: Global, segments: u32, blocks: u32) -> Result<Pen<MemDevice>, VolError> {
     let geometry = Geometry::new(segments, blocks)?;
     let device = MemDevice::new(alloc, geometry)?;
     Pen::format(alloc, device, geometry, 0)
@@ -132,7 +124,7 @@ pub(crate) fn new_pen(alloc: Global) -> Result<Pen<MemDevice>, VolError> {
 // ---- shared volumes
 
 /// A pen, shared among so many ports.
-pub(crate) fn share_pen<J: Volumes, R: Wait>(
+fn share_pen<J: Volumes, R: Wait>(
     rt: &R,
     alloc: Global,
     pen: Pen<MemDevice>,

@@ -8,6 +8,7 @@ use Rattle.nl_types.specs.Runs.{Run}
 use Rattle.nl_types.specs.Worlds.{Reply}
 use Rattle.nl_commit.specs.Layout.{Does, IsPen}
 use Rattle.nl_commit.specs.Notes.{shared}
+use Rattle.nl_commit.specs.declared.commit.Commit.{Commit}
 use Rattle.nl_commit.specs.declared.commit.Commit.TheVariants as commit
 use Rattle.nl_commit.specs.Facts.Leading.{runs_lead_on}
 use Rattle.nl_commit.specs.Facts.MountEvents.{answers-mount}
@@ -44,6 +45,31 @@ goes_still a b c es rs p q = record {
   later = prefix_trans a.published b.published c.published p.later q.later;
 }
 
+-- nothing ran, twice
+pub keeps_on : (a b c : HeldPen) → Keeps a b → Keeps b c → Keeps a c
+keeps_on a b c p q = (goes_still a b c [] [] p.0 q.0, q.1 ∙ p.1)
+
+pub keeps_same : (a b : HeldPen) → b ≡ a → Keeps a b
+keeps_same a b same = subst (λ (h : HeldPen). Keeps h b) same (stays b, refl)
+
+-- commits that waited are noted
+pub keeps_noted : (a : HeldPen) (volume : ℕ) (history : List Commit) → volume ≡ a.volume → history ≡ a.history
+    → Keeps a (record {
+      volume = volume;
+      published = a.published;
+      history = history;
+      lost = a.lost;
+      layout = a.layout;
+    })
+keeps_noted a volume history same all = (
+  record {
+    volume = same;
+    runs = ap (λ (log : List Commit). (let s : State = (a.layout, log) in s)) all;
+    later = prefix_self a.published;
+  },
+  refl,
+)
+
 pub goes_by_still : (a b c : HeldPen) (event : Event) (r : Reply) → GoesBy a event r b → Keeps b c
     → GoesBy a event r c
 goes_by_still a b c event r p q = (goes_still a b c (event ∷ []) (r ∷ []) p.0 q.0, q.1 ∙ p.1)
@@ -59,8 +85,7 @@ ready_none a none = record {
 }
 
 -- what was lost is back
-pub gave : (a b : HeldPen) (m : ℕ) (x : Answer) (r : Reply) → a.lost ≡ Some m → r ≡ Ok x
-    → GoesBy a (Unmount m) r b
+pub gave : (a b : HeldPen) (m : ℕ) (x : Answer) → a.lost ≡ Some m → GoesBy a (Unmount m) (Ok x) b
     → IsReady a (record {
       volume = b.volume;
       published = b.published;
@@ -68,7 +93,7 @@ pub gave : (a b : HeldPen) (m : ℕ) (x : Answer) (r : Reply) → a.lost ≡ Som
       lost = None;
       layout = b.layout;
     })
-gave a b m x r was is g =
+gave a b m x was g =
     let after : HeldPen = record {
       volume = b.volume;
       published = b.published;
@@ -77,8 +102,7 @@ gave a b m x r was is g =
       layout = b.layout;
     } in
     let here : Goes a (Unmount m ∷ []) (Ok x ∷ []) after =
-    subst (λ (q : Reply). Goes a (Unmount m ∷ []) (q ∷ []) after) is
-    (record { volume = g.0.volume; runs = g.0.runs; later = g.0.later }) in
+    record { volume = g.0.volume; runs = g.0.runs; later = g.0.later } in
     record {
       backs = x ∷ [];
       goes = subst (λ o. Goes a (given_back o) (Ok x ∷ []) after) (sym was) here;
@@ -86,14 +110,9 @@ gave a b m x r was is g =
     }
 
 -- it is still lost
-pub stuck : (a b : HeldPen) (m : ℕ) (e : VolError) (r : Reply) → a.lost ≡ Some m → r ≡ Err e
-    → GoesBy a (Unmount m) r b → IsStuck a b
-stuck a b m e r was is g = record {
-  number = m;
-  error = e;
-  was = was;
-  goes = subst (λ (q : Reply). GoesBy a (Unmount m) q b) is g;
-}
+pub stuck : (a b : HeldPen) (m : ℕ) (e : VolError) → a.lost ≡ Some m → GoesBy a (Unmount m) (Err e) b
+    → IsStuck a b
+stuck a b m e was g = record { number = m; error = e; was = was; goes = g }
 
 -- behind what kept all
 pub begins_behind : (a b c : HeldPen) (r : Result (Unit {0}) VolError) → Keeps a b → Begins b r c
@@ -128,6 +147,22 @@ ran a b c d event r begun here more =
     (goes_still a c d (back ++ event ∷ []) (backs ++ r ∷ [])
     (goes_on a b c back (event ∷ []) backs (r ∷ []) begun.goes here.0) more.0)
     (more.1 ∙ (here.1 ∙ begun.lost))
+
+-- an event was done, without its answer, or refused
+pub unmounted : (a b : HeldPen) (m : ℕ) (reply : Reply) (r : Result (Unit {0}) VolError)
+    → GoesBy a (Unmount m) reply b
+    → MatchResult r (λ _. (x : Answer) × (reply ≡ Ok x)) (λ e. reply ≡ Err e)
+    → MatchResult r (λ _. (x : Answer) × GoesBy a (Unmount m) (Ok x) b) (λ e. GoesBy a (Unmount m) (Err e) b)
+unmounted a b m reply (Ok u) goes is = (is.0, subst (λ (q : Reply). GoesBy a (Unmount m) q b) is.1 goes)
+unmounted a b m reply (Err e) goes is = subst (λ (q : Reply). GoesBy a (Unmount m) q b) is goes
+
+pub ran_unmount : (a b c d : HeldPen) (m : ℕ) (r : Result (Unit {0}) VolError) → IsReady a b
+    → MatchResult r (λ _. (x : Answer) × GoesBy b (Unmount m) (Ok x) c) (λ e. GoesBy b (Unmount m) (Err e) c)
+    → Keeps c d
+    → MatchResult r (λ _. (x : Answer) × Ran a (Unmount m) (Ok x) d) (λ e. Ran a (Unmount m) (Err e) d)
+ran_unmount a b c d m (Ok u) begun here more =
+    (here.0, ran a b c d (Unmount m) (Ok here.0) begun here.1 more)
+ran_unmount a b c d m (Err e) begun here more = ran a b c d (Unmount m) (Err e) begun here more
 
 -- ---- mounts
 

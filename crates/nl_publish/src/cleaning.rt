@@ -29,7 +29,7 @@ impl<P: NotingPen, J: Volumes, W: Press> Locked<P, J, W> {
             return Some(refused);
         }
         let event = round.next(self.pen())?;
-        let reply = self.run(&event);
+        let reply = self.run_own(event);
         self.settle(rt);
         round.note(&reply);
         Some(reply)

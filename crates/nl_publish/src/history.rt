@@ -1,6 +1,6 @@
 //! The published history of a volume, which exists in proofs alone, and the beginnings of it that were seen.
 //! A book keeps it: in memory there is its length, one atomic word.
-ghost use Rattle.std.specs.Prelude.{◌≡◌, ◌≢◌, ◌<◌, ◌++◌, ◌∷◌, ◌⊎◌, [], length, MatchBool};
+ghost use Rattle.std.specs.Prelude.{◌≡◌, ◌≢◌, ◌<◌, ◌++◌, ◌∷◌, ◌⊎◌, [], length, IfSome, MatchBool};
 ghost use mathlib.Core.List.{IsPrefix};
 ghost use Rattle.nl_publish.specs.Histories.{IsBegun, IsFull, Known};
 ghost use Rattle.nl_publish.specs.Rules.{head_of};
@@ -239,5 +239,19 @@ impl<J: Volumes> Front<J> {
             );
         self.count = if found == count { count + 1 } else { found };
         found == count
+    }
+
+    /// A copy with a commit added, where `add` adds it.
+    pub(crate) fn with_commit(&self, log: &Record<J>, commit: &Commit) -> Option<Front<J>>
+        requires volume { log.now.volume ≡ self.now.volume }
+        requires begun { IsBegun (self.now.commits ++ commit.now ∷ []) }
+        ensures volume { IfSome result (λ longer. longer.volume ≡ self.now.volume) }
+        ensures added { IfSome result (λ longer. longer.commits ≡ self.now.commits ++ commit.now ∷ []) }
+    {
+        let mut longer = self.again();
+        if !longer.add(log, commit) {
+            return None;
+        }
+        Some(longer)
     }
 }

@@ -1,5 +1,5 @@
 //! What lies under the lock: the pen, and what is published of it.
-ghost use Rattle.std.specs.Prelude.{◌≡◌, ◌≢◌, ◌++◌, ◌∷◌, [], None, Ok, Err, IfOk, MatchBool, MatchResult};
+ghost use Rattle.std.specs.Prelude.{◌≡◌, ◌≢◌, ◌++◌, ◌∷◌, [], None, Some, Ok, Err, IfOk, MatchBool, MatchResult};
 ghost use Rattle.nl_types.specs.declared.event.Event.TheVariants as event;
 ghost use Rattle.nl_types.specs.declared.reply.Answer.{Answer};
 ghost use Rattle.nl_types.specs.Worlds.{World};
@@ -59,15 +59,29 @@ impl<P: NotingPen, J: Volumes, W: Press> Model for Locked<P, J, W> {
 }
 
 /// The mount that is answered to an event that mounts.
-fn mount_number(reply: &Reply) -> Result<MountNumber, VolError>
-    requires { IsMountReply reply.now }
-    ensures { MatchResult result (λ m. reply.now ≡ mount_reply m) (λ e. reply.now ≡ Err e) }
+fn mount_number(reply: Reply) -> Result<MountNumber, VolError>
+    requires { IsMountReply reply }
+    ensures { MatchResult result (λ m. reply ≡ mount_reply m) (λ e. reply ≡ Err e) }
 {
-    match reply {
-        Ok(Answer::Mount(number)) => Ok(*number),
-        Ok(_) => unreachable!(),
-        Err(refusal) => Err(*refusal),
+    match reply? {
+        Answer::Mount(number) => Ok(number),
+        _ => unreachable!(),
     }
+}
+
+/// Whether an event was done, without its answer.
+fn without_answer(reply: Reply) -> Result<(), VolError>
+    ensures { MatchResult result (λ _. (answer : Answer) × (reply ≡ Ok answer)) (λ e. reply ≡ Err e) }
+{
+    reply?;
+    Ok(())
+}
+
+/// Keeps an entry that the writer doesn't have.
+fn keep_entry(unsent: &mut Option<Entry>, entry: Entry)
+    ensures { unsent.new ≡ Some entry }
+{
+    *unsent = Some(entry);
 }
 
 // ---- publication
@@ -83,7 +97,7 @@ impl<P: NotingPen, J: Volumes, W: Press> Locked<P, J, W> {
         match self.writer.push(entry) {
             Ok(()) => true,
             Err(entry) => {
-                self.unsent = Some(entry);
+                keep_entry(&mut self.unsent, entry);
                 false
             }
         }
@@ -96,16 +110,16 @@ impl<P: NotingPen, J: Volumes, W: Press> Locked<P, J, W> {
         if self.unsent.is_some() || self.waiting.as_slice().is_empty() {
             return false;
         }
-        let mut noted = self.noted.again();
-        if !noted.add(&self.log, &self.waiting[0]) {
+        let Some(noted) = self.noted.with_commit(&self.log, &self.waiting[0]) else {
             return false;
-        }
+        };
         let commit = self.waiting.remove(0);
-        self.unsent = Some(Entry {
+        let entry = Entry {
             commit,
             count: noted.len(),
             seen: noted.token(),
-        });
+        };
+        keep_entry(&mut self.unsent, entry);
         self.noted = noted;
         true
     }
@@ -192,13 +206,28 @@ impl<P: NotingPen, J: Volumes, W: Press> Locked<P, J, W> {
         self.pen.apply_noting(event, &mut self.waiting)
     }
 
+    /// Applies an event of the volume's own to the pen alone.
+    pub(crate) fn run_own(&mut self, event: Event) -> Reply
+        ensures { GoesBy self.old event result self.new }
+    {
+        self.run(&event)
+    }
+
     /// Mounts a checkpoint in the pen alone.
     fn run_mount(&mut self, checkpoint: CheckpointNumber) -> Result<MountNumber, VolError>
         ensures { MountGoes self.old checkpoint result self.new }
     {
         self.means_a_world();
-        let reply = self.run(&Event::Mount(checkpoint));
-        mount_number(&reply)
+        mount_number(self.run_own(Event::Mount(checkpoint)))
+    }
+
+    /// Gives a mount back in the pen alone.
+    fn run_unmount(&mut self, number: MountNumber) -> Result<(), VolError>
+        ensures { MatchResult result
+            (λ _. (answer : Answer) × GoesBy self.old (event.Unmount number) (Ok answer) self.new)
+            (λ e. GoesBy self.old (event.Unmount number) (Err e) self.new) }
+    {
+        without_answer(self.run_own(Event::Unmount(number)))
     }
 
     /// Gives back the mount whose commit could not be published. Refused by `Memory` alone.
@@ -207,8 +236,8 @@ impl<P: NotingPen, J: Volumes, W: Press> Locked<P, J, W> {
     {
         match self.lost {
             None => Ok(()),
-            Some(number) => match self.run(&Event::Unmount(number)) {
-                Ok(_) => {
+            Some(number) => match self.run_unmount(number) {
+                Ok(()) => {
                     self.lost = None;
                     Ok(())
                 }
@@ -325,6 +354,20 @@ impl<P: NotingPen, J: Volumes, W: Press> Locked<P, J, W> {
         }
     }
 
+    /// Gives back the mount of a number.
+    fn apply_unmount<R: Wait>(&mut self, rt: &R, number: MountNumber) -> Result<(), VolError>
+        ensures { MatchResult result
+            (λ _. (answer : Answer) × Ran self.old (event.Unmount number) (Ok answer) self.new)
+            (λ e. Ran self.old (event.Unmount number) (Err e) self.new) }
+    {
+        if let Err(refusal) = self.begin(rt) {
+            return Err(refusal);
+        }
+        let given = self.run_unmount(number);
+        self.settle(rt);
+        given
+    }
+
     /// Gives a mount back. Refused, it comes back.
     pub fn unmount<R: Wait>(&mut self, rt: &R, mount: Mount<J>) -> Result<(), (VolError, Mount<J>)>
         ensures ran { MatchResult result
@@ -332,8 +375,8 @@ impl<P: NotingPen, J: Volumes, W: Press> Locked<P, J, W> {
             (λ r. Ran self.old (event.Unmount mount.number) (Err r.0) self.new) }
         ensures same { MatchResult result (λ _. Unit {0}) (λ r. r.1 ≡ mount) }
     {
-        match self.apply(rt, &Event::Unmount(mount.number())) {
-            Ok(_) => {
+        match self.apply_unmount(rt, mount.number()) {
+            Ok(()) => {
                 mount.spend();
                 Ok(())
             }

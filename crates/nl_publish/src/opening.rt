@@ -1,12 +1,12 @@
 //! How a shared volume begins: all that readers see of its pen is published, and each reader has a seat.
 ghost use Rattle.std.specs.Prelude.{◌≡◌, ◌<◌, ◌^◌, ◌∷◌, [], drop, length, IfErr, IfOk};
-ghost use Rattle.nl_commit.specs.Commits.{image_of};
+ghost use Rattle.nl_commit.specs.Commits.{IsHistory, image_of};
 ghost use Rattle.nl_publish.specs.Begun.{HasBegun};
 ghost use Rattle.nl_publish.specs.Images.{IsPublished, name_of};
 ghost use Rattle.nl_commit.specs.Shown.{MountsRise};
 ghost use Rattle.nl_publish.specs.Seats.{known_to};
 
-use crate::history::{Front, Opened, Volumes};
+use crate::history::{Front, Opened, Record, Volumes};
 use crate::image::Image;
 use crate::locked::Locked;
 use crate::press::{ImageReader, Named, Press, Publisher, open};
@@ -74,6 +74,34 @@ pub fn publish<J: Volumes, R: Wait>(
     Ok((named.publisher(), seats))
 }
 
+/// Adds the first commit to a history that has none, and publishes it.
+fn publish_first<J: Volumes, R: Wait>(
+    alloc: Global,
+    rt: &R,
+    record: &Record<J>,
+    front: &mut Front<J>,
+    commit: &Commit,
+    readers: usize,
+) -> Result<(Publisher, Vec<Seat<J>>), AllocError>
+    requires volume { record.now.volume ≡ front.old.volume }
+    requires none { front.old.commits ≡ [] }
+    requires first { IsHistory (commit.now ∷ []) }
+    requires mounts { MountsRise (image_of (commit.now ∷ [])) }
+    requires readers { (0 < readers) × (readers < 2 ^ 32) }
+    ensures volume { front.new.volume ≡ front.old.volume }
+    ensures first { IfOk result (λ _. front.new.commits ≡ commit.now ∷ []) }
+    ensures published { IfOk result (λ made. IsPublished front.new
+        (⟦<Publisher as Press>⟧.shown made.0) (⟦<Publisher as Press>⟧.unseen made.0)) }
+    ensures book { IfOk result (λ made.
+        (⟦<Publisher as Press>⟧.shown made.0).seen.book ≡ J.book front.new.volume) }
+    ensures seats { IfOk result (λ made. length made.1.items ≡ readers) }
+{
+    if !front.add(record, commit) {
+        return Err(AllocError);
+    }
+    publish(alloc, rt, commit, front, readers)
+}
+
 impl<P: NotingPen, J: Volumes> Locked<P, J, Publisher> {
     /// Publishes all that readers see of a pen as the first commit of the history that was opened, with a
     /// seat for each of so many readers. Refused by `Memory` alone, which gives the pen back.
@@ -95,10 +123,9 @@ impl<P: NotingPen, J: Volumes> Locked<P, J, Publisher> {
             return Err((VolError::Memory, pen));
         };
         let (record, mut front) = opened.named::<J>();
-        if !front.add(&record, &commit) {
-            return Err((VolError::Memory, pen));
-        }
-        let Ok((writer, seats)) = publish(alloc, rt, &commit, &front, readers) else {
+        let made = publish_first(alloc, rt, &record, &mut front, &commit, readers);
+        drop(commit);
+        let Ok((writer, seats)) = made else {
             return Err((VolError::Memory, pen));
         };
         Ok((Locked::begun(alloc, pen, record, front, writer), seats))

@@ -42,6 +42,10 @@ ends_before s i n tidy low =
     let m : (i + 1) * s.blocks ≤ n * s.blocks = mul-le-mul_right s.blocks (omega arith) in
     omega (arith, room, m)
 
+-- and in the volume
+pub part_inside : (s : Segments) (i : ℕ) → AreTidy s → i < length s.each → used_end s i ≤ total_blocks s
+part_inside s i tidy low = ends_before s i (length s.each) tidy low
+
 pub more_held : (s : Segments) (device : DevicePages) (payload new : List (Option Payload)) (n : ℕ)
     → AreTidy s → AreHeldBelow s device payload n → IsHeld s device (held_in new) n
     → SameAround (used_start s n) (used_end s n) (held_in payload) (held_in new) → length new ≡ length payload

@@ -1,8 +1,9 @@
 -- One log on the device and in memory.
-use Rattle.std.proofs.Common.{◌≡◌, ℕ, suc, ◌+◌, ◌<◌, inl, inr, List, ◌∷◌, length, map, ap, sym, ◌∙◌, arith, subst, add-zero}
+use Rattle.std.proofs.Common.{◌≡◌, ℕ, suc, ◌+◌, ◌*◌, ◌≤◌, ◌<◌, inl, inr, List, ◌∷◌, length, map, ap, sym, ◌∙◌, arith, subst, add-zero}
+use Rattle.std.proofs.Math.Nat.{mul-le-mul_right}
 use Rattle.std.proofs.lemmas.List.{length-map}
 use Rattle.std.specs.Prelude.{slice_get}
-use Rattle.nl_types.specs.Segments.{AreTidy}
+use Rattle.nl_types.specs.Segments.{AreTidy, Segments}
 use Rattle.nl_types.specs.Placing.{first_block, IsNextLog}
 use Rattle.nl_types.specs.Facts.UsedParts.{outside_row}
 use Rattle.nl_device.specs.Pages.{DevicePages}
@@ -18,6 +19,14 @@ pages_long x ready =
     let l = length-map x.payload payload_page in
     let n = ready.count in
     ap length ready.pages ∙ omega (arith, l, n)
+
+-- the log's blocks are among those of the volume
+pub log_inside : (s : Segments) (x : Staged) → IsNextLog s x.log → IsReady x
+    → first_block s.blocks x.log + length x.pages ≤ length s.each * s.blocks
+log_inside s x next ready =
+    let below : (x.log.segment + 1) * s.blocks ≤ length s.each * s.blocks =
+    mul-le-mul_right s.blocks (omega (arith, next.segment)) in
+    omega (arith, below, next.is_log.inside, pages_long x ready)
 
 -- the log's blocks alone change on the device, also where a put failed
 pub put_outside : (first : ℕ) (x : Staged) (old new : DevicePages) → IsReady x → HasPut first x.pages old new

@@ -69,8 +69,13 @@ fn run_script<J: Volumes + Send + Sync, R: Threads + Wait + Sync, I: Read + Drop
     let done = run_on(alloc, &mut volume, &mut readers, config, input, output);
     // The mounts that the script left are taken out.
     let pen = volume.end();
-    let done = done?;
-    Ok((done, pen))
+    match done {
+        Ok(done) => Ok((done, pen)),
+        Err(refusal) => {
+            drop(pen);
+            Err(refusal)
+        }
+    }
 }
 
 /// Writes a text, and hands it on.

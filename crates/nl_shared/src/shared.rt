@@ -150,9 +150,19 @@ impl<'a, D: Device, J: Volumes, R: Wait> SharedVolume<'a, D, J, R> {
         ensures ports { IfOk result (λ made. length made.1.items ≡ reader_count) }
         ensures refused { IsOkUnless result VolError.Memory }
     {
-        let mut ports = Vec::with_capacity(alloc, READERS)?;
+        let mut ports = match Vec::with_capacity(alloc, READERS) {
+            Ok(ports) => ports,
+            Err(_) => {
+                // By one call, as below: else each part of it would be let go for itself.
+                drop(pen);
+                return Err(VolError::Memory);
+            }
+        };
         match Locked::new(alloc, rt, pen, opened, READERS + 1) {
-            Err((refusal, _pen)) => Err(refusal),
+            Err((refusal, pen)) => {
+                drop(pen);
+                Err(refusal)
+            }
             Ok((locked, mut seats)) => {
                 let seat = seats.remove(0);
                 seat_all(&mut ports, seats);
@@ -177,9 +187,10 @@ impl<'a, D: Device, J: Volumes, R: Wait> SharedVolume<'a, D, J, R> {
             rt,
             alloc: _,
             locked,
-            port: _port,
+            port,
             mounts,
         } = self;
+        drop(port);
         spend_all(mounts);
         locked.end(rt)
     }
@@ -200,7 +211,7 @@ fn step_round<D: Device, J: Volumes, R: Wait>(
     steps_end_rounds();
     unmounts_leave_rounds();
     locked.means_a_world();
-    job.next(locked.pen())?;
+    drop(job.next(locked.pen())?);
     locked.clean_step(rt, job)
 }
 
@@ -230,7 +241,9 @@ impl<D: Device, J: Volumes, R: Wait> SharedVolume<'_, D, J, R> {
         ensures ran { Ran self.old.held (event.Unmount number) result self.new.held }
         ensures mounts { self.new.mounts ≡ mounts_left_by number result self.old.mounts }
     {
-        let reply = self.locked.apply(self.rt, &Event::Unmount(number));
+        let event = Event::Unmount(number);
+        let reply = self.locked.apply(self.rt, &event);
+        drop(event);
         if reply.is_ok() {
             forget(&mut self.mounts, number);
         }
@@ -245,6 +258,7 @@ impl<D: Device, J: Volumes, R: Wait> SharedVolume<'_, D, J, R> {
         let mount = mount_of(self.mounts.as_slice(), number)?;
         let reply = told(self.alloc, &mut self.port, mount, ask);
         if is_bad_mount(&reply) {
+            drop(reply);
             None
         } else {
             Some(reply)

@@ -1,3 +1,2 @@
 pub mod TreesStand
-pub mod NamesCounted
 pub mod UsedNumbers

@@ -1,38 +1,23 @@
--- The current tree stands for a tree after each call, and over each checkpoint.
-use Rattle.std.proofs.Common.{◌≡◌, ℕ, zero, suc, ◌+◌, ◌≤◌, List, [], Option, None, Result, Ok, Err, OnErr, refl, sym, ap, ◌∙◌, subst, get_or, replicate}
+-- The current tree stands for a tree over each checkpoint.
+use Rattle.std.proofs.Common.{◌≡◌, ℕ, zero, suc, ◌+◌, List, [], Option, None, refl, sym, ap, ◌∙◌, subst, get_or, replicate}
 use Rattle.std.specs.Option.{option_map}
 use Rattle.nl_types.specs.declared.error.VolError.{VolError}
 use Rattle.nl_types.specs.declared.error.VolError.TheVariants.{Fault, Memory, NoSpace}
-use Rattle.nl_types.specs.declared.reply.Answer.{Answer}
-use Rattle.nl_types.specs.Calls.{Changed}
 use Rattle.nl_types.specs.Entries.{Content, written}
 use Rattle.nl_types.specs.Lifetimes.{Ledger, blank}
-use Rattle.nl_types.specs.Roots.{Root, pages_of}
+use Rattle.nl_types.specs.Roots.{Root}
 use Rattle.nl_types.specs.Trees.{Tree}
 use Rattle.nl_device.specs.Failures.{Failures}
 use Rattle.nl_space.specs.Content.{SpaceContent}
 use Rattle.nl_vstore.specs.Batches.{Changes, CanBeTaken}
 use Rattle.nl_vstore.specs.Stores.{IsWriteRefused, Numbered, Store, content_in, entry_now, new_store}
-use Rattle.nl_tree.specs.Held.{Holding, IsHolding}
-use Rattle.nl_tree.specs.Became.{Became, Current, holding_over}
-use Rattle.nl_tree.specs.CurrentTrees.{AnswersCall, StandsOver}
-use Rattle.nl_tree.specs.Numbers.{CountsFree}
-use Rattle.nl_tree.specs.TreeMeaning.{StandsForTree}
+use Rattle.nl_tree.specs.Held.{Holding}
+use Rattle.nl_tree.specs.Became.{Current, holding_over}
 use Rattle.nl_files.specs.CheckpointRoots.{IsCheckpointRoot}
 use Rattle.nl_files.specs.Settles.{IsCurrent, Settles}
-use Rattle.nl_files.specs.CheckpointTrees.{HoldsTree}
 use Rattle.nl_files.specs.Laws.{ledger_with}
 use Rattle.nl_files.specs.TreeLaws.{StandsOverLatest}
 use Rattle.nl_files.specs.Facts.TreeLaws.{settled_trees-go_on, trees-can_be_settled}
-
--- a call leaves a tree, be it refused or not
-pub call_leaves : (result : Result Answer VolError) (old now : Current) (b : Holding) (called : Changed)
-    (t : Tree)
-    → AnswersCall (λ a. a) result now b called → OnErr result (now ≡ old) → StandsOver old b t
-    → (u : Tree) × StandsOver now b u
-call_leaves (Ok a) old now b called t calls same stands = (calls.tree, calls.stands)
-call_leaves (Err e) old now b called t calls same stands =
-    (t, subst (λ (c : Current). StandsOver c b t) (sym same) stands)
 
 -- a batch that is not written leaves what numbers stand for
 pub refused-keeps : (e : VolError) (checkpoint stamp : ℕ) (batch : Changes) (old new : Store)
@@ -56,11 +41,6 @@ new_content-blank store space failures new = λ k. λ v.
 
 module _ (content : Content) (ledger : Ledger) (root : Root) (now : Current) (base : Holding) (tree : Tree)
     (over : StandsOverLatest ledger root now base tree) (same : ledger.content ≡ content) where
-  pub latest_holds : HoldsTree (pages_of content) root base
-  latest_holds =
-      subst (λ (c : Content). HoldsTree (pages_of c) root base) same
-      (trees-can_be_settled ledger root now base tree over).holds
-
   pub latest_checkpoint : IsCheckpointRoot content root
   latest_checkpoint =
       subst (λ (c : Content). IsCheckpointRoot c root) same
@@ -93,15 +73,3 @@ module _ (content : Content) (ledger : Ledger) (root : Root) (now : Current) (ba
   written_content checkpoint batch after latest is =
       ap (λ (c : Content). written batch.births batch.ends (ledger.latest + 1) c) same
       ∙ (ap (λ (n : ℕ). written batch.births batch.ends (n + 1) content) latest ∙ sym is)
-
--- a tree in which nothing differs from the checkpoint, with as many names, stands for the same tree
-pub reopened_stands : (now after : Current) (base : Holding) (tree : Tree) → StandsOver now base tree
-    → now.became ≡ after.became → now.names ≡ after.names → CountsFree after base → StandsOver after base tree
-reopened_stands now after base tree over became names counts = record {
-  sound = subst (λ (b : List (ℕ × Became)). IsHolding (holding_over b base)) became over.sound;
-  counts = counts;
-  stands = subst (λ (n : ℕ). StandsForTree (holding_over after.became base) tree n) names
-      (subst
-      (λ (b : List (ℕ × Became)). StandsForTree (holding_over b base) tree now.names) became over.stands);
-  few = subst (λ (n : ℕ). n ≤ 524277) names over.few;
-}

@@ -7,48 +7,34 @@
 //! over a constant's value at each step of the function that names it, and its time grows faster than the
 //! value.
 //!
-//! Rows of events with due replies are data: `tests/data/events`, which `nl_trials` does. Here stand tests
-//! that reach below a volume's events, or take a device, a writer or a stream of their own.
+//! Rows of events with due replies are data: `tests/data/events`, which `nl_trials` does. So are images by
+//! hand: `tests/data/conditions`, which `nlvol` opens; and texts are given to it by `tests/rows` and
+//! `tests/texts`. Here stand tests that reach below a volume's events, or take a device or a stream of their
+//! own.
 //!
-//! A step of a row of `trees` and `failing_devices` that is refused for memory has to leave what is seen as it
-//! was, and is done again; so are the steps of `logs` and `numbers`. So with one allocation failing, each of
-//! these rows still passes (`rt try --test --fail-alloc N`).
+//! A step of a row of `logs` and `numbers` that is refused for memory has to leave what is seen as it was,
+//! and is done again. So with one allocation failing, each of these rows still passes
+//! (`rt try --test --fail-alloc N`).
 #![tactic(auto)]
 
 #[cfg(test)]
-mod calls;
+mod closing;
 #[cfg(test)]
 mod directories;
-#[cfg(test)]
-mod events;
 #[cfg(test)]
 mod failing_devices;
 #[cfg(test)]
 mod formats;
 #[cfg(test)]
-mod hostile;
-#[cfg(test)]
-mod images;
-#[cfg(test)]
-mod lines;
-#[cfg(test)]
 mod logs;
 #[cfg(test)]
 mod numbers;
 #[cfg(test)]
-mod protection;
-#[cfg(test)]
 mod publications;
-#[cfg(test)]
-mod rounds;
-#[cfg(test)]
-mod rows;
-#[cfg(test)]
-mod scripts;
 #[cfg(test)]
 mod streams;
 #[cfg(test)]
-mod tree_rows;
+mod threads;
 #[cfg(test)]
 mod trees;
 #[cfg(test)]

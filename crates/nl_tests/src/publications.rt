@@ -299,6 +299,10 @@ const CASES: &[Case] = &[
     ),
 ];
 
+fn cases() -> &'static [Case] {
+    CASES
+}
+
 /// The first step that comes out otherwise on a new volume, of whose writer's calls and give-backs some are
 /// refused.
 fn unwanted<J: Volumes, R: Wait>(
@@ -335,7 +339,7 @@ fn unwanted<J: Volumes, R: Wait>(
 
 #[test]
 fn refused_publications_are_made_up_for(rt: HostRuntime) -> Result<(), Fail> {
-    for (calls, give_backs, steps) in CASES {
+    for (calls, give_backs, steps) in cases() {
         let opened = Opened::new(1);
         let first = unwanted::<Brand, _>(&rt, rt.alloc(), opened, *calls, *give_backs, steps)?;
         assert_eq!(rt; first, None);

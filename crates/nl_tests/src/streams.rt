@@ -113,10 +113,8 @@ const UNWRITTEN: &str = "standard output: cannot be written\n";
 /// What fails, a script, what it prints, what is told on standard error, and its status.
 type Row = (Failing, &'static str, &'static str, &'static str, u8);
 
-/// Where the reader fails, the line that is read in part is not done. Where the writer does, a line that
-/// can't be told of counts, and what follows it is not run. The output is flushed behind each line, a comment
-/// too. A line that there is no memory for is passed over, and what follows it is run.
-const ROWS: [Row; 29] = [
+/// Where the reader fails, the line that is read in part is not done.
+const READS: &[Row] = &[
     (Reader, "", "", UNREAD, 1),
     (Reader, "# one\n# two\n", "", UNREAD, 1),
     (Reader, "# one\n# two\nbog", "", UNREAD, 1),
@@ -124,6 +122,14 @@ const ROWS: [Row; 29] = [
     (Reader, "mkcp\nmkcp\n", "2\n3\n", UNREAD, 1),
     (Reader, "create /f\ncat /f\ncat /", "\n", UNREAD, 1),
     (Reader, "bogus\nmkcp\n", "1: usage\n2\n", UNREAD, 2),
+];
+
+fn reads() -> &'static [Row] {
+    READS
+}
+
+/// Where the writer fails, a line that can't be told of counts, and what follows it is not run.
+const WRITES: &[Row] = &[
     (Writer(0), "# one\n", "", "", 0),
     (Writer(0), "bogus\n", "", UNWRITTEN, 2),
     (
@@ -152,10 +158,26 @@ const ROWS: [Row; 29] = [
         UNWRITTEN,
         1,
     ),
+];
+
+fn writes() -> &'static [Row] {
+    WRITES
+}
+
+/// The output is flushed behind each line, a comment too.
+const FLUSHES: &[Row] = &[
     (Flush, "# one\n", "", UNWRITTEN, 1),
     (Flush, "mkcp\n", "2\n", UNWRITTEN, 1),
     (Flush, "mkcp\nbogus\n", "2\n", UNWRITTEN, 1),
     (Flush, "bogus\n", "1: usage\n", UNWRITTEN, 2),
+];
+
+fn flushes() -> &'static [Row] {
+    FLUSHES
+}
+
+/// A line that there is no memory for is passed over, and what follows it is run.
+const REQUESTS: &[Row] = &[
     (Memory(0), "", "", "", 0),
     (Memory(0), "mkcp\nmkcp\n", "1: error 18 Memory\n2\n", "", 1),
     (Memory(2), "mkcp\nmkcp\n", "1: error 18 Memory\n2\n", "", 1),
@@ -177,6 +199,10 @@ const ROWS: [Row; 29] = [
         1,
     ),
 ];
+
+fn requests() -> &'static [Row] {
+    REQUESTS
+}
 
 /// How a row ends, where its reader gives at most so many bytes at a call. There is memory for the output's
 /// buffer.
@@ -217,9 +243,10 @@ fn ends<R: AllocGlobal + Files<File = File> + Threads + Wait + Sync>(
 /// The first row that comes to something else.
 fn first_other<R: AllocGlobal + Files<File = File> + Threads + Wait + Sync>(
     rt: &R,
+    rows: &[Row],
     most: usize,
 ) -> Option<usize> {
-    for (k, row) in ROWS.iter().enumerate() {
+    for (k, row) in rows.iter().enumerate() {
         if !ends(rt, row, most) {
             return Some(k);
         }
@@ -229,7 +256,10 @@ fn first_other<R: AllocGlobal + Files<File = File> + Threads + Wait + Sync>(
 
 #[test]
 fn a_failing_stream_ends_the_script(rt: HostRuntime) {
-    assert_eq!(rt; first_other(&rt, 1), None);
-    assert_eq!(rt; first_other(&rt, 7), None);
-    assert_eq!(rt; first_other(&rt, 100_000), None);
+    for most in [1, 7, 100_000] {
+        assert_eq!(rt; first_other(&rt, reads(), most), None);
+        assert_eq!(rt; first_other(&rt, writes(), most), None);
+        assert_eq!(rt; first_other(&rt, flushes(), most), None);
+        assert_eq!(rt; first_other(&rt, requests(), most), None);
+    }
 }

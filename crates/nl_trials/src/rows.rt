@@ -1,17 +1,19 @@
 //! Does the lines of standard input: events and questions, on a new volume behind each line `volume`. Each is
 //! done on a pen and on a shared volume, and prints a line of what it comes to. `tests/events` has such lines
-//! with what is due.
+//! with what is due, and `tests/sweep` some that memory is refused to.
 use crate::rows::volumes::do_volume;
-use anyhow::Result;
 use std::alloc::Global;
 use std::io;
 use std::io::Write;
 use std::sync::Wait;
 
+mod again;
 mod answers;
 mod events;
+mod images;
 mod ports;
 mod questions;
+mod rounds;
 mod twins;
 mod volumes;
 mod words;
@@ -53,11 +55,20 @@ fn told<R: Wait>(handles: &R, alloc: Global, lines: &[&str]) -> io::Result<Vec<u
     Ok(out)
 }
 
-/// Does what the lines say, and answers the exit status.
-pub(crate) fn run<R: Wait>(rt: &HostRuntime, handles: &R) -> Result<u8> {
+fn do_rows<R: Wait>(rt: &HostRuntime, handles: &R) -> io::Result<()> {
     let text = io::read_to_string(rt.alloc(), rt.stdin())?;
     let lines: Vec<&str> = text.lines().collect(rt.alloc())?;
     let out = told(handles, rt.alloc(), lines.as_slice())?;
-    rt.stdout().write_all(out.as_slice())?;
-    Ok(0)
+    rt.stdout().write_all(out.as_slice())
+}
+
+/// The status where memory was refused to the program itself, and to no volume, or a stream failed.
+const NOT_DONE: u8 = 3;
+
+/// Does what the lines say, and answers the exit status.
+pub(crate) fn run<R: Wait>(rt: &HostRuntime, handles: &R) -> u8 {
+    match do_rows(rt, handles) {
+        Ok(()) => 0,
+        Err(_) => NOT_DONE,
+    }
 }

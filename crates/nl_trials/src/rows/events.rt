@@ -1,5 +1,7 @@
 //! The events of lines: a line's first word says which one, and the words behind it are what it takes.
-use crate::rows::words::{has_word, number_at, number_behind, number_or, small_at, word_at};
+use crate::rows::words::{
+    byte_at, has_word, number_at, number_behind, number_or, size_at, small_at, word_at,
+};
 use nl_types::{
     Ask, Change, CheckpointNumber, Event, Items, ListOptions, Mode, MountNumber, Segment,
 };
@@ -108,9 +110,7 @@ fn long_path(alloc: Global, words: &[&str]) -> Result<Items<u8>, AllocError> {
 
 /// The bytes of `fill PATH OFFSET BYTE COUNT`: the byte so many times.
 fn filling(alloc: Global, words: &[&str]) -> Result<Items<u8>, AllocError> {
-    let byte = u8::try_from(number_at(words, 3)).unwrap_or(0);
-    let count = usize::try_from(number_at(words, 4)).unwrap_or(0);
-    let bytes = vec![in alloc; byte; count]?;
+    let bytes = vec![in alloc; byte_at(words, 3); size_at(words, 4)]?;
     Ok(Items::from_vec(bytes))
 }
 

@@ -95,13 +95,25 @@ fn add_blocks(text: &mut Vec<u8>, described: &[Bdesc]) -> io::Result<()> {
     Ok(())
 }
 
+/// What is told of the payload blocks of a segment, once more where memory is refused.
+pub(crate) fn described<D: Device>(
+    alloc: Global,
+    pen: &Pen<D>,
+    segment: Segment,
+) -> Result<Vec<Bdesc>, VolError> {
+    match get_bdescs(alloc, pen, segment) {
+        Err(VolError::Memory) => get_bdescs(alloc, pen, segment),
+        told => told,
+    }
+}
+
 fn add_described<D: Device>(
     alloc: Global,
     text: &mut Vec<u8>,
     pen: &Pen<D>,
     segment: Segment,
 ) -> io::Result<()> {
-    match get_bdescs(alloc, pen, segment) {
+    match described(alloc, pen, segment) {
         Ok(described) => add_blocks(text, described.as_slice()),
         Err(refusal) => add_refusal(text, refusal),
     }

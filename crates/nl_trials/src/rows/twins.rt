@@ -1,19 +1,19 @@
 //! A pen and a shared volume with one port: each line is done on both. No contract says that a shared call
 //! does what its event does, so that their replies are compared, and what both are in the end.
 use crate::looks::look_at_pen;
-use crate::rows::answers::{add_counted, add_word, reply_text};
+use crate::rows::again::{Alone, Tally, Volume, reply_again};
+use crate::rows::answers::{add_counted, add_number, add_refusal, add_word, reply_text};
 use crate::rows::events::event_of;
+use crate::rows::images::{closes, image_size};
 use crate::rows::ports::Ported;
-use crate::rows::questions::add_asked;
+use crate::rows::questions::{add_asked, described};
+use crate::rows::rounds::{Sum, round};
 use crate::rows::words::{number_at, small_at, word_at, words_of};
-use crate::volumes::closed;
 use nl_core::Pen;
 use nl_device::FaultDevice;
-use nl_lib::{
-    Cleaned, change_cpmode, clean_segments, delete_checkpoint, get_bdescs, get_suinfo, resize, sync,
-};
+use nl_lib::{Cleaned, clean_segments, get_suinfo, sync};
 use nl_publish::Volumes;
-use nl_types::{Answer, Event, Mode, Reply, Segment};
+use nl_types::{Answer, Event, Mode, Reply, Segment, VolError};
 use std::alloc::Global;
 use std::io;
 use std::sync::Wait;
@@ -50,27 +50,45 @@ fn add_replies(alloc: Global, one: &Reply, other: &Reply, out: &mut Vec<u8>) -> 
 
 // ---- events
 
-/// An event on a pen; by the call after libnilfs, where there is one.
-fn reply_of(pen: &mut Pen<FaultDevice>, event: &Event) -> Reply {
-    let done = match event {
-        Event::ChangeMode(number, mode) => change_cpmode(pen, *number, *mode),
-        Event::Remove(number) => delete_checkpoint(pen, *number),
-        Event::Resize(segments) => resize(pen, *segments),
-        _ => return pen.apply(event),
-    };
-    done.map(|()| Answer::Done)
-}
-
 fn do_event<J: Volumes, R: Wait>(
     alloc: Global,
-    pen: &mut Pen<FaultDevice>,
+    alone: &mut Alone,
     ported: &mut Ported<'_, J, R>,
     event: &Event,
+    tally: &mut Tally,
     out: &mut Vec<u8>,
 ) -> io::Result<()> {
-    let one = reply_of(pen, event);
-    let other = ported.apply(alloc, event);
+    let one = reply_again(alloc, alone, event, tally);
+    let other = reply_again(alloc, ported, event, tally);
     add_replies(alloc, &one, &other, out)
+}
+
+/// What a round comes to, or its refusal.
+fn round_text(alloc: Global, told: Result<Sum, VolError>) -> io::Result<Vec<u8>> {
+    let mut text = Vec::new(alloc);
+    match told {
+        Ok(sum) => {
+            add_counted(&mut text, "round", sum.expired as u64)?;
+            add_number(&mut text, u64::from(sum.moved))?;
+            add_number(&mut text, u64::from(sum.freed))?;
+        }
+        Err(refusal) => add_refusal(&mut text, refusal)?,
+    }
+    Ok(text)
+}
+
+fn do_round<J: Volumes, R: Wait>(
+    alloc: Global,
+    alone: &mut Alone,
+    ported: &mut Ported<'_, J, R>,
+    tally: &mut Tally,
+    out: &mut Vec<u8>,
+) -> io::Result<()> {
+    let one = round(alloc, alone, tally);
+    let other = round(alloc, ported, tally);
+    let one = round_text(alloc, one)?;
+    let other = round_text(alloc, other)?;
+    add_both(out, one.as_slice(), other.as_slice())
 }
 
 // ---- calls after libnilfs that are no events
@@ -92,13 +110,13 @@ fn synced_by_event<J: Volumes, R: Wait>(
 
 fn do_sync<J: Volumes, R: Wait>(
     alloc: Global,
-    pen: &mut Pen<FaultDevice>,
+    alone: &mut Alone,
     ported: &mut Ported<'_, J, R>,
     moment: u64,
     out: &mut Vec<u8>,
 ) -> io::Result<()> {
-    let is_dirty = pen.is_dirty();
-    let one = sync(pen, moment).map(Answer::Checkpoint);
+    let is_dirty = alone.pen.is_dirty();
+    let one = sync(&mut alone.pen, moment).map(Answer::Checkpoint);
     let other = synced_by_event(alloc, ported, is_dirty, moment);
     add_replies(alloc, &one, &other, out)
 }
@@ -122,7 +140,7 @@ fn add_cleaned(alloc: Global, one: Cleaned, other: Cleaned, out: &mut Vec<u8>) -
 
 fn do_cleaning<J: Volumes, R: Wait>(
     alloc: Global,
-    pen: &mut Pen<FaultDevice>,
+    alone: &mut Alone,
     ported: &Ported<'_, J, R>,
     words: &[&str],
     out: &mut Vec<u8>,
@@ -132,63 +150,115 @@ fn do_cleaning<J: Volumes, R: Wait>(
         Segment::new(small_at(words, 2)),
     ];
     let now = number_at(words, 3);
-    let one = clean_segments(pen, &segments, now);
+    let one = clean_segments(&mut alone.pen, &segments, now);
     let other = ported.clean(&segments, now);
     add_cleaned(alloc, one, other, out)
 }
 
 // ---- questions
 
-/// The answer to what only the pen is asked. In the end all of it is compared.
-fn do_question(
+/// Adds a word and a count, or a refusal.
+fn add_count(text: &mut Vec<u8>, word: &str, told: Result<usize, VolError>) -> io::Result<()> {
+    match told {
+        Ok(count) => add_counted(text, word, count as u64),
+        Err(refusal) => add_refusal(text, refusal),
+    }
+}
+
+/// What is done with the pages that the port keeps; a pen keeps none. Those that are put before memory is
+/// refused stay, and the call that comes again counts the others.
+fn cached<J: Volumes, R: Wait>(
     alloc: Global,
-    pen: &Pen<FaultDevice>,
+    ported: &mut Ported<'_, J, R>,
     words: &[&str],
+    tally: &mut Tally,
+) -> Result<usize, VolError> {
+    let (before, kept) = (ported.look(), ported.port.cached());
+    let told = ported.cache(alloc, words);
+    if told != Err(VolError::Memory) {
+        return told;
+    }
+    tally.note(before, ported.look());
+    let put = ported.port.cached().saturating_sub(kept);
+    let count = ported.cache(alloc, words)?;
+    Ok(count.saturating_add(put))
+}
+
+/// Adds how many bytes the image has, or the condition that it breaks once it is changed.
+fn add_image(text: &mut Vec<u8>, told: Result<Option<usize>, VolError>) -> io::Result<()> {
+    match told {
+        Ok(None) => add_word(text, "differs"),
+        Err(VolError::BadImage(condition)) => add_counted(text, "condition", u64::from(condition)),
+        Ok(Some(size)) => add_counted(text, "image", size as u64),
+        Err(refusal) => add_refusal(text, refusal),
+    }
+}
+
+/// The answer to what only one of the two is asked. In the end all of it is compared.
+fn do_question<J: Volumes, R: Wait>(
+    alloc: Global,
+    alone: &mut Alone,
+    ported: &mut Ported<'_, J, R>,
+    words: &[&str],
+    tally: &mut Tally,
     out: &mut Vec<u8>,
 ) -> io::Result<()> {
     let mut text = Vec::new(alloc);
-    add_asked(alloc, &mut text, pen, words)?;
+    match word_at(words, 0) {
+        "keep" | "warm" | "pages" => {
+            add_count(&mut text, "pages", cached(alloc, ported, words, tally))?;
+        }
+        "close" => {
+            let change = words.get(1..).unwrap_or_default();
+            add_image(&mut text, image_size(alloc, &mut alone.pen, change, tally))?;
+        }
+        _ => add_asked(alloc, &mut text, &alone.pen, words)?,
+    }
     add_line(out, text.as_slice())
 }
 
 fn do_words<J: Volumes, R: Wait>(
     alloc: Global,
-    pen: &mut Pen<FaultDevice>,
+    alone: &mut Alone,
     ported: &mut Ported<'_, J, R>,
     words: &[&str],
+    tally: &mut Tally,
     out: &mut Vec<u8>,
 ) -> io::Result<()> {
     match word_at(words, 0) {
-        "sync" => do_sync(alloc, pen, ported, number_at(words, 1), out),
-        "clean" => do_cleaning(alloc, pen, ported, words, out),
+        "sync" => do_sync(alloc, alone, ported, number_at(words, 1), out),
+        "clean" => do_cleaning(alloc, alone, ported, words, out),
+        "round" => do_round(alloc, alone, ported, tally, out),
         _ => match event_of(alloc, words)? {
-            Some(event) => do_event(alloc, pen, ported, &event, out),
-            None => do_question(alloc, pen, words, out),
+            Some(event) => do_event(alloc, alone, ported, &event, tally, out),
+            None => do_question(alloc, alone, ported, words, tally, out),
         },
     }
 }
 
 fn do_line<J: Volumes, R: Wait>(
     alloc: Global,
-    pen: &mut Pen<FaultDevice>,
+    alone: &mut Alone,
     ported: &mut Ported<'_, J, R>,
     line: &str,
+    tally: &mut Tally,
     out: &mut Vec<u8>,
 ) -> io::Result<()> {
     let words = words_of(alloc, line)?;
-    do_words(alloc, pen, ported, words.as_slice(), out)
+    do_words(alloc, alone, ported, words.as_slice(), tally, out)
 }
 
 /// Does lines on both, and tells what each comes to.
 pub(crate) fn do_lines<J: Volumes, R: Wait>(
     alloc: Global,
-    pen: &mut Pen<FaultDevice>,
+    alone: &mut Alone,
     ported: &mut Ported<'_, J, R>,
     lines: &[&str],
+    tally: &mut Tally,
     out: &mut Vec<u8>,
 ) -> io::Result<()> {
     for line in lines {
-        do_line(alloc, pen, ported, line, out)?;
+        do_line(alloc, alone, ported, line, tally, out)?;
     }
     Ok(())
 }
@@ -205,14 +275,15 @@ fn add_other_reply(alloc: Global, one: &Reply, other: &Reply, out: &mut Vec<u8>)
 /// Makes a last checkpoint on both, behind which neither is dirty, where there is space for it.
 pub(crate) fn do_last<J: Volumes, R: Wait>(
     alloc: Global,
-    pen: &mut Pen<FaultDevice>,
+    alone: &mut Alone,
     ported: &mut Ported<'_, J, R>,
+    tally: &mut Tally,
     out: &mut Vec<u8>,
 ) -> io::Result<()> {
     let mode = Mode::Snapshot;
     let event = Event::Checkpoint { mode, moment: 0 };
-    let one = pen.apply(&event);
-    let other = ported.apply(alloc, &event);
+    let one = reply_again(alloc, alone, &event, tally);
+    let other = reply_again(alloc, ported, &event, tally);
     add_other_reply(alloc, &one, &other, out)
 }
 
@@ -223,8 +294,8 @@ fn same_blocks(
     segment: Segment,
 ) -> bool {
     match (
-        get_bdescs(alloc, one, segment),
-        get_bdescs(alloc, other, segment),
+        described(alloc, one, segment),
+        described(alloc, other, segment),
     ) {
         (Ok(one), Ok(other)) => one.as_slice() == other.as_slice(),
         _ => false,
@@ -246,8 +317,12 @@ fn same_in_segments(alloc: Global, one: &Pen<FaultDevice>, other: &Pen<FaultDevi
 }
 
 /// Whether two pens close to the same bytes, or neither can be closed.
-fn close_alike(one: &mut Pen<FaultDevice>, other: &mut Pen<FaultDevice>) -> bool {
-    match (closed(one), closed(other)) {
+fn close_alike(
+    one: &mut Pen<FaultDevice>,
+    other: &mut Pen<FaultDevice>,
+    tally: &mut Tally,
+) -> bool {
+    match (closes(one, tally), closes(other, tally)) {
         (Ok(one), Ok(other)) => one.as_slice() == other.as_slice(),
         (Err(one), Err(other)) => one == other,
         _ => false,
@@ -260,12 +335,13 @@ pub(crate) fn add_ends(
     alloc: Global,
     one: &mut Pen<FaultDevice>,
     other: &mut Pen<FaultDevice>,
+    tally: &mut Tally,
     out: &mut Vec<u8>,
 ) -> io::Result<()> {
     if look_at_pen(one) != look_at_pen(other) || !same_in_segments(alloc, one, other) {
         add_line(out, b"differs in what is told")?;
     }
-    if !close_alike(one, other) {
+    if !close_alike(one, other, tally) {
         add_line(out, b"differs in the bytes")?;
     }
     Ok(())

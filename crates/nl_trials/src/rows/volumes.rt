@@ -1,6 +1,9 @@
 //! The volumes of rows: each is new, of a shape, on a device of which one call may fail, and there twice.
 ghost use Rattle.std.specs.Prelude.{◌≡◌};
 
+use crate::looks::look_at_pen;
+use crate::rows::again::{Alone, Tally};
+use crate::rows::events::event_of;
 use crate::rows::ports::Ported;
 use crate::rows::twins::{add_ends, do_last, do_lines};
 use crate::rows::words::{number_behind, small_at, words_of};
@@ -8,8 +11,8 @@ use nl_core::Pen;
 use nl_device::{FaultDevice, MemDevice};
 use nl_mounts::share;
 use nl_publish::{Opened, Volumes};
-use nl_types::{Geometry, VolError};
-use std::alloc::Global;
+use nl_types::{Event, Geometry, VolError};
+use std::alloc::{AllocError, Global};
 use std::io;
 use std::marker::Brand;
 use std::sync::Wait;
@@ -29,73 +32,146 @@ fn volume(alloc: Global, words: &[&str]) -> Result<Pen<FaultDevice>, VolError> {
     Pen::format(alloc, device, geometry, 0)
 }
 
-/// Shares a pen, and does lines on it and on another one. It comes back as it is in the end.
+/// Makes a volume, and once more where memory is refused. Nothing was there before.
+fn made(alloc: Global, words: &[&str], tally: &mut Tally) -> Result<Pen<FaultDevice>, VolError> {
+    match volume(alloc, words) {
+        Err(VolError::Memory) => {
+            tally.note(0, 0);
+            volume(alloc, words)
+        }
+        pen => pen,
+    }
+}
+
+/// The event that reads the file `/f` for looks. There is none where a call of the device fails, since those
+/// of a read count.
+fn reading(alloc: Global, words: &[&str]) -> Result<Option<Event>, AllocError> {
+    if words.len() > 3 {
+        return Ok(None);
+    }
+    event_of(alloc, &["read", "/f", "0", "4096"])
+}
+
+/// What came of lines, and the pen that was shared as it is in the end.
+type Ran = (io::Result<()>, Pen<FaultDevice>);
+
+/// Shares a pen, and does lines on it and on another one. Where it can't be shared it comes back alone.
 fn do_shared<J: Volumes, R: Wait>(
     rt: &R,
     alloc: Global,
     opened: Opened,
-    pen: &mut Pen<FaultDevice>,
+    alone: &mut Alone,
     other: Pen<FaultDevice>,
     lines: &[&str],
+    tally: &mut Tally,
     out: &mut Vec<u8>,
-) -> (io::Result<()>, Pen<FaultDevice>)
+) -> Result<Ran, Pen<FaultDevice>>
     requires { opened.seen.book ≡ J.book opened.id }
 {
     let (shared, mut ports) = match share::<_, J, _>(alloc, rt, other, 1, opened) {
         Ok(made) => made,
-        Err((_, other)) => return (Ok(()), other),
+        Err((_, other)) => return Err(other),
     };
     let Some(port) = ports.pop() else {
-        return (Ok(()), shared.end(rt, Vec::new(alloc)));
+        return Err(shared.end(rt, Vec::new(alloc)));
     };
     let mut ported = Ported {
         rt,
         shared,
         port,
         mounts: Vec::new(alloc),
+        numbers: Vec::new(alloc),
+        refused: 0,
     };
-    let done = do_lines(alloc, pen, &mut ported, lines, out);
-    let last = do_last(alloc, pen, &mut ported, out);
+    let done = do_lines(alloc, alone, &mut ported, lines, tally, out);
+    let last = do_last(alloc, alone, &mut ported, tally, out);
     let Ported {
         rt: _,
         shared,
         port: _port,
         mounts,
+        numbers: _numbers,
+        refused: _,
     } = ported;
-    (done.and(last), shared.end(rt, mounts))
+    Ok((done.and(last), shared.end(rt, mounts)))
 }
 
-/// Does lines on a pen and on another one that is shared, and compares both in the end.
-fn do_twins<R: Wait>(
+/// Shares a pen and does lines. Where memory is refused before it is shared it has to come back as it was, and
+/// is shared once more.
+fn do_again<R: Wait>(
     rt: &R,
     alloc: Global,
-    pen: &mut Pen<FaultDevice>,
+    alone: &mut Alone,
     other: Pen<FaultDevice>,
     lines: &[&str],
+    tally: &mut Tally,
+    out: &mut Vec<u8>,
+) -> Result<Ran, Pen<FaultDevice>> {
+    let before = look_at_pen(&other);
+    let first = Opened::new(1);
+    match do_shared::<Brand, _>(rt, alloc, first, alone, other, lines, tally, out) {
+        Ok(ran) => Ok(ran),
+        Err(other) => {
+            tally.note(before, look_at_pen(&other));
+            let second = Opened::new(2);
+            do_shared::<Brand, _>(rt, alloc, second, alone, other, lines, tally, out)
+        }
+    }
+}
+
+/// Compares a pen with the one that was shared, in the end.
+fn compare(
+    alloc: Global,
+    alone: &mut Alone,
+    ran: Ran,
+    tally: &mut Tally,
     out: &mut Vec<u8>,
 ) -> io::Result<()> {
-    let opened = Opened::new(1);
-    let (done, mut other) = do_shared::<Brand, _>(rt, alloc, opened, pen, other, lines, out);
-    pen.give_all_back();
-    let compared = add_ends(alloc, pen, &mut other, out);
+    let (done, mut other) = ran;
+    alone.pen.give_all_back();
+    let compared = add_ends(alloc, &mut alone.pen, &mut other, tally, out);
     done.and(compared)
 }
 
+/// Does lines on a pen and on another one that is shared, and compares both in the end.
 fn do_beside<R: Wait>(
     rt: &R,
     alloc: Global,
     words: &[&str],
-    pen: &mut Pen<FaultDevice>,
+    alone: &mut Alone,
     lines: &[&str],
+    tally: &mut Tally,
     out: &mut Vec<u8>,
 ) -> io::Result<()> {
-    match volume(alloc, words) {
-        Ok(other) => do_twins(rt, alloc, pen, other, lines, out),
+    let Ok(other) = made(alloc, words, tally) else {
+        return Ok(());
+    };
+    match do_again(rt, alloc, alone, other, lines, tally, out) {
+        Ok(ran) => compare(alloc, alone, ran, tally, out),
         Err(_) => Ok(()),
     }
 }
 
-/// Makes the volume of a line, and does the lines behind it.
+/// Makes the volume of words, and does the lines behind it.
+fn do_made<R: Wait>(
+    rt: &R,
+    alloc: Global,
+    words: &[&str],
+    lines: &[&str],
+    tally: &mut Tally,
+    out: &mut Vec<u8>,
+) -> io::Result<()> {
+    let read = reading(alloc, words)?;
+    match made(alloc, words, tally) {
+        Ok(pen) => {
+            let mut alone = Alone { pen, read };
+            do_beside(rt, alloc, words, &mut alone, lines, tally, out)
+        }
+        Err(_) => Ok(()),
+    }
+}
+
+/// Makes the volume of a line, does the lines behind it, and tells how often memory was refused.
 pub(crate) fn do_volume<R: Wait>(
     rt: &R,
     alloc: Global,
@@ -104,8 +180,7 @@ pub(crate) fn do_volume<R: Wait>(
     out: &mut Vec<u8>,
 ) -> io::Result<()> {
     let words = words_of(alloc, line)?;
-    match volume(alloc, words.as_slice()) {
-        Ok(mut pen) => do_beside(rt, alloc, words.as_slice(), &mut pen, lines, out),
-        Err(_) => Ok(()),
-    }
+    let mut tally = Tally::new();
+    do_made(rt, alloc, words.as_slice(), lines, &mut tally, out)?;
+    tally.add_refusals(out)
 }

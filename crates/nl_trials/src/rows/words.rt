@@ -1,5 +1,5 @@
 //! The words of a line. One that isn't there is empty, and a word that is no number stands for 0.
-use crate::words::number;
+use crate::words::{number, size};
 use std::alloc::Global;
 use std::io;
 
@@ -37,4 +37,14 @@ pub(crate) fn has_word(words: &[&str], due: &str) -> bool {
 pub(crate) fn number_behind(words: &[&str], due: &str) -> Option<u64> {
     let place = words.iter().position(|word| *word == due)?;
     number(word_at(words, place.saturating_add(1)))
+}
+
+/// The byte at a place, or 0.
+pub(crate) fn byte_at(words: &[&str], place: usize) -> u8 {
+    u8::try_from(number_at(words, place)).unwrap_or(0)
+}
+
+/// A number of things in memory at a place, or 0.
+pub(crate) fn size_at(words: &[&str], place: usize) -> usize {
+    size(word_at(words, place)).unwrap_or(0)
 }

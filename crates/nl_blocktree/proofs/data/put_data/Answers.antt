@@ -1,5 +1,5 @@
 use Rattle.std.proofs.Common.{◌≡◌, ◌+◌, ◌++◌, ◌∷◌, [], ◌<◌, ℕ, List, Option, length, take, get_or, arith, ap, sym, subst, ◌∙◌}
-use Rattle.std.proofs.lemmas.List.{take_more}
+use Rattle.std.proofs.lemmas.List.{take_more, take_all}
 use Rattle.nl_types.specs.Roots.{Pages, pages_of, place_at}
 use Rattle.nl_layout.specs.Root.{root_of}
 use Rattle.nl_vstore.specs.Stores.{content_in}
@@ -11,6 +11,7 @@ use Rattle.nl_blocktree.specs.Private.Writing.{PutsData, PutsOne}
 use Rattle.nl_blocktree.proofs.Kept.{goes_on-append, goes_on-more}
 use Rattle.nl_blocktree.proofs.TreeAbove.{chain_begins, know_edit, know_none, know_same}
 use Rattle.nl_blocktree.specs.Facts.TreeData.{below-here, data_more, puts_none}
+use Rattle.std.proofs.lemmas.Result.{IfOk-from_err}
 use Rattle.nl_blocktree.proofs.data.put_data.Goals as goal
 
 pub loop-change-init : goal.loop-change-init
@@ -112,3 +113,33 @@ returns-in_err-add_edit-clause-kept g c =
     c.loop-change.invariant.puts.gone c.loop-change.invariant.puts.births_are
     c.loop-change.invariant.puts.ends_are)
     c.in_ok-number.ensures.kept
+
+pub returns-in_err-number-clause-ok : goal.returns-in_err-number-clause-ok
+returns-in_err-number-clause-ok g c = IfOk-from_err c.from_residual.result _ c.from_residual.ensures.0
+
+pub returns-in_err-number-clause-above : goal.returns-in_err-number-clause-above
+returns-in_err-number-clause-above g c = IfOk-from_err c.from_residual.result _ c.from_residual.ensures.0
+
+pub returns-in_err-number-clause-fits : goal.returns-in_err-number-clause-fits
+returns-in_err-number-clause-fits g c = IfOk-from_err c.from_residual.result _ c.from_residual.ensures.0
+
+pub returns-in_err-add_edit-clause-ok : goal.returns-in_err-add_edit-clause-ok
+returns-in_err-add_edit-clause-ok g c =
+    IfOk-from_err c.from_residual-in_err-add_edit.result _ c.from_residual-in_err-add_edit.ensures.0
+
+pub returns-in_err-add_edit-clause-above : goal.returns-in_err-add_edit-clause-above
+returns-in_err-add_edit-clause-above g c =
+    IfOk-from_err c.from_residual-in_err-add_edit.result _ c.from_residual-in_err-add_edit.ensures.0
+
+pub returns-in_err-add_edit-clause-fits : goal.returns-in_err-add_edit-clause-fits
+returns-in_err-add_edit-clause-fits g c =
+    IfOk-from_err c.from_residual-in_err-add_edit.result _ c.from_residual-in_err-add_edit.ensures.0
+
+pub returns-clause-ok : goal.returns-clause-ok
+returns-clause-ok g c =
+    let content = content_in (g.V.Vstore.store c.args.store.now) in
+    subst (λ (changes : List BlockChange).
+    PutsData content c.args.inode changes (place_at (pages_of content) (root_of c.args.root.now) 0)
+    c.loop-change.edits.items c.args.batch.now.births c.loop-change.batch.births c.args.batch.now.ends
+    c.loop-change.batch.ends)
+    (take_all c.loop-change.change-index c.args.changes.now (omega arith)) c.loop-change.invariant.puts

@@ -7,6 +7,7 @@ use Rattle.nl_blocktree.specs.Private.Edits.{top_edits}
 use Rattle.nl_blocktree.specs.Private.TreeLevels.{kept_levels}
 use Rattle.nl_blocktree.proofs.TreeAbove.{know_same}
 use Rattle.nl_blocktree.proofs.TreeClimbing.{at_top, climb_up, small_of, told_ascends, told_narrow, told_some, told_told}
+use Rattle.nl_blocktree.proofs.Kept.{goes_on-more}
 use Rattle.nl_blocktree.proofs.levels.+climb.Goals as goal
 
 pub returns-then-below-height-clause-ok : goal.returns-then-below-height-clause-ok
@@ -79,3 +80,8 @@ returns-clause-ok g t c =
     climb_up c.args.below c.args.height top c.deref.result.now c.requires.kept.sound low c.requires.told
     ups.2 is on)
     c.climb.ensures.ok
+
+pub returns-clause-kept : goal.returns-clause-kept
+returns-clause-kept g t c =
+    goes_on-more c.args.batch.now c.put_level.new.batch c.climb.new.batch c.in_ok-told.ensures.kept
+    c.climb.ensures.kept

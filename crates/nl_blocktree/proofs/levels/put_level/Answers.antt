@@ -1,5 +1,5 @@
 use Rattle.std.proofs.Common.{◌≡◌, ◌∙◌, ◌+◌, ◌/◌, [], suc, List, take, get_or, arith, ap, sym, subst}
-use Rattle.std.proofs.lemmas.List.{length-take}
+use Rattle.std.proofs.lemmas.List.{length-take, take_all}
 use Rattle.nl_types.specs.Roots.{numbered, pages_of}
 use Rattle.nl_layout.specs.Root.{root_of}
 use Rattle.nl_vstore.specs.Stores.{content_in}
@@ -11,6 +11,7 @@ use Rattle.nl_blocktree.proofs.TreeAbove.{know_none, know_same, know_top, know_u
 use Rattle.nl_blocktree.proofs.TreeClimbing.{ups_some}
 use Rattle.nl_blocktree.proofs.TreeKept.{kept_live}
 use Rattle.nl_blocktree.proofs.TreeSteps.{any_default, group_ascends, group_puts, groups_more, groups_none, later_edge}
+use Rattle.std.proofs.lemmas.Result.{IfOk-from_err}
 use Rattle.nl_blocktree.proofs.levels.put_level.Goals as goal
 
 pub loop-at-init : goal.loop-at-init
@@ -135,3 +136,60 @@ returns-clause-above g c =
     let root = root_of c.args.root.now in
     know_same (kept_levels pages root) (c.args.below + 1) c.in_ok-told.ensures
     (know_top pages root (c.args.below + 1) c.args.height c.loop-at.ups.items c.loop-at.invariant.above)
+
+pub returns-in_err-told-clause-kept : goal.returns-in_err-told-clause-kept
+returns-in_err-told-clause-kept g c =
+    goes_on-append c.args.batch.now c.loop-at.batch c.loop-at.invariant.puts.added
+    c.loop-at.invariant.puts.gone c.loop-at.invariant.puts.births_are c.loop-at.invariant.puts.ends_are
+
+pub returns-clause-kept : goal.returns-clause-kept
+returns-clause-kept g c =
+    goes_on-append c.args.batch.now c.loop-at.batch c.loop-at.invariant.puts.added
+    c.loop-at.invariant.puts.gone c.loop-at.invariant.puts.births_are c.loop-at.invariant.puts.ends_are
+
+pub returns-clause-ok : goal.returns-clause-ok
+returns-clause-ok g c =
+    let content = content_in (g.V.Vstore.store c.args.store.now) in
+    let kept = kept_levels (pages_of content) (root_of c.args.root.now) in
+    let past = c.loop-at-test.false in (
+      c.loop-at.ups.items,
+      c.in_ok-told.ensures,
+      subst (λ (es : List Edit).
+          PutsLevel content c.args.inode (suc c.args.below) (kept (suc c.args.below)) (kept c.args.below)
+          es c.loop-at.ups.items c.args.batch.now.births c.loop-at.batch.births c.args.batch.now.ends
+          c.loop-at.batch.ends)
+          (take_all c.loop-at.at c.args.edits.now past) c.loop-at.invariant.puts,
+    )
+
+pub returns-in_err-number-clause-ok : goal.returns-in_err-number-clause-ok
+returns-in_err-number-clause-ok g c = IfOk-from_err c.from_residual.result _ c.from_residual.ensures.0
+
+pub returns-in_err-number-clause-above : goal.returns-in_err-number-clause-above
+returns-in_err-number-clause-above g c = IfOk-from_err c.from_residual.result _ c.from_residual.ensures.0
+
+pub returns-in_err-number-clause-fits : goal.returns-in_err-number-clause-fits
+returns-in_err-number-clause-fits g c = IfOk-from_err c.from_residual.result _ c.from_residual.ensures.0
+
+pub returns-in_err-add_up-clause-ok : goal.returns-in_err-add_up-clause-ok
+returns-in_err-add_up-clause-ok g c =
+    IfOk-from_err c.from_residual-in_err-add_up.result _ c.from_residual-in_err-add_up.ensures.0
+
+pub returns-in_err-add_up-clause-above : goal.returns-in_err-add_up-clause-above
+returns-in_err-add_up-clause-above g c =
+    IfOk-from_err c.from_residual-in_err-add_up.result _ c.from_residual-in_err-add_up.ensures.0
+
+pub returns-in_err-add_up-clause-fits : goal.returns-in_err-add_up-clause-fits
+returns-in_err-add_up-clause-fits g c =
+    IfOk-from_err c.from_residual-in_err-add_up.result _ c.from_residual-in_err-add_up.ensures.0
+
+pub returns-in_err-told-clause-ok : goal.returns-in_err-told-clause-ok
+returns-in_err-told-clause-ok g c =
+    IfOk-from_err c.from_residual-in_err-told.result _ c.from_residual-in_err-told.ensures.0
+
+pub returns-in_err-told-clause-above : goal.returns-in_err-told-clause-above
+returns-in_err-told-clause-above g c =
+    IfOk-from_err c.from_residual-in_err-told.result _ c.from_residual-in_err-told.ensures.0
+
+pub returns-in_err-told-clause-fits : goal.returns-in_err-told-clause-fits
+returns-in_err-told-clause-fits g c =
+    IfOk-from_err c.from_residual-in_err-told.result _ c.from_residual-in_err-told.ensures.0

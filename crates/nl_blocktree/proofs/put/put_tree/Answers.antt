@@ -1,5 +1,5 @@
-use Rattle.std.proofs.Common.{◌∙◌, ◌<◌, List, arith, sym, subst}
-use Rattle.std.specs.List.{All}
+use Rattle.std.proofs.Common.{◌∙◌, ◌<◌, List, arith, sym, subst, length}
+use Rattle.std.specs.List.{All, AllPairs}
 use Rattle.std.proofs.lemmas.Bool.{eqb-true, eqb-false}
 use Rattle.std.proofs.lemmas.Result.{IfOk-weaker}
 use Rattle.nl_types.specs.Roots.{pages_of}
@@ -11,6 +11,8 @@ use Rattle.nl_blocktree.specs.declared.tree.Edit.{Edit}
 use Rattle.nl_blocktree.proofs.TreeAbove.{know_same}
 use Rattle.nl_blocktree.specs.Facts.TreeData.{indexes-below}
 use Rattle.nl_blocktree.proofs.TreeRoots.{asked_small, puts_nothing, puts_renewed, some_first}
+use Rattle.nl_blocktree.proofs.Kept.{goes_on-more}
+use Rattle.nl_blocktree.specs.Private.Edits.{ComesBefore}
 use Rattle.nl_blocktree.proofs.put.put_tree.Goals as goal
 
 pub returns-then-is_empty-clause-ok : goal.returns-then-is_empty-clause-ok
@@ -71,3 +73,20 @@ returns-clause-fits g c = IfOk-weaker c.renew_file.result _ _
     (root_of new) c.put_data.new.batch c.renew_file.new.batch)
     c.deref.ensures.value r)).1)
     c.renew_file.ensures.ok
+
+pub renew_file-requires-clause-some : goal.renew_file-requires-clause-some
+renew_file-requires-clause-some g c =
+    subst (λ (es : List Edit). 0 < length es) (sym c.deref.ensures.value)
+    (let some = eqb-false c.in_ok-edits.edits.len 0 (sym c.is_empty.ensures ∙ c.if-is_empty.false) in
+    let count = c.in_ok-edits.edits.ok.0 in
+    omega (arith, some, count))
+
+pub renew_file-requires-clause-ascending : goal.renew_file-requires-clause-ascending
+renew_file-requires-clause-ascending g c =
+    subst (λ (es : List Edit). AllPairs ComesBefore es) (sym c.deref.ensures.value)
+    c.in_ok-edits.ensures.ok.ascending
+
+pub returns-clause-kept : goal.returns-clause-kept
+returns-clause-kept g c =
+    goes_on-more c.args.batch.now c.put_data.new.batch c.renew_file.new.batch c.in_ok-edits.ensures.kept
+    c.renew_file.ensures.kept

@@ -18,3 +18,7 @@ returns-clause-ok g c = IfOk-weaker c.lower.result _ _
     c.requires.kept c.birth_count-begun.ensures c.in_ok-top.ensures.kept.births c.in_ok-top.ensures.fits
     c.in_ok-top.ensures.ok low)
     c.lower.ensures.ok
+
+pub returns-clause-kept : goal.returns-clause-kept
+returns-clause-kept g c =
+    c.lower.ensures.kept c.args.batch.now c.birth_count-begun.ensures c.in_ok-top.ensures.kept

@@ -1,4 +1,4 @@
-use Rattle.std.proofs.Common.{◌≡◌, ◌++◌, ◌∷◌, [], ◌∙◌, ◌+◌, ◌*◌, ◌%◌, ℕ, List, Option, ap, sym, subst}
+use Rattle.std.proofs.Common.{◌≡◌, ◌++◌, ◌∷◌, [], ◌∙◌, ◌+◌, ◌*◌, ◌%◌, ℕ, List, Option, ap, sym, subst, length, take}
 use Rattle.std.specs.Option.{IsSome}
 use Rattle.std.proofs.lemmas.Result.{IfOk-weaker}
 use Rattle.nl_types.specs.Entries.{Birth}
@@ -10,6 +10,7 @@ use Rattle.nl_blocktree.specs.Private.Edits.{edited}
 use Rattle.nl_blocktree.specs.declared.tree.Edit.{Edit}
 use Rattle.nl_blocktree.specs.Facts.Staying.{some-is}
 use Rattle.nl_blocktree.specs.Facts.Numbers.{numbered-nonzero}
+use Rattle.nl_blocktree.proofs.Kept.{kept_more, kept_same}
 use Rattle.nl_blocktree.proofs.tree.put_node.Goals as goal
 
 -- what is read is what is stored
@@ -54,3 +55,21 @@ returns-clause-ok g c = IfOk-weaker c.bear_node.result _ _ (λ n b.
     (b.births_are ∙ ap (λ (bs : List Birth). bs ++ b.birth ∷ []) c.end_old.ensures.births_kept)
     (c.bear_node.ensures.ends ∙ ap (λ (x : Changes). x.ends) c.in_ok-end_old.ensures.ok))
     c.bear_node.ensures.ok
+
+pub returns-in_err-end_old-clause-births_kept : goal.returns-in_err-end_old-clause-births_kept
+returns-in_err-end_old-clause-births_kept g c =
+    kept_same c.args.batch.now.births _ c.in_err-end_old.ensures.births_kept
+
+pub returns-then-is_blank-clause-births_kept : goal.returns-then-is_blank-clause-births_kept
+returns-then-is_blank-clause-births_kept g c =
+    kept_same c.args.batch.now.births _ c.end_old.ensures.births_kept
+
+pub returns-clause-births_kept : goal.returns-clause-births_kept
+returns-clause-births_kept g c =
+    kept_more c.args.batch.now.births _ _ (kept_same c.args.batch.now.births _ c.end_old.ensures.births_kept)
+    c.bear_node.ensures.births_kept
+
+pub returns-clause-ends_kept : goal.returns-clause-ends_kept
+returns-clause-ends_kept g c =
+    ap (λ (ends : List ℕ). take (length c.args.batch.now.ends) ends) c.bear_node.ensures.ends
+    ∙ c.end_old.ensures.ends_kept

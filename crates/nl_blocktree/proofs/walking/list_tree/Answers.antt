@@ -1,5 +1,5 @@
 use Rattle.std.proofs.Common.{◌≡◌, ◌≢◌, ◌∙◌, ◌+◌, ◌-◌, ◌++◌, ◌∷◌, [], ℕ, List, length, get_or, arith, ap, sym, subst}
-use Rattle.std.proofs.lemmas.Result.{err_from_is_err_and}
+use Rattle.std.proofs.lemmas.Result.{err_from_is_err_and, IfOk-from_err}
 use Rattle.nl_blocktree.specs.Walked.{AreBlocksUpTo, AreOfLevel, level_from}
 use Rattle.nl_blocktree.specs.declared.walking.PlacedBlock.{PlacedBlock}
 use Rattle.nl_blocktree.proofs.WalkedTrees.{all_told, below_listed, level_top, more_told, refuse_high, refuse_low, refuse_slots, whole_shape}
@@ -105,3 +105,35 @@ returns-clause-bounded g c =
     (more_told pages c.args.height c.args.top c.args.height c.deref.result.now c.in_ok-second.second.items
     c.in_ok-blocks.blocks.items
     (omega arith) (omega arith) up c.in_ok-second.ensures.slots c.in_ok-blocks.ensures.blocks)
+
+pub returns-in_err-push-clause-blocks : goal.returns-in_err-push-clause-blocks
+returns-in_err-push-clause-blocks g c =
+    IfOk-from_err c.from_residual.result _ c.from_residual.ensures.0
+
+pub returns-in_err-push-clause-bounded : goal.returns-in_err-push-clause-bounded
+returns-in_err-push-clause-bounded g c =
+    IfOk-from_err c.from_residual.result _ c.from_residual.ensures.0
+
+pub returns-in_err-second-clause-blocks : goal.returns-in_err-second-clause-blocks
+returns-in_err-second-clause-blocks g c =
+    IfOk-from_err c.from_residual-in_err-second.result _ c.from_residual-in_err-second.ensures.0
+
+pub returns-in_err-second-clause-bounded : goal.returns-in_err-second-clause-bounded
+returns-in_err-second-clause-bounded g c =
+    IfOk-from_err c.from_residual-in_err-second.result _ c.from_residual-in_err-second.ensures.0
+
+pub returns-in_err-blocks-clause-blocks : goal.returns-in_err-blocks-clause-blocks
+returns-in_err-blocks-clause-blocks g c =
+    IfOk-from_err c.from_residual-in_err-blocks.result _ c.from_residual-in_err-blocks.ensures.0
+
+pub returns-in_err-blocks-clause-bounded : goal.returns-in_err-blocks-clause-bounded
+returns-in_err-blocks-clause-bounded g c =
+    IfOk-from_err c.from_residual-in_err-blocks.result _ c.from_residual-in_err-blocks.ensures.0
+
+pub returns-in_err-list_level-clause-blocks : goal.returns-in_err-list_level-clause-blocks
+returns-in_err-list_level-clause-blocks g c =
+    IfOk-from_err c.from_residual-in_err-list_level.result _ c.from_residual-in_err-list_level.ensures.0
+
+pub returns-in_err-list_level-clause-bounded : goal.returns-in_err-list_level-clause-bounded
+returns-in_err-list_level-clause-bounded g c =
+    IfOk-from_err c.from_residual-in_err-list_level.result _ c.from_residual-in_err-list_level.ensures.0

@@ -6,7 +6,9 @@ use Rattle.nl_types.specs.declared.event.Event.TheVariants.{Move}
 use Rattle.nl_reclaim.specs.Cleaning.{HasListedFirst}
 use Rattle.nl_commit.specs.CleaningEvents.{needed_by}
 use Rattle.nl_commit.specs.Layout.{Does, layout_of, unshared}
-use Rattle.nl_commit.specs.Volume.{Lists}
+use Rattle.nl_commit.specs.Draft.{HasNextNumber}
+use Rattle.nl_commit.specs.Volume.{Lists, minor_checkpoint}
+use Rattle.nl_core.specs.NeededBlocks.{AreNeededCounts, IsCountedPen}
 use Rattle.nl_core.specs.Facts.CleaningEvents.{does-idle, does-not-moved}
 use Rattle.nl_core.specs.Facts.CountedPens.{listed-first, not-drafted, not-listed}
 use Rattle.nl_core.proofs.cleaning.move_out.Goals as goal
@@ -66,3 +68,23 @@ move_with_minor-requires-clause-listed g c =
     (sym c.draft_minor.ensures.same)
     (listed-first l s c.args.segment c.args.limit listed.count listed.first.items
     c.in_ok-listed.ensures.listed)
+
+pub move_with_minor-requires-clause-pen : goal.move_with_minor-requires-clause-pen
+move_with_minor-requires-clause-pen g c =
+    subst (λ (after : Lists).
+    IsCountedPen (layout_of after (g.V.Vstore.store c.args.store.now)) c.args.needed.now)
+    (sym c.draft_minor.ensures.same) c.requires
+
+pub move_with_minor-requires-clause-minor : goal.move_with_minor-requires-clause-minor
+move_with_minor-requires-clause-minor g c =
+    c.in_ok-minor.ensures.drafted ∙ ap (minor_checkpoint c.args.now) (sym c.draft_minor.ensures.same)
+
+pub move_with_minor-requires-clause-left : goal.move_with_minor-requires-clause-left
+move_with_minor-requires-clause-left g c =
+    subst HasNextNumber (sym c.draft_minor.ensures.same) c.in_ok-minor.ensures.left
+
+pub returns-in_err-minor-clause-needed : goal.returns-in_err-minor-clause-needed
+returns-in_err-minor-clause-needed g c =
+    subst (λ (after : Lists).
+    AreNeededCounts (layout_of after (g.V.Vstore.store c.args.store.now)) c.args.needed.now)
+    (sym c.draft_minor.ensures.same) c.requires.counts

@@ -12,4 +12,4 @@ pub returns-in-Ok-clause-refused : goal.returns-in-Ok-clause-refused
 returns-in-Ok-clause-refused g c =
     IfErr-weaker c.write_image.result
     (λ (fault : SaveFault). (moment : ℕ) (left : Layout) → IsSaveFault moment left fault)
-    (IsSaveFault c.args.moment c.args.pen) (λ fault is. is c.args.moment c.args.pen) c.write_image.ensures
+    (IsSaveFault c.args.moment c.args.pen.now) (λ fault is. is c.args.moment c.args.pen.now) c.write_image.ensures

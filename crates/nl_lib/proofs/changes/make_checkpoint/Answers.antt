@@ -11,9 +11,9 @@ use Rattle.nl_lib.proofs.changes.make_checkpoint.Goals as goal
 pub returns-clause-does : goal.returns-clause-does
 returns-clause-does g c =
     let old = c.args.pen.now in
-    let new = c.apply.new.self in
-    let found = c.in_ok-apply.field-0 in
-    let does : Does unshared old (event.Checkpoint Plain c.args.now) (Ok found) new = c.in_ok-apply.ensures in
+    let new = c.apply.new.pen in
+    let found = c.in_ok-apply.ensures.0 in
+    let does : Does unshared old (event.Checkpoint Plain c.args.now) (Ok found) new = c.in_ok-apply.ensures.1 in
     let same : found ≡ answer.Checkpoint c.latest.result =
     checkpoint-done old new found c.means_a_world.ensures Plain c.args.now does
     ∙ ap (λ (n : ℕ). answer.Checkpoint n) (sym c.latest.ensures.layout) in

@@ -1,37 +1,49 @@
-use Rattle.std.proofs.Common.{suc, sym, ◌∙◌}
+use Rattle.std.proofs.Common.{◌≡◌, false, suc, sym, subst}
+use Rattle.nl_types.specs.Worlds.{Reply}
+use Rattle.nl_commit.specs.Layout.{Does, unshared}
+use Rattle.nl_lib.specs.CleanedSegments.{is_moved}
 use Rattle.nl_lib.proofs.MovedAway.{fewer}
 use Rattle.nl_lib.proofs.cleaning.clean_segment.Goals as goal
 
-pub returns-then-not-is_moved : goal.returns-then-not-is_moved
-returns-then-not-is_moved g c = record {
-  moves = c.loop-segment.invariant.moved.0;
-  mid = c.loop-segment.pen;
-  moved = c.loop-segment.invariant.moved.1;
-  event = c.cleaning_event-event.result;
-  last = record { next = c.cleaning_event-event.ensures; does = c.apply-reply.ensures };
-  ends = sym c.is_moved.ensures ∙ c.if-not-is_moved.true;
-}
+pub returns-in-Some : goal.returns-in-Some
+returns-in-Some g c =
+    let mid = c.loop-last.pen in
+    let event = c.cleaning_event-event.result in
+    let ends = c.in-Some.ensures.last in
+    record {
+      moves = c.loop-last.invariant.moved.0;
+      mid = mid;
+      moved = c.loop-last.invariant.moved.1;
+      event = event;
+      last = record {
+        next = c.cleaning_event-event.ensures;
+        does =
+            subst (λ (r : Reply). Does unshared mid event r c.apply-reply.new.self) (sym ends.0)
+            c.apply-reply.ensures;
+      };
+      ends = subst (λ (r : Reply). is_moved event r ≡ false) (sym ends.0) ends.1;
+    }
 
-pub loop-segment-smaller : goal.loop-segment-smaller
-loop-segment-smaller g c =
-    fewer c.loop-segment.pen c.apply-reply.new.self c.args.segment c.args.now c.cleaning_event-event.result
+pub loop-last-smaller : goal.loop-last-smaller
+loop-last-smaller g c =
+    fewer c.loop-last.pen c.apply-reply.new.self c.args.segment c.args.now c.cleaning_event-event.result
     c.apply-reply.result
-    c.loop-segment.invariant.held
+    c.loop-last.invariant.held
     (record { next = c.cleaning_event-event.ensures; does = c.apply-reply.ensures })
-    (sym c.is_moved.ensures ∙ c.if-not-is_moved.false)
+    c.in_default.ensures.moved
 
-pub loop-segment-preserved : goal.loop-segment-preserved
-loop-segment-preserved g c = record {
+pub loop-last-preserved : goal.loop-last-preserved
+loop-last-preserved g c = record {
   held = c.apply-reply.ensures.pen;
   moved = (
-    suc c.loop-segment.invariant.moved.0,
+    suc c.loop-last.invariant.moved.0,
     (
-      c.loop-segment.pen,
+      c.loop-last.pen,
       c.cleaning_event-event.result,
       c.apply-reply.result,
-      c.loop-segment.invariant.moved.1,
+      c.loop-last.invariant.moved.1,
       record { next = c.cleaning_event-event.ensures; does = c.apply-reply.ensures },
-      sym c.is_moved.ensures ∙ c.if-not-is_moved.false,
+      c.in_default.ensures.moved,
     ),
   );
 }

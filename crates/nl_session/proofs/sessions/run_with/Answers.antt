@@ -1,6 +1,7 @@
 use Rattle.std.proofs.Common.{◌∙◌, List, [], Option, inl, inr, refl, subst, sym, ℕ}
 use Rattle.std.proofs.KnownBytes.{Appends-trans}
 use Rattle.nl_types.specs.declared.error.VolError.TheVariants.{Memory}
+use Rattle.nl_texts.specs.RefusalTexts.{start_text}
 use Rattle.nl_texts.specs.declared.refusals.StartStep.TheVariants.{Start}
 use Rattle.nl_keeping.specs.Beginnings.{place_path}
 use Rattle.nl_keeping.specs.Endings.{Ends}
@@ -22,6 +23,9 @@ pub returns : goal.returns
 returns g c =
     let asked = c.args.arguments.now in
     let noticed = c.tell_notice-noticed.new.errors in
+    let before = g.E.Write.contents c.args.errors.now in
+    let between = g.E.Write.contents noticed in
+    let after = g.E.Write.contents c.run_begun.new.errors in
     let told =
     subst
     (λ (save : Option (List ℕ)). Tells (notice c.args.is_typed save)
@@ -50,7 +54,8 @@ returns g c =
         tells =
             λ all.
             let both = c.behind.ensures.told all in
-            Appends-trans _ _ _ _ _ (told both.0) (is.ends.tells both.1);
+            Appends-trans before between after (notice c.args.is_typed asked.save) is.ends.text (told both.0)
+            (is.ends.tells both.1);
       })
       | inr none ↦ inr (record {
         fault = Refused Start Memory;
@@ -63,7 +68,8 @@ returns g c =
           tells =
               λ all.
               let both = c.behind.ensures.told all in
-              Appends-trans _ _ _ _ _ (told both.0) (none.tells both.1);
+              Appends-trans before between after (notice c.args.is_typed asked.save)
+              (start_text Start Memory) (told both.0) (none.tells both.1);
         };
       })
     ]

@@ -1,16 +1,19 @@
-use Rattle.std.proofs.Common.{◌≡◌, ℕ, ◌+◌, ◌*◌, ◌≤◌, Some, List, Option, ap, subst, ◌∙◌, length, arith}
+use Rattle.std.proofs.Common.{◌≡◌, ◌<◌, ℕ, ◌+◌, ◌*◌, ◌≤◌, Some, List, Option, ap, sym, subst, ◌∙◌, length, arith}
+use Rattle.std.proofs.Math.Nat.{mul-le-mul_right}
 use Rattle.nl_types.specs.Segments.{Segments, info_of}
 use Rattle.nl_types.specs.Facts.SegmentChanges.{room_of}
+use Rattle.nl_device.specs.Failures.{failure_count}
 use Rattle.nl_space.specs.Content.{SpaceContent}
 use Rattle.nl_dat.specs.declared.entries.DatEntry.{DatEntry}
 use Rattle.nl_dat.specs.declared.reclaim.TakenOut.{TakenOut}
 use Rattle.nl_dat.specs.Table.{entry_in, addresses_of}
-use Rattle.nl_vstore.specs.Stores.{IsReclaimed}
+use Rattle.nl_vstore.specs.Stores.{IsReclaimed, Store}
 use Rattle.nl_dat.specs.Inside.{births_in, store_of}
 use Rattle.nl_dat.specs.TakenOut.{HasTakenOut}
 use Rattle.nl_dat.proofs.SoundTable.{HaveOwnPayload-apart}
 use Rattle.nl_dat.specs.Facts.Positions.{tagged-row}
 use Rattle.nl_dat.proofs.Reclaiming.{table-reclaimed, is_reclaimed}
+use Rattle.nl_dat.proofs.Refusals.{writes-counted}
 use Rattle.nl_dat.proofs.StoreOf.{is_store, same_store}
 use Rattle.nl_dat.proofs.dat.DatVstore.reclaim.Goals as goal
 
@@ -95,3 +98,26 @@ returns-clause-reclaimed g c =
     (g.S.Space.failed c.self.inside.space) (g.S.Space.failed c.free.new.self) c.take_out-taken.result
     c.self.inside.tabled tidy c.free.ensures.freed out c.filled_after-self-inside.ensures.most
     c.filled_after-self-inside.ensures.below)
+
+pub take_out-taken-requires-clause-fits : goal.take_out-taken-requires-clause-fits
+take_out-taken-requires-clause-fits g c =
+    let space = g.S.Space.content c.self.inside.space in
+    let limits = g.met.S.Space.limits c.self.inside.space in
+    let first =
+    first_of space c.table-segments.result.now c.args.segment c.get.result c.blocks-2.result c.get.ensures
+    c.blocks-2.ensures.blocks c.table-segments.ensures in
+    let room : (info_of space.segments.each c.args.segment).used ≤ space.segments.blocks =
+    room_of space.segments.blocks space.segments.each limits.tidy.each c.args.segment in
+    let within : c.args.segment < length space.segments.each =
+    subst (λ (s : Store). c.args.segment < length s.segments.each) (sym (same_store c.self.view_is))
+    c.requires in
+    let all : (c.args.segment + 1) * space.segments.blocks
+    ≤ length space.segments.each * space.segments.blocks =
+    mul-le-mul_right space.segments.blocks (omega (arith, within)) in
+    omega (arith, first, c.summary-row.ensures.count, room, all, limits.geometry.most)
+
+pub returns-clause-counted : goal.returns-clause-counted
+returns-clause-counted g c =
+    subst (λ (s : Store). s.failures ≤ failure_count (g.S.Space.failed c.free.new.self))
+    (same_store c.self.view_is)
+    (writes-counted (g.S.Space.failed c.self.inside.space) _ c.free.ensures.counted)

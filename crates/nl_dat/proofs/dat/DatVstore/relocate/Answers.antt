@@ -1,21 +1,22 @@
-use Rattle.std.proofs.Common.{◌≡◌, ℕ, ◌+◌, false, true, List, Option, sym, ap, subst, ◌∙◌, map, length, Some}
+use Rattle.std.proofs.Common.{◌≡◌, ◌≤◌, ℕ, ◌+◌, false, true, List, Option, sym, ap, subst, ◌∙◌, map, length, Some}
 use Rattle.std.specs.Prelude.{Err}
 use Rattle.std.specs.List.{All}
 use Rattle.std.proofs.lemmas.Result.{err_from_is_err_and}
 use Rattle.std.proofs.lemmas.List.{length-map}
 use Rattle.nl_types.specs.Segments.{IsClosed, StaysUsed}
-use Rattle.nl_types.specs.PartialMaps.{adjust_each}
+use Rattle.nl_types.specs.PartialMaps.{Partial, adjust_each}
+use Rattle.nl_device.specs.Failures.{failure_count}
 use Rattle.nl_space.specs.Content.{Payload, SpaceContent, KeepsUsed}
 use Rattle.nl_space.specs.Appended.{IsAppended}
 use Rattle.nl_dat.specs.declared.entries.DatEntry.{DatEntry}
 use Rattle.nl_vstore.specs.Batches.{births_of}
-use Rattle.nl_dat.specs.Table.{entry_in, stored_at, moved_entry}
+use Rattle.nl_dat.specs.Table.{addresses_of, entry_in, stored_at, moved_entry}
 use Rattle.nl_vstore.specs.Stores.{Store, IsMoved, IsMoveRefused, is_inside, address_in}
-use Rattle.nl_dat.specs.Inside.{births_in, store_of, IsTable}
+use Rattle.nl_dat.specs.Inside.{IsBacked, births_in, store_of, IsTable}
 use Rattle.nl_dat.proofs.Writing.{table-kept}
-use Rattle.nl_dat.proofs.Refusals.{total-refused}
+use Rattle.nl_dat.proofs.Refusals.{both-counted, reads-counted, total-refused}
 use Rattle.nl_dat.proofs.Relocating.{IsRelocationRefusal, table-moved, is_moved, move-refused, load-refused, theirs-of}
-use Rattle.nl_dat.proofs.StoreOf.{is_store, same_store}
+use Rattle.nl_dat.proofs.StoreOf.{address_in-store_of, is_store, same_store}
 use Rattle.nl_dat.proofs.dat.DatVstore.relocate.Goals as goal
 
 pub invariant_of-self-inside : goal.invariant_of-self-inside
@@ -206,3 +207,41 @@ returns-in_err-payload-clause-refused g c =
     (g.S.Space.failed c.self.inside.space) after c.args.checkpoint c.args.now c.args.numbers.now
     c.in_err-payload.field-0.0 e.same e.errors c.load_all.ensures.counted
     (λ is. e.fault (ap Err is))))
+
+pub returns-in_err-payload-clause-counted : goal.returns-in_err-payload-clause-counted
+returns-in_err-payload-clause-counted g c =
+    subst (λ (s : Store). s.failures ≤ failure_count (g.S.Space.failed c.load_all.new.space))
+    (same_store c.self.view_is)
+    (reads-counted (g.S.Space.failed c.self.inside.space) _ c.load_all.ensures.counted)
+
+pub returns-in_err-blocks-clause-counted : goal.returns-in_err-blocks-clause-counted
+returns-in_err-blocks-clause-counted g c =
+    subst (λ (s : Store). s.failures ≤ failure_count (g.S.Space.failed c.append.new.self))
+    (same_store c.self.view_is)
+    (both-counted (g.S.Space.failed c.self.inside.space) _ _ c.load_all.ensures.counted
+    c.in_err-blocks.ensures.counted)
+
+pub returns-clause-counted : goal.returns-clause-counted
+returns-clause-counted g c =
+    subst (λ (s : Store). s.failures ≤ failure_count (g.S.Space.failed c.append.new.self))
+    (same_store c.self.view_is)
+    (both-counted (g.S.Space.failed c.self.inside.space) _ _ c.load_all.ensures.counted
+    c.in_ok-blocks.ensures.counted)
+
+pub load_all-requires-clause-backed : goal.load_all-requires-clause-backed
+load_all-requires-clause-backed g c =
+    let t = c.self.inside.tabled in
+    subst (λ (table : List (Option DatEntry)). IsBacked table (g.S.Space.content c.self.inside.space))
+    (sym c.as_slice.ensures) (record { sound = t.sound; used = t.used; stored = t.stored })
+
+-- the table has the numbers where the store has them
+pub load_all-requires-clause-inside : goal.load_all-requires-clause-inside
+load_all-requires-clause-inside g c =
+    let old = g.S.Space.content c.self.inside.space in
+    subst (λ (at : Partial ℕ). All (λ v. is_inside old.segments c.args.segment (at v) ≡ true) c.args.numbers.now)
+    (address_in-store_of c.self.inside.table old (g.S.Space.failed c.self.inside.space)
+    c.self.inside.tabled.sound
+    ∙ ap (λ (t : List (Option DatEntry)). addresses_of (entry_in t)) (sym c.as_slice.ensures))
+    (subst (λ (s : Store).
+    All (λ v. is_inside s.segments c.args.segment (address_in s v) ≡ true) c.args.numbers.now)
+    (sym (same_store c.self.view_is)) c.requires.inside)

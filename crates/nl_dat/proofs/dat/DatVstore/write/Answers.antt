@@ -12,11 +12,11 @@ use Rattle.nl_dat.specs.Table.{entry_in, new_entry, ended_entry}
 use Rattle.nl_vstore.specs.Stores.{Store, IsWritten, IsWriteRefused, IsFaulted, content_in, capacity}
 use Rattle.nl_dat.specs.Inside.{store_of}
 use Rattle.nl_dat.proofs.Writing.{items_back, table-kept, table-written, is_written, live_inside, is_born_read}
-use Rattle.nl_dat.proofs.Refusals.{total-refused, is_faulted, write-refused}
+use Rattle.nl_dat.proofs.Refusals.{total-refused, is_faulted, write-refused, writes-counted}
 use Rattle.nl_types.specs.Segments.{AreTidy, total_blocks}
 use Rattle.nl_types.specs.Placing as placing
 use Rattle.nl_types.specs.PlacingLaws.{WhatFitsHasRoom}
-use Rattle.nl_device.specs.Failures.{Failures}
+use Rattle.nl_device.specs.Failures.{Failures, failure_count}
 use Rattle.nl_space.specs.Content.{SpaceContent}
 use Rattle.nl_space.specs.Appended.{IsAppended}
 use Rattle.nl_dat.specs.Inside.{IsTable}
@@ -200,3 +200,23 @@ returns-clause-written g c =
     c.self.inside.tabled fits c.births.ensures e.appended e.used_stay e.stays is_new
     (c.enter_births.ensures.length ∙ c.end_entries.ensures.length) low
     (g.met.S.Space.limits c.self.inside.space).tidy)
+
+pub returns-in_err-numbers-clause-counted : goal.returns-in_err-numbers-clause-counted
+returns-in_err-numbers-clause-counted g c =
+    subst (λ (s : Store). s.failures ≤ failure_count (g.S.Space.failed c.append.new.self))
+    (same_store c.self.view_is)
+    (writes-counted (g.S.Space.failed c.self.inside.space) _ c.in_err-numbers.ensures.counted)
+
+pub returns-clause-counted : goal.returns-clause-counted
+returns-clause-counted g c =
+    subst (λ (s : Store). s.failures ≤ failure_count (g.S.Space.failed c.append.new.self))
+    (same_store c.self.view_is)
+    (writes-counted (g.S.Space.failed c.self.inside.space) _ c.in_ok-numbers.ensures.counted)
+
+-- each birth got a block
+pub enter_births-requires-clause-each : goal.enter_births-requires-clause-each
+enter_births-requires-clause-each g c =
+    sym (length-map c.births-2.result.now birth_of_item)
+    ∙ (ap length (c.births-2.ensures ∙ sym c.births.ensures)
+    ∙ (length-map c.births.result.now birth_of_item
+    ∙ (sym c.in_ok-numbers.ensures.appended.unused_before.count ∙ sym (ap length c.deref.ensures.value))))

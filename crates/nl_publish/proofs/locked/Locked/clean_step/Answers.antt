@@ -11,7 +11,7 @@ returns g c =
     let next : g.G.Round.habits.next c.args.round.now c.begin.new.self.layout ≡ Some event =
     subst (λ (l : Layout). g.G.Round.habits.next c.args.round.now l ≡ Some event) c.pen.ensures
     (sym c.next.ensures ∙ c.in_ok-event.was) in
-    Stepped c.begin.new.self event c.run-reply.result c.in_default.ensures next
-    (goes_by_still c.begin.new.self c.run-reply.new.self c.settle.new.self event c.run-reply.result
-    c.run-reply.ensures c.settle.ensures.sent)
+    Stepped c.begin.new.self event c.run_own-reply.result c.in_default.ensures next
+    (goes_by_still c.begin.new.self c.run_own-reply.new.self c.settle.new.self event c.run_own-reply.result
+    c.run_own-reply.ensures c.settle.ensures.sent)
     refl c.note-2.ensures

@@ -22,13 +22,13 @@ returns-in-Ok g c =
       layout = h.layout;
     }))
     (sym c.self-in-Some.view_is)
-    (gave old c.run.new.self c.in-Some.number c.in-Ok.field-0 c.run.result was c.in-Ok.is c.run.ensures)
+    (gave old c.run_unmount.new.self c.in-Some.number c.in-Ok.ensures.0 was c.in-Ok.ensures.1)
 
-pub returns : goal.returns
-returns g c =
+pub returns-in-Err : goal.returns-in-Err
+returns-in-Err g c =
     let old : HeldPen = c.args.self.now in
     let was : old.lost ≡ Some c.in-Some.number =
     sym (ap (λ (h : HeldPen). h.lost) c.self.view_is) ∙ c.in-Some.is in (
       refl,
-      stuck old c.run.new.self c.in-Some.number c.in-Err.field-0 c.run.result was c.in-Err.is c.run.ensures,
+      stuck old c.run_unmount.new.self c.in-Some.number c.in-Err.field-0 was c.in-Err.ensures,
     )

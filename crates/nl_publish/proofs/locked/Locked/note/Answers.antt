@@ -1,17 +1,18 @@
-use Rattle.std.proofs.Common.{rules, refl, ◌≡◌, [], ◌∷◌, ◌++◌, ap, sym, length, remove, ◌==◌, ◌∙◌, subst, List, append_assoc}
+use Rattle.std.proofs.Common.{rules, refl, ◌≡◌, [], ◌∷◌, ◌++◌, ap, sym, length, remove, ◌==◌, ◌∙◌, subst, List, append_assoc, Option}
 use Rattle.nl_commit.specs.declared.commit.Commit.{Commit}
 use Rattle.nl_publish.specs.declared.image.Entry.{Entry}
 use Rattle.nl_commit.specs.Commits.{IsHistory}
 use Rattle.nl_commit.specs.Notes.{shown_of}
-use Rattle.nl_publish.specs.Histories.{Known, IsBegun}
-use Rattle.nl_publish.specs.Locks.{IsHeld, listed}
+use Rattle.nl_publish.specs.Histories.{Known}
+use Rattle.nl_publish.specs.Locks.{HeldPen, IsHeld, Keeps, listed}
 use Rattle.std.proofs.lemmas.List.{append-nil}
-use Rattle.nl_publish.proofs.Holding.{notes, headed, same_head}
+use Rattle.nl_publish.proofs.Holding.{notes, headed, moved_over, same_head}
+use Rattle.nl_publish.proofs.Running.{keeps_noted, keeps_same}
 use Rattle.nl_publish.specs.Facts.Growing.{history_start}
 use Rattle.nl_publish.proofs.locked.Locked.note.Goals as goal
 
-pub add-requires-clause-begun : goal.add-requires-clause-begun
-add-requires-clause-begun g c =
+pub with_commit-requires-clause-begun : goal.with_commit-requires-clause-begun
+with_commit-requires-clause-begun g c =
     let s = c.self.inside in let commit : Commit = c.index.result.now in
     let waits =
     headed s.waiting.items commit c.is_empty.result
@@ -19,10 +20,8 @@ add-requires-clause-begun g c =
     c.if-is_empty.false c.index.ensures in
     let history : IsHistory (s.noted.commits ++ (commit ∷ _)) =
     subst (λ (l : List Commit). IsHistory (s.noted.commits ++ l)) waits c.self.invariant.history in
-    let start : IsBegun (s.noted.commits ++ commit ∷ []) =
     history_start (s.noted.commits ++ commit ∷ []) _
-    (subst IsHistory (sym (append_assoc s.noted.commits (commit ∷ []) _)) history) in
-    subst (λ (k : Known). IsBegun (k.commits ++ commit ∷ [])) (sym c.again-noted.ensures) start
+    (subst IsHistory (sym (append_assoc s.noted.commits (commit ∷ []) _)) history)
 
 pub invariant_of-self : goal.invariant_of-self
 invariant_of-self g c =
@@ -47,15 +46,53 @@ invariant_of-self g c =
     IsHeld g.J.Volumes.book s.log.volume (w.shown s.writer) entries s.noted l
     (shown_of (g.P.NotingPen.layout s.pen)))
     waits held in
-    let volume = c.add.ensures.volume ∙ ap (λ (k : Known). k.volume) c.again-noted.ensures in
+    let noted : Known = c.in-Some.noted in
     let commits =
-    c.if-not-add.ensures.added
-    ∙ (ap (λ (k : Known). k.commits ++ c.index.result.now ∷ []) c.again-noted.ensures
-    ∙ ap (λ (k : Commit). s.noted.commits ++ k ∷ []) head) in
-    subst (λ (l : List Commit).
-    IsHeld g.J.Volumes.book s.log.volume (w.shown s.writer) (entries ++ e ∷ []) c.add.new.self l
+    c.in-Some.ensures.added ∙ ap (λ (k : Commit). s.noted.commits ++ k ∷ []) head in
+    subst (λ (o : Option Entry).
+    IsHeld g.J.Volumes.book s.log.volume (w.shown s.writer) (entries ++ listed o) noted
+    c.remove-commit.new.self.items (shown_of (g.P.NotingPen.layout s.pen)))
+    (sym c.keep_entry.ensures)
+    (subst (λ (l : List Commit).
+    IsHeld g.J.Volumes.book s.log.volume (w.shown s.writer) (entries ++ e ∷ []) noted l
     (shown_of (g.P.NotingPen.layout s.pen)))
     (sym c.remove-commit.ensures.items)
     (notes g.J.Volumes.book s.log.volume (w.shown s.writer) entries s.noted commit rest
-    (shown_of (g.P.NotingPen.layout s.pen)) c.add.new.self e volume commits refl c.len.ensures
-    c.token.ensures.log c.token.ensures.book ready)
+    (shown_of (g.P.NotingPen.layout s.pen)) noted e c.in-Some.ensures.volume commits refl c.len.ensures
+    c.token.ensures.log c.token.ensures.book ready))
+
+pub with_commit-requires-clause-volume : goal.with_commit-requires-clause-volume
+with_commit-requires-clause-volume g c = c.self.invariant.volume
+
+pub returns-then-is_some : goal.returns-then-is_some
+returns-then-is_some g c = keeps_same c.args.self.now c.args.self.now refl
+
+pub returns-in_default : goal.returns-in_default
+returns-in_default g c = keeps_same c.args.self.now c.args.self.now refl
+
+pub returns : goal.returns
+returns g c =
+    let s = c.self.inside in let w = g.W.Press in let commit : Commit = c.remove-commit.result in
+    let noted : Known = c.in-Some.noted in let left : List Commit = c.remove-commit.new.self.items in
+    let rest : List Commit = remove s.waiting.items 0 in
+    let empty = c.is_empty.ensures ∙ ap (λ (l : List Commit). length l == 0) c.as_slice.ensures.value in
+    let waits : s.waiting.items ≡ commit ∷ rest =
+    headed s.waiting.items commit c.is_empty.result empty c.if-is_empty.false
+    c.remove-commit.ensures.value in
+    let head : c.index.result.now ≡ commit =
+    same_head s.waiting.items c.index.result.now commit c.is_empty.result empty c.if-is_empty.false
+    c.index.ensures c.remove-commit.ensures.value in
+    let all : noted.commits ++ left ≡ s.noted.commits ++ s.waiting.items =
+    moved_over s.noted.commits noted.commits s.waiting.items left commit
+    (c.in-Some.ensures.added ∙ ap (λ (k : Commit). s.noted.commits ++ k ∷ []) head)
+    (waits ∙ ap (λ (l : List Commit). commit ∷ l) (sym c.remove-commit.ensures.items)) in
+    let old : HeldPen = record {
+      volume = s.noted.volume;
+      published = (w.shown s.writer).seen.log;
+      history = s.noted.commits ++ s.waiting.items;
+      lost = s.lost;
+      layout = g.P.NotingPen.layout s.pen;
+    } in
+    subst (λ (h : HeldPen). Keeps h (record old { volume = noted.volume; history = noted.commits ++ left }))
+    c.self.view_is
+    (keeps_noted old noted.volume (noted.commits ++ left) c.in-Some.ensures.volume all)

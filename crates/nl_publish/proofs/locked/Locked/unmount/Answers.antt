@@ -1,24 +1,15 @@
-use Rattle.std.proofs.Common.{ap, ℕ, subst}
-use Rattle.nl_types.specs.declared.event.Event.{Event}
+use Rattle.std.proofs.Common.{ℕ, subst, Ok, Err}
 use Rattle.nl_types.specs.declared.event.Event.TheVariants as event
-use Rattle.nl_types.specs.Worlds.{Reply}
+use Rattle.nl_types.specs.declared.reply.Answer.{Answer}
 use Rattle.nl_publish.specs.Locks.{Ran}
 use Rattle.nl_publish.proofs.locked.Locked.unmount.Goals as goal
 
 pub returns-in-Ok-clause-ran : goal.returns-in-Ok-clause-ran
 returns-in-Ok-clause-ran g c =
-    let here =
-    subst (λ (e : Event). Ran c.args.self.now e c.apply.result c.apply.new.self)
-    (ap (λ (n : ℕ). event.Unmount n) c.number.ensures) c.apply.ensures in (
-      c.in-Ok.field-0,
-      subst (λ (r : Reply). Ran c.args.self.now (event.Unmount c.args.mount.number) r c.apply.new.self)
-          c.in-Ok.is here,
-    )
+    subst (λ (n : ℕ). (x : Answer) × Ran c.args.self.now (event.Unmount n) (Ok x) c.apply_unmount.new.self)
+    c.number.ensures c.in-Ok.ensures
 
-pub returns-clause-ran : goal.returns-clause-ran
-returns-clause-ran g c =
-    let here =
-    subst (λ (e : Event). Ran c.args.self.now e c.apply.result c.apply.new.self)
-    (ap (λ (n : ℕ). event.Unmount n) c.number.ensures) c.apply.ensures in
-    subst (λ (r : Reply). Ran c.args.self.now (event.Unmount c.args.mount.number) r c.apply.new.self)
-    c.in-Err.is here
+pub returns-in-Err-clause-ran : goal.returns-in-Err-clause-ran
+returns-in-Err-clause-ran g c =
+    subst (λ (n : ℕ). Ran c.args.self.now (event.Unmount n) (Err c.in-Err.refusal) c.apply_unmount.new.self)
+    c.number.ensures c.in-Err.ensures

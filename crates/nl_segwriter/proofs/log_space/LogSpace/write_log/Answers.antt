@@ -10,7 +10,7 @@ use Rattle.nl_space.specs.Logs.{AreWholeLogs}
 use Rattle.nl_segwriter.specs.Private.Staging.{whole_of}
 use Rattle.nl_segwriter.specs.Writing.{HasPut, HasTried, held_in, space_content}
 use Rattle.nl_segwriter.specs.Facts.WholeLogs.{whole_with_log, whole_with_error, held_with_log, held_with_error, logs_with_log, logs_with_error, length-with_error}
-use Rattle.nl_segwriter.proofs.LogWritten.{put_outside, tried_outside, held_outside, log_stands}
+use Rattle.nl_segwriter.proofs.LogWritten.{log_inside, put_outside, tried_outside, held_outside, log_stands}
 use Rattle.nl_segwriter.proofs.log_space.LogSpace.write_log.Goals as goal
 
 pub invariant_of-self : goal.invariant_of-self
@@ -185,3 +185,17 @@ returns-in-Err-clause-others g c =
           tried_outside
           (first_block s.blocks log) c.in-Err.field-0.tried x old.stored stored c.requires.ready put;
     }
+
+pub take_segment-requires-clause-place : goal.take_segment-requires-clause-place
+take_segment-requires-clause-place g c = c.requires.next.at
+
+pub put_row-requires : goal.put_row-requires
+put_row-requires g c =
+    let s : Segments = c.args.self.now.table in
+    let inside = log_inside s c.args.staged c.requires.next c.requires.ready in
+    rw (
+      c.get.ensures,
+      c.blocks-2.ensures.blocks,
+      sym c.args.self.now.segment_count,
+      sym c.args.self.now.segment_size,
+    ) inside

@@ -1,10 +1,14 @@
-use Rattle.std.proofs.Common.{◌≡◌, ◌*◌, ◌<◌, length, ap, sym, ◌∙◌, subst}
+use Rattle.std.proofs.Common.{◌≡◌, ◌*◌, ◌<◌, length, ap, sym, ◌∙◌, subst, refl, inl, inr, Err}
 use Rattle.nl_types.specs.declared.geometry.Geometry.{Geometry}
 use Rattle.nl_types.specs.Segments.{Segments}
 use Rattle.nl_types.specs.Facts.UsedParts.{used_inside}
+use Rattle.nl_types.specs.declared.error.VolError.TheVariants as error
+use Rattle.nl_device.specs.declared.device.DeviceError.{DeviceError}
+use Rattle.nl_device.specs.declared.device.DeviceError.TheVariants as device
 use Rattle.nl_device.specs.Pages.{DevicePages}
+use Rattle.nl_space.specs.Appended.{IsLoadError}
 use Rattle.nl_space.specs.Logs.{AreWholeLogs}
-use Rattle.nl_segwriter.specs.Writing.{space_content}
+use Rattle.nl_segwriter.specs.Writing.{refusal_of, space_content}
 use Rattle.nl_segwriter.specs.Facts.WholeLogs.{used_stored}
 use Rattle.nl_segwriter.proofs.log_space.LogSpaceSpace.load.Goals as goal
 
@@ -41,3 +45,29 @@ unreachable-requires g c =
     (space_content c.args.self.now.table c.args.self.now.payload (g.D.Device.pages c.args.self.now.device))
     c.args.number c.args.self.now.whole c.requires
     (sym c.in-Ok-None.ensures.found ∙ c.in-Ok-None.field-0-is)
+
+-- a device that is at fault is told of as such, and all that it refuses is told of
+fault_of : (refusal : DeviceError) → refusal_of refusal ≡ error.Fault → refusal ≡ device.Fault
+fault_of device.Fault is = refl
+fault_of device.Memory is = absurd (cc)
+
+load_error : (refusal : DeviceError) → IsLoadError (refusal_of refusal)
+load_error device.Fault = inl refl
+load_error device.Memory = inr refl
+
+pub returns-in-Ok-Some-clause-same : goal.returns-in-Ok-Some-clause-same
+returns-in-Ok-Some-clause-same g c = λ i.
+    space_content c.args.self.now.table c.args.self.now.payload (λ b. c.get.ensures.same b i)
+
+pub returns-in-Err-clause-same : goal.returns-in-Err-clause-same
+returns-in-Err-clause-same g c = λ i.
+    space_content c.args.self.now.table c.args.self.now.payload (λ b. c.get.ensures.same b i)
+
+pub returns-in-Err-clause-fault : goal.returns-in-Err-clause-fault
+returns-in-Err-clause-fault g c = λ is.
+    let told : c.refusal_of.result ≡ error.Fault = cc in
+    c.in-Err.ensures.failed (ap Err (fault_of c.in-Err.refusal (sym c.refusal_of.ensures ∙ told)))
+
+pub returns-in-Err-clause-errors : goal.returns-in-Err-clause-errors
+returns-in-Err-clause-errors g c =
+    subst IsLoadError (sym c.refusal_of.ensures) (load_error c.in-Err.refusal)
