@@ -1,14 +1,14 @@
 #!/usr/bin/env python3
-"""Tries must-fail edits in batches: many wrong bodies of a crate, each in a function of its own, in one check.
+"""Tries must-fail edits in batches: many wrong bodies of a crate, each in its own function, in one check.
 
 usage: bin/edits.py COPY EDITS LOG ENDED UNTIL FOLDER CRATE..
 
-COPY is a copy of the repository that `rt ci` proves meanwhile, and EDITS has a folder of edits for each crate.
-LOG is what `rt ci` prints, and ENDED a file that is there once it has ended. The crates are tried in the order
-given, on processors that nothing else uses, each once the crates below it are proved. No batch begins after the
-moment UNTIL, in seconds since 1970. FOLDER gets a file refused.CRATE for each crate, with the edits that were
-refused, and left.CRATE, with those that are to be tried one by one: a batch does not show that they are refused,
-or they change no function.
+COPY is a copy of the repository that `rt ci` proves meanwhile, and EDITS has a folder of edits for each
+crate. LOG is what `rt ci` prints, and ENDED a file that is there once it has ended. The crates are tried in
+the order given, on processors that nothing else uses, each once the crates below it are proved. No batch
+begins after the moment UNTIL, in seconds since 1970. FOLDER gets a file refused.CRATE for each crate, with
+the edits that were refused, and left.CRATE, with those that are to be tried one by one: a batch does not show
+that they are refused, or they change no function.
 
 An edit is refused in a batch where its own function is not proved and a goal of that function is open. A
 function that calls it is then not proved either, and the check says so in another way.
@@ -155,8 +155,8 @@ class Crate:
             words += ["--extern", f"{dep}={rlib}"]
         for folder in [f"{KIT}/rlibs", *(os.path.dirname(self.rlib(it)) for it in self.below)]:
             words += ["-L", f"dependency={folder}"]
-        logic = ["--antt-project", f"{KIT}/rattle/logic/antt-project.json", "--logic-built", f"{KIT}/logic_built"]
-        return [*words, *logic, "--jobs", "1"]
+        logic = ["--antt-project", f"{KIT}/rattle/logic/antt-project.json"]
+        return [*words, *logic, "--logic-built", f"{KIT}/logic_built", "--jobs", "1"]
 
     def rlib(self, name):
         return f"{self.copy}/crates/{name}/out/rlib/{name}.rlib"
@@ -278,8 +278,14 @@ class Trial:
                 edit.apply(room)
             only = [word for edit in batch for it in sorted(edit.functions) for word in ("--only", it.name)]
             words = ["check", *self.crate.words(), "--incremental", self.kept, *only]
-            how = {"cwd": room, "stdin": subprocess.DEVNULL, "stdout": subprocess.PIPE, "stderr": subprocess.STDOUT}
-            return subprocess.run([f"{KIT}/bin/rattle", *words], **how, errors="replace").stdout
+            return subprocess.run(
+                [f"{KIT}/bin/rattle", *words],
+                cwd=room,
+                stdin=subprocess.DEVNULL,
+                stdout=subprocess.PIPE,
+                stderr=subprocess.STDOUT,
+                errors="replace",
+            ).stdout
         except ValueError as error:
             return str(error)
         finally:

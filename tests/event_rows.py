@@ -1,5 +1,5 @@
-"""Rows of events, as files have them, and as `nl_trials rows` does them. tests/events and tests/sweep read and
-compare them by this.
+"""Rows of events, as files have them, and as `nl_trials rows` does them. tests/events and tests/sweep read
+and compare them by this.
 
 A row begins with a line `volume SEGMENTS BLOCKS`, which makes a new volume; behind that may stand `put N`,
 `get N` or `growth N`, for a call on its device that fails. The other lines are `EVENT = REPLY` or `QUESTION
