@@ -44,8 +44,7 @@ import re
 import subprocess
 import sys
 
-TESTS = os.path.dirname(os.path.realpath(__file__))
-PROGRAM = os.path.join(TESTS, '..', 'crates', 'nl_trials', 'out', 'nl_trials')
+from programs import TESTS
 
 # The forms of lines. The program takes a word that is no number as 0, so a slip would not show there.
 WORD, NUMBER, MODE = r' \S+', r' \d+', r' (plain|snapshot)'
@@ -177,16 +176,3 @@ def is_as_due(row, printed):
         print(f'{row.place}: {place} lines are due, and not {len(printed)}: {rest}')
         return False
     return True
-
-
-def program_of(words):
-    """The program that words name; without one the built nl_trials, which is built first where needed."""
-    if not words:
-        build = os.path.join(TESTS, '..', 'bin', 'build')
-        if subprocess.run([build, 'nl_trials'], stdin=subprocess.DEVNULL, check=False).returncode != 0:
-            sys.exit(2)
-    program = os.path.realpath(words[0] if words else PROGRAM)
-    if not os.access(program, os.X_OK):
-        print(f'{sys.argv[0]}: no program at {program}', file=sys.stderr)
-        sys.exit(2)
-    return program

@@ -5,15 +5,11 @@ this folder give it images, and compare."""
 import os
 import re
 import subprocess
-import sys
 import tempfile
 from collections import deque
 from concurrent.futures import ThreadPoolExecutor
 
 from volume import SECOND_MARK
-
-TESTS = os.path.dirname(os.path.realpath(__file__))
-BUILT = os.path.join(TESTS, "..", "crates", "nlvol", "out", "nlvol")
 
 # Where files cost least.
 MEMORY = "/dev/shm"
@@ -25,19 +21,6 @@ LIMIT = 600
 CONDITIONS = [f"condition {number}" for number in range(1, 12)]
 
 REFUSED = re.compile(rb"image: error 24 BadImage ([1-9]|10|11)\n")
-
-
-def program_of(path=None):
-    """The program at a path; without one the built nlvol, which is built first where needed."""
-    if path is None:
-        build = os.path.join(TESTS, "..", "bin", "build")
-        if subprocess.run([build, "nlvol"], stdin=subprocess.DEVNULL, check=False).returncode != 0:
-            sys.exit(2)
-    program = os.path.realpath(path or BUILT)
-    if not os.access(program, os.X_OK):
-        print(f"{sys.argv[0]}: no program at {program}", file=sys.stderr)
-        sys.exit(2)
-    return program
 
 
 def files_in(folder):
