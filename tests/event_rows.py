@@ -20,7 +20,7 @@ an event or a question as many lines with one reply, and a word of a reply as ma
 | `rename FROM TO`, `truncate PATH SIZE` | file calls |
 | `write PATH OFFSET [TEXT]`, `fill PATH OFFSET BYTE COUNT` | writes a text, or so many bytes of a number |
 | `read PATH OFFSET [LENGTH]`, `ls PATH`, `stat PATH` | asks the current tree |
-| `mounted NUMBER` before one of these three | asks a mount |
+| `mounted NUMBER`, `kept NUMBER` before one of these three | asks a mount; a kept checkpoint |
 | `checkpoint MODE [MOMENT]`, `chcp NUMBER MODE` | MODE is `plain` or `snapshot` |
 | `rmcp NUMBER`, `range FIRST LAST` | |
 | `expire MOMENT PERIOD`, `move SEGMENT LIMIT`, `retire SEGMENT`, `resize SEGMENTS` | |
@@ -57,7 +57,7 @@ FORMS = [
     f'write{WORD}{NUMBER}({WORD})?',
     f'fill{WORD}{NUMBER}{NUMBER}{NUMBER}',
     ASK,
-    f'mounted{NUMBER} ({ASK})',
+    f'(mounted|kept){NUMBER} ({ASK})',
     f'checkpoint{MODE}({NUMBER})?',
     f'chcp{NUMBER}{MODE}',
     f'(rmcp|mount|unmount|retire|resize|sync){NUMBER}',

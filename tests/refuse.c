@@ -1,7 +1,7 @@
 /* Stands before the C library (LD_PRELOAD), and lets one call of a program fail. The environment names it by its number:
    REFUSED=N    the Nth request for memory gets none;
-   FAILED=N     the Nth call that opens, locks, reads, writes, stores, links, renames, removes, gives an owner or a
-                mode, or asks what stands at a path, fails with EIO;
+   FAILED=N     the Nth call that opens, locks, reads, writes, seeks, stores, links, renames, removes, gives a
+                length, an owner or a mode, or asks what stands at a path, fails with EIO;
    SHORTENED=N  the Nth read or write of more than one byte is of one byte alone.
    Descriptor 9 is told which call it was, and of what. The calls of several threads aren't counted apart. */
 #define _GNU_SOURCE
@@ -57,6 +57,8 @@ int open(const char *path, int flags, ...) {
 ssize_t read(int f, void *p, size_t n) { REAL(read); return FAILS(read, of(f)) ? -1 : real(f, p, SHORT(read, f, n)); }
 ssize_t write(int f, const void *p, size_t n) { REAL(write); return FAILS(write, of(f)) ? -1 : real(f, p, SHORT(write, f, n)); }
 int flock(int f, int how) { REAL(flock); return FAILS(flock, of(f)) ? -1 : real(f, how); }
+off_t lseek(int f, off_t at, int from) { REAL(lseek); return FAILS(lseek, of(f)) ? -1 : real(f, at, from); }
+int ftruncate(int f, off_t n) { REAL(ftruncate); return FAILS(ftruncate, of(f)) ? -1 : real(f, n); }
 int fsync(int f) { REAL(fsync); return FAILS(fsync, of(f)) ? -1 : real(f); }
 int fchmod(int f, mode_t mode) { REAL(fchmod); return FAILS(fchmod, of(f)) ? -1 : real(f, mode); }
 int fchown(int f, uid_t u, gid_t g) { REAL(fchown); return FAILS(fchown, of(f)) ? -1 : real(f, u, g); }

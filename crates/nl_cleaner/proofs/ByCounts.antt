@@ -8,11 +8,12 @@ use Rattle.std.proofs.lemmas.List.FromFn.{get_or-map-range_with_len}
 use Rattle.nl_types.specs.declared.error.VolError.{VolError}
 use Rattle.nl_types.specs.declared.error.VolError.TheVariants.{BadRange}
 use Rattle.nl_types.specs.Segments.{info_of}
-use Rattle.nl_vstore.specs.Located.{needed_count, onto, payload_block, payload_count_in, picked}
+use Rattle.nl_vstore.specs.Located.{needed_count, payload_block, payload_count_in}
 use Rattle.nl_commit.specs.CleanerViews.{counts_after, needed_after, needed_from}
 use Rattle.nl_commit.specs.Layout.{Layout}
 use Rattle.nl_cleaner.specs.declared.choice.Candidate.{Candidate}
 use Rattle.nl_cleaner.specs.Plan.{candidate_in, is_dirty, stamp_in}
+use Rattle.nl_cleaner.specs.Facts.StepsLeft.{picked-few}
 
 -- the count of a segment, or 0
 pub told-count : (counts : List ℕ) (segment : ℕ)
@@ -28,15 +29,6 @@ pub count-of : (l : Layout) (below segment : ℕ) → segment < length l.store.s
 count-of l below segment there =
     get_or-map-range_with_len (needed_count l.store (needed_from below l.lists.table)) 0
     (length l.store.segments.each) segment segment 0 there (omega arith)
-
--- so many blocks have no more among them
-pub picked-few : (f : ℕ → Option ℕ) (b n : ℕ) → length (picked f b n) ≤ n
-picked-few f b zero = omega arith
-picked-few f b (suc n) = by (f b) (picked-few f (suc b) n)
-  where
-    by : (o : Option ℕ) → length (picked f (suc b) n) ≤ n → length (onto o (picked f (suc b) n)) ≤ suc n
-    by None few = omega (arith, few)
-    by (Some v) few = omega (arith, few)
 
 none-by : (c : Candidate) (dirty may does : Bool) → (dirty && may) ≡ false → (may ≡ false → does ≡ false)
     → None ≡ cond {A = Option Candidate} (dirty && does) (Some c) None

@@ -6,20 +6,19 @@ use Rattle.std.proofs.lemmas.List.Elements.{All-tail}
 use Rattle.nl_types.specs.declared.error.VolError.{VolError}
 use Rattle.nl_types.specs.declared.event.Event.{Event}
 use Rattle.nl_types.specs.declared.event.Event.TheVariants.{Move}
-use Rattle.nl_types.specs.declared.reply.Answer.{Answer}
 use Rattle.nl_types.specs.declared.reply.Answer.TheVariants.{Freed}
 use Rattle.nl_types.specs.Entries.{is_needed}
 use Rattle.nl_types.specs.Runs.{Run}
 use Rattle.nl_types.specs.Worlds.{Reply}
 use Rattle.nl_vstore.specs.Located.{numbers_in}
-use Rattle.nl_reclaim.specs.Moves.{FullMoves, HasMovedPages, KeepsNeeds, Retires}
+use Rattle.nl_reclaim.specs.Moves.{FullMoves, KeepsNeeds, Retires}
 use Rattle.nl_reclaim.specs.Facts.Moves.{full-moves-come-clean}
 use Rattle.nl_core.specs.CleanedPens.{kept_store, kept_number}
-use Rattle.nl_commit.specs.Layout.{AllowedBetween, Does, IsPen, Layout, unshared}
+use Rattle.nl_commit.specs.Layout.{Does, IsPen, Layout, unshared}
 use Rattle.nl_commit.specs.Volume.{Lists, kept_by}
-use Rattle.nl_core.specs.Facts.MovedNeeds.{moved-needs}
 use Rattle.nl_core.specs.Facts.Refusals.{retirements_are_judged}
 use Rattle.nl_cleaner.specs.Laws.{AreMoves, SegmentsComeClean}
+use Rattle.nl_cleaner.specs.Facts.RoundEvents.{move-is}
 
 abbrev pub IsDone : Reply → Type 0
 IsDone r = IsOk r
@@ -27,16 +26,6 @@ IsDone r = IsOk r
 -- the needs of a pen whose lists stay
 pub same-needs : (old new : Layout) → new.lists ≡ old.lists → KeepsNeeds (kept_store old) (kept_store new)
 same-needs old new same v e is = ap (λ (l : Lists). is_needed (map kept_number (kept_by l)) e) same
-
-pub move-is : {allowed : AllowedBetween} (old new : Layout) (segment limit now : ℕ) (answer : Answer)
-    → IsPen old
-    → Does allowed old (Move segment limit now) (Ok answer) new
-    → HasMovedPages segment (old.lists.table.latest.number + 1) now limit (kept_store old) (kept_store new)
-move-is old new segment limit now answer held does = record {
-  needs = moved-needs old new segment limit now answer held does;
-  moved = does.becomes.1.moved.moved;
-  store = does.pen.sound.store;
-}
 
 -- ---- a run of moves
 

@@ -4,5 +4,4 @@ mod Victims
 mod Found
 mod CleanRuns
 mod Rounds
-mod StepsLeft
 mod Oldest

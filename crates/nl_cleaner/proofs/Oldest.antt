@@ -18,7 +18,7 @@ use Rattle.nl_cleaner.specs.declared.job.Stage.{Stage}
 use Rattle.nl_cleaner.specs.Job.{Cleaning, Ended, Expiring, JobView, job_after_answer, at_stage, first_done, next_by, next_cleaning, next_event, job_after_reply, noted_by}
 use Rattle.nl_cleaner.specs.Laws.{TheOldestComesNext}
 use Rattle.nl_cleaner.specs.Plan.{AreTaken, Cleans, CleansOldest, IsOlder, IsPlanned, TakesOldest, clean_count, segments_by}
-use Rattle.nl_cleaner.proofs.Rounds.{none-some, some-is}
+use Rattle.nl_cleaner.specs.Facts.RoundEvents.{none-some, some-is}
 
 module _ (planned : Layout) where
   -- the segments that are left are in the order of the plan

@@ -17,20 +17,11 @@ use Rattle.nl_core.specs.CleanedPens.{kept_store}
 use Rattle.nl_commit.specs.CleanerViews.{cleaning_event}
 use Rattle.nl_commit.specs.CleaningEvents.{needed_by}
 use Rattle.nl_commit.specs.Layout.{Does, IsPen, Layout, unshared}
-use Rattle.nl_cleaner.specs.Job.{Cleaning, Expiring, JobView, Stepped, job_after_answer, next_by, next_event, job_after_reply, noted_by}
+use Rattle.nl_cleaner.specs.Job.{Expiring, JobView, Stepped, job_after_answer, next_by, next_event, job_after_reply, noted_by}
 use Rattle.nl_cleaner.specs.declared.job.Stage.{Stage}
 use Rattle.nl_cleaner.specs.Laws.{RoundsLeaveNothingDead}
-use Rattle.nl_cleaner.proofs.CleanRuns.{IsDone, move-is, same-needs}
-
--- a round that has come to its segments
-abbrev pub cleaning : (now period : ℕ) → List ℕ → JobView
-cleaning now period left = record { stage = Cleaning; moment = now; period = period; left = left }
-
-pub some-is : (a b : Event) → Some a ≡ Some b → b ≡ a
-some-is a b h = cc
-
-pub none-some : (a : Event) → None ≡ Some a → ⊥
-none-some a h = cc
+use Rattle.nl_cleaner.specs.Facts.RoundEvents.{cleaning, move-is, none-some, some-is}
+use Rattle.nl_cleaner.proofs.CleanRuns.{IsDone, same-needs}
 
 -- ---- one event
 

@@ -3,3 +3,4 @@ pub mod Plan
 pub mod Rounds
 pub mod Laws
 pub mod Private
+pub mod Facts

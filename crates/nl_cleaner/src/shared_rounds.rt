@@ -10,6 +10,7 @@ use std::alloc::Global;
 
 impl<D: Device> Round<Pen<D>> for Job {
     ghost use Rattle.nl_cleaner.specs.Rounds.{cleaning_habits};
+    ghost use Rattle.nl_cleaner.specs.Facts.StepsLeft.{rounds-end};
 
     ghost habits = { cleaning_habits };
 
@@ -24,4 +25,6 @@ impl<D: Device> Round<Pen<D>> for Job {
     fn note(&mut self, reply: &Reply) {
         Job::note(self, reply)
     }
+
+    ghost ends = { rounds-end };
 }

@@ -3,12 +3,14 @@ use Rattle.std.specs.Prelude.{◌≡◌, ◌⊎◌, ℕ, ◌+◌, ◌<◌, ◌�
 use Rattle.std.specs.Option.{option_map}
 use Rattle.nl_types.specs.declared.error.VolError.{VolError}
 use Rattle.nl_types.specs.declared.error.VolError.TheVariants.{NoSpace, Fault, Memory}
+use Rattle.nl_types.specs.declared.event.Ask.{Ask}
 use Rattle.nl_types.specs.declared.event.Event.{Event}
 use Rattle.nl_types.specs.declared.event.Mode.{Mode}
 use Rattle.nl_types.specs.declared.event.Event.TheVariants as variant
 use Rattle.nl_types.specs.declared.event.Event.TheVariants.{Apply, ChangeMode, Checkpoint, Expire, Listing, Mount, MountRead, Move, Read, RemoveRange, Resize, Retire, Unmount}
 use Rattle.nl_types.specs.declared.geometry.Geometry.{Geometry}
 use Rattle.nl_types.specs.declared.reply.Answer.{Answer}
+use Rattle.nl_types.specs.Calls.{IsReadReply}
 use Rattle.nl_types.specs.Lifetimes.{Numbers, Ledger, IsLedger, KeepsCovered, EndsOnce, Makes, Forgets, ledger_after_all, blank}
 use Rattle.nl_types.specs.Entries.{Place}
 use Rattle.nl_types.specs.Limits.{checkpoint_number_limit, inode_file_number}
@@ -32,7 +34,7 @@ use Rattle.nl_reclaim.specs.Cleaning.{retired}
 use Rattle.nl_commit.specs.Changes.{HasChanged}
 use Rattle.nl_commit.specs.CleaningEvents.{HasEmptied, HasMovedNothing, HasMovedOut, HasResized, HasResizedNone, LacksSpaceToMove, cleaned_by, needed_by}
 use Rattle.nl_commit.specs.Draft.{HasNextNumber, HoldsNow, IsDraftRefusal, SettlesNow}
-use Rattle.nl_commit.specs.Means.{StepsWorld, Means}
+use Rattle.nl_commit.specs.Means.{StepsWorld, Means, copy_read}
 use Rattle.nl_commit.specs.Tables.{blank_lists}
 use Rattle.nl_commit.specs.Volume.{IsExpired, IsTakenOut, IsTakenOutRange, Lists, kept_by, latest_root, moved_lists, next_checkpoint, published, with_change, with_checkpoint_mode, with_mount, without_mount}
 use Rattle.nl_cpfile.specs.Tables.{kept_at, checkpoint_root}
@@ -52,6 +54,11 @@ layout_pages l = pages_of (content_in l.store)
 -- the layout means the world
 abbrev pub MeansWorld : Layout → World → Type 0
 MeansWorld l w = Means (layout_pages l) l.lists w
+
+-- a read of a kept checkpoint answers what its copy does in each world that is meant, or lacks memory where
+-- it may take any
+abbrev pub ReadsCopy : Layout → (n : ℕ) → Ask → Reply → Type 0
+ReadsCopy l n a reply = (w : World) → MeansWorld l w → IsReadReply a reply (copy_read w n a)
 
 -- the number at each place of a checkpoint: of its file of inodes, its directories and its files, nodes and
 -- data

@@ -1,9 +1,11 @@
 -- How what a pen holds stands for a world.
 use Rattle.std.specs.Prelude.{◌≡◌, ℕ, length, map}
 use Rattle.std.specs.List.{AllZip}
+use Rattle.nl_types.specs.declared.event.Ask.{Ask}
 use Rattle.nl_types.specs.declared.event.Event.{Event}
+use Rattle.nl_types.specs.Calls.{IsReadReply, and_then, reply_to}
 use Rattle.nl_types.specs.Trees.{Tree}
-use Rattle.nl_types.specs.Worlds.{World, Copy, IsWorld, Reply}
+use Rattle.nl_types.specs.Worlds.{World, Copy, IsWorld, Reply, kept_copy}
 use Rattle.nl_types.specs.Runs.{AllowedRefusals, Step, memory_alone}
 use Rattle.nl_types.specs.Roots.{Pages}
 use Rattle.nl_layout.specs.Root.{root_of}
@@ -61,3 +63,13 @@ abbrev pub StepsWorldsOver : Pages → Lists → Event → Reply → Lists → T
 StepsWorldsOver pages old event reply new =
     (cleaned : Reply) (w : World) → Means pages old w
     → StepsWorld memory_alone cleaned w event reply pages new
+
+-- ---- a read of a kept checkpoint
+
+-- what the tree of a number's copy answers
+abbrev pub copy_read : World → (n : ℕ) → Ask → Reply
+copy_read w n a = and_then (kept_copy w n) (λ copy. reply_to copy.tree a)
+
+-- that is answered in each world that is meant, or memory lacks where the read may take any
+abbrev pub ReadsCopyOver : Pages → Lists → (n : ℕ) → Ask → Reply → Type 0
+ReadsCopyOver pages l n a reply = (w : World) → Means pages l w → IsReadReply a reply (copy_read w n a)

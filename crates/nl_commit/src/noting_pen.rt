@@ -3,7 +3,7 @@ ghost use Rattle.std.specs.Prelude.{◌≡◌, [], ◌∷◌, IfOk, IsOkUnless};
 ghost use Rattle.nl_cpfile.specs.Tables.{cpstat_of};
 ghost use Rattle.nl_commit.specs.CleanerViews.{needed_told};
 ghost use Rattle.nl_commit.specs.Commits.{IsHistory, image_of};
-ghost use Rattle.nl_commit.specs.Layout.{IsPen, layout_of};
+ghost use Rattle.nl_commit.specs.Layout.{IsPen, ReadsCopy, layout_of};
 ghost use Rattle.nl_commit.specs.Notes.{DoesNoting, shown_of};
 ghost use Rattle.nl_commit.specs.Shown.{MountsRise};
 ghost use Rattle.nl_commit.specs.Volume.{without_mounts};
@@ -11,7 +11,7 @@ ghost use Rattle.nl_commit.specs.Volume.{without_mounts};
 use crate::commit::Commit;
 use nl_cpfile::Cpstat;
 use nl_sufile::SegTable;
-use nl_types::{Event, Reply, Segment, VolError};
+use nl_types::{Ask, CheckpointNumber, Event, Reply, Segment, VolError};
 
 /// A pen that notes the commits of its events.
 pub trait NotingPen: Drop {
@@ -54,4 +54,9 @@ pub trait NotingPen: Drop {
     /// How many checkpoints and snapshots are kept, and the latest one's number. It takes no memory.
     fn cpstat(&self) -> Cpstat
         ensures { result ≡ cpstat_of (layout self.now).lists.table };
+
+    /// What the tree of a kept checkpoint answers. Refused by `NoCheckpoint` where it isn't kept, as the call
+    /// is, and by `Memory` where it isn't `stat`, which takes none.
+    fn read_at(&self, number: CheckpointNumber, ask: &Ask) -> Reply
+        ensures { ReadsCopy (layout self.now) number ask.now result };
 }

@@ -8,7 +8,7 @@ use std::alloc::Global;
 
 /// A round of cleaning, taken event by event.
 pub trait Round<P: NotingPen>: Drop {
-    ghost use Rattle.nl_commit.specs.Rounds.{RoundHabits};
+    ghost use Rattle.nl_commit.specs.Rounds.{RoundHabits, RoundsEnd};
 
     /// How rounds go on.
     ghost habits: { RoundHabits Self };
@@ -25,4 +25,7 @@ pub trait Round<P: NotingPen>: Drop {
     /// Takes note of the reply to the event that came next.
     fn note(&mut self, reply: &Reply)
         ensures { self.new ≡ habits.noted self.old reply.now };
+
+    /// Each step leaves fewer, beside readers too.
+    ghost ends: { RoundsEnd habits };
 }

@@ -4,7 +4,7 @@ use nl_commit::{Commit, NotingPen};
 use nl_cpfile::Cpstat;
 use nl_device::Device;
 use nl_sufile::SegTable;
-use nl_types::{Event, Reply, Segment, VolError};
+use nl_types::{Ask, CheckpointNumber, Event, Reply, Segment, VolError};
 
 impl<D: Device> NotingPen for Pen<D> {
     ghost layout = { λ p. p };
@@ -35,5 +35,9 @@ impl<D: Device> NotingPen for Pen<D> {
 
     fn cpstat(&self) -> Cpstat {
         Pen::cpstat(self)
+    }
+
+    fn read_at(&self, number: CheckpointNumber, ask: &Ask) -> Reply {
+        Pen::read_at(self, number, ask)
     }
 }

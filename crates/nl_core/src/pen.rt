@@ -41,7 +41,7 @@ use nl_protect::boundary;
 use nl_segwriter::LogSpace;
 use nl_sufile::{SegTable, SegmentCounts};
 use nl_types::{
-    Answer, CheckpointNumber, Event, Geometry, MAX_PAYLOAD, Mode, Reply, Row, Segment,
+    Answer, Ask, CheckpointNumber, Event, Geometry, MAX_PAYLOAD, Mode, Reply, Row, Segment,
     VirtualNumber, VolError,
 };
 use nl_vstore::Vstore;
@@ -69,7 +69,7 @@ impl<D: Device> Model for Pen<D> {
     ghost invariant = { λ p. IsCountedPen (layout_of p.tables.lists p.store.store) p.needed };
 }
 
-ghost use Rattle.nl_commit.specs.Layout.{IsPen, Does, MeansWorld, layout_of, unshared};
+ghost use Rattle.nl_commit.specs.Layout.{IsPen, Does, MeansWorld, ReadsCopy, layout_of, unshared};
 ghost use Rattle.nl_types.specs.declared.event.Event.TheVariants.{ChangeMode, Mount, Resize};
 
 impl<D: Device> Pen<D> {
@@ -195,6 +195,15 @@ impl<D: Device> Pen<D> {
         ensures world { (w : World) → MeansWorld self.now w → result ≡ counted w }
     {
         self.tables.cpstat()
+    }
+
+    /// What the tree of a kept checkpoint answers, without a mount: of a plain one too, and of a minor one.
+    /// Refused by `NoCheckpoint` where it isn't kept, as the call is, and by `Memory` where it isn't `stat`,
+    /// which takes none.
+    pub fn read_at(&self, number: CheckpointNumber, ask: &Ask) -> Reply
+        ensures { ReadsCopy self.now number ask.now result }
+    {
+        self.tables.read_at(self.alloc, &self.store, number, ask)
     }
 
     /// How many mounts there are.

@@ -57,7 +57,7 @@ impl Tables {
     ghost use Rattle.nl_core.specs.NeededBlocks.{AreEarlier};
     ghost use Rattle.nl_commit.specs.Changes.{HasChanged};
     ghost use Rattle.nl_commit.specs.Draft.{CanBeDrafted, HasFewNames, HasNextNumber, IsDraftRefusal, IsNextDraft};
-    ghost use Rattle.nl_commit.specs.Means.{StepsWorldsOver, Means};
+    ghost use Rattle.nl_commit.specs.Means.{ReadsCopyOver, StepsWorldsOver, Means};
     ghost use Rattle.nl_commit.specs.Tables.{blank_lists};
     ghost use Rattle.nl_commit.specs.Volume.{IsTakenOut, IsExpired, IsTakenOutRange, is_held_at, latest_alone, latest_root, minor_checkpoint, published, with_change, with_checkpoint_mode, with_mount, without_mount, without_mounts};
     ghost use Rattle.nl_commit.specs.Notes.{has_other_mode};
@@ -241,8 +241,25 @@ impl Tables {
         Ok(Answer::Mount(mount))
     }
 
-    /// What the tree of a mounted snapshot answers. Refused by `BadMount` where there is no such mount, as
-    /// the call is, and by `Memory`.
+    /// What the tree of a kept checkpoint answers. Refused by `NoCheckpoint` where it isn't kept, as the call
+    /// is, and by `Memory` where it isn't `stat`, which takes none.
+    pub fn read_at<V: VRead>(
+        &self,
+        alloc: Global,
+        store: &V,
+        number: CheckpointNumber,
+        ask: &Ask,
+    ) -> Reply
+        ensures { ReadsCopyOver (V.pages store.now) self.now.lists number ask.now result }
+    {
+        let Some(checkpoint) = self.checkpoints.kept(number) else {
+            return Err(VolError::NoCheckpoint);
+        };
+        answer(alloc, &ReadTree::new(store, checkpoint.root), ask)
+    }
+
+    /// What the tree of a mounted snapshot answers, which is kept. Refused by `BadMount` where there is no
+    /// such mount, as the call is, and by `Memory`.
     pub fn read_mounted<V: VRead>(
         &self,
         alloc: Global,
@@ -256,10 +273,7 @@ impl Tables {
         let Some(number) = self.mounts.find(mount) else {
             return Err(VolError::BadMount);
         };
-        let Some(checkpoint) = self.checkpoints.kept(number) else {
-            return Err(VolError::BadMount);
-        };
-        answer(alloc, &ReadTree::new(store, checkpoint.root), ask)
+        self.read_at(alloc, store, number, ask)
     }
 
     /// Keeps a checkpoint in this mode, without memory. Refused by `NoCheckpoint` where it isn't kept, and by

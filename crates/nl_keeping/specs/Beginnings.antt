@@ -15,9 +15,9 @@ use Rattle.nl_core.specs.PenImages.{IsPenImage}
 use Rattle.nl_arguments.specs.declared.arguments.Arguments.{Arguments}
 use Rattle.nl_texts.specs.declared.refusals.StartStep.{StartStep}
 use Rattle.nl_texts.specs.declared.refusals.StartStep.TheVariants as step
-use Rattle.nl_script.specs.declared.files.FileFault.{FileFault}
-use Rattle.nl_script.specs.declared.files.FileFault.TheVariants as file
-use Rattle.nl_script.specs.declared.saving.SavePlace.{SavePlace}
+use Rattle.nl_saving.specs.declared.files.FileFault.{FileFault}
+use Rattle.nl_saving.specs.declared.files.FileFault.TheVariants as file
+use Rattle.nl_saving.specs.declared.saving.SavePlace.{SavePlace}
 use Rattle.nl_keeping.specs.declared.starting.StartFault.{StartFault}
 use Rattle.nl_keeping.specs.declared.starting.StartFault.TheVariants.{InUse, Unread, Refused}
 

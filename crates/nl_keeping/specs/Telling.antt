@@ -12,8 +12,8 @@ use Rattle.nl_texts.specs.Texts.{Text}
 use Rattle.nl_texts.specs.declared.refusals.StartStep.{StartStep}
 use Rattle.nl_texts.specs.declared.refusals.StartStep.TheVariants as step
 use Rattle.nl_texts.specs.declared.streams.StandardStream.{StandardStream}
-use Rattle.nl_script.specs.declared.files.FileFault.{FileFault}
-use Rattle.nl_script.specs.declared.files.FileFault.TheVariants as file
+use Rattle.nl_saving.specs.declared.files.FileFault.{FileFault}
+use Rattle.nl_saving.specs.declared.files.FileFault.TheVariants as file
 use Rattle.nl_keeping.specs.declared.starting.StartFault.{StartFault}
 use Rattle.nl_keeping.specs.declared.starting.StartFault.TheVariants as start
 

@@ -7,7 +7,7 @@ use crate::telling::save_path;
 use nl_arguments::Arguments;
 use nl_core::{Pen, geometry_of, open};
 use nl_device::MemDevice;
-use nl_script::{FileFault, InUse, SavePlace, read_file};
+use nl_saving::{FileFault, InUse, SavePlace, read_file};
 use nl_texts::StartStep;
 use nl_types::{Geometry, VolError};
 use std::alloc::Global;

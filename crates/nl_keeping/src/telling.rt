@@ -7,7 +7,7 @@ ghost use Rattle.nl_keeping.specs.Telling.{IsNoticed, Tells, configuration_step,
 
 use crate::starting::StartFault;
 use nl_arguments::{Arguments, ArgumentsFault};
-use nl_script::FileFault;
+use nl_saving::FileFault;
 use nl_texts::{
     StandardStream, StartStep, in_use_text, notice_text, start_text, stream_text, unread_text,
 };

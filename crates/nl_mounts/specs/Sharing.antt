@@ -4,6 +4,7 @@ use Rattle.std.specs.Prelude.{◌≡◌, ◌≢◌, ◌<◌, ◌≤◌, ◌+◌,
 use Rattle.std.specs.Option.{ok_or}
 use Rattle.nl_types.specs.declared.error.VolError.{VolError}
 use Rattle.nl_types.specs.declared.error.VolError.TheVariants.{BadMount, BadRange, Memory}
+use Rattle.nl_types.specs.declared.event.Ask.{Ask}
 use Rattle.nl_types.specs.declared.event.Event.{Event}
 use Rattle.nl_types.specs.declared.event.Event.TheVariants.{Unmount}
 use Rattle.nl_types.specs.declared.reply.Answer.{Answer}
@@ -16,7 +17,7 @@ use Rattle.nl_cpfile.specs.declared.table.Cpstat.{Cpstat}
 use Rattle.nl_protect.specs.declared.config.Config.{Config}
 use Rattle.nl_commit.specs.CleanerViews.{needed_told}
 use Rattle.nl_commit.specs.Commits.{image_of}
-use Rattle.nl_commit.specs.Layout.{IsPen, Layout, MeansWorld, layout_of}
+use Rattle.nl_commit.specs.Layout.{IsPen, Layout, MeansWorld, ReadsCopy, layout_of}
 use Rattle.nl_commit.specs.Volume.{without_mounts}
 use Rattle.nl_commit.specs.Rounds.{RoundHabits}
 use Rattle.nl_publish.specs.Cleaning.{CleanRan}
@@ -130,6 +131,11 @@ pub record AreCheckpointsCounted (stat : Cpstat) : Type 0 where
   pub state : HeldPen
   pub sound : IsSoundState state
   pub counted : stat ≡ cpstat_of state.layout.lists.table
+
+pub record IsCopyRead (number : ℕ) (ask : Ask) (reply : Reply) : Type 0 where
+  pub state : HeldPen
+  pub sound : IsSoundState state
+  pub told : ReadsCopy state.layout number ask reply
 
 -- ---- the end
 

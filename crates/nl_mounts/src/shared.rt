@@ -1,7 +1,7 @@
 //! A volume that threads share.
 ghost use Rattle.std.specs.Prelude.{◌≡◌, ◌≤◌, ◌+◌, IfErr, IfOk, IsOkUnless, length};
 ghost use Rattle.nl_lanes.specs.Reading.{HasLearned, IsLater};
-ghost use Rattle.nl_mounts.specs.Sharing.{AreCheckpointsCounted, AreSegmentsCounted, IsPenBack, HasCleaned, HasMounted, HasRun, HasUnmounted, IsNeededTold, IsRoundPlanned, IsPortCount, IsSegmentTold, IsShareRefused, IsSoundState};
+ghost use Rattle.nl_mounts.specs.Sharing.{AreCheckpointsCounted, AreSegmentsCounted, IsPenBack, HasCleaned, HasMounted, HasRun, HasUnmounted, IsCopyRead, IsNeededTold, IsRoundPlanned, IsPortCount, IsSegmentTold, IsShareRefused, IsSoundState};
 
 use crate::port::Port;
 use nl_commit::Round;
@@ -9,7 +9,7 @@ use nl_cpfile::Cpstat;
 use nl_protect::Config;
 use nl_publish::{Locked, Mount, NotingPen, Opened, Press, Publisher, Seat, Volumes};
 use nl_sufile::Sustat;
-use nl_types::{CheckpointNumber, Event, Reply, Segment, SegmentInfo, VolError};
+use nl_types::{Ask, CheckpointNumber, Event, Reply, Segment, SegmentInfo, VolError};
 use std::alloc::Global;
 use std::sync::{Mutex, Wait};
 
@@ -192,6 +192,17 @@ fn checkpoints_in<P: NotingPen, J: Volumes, W: Press>(locked: &Locked<P, J, W>) 
     locked.cpstat()
 }
 
+fn copy_in<P: NotingPen, J: Volumes, W: Press>(
+    locked: &Locked<P, J, W>,
+    number: CheckpointNumber,
+    ask: &Ask,
+) -> Reply
+    ensures { IsCopyRead number ask.now result }
+{
+    is_sound(locked);
+    locked.read_at(number, ask)
+}
+
 impl<P: NotingPen, J: Volumes, W: Press> Shared<P, J, W> {
     /// Does the next event of a round of cleaning, and notes the reply in the round; None where the round is
     /// over.
@@ -250,6 +261,17 @@ impl<P: NotingPen, J: Volumes, W: Press> Shared<P, J, W> {
         ensures { AreCheckpointsCounted result }
     {
         checkpoints_in(&self.locked.lock(rt))
+    }
+
+    /// What the tree of a kept checkpoint answers, without a mount: of a plain one too, and of a minor one.
+    /// It takes the lock; who reads beside the writer mounts a snapshot and has a port.
+    ///
+    /// # Errors
+    /// `NoCheckpoint` where it isn't kept; those of the call; `Memory`, but for `stat`, which takes none.
+    pub fn read_at<R: Wait>(&self, rt: &R, number: CheckpointNumber, ask: &Ask) -> Reply
+        ensures { IsCopyRead number ask.now result }
+    {
+        copy_in(&self.locked.lock(rt), number, ask)
     }
 }
 

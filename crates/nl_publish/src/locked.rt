@@ -4,7 +4,7 @@ ghost use Rattle.nl_types.specs.declared.event.Event.TheVariants as event;
 ghost use Rattle.nl_types.specs.declared.reply.Answer.{Answer};
 ghost use Rattle.nl_types.specs.Worlds.{World};
 ghost use Rattle.nl_commit.specs.Commits.{image_of};
-ghost use Rattle.nl_commit.specs.Layout.{IsPen, MeansWorld, layout_of};
+ghost use Rattle.nl_commit.specs.Layout.{IsPen, MeansWorld, ReadsCopy, layout_of};
 ghost use Rattle.nl_commit.specs.Notes.{shown_of};
 ghost use Rattle.nl_commit.specs.Volume.{without_mounts};
 ghost use Rattle.nl_publish.specs.Images.{IsPublished};
@@ -17,7 +17,7 @@ use crate::image::Entry;
 use crate::mount::Mount;
 use crate::press::{Press, Publisher};
 use nl_commit::{Commit, NotingPen};
-use nl_types::{Answer, CheckpointNumber, Event, MountNumber, Reply, VolError};
+use nl_types::{Answer, Ask, CheckpointNumber, Event, MountNumber, Reply, VolError};
 use std::alloc::Global;
 use std::marker::Model;
 use std::sync::Wait;
@@ -273,6 +273,15 @@ impl<P: NotingPen, J: Volumes, W: Press> Locked<P, J, W> {
         ensures { P.layout result.now ≡ self.now.layout }
     {
         &self.pen
+    }
+
+    /// What the tree of a kept checkpoint answers, without a mount, also where its commit waits. Refused by
+    /// `NoCheckpoint` where it isn't kept, as the call is, and by `Memory` where it isn't `stat`, which takes
+    /// none.
+    pub fn read_at(&self, number: CheckpointNumber, ask: &Ask) -> Reply
+        ensures { ReadsCopy self.now.layout number ask.now result }
+    {
+        self.pen.read_at(number, ask)
     }
 
     /// The volume's id.

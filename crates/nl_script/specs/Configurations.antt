@@ -4,9 +4,9 @@ use Rattle.nl_types.specs.declared.error.VolError.{VolError}
 use Rattle.nl_types.specs.declared.error.VolError.TheVariants.{Memory}
 use Rattle.nl_protect.specs.Configuration.{configuration_in, standard}
 use Rattle.nl_protect.specs.declared.config.Config.{Config}
-use Rattle.nl_script.specs.Files.{IsUnread}
-use Rattle.nl_script.specs.declared.files.FileFault.{FileFault}
-use Rattle.nl_script.specs.declared.files.FileFault.TheVariants.{Refused}
+use Rattle.nl_saving.specs.Files.{IsUnread}
+use Rattle.nl_saving.specs.declared.files.FileFault.{FileFault}
+use Rattle.nl_saving.specs.declared.files.FileFault.TheVariants.{Refused}
 
 abbrev pub ConfigurationRead : Type 0
 ConfigurationRead = Result Config FileFault

@@ -8,7 +8,4 @@ pub mod Habits
 pub mod Lines
 pub mod Scripts
 pub mod Configurations
-pub mod Files
-pub mod FilesFound
-pub mod SideNames
 pub mod Private

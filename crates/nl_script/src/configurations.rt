@@ -3,8 +3,8 @@ ghost use Rattle.std.specs.Prelude.{◌≡◌, ◌≢◌, Err, None, option_map}
 ghost use Rattle.nl_protect.specs.Configuration.{configuration_in};
 ghost use Rattle.nl_script.specs.Configurations.{IsConfigured, IsReadFrom, configured};
 
-use crate::files::{FileFault, open_file, read_all};
 use nl_protect::Config;
+use nl_saving::{FileFault, open_file, read_all};
 use nl_types::VolError;
 use std::alloc::Global;
 use std::io::Read;

@@ -7,28 +7,22 @@
 
 mod configurations;
 mod events;
-mod files;
 mod lines;
 mod readers;
 mod reading;
 mod rounds;
 mod running;
-mod saving;
 mod scripts;
-mod sides;
-mod standing;
 mod status;
 mod telling;
 mod volume;
 
 pub use configurations::configuration;
 pub use events::{events_of, is_quiet};
-pub use files::{FileFault, read_file};
 pub use lines::run_line;
 pub use readers::{Readers, is_bad_mount, reply_of};
 pub use rounds::RoundSum;
 pub use running::run_events;
-pub use saving::{InUse, SavePlace, Saved};
 pub use scripts::{Done, script};
 pub use status::{LineResult, Status};
 pub use telling::tell_all;

@@ -315,7 +315,7 @@ stepped laws w old new job next reply before (cleaning.NotBegun stuck replied no
     NoNext (inr replied) (stays_stuck laws w old new before same stuck)
 
 over : (w : World) (old new : Sharing) (job next : JobView) (reply : Option Reply) → IsBeside w old
-    → IsRoundOver old.held job reply new.held next
+    → IsRoundOver cleaning_habits old.held job reply new.held next
     → new.mounts ≡ old.mounts → IsSteppedBeside w old job reply new
 over w old new job next reply before round same =
     let still : new ≡ old = λ i. record { held = round.2 i; mounts = same i } in

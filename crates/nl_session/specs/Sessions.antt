@@ -19,6 +19,7 @@ use Rattle.nl_script.specs.Scripts.{IsScriptDone}
 use Rattle.nl_script.specs.declared.scripts.Done.{Done}
 use Rattle.nl_commit.specs.Layout.{Layout, layout_of}
 use Rattle.nl_commit.specs.Volume.{without_mounts}
+use Rattle.nl_cleaner.specs.Rounds.{cleaning_habits}
 use Rattle.nl_keeping.specs.Beginnings.{Beginning, IsBegunBy, IsPenOf, IsStartFault}
 use Rattle.nl_keeping.specs.Endings.{Ends, TellsEnd}
 use Rattle.nl_shared.specs.SharedVolumes.{Sharing, shared_habits}
@@ -73,7 +74,7 @@ streams typed printing errors = record { typed = typed; printing = printing; err
 -- texts is printed
 abbrev pub IsScriptRun : {O : Type 0} → Config → Printing O → (old new : Sharing) → Done → Type 0
 IsScriptRun config p old new done =
-    IsScriptDone shared_habits config 0 old new done p.input p.contents p.output p.printed
+    IsScriptDone (shared_habits cleaning_habits) config 0 old new done p.input p.contents p.output p.printed
 
 -- the volume's pen, without mounts
 abbrev pub pen_left : Sharing → Layout

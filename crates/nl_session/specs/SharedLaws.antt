@@ -15,6 +15,7 @@ use Rattle.nl_commit.specs.Commits.{image_of}
 use Rattle.nl_commit.specs.Layout.{DoesIn, Layout, MeansWorld}
 use Rattle.nl_commit.specs.Notes.{shared}
 use Rattle.nl_cleaner.specs.Job.{JobView, next_event}
+use Rattle.nl_cleaner.specs.Rounds.{cleaning_habits}
 use Rattle.nl_publish.specs.Locks.{as_replies, given_back, listed, mount_reply}
 use Rattle.nl_publish.specs.Mounts.{Claim}
 use Rattle.nl_publish.specs.Told.{ShowsCopy}
@@ -98,7 +99,8 @@ pub data IsSteppedBeside (w : World) (old : Sharing) (job : JobView) (reply : Op
 -- steps of rounds are events of the world
 abbrev pub SharedStepsFollowWorlds : Type 0
 SharedStepsFollowWorlds = (w : World) (old new : Sharing) (job next : JobView) (reply : Option Reply)
-    → IsBeside w old → shared_steps old job reply new next → IsSteppedBeside w old job reply new
+    → IsBeside w old → shared_steps cleaning_habits old job reply new next
+    → IsSteppedBeside w old job reply new
 
 -- a new volume is beside a new world
 abbrev pub NewVolumesAreBeside : Type 0

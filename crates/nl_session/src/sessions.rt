@@ -6,6 +6,7 @@ ghost use Rattle.nl_session.specs.Sessions.{IsScriptRun, IsSession, Prints, Runs
 ghost use Rattle.nl_keeping.specs.Telling.{errors_of};
 
 use nl_arguments::{Arguments, Asked, read};
+use nl_cleaner::Job;
 use nl_core::Pen;
 use nl_device::MemDevice;
 use nl_keeping::{
@@ -15,7 +16,8 @@ use nl_keeping::{
 use nl_mounts::Port;
 use nl_protect::Config;
 use nl_publish::{Opened, Volumes};
-use nl_script::{Done, Readers, SavePlace, configuration, script};
+use nl_saving::SavePlace;
+use nl_script::{Done, Readers, configuration, script};
 use nl_shared::SharedVolume;
 use nl_texts::{StandardStream, StartStep};
 use nl_types::{Items, VolError};
@@ -31,7 +33,7 @@ use std::thread::Threads;
 /// Makes the input's buffer, and runs the script. Refused by `Memory`, no line was run.
 fn run_on<J: Volumes + Send + Sync, R: Threads + Wait + Sync, I: Read + Drop, O: Write>(
     alloc: Global,
-    volume: &mut SharedVolume<'_, MemDevice, J, R>,
+    volume: &mut SharedVolume<'_, Pen<MemDevice>, Job, J, R>,
     readers: &mut Readers<'_, Port<J>, R>,
     config: &Config,
     input: I,
@@ -64,7 +66,7 @@ fn run_script<J: Volumes + Send + Sync, R: Threads + Wait + Sync, I: Read + Drop
     ensures refused { IsOkUnless result VolError.Memory }
     ensures unprinted { OnErr result (output.new ≡ output.old) }
 {
-    let (mut volume, ports) = SharedVolume::<_, J, _>::new(rt, alloc, pen, opened)?;
+    let (mut volume, ports) = SharedVolume::<_, Job, J, _>::new(rt, alloc, pen, opened)?;
     let mut readers = Readers { rt, ports };
     let done = run_on(alloc, &mut volume, &mut readers, config, input, output);
     // The mounts that the script left are taken out.

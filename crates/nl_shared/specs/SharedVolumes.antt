@@ -17,11 +17,9 @@ use Rattle.nl_cpfile.specs.Tables.{cpstat_of}
 use Rattle.nl_cpfile.specs.declared.table.Cpstat.{Cpstat}
 use Rattle.nl_sufile.specs.declared.table.Sustat.{Sustat}
 use Rattle.nl_protect.specs.declared.config.Config.{Config}
-use Rattle.nl_cleaner.specs.Job.{JobView, next_event, steps_left}
-use Rattle.nl_cleaner.specs.Plan.{IsPlan}
-use Rattle.nl_cleaner.specs.Rounds.{cleaning_habits}
 use Rattle.nl_commit.specs.CleanerViews.{needed_told}
 use Rattle.nl_commit.specs.Layout.{Layout}
+use Rattle.nl_commit.specs.Rounds.{RoundHabits}
 use Rattle.nl_publish.specs.Begun.{HasBegun}
 use Rattle.nl_publish.specs.Cleaning.{CleanRan}
 use Rattle.nl_publish.specs.Locks.{HeldPen, MountRan, Ran, mount_reply}
@@ -29,6 +27,7 @@ use Rattle.nl_publish.specs.Mounts.{Claim}
 use Rattle.nl_mounts.specs.Sharing.{MountsCopy}
 use Rattle.nl_script.specs.FileReads.{IsToldThrough}
 use Rattle.nl_script.specs.Habits.{Habits}
+use Rattle.nl_script.specs.Rounds.{Steps}
 
 -- what lies under the lock, and the mounts that are held
 pub record Sharing : Type 0 where
@@ -111,18 +110,21 @@ abbrev pub stat_reply : Result Stat VolError → Reply
 stat_reply (Ok stat) = Ok (answer.Stat stat)
 stat_reply (Err e) = Err e
 
+-- ---- rounds of cleaning
+
 -- nothing is left of the round, and nothing is done
-abbrev pub IsRoundOver : HeldPen → JobView → Option Reply → HeldPen → JobView → Type 0
-IsRoundOver old job reply new next =
-    (next_event job old.layout ≡ None) × (reply ≡ None) × (new ≡ old) × (next ≡ job)
+abbrev pub IsRoundOver : {J : Type 0} → RoundHabits J → HeldPen → J → Option Reply → HeldPen → J → Type 0
+IsRoundOver rounds old round reply new next =
+    (rounds.next round old.layout ≡ None) × (reply ≡ None) × (new ≡ old) × (next ≡ round)
 
 -- or its next step is done
-abbrev pub IsRoundStep : HeldPen → JobView → Option Reply → HeldPen → JobView → Type 0
-IsRoundStep old job reply new next =
-    IsRoundOver old job reply new next ⊎ CleanRan cleaning_habits old job reply new next
+abbrev pub IsRoundStep : {J : Type 0} → RoundHabits J → HeldPen → J → Option Reply → HeldPen → J → Type 0
+IsRoundStep rounds old round reply new next =
+    IsRoundOver rounds old round reply new next ⊎ CleanRan rounds old round reply new next
 
-abbrev pub shared_steps : Sharing → JobView → Option Reply → Sharing → JobView → Type 0
-shared_steps old job reply new next = IsRoundStep old.held job reply new.held next × (new.mounts ≡ old.mounts)
+abbrev pub shared_steps : {J : Type 0} → RoundHabits J → Steps Sharing J
+shared_steps rounds old round reply new next =
+    IsRoundStep rounds old.held round reply new.held next × (new.mounts ≡ old.mounts)
 
 -- ---- what it tells
 
@@ -141,21 +143,22 @@ shared_measures s stat = (stat.segments ≡ length s.held.layout.store.segments.
     × (stat.clean ≡ length (clean_segments s.held.layout.store.segments))
     × (stat.dirty + stat.clean ≡ stat.segments)
 
--- a round is planned as the cleaner's own contract says
-abbrev pub shared_plans : Sharing → Config → (moment : ℕ) → JobView → Type 0
-shared_plans s config moment job = IsPlan s.held.layout config moment job
+-- a round is planned as its own contract says
+abbrev pub shared_plans : {J : Type 0} → RoundHabits J → Sharing → Config → (moment : ℕ) → J → Type 0
+shared_plans rounds s config moment round = rounds.plans s.held.layout config moment round
 
-abbrev pub shared_left : Sharing → JobView → ℕ
-shared_left s job = steps_left job s.held.layout
+abbrev pub shared_left : {J : Type 0} → RoundHabits J → Sharing → J → ℕ
+shared_left rounds s round = rounds.left round s.held.layout
 
-abbrev pub shared_habits : Habits Sharing JobView
-shared_habits = record {
+-- what a shared volume does and tells, whose rounds go on so
+abbrev pub shared_habits : {J : Type 0} → RoundHabits J → Habits Sharing J
+shared_habits rounds = record {
   does = shared_does;
   tells = shared_tells;
   needs = shared_needs;
   counts = shared_counts;
   measures = shared_measures;
-  plans = shared_plans;
-  steps = shared_steps;
-  left = shared_left;
+  plans = shared_plans rounds;
+  steps = shared_steps rounds;
+  left = shared_left rounds;
 }

@@ -1,6 +1,5 @@
 //! A shared volume as the volume of a script. One thread has its writer and its ports.
 ghost use Rattle.std.specs.Prelude.{◌≡◌, ◌<◌, IfOk, IfSome, IsOkUnless, OnSome, length, option_map};
-ghost use Rattle.nl_cleaner.specs.Job.{steps_left};
 ghost use Rattle.nl_commit.specs.Layout.{layout_of};
 ghost use Rattle.nl_commit.specs.Volume.{without_mounts};
 ghost use Rattle.nl_publish.specs.Locks.{Ran};
@@ -9,11 +8,8 @@ ghost use Rattle.nl_script.specs.FileReads.{IsPortReply};
 ghost use Rattle.nl_types.specs.declared.event.Ask.TheVariants as question;
 ghost use Rattle.nl_types.specs.declared.event.Event.TheVariants as event;
 
-use nl_cleaner::Job;
-use nl_cleaner::laws::{steps_end_rounds, unmounts_leave_rounds};
-use nl_core::Pen;
+use nl_commit::{NotingPen, Round};
 use nl_cpfile::Cpstat;
-use nl_device::Device;
 use nl_mounts::{Port, seat_all, spend_all};
 use nl_protect::Config;
 use nl_publish::{Locked, Mount, Opened, Publisher, Volumes};
@@ -24,23 +20,24 @@ use nl_types::{
     Stat, VolError,
 };
 use std::alloc::Global;
-use std::marker::Model;
+use std::marker::{Model, PhantomData};
 use std::sync::Wait;
 
 /// How many ports read files side by side.
 const READERS: usize = 4;
 
-/// A volume whose commits are published, a port of its own, and the mounts that are held. A contract sees
-/// what lies under the lock, and the mounts.
-pub struct SharedVolume<'a, D: Device, J: Volumes, R: Wait> {
+/// A volume whose commits are published, a port of its own, and the mounts that are held. Its rounds of
+/// cleaning are values of `G`. A contract sees what lies under the lock, and the mounts.
+pub struct SharedVolume<'a, P: NotingPen, G: Round<P>, J: Volumes, R: Wait> {
     rt: &'a R,
     alloc: Global,
-    locked: Locked<Pen<D>, J, Publisher>,
+    locked: Locked<P, J, Publisher>,
     port: Port<J>,
     mounts: Vec<Mount<J>>,
+    rounds: PhantomData<G>,
 }
 
-impl<'a, D: Device, J: Volumes, R: Wait> Model for SharedVolume<'a, D, J, R> {
+impl<'a, P: NotingPen, G: Round<P>, J: Volumes, R: Wait> Model for SharedVolume<'a, P, G, J, R> {
     ghost use Rattle.nl_shared.specs.SharedVolumes.{Sharing};
 
     ghost Value = { Sharing };
@@ -133,7 +130,7 @@ fn told<J: Volumes>(alloc: Global, port: &mut Port<J>, mount: &Mount<J>, ask: &A
 
 // ---- beginning and end
 
-impl<'a, D: Device, J: Volumes, R: Wait> SharedVolume<'a, D, J, R> {
+impl<'a, P: NotingPen, G: Round<P>, J: Volumes, R: Wait> SharedVolume<'a, P, G, J, R> {
     /// Shares a volume with four ports beside its own, which are handed out. `opened` has its id, and an
     /// empty history.
     ///
@@ -142,27 +139,19 @@ impl<'a, D: Device, J: Volumes, R: Wait> SharedVolume<'a, D, J, R> {
     pub fn new(
         rt: &'a R,
         alloc: Global,
-        pen: Pen<D>,
+        pen: P,
         opened: Opened,
     ) -> Result<(Self, Vec<Port<J>>), VolError>
         requires id { opened.seen.book ≡ J.book opened.id }
-        ensures begun { IfOk result (λ made. HasBegunShared opened.id pen made.0) }
+        ensures begun { IfOk result (λ made. HasBegunShared opened.id (P.layout pen) made.0) }
         ensures ports { IfOk result (λ made. length made.1.items ≡ reader_count) }
         ensures refused { IsOkUnless result VolError.Memory }
     {
-        let mut ports = match Vec::with_capacity(alloc, READERS) {
-            Ok(ports) => ports,
-            Err(_) => {
-                // By one call, as below: else each part of it would be let go for itself.
-                drop(pen);
-                return Err(VolError::Memory);
-            }
+        let Ok(mut ports) = Vec::with_capacity(alloc, READERS) else {
+            return Err(VolError::Memory);
         };
         match Locked::new(alloc, rt, pen, opened, READERS + 1) {
-            Err((refusal, pen)) => {
-                drop(pen);
-                Err(refusal)
-            }
+            Err((refusal, _pen)) => Err(refusal),
             Ok((locked, mut seats)) => {
                 let seat = seats.remove(0);
                 seat_all(&mut ports, seats);
@@ -172,6 +161,7 @@ impl<'a, D: Device, J: Volumes, R: Wait> SharedVolume<'a, D, J, R> {
                     locked,
                     port: Port::new(seat),
                     mounts: Vec::new(alloc),
+                    rounds: PhantomData,
                 };
                 Ok((volume, ports))
             }
@@ -179,8 +169,8 @@ impl<'a, D: Device, J: Volumes, R: Wait> SharedVolume<'a, D, J, R> {
     }
 
     /// Takes all mounts out, and gives the pen back. It takes no memory.
-    pub fn end(self) -> Pen<D>
-        ensures { result ≡ layout_of
+    pub fn end(self) -> P
+        ensures { P.layout result ≡ layout_of
             (without_mounts self.entry.held.layout.lists) self.entry.held.layout.store }
     {
         let SharedVolume {
@@ -189,6 +179,7 @@ impl<'a, D: Device, J: Volumes, R: Wait> SharedVolume<'a, D, J, R> {
             locked,
             port,
             mounts,
+            rounds: _,
         } = self;
         drop(port);
         spend_all(mounts);
@@ -199,25 +190,23 @@ impl<'a, D: Device, J: Volumes, R: Wait> SharedVolume<'a, D, J, R> {
 // ---- rounds of cleaning
 
 /// Does the next step of a round, where one is left.
-fn step_round<D: Device, J: Volumes, R: Wait>(
+fn step_round<P: NotingPen, G: Round<P>, J: Volumes, R: Wait>(
     rt: &R,
-    locked: &mut Locked<Pen<D>, J, Publisher>,
-    job: &mut Job,
+    locked: &mut Locked<P, J, Publisher>,
+    round: &mut G,
 ) -> Option<Reply>
-    ensures stepped { IsRoundStep locked.old job.old result locked.new job.new }
+    ensures stepped { IsRoundStep G.habits locked.old round.old result locked.new round.new }
     ensures fewer { OnSome result
-        (steps_left job.new locked.new.layout < steps_left job.old locked.old.layout) }
+        (G.habits.left round.new locked.new.layout < G.habits.left round.old locked.old.layout) }
 {
-    steps_end_rounds();
-    unmounts_leave_rounds();
     locked.means_a_world();
-    drop(job.next(locked.pen())?);
-    locked.clean_step(rt, job)
+    drop(round.next(locked.pen())?);
+    locked.clean_step(rt, round)
 }
 
 // ---- events
 
-impl<D: Device, J: Volumes, R: Wait> SharedVolume<'_, D, J, R> {
+impl<P: NotingPen, G: Round<P>, J: Volumes, R: Wait> SharedVolume<'_, P, G, J, R> {
     /// Mounts a checkpoint, and holds the mount. Its place is there before it is made.
     fn mount(&mut self, checkpoint: CheckpointNumber) -> Reply
         ensures { MountComes self.old checkpoint result self.new }
@@ -277,12 +266,13 @@ impl<D: Device, J: Volumes, R: Wait> SharedVolume<'_, D, J, R> {
     }
 }
 
-impl<D: Device, J: Volumes + Send + Sync, R: Wait> Volume for SharedVolume<'_, D, J, R> {
-    type Job = Job;
+impl<P: NotingPen, G: Round<P>, J: Volumes + Send + Sync, R: Wait> Volume
+    for SharedVolume<'_, P, G, J, R> {
+    type Job = G;
 
     type Book = J;
 
-    ghost habits = { shared_habits };
+    ghost habits = { shared_habits G.habits };
 
     fn apply(&mut self, event: &Event) -> Reply {
         match event {
@@ -314,11 +304,11 @@ impl<D: Device, J: Volumes + Send + Sync, R: Wait> Volume for SharedVolume<'_, D
         self.locked.cpstat()
     }
 
-    fn plan(&self, alloc: Global, config: &Config, now: u64) -> Result<Job, VolError> {
+    fn plan(&self, alloc: Global, config: &Config, now: u64) -> Result<G, VolError> {
         self.locked.plan(alloc, config, now)
     }
 
-    fn clean_step(&mut self, job: &mut Job) -> Option<Reply> {
+    fn clean_step(&mut self, job: &mut G) -> Option<Reply> {
         step_round(self.rt, &mut self.locked, job)
     }
 }

@@ -7,7 +7,7 @@ use crate::volumes::volume;
 use nl_core::{Commit, Cpstat};
 use nl_publish::{Entry, Image, Locked, Mount, NotingPen, Opened, Press, Volumes, publish};
 use nl_sufile::SegTable;
-use nl_types::{Answer, CheckpointNumber, Event, Mode, Reply, Segment, VolError};
+use nl_types::{Answer, Ask, CheckpointNumber, Event, Mode, Reply, Segment, VolError};
 use std::alloc::Global;
 use std::marker::Brand;
 use std::mem::replace;
@@ -113,6 +113,10 @@ impl<P: NotingPen> NotingPen for RefusingPen<P> {
 
     fn cpstat(&self) -> Cpstat {
         self.pen.cpstat()
+    }
+
+    fn read_at(&self, number: CheckpointNumber, ask: &Ask) -> Reply {
+        self.pen.read_at(number, ask)
     }
 }
 

@@ -2,7 +2,7 @@
 use Rattle.std.proofs.Common.{◌≡◌, ◌≢◌, ℕ, ◌+◌, ◌<◌, ◌≤◌, ◌⊎◌, Bool, true, false, cond, not, List, [], ◌∷◌, ◌++◌}
 use Rattle.std.proofs.Common.{refl, sym, ap, ◌∙◌, subst, inl, inr, arith}
 use Rattle.std.specs.Prelude.{map, Option, Some, None, Ok, Err, ◌||◌, nat_le}
-use Rattle.std.specs.Option.{ok_or}
+use Rattle.std.specs.Option.{ok_or, option_map}
 use Rattle.std.specs.List.{AllZip}
 use Rattle.std.specs.Ordering.{nat_cmp, eq_by_cmp}
 use Rattle.std.specs.FinMap.{find}
@@ -34,7 +34,7 @@ use Rattle.nl_tree.specs.Reading.{HoldingMeans}
 use Rattle.nl_files.specs.CheckpointTrees.{HoldsTree}
 use Rattle.nl_cpfile.specs.Tables.{by_number, checkpoint_root}
 use Rattle.nl_commit.specs.Volume.{Lists, kept_by, latest_root, mount_of, with_change, with_mount}
-use Rattle.nl_commit.specs.Means.{CopyMeans, StepsWorldsOver, StepsWorld, Means}
+use Rattle.nl_commit.specs.Means.{CopyMeans, Means, ReadsCopyOver, StepsWorld, StepsWorldsOver, copy_read}
 use Rattle.nl_cpfile.specs.declared.checkpoint.Checkpoint.{Checkpoint}
 
 -- ---- checkpoints and mounts by number
@@ -288,6 +288,33 @@ mount-follows pages l n c found snapshot left = λ cleaned w m.
     ∙ cond-false _ _ _ (lt-leb mount_number_limit (w.given + 1) (omega (arith, given, left)))
     ∙ ap (λ g. let o : Outcome = (Ok (answer.Mount g), next g) in o) given)
 
+-- ---- reads of kept checkpoints
+
+copy_read-found : (w : World) (n : ℕ) (a : Ask) (o : Option Copy) → copy_at w n ≡ o
+    → copy_read w n a ≡ and_then (ok_or o error.NoCheckpoint) (λ copy. reply_to copy.tree a)
+copy_read-found w n a o is =
+    ap (λ x. and_then (ok_or x error.NoCheckpoint) (λ copy. reply_to copy.tree a)) is
+
+-- there is no such checkpoint
+pub gone_copy_read-answers : (pages : Pages) (l : Lists) (n : ℕ) (a : Ask)
+    → find nat_cmp n (map by_number (kept_by l)) ≡ None
+    → ReadsCopyOver pages l n a (Err error.NoCheckpoint)
+gone_copy_read-answers pages l n a none = λ w m.
+    inl (sym (copy_read-found w n a None (copy_of pages l w n None m none)))
+
+-- what the tree of a kept checkpoint answers
+pub copy_read-answers : (pages : Pages) (l : Lists) (n : ℕ) (c : Checkpoint) (a : Ask) (reply : Reply)
+    → find nat_cmp n (map by_number (kept_by l)) ≡ Some c
+    → ((held : Holding) (tree : Tree) → HoldsTree pages (root_of (checkpoint_root c)) held
+    → HoldingMeans held tree
+    → IsReadReply a reply (reply_to tree a))
+    → ReadsCopyOver pages l n a reply
+copy_read-answers pages l n c a reply kept is = λ w m.
+    let copy = copy_of pages l w n (Some c) m kept in
+    subst (λ (expected : Reply). IsReadReply a reply expected)
+    (sym (copy_read-found w n a (Some copy.0) copy.1))
+    (is copy.2.tree.held copy.0.tree copy.2.tree.holds copy.2.tree.means)
+
 -- ---- reads of mounts
 
 -- the world's mounts are the pen's
@@ -305,28 +332,24 @@ mount_read-found w mount n a o found is =
     found
     ∙ ap (λ x. and_then (ok_or x error.BadMount) (λ copy. reply_to copy.tree a)) is
 
--- its checkpoint is not kept, which never comes
-pub gone_mount_read-follows : (pages : Pages) (l : Lists) (mount n : ℕ) (a : Ask)
-    → find nat_cmp mount (map mount_of l.mounts) ≡ Some n
-    → find nat_cmp n (map by_number (kept_by l)) ≡ None
-    → StepsWorldsOver pages l (MountRead mount a) (Err error.BadMount) l
-gone_mount_read-follows pages l mount n a found none = λ cleaned w m.
-    keeps cleaned w (MountRead mount a) (Err error.BadMount) pages l m
-    (ap (λ r. (r, w))
-    (mount_read-found w mount n a None (mount_at pages l w mount (Some n) m found)
-    (copy_of pages l w n None m none)))
+-- a mounted copy is kept, so that a mount answers what its copy does
+mount_read-kept : (w : World) (mount n : ℕ) (a : Ask) (o : Option Copy) → IsWorld w
+    → find nat_cmp mount w.mounts ≡ Some n → copy_at w n ≡ o
+    → mount_read w mount a ≡ copy_read w n a
+mount_read-kept w mount n a (Some copy) world found is =
+    mount_read-found w mount n a (Some copy) found is ∙ sym (copy_read-found w n a (Some copy) is)
+mount_read-kept w mount n a None world found is =
+    let no : ◌≡◌ {A = Option Mode} None (Some Snapshot) =
+    ap (option_map (λ (copy : Copy). copy.mode)) (sym is) ∙ world.mounted mount n found in
+    cc
 
 -- what the tree of a mounted checkpoint answers
-pub mount_read-follows : (pages : Pages) (l : Lists) (mount n : ℕ) (c : Checkpoint) (a : Ask) (reply : Reply)
+pub mount_read-follows : (pages : Pages) (l : Lists) (mount n : ℕ) (a : Ask) (reply : Reply)
     → find nat_cmp mount (map mount_of l.mounts) ≡ Some n
-    → find nat_cmp n (map by_number (kept_by l)) ≡ Some c
-    → ((held : Holding) (tree : Tree) → HoldsTree pages (root_of (checkpoint_root c)) held
-    → HoldingMeans held tree
-    → IsReadReply a reply (reply_to tree a))
+    → ReadsCopyOver pages l n a reply
     → StepsWorldsOver pages l (MountRead mount a) reply l
-mount_read-follows pages l mount n c a reply mounted kept is = λ cleaned w m.
-    let copy = copy_of pages l w n (Some c) m kept in
-    read-answers cleaned w (MountRead mount a) a reply (reply_to copy.0.tree a) pages l m (λ takes. takes)
+mount_read-follows pages l mount n a reply mounted is = λ cleaned w m.
+    read-answers cleaned w (MountRead mount a) a reply (copy_read w n a) pages l m (λ takes. takes)
     (ap (λ r. (r, w))
-    (mount_read-found w mount n a (Some copy.0) (mount_at pages l w mount (Some n) m mounted) copy.1))
-    (is copy.2.tree.held copy.0.tree copy.2.tree.holds copy.2.tree.means)
+    (mount_read-kept w mount n a (copy_at w n) m.world (mount_at pages l w mount (Some n) m mounted) refl))
+    (is w m)

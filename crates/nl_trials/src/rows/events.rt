@@ -87,13 +87,18 @@ fn ask_of(alloc: Global, words: &[&str]) -> Result<Option<Ask>, AllocError> {
     }))
 }
 
+/// The question behind a word and a number.
+pub(crate) fn ask_behind(alloc: Global, words: &[&str]) -> Result<Option<Ask>, AllocError> {
+    ask_of(alloc, words.get(2..).unwrap_or_default())
+}
+
 /// A question about the current tree, or `mounted NUMBER` and one about a mount's.
 fn question_of(alloc: Global, words: &[&str]) -> Result<Option<Event>, AllocError> {
     if word_at(words, 0) != "mounted" {
         return Ok(ask_of(alloc, words)?.map(Event::Read));
     }
     let mount = MountNumber::new(number_at(words, 1));
-    match ask_of(alloc, words.get(2..).unwrap_or_default())? {
+    match ask_behind(alloc, words)? {
         Some(ask) => Ok(Some(Event::MountRead(mount, ask))),
         None => Ok(None),
     }

@@ -3,7 +3,7 @@
 use crate::looks::look_at_pen;
 use crate::rows::again::{Alone, Tally, Volume, reply_again};
 use crate::rows::answers::{add_counted, add_number, add_refusal, add_word, reply_text};
-use crate::rows::events::event_of;
+use crate::rows::events::{ask_behind, event_of};
 use crate::rows::images::{closes, image_size};
 use crate::rows::ports::Ported;
 use crate::rows::questions::{add_asked, described};
@@ -13,7 +13,7 @@ use nl_core::Pen;
 use nl_device::FaultDevice;
 use nl_lib::{Cleaned, clean_segments, get_suinfo, sync};
 use nl_publish::Volumes;
-use nl_types::{Answer, Event, Mode, Reply, Segment, VolError};
+use nl_types::{Answer, CheckpointNumber, Event, Mode, Reply, Segment, VolError};
 use std::alloc::Global;
 use std::io;
 use std::sync::Wait;
@@ -157,6 +157,25 @@ fn do_cleaning<J: Volumes, R: Wait>(
 
 // ---- questions
 
+/// Asks the tree of a kept checkpoint: `kept NUMBER`, and a question about a tree.
+fn do_kept<J: Volumes, R: Wait>(
+    alloc: Global,
+    alone: &Alone,
+    ported: &Ported<'_, J, R>,
+    words: &[&str],
+    out: &mut Vec<u8>,
+) -> io::Result<()> {
+    let number = CheckpointNumber::new(number_at(words, 1));
+    match ask_behind(alloc, words)? {
+        Some(ask) => {
+            let one = alone.pen.read_at(number, &ask);
+            let other = ported.shared.read_at(ported.rt, number, &ask);
+            add_replies(alloc, &one, &other, out)
+        }
+        None => add_line(out, b"unknown"),
+    }
+}
+
 /// Adds a word and a count, or a refusal.
 fn add_count(text: &mut Vec<u8>, word: &str, told: Result<usize, VolError>) -> io::Result<()> {
     match told {
@@ -229,6 +248,7 @@ fn do_words<J: Volumes, R: Wait>(
         "sync" => do_sync(alloc, alone, ported, number_at(words, 1), out),
         "clean" => do_cleaning(alloc, alone, ported, words, out),
         "round" => do_round(alloc, alone, ported, tally, out),
+        "kept" if words.len() > 2 => do_kept(alloc, alone, ported, words, out),
         _ => match event_of(alloc, words)? {
             Some(event) => do_event(alloc, alone, ported, &event, tally, out),
             None => do_question(alloc, alone, ported, words, tally, out),

@@ -3,7 +3,7 @@ use Rattle.nl_shared.proofs.ToldSegments.{told-each, told-needed}
 use Rattle.nl_shared.proofs.laws.volumes_tell_of_segments.Goals as goal
 
 pub returns : goal.returns
-returns c long s error (stat, measured, below) =
+returns g c long s error (stat, measured, below) =
     let layout = s.held.layout in
     let within : below.0 < length layout.store.segments.each =
     subst (λ (n : ℕ). below.0 < n) measured.0 below.1 in

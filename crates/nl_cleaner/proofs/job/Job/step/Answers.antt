@@ -1,7 +1,7 @@
 use Rattle.std.proofs.Common.{sym}
 use Rattle.nl_commit.specs.Layout.{Layout}
 use Rattle.nl_cleaner.specs.Job.{JobView, Stepped}
-use Rattle.nl_cleaner.proofs.StepsLeft.{fewer-left}
+use Rattle.nl_cleaner.specs.Facts.StepsLeft.{fewer-left}
 use Rattle.nl_cleaner.proofs.job.Job.step.Goals as goal
 
 pub returns : goal.returns

@@ -1,8 +1,8 @@
 -- Files of the system.
 use Rattle.std.specs.Prelude.{◌≡◌, ◌⊎◌}
 use Rattle.nl_types.specs.declared.error.VolError.TheVariants.{Memory}
-use Rattle.nl_script.specs.declared.files.FileFault.{FileFault}
-use Rattle.nl_script.specs.declared.files.FileFault.TheVariants.{Unread, Refused}
+use Rattle.nl_saving.specs.declared.files.FileFault.{FileFault}
+use Rattle.nl_saving.specs.declared.files.FileFault.TheVariants.{Unread, Refused}
 
 -- a file isn't read, or there is no memory for what it holds
 abbrev pub IsUnread : FileFault → Type 0

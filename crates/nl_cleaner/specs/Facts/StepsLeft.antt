@@ -1,10 +1,11 @@
 -- Each step of a round leaves fewer.
-use Rattle.std.proofs.Common.{◌≡◌, ◌≢◌, ℕ, ◌+◌, ◌*◌, ◌-◌, ◌<◌, ◌≤◌, ◌==◌, Bool, true, false, cond, List, [], ◌∷◌, length, Option, Some, None, Ok, Err, refl, sym, ap, subst, ◌∙◌, true≢false, arith}
+use Rattle.std.proofs.Common.{◌≡◌, ◌≢◌, ℕ, zero, suc, ◌+◌, ◌*◌, ◌-◌, ◌<◌, ◌≤◌, ◌==◌, Bool, true, false, cond, List, [], ◌∷◌, length, Option, Some, None, Ok, Err, refl, sym, ap, subst, ◌∙◌, true≢false, arith}
 use Rattle.std.specs.Prelude.{IsOk, slice_get}
 use Rattle.std.proofs.lemmas.List.{length-drop}
 use Rattle.std.proofs.lemmas.Bool.{eq-eqb}
 use Rattle.std.proofs.lemmas.Option.{get_or_from_slice_get}
 use Rattle.nl_types.specs.declared.error.VolError.{VolError}
+use Rattle.nl_types.specs.declared.error.VolError.TheVariants.{Memory}
 use Rattle.nl_types.specs.declared.event.Event.{Event}
 use Rattle.nl_types.specs.declared.event.Event.TheVariants.{Move, Retire}
 use Rattle.nl_types.specs.declared.reply.Answer.{Answer}
@@ -12,7 +13,7 @@ use Rattle.nl_types.specs.declared.segment.SegmentInfo.{SegmentInfo}
 use Rattle.nl_types.specs.declared.segment.SegmentState.TheVariants.{Active, Clean, Dirty, Error}
 use Rattle.nl_types.specs.Segments.{IsClosed, Segments, clean_info, is_closed}
 use Rattle.nl_types.specs.Worlds.{Reply}
-use Rattle.nl_vstore.specs.Located.{needed_at, needed_count}
+use Rattle.nl_vstore.specs.Located.{needed_at, needed_count, onto, picked}
 use Rattle.nl_reclaim.specs.Cleaning.{judged_segment, judged_by, judged_info}
 use Rattle.nl_reclaim.specs.Moves.{needed_now}
 use Rattle.nl_reclaim.specs.Facts.Moves.{move-takes-first}
@@ -20,20 +21,29 @@ use Rattle.nl_core.specs.CleanedPens.{kept_store}
 use Rattle.nl_commit.specs.CleanerViews.{cleaning_event}
 use Rattle.nl_commit.specs.CleaningEvents.{needed_by}
 use Rattle.nl_commit.specs.Layout.{AllowedBetween, Does, IsPen, Layout, layout_of}
+use Rattle.nl_commit.specs.Rounds.{RoundsEnd}
 use Rattle.nl_commit.specs.Volume.{without_mount}
 use Rattle.nl_protect.specs.Rounds.{ends_round}
 use Rattle.nl_cleaner.specs.Job.{Cleaning, Ended, Expiring, JobView, Stepped, job_after_answer, at_stage, cleaning_left, first_done, left_by, next_by, next_cleaning, next_event, job_after_reply, noted_by, steps_left}
 use Rattle.nl_cleaner.specs.declared.job.Stage.{Stage}
 use Rattle.nl_cleaner.specs.Laws.{StepsEndRounds, UnmountsLeaveRounds}
-use Rattle.nl_cleaner.proofs.ByCounts.{picked-few}
-use Rattle.nl_cleaner.proofs.CleanRuns.{move-is}
-use Rattle.nl_cleaner.proofs.Rounds.{cleaning, none-some, some-is}
+use Rattle.nl_cleaner.specs.Rounds.{cleaning_habits}
+use Rattle.nl_cleaner.specs.Facts.RoundEvents.{cleaning, move-is, none-some, some-is}
 
 -- how many numbers are needed whose pages stand in the segment
 abbrev needed_of : Layout → ℕ → ℕ
 needed_of l segment = needed_count l.store (needed_by l.lists) segment
 
 -- ---- no segment has more of them than blocks
+
+-- so many blocks have no more among them
+pub picked-few : (f : ℕ → Option ℕ) (b n : ℕ) → length (picked f b n) ≤ n
+picked-few f b zero = omega arith
+picked-few f b (suc n) = by (f b) (picked-few f (suc b) n)
+  where
+    by : (o : Option ℕ) → length (picked f (suc b) n) ≤ n → length (onto o (picked f (suc b) n)) ≤ suc n
+    by None few = omega (arith, few)
+    by (Some v) few = omega (arith, few)
 
 needed-few : (l : Layout) (segment : ℕ) → IsPen l → needed_of l segment ≤ 2048
 needed-few l segment held =
@@ -210,3 +220,24 @@ pub unmounts-leave-rounds : UnmountsLeaveRounds
 unmounts-leave-rounds old new job m (Ok answer) held does =
     ap (λ (l : Layout). steps_left job l) does.becomes ∙ given-back job.stage job m old
 unmounts-leave-rounds old new job m (Err e) held does = ap (λ (l : Layout). steps_left job l) does.becomes
+
+-- ---- rounds as a shared volume knows them
+
+-- a refusal for want of memory ends a round that goes on
+memory-ends : (stage : Stage) (job : JobView) (l : Layout) (event : Event) → next_by stage job l ≡ Some event
+    → steps_left (noted_by stage job (Err Memory)) l < left_by stage job l
+memory-ends Expiring job l event next = omega arith
+memory-ends Cleaning job l event next = by job.left next
+  where
+    by : (left : List ℕ) → next_cleaning left job.moment l ≡ Some event → 0 < cleaning_left left l
+    by [] none = absurd (none-some event none)
+    by (segment ∷ rest) some = omega arith
+memory-ends Ended job l event next = absurd (none-some event next)
+
+pub rounds-end : RoundsEnd cleaning_habits
+rounds-end = record {
+  steps = λ old new job event reply pen next does.
+      each-fewer (job, old) (job_after_reply job reply, new) event reply pen next does refl;
+  refusals = λ pen job event next. memory-ends job.stage job pen event next;
+  unmounts = λ old new job m reply pen does. unmounts-leave-rounds old new job m reply pen does;
+}

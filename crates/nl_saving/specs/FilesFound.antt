@@ -2,9 +2,9 @@
 use Rattle.std.specs.Prelude.{◌≡◌, Option, None, Some}
 use Rattle.std.specs.Fs.{IsFile, file_type, metadata_len}
 use Rattle.std.specs.declared.fs.attrs.Metadata.{Metadata}
-use Rattle.nl_script.specs.declared.standing.FileState.{FileState}
-use Rattle.nl_script.specs.declared.standing.Found.{Found}
-use Rattle.nl_script.specs.declared.standing.Found.TheVariants.{Nothing, Regular, Other}
+use Rattle.nl_saving.specs.declared.standing.FileState.{FileState}
+use Rattle.nl_saving.specs.declared.standing.Found.{Found}
+use Rattle.nl_saving.specs.declared.standing.Found.TheVariants.{Nothing, Regular, Other}
 
 -- nothing, a regular file of this size, or anything else
 abbrev pub IsFoundOf : Option Metadata → Found → Type 0

@@ -1,7 +1,7 @@
 //! What stands at a path, and where its links lead to. What the system tells is known to no contract.
 ghost use Rattle.std.specs.Prelude.{◌≡◌, ◌↔◌, IsTrue, option_map};
 ghost use Rattle.std.specs.Fs.{metadata_len};
-ghost use Rattle.nl_script.specs.FilesFound.{AreOneFile, IsFoundOf};
+ghost use Rattle.nl_saving.specs.FilesFound.{AreOneFile, IsFoundOf};
 
 use std::fs::Metadata;
 use std::io::ErrorKind;

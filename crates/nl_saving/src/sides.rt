@@ -1,10 +1,11 @@
 //! New files beside the ones that they are to replace.
 ghost use Rattle.std.specs.Prelude.{◌≡◌, ◌<◌, ◌≤◌, IfOk, length, string_bytes};
-ghost use Rattle.nl_script.specs.SideNames.{IsSideName, kept_bits};
+ghost use Rattle.nl_saving.specs.SideNames.{IsSideName, kept_bits};
 
+use crate::sparse::write_sparse;
 use std::alloc::{AllocError, Global};
 use std::fs::{File, Metadata, OpenOptions};
-use std::io::{ErrorKind, Write};
+use std::io::ErrorKind;
 use std::os::unix::fs::{MetadataExt, OpenOptionsExt, PermissionsExt, fchown};
 use std::path::{Path, PathBuf};
 use std::rt::Files;
@@ -126,9 +127,9 @@ impl Side {
         self.file.set_permissions(PermissionsExt::from_mode(mode))
     }
 
-    /// Writes and stores it whole, and gives it what an old file had.
+    /// Writes it, with holes for zeros, stores it whole, and gives it what an old file had.
     pub fn fill(&mut self, old: Option<&Metadata>, bytes: &[u8]) -> io::Result<()> {
-        self.file.write_all(bytes)?;
+        write_sparse(&mut self.file, bytes)?;
         if let Some(old) = old {
             self.give_mode(old)?;
         }

@@ -1,6 +1,6 @@
 //! Files of the system, each read whole. What they hold is known to no contract.
 ghost use Rattle.std.specs.Prelude.{◌≡◌, ◌⊎◌, IfErr, IfOk, IfSome};
-ghost use Rattle.nl_script.specs.Files.{IsUnread};
+ghost use Rattle.nl_saving.specs.Files.{IsUnread};
 
 use nl_types::VolError;
 use std::alloc::Global;

@@ -1,7 +1,7 @@
 use Rattle.std.proofs.Common.{◌≡◌, ◌∙◌, ◌++◌, IfOk, List, ap, arith, codes, decimal, string_bytes, take, ℕ}
 use Rattle.std.proofs.lemmas.Result.{IfOk-weaker}
-use Rattle.nl_script.proofs.SideNamesFit.{side_fits}
-use Rattle.nl_script.proofs.sides.side_name.Goals as goal
+use Rattle.nl_saving.proofs.SideNamesFit.{side_fits}
+use Rattle.nl_saving.proofs.sides.side_name.Goals as goal
 
 pub written : (c : goal.After-format) → IfOk c.format.result (λ side. string_bytes side
     ≡ codes "." ++ (take c.floor_char_boundary.result c.args.name.now

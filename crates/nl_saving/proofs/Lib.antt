@@ -1,0 +1,3 @@
+mod SideNamesFit
+pub mod WrittenParts
+pub mod UnitBounds

@@ -1,0 +1,5 @@
+pub mod Files
+pub mod FilesFound
+pub mod SideNames
+pub mod Extents
+pub mod SparseFiles
