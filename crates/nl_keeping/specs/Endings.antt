@@ -7,8 +7,8 @@ use Rattle.nl_types.specs.declared.event.Mode.TheVariants.{Plain}
 use Rattle.nl_types.specs.declared.reply.Answer.{Answer}
 use Rattle.nl_commit.specs.Layout.{Does, IsPen, Layout, unshared}
 use Rattle.nl_core.specs.PenImages.{CanBeClosed, IsPenImage}
-use Rattle.nl_script.specs.Scripts.{exit_status}
-use Rattle.nl_script.specs.declared.scripts.Done.{Done}
+use Rattle.nl_texts.specs.Ends.{exit_status}
+use Rattle.nl_texts.specs.declared.ends.Done.{Done}
 use Rattle.nl_texts.specs.RefusalTexts.{changed_text, save_text, unwritten_text}
 use Rattle.nl_texts.specs.Texts.{Text}
 use Rattle.nl_keeping.specs.Telling.{Errors, Tells, failure_text}

@@ -15,7 +15,7 @@ use Rattle.nl_script.specs.Habits.{Habits}
 use Rattle.nl_script.specs.Lines.{IsLineAnswered, LineEnd}
 use Rattle.nl_script.specs.Scripts.{AreLinesDone, AreWritten, BeginsSo, BeginsWithLines, IsRunSoFar, IsScriptDone, ends_misread, ends_refused, last_moment, number_behind, text_of_line, texts_of}
 use Rattle.nl_script.specs.Private.Turns.{HasDoneLine, HasNoLine, HasStopped, IsNextLine}
-use Rattle.nl_script.specs.declared.scripts.Done.{Done}
+use Rattle.nl_texts.specs.declared.ends.Done.{Done}
 use Rattle.nl_script.proofs.ScriptLines.{AreLinesDone-more, BeginsWithLines-more, last_moment-more}
 
 or-false : (b : Bool) → (b || false) ≡ b

@@ -1,5 +1,5 @@
 -- What a whole script does.
-use Rattle.std.specs.Prelude.{◌≡◌, ◌+◌, ◌-◌, ◌^◌, ◌<◌, ◌||◌, if◌then◌else◌, min, ℕ, Bool, true, false, List, [], ◌∷◌, ◌++◌, length, Option, None, Some, is_some, IfSome}
+use Rattle.std.specs.Prelude.{◌≡◌, ◌+◌, ◌-◌, ◌^◌, ◌<◌, min, ℕ, Bool, true, false, List, [], ◌∷◌, ◌++◌, length, Option, None, Some, IfSome}
 use Rattle.std.specs.Io.BufRead.{first_piece, drop_through}
 use Rattle.std.specs.Io.KnownBytes.{Appends}
 use Rattle.std.specs.List.{list_any, flat_map}
@@ -10,7 +10,7 @@ use Rattle.nl_texts.specs.declared.streams.StandardStream.TheVariants.{Input, Ou
 use Rattle.nl_protect.specs.declared.config.Config.{Config}
 use Rattle.nl_script.specs.Habits.{Habits}
 use Rattle.nl_script.specs.Lines.{IsLineAnswered, LineEnd}
-use Rattle.nl_script.specs.declared.scripts.Done.{Done}
+use Rattle.nl_texts.specs.declared.ends.Done.{Done}
 use Rattle.nl_script.specs.declared.status.Status.{Status}
 use Rattle.nl_script.specs.declared.status.Status.TheVariants.{Refused, Misread}
 
@@ -115,7 +115,3 @@ pub record IsScriptDone {S J O : Type 0} (habits : Habits S J) (config : Config)
   pub written : AreWritten done.failed contents before after ends
   pub read : IfSome input
       (λ bytes. (rest : List ℕ) × BeginsWithLines bytes lines rest × (done.failed ≡ None → rest ≡ []))
-
--- what the process ends with
-abbrev pub exit_status : Done → ℕ
-exit_status done = if done.misread then 2 else if done.refused || is_some done.failed then 1 else 0

@@ -23,7 +23,7 @@ pub use lines::run_line;
 pub use readers::{Readers, is_bad_mount, reply_of};
 pub use rounds::RoundSum;
 pub use running::run_events;
-pub use scripts::{Done, script};
+pub use scripts::script;
 pub use status::{LineResult, Status};
 pub use telling::tell_all;
 pub use volume::Volume;

@@ -3,7 +3,7 @@ ghost use Rattle.std.specs.Prelude.{◌≡◌, ◌⊎◌, ◌||◌, None, Some, 
 ghost use Rattle.std.specs.Io.KnownBytes.{Appends};
 ghost use Rattle.nl_texts.specs.RefusalTexts.{refusal_text};
 ghost use Rattle.nl_script.specs.Lines.{ComesTo, IsLineDone, LineEnd, refused};
-ghost use Rattle.nl_script.specs.Scripts.{IsScriptDone, exit_status, is_misread_status, is_refused_status};
+ghost use Rattle.nl_script.specs.Scripts.{IsScriptDone, is_misread_status, is_refused_status};
 ghost use Rattle.nl_script.specs.Private.Turns.{HasDoneLine, HasStopped, IsCounted};
 
 use crate::lines::run_line;
@@ -13,66 +13,37 @@ use crate::status::{LineResult, Status};
 use crate::volume::Volume;
 use nl_lanes::FileReader;
 use nl_protect::Config;
-use nl_texts::{self as texts, StandardStream};
+use nl_texts::{self as texts, Done, StandardStream};
 use nl_types::VolError;
 use std::alloc::Global;
 use std::io;
 use std::io::{BufRead, Write};
 use std::thread::Threads;
 
-/// How a script went.
-#[derive(Clone, Copy)]
-pub struct Done {
-    /// The moment that the last `at` set, in whole seconds.
-    pub moment: u64,
-    /// A line was no command.
-    pub misread: bool,
-    /// A line was refused.
-    pub refused: bool,
-    /// The stream that failed, and so ended the script.
-    pub failed: Option<StandardStream>,
+fn count(done: &mut Done, status: Status)
+    ensures moment { done.new.moment ≡ done.old.moment }
+    ensures misread { done.new.misread ≡ (done.old.misread || is_misread_status status) }
+    ensures refused { done.new.refused ≡ (done.old.refused || is_refused_status status) }
+    ensures failed { done.new.failed ≡ done.old.failed }
+{
+    match status {
+        Status::Fine => (),
+        Status::Refused => done.refused = true,
+        Status::Misread => done.misread = true,
+    }
 }
 
-impl Done {
-    /// What the process ends with: 2 where a line was no command, else 1 where one was refused or a stream
-    /// failed, else 0.
-    pub fn exit_status(self) -> u8
-        ensures { result ≡ exit_status self }
-    {
-        if self.misread {
-            2
-        } else if self.refused || self.failed.is_some() {
-            1
-        } else {
-            0
-        }
+/// Counts whether a line was told. Returns whether the script goes on.
+fn goes_on(done: &mut Done, is_told: bool) -> bool
+    ensures same { result ≡ is_told }
+    ensures done { done.new ≡ record done.old {
+      failed = if is_told then done.old.failed else Some StandardStream.Output;
+    } }
+{
+    if !is_told {
+        done.failed = Some(StandardStream::Output);
     }
-
-    fn count(&mut self, status: Status)
-        ensures moment { self.new.moment ≡ self.old.moment }
-        ensures misread { self.new.misread ≡ (self.old.misread || is_misread_status status) }
-        ensures refused { self.new.refused ≡ (self.old.refused || is_refused_status status) }
-        ensures failed { self.new.failed ≡ self.old.failed }
-    {
-        match status {
-            Status::Fine => (),
-            Status::Refused => self.refused = true,
-            Status::Misread => self.misread = true,
-        }
-    }
-
-    /// Counts whether a line was told. Returns whether the script goes on.
-    fn goes_on(&mut self, is_told: bool) -> bool
-        ensures same { result ≡ is_told }
-        ensures done { self.new ≡ record self.old {
-          failed = if is_told then self.old.failed else Some StandardStream.Output;
-        } }
-    {
-        if !is_told {
-            self.failed = Some(StandardStream::Output);
-        }
-        is_told
-    }
+    is_told
 }
 
 /// Runs a line, and hands on at once what is told of it.
@@ -125,8 +96,8 @@ fn run_counted<V: Volume, P: FileReader<V::Book> + Send, R: Threads + Sync, W: W
         out,
     );
     done.moment = moment;
-    done.count(status);
-    done.goes_on(told.is_ok())
+    count(done, status);
+    goes_on(done, told.is_ok())
 }
 
 /// Tells that there is no memory for a line, and hands it on at once.
@@ -144,8 +115,8 @@ fn refuse_counted<W: Write>(done: &mut Done, number: u64, out: &mut W) -> bool
         (W.contents out.old) (W.contents out.new) }
 {
     let told = refuse(number, out);
-    done.count(Status::Refused);
-    done.goes_on(told.is_ok())
+    count(done, Status::Refused);
+    goes_on(done, told.is_ok())
 }
 
 /// Does the next line, and counts it. Returns whether the script goes on.

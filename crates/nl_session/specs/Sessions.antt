@@ -16,7 +16,7 @@ use Rattle.nl_texts.specs.declared.streams.StandardStream.TheVariants.{Output}
 use Rattle.nl_protect.specs.declared.config.Config.{Config}
 use Rattle.nl_script.specs.Configurations.{ConfigurationRead, IsConfigured}
 use Rattle.nl_script.specs.Scripts.{IsScriptDone}
-use Rattle.nl_script.specs.declared.scripts.Done.{Done}
+use Rattle.nl_texts.specs.declared.ends.Done.{Done}
 use Rattle.nl_commit.specs.Layout.{Layout, layout_of}
 use Rattle.nl_commit.specs.Volume.{without_mounts}
 use Rattle.nl_cleaner.specs.Rounds.{cleaning_habits}

@@ -4,4 +4,5 @@ pub mod SegmentLines
 pub mod RefusalTexts
 pub mod AnswerTexts
 pub mod StreamTexts
+pub mod Ends
 pub mod Facts

@@ -11,7 +11,7 @@ use Rattle.nl_script.specs.Lines.{IsLineAnswered, LineEnd}
 use Rattle.nl_script.specs.Scripts.{ends_misread, ends_refused}
 use Rattle.nl_script.specs.declared.reading.Next.{Next}
 use Rattle.nl_script.specs.declared.reading.Next.TheVariants.{Line, Unheld, End, Unread}
-use Rattle.nl_script.specs.declared.scripts.Done.{Done}
+use Rattle.nl_texts.specs.declared.ends.Done.{Done}
 
 -- the input, where it is known, begins with this line, and what is left is what lies behind its line feed
 pub record IsNextLine (input left : Option Text) (line : List ℕ) : Type 0 where
