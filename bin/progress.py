@@ -1,7 +1,7 @@
 #!/usr/bin/env python3
-"""Tells of each crate that `rt ci` is done with, and what is left: reads what that prints, and keeps it.
+"""Tells of each crate that runs of `rt ci` are done with, and what is left: reads what they print.
 
-usage: rt ci | bin/progress.py NAME LOG CRATE..
+usage: rt ci | bin/progress.py NAME PROCESSORS CRATE..
 
 The minutes to go are those of tests/budget for what is left, on this machine's processors, at the pace of what
 was proved so far.
@@ -55,23 +55,27 @@ def minutes(seconds):
 
 
 def main():
-    name, log, lanes, *crates = sys.argv[1:]
+    name, lanes, *crates = sys.argv[1:]
     forecast = Forecast(crates, int(lanes))
 
     def tell(text):
         print(f"{name}: {text}", file=sys.stderr, flush=True)
 
     tell(f"{len(crates)} crates to prove: some {minutes(forecast.to_go())} with nothing beside, less what is kept")
-    with open(log, "a", encoding="utf-8") as kept:
-        for line in sys.stdin:
-            kept.write(line)
-            found = re.match(r"rt: (\w+) (proved$|is kept: )", line)
-            if found and found[1] in forecast.seconds and found[1] not in forecast.done:
-                forecast.add(found[1], found[2] != "proved")
-                tell(
-                    f"{found[1]} is proved ({len(forecast.done)} of {len(crates)}; "
-                    f"{minutes(forecast.gone())} gone, some {minutes(forecast.to_go())} to go)"
-                )
+    # What one run waits for is proved by the other one.
+    waited_for = set()
+    for line in sys.stdin:
+        found = re.match(r"rt: (\w+)( proved$| is kept: |: another run )", line)
+        if not found or found[1] not in forecast.seconds or found[1] in forecast.done:
+            continue
+        if found[2].startswith(":"):
+            waited_for.add(found[1])
+            continue
+        forecast.add(found[1], found[2] != " proved" and found[1] not in waited_for)
+        tell(
+            f"{found[1]} is proved ({len(forecast.done)} of {len(crates)}; "
+            f"{minutes(forecast.gone())} gone, some {minutes(forecast.to_go())} to go)"
+        )
 
 
 if __name__ == "__main__":
