@@ -1,0 +1,9 @@
+pub mod Spelled
+pub mod Differences
+pub mod Parts
+pub mod Passing
+pub mod Blocks
+pub mod Walks
+pub mod Plans
+pub mod Facts
+pub mod Private

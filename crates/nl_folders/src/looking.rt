@@ -1,0 +1,138 @@
+//! The entry of a path in a tree in order, looked for near a place. Who goes through two trees side by side
+//! finds each entry beside another one a step or two further on.
+ghost use Rattle.std.specs.Prelude.{◌≡◌, ◌-◌, ◌<◌, ◌≤◌, IsTrue, drop, length};
+ghost use Rattle.std.specs.FinMap.{is_sorted};
+ghost use Rattle.std.specs.Option.{option_copied};
+ghost use Rattle.std.specs.Ordering.{is_lt};
+ghost use Rattle.nl_types.specs.Paths.{path_cmp};
+ghost use Rattle.nl_types.specs.Trees.{lookup};
+ghost use Rattle.nl_folders.specs.Private.Looking.{BeginsNotBelow, IsBetween, first_at};
+
+use crate::paths::{Name, Path, compare};
+use nl_types::Node;
+
+/// Where a look ended, and what it found.
+#[derive(Clone, Copy, Drop)]
+pub(crate) struct Found<'a> {
+    pub(crate) place: usize,
+    pub(crate) node: Option<&'a Node>,
+}
+
+fn is_below(entry: &(Path, Node), path: &[Name]) -> bool
+    ensures { result ≡ is_lt (path_cmp entry.now.0 path.now) }
+{
+    compare(entry.0.as_slice(), path).is_lt()
+}
+
+/// The first place from one on whose entry isn't below the path.
+fn risen(entries: &[(Path, Node)], from: usize, path: &[Name]) -> usize
+    requires { from ≤ length entries.now }
+    ensures within { result ≤ length entries.now }
+    ensures ended { BeginsNotBelow path.now (drop result entries.now) }
+{
+    for place in from..entries.len() {
+        if !is_below(&entries[place], path) {
+            return place;
+        }
+    }
+    entries.len()
+}
+
+/// The last place up to one before which no entry is at the path or behind it.
+fn sunk(entries: &[(Path, Node)], from: usize, path: &[Name]) -> usize
+    requires within { from ≤ length entries.now }
+    requires begins { BeginsNotBelow path.now (drop from entries.now) }
+    ensures within { result ≤ length entries.now }
+    ensures ended { BeginsNotBelow path.now (drop result entries.now) }
+    ensures passed { IsTrue (is_sorted path_cmp entries.now)
+        → lookup entries.now path.now ≡ lookup (drop result entries.now) path.now }
+{
+    let mut place = from;
+    while place > 0 {
+        if is_below(&entries[place - 1], path) {
+            return place;
+        }
+        place -= 1;
+    }
+    0
+}
+
+/// What the first entry has, if it is at the path.
+fn first_at<'a>(entries: &'a [(Path, Node)], path: &[Name]) -> Option<&'a Node>
+    ensures { option_copied result ≡ first_at entries.now path.now }
+{
+    match entries {
+        [] => None,
+        [first, ..] => {
+            if compare(path, first.0.as_slice()).is_eq() {
+                Some(&first.1)
+            } else {
+                None
+            }
+        }
+    }
+}
+
+/// What stands at a path of entries in order. The look begins at a place, and goes up or down from there.
+pub(crate) fn find_near<'a>(entries: &'a [(Path, Node)], near: usize, path: &[Name]) -> Found<'a>
+    ensures { IsTrue (is_sorted path_cmp entries.now)
+        → option_copied result.node ≡ lookup entries.now path.now }
+{
+    let above = risen(entries, near.min(entries.len()), path);
+    let place = sunk(entries, above, path);
+    Found {
+        place,
+        node: first_at(&entries[place..], path),
+    }
+}
+
+// ---- a look by halves
+
+/// Where an entry is looked for.
+#[derive(Clone, Copy)]
+struct Span {
+    low: usize,
+    high: usize,
+}
+
+fn halved(entries: &[(Path, Node)], span: Span, path: &[Name]) -> Span
+    requires between { IsBetween entries.now path.now span.low span.high }
+    requires open { span.low < span.high }
+    ensures between { IsBetween entries.now path.now result.low result.high }
+    ensures shorter { result.high - result.low < span.high - span.low }
+{
+    let Span { low, high } = span;
+    let middle = low + (high - low) / 2;
+    if is_below(&entries[middle], path) {
+        Span {
+            low: middle + 1,
+            high,
+        }
+    } else {
+        Span { low, high: middle }
+    }
+}
+
+/// The place of a path among entries in order: before it all are below the path.
+pub(crate) fn place_in(entries: &[(Path, Node)], path: &[Name]) -> usize
+    ensures within { result ≤ length entries.now }
+    ensures found { IsTrue (is_sorted path_cmp entries.now)
+        → lookup entries.now path.now ≡ first_at (drop result entries.now) path.now }
+{
+    let mut span = Span {
+        low: 0,
+        high: entries.len(),
+    };
+    while span.low < span.high {
+        span = halved(entries, span, path);
+    }
+    span.low
+}
+
+/// What stands at a path of entries in order.
+pub(crate) fn find_in<'a>(entries: &'a [(Path, Node)], path: &[Name]) -> Option<&'a Node>
+    ensures { IsTrue (is_sorted path_cmp entries.now)
+        → option_copied result ≡ lookup entries.now path.now }
+{
+    first_at(&entries[place_in(entries, path)..], path)
+}

@@ -1,0 +1,118 @@
+//! Paths as lists of names.
+ghost use Rattle.std.specs.Prelude.{◌≡◌, ◌≤◌, [], ◌∷◌, ◌++◌, true, length, IfOk, OnOk};
+ghost use Rattle.nl_types.specs.Paths.{same_path, path_cmp, is_within};
+ghost use Rattle.nl_folders.specs.Spelled.{joined, spelling};
+
+use nl_types::Items;
+use std::alloc::{AllocError, Global};
+use std::cmp::Ordering;
+
+/// A name in a directory, as bytes.
+pub type Name = Items<u8>;
+
+/// The names from the root down. The root is the empty list.
+pub type Path = Items<Name>;
+
+/// The order of a tree: by names, and these by bytes.
+#[tactic(auto, using(crate::proofs::PathLemmas::ends))]
+pub fn compare(a: &[Name], b: &[Name]) -> Ordering
+    ensures { result ≡ path_cmp a.now b.now }
+{
+    match (a, b) {
+        ([], []) => Ordering::Equal,
+        ([], _) => Ordering::Less,
+        ([_, ..], []) => Ordering::Greater,
+        ([n, a @ ..], [m, b @ ..]) => match n.as_slice().cmp(&m.as_slice()) {
+            Ordering::Less => Ordering::Less,
+            Ordering::Equal => compare(a, b),
+            Ordering::Greater => Ordering::Greater,
+        },
+    }
+}
+
+/// Whether two paths are one.
+pub fn is_same_path(a: &[Name], b: &[Name]) -> bool
+    ensures { result ≡ same_path a.now b.now }
+{
+    compare(a, b).is_eq()
+}
+
+/// Whether a path is `top` or lies below it.
+#[tactic(auto, using(crate::proofs::PathLemmas::ends))]
+pub fn begins_with(path: &[Name], top: &[Name]) -> bool
+    ensures value { result ≡ is_within top.now path.now }
+    ensures not_longer { result ≡ true → length top.now ≤ length path.now }
+{
+    match (top, path) {
+        ([], _) => true,
+        ([_, ..], []) => false,
+        ([n, top @ ..], [m, path @ ..]) => {
+            n.as_slice().cmp(&m.as_slice()).is_eq() && begins_with(path, top)
+        }
+    }
+}
+
+fn append_copies(alloc: Global, path: &mut Path, names: &[Name]) -> Result<(), AllocError>
+    ensures { OnOk result (path.new ≡ path.old ++ names.now) }
+{
+    match names {
+        [] => Ok(()),
+        [name, rest @ ..] => {
+            path.push(Items::from_slice(alloc, name.as_slice())?)?;
+            append_copies(alloc, path, rest)
+        }
+    }
+}
+
+/// A path in memory of its own.
+pub fn copied(alloc: Global, path: &[Name]) -> Result<Path, AllocError>
+    ensures { IfOk result (λ copy. copy ≡ path.now) }
+{
+    let mut copy = Items::new(alloc);
+    append_copies(alloc, &mut copy, path)?;
+    Ok(copy)
+}
+
+/// A path, and another one below it.
+pub fn appended(alloc: Global, top: &[Name], below: &[Name]) -> Result<Path, AllocError>
+    ensures { IfOk result (λ path. path ≡ top.now ++ below.now) }
+{
+    let mut path = copied(alloc, top)?;
+    append_copies(alloc, &mut path, below)?;
+    Ok(path)
+}
+
+/// The path of a name in a directory.
+pub fn with_name(alloc: Global, directory: &[Name], name: &[u8]) -> Result<Path, AllocError>
+    ensures { IfOk result (λ path. path ≡ directory.now ++ name.now ∷ []) }
+{
+    let mut path = copied(alloc, directory)?;
+    path.push(Items::from_slice(alloc, name)?)?;
+    Ok(path)
+}
+
+fn append_spelled(alloc: Global, spelling: &mut Items<u8>, names: &[Name]) -> Result<(), AllocError>
+    ensures { OnOk result (spelling.new ≡ spelling.old ++ joined names.now) }
+{
+    match names {
+        [] => Ok(()),
+        [name, rest @ ..] => {
+            spelling.push(b'/')?;
+            spelling.append(name.as_slice().to_vec(alloc)?)?;
+            append_spelled(alloc, spelling, rest)
+        }
+    }
+}
+
+/// The bytes by which a call is given the path: each name behind a slash, and for the root a slash alone.
+pub fn spelled(alloc: Global, path: &[Name]) -> Result<Items<u8>, AllocError>
+    ensures { IfOk result (λ bytes. bytes ≡ spelling path.now) }
+{
+    let mut bytes = Items::new(alloc);
+    if path.is_empty() {
+        bytes.push(b'/')?;
+    } else {
+        append_spelled(alloc, &mut bytes, path)?;
+    }
+    Ok(bytes)
+}

@@ -1,0 +1,103 @@
+//! A tree as the list of its entries, in the order of their paths.
+ghost use Rattle.std.specs.Prelude.{◌≡◌, ◌++◌, [], ◌∷◌, IsTrue, IfOk, OnOk};
+ghost use Rattle.std.specs.Option.{option_copied};
+ghost use Rattle.nl_types.specs.Trees.{lookup};
+ghost use Rattle.nl_folders.specs.Differences.{same_kind, same_node, rising};
+ghost use Rattle.nl_folders.specs.Parts.{part_below};
+
+use crate::paths::{Name, Path, begins_with, compare, copied};
+use nl_types::{Items, Node};
+use std::alloc::{AllocError, Global};
+
+/// The directories and files of a folder with their paths, ascending. The root is among them.
+pub type Tree = Items<(Path, Node)>;
+
+/// The most paths of a tree, the root's included.
+pub(crate) const MOST_PATHS: usize = 524_278;
+
+/// Whether the entries stand in the order of their paths, none twice.
+pub fn is_in_order(entries: &[(Path, Node)]) -> bool
+    ensures { result ≡ rising entries.now }
+{
+    for at in 1..entries.len() {
+        let earlier = &entries[at - 1];
+        let later = &entries[at];
+        if !compare(earlier.0.as_slice(), later.0.as_slice()).is_lt() {
+            return false;
+        }
+    }
+    true
+}
+
+/// What stands at a path. It looks at one entry after another.
+pub fn found_at<'a>(entries: &'a [(Path, Node)], path: &[Name]) -> Option<&'a Node>
+    ensures { option_copied result ≡ lookup entries.now path.now }
+{
+    for entry in entries {
+        if compare(path, entry.0.as_slice()).is_eq() {
+            return Some(&entry.1);
+        }
+    }
+    None
+}
+
+/// Whether two nodes are both directories or both files.
+pub fn is_same_kind(a: &Node, b: &Node) -> bool
+    ensures { result ≡ same_kind a.now b.now }
+{
+    match (a, b) {
+        (Node::Dir, Node::Dir) => true,
+        (Node::File(_), Node::File(_)) => true,
+        (Node::Dir, Node::File(_)) => false,
+        (Node::File(_), Node::Dir) => false,
+    }
+}
+
+/// Whether two nodes are one, a file by all its bytes.
+pub fn is_same_node(a: &Node, b: &Node) -> bool
+    ensures { result ≡ same_node a.now b.now }
+{
+    match (a, b) {
+        (Node::Dir, Node::Dir) => true,
+        (Node::File(one), Node::File(other)) => one.as_slice() == other.as_slice(),
+        (Node::Dir, Node::File(_)) => false,
+        (Node::File(_), Node::Dir) => false,
+    }
+}
+
+fn copied_node(alloc: Global, node: &Node) -> Result<Node, AllocError>
+    ensures { IfOk result (λ copy. copy ≡ node.now) }
+{
+    match node {
+        Node::Dir => Ok(Node::Dir),
+        Node::File(bytes) => Ok(Node::File(Items::from_slice(alloc, bytes.as_slice())?)),
+    }
+}
+
+/// Adds an entry, if it lies at a path or below it.
+fn add_below(
+    alloc: Global,
+    entry: &(Path, Node),
+    top: &[Name],
+    part: &mut Tree,
+) -> Result<(), AllocError>
+    ensures { OnOk result (part.new ≡ part.old ++ part_below (entry.now ∷ []) top.now) }
+{
+    let path = entry.0.as_slice();
+    if begins_with(path, top) {
+        let rest = copied(alloc, &path[top.len()..])?;
+        part.push((rest, copied_node(alloc, &entry.1)?))?;
+    }
+    Ok(())
+}
+
+/// The entries that lie at a path or below it, with what is left of their paths there.
+pub fn part_below(alloc: Global, entries: &[(Path, Node)], top: &[Name]) -> Result<Tree, AllocError>
+    ensures { IfOk result (λ part. part ≡ part_below entries.now top.now) }
+{
+    let mut part = Items::new(alloc);
+    for entry in entries {
+        add_below(alloc, entry, top, &mut part)?;
+    }
+    Ok(part)
+}

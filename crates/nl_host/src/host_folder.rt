@@ -1,0 +1,277 @@
+//! A folder of the host, read.
+ghost use Rattle.std.specs.Prelude.{◌≡◌, []};
+
+use crate::host_paths::host_path;
+use crate::left_out::{LeftOut, Reason, TooBig};
+use crate::selection::{Selection, is_reserved};
+use nl_folders::{Folder, FolderError, Name};
+use nl_types::{Items, Kind, Named, VolError};
+use std::alloc::Global;
+use std::fs::{DirEntry, Metadata, OpenFile};
+use std::io::{ErrorKind, Read};
+use std::os::unix::fs::MetadataExt;
+use std::rt::Files;
+use std::{fs, io};
+
+/// The most bytes that a file of a volume has.
+const MOST_BYTES: u64 = 67_108_864;
+
+/// The most bytes that a volume has. Once the files of a folder have more, no more of them is read.
+const MOST_BYTES_IN_ALL: u64 = 268_435_456;
+
+/// The most bytes of a path in a volume, the slash in front counted.
+const MOST_PATH_BYTES: usize = 4095;
+
+/// A folder of the host. Links aren't followed. What can't be kept is left out and noted.
+#[derive(Drop)]
+pub struct HostFolder<'a, R: Files> {
+    files: &'a R,
+    /// Its path, links followed.
+    root: &'a str,
+    selection: Selection<'a>,
+    /// What is left out, in the order in which it was found.
+    pub left_out: Vec<LeftOut>,
+    /// Files that no volume takes. They are left out too.
+    pub too_big: Vec<TooBig>,
+    /// How many bytes all files have, those that are too big not counted.
+    pub bytes: u64,
+    /// Where the system failed, if it did.
+    pub failed_at: Option<String>,
+}
+
+/// What is done with something in a folder.
+enum Judged {
+    Kept(Kind),
+    LeftOut(Reason),
+    TooBig(u64),
+    Excluded,
+}
+
+/// What tells one state of a file from another.
+#[derive(Clone, Copy, PartialEq)]
+struct State {
+    size: u64,
+    seconds: i64,
+    nanoseconds: i64,
+}
+
+fn state_of(metadata: &Metadata) -> State {
+    State {
+        size: metadata.len(),
+        seconds: metadata.mtime(),
+        nanoseconds: metadata.mtime_nsec(),
+    }
+}
+
+impl<'a, R: AllocGlobal + Files + Clone + Drop> HostFolder<'a, R> {
+    /// The folder at a path, in which no link is to be followed any more.
+    pub fn new(files: &'a R, root: &'a str, selection: Selection<'a>) -> HostFolder<'a, R>
+        ensures left_out { result.left_out.items ≡ [] }
+        ensures too_big { result.too_big.items ≡ [] }
+        ensures bytes { result.bytes ≡ 0 }
+        ensures failed { result.failed_at ≡ None }
+    {
+        let alloc = files.alloc();
+        HostFolder {
+            files,
+            root,
+            selection,
+            left_out: Vec::new(alloc),
+            too_big: Vec::new(alloc),
+            bytes: 0,
+            failed_at: None,
+        }
+    }
+
+    /// The host's path of what stands at a path below the folder.
+    fn path_of(&self, alloc: Global, path: &[Name]) -> Result<String, FolderError> {
+        let (text, count) = host_path(alloc, self.root, path)?;
+        if count == path.len() {
+            Ok(text)
+        } else {
+            Err(FolderError::Unread)
+        }
+    }
+
+    fn fault(&mut self, path: String, error: &io::Error) -> FolderError {
+        if error.kind() == ErrorKind::OutOfMemory {
+            return FolderError::Refused(VolError::Memory);
+        }
+        self.failed_at = Some(path);
+        FolderError::Unread
+    }
+
+    fn leave_out(&mut self, path: &str, reason: Reason) -> Result<(), FolderError> {
+        let path = String::from_str(self.files.alloc(), path)?;
+        self.left_out.push(LeftOut { path, reason })?;
+        Ok(())
+    }
+
+    /// A path without the root's in front, and without a slash there.
+    fn below<'p>(&self, path: &'p str) -> &'p str {
+        match path.strip_prefix(self.root) {
+            Some(rest) => rest.trim_start_matches('/'),
+            None => path,
+        }
+    }
+
+    fn is_readable(&self, path: &str, kind: Kind) -> bool {
+        match kind {
+            Kind::Directory => fs::read_dir(self.files, path).is_ok(),
+            Kind::File => fs::open(self.files, path).is_ok(),
+        }
+    }
+
+    /// What is done with a file or folder, by what is told of it.
+    fn judge_kind(&self, path: &str, metadata: &Metadata) -> Judged {
+        let kind = if metadata.is_dir() {
+            Kind::Directory
+        } else if metadata.is_file() {
+            Kind::File
+        } else if metadata.is_symlink() {
+            return Judged::LeftOut(Reason::Link);
+        } else {
+            return Judged::LeftOut(Reason::Special);
+        };
+        if kind == Kind::File && metadata.len() > MOST_BYTES {
+            return Judged::TooBig(metadata.len());
+        }
+        if self.is_readable(path, kind) {
+            Judged::Kept(kind)
+        } else {
+            Judged::LeftOut(Reason::Unread)
+        }
+    }
+
+    fn judge(&self, folder: &str, path: &str, name: &str, metadata: &Metadata) -> Judged {
+        let below = self.below(path);
+        if self.selection.excludes(below, name) {
+            return Judged::Excluded;
+        }
+        if self.selection.is_image(folder, name) {
+            return Judged::LeftOut(Reason::Image);
+        }
+        if is_reserved(name) {
+            return Judged::LeftOut(Reason::Reserved);
+        }
+        if below.len() >= MOST_PATH_BYTES {
+            return Judged::LeftOut(Reason::LongPath);
+        }
+        self.judge_kind(path, metadata)
+    }
+
+    fn keep(
+        &mut self,
+        alloc: Global,
+        name: &str,
+        kind: Kind,
+        size: u64,
+        names: &mut Vec<Named>,
+    ) -> Result<(), FolderError> {
+        if kind == Kind::File {
+            self.bytes = self.bytes.saturating_add(size);
+        }
+        names.push(Named {
+            name: Items::from_slice(alloc, name.as_bytes())?,
+            kind,
+        })?;
+        Ok(())
+    }
+
+    fn add(
+        &mut self,
+        alloc: Global,
+        folder: &str,
+        entry: &DirEntry<R>,
+        names: &mut Vec<Named>,
+    ) -> Result<(), FolderError> {
+        let path = entry.path();
+        let path = path.as_str();
+        let name = entry.file_name();
+        let Ok(metadata) = entry.metadata() else {
+            return self.leave_out(path, Reason::Unread);
+        };
+        match self.judge(folder, path, name, &metadata) {
+            Judged::Kept(kind) => self.keep(alloc, name, kind, metadata.len(), names),
+            Judged::LeftOut(reason) => self.leave_out(path, reason),
+            Judged::TooBig(size) => {
+                let path = String::from_str(alloc, path)?;
+                self.too_big.push(TooBig { path, size })?;
+                Ok(())
+            }
+            Judged::Excluded => Ok(()),
+        }
+    }
+
+    /// The names in a folder that are kept, in no order.
+    fn names(&mut self, alloc: Global, folder: &str) -> Result<Vec<Named>, FolderError> {
+        let mut names = Vec::new(alloc);
+        let entries = match fs::read_dir(self.files, folder) {
+            Ok(entries) => entries,
+            Err(error) => return Err(self.fault(String::from_str(alloc, folder)?, &error)),
+        };
+        for entry in entries {
+            match entry {
+                Ok(entry) => self.add(alloc, folder, &entry, &mut names)?,
+                Err(error) if error.kind() == ErrorKind::InvalidFilename => {
+                    self.leave_out(folder, Reason::NameNoText)?;
+                }
+                Err(error) => return Err(self.fault(String::from_str(alloc, folder)?, &error)),
+            }
+        }
+        Ok(names)
+    }
+
+    /// The bytes of a file, and whether it stayed as it was meanwhile.
+    fn bytes_once(&self, alloc: Global, path: &str) -> io::Result<(Vec<u8>, bool)> {
+        let mut file = fs::open(self.files, path)?;
+        let before = state_of(&file.metadata()?);
+        let room = usize::try_from(before.size.min(MOST_BYTES)).unwrap_or(0);
+        let mut bytes = Vec::with_capacity(alloc, room)?;
+        file.by_ref().take(MOST_BYTES).read_to_end(&mut bytes)?;
+        let after = state_of(&file.metadata()?);
+        let is_same = before == after && bytes.len() as u64 == after.size;
+        Ok((bytes, is_same))
+    }
+
+    /// The bytes of a file. One that changes meanwhile is read once more.
+    fn bytes_of(&mut self, alloc: Global, path: &str) -> io::Result<(Vec<u8>, bool)> {
+        let first = self.bytes_once(alloc, path)?;
+        if first.1 {
+            return Ok(first);
+        }
+        self.bytes_once(alloc, path)
+    }
+}
+
+impl<R: AllocGlobal + Files + Clone + Drop> Folder for HostFolder<'_, R> {
+    ghost shows = { λ f tree. ⊥ };
+
+    ghost keeps = { λ f g. Unit {0} };
+
+    ghost keeps_itself = { λ f. tt };
+
+    ghost keeps_on = { λ f g h one other. tt };
+
+    fn list(&mut self, alloc: Global, path: &[Name]) -> Result<Items<Named>, FolderError> {
+        let folder = self.path_of(alloc, path)?;
+        let mut names = self.names(alloc, folder.as_str())?;
+        names.sort_by(|a, b| a.name.as_slice().cmp(&b.name.as_slice()))?;
+        Ok(Items::from_vec(names))
+    }
+
+    fn read(&mut self, alloc: Global, path: &[Name]) -> Result<Items<u8>, FolderError> {
+        if self.bytes > MOST_BYTES_IN_ALL {
+            return Ok(Items::new(alloc));
+        }
+        let path = self.path_of(alloc, path)?;
+        match self.bytes_of(alloc, path.as_str()) {
+            Ok((bytes, true)) => Ok(Items::from_vec(bytes)),
+            Ok((bytes, false)) => {
+                self.leave_out(path.as_str(), Reason::Changed)?;
+                Ok(Items::from_vec(bytes))
+            }
+            Err(error) => Err(self.fault(path, &error)),
+        }
+    }
+}

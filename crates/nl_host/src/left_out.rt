@@ -1,0 +1,54 @@
+//! What is left out of a tree, and why.
+use std::fmt;
+
+/// Why something below a folder isn't kept, or isn't laid out.
+#[derive(Clone, Copy, Debug, PartialEq, Eq)]
+pub enum Reason {
+    /// It is a symbolic link. It isn't followed.
+    Link,
+    /// It is a device, a socket or a pipe.
+    Special,
+    /// A name in this folder isn't UTF-8. The system doesn't tell which.
+    NameNoText,
+    /// Its path has more bytes than one of a volume may have.
+    LongPath,
+    /// It can't be read.
+    Unread,
+    /// It has a name that is kept for later use.
+    Reserved,
+    /// It is the image, or a file that a save left beside that.
+    Image,
+    /// It changed while it was read, twice. What was read is kept.
+    Changed,
+}
+
+impl fmt::Display for Reason {
+    fn fmt<W: fmt::Write>(&self, f: &mut fmt::Formatter<W>) -> fmt::Result {
+        let text = match self {
+            Reason::Link => "a symbolic link",
+            Reason::Special => "a device, a socket or a pipe",
+            Reason::NameNoText => "has a name in it that is not UTF-8",
+            Reason::LongPath => "a path above 4095 bytes",
+            Reason::Unread => "cannot be read",
+            Reason::Reserved => "a name that nlkeep keeps for itself",
+            Reason::Image => "the image itself",
+            Reason::Changed => "changed while it was read",
+        };
+        f.write_str(text)
+    }
+}
+
+/// A path of the host of which something isn't as it should be.
+#[derive(Drop)]
+pub struct LeftOut {
+    pub path: String,
+    pub reason: Reason,
+}
+
+/// A file of the host that is greater than one of a volume may be.
+#[derive(Drop)]
+pub struct TooBig {
+    pub path: String,
+    /// In bytes.
+    pub size: u64,
+}

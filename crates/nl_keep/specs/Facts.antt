@@ -1,0 +1,4 @@
+-- Facts about the definitions, for proofs of other crates.
+pub mod Staying
+pub mod StoredTrees
+pub mod Keeping

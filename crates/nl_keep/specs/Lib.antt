@@ -1,0 +1,10 @@
+pub mod Volumes
+pub mod Shown
+pub mod Stored
+pub mod Made
+pub mod Forgotten
+pub mod MinorOnes
+pub mod Lasting
+-- for proofs of other crates
+pub mod Facts
+pub mod Private

@@ -1,0 +1,3 @@
+-- What this crate's own proofs rest on.
+pub mod Judged
+pub mod Costs

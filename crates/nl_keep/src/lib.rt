@@ -1,0 +1,21 @@
+//! Trees kept in the checkpoints of a volume: stored as snapshots, read back as they were, and forgotten.
+#![tactic(auto)]
+
+mod asking;
+mod checkpoint_folder;
+mod current_folder;
+mod forgetting;
+mod judging;
+pub mod laws;
+mod making;
+mod storing;
+mod tidying;
+mod trees;
+mod volume;
+
+pub use checkpoint_folder::CheckpointFolder;
+pub use forgetting::forget;
+pub use storing::{KeepError, Stored, store, store_over};
+pub use tidying::remove_minor;
+pub use trees::{checkpoint_tree, current_tree};
+pub use volume::Volume;

@@ -1,0 +1,64 @@
+//! Whole trees of a volume.
+ghost use Rattle.std.specs.Prelude.{◌≡◌, ◌⊎◌, IfErr, IfOk, None, OnOk};
+ghost use Rattle.nl_types.specs.Worlds.{World, copy_at};
+ghost use Rattle.nl_keep.specs.Stored.{IsKept, KeepsTree};
+ghost use Rattle.nl_keep.specs.Volumes.{LeadsTo, Stays};
+
+use crate::checkpoint_folder::CheckpointFolder;
+use crate::current_folder::CurrentFolder;
+use crate::volume::Volume;
+use nl_folders::{FolderError, Tree, spelled, whole_tree};
+use nl_types::{Ask, CheckpointNumber, VolError};
+use std::alloc::Global;
+
+/// The current tree. The volume is given back as it was.
+///
+/// # Errors
+/// As `whole_tree` of `nl_folders`.
+pub fn current_tree<V: Volume>(alloc: Global, volume: V) -> Result<(Tree, V), FolderError>
+    ensures tree { IfOk result (λ read. (w : World) → V.means volume w → read.0 ≡ w.tree) }
+    ensures stays { IfOk result (λ read. LeadsTo Stays (V.means volume) (V.means read.1)) }
+{
+    let mut folder = CurrentFolder { volume };
+    let tree = whole_tree(alloc, &mut folder)?;
+    Ok((tree, folder.volume))
+}
+
+/// Judges whether a checkpoint is kept: its root stands there then. Refused by `NoCheckpoint` where it isn't,
+/// and by `Memory`.
+fn judge_kept<V: Volume>(
+    alloc: Global,
+    volume: &V,
+    number: CheckpointNumber,
+) -> Result<(), FolderError>
+    ensures kept { OnOk result ((w : World) → V.means volume.now w → IsKept number w) }
+    ensures refused { IfErr result (λ e. (w : World) → V.means volume.now w
+        → (e ≡ FolderError.Refused VolError.Memory)
+        ⊎ ((e ≡ FolderError.Refused VolError.NoCheckpoint) × (copy_at w number ≡ None))) }
+{
+    let path = spelled(alloc, &[])?;
+    match volume.read_at(number, &Ask::Stat { path }) {
+        Ok(_) => Ok(()),
+        Err(error) => Err(FolderError::Refused(error)),
+    }
+}
+
+/// The whole tree of a kept checkpoint, be it a snapshot or plain. The volume stays as it is.
+///
+/// # Errors
+/// `Refused` by `NoCheckpoint` where it isn't kept, or by `Memory`; else as `whole_tree`.
+pub fn checkpoint_tree<V: Volume>(
+    alloc: Global,
+    volume: &V,
+    number: CheckpointNumber,
+) -> Result<Tree, FolderError>
+    ensures tree { IfOk result (λ tree. (w : World) → V.means volume.now w → KeepsTree number tree w) }
+    ensures missing { (w : World) → V.means volume.now w → copy_at w number ≡ None
+        → IfErr result (λ e. (e ≡ FolderError.Refused VolError.Memory)
+        ⊎ (e ≡ FolderError.Refused VolError.NoCheckpoint)) }
+{
+    judge_kept(alloc, volume, number)?;
+    let mut folder = CheckpointFolder { volume, number };
+    let tree = whole_tree(alloc, &mut folder)?;
+    Ok(tree)
+}

@@ -1,0 +1,3 @@
+pub mod Volumes
+pub mod Images
+pub mod Runs

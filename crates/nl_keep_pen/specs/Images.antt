@@ -1,0 +1,51 @@
+-- What the image of a volume means, and what is made of one image or read of it.
+use Rattle.std.specs.Prelude.{◌≡◌, ℕ, List}
+use Rattle.nl_types.specs.Trees.{Tree}
+use Rattle.nl_types.specs.Worlds.{World}
+use Rattle.nl_image.specs.Parts.{with_present_mark}
+use Rattle.nl_commit.specs.Layout.{IsPen, Layout, MeansWorld}
+use Rattle.nl_core.specs.PenImages.{CanBeClosed, IsPenImage}
+use Rattle.nl_keep.specs.Forgotten.{Forgets}
+use Rattle.nl_keep.specs.Lasting.{KeepsOwn}
+use Rattle.nl_keep.specs.Stored.{KeepsTree, StoresTree}
+
+-- the bytes are the image of a closed pen that means the world
+pub record ImageMeans (image : List ℕ) (w : World) : Type 0 where
+  pub layout : Layout
+  pub pen : IsPen layout
+  pub is_image : IsPenImage layout image
+  pub closed : CanBeClosed layout.lists
+  pub means : MeansWorld layout w
+
+-- the same world, but for how many mount numbers were given
+abbrev pub SameBut : World → World → Type 0
+SameBut w v = record w { given = 0 } ≡ record v { given = 0 }
+
+-- of whatever world the image was made, the tree is its current one
+abbrev pub HasCurrent : Tree → List ℕ → Type 0
+HasCurrent tree image = (w : World) → ImageMeans (with_present_mark image) w → tree ≡ w.tree
+
+-- and here the tree is that of its checkpoint n
+abbrev pub ReadsFromImage : ℕ → Tree → List ℕ → Type 0
+ReadsFromImage n tree image = (w : World) → ImageMeans (with_present_mark image) w → KeepsTree n tree w
+
+-- the tree is stored as snapshot n, where room may have been made for it first
+pub record StoresPrepared (moment n : ℕ) (tree : Tree) (old new : World) : Type 0 where
+  pub ready : World
+  pub keeps : KeepsOwn old ready
+  pub stores : StoresTree moment n tree ready new
+
+-- of whatever world the old image was made, the new one is of that world with the tree stored
+abbrev pub StoresInImage : (moment n : ℕ) → Tree → (old new : List ℕ) → Type 0
+StoresInImage moment n tree old new =
+    (w : World) → ImageMeans (with_present_mark old) w
+    → (before : World) × (after : World) × SameBut w before × StoresPrepared moment n tree before after
+    × ImageMeans new after
+
+-- and here it is of that world with the checkpoints forgotten, behind which came events that keep all others
+-- that the volume didn't make by itself
+abbrev pub ForgetsInImage : List ℕ → (old new : List ℕ) → Type 0
+ForgetsInImage numbers old new =
+    (w : World) → ImageMeans (with_present_mark old) w
+    → (before : World) × (left : World) × (after : World) × SameBut w before
+    × Forgets numbers before left × KeepsOwn left after × ImageMeans new after

@@ -1,0 +1,29 @@
+//! What backups, restores and forgetting come to over many runs, as contracts of functions that do nothing.
+ghost use Rattle.nl_keep_pen.specs.Runs.{BackupsComeBack, BackupsKeepThrough, ForgetsKeepThrough, ImagesHaveThePresentMark};
+
+use nl_image::laws::store_images_have_the_present_mark;
+use nl_keep::laws::{forgets_keep_others, stores_keep_copies};
+
+/// The image of a closed pen has the present mark.
+pub fn images_have_the_present_mark()
+    ensures { ImagesHaveThePresentMark }
+{
+    store_images_have_the_present_mark();
+}
+
+/// A backup keeps all checkpoints that there were, and forgetting keeps all others.
+pub fn runs_keep_checkpoints()
+    ensures backups { BackupsKeepThrough }
+    ensures forgets { ForgetsKeepThrough }
+{
+    stores_keep_copies();
+    forgets_keep_others();
+}
+
+/// What was backed up is what is restored, however many runs that keep it came between: backups, and forgets
+/// of others.
+pub fn backups_come_back()
+    ensures { BackupsComeBack }
+{
+    images_have_the_present_mark();
+}

@@ -1,0 +1,35 @@
+//! A pen as a volume that keeps trees, and what is kept from one image to the next.
+#![tactic(auto)]
+
+mod keeping;
+pub mod laws;
+mod tidying;
+
+pub use keeping::{backup_image, forget_image, format_image, restore_image};
+use nl_core::Pen;
+use nl_device::Device;
+use nl_keep::Volume;
+use nl_types::{Ask, CheckpointNumber, Event, Reply};
+pub use tidying::{Preparing, Tidying};
+
+/// A pen, as a volume that keeps trees.
+#[derive(Drop)]
+pub struct PenVolume<D: Device> {
+    pub pen: Pen<D>,
+}
+
+impl<D: Device> Volume for PenVolume<D> {
+    ghost use Rattle.nl_commit.specs.Layout.{MeansWorld};
+
+    ghost means = { λ v. MeansWorld v.pen };
+
+    ghost sound = { λ v w means. means.world };
+
+    fn apply(&mut self, event: &Event) -> Reply {
+        self.pen.apply(event)
+    }
+
+    fn read_at(&self, number: CheckpointNumber, ask: &Ask) -> Reply {
+        self.pen.read_at(number, ask)
+    }
+}
