@@ -1,5 +1,6 @@
 mod DotParts
 mod ExampleLines
+mod FileOperands
 mod Flags
 mod OneSplitting
 mod Parsing

@@ -150,8 +150,9 @@ fn unsaved<E: Write>(
     }
 }
 
-/// Ends a session on a volume that stays with the caller, so that none is alive where this leaves.
-fn end_on<R: AllocGlobal + Files<File = File>, D: Device, E: Write>(
+/// Ends a session: tells which stream failed, if one did, and saves what the script left where there is a
+/// place for it. The volume stays with the caller, so that none is alive where this leaves.
+pub fn end<R: AllocGlobal + Files<File = File>, D: Device, E: Write>(
     rt: &R,
     place: Option<SavePlace<'_>>,
     done: Done,
@@ -176,22 +177,4 @@ fn end_on<R: AllocGlobal + Files<File = File>, D: Device, E: Write>(
         },
         Err(fault) => unsaved(path, done, &fault, told, errors),
     }
-}
-
-/// Ends a session: tells which stream failed, if one did, and saves what the script left where there is a
-/// place for it.
-pub fn end<R: AllocGlobal + Files<File = File>, D: Device, E: Write>(
-    rt: &R,
-    place: Option<SavePlace<'_>>,
-    done: Done,
-    mut pen: Pen<D>,
-    errors: &mut E,
-) -> SessionEnd
-    requires { pen.lists.mounts ≡ [] }
-    ensures { TellsEnd (place_path place.entry) pen done (errors_of E.contents errors.old errors.new) result }
-{
-    let end = end_on(rt, place, done, &mut pen, errors);
-    // By one call: else each part of it would be let go for itself.
-    drop(pen);
-    end
 }

@@ -142,7 +142,7 @@ fn run_begun<
     // The session has one shared volume.
     let opened = Opened::new(1);
     match run_script::<Brand, _, _, _>(rt, rt.alloc(), pen, opened, config, input, output) {
-        Ok((done, pen)) => end(rt, place, done, pen, errors),
+        Ok((done, mut pen)) => end(rt, place, done, &mut pen, errors),
         Err(error) => SessionEnd {
             status: 1,
             told: tell_refusal(StartStep::Start, error, errors),

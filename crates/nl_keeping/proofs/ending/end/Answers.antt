@@ -2,7 +2,7 @@ use Rattle.std.proofs.Common.{◌++◌, refl}
 use Rattle.std.proofs.KnownBytes.{Appends-trans}
 use Rattle.nl_keeping.specs.Endings.{Saved, Unsaved}
 use Rattle.nl_keeping.specs.Telling.{failure_text}
-use Rattle.nl_keeping.proofs.ending.end_on.Goals as goal
+use Rattle.nl_keeping.proofs.ending.end.Goals as goal
 
 pub returns-in-Ok : goal.returns-in-Ok
 returns-in-Ok g c =
