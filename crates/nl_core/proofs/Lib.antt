@@ -1,4 +1,5 @@
 pub mod OneWorld
+pub mod EqualTrees
 pub mod Moving
 pub mod Removals
 pub mod ModeChanges

@@ -25,7 +25,7 @@ tree-one a b tree other same m n =
     (subst (λ (h : Holding). MeansTree (inodes_of_holding h) tree) same m) n
 
 -- a root stands for one tree
-root-one : (pages : Pages) (root : Root) (tree other : Tree) → RootMeans pages root tree
+pub root-one : (pages : Pages) (root : Root) (tree other : Tree) → RootMeans pages root tree
     → RootMeans pages root other → tree ≡ other
 root-one pages root tree other m n =
     tree-one m.held n.held tree other

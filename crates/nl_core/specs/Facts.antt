@@ -4,6 +4,7 @@ pub mod Checkpoints
 pub mod CleanedPens
 pub mod CleaningEvents
 pub mod CountedPens
+pub mod EqualInodes
 pub mod ExpiredNumbers
 pub mod KeptLists
 pub mod KeptNumbers
@@ -16,5 +17,6 @@ pub mod NothingChanged
 pub mod Outside
 pub mod Published
 pub mod Refusals
+pub mod SameFiles
 pub mod Settlings
 pub mod TableChanges

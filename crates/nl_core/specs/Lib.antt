@@ -5,5 +5,7 @@ pub mod NeededBlocks
 pub mod CleanedPens
 pub mod Opened
 pub mod PenImages
+pub mod SameFiles
+pub mod SameTrees
 pub mod Facts
 pub mod Private

@@ -13,6 +13,8 @@ mod noting_pen;
 mod pen;
 mod removing;
 mod resizing;
+mod same_files;
+mod same_trees;
 mod tables;
 mod writing;
 

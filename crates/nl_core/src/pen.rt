@@ -1,5 +1,5 @@
 //! The pen: what the writer of a volume holds, the device included.
-ghost use Rattle.std.specs.Prelude.{◌≡◌, ◌↔◌, ◌⊎◌, ◌<◌, ◌≤◌, ◌+◌, ◌-◌, ◌∷◌, [], false, IfErr, IfOk, IsErr, IsErrOf, OnErr, IsOkUnless, length};
+ghost use Rattle.std.specs.Prelude.{◌≡◌, ◌↔◌, ◌⊎◌, ◌<◌, ◌≤◌, ◌+◌, ◌-◌, ◌∷◌, [], false, IfErr, IfOk, IsErr, IsErrOf, IsTrue, OnErr, IsOkUnless, length};
 ghost use Rattle.std.specs.Option.{option_map};
 ghost use Rattle.nl_types.specs.Runs.{Run};
 ghost use Rattle.nl_types.specs.Rows.{kept_row};
@@ -29,6 +29,8 @@ use crate::noting::{
 };
 use crate::removing::{expire, remove, remove_range};
 use crate::resizing::{adds_segments, resize};
+use crate::same_files::is_same_file;
+use crate::same_trees::is_same_tree;
 use crate::tables::Tables;
 use crate::writing::{checkpoint, first_checkpoint};
 use nl_commit::Commit;
@@ -41,7 +43,7 @@ use nl_protect::boundary;
 use nl_segwriter::LogSpace;
 use nl_sufile::{SegTable, SegmentCounts};
 use nl_types::{
-    Answer, Ask, CheckpointNumber, Event, Geometry, MAX_PAYLOAD, Mode, Reply, Row, Segment,
+    Answer, Ask, CheckpointNumber, Event, Geometry, Items, MAX_PAYLOAD, Mode, Reply, Row, Segment,
     VirtualNumber, VolError,
 };
 use nl_vstore::Vstore;
@@ -69,7 +71,7 @@ impl<D: Device> Model for Pen<D> {
     ghost invariant = { λ p. IsCountedPen (layout_of p.tables.lists p.store.store) p.needed };
 }
 
-ghost use Rattle.nl_commit.specs.Layout.{IsPen, Does, MeansWorld, ReadsCopy, layout_of, unshared};
+ghost use Rattle.nl_commit.specs.Layout.{IsPen, Does, MeansWorld, ReadsCopy, Runs, layout_of, unshared};
 ghost use Rattle.nl_types.specs.declared.event.Event.TheVariants.{ChangeMode, Mount, Resize};
 
 impl<D: Device> Pen<D> {
@@ -78,6 +80,8 @@ impl<D: Device> Pen<D> {
     ghost use Rattle.nl_core.specs.Opened.{IsOpened};
     ghost use Rattle.nl_vstore.specs.Stores.{KeepsStored};
     ghost use Rattle.nl_core.specs.PenImages.{CanBeClosed, IsPenImage};
+    ghost use Rattle.nl_core.specs.SameFiles.{HaveOneFile, HaveOneInode};
+    ghost use Rattle.nl_core.specs.SameTrees.{HaveOneRoot, HaveOneTree};
 
     /// A volume on a device of this geometry, with checkpoint 1 of the root alone, which it writes. What the
     /// device holds is no part of it.
@@ -204,6 +208,30 @@ impl<D: Device> Pen<D> {
         ensures { ReadsCopy self.now number ask.now result }
     {
         self.tables.read_at(self.alloc, &self.store, number, ask)
+    }
+
+    /// Whether a path leads to a file in the trees of two kept checkpoints, by one inode: kind, size and root
+    /// are equal, so that the file is the same. It reads no block of the file, and takes no memory.
+    pub fn is_same_file(
+        &self,
+        old: CheckpointNumber,
+        new: CheckpointNumber,
+        path: &[Items<u8>],
+    ) -> bool
+        ensures exact { IsTrue result ↔ HaveOneInode self.now old new path.now }
+        ensures same { IsTrue result → HaveOneFile self.now old new path.now }
+    {
+        self.means_a_world();
+        is_same_file(&self.store, self.tables.checkpoints(), old, new, path)
+    }
+
+    /// Whether two kept checkpoints have one root, so that their trees are the same. It reads no block, and takes
+    /// no memory. It may answer no where the trees are the same too.
+    pub fn is_same_tree(&self, old: CheckpointNumber, new: CheckpointNumber) -> bool
+        ensures exact { IsTrue result ↔ HaveOneRoot self.now old new }
+        ensures same { IsTrue result → HaveOneTree self.now old new }
+    {
+        is_same_tree(self.tables.checkpoints(), old, new)
     }
 
     /// How many mounts there are.
@@ -556,8 +584,6 @@ impl<D: Device> Pen<D> {
         image_of(self.alloc, &self.tables, &mut self.store)
     }
 }
-
-ghost use Rattle.nl_commit.specs.Layout.{Runs};
 
 /// Does the events in order. Each reply is that of plain files with a whole copied tree for each checkpoint.
 /// Refused by `Memory` before the first event, or not at all.
