@@ -1,5 +1,5 @@
 -- Calls on a tree that are done, and what each of them leaves.
-use Rattle.std.proofs.Common.{◌≡◌, ℕ, ◌+◌, ◌<◌, ◌≤◌, Bool, true, false, cond, not, List, [], ◌∷◌, ◌++◌, length, Option, Some, None, Result, Ok, IfOk, refl, sym, ap, ◌∙◌, subst, arith, is_some, append_assoc, append-nil, le-ltb, ne_eqb}
+use Rattle.std.proofs.Common.{◌≡◌, ℕ, ◌+◌, ◌<◌, ◌≤◌, Bool, true, false, cond, not, List, [], ◌∷◌, ◌++◌, map, length, Option, Some, None, Result, Ok, IfOk, refl, sym, ap, ◌∙◌, subst, arith, is_some, append_assoc, append-nil, le-ltb, ne_eqb}
 use Rattle.std.specs.Prelude.{◌==◌, nat_lt}
 use Rattle.std.specs.Option.{option_map, option_or, ok_or}
 use Rattle.std.specs.FinMap.{find}
@@ -16,7 +16,7 @@ use Rattle.nl_types.specs.declared.reply.Node.TheVariants.{Dir, File}
 use Rattle.nl_types.specs.Limits.{file_limit, path_limit}
 use Rattle.nl_types.specs.Paths.{Name, Path, name_cmp, path_cmp, path_of, same_path}
 use Rattle.nl_types.specs.Trees.{Tree, IsTree, lookup, insert, remove, children, node_kind}
-use Rattle.nl_types.specs.Calls.{Changed, and_then, refuse_if, ok_unless, stops_walk, stop_from, walk, node_at, file_at, file_in, dir_at, dir_in, is_root, has_names, change, create, write, overwritten, truncate, resized, unlink, rmdir}
+use Rattle.nl_types.specs.Calls.{Changed, and_then, list, named, refuse_if, ok_unless, stops_walk, stop_from, walk, node_at, file_at, file_in, dir_at, dir_in, is_root, has_names, change, create, write, overwritten, truncate, resized, unlink, rmdir}
 use Rattle.nl_types.specs.Facts.Booleans.{holds}
 use Rattle.nl_types.specs.Facts.CallLookups.{creates_add_one, writes_change_one, truncates_change_one, unlinks_remove_one, rmdirs_remove_one}
 use Rattle.nl_types.specs.Facts.ChangeLaws.{change_then_tree}
@@ -76,6 +76,12 @@ pub dir_there : (tree : Tree) (path : Path) → IsTree tree → lookup tree path
     → dir_at tree path ≡ Ok tt
 dir_there tree path t is =
     ap (λ (r : Result Node VolError). and_then r dir_in) (node_there tree path Dir t is)
+
+pub list_there : (tree : Tree) (path : Path) → IsTree tree → lookup tree path ≡ Some Dir
+    → list tree path ≡ Ok (map named (children tree path))
+list_there tree path t is =
+    ap (λ (r : Result (Unit {0}) VolError). and_then r (λ _. Ok (map named (children tree path))))
+    (dir_there tree path t is)
 
 -- a directory under which nothing stands has no names
 none_named : (names : List (Name × Kind)) → ((n : Name) → find name_cmp n names ≡ None)

@@ -19,15 +19,17 @@ use Rattle.nl_types.specs.Trees.{Tree, IsTree, lookup, children, name_below, nod
 use Rattle.nl_types.specs.Calls.{and_then, file_at, list, named}
 use Rattle.nl_types.specs.Facts.Lookups.{same_path-itself}
 use Rattle.nl_types.specs.Facts.TreeLaws.{paths_equal, same_path-equal}
-use Rattle.nl_folders.proofs.DoneCalls.{dir_there, file_there}
+use Rattle.nl_folders.proofs.DoneCalls.{dir_there, file_there, list_there}
 use Rattle.nl_folders.proofs.EntryParts.{mapped_some}
 use Rattle.nl_folders.proofs.PlanLaws.{same_everywhere}
 use Rattle.nl_folders.proofs.SortedTrees.{apart_above, less_is}
 use Rattle.nl_folders.proofs.Walks.{listed_is, read_is}
 use Rattle.nl_folders.specs.declared.differences.Difference.{Difference}
 use Rattle.nl_folders.specs.declared.differences.Difference.TheVariants.{Added, Removed}
+use Rattle.nl_folders.specs.declared.folder.FolderError.{FolderError}
 use Rattle.nl_folders.specs.Differences.{Differences, all_added, beside, difference_of, differences, told}
 use Rattle.nl_folders.specs.Passing.{AreFiles, AreSameFiles, DifferencesPassOver, emptied, passed_node, without_bytes}
+use Rattle.nl_folders.specs.Refusals.{RefusesTree}
 
 -- ---- look-ups
 
@@ -148,6 +150,40 @@ passed-emptied known tree path t files passes =
     let file = files path passes in
     file_there (emptied known tree) path [] (IsTree-emptied known tree t)
     (file-emptied known tree path file.0 file.1 ∙ ap (λ b. Some (passed_node b (File file.0))) passes)
+
+-- what it answers at a path the tree answers too, by the same names, or by bytes
+pub listed_in : (known : Path → Bool) (tree : Tree) (q : Path) (names : List Named) → IsTree tree
+    → list (emptied known tree) q ≡ Ok names → (same : List Named) × (list tree q ≡ Ok same)
+listed_in known tree q names t is =
+    by (known q) (lookup tree q) refl
+    (sym (lookup-emptied known tree q) ∙ (listed_is (emptied known tree) q names is).0)
+  where
+    by : (b : Bool) (o : Option Node) → lookup tree q ≡ o → option_map (passed_node b) o ≡ Some Dir
+        → (same : List Named) × (list tree q ≡ Ok same)
+    by b None there at = cc
+    by b (Some Dir) there at = (map named (children tree q), list_there tree q t there)
+    by true (Some (File bytes)) there at = cc
+    by false (Some (File bytes)) there at = cc
+
+pub read_in : (known : Path → Bool) (tree : Tree) (q : Path) (bytes : List ℕ) → IsTree tree
+    → file_at (emptied known tree) q ≡ Ok bytes → (old : List ℕ) × (file_at tree q ≡ Ok old)
+read_in known tree q bytes t is =
+    by (known q) (lookup tree q) refl
+    (sym (lookup-emptied known tree q) ∙ read_is (emptied known tree) q bytes is)
+  where
+    by : (b : Bool) (o : Option Node) → lookup tree q ≡ o → option_map (passed_node b) o ≡ Some (File bytes)
+        → (old : List ℕ) × (file_at tree q ≡ Ok old)
+    by b None there at = cc
+    by true (Some Dir) there at = cc
+    by false (Some Dir) there at = cc
+    by b (Some (File old)) there at = (old, file_there tree q old t there)
+
+-- where it isn't read, nor is the tree
+pub refused_emptied : (known : Path → Bool) (tree : Tree) (e : FolderError) → RefusesTree (emptied known tree) e
+    → RefusesTree tree e
+refused_emptied known tree e (inl memory) = inl memory
+refused_emptied known tree e (inr long) =
+    inr (long.0, (long.1.0, sym (there-emptied known tree long.1.0) ∙ long.1.1, long.1.2))
 
 -- ---- differences
 

@@ -51,7 +51,7 @@ places_apart entries j k sorted within also (inr later) =
 -- ---- paths in a row
 
 -- what lies at a path or below it isn't below it in order
-within_behind : (top path : Path) → is_within top path ≡ true → is_lt (path_cmp path top) ≡ false
+pub within_behind : (top path : Path) → is_within top path ≡ true → is_lt (path_cmp path top) ≡ false
 within_behind top path inside =
     let rest = drop (length top) path in
     ap is_lt (ap (λ (p : Path). path_cmp p top) (within_is top path inside)
@@ -87,7 +87,7 @@ between_by n k m top p q behind above below same Equal is =
     ∙ below in
     and_from (same_name n k) (is_within top p) (ap is_eq tied) (behind first second)
 
-within_between : (top p q : Path) → is_lt (path_cmp p top) ≡ false → is_lt (path_cmp q p) ≡ false
+pub within_between : (top p q : Path) → is_lt (path_cmp p top) ≡ false → is_lt (path_cmp q p) ≡ false
     → is_within top q ≡ true → is_within top p ≡ true
 within_between [] p q above below inside = refl
 within_between (n ∷ top) [] q above below inside = absurd (true≢false above)

@@ -2,6 +2,7 @@ pub mod PathLemmas
 pub mod TreePaths
 pub mod SortedTrees
 pub mod Walks
+pub mod WalkParts
 pub mod Sameness
 pub mod DifferenceLaws
 pub mod PartLaws

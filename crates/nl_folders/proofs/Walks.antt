@@ -1,110 +1,36 @@
--- A walk through a tree comes to all of it, and to nothing else.
-use Rattle.std.proofs.Common.{◌≡◌, Bool, true, false, cond, ◌||◌, ℕ, List, [], ◌∷◌, ◌++◌, map, Option, Some, None, Result, Ok, Err, refl, sym, ap, ◌∙◌, subst, true≢false, arith, is_some, append_assoc, inl, inr, length}
-use Rattle.std.specs.Prelude.{IfOk, ◌⊎◌, ◌&&◌, ◌≤◌}
-use Rattle.std.specs.declared.cmp.Ordering.TheVariants.{Less}
-use Rattle.std.specs.Ordering.{is_lt}
-use Rattle.std.proofs.lemmas.Bool.{and_parts, and_from}
-use Rattle.std.specs.List.{list_any}
+-- A walk through a tree comes to all of it, and to nothing else, in order.
+use Rattle.std.proofs.Common.{◌≡◌, ℕ, ◌+◌, ◌<◌, ◌≤◌, true, false, cond, List, [], ◌∷◌, ◌++◌, map, length, Option, Some, None, Result, Ok, Err, refl, sym, ap, ◌∙◌, subst, true≢false, arith, is_some, append_assoc, append-nil, inl, inr, length-append}
+use Rattle.std.specs.Prelude.{IfOk}
+use Rattle.std.specs.List.{filter}
 use Rattle.std.specs.Option.{option_map}
+use Rattle.std.specs.Ordering.{is_eq, is_lt}
 use Rattle.std.specs.FinMap.{find, is_sorted}
-use Rattle.std.specs.FinMap.Entries.{same_entries, below_all}
-use Rattle.std.proofs.lemmas.List.Folds.{list_any-append}
-use Rattle.std.proofs.lemmas.Option.{same_Some}
+use Rattle.std.specs.FinMap.Entries.{below_all}
+use Rattle.std.proofs.lemmas.Bool.{and_from, and_parts}
 use Rattle.nl_types.specs.declared.error.VolError.{VolError}
 use Rattle.nl_types.specs.declared.kind.Kind.{Kind}
+use Rattle.nl_types.specs.declared.kind.Kind.TheVariants.{Directory}
+use Rattle.nl_types.specs.declared.kind.Kind.TheVariants as kind
 use Rattle.nl_types.specs.declared.reply.Named.{Named}
 use Rattle.nl_types.specs.declared.reply.Node.{Node}
 use Rattle.nl_types.specs.declared.reply.Node.TheVariants.{Dir, File}
-use Rattle.nl_types.specs.Paths.{Name, Path, name_cmp, path_cmp, same_name, same_path, is_within}
-use Rattle.nl_types.specs.Trees.{Tree, IsTree, IsIn, lookup, children, node_kind}
+use Rattle.nl_types.specs.Paths.{Name, Path, name_cmp, path_cmp, same_name, is_within}
+use Rattle.nl_types.specs.Trees.{Tree, IsTree, lookup, children, node_kind}
 use Rattle.nl_types.specs.Calls.{and_then, dir_at, file_at, list, named}
-use Rattle.nl_types.specs.Facts.Booleans.{holds, or_right}
-use Rattle.nl_types.specs.Facts.Children.{find-children}
+use Rattle.nl_types.specs.Facts.Booleans.{holds, is_true, not_true}
+use Rattle.nl_types.specs.Facts.Children.{children-sorted, find-children}
 use Rattle.nl_types.specs.Facts.Judgements.{file_at_is, dir_at_is}
-use Rattle.nl_types.specs.Facts.Lookups.{is_within-append, same_name-equal}
-use Rattle.nl_types.specs.Facts.TreeLaws.{path_total, paths_equal, same_path-equal}
+use Rattle.nl_types.specs.Facts.Lookups.{same_name-equal, same_name-itself}
+use Rattle.nl_folders.proofs.DoneCalls.{file_there, list_there}
 use Rattle.nl_folders.proofs.SortedTrees.{less_is}
-use Rattle.nl_folders.proofs.TreePaths.{above_is, goes_below, same_path-turned}
+use Rattle.nl_folders.proofs.WalkParts.{all_pass, directory_part, file_part, is_below, part_begins, parts_of}
+use Rattle.nl_folders.specs.declared.folder.FolderError.{FolderError}
 use Rattle.nl_folders.specs.declared.folder.Pending.{Pending}
 use Rattle.nl_folders.specs.Differences.{rising}
-use Rattle.nl_folders.specs.Walks.{IsWalk, IsVisit, pended, stacked}
+use Rattle.nl_folders.specs.Refusals.{RefusesPath, RefusesTree}
+use Rattle.nl_folders.specs.Walks.{IsVisit, IsWalk, StandIn, StandsIn, ahead, part_at, pended, stacked}
 
-abbrev visits : Path → Tree → Bool
-visits q done = list_any (λ e. same_path q e.0) done
-
-abbrev pends : Path → List Pending → Bool
-pends q pending = list_any (λ p. is_within p.path q) pending
-
--- ---- what was visited
-
-is_visited : (done : Tree) (q : Path) → visits q done ≡ is_some (find path_cmp q done)
-is_visited [] q = refl
-is_visited (e ∷ done) q =
-    elim (same_path q e.0) as (λ b.
-    (b || visits q done) ≡ is_some (cond b (Some e.1) (find path_cmp q done)))
-    [ true ↦ refl | false ↦ is_visited done q ]
-
--- what is found with one entry more is found among the others, or is that entry's
-found_with : (done : Tree) (k q : Path) (v n : Node) → find path_cmp q (done ++ (k, v) ∷ []) ≡ Some n
-    → (find path_cmp q done ≡ Some n) ⊎ ((same_path q k ≡ true) × (v ≡ n))
-found_with [] k q v n =
-    elim (same_path q k) as (λ b. same_path q k ≡ b
-    → cond b (Some v) None ≡ Some n
-    → (◌≡◌ {A = Option Node} None (Some n)) ⊎ ((same_path q k ≡ true) × (v ≡ n))) [
-      | true ↦ λ same is. inr (same, same_Some v n is)
-      | false ↦ λ _ is. inl is
-    ] refl
-found_with (e ∷ done) k q v n =
-    elim (same_path q e.0) as (λ b.
-    cond b (Some e.1) (find path_cmp q (done ++ (k, v) ∷ [])) ≡ Some n
-    → (cond b (Some e.1) (find path_cmp q done) ≡ Some n) ⊎ ((same_path q k ≡ true) × (v ≡ n)))
-    [ true ↦ λ is. inl is | false ↦ found_with done k q v n ]
-
--- with an entry of the tree more, what is found is still as in the tree
-found_more : (tree done : Tree) (k : Path) (v : Node)
-    → ((q : Path) (n : Node) → find path_cmp q done ≡ Some n → lookup tree q ≡ Some n)
-    → lookup tree k ≡ Some v
-    → (q : Path) (n : Node) → find path_cmp q (done ++ (k, v) ∷ []) ≡ Some n → lookup tree q ≡ Some n
-found_more tree done k v found at q n is =
-    elim (found_with done k q v n is) [
-      | inl earlier ↦ found q n earlier
-      | inr now ↦ ap (lookup tree) (same_path-equal q k now.0) ∙ at ∙ ap Some now.1
-    ]
-
--- ---- what is yet to be visited
-
-or_left : (a b : Bool) → a ≡ true → (a || b) ≡ true
-or_left true b h = refl
-or_left false b h = absurd (true≢false (sym h))
-
-or_cases : (a b : Bool) → (a || b) ≡ true → (a ≡ true) ⊎ (b ≡ true)
-or_cases true b h = inl refl
-or_cases false b h = inr h
-
-or_false : (a : Bool) → (a || false) ≡ a
-or_false true = refl
-or_false false = refl
-
--- below a directory whose names are on the stack, whatever has one of the names there is covered
-pends_named : (dir q : Path) (names : List (Name × Kind)) (n : Name) (k : Kind) (rest : Path)
-    → find name_cmp n names ≡ Some k → q ≡ dir ++ n ∷ rest
-    → pends q (stacked dir (map named names)) ≡ true
-pends_named dir q [] n k rest is at = cc
-pends_named dir q (m ∷ names) n k rest is at =
-    list_any-append (λ p. is_within p.path q) (stacked dir (map named names)) (pended dir (named m) ∷ [])
-    ∙ elim (same_name n m.0) as (λ b. same_name n m.0 ≡ b
-    → cond b (Some m.1) (find name_cmp n names) ≡ Some k
-    → (pends q (stacked dir (map named names)) || (is_within (dir ++ m.0 ∷ []) q || false)) ≡ true) [
-      | true ↦ λ same _.
-          let here : is_within (dir ++ m.0 ∷ []) q ≡ true =
-          ap (λ x. is_within (dir ++ x ∷ []) q) (sym (same_name-equal n m.0 same))
-          ∙ ap (is_within (dir ++ n ∷ [])) (at ∙ sym (append_assoc dir (n ∷ []) rest))
-          ∙ is_within-append (dir ++ n ∷ []) rest in
-          or_right (pends q (stacked dir (map named names))) (or_left _ false here)
-      | false ↦ λ _ later. or_left _ _ (pends_named dir q names n k rest later at)
-    ] refl is
-
--- ---- steps
+-- ---- what is read
 
 -- a directory that is listed is there, and its names are those of the tree
 pub listed_is : (tree : Tree) (dir : Path) (names : List Named) → list tree dir ≡ Ok names
@@ -126,105 +52,128 @@ read_is tree path bytes is = by (file_at tree path) (file_at_is tree path) is
     by (Ok b) there is = let same : b ≡ bytes = cc in there ∙ ap (λ (x : List ℕ). Some (File x)) same
     by (Err e) there is = cc
 
--- a path with one visited more
-visits_more : (done : Tree) (k q : Path) (v : Node)
-    → visits q (done ++ (k, v) ∷ []) ≡ (visits q done || (same_path q k || false))
-visits_more done k q v = list_any-append (λ e. same_path q e.0) done ((k, v) ∷ [])
+-- ---- what is ahead
 
--- what was covered by the top of the stack alone is covered once that was visited, if what lies below is
-covered_on : (visited there pending below here under : Bool)
-    → (visited || (pending || (under || false))) ≡ true
-    → (under ≡ true → (here ≡ true) ⊎ (below ≡ true))
-    → ((visited || (here || false)) || (pending || below)) ≡ true
-covered_on true there pending below here under is down = refl
-covered_on false there true below here under is down = or_right (here || false) refl
-covered_on false there false below here true is down =
-    elim (down refl) [
-      | inl h ↦ or_left (here || false) below (or_left here false h)
-      | inr h ↦ or_right (here || false) h
-    ]
-covered_on false there false below here false is down = absurd (true≢false (sym is))
+ahead-append : (tree : Tree) (a b : List Pending) → ahead tree (a ++ b) ≡ ahead tree b ++ ahead tree a
+ahead-append tree [] b = sym (append-nil (ahead tree b))
+ahead-append tree (p ∷ a) b =
+    ap (λ (t : Tree). t ++ part_at tree p.path) (ahead-append tree a b)
+    ∙ append_assoc (ahead tree b) (ahead tree a) (part_at tree p.path)
 
-pub listed_step : (tree done : Tree) (stack : List Pending) (next : Pending) (names : List Named)
+ahead-stacked : (tree : Tree) (dir : Path) (names : List (Name × Kind))
+    → ahead tree (stacked dir (map named names)) ≡ parts_of tree dir names
+ahead-stacked tree dir [] = refl
+ahead-stacked tree dir (n ∷ names) =
+    ahead-append tree (stacked dir (map named names)) (pended dir (named n) ∷ [])
+    ∙ ap (λ (t : Tree). part_at tree (dir ++ n.0 ∷ []) ++ t) (ahead-stacked tree dir names)
+
+-- ---- what stands in the tree
+
+stand_both : (tree : Tree) (a b : List Pending) → StandIn tree a → StandIn tree b → StandIn tree (a ++ b)
+stand_both tree [] b first second = second
+stand_both tree (p ∷ a) b first second = (first.0, stand_both tree a b first.1 second)
+
+stand_parts : (tree : Tree) (a b : List Pending) → StandIn tree (a ++ b) → StandIn tree a × StandIn tree b
+stand_parts tree [] b both = (tt, both)
+stand_parts tree (p ∷ a) b both =
+    let rest = stand_parts tree a b both.1 in
+    ((both.0, rest.0), rest.1)
+
+-- a name that is found behind another one isn't that
+other_name : (n k : Name) (names : List (Name × Kind)) → below_all name_cmp n names ≡ true
+    → is_some (find name_cmp k names) ≡ true → same_name k n ≡ false
+other_name n k names below there = not_true (same_name k n) (λ same. apart names below
+    (subst (λ m. is_some (find name_cmp m names) ≡ true) (same_name-equal k n same) there))
+  where
+    apart : (names : List (Name × Kind)) → below_all name_cmp n names ≡ true
+        → is_some (find name_cmp n names) ≡ true → ⊥
+    apart [] below there = true≢false (sym there)
+    apart (m ∷ names) below there =
+        let parts = and_parts (is_lt (name_cmp n m.0)) (below_all name_cmp n names) below in
+        apart names parts.1
+        (subst (λ o. is_some (cond (is_eq o) (Some m.1) (find name_cmp n names)) ≡ true)
+        (less_is (name_cmp n m.0) parts.0) there)
+
+-- the names of a directory stand in it
+names_stand : (tree : Tree) (dir : Path) (names : List (Name × Kind)) → is_sorted name_cmp names ≡ true
+    → ((n : Name) (k : Kind) → find name_cmp n names ≡ Some k
+    → option_map node_kind (lookup tree (dir ++ n ∷ [])) ≡ Some k)
+    → StandIn tree (stacked dir (map named names))
+names_stand tree dir [] rise found = tt
+names_stand tree dir (n ∷ names) rise found =
+    let parts = and_parts (below_all name_cmp n.0 names) (is_sorted name_cmp names) rise in
+    stand_both tree (stacked dir (map named names)) (pended dir (named n) ∷ [])
+    (names_stand tree dir names parts.1 (λ k kind is.
+    found k kind
+    (ap (λ b. cond b (Some n.1) (find name_cmp k names)) (other_name n.0 k names parts.0 (ap is_some is)) ∙ is)))
+    (found n.0 n.1 (ap (λ b. cond b (Some n.1) (find name_cmp n.0 names)) (same_name-itself n.0)), tt)
+
+-- a directory that stands there answers its names, and a file its bytes
+pub directory_answers : (tree : Tree) (p : Pending) → IsTree tree → p.kind ≡ Directory → StandsIn tree p
+    → (names : List Named) × (list tree p.path ≡ Ok names)
+directory_answers tree p t is stands = by (lookup tree p.path) refl (stands ∙ ap Some is)
+  where
+    by : (o : Option Node) → lookup tree p.path ≡ o → option_map node_kind o ≡ Some Directory
+        → (names : List Named) × (list tree p.path ≡ Ok names)
+    by None there at = cc
+    by (Some Dir) there at = (map named (children tree p.path), list_there tree p.path t there)
+    by (Some (File bytes)) there at = cc
+
+pub file_answers : (tree : Tree) (p : Pending) → IsTree tree → p.kind ≡ kind.File → StandsIn tree p
+    → (bytes : List ℕ) × (file_at tree p.path ≡ Ok bytes)
+file_answers tree p t is stands = by (lookup tree p.path) refl (stands ∙ ap Some is)
+  where
+    by : (o : Option Node) → lookup tree p.path ≡ o → option_map node_kind o ≡ Some kind.File
+        → (bytes : List ℕ) × (file_at tree p.path ≡ Ok bytes)
+    by None there at = cc
+    by (Some Dir) there at = cc
+    by (Some (File bytes)) there at = (bytes, file_there tree p.path bytes t there)
+
+something_stands : (tree : Tree) (p : Pending) → StandsIn tree p
+    → (node : Node) × (lookup tree p.path ≡ Some node)
+something_stands tree p stands = by (lookup tree p.path) stands
+  where
+    by : (o : Option Node) → option_map node_kind o ≡ Some p.kind → (node : Node) × (o ≡ Some node)
+    by None at = cc
+    by (Some node) at = (node, refl)
+
+-- ---- steps
+
+-- the top of the stack is visited, and what its part has behind it is put there
+goes_on : (tree done : Tree) (stack more : List Pending) (next : Pending) (node : Node)
+    → part_at tree next.path ≡ (next.path, node) ∷ ahead tree more → StandIn tree more
+    → IsWalk tree done (stack ++ next ∷ []) → IsWalk tree (done ++ (next.path, node) ∷ []) (stack ++ more)
+goes_on tree done stack more next node part stand w = record {
+  parts =
+      append_assoc done ((next.path, node) ∷ []) (ahead tree (stack ++ more))
+      ∙ ap (λ (t : Tree). done ++ (next.path, node) ∷ t) (ahead-append tree stack more)
+      ∙ ap (λ (t : Tree). done ++ (t ++ ahead tree stack)) (sym part)
+      ∙ sym (ap (λ (t : Tree). done ++ t) (ahead-append tree stack (next ∷ [])))
+      ∙ w.parts;
+  stand = stand_both tree stack more (stand_parts tree stack (next ∷ []) w.stand).0 stand;
+}
+
+listed_step : (tree done : Tree) (stack : List Pending) (next : Pending) (names : List Named)
     → IsTree tree → IsWalk tree done (stack ++ next ∷ []) → list tree next.path ≡ Ok names
     → IsWalk tree (done ++ (next.path, Dir) ∷ []) (stack ++ stacked next.path names)
 listed_step tree done stack next names t w is =
     let dir = next.path in
     let there = listed_is tree dir names is in
-    record {
-      found = found_more tree done dir Dir w.found there.0;
-      covered = λ q has.
-          let under : is_within dir q ≡ true
-          → (same_path q dir ≡ true) ⊎ (pends q (stacked dir names) ≡ true) =
-          λ within. elim (same_path q dir) as (λ b. same_path q dir ≡ b
-          → (b ≡ true) ⊎ (pends q (stacked dir names) ≡ true)) [
-            | true ↦ λ _. inl refl
-            | false ↦ λ other. inr (below q has within other)
-          ] refl in
-          let before = sym (ap (λ b. visits q done || b)
-          (list_any-append (λ p. is_within p.path q) stack (next ∷ []))) ∙ w.covered q has in
-          ap (λ b. b || pends q (stack ++ stacked dir names)) (visits_more done dir q Dir)
-          ∙ ap (λ b. (visits q done || (same_path q dir || false)) || b)
-          (list_any-append (λ p. is_within p.path q) stack (stacked dir names))
-          ∙ covered_on (visits q done) true (pends q stack) (pends q (stacked dir names)) (same_path q dir)
-          (is_within dir q) before under;
-    }
-  where
-    below : (q : Path) → IsIn tree q → is_within next.path q ≡ true → same_path q next.path ≡ false
-        → pends q (stacked next.path names) ≡ true
-    below q has within other =
-        let dir = next.path in
-        let down = goes_below dir q within (same_path-turned q dir other) in
-        let name = down.0 in
-        let rest = down.1 in
-        let child : is_some (lookup tree (dir ++ name ∷ [])) ≡ true =
-        above_is tree t rest (dir ++ name ∷ [])
-        (subst (λ p. is_some (lookup tree p) ≡ true) (down.2 ∙ sym (append_assoc dir (name ∷ []) rest)) has) in
-        let shown = find-children tree dir name in
-        by (lookup tree (dir ++ name ∷ [])) child shown
-      where
-        by : (o : Option Node) → is_some o ≡ true
-            → find name_cmp (goes_below next.path q within (same_path-turned q next.path other)).0 (children tree next.path) ≡ option_map node_kind o
-            → pends q (stacked next.path names) ≡ true
-        by None there shown = absurd (true≢false (sym there))
-        by (Some n) there shown =
-            let down = goes_below next.path q within (same_path-turned q next.path other) in
-            ap (λ (ns : List Named). pends q (stacked next.path ns)) (listed_is tree next.path names is).1
-            ∙ pends_named next.path q (children tree next.path) down.0 (node_kind n) down.1 shown down.2
+    let found = children tree dir in
+    subst (λ (ns : List Named). IsWalk tree (done ++ (dir, Dir) ∷ []) (stack ++ stacked dir ns)) (sym there.1)
+    (goes_on tree done stack (stacked dir (map named found)) next Dir
+    (directory_part tree dir t there.0
+    ∙ ap (λ (rest : Tree). (dir, Dir) ∷ rest) (sym (ahead-stacked tree dir found)))
+    (names_stand tree dir found (is_true _ (children-sorted tree dir (holds _ t.ordered)))
+    (λ n k at. sym (find-children tree dir n) ∙ at)) w)
 
-pub read_step : (tree done : Tree) (stack : List Pending) (next : Pending) (bytes : List ℕ)
+read_step : (tree done : Tree) (stack : List Pending) (next : Pending) (bytes : List ℕ)
     → IsTree tree → IsWalk tree done (stack ++ next ∷ []) → file_at tree next.path ≡ Ok bytes
     → IsWalk tree (done ++ (next.path, File bytes) ∷ []) stack
 read_step tree done stack next bytes t w is =
-    let path = next.path in
-    let there = read_is tree path bytes is in
-    record {
-      found = found_more tree done path (File bytes) w.found there;
-      covered = λ q has.
-          let under : is_within path q ≡ true → (same_path q path ≡ true) ⊎ (false ≡ true) =
-          λ within. elim (same_path q path) as (λ b. same_path q path ≡ b
-          → (b ≡ true) ⊎ (false ≡ true)) [
-            | true ↦ λ _. inl refl
-            | false ↦ λ other. absurd (nothing q has within other)
-          ] refl in
-          let before = sym (ap (λ b. visits q done || b)
-          (list_any-append (λ p. is_within p.path q) stack (next ∷ []))) ∙ w.covered q has in
-          ap (λ b. b || pends q stack) (visits_more done path q (File bytes))
-          ∙ ap (λ b. (visits q done || (same_path q path || false)) || b) (sym (or_false (pends q stack)))
-          ∙ covered_on (visits q done) true (pends q stack) false (same_path q path)
-          (is_within path q) before under;
-    }
-  where
-    -- nothing lies below a file
-    nothing : (q : Path) → IsIn tree q → is_within next.path q ≡ true → same_path q next.path ≡ false → ⊥
-    nothing q has within other =
-        let path = next.path in
-        let down = goes_below path q within (same_path-turned q path other) in
-        let child : is_some (lookup tree (path ++ down.0 ∷ [])) ≡ true =
-        above_is tree t down.1 (path ++ down.0 ∷ [])
-        (subst (λ p. is_some (lookup tree p) ≡ true) (down.2 ∙ sym (append_assoc path (down.0 ∷ []) down.1)) has) in
-        let apart : Some Dir ≡ Some (File bytes) =
-        sym (t.parents path down.0 child) ∙ read_is tree path bytes is in cc
+    subst (λ (s : List Pending). IsWalk tree (done ++ (next.path, File bytes) ∷ []) s) (append-nil stack)
+    (goes_on tree done stack [] next (File bytes)
+    (file_part tree next.path bytes t (read_is tree next.path bytes is)) tt w)
 
 -- a visit of what is on top of the stack goes on with the walk
 pub visited : (tree done : Tree) (old rest new : List Pending) (next : Pending) (node : Node)
@@ -239,54 +188,56 @@ visited tree done old rest new next (File bytes) t w top visit =
 
 -- ---- the beginning and the end
 
-pub begun : (tree : Tree) (k : Kind) → IsWalk tree [] (record { path = []; kind = k } ∷ [])
-begun tree k = record { found = λ q n is. cc; covered = λ q has. refl }
+pub begun : (tree : Tree) → IsTree tree → IsWalk tree [] (record { path = []; kind = Directory } ∷ [])
+begun tree t = record {
+  parts = all_pass (is_within []) tree (λ q there. refl);
+  stand = (ap (option_map node_kind) t.root, tt);
+}
 
-found_by_tree : (tree done : Tree) (q : Path) → IsWalk tree done []
-    → find path_cmp q done ≡ lookup tree q
-found_by_tree tree done q w = by (find path_cmp q done) refl (lookup tree q) refl
-  where
-    by : (o : Option Node) → find path_cmp q done ≡ o → (p : Option Node) → lookup tree q ≡ p → o ≡ p
-    by (Some n) is p at = sym (w.found q n is) ∙ at
-    by None is None at = refl
-    by None is (Some n) at =
-        elim (or_cases (visits q done) false (w.covered q (ap is_some at))) [
-          | inl h ↦ absurd (true≢false (sym h ∙ is_visited done q ∙ ap is_some is))
-          | inr h ↦ absurd (true≢false (sym h))
-        ]
+pub walked_all : (tree done : Tree) → IsWalk tree done [] → done ≡ tree
+walked_all tree done w = sym (append-nil done) ∙ w.parts
+
+-- ---- refusals
+
+-- what is on top of the stack stands in the tree
+pub top_stands : (tree done : Tree) (stack old : List Pending) (next : Pending) → IsWalk tree done old
+    → old ≡ stack ++ next ∷ [] → StandsIn tree next
+top_stands tree done stack old next w top =
+    (stand_parts tree stack (next ∷ []) (subst (StandIn tree) top w.stand)).1.0
+
+-- where it isn't read, nor is the tree
+pub top_refused : (tree : Tree) (next : Pending) (e : FolderError) → StandsIn tree next
+    → RefusesPath next.path e → RefusesTree tree e
+top_refused tree next e stands (inl memory) = inl memory
+top_refused tree next e stands (inr long) =
+    let found = something_stands tree next stands in
+    inr (long.0, (next.path, ap is_some found.1, long.1))
+
+-- where something is pending, not all paths of a tree were visited
+pub some_left : (tree done : Tree) (stack old : List Pending) (next : Pending) → IsTree tree
+    → IsWalk tree done old → old ≡ stack ++ next ∷ [] → length done < 524278
+some_left tree done stack old next t w top =
+    let found = something_stands tree next (top_stands tree done stack old next w top) in
+    let rest : Tree = filter (λ e. is_below next.path e.0) tree in
+    let left : ahead tree old ≡ ((next.path, found.0) ∷ rest) ++ ahead tree stack =
+    ap (ahead tree) top ∙ ahead-append tree stack (next ∷ [])
+    ∙ ap (λ (p : Tree). p ++ ahead tree stack) (part_begins tree next.path found.0 t.ordered found.1) in
+    let all : length done + length (ahead tree old) ≡ length tree =
+    sym (length-append done (ahead tree old)) ∙ ap length w.parts in
+    omega (arith, all, ap length left, t.count)
 
 -- ---- order
 
-below_rising : (p : Path) (entries : Tree) → rising entries ≡ true
-    → (first : (e : Path × Node) (rest : Tree) → entries ≡ e ∷ rest → path_cmp p e.0 ≡ Less)
-    → below_all path_cmp p entries ≡ true
-below_rising p [] r first = refl
-below_rising p (e ∷ []) r first = ap (λ o. is_lt o && true) (first e [] refl)
-below_rising p (e ∷ f ∷ entries) r first =
-    let here = first e (f ∷ entries) refl in
-    let parts = and_parts (is_lt (path_cmp e.0 f.0)) (rising (f ∷ entries)) r in
-    ap (λ o. is_lt o && below_all path_cmp p (f ∷ entries)) here
-    ∙ below_rising p (f ∷ entries) parts.1 (λ g rest is.
-    let head : f ≡ g = cc in
-    path_total.trans p e.0 g.0 here (ap (λ (x : Path × Node). path_cmp e.0 x.0) (sym head) ∙ less_is (path_cmp e.0 f.0) parts.0))
-
-pub rising_sorted : (entries : Tree) → rising entries ≡ true → is_sorted path_cmp entries ≡ true
-rising_sorted [] r = refl
-rising_sorted (e ∷ []) r = refl
-rising_sorted (e ∷ f ∷ entries) r =
-    let parts = and_parts (is_lt (path_cmp e.0 f.0)) (rising (f ∷ entries)) r in
-    and_from (below_all path_cmp e.0 (f ∷ entries)) (is_sorted path_cmp (f ∷ entries))
-    (below_rising e.0 (f ∷ entries) parts.1 (λ g rest is.
-    let head : f ≡ g = cc in ap (λ (x : Path × Node). path_cmp e.0 x.0) (sym head) ∙ less_is (path_cmp e.0 f.0) parts.0))
-    (rising_sorted (f ∷ entries) parts.1)
+pub sorted_rising : (entries : Tree) → is_sorted path_cmp entries ≡ true → rising entries ≡ true
+sorted_rising [] sorted = refl
+sorted_rising (e ∷ []) sorted = refl
+sorted_rising (e ∷ f ∷ entries) sorted =
+    let parts = and_parts (below_all path_cmp e.0 (f ∷ entries)) (is_sorted path_cmp (f ∷ entries)) sorted in
+    and_from (is_lt (path_cmp e.0 f.0)) (rising (f ∷ entries))
+    (and_parts (is_lt (path_cmp e.0 f.0)) (below_all path_cmp e.0 entries) parts.0).0
+    (sorted_rising (f ∷ entries) parts.1)
 
 pub rising_short : (entries : Tree) → length entries ≤ 1 → rising entries ≡ true
 rising_short [] few = refl
 rising_short (e ∷ []) few = refl
 rising_short (e ∷ f ∷ entries) few = absurd (omega arith)
-
-pub walked_all : (tree done : Tree) → IsTree tree → IsWalk tree done [] → is_sorted path_cmp done ≡ true
-    → done ≡ tree
-walked_all tree done t w sorted =
-    same_entries path_cmp path_total paths_equal done tree (holds _ sorted) (holds _ t.ordered)
-    (λ q. found_by_tree tree done q w)

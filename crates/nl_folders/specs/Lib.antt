@@ -4,6 +4,7 @@ pub mod Parts
 pub mod Passing
 pub mod Blocks
 pub mod Walks
+pub mod Refusals
 pub mod Plans
 pub mod Facts
 pub mod Private

@@ -1,15 +1,14 @@
 -- How a walk through a tree comes to all of it.
-use Rattle.std.specs.Prelude.{◌≡◌, Bool, ◌||◌, IsTrue, List, [], ◌∷◌, ◌++◌, Ok}
-use Rattle.std.specs.List.{list_any}
-use Rattle.std.specs.FinMap.{find}
+use Rattle.std.specs.Prelude.{◌≡◌, List, [], ◌∷◌, ◌++◌, Ok, Some}
+use Rattle.std.specs.List.{filter}
+use Rattle.std.specs.Option.{option_map}
 use Rattle.nl_types.specs.declared.reply.Named.{Named}
 use Rattle.nl_types.specs.declared.reply.Node.{Node}
 use Rattle.nl_types.specs.declared.reply.Node.TheVariants.{Dir, File}
-use Rattle.nl_types.specs.Paths.{Path, path_cmp, same_path, is_within}
-use Rattle.nl_types.specs.Trees.{Tree, IsIn, lookup}
+use Rattle.nl_types.specs.Paths.{Path, is_within}
+use Rattle.nl_types.specs.Trees.{Tree, lookup, node_kind}
 use Rattle.nl_types.specs.Calls.{file_at, list}
 use Rattle.nl_folders.specs.declared.folder.Pending.{Pending}
-use Rattle.std.specs.Prelude.{Some}
 
 -- a name in a directory, yet to be visited
 abbrev pub pended : Path → Named → Pending
@@ -20,15 +19,27 @@ abbrev pub stacked : Path → List Named → List Pending
 stacked dir [] = []
 stacked dir (n ∷ names) = stacked dir names ++ pended dir n ∷ []
 
--- whether a path has been visited, or lies at or below one that is yet to be
-abbrev pub is_covered : Tree → List Pending → Path → Bool
-is_covered done pending q =
-    list_any (λ e. same_path q e.0) done || list_any (λ p. is_within p.path q) pending
+-- what stands at a path or below it
+abbrev pub part_at : Tree → Path → Tree
+part_at tree top = filter (λ e. is_within top e.0) tree
 
--- what has been visited is as in the tree, and nothing of the tree has been passed over
+-- what is yet to be visited, from the top of the stack down
+abbrev pub ahead : Tree → List Pending → Tree
+ahead tree [] = []
+ahead tree (p ∷ pending) = ahead tree pending ++ part_at tree p.path
+
+-- something of its kind stands at the path
+abbrev pub StandsIn : Tree → Pending → Type 0
+StandsIn tree p = option_map node_kind (lookup tree p.path) ≡ Some p.kind
+
+abbrev pub StandIn : Tree → List Pending → Type 0
+StandIn tree [] = Unit {0}
+StandIn tree (p ∷ pending) = StandsIn tree p × StandIn tree pending
+
+-- what has been visited and then what is ahead are the tree, and what is pending stands in it
 pub record IsWalk (tree done : Tree) (pending : List Pending) : Type 0 where
-  pub found : (q : Path) (n : Node) → find path_cmp q done ≡ Some n → lookup tree q ≡ Some n
-  pub covered : (q : Path) → IsIn tree q → IsTrue (is_covered done pending q)
+  pub parts : done ++ ahead tree pending ≡ tree
+  pub stand : StandIn tree pending
 
 -- a visit of a directory puts its names on the stack, and one of a file reads it
 abbrev pub IsVisit : Tree → Pending → List Pending → List Pending → Node → Type 0

@@ -1,9 +1,11 @@
 //! What can be read by paths: a folder of the host, or a checkpoint of a volume.
-ghost use Rattle.std.specs.Prelude.{◌≡◌, ◌++◌, [], IfOk, OnOk, Ok};
+ghost use Rattle.std.specs.Prelude.{◌≡◌, ◌++◌, [], ℕ, List, IfErr, IfOk, OnOk, Ok};
+ghost use Rattle.nl_types.specs.declared.reply.Named.{Named};
 ghost use Rattle.nl_types.specs.declared.reply.Node.TheVariants.{Dir};
 ghost use Rattle.nl_types.specs.Trees.{Tree, IsTree};
 ghost use Rattle.nl_types.specs.Calls.{file_at, list};
-ghost use Rattle.nl_folders.specs.Walks.{IsVisit, IsWalk, stacked};
+ghost use Rattle.nl_folders.specs.Refusals.{RefusesPath, RefusesTree};
+ghost use Rattle.nl_folders.specs.Walks.{IsVisit, IsWalk, StandsIn, stacked};
 
 use crate::paths::{Name, Path, copied, with_name};
 use crate::trees::{MOST_PATHS, Tree, is_in_order};
@@ -54,17 +56,22 @@ pub trait Folder {
     /// What reading leaves as it was.
     ghost keeps: { Self → Self → Type 0 };
 
-    /// The names in a directory with their kinds, ascending by bytes.
+    /// The names in a directory with their kinds, ascending by bytes. Those of a directory that is known to be
+    /// shown are refused by `Memory` alone, or by `BadPath` where no call can name it.
     fn list(&mut self, alloc: Global, path: &[Name]) -> Result<Items<Named>, FolderError>
         ensures listed { IfOk result (λ names. (tree : Tree) → shows self.old tree
             → list tree path.now ≡ Ok names) }
+        ensures refused { IfErr result (λ e. (tree : Tree) (names : List Named) → shows self.old tree
+            → list tree path.now ≡ Ok names → RefusesPath path.now e) }
         ensures keeps { keeps self.old self.new }
         ensures stays { (tree : Tree) → shows self.old tree → shows self.new tree };
 
-    /// All bytes of a file.
+    /// All bytes of a file. Those of one that is known to be shown are refused as the names are.
     fn read(&mut self, alloc: Global, path: &[Name]) -> Result<Items<u8>, FolderError>
         ensures read { IfOk result (λ bytes. (tree : Tree) → shows self.old tree
             → file_at tree path.now ≡ Ok bytes) }
+        ensures refused { IfErr result (λ e. (tree : Tree) (bytes : List ℕ) → shows self.old tree
+            → file_at tree path.now ≡ Ok bytes → RefusesPath path.now e) }
         ensures keeps { keeps self.old self.new }
         ensures stays { (tree : Tree) → shows self.old tree → shows self.new tree };
 
@@ -110,6 +117,8 @@ fn visit_directory<F: Folder>(
 ) -> Result<(), FolderError>
     ensures visit { OnOk result ((tree : Tree) → F.shows folder.old tree
         → IsVisit tree next.now pending.old.items pending.new.items Dir) }
+    ensures refused { IfErr result (λ e. (tree : Tree) (names : List Named) → F.shows folder.old tree
+        → list tree next.now.path ≡ Ok names → RefusesPath next.now.path e) }
     ensures keeps { F.keeps folder.old folder.new }
     ensures stays { (tree : Tree) → F.shows folder.old tree → F.shows folder.new tree }
 {
@@ -127,6 +136,8 @@ fn visit<F: Folder>(
 ) -> Result<Node, FolderError>
     ensures visit { IfOk result (λ node. (tree : Tree) → F.shows folder.old tree
         → IsVisit tree next.now pending.old.items pending.new.items node) }
+    ensures refused { IfErr result (λ e. (tree : Tree) → IsTree tree → F.shows folder.old tree
+        → StandsIn tree next.now → RefusesPath next.now.path e) }
     ensures keeps { F.keeps folder.old folder.new }
     ensures stays { (tree : Tree) → F.shows folder.old tree → F.shows folder.new tree }
 {
@@ -146,6 +157,8 @@ fn visit<F: Folder>(
 fn entries<F: Folder>(alloc: Global, folder: &mut F) -> Result<Tree, FolderError>
     ensures walk { IfOk result (λ all. (tree : Tree) → IsTree tree → F.shows folder.old tree
         → IsWalk tree all []) }
+    ensures refused { IfErr result (λ e. (tree : Tree) → IsTree tree → F.shows folder.old tree
+        → RefusesTree tree e) }
     ensures keeps { F.keeps folder.old folder.new }
 {
     let mut tree = Items::new(alloc);
@@ -154,26 +167,26 @@ fn entries<F: Folder>(alloc: Global, folder: &mut F) -> Result<Tree, FolderError
         path: Items::new(alloc),
         kind: Kind::Directory,
     })?;
-    for _ in 0..MOST_PATHS {
-        let Some(next) = pending.pop() else {
-            return Ok(tree);
-        };
+    while let Some(next) = pending.pop() {
+        if tree.len() == MOST_PATHS {
+            return Err(FolderError::Refused(VolError::TooBig));
+        }
         let node = visit(alloc, folder, &next, &mut pending)?;
         tree.push((next.path, node))?;
     }
-    if pending.is_empty() {
-        Ok(tree)
-    } else {
-        Err(FolderError::Refused(VolError::TooBig))
-    }
+    Ok(tree)
 }
 
 /// All of a folder, in the order of a tree. Where it is known to show a tree, it is that one.
 ///
 /// # Errors
-/// `Disordered` where a name comes twice, or the names don't ascend; else as the folder.
+/// Of a tree that is known to be shown, `Memory` alone, or `BadPath` where no call can name one of its paths.
+/// Else `Disordered` where a name comes twice, or the names don't ascend; `TooBig` where there are more paths
+/// than in any tree; and as the folder.
 pub fn whole_tree<F: Folder>(alloc: Global, folder: &mut F) -> Result<Tree, FolderError>
     ensures whole { IfOk result (λ all. (tree : Tree) → IsTree tree → F.shows folder.old tree → all ≡ tree) }
+    ensures refused { IfErr result (λ e. (tree : Tree) → IsTree tree → F.shows folder.old tree
+        → RefusesTree tree e) }
     ensures keeps { F.keeps folder.old folder.new }
 {
     let tree = entries(alloc, folder)?;

@@ -204,40 +204,72 @@ struct Candidate {
     bytes: u64,
 }
 
-fn bytes_in(entries: &[(Path, Node)]) -> u64 {
-    let mut bytes: u64 = 0;
-    for entry in entries {
-        match &entry.1 {
-            Node::Dir => {}
-            Node::File(content) => bytes = bytes.saturating_add(content.len() as u64),
-        }
-    }
-    bytes
+/// An entry that one tree alone has, whose part may go on: how deep it lies, and how many bytes come before it.
+#[derive(Clone, Copy)]
+struct Open {
+    place: usize,
+    depth: usize,
+    before: u64,
 }
 
-/// The entries of one tree that the other has not, but for those in which there are no bytes to keep.
+fn bytes_of(node: &Node) -> u64 {
+    match node {
+        Node::Dir => 0,
+        Node::File(content) => content.len() as u64,
+    }
+}
+
+/// Ends the parts that go on no further than to a place at this depth, with so many bytes before it.
+fn end_parts(
+    depth: usize,
+    place: usize,
+    bytes: u64,
+    open: &mut Vec<Open>,
+    found: &mut Vec<Candidate>,
+) -> Result<(), AllocError> {
+    while let Some(last) = open.pop() {
+        if last.depth < depth {
+            open.push(last)?;
+            return Ok(());
+        }
+        if last.before < bytes {
+            found.push(Candidate {
+                place: last.place,
+                count: place.saturating_sub(last.place),
+                bytes: bytes - last.before,
+            })?;
+        }
+    }
+    Ok(())
+}
+
+/// The entries of one tree that the other has not, but for those in which there are no bytes to keep. In a tree
+/// in order a part ends before the next entry that lies no deeper than its first one.
 fn candidates(
     alloc: Global,
     entries: &[(Path, Node)],
     others: &[(Path, Node)],
 ) -> Result<Vec<Candidate>, AllocError> {
     let mut found = Vec::new(alloc);
+    let mut open = Vec::new(alloc);
     let mut near = 0;
+    let mut before: u64 = 0;
     for place in 0..entries.len() {
-        let look = find_near(others, near, entries[place].0.as_slice());
+        let (path, node) = &entries[place];
+        let depth = path.len();
+        end_parts(depth, place, before, &mut open, &mut found)?;
+        let look = find_near(others, near, path.as_slice());
         near = look.place;
         if look.node.is_none() {
-            let end = part_end(entries, place);
-            let bytes = bytes_in(&entries[place..end]);
-            if bytes > 0 {
-                found.push(Candidate {
-                    place,
-                    count: end - place,
-                    bytes,
-                })?;
-            }
+            open.push(Open {
+                place,
+                depth,
+                before,
+            })?;
         }
+        before = before.saturating_add(bytes_of(node));
     }
+    end_parts(0, entries.len(), before, &mut open, &mut found)?;
     Ok(found)
 }
 

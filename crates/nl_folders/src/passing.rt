@@ -1,9 +1,10 @@
 //! Folders that are compared without a read of files that are known to be one in both.
-ghost use Rattle.std.specs.Prelude.{◌≡◌, Bool, IfOk};
+ghost use Rattle.std.specs.Prelude.{◌≡◌, ◌⊎◌, Bool, IfErr, IfOk};
 ghost use Rattle.nl_types.specs.Paths.{Path};
 ghost use Rattle.nl_types.specs.Trees.{Tree, IsTree};
 ghost use Rattle.nl_folders.specs.Differences.{differences};
 ghost use Rattle.nl_folders.specs.Passing.{AreSameFiles};
+ghost use Rattle.nl_folders.specs.Refusals.{RefusesTree};
 
 use crate::differences::{Difference, all_differences};
 use crate::folder::{Folder, FolderError, whole_tree};
@@ -70,6 +71,9 @@ pub fn folder_differences<F: Folder, G: Folder, K: Knowledge>(
     ensures differ { IfOk result (λ all. (one other : Tree) → IsTree one → IsTree other → F.shows old.old one
         → G.shows new.old other → AreSameFiles (K.known knowledge.now) one other
         → all ≡ differences one other) }
+    ensures refused { IfErr result (λ e. (one other : Tree) → IsTree one → IsTree other → F.shows old.old one
+        → G.shows new.old other → AreSameFiles (K.known knowledge.now) one other
+        → RefusesTree one e ⊎ RefusesTree other e) }
     ensures keeps_old { F.keeps old.old old.new }
     ensures keeps_new { G.keeps new.old new.new }
 {

@@ -27,8 +27,9 @@ const MOST_PATH_BYTES: usize = 4095;
 pub struct HostFolder<'a, R: Files> {
     files: &'a R,
     /// Its path, links followed.
-    root: &'a str,
-    selection: Selection<'a>,
+    pub root: &'a str,
+    /// What of it is passed over.
+    pub selection: Selection<'a>,
     /// What is left out, in the order in which it was found.
     pub left_out: Vec<LeftOut>,
     /// Files that no volume takes. They are left out too.
@@ -66,6 +67,8 @@ fn state_of(metadata: &Metadata) -> State {
 impl<'a, R: AllocGlobal + Files + Clone + Drop> HostFolder<'a, R> {
     /// The folder at a path, in which no link is to be followed any more.
     pub fn new(files: &'a R, root: &'a str, selection: Selection<'a>) -> HostFolder<'a, R>
+        ensures root { result.root.now ≡ root.entry.now }
+        ensures selection { result.selection ≡ selection.entry }
         ensures left_out { result.left_out.items ≡ [] }
         ensures too_big { result.too_big.items ≡ [] }
         ensures bytes { result.bytes ≡ 0 }

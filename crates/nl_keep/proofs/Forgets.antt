@@ -172,7 +172,7 @@ behind_from n (row ∷ all) =
           (λ later. omega (arith, leb-false n row.number before, ltb-true n row.number later))))
     ] refl
 
-run_end-from : (n : ℕ) (all : List Row) → run_end n (from_on n all) ≡ run_end n all
+pub run_end-from : (n : ℕ) (all : List Row) → run_end n (from_on n all) ≡ run_end n all
 run_end-from n all = ap (last_minor n) (behind_from n all)
 
 -- ---- one checkpoint is forgotten

@@ -23,7 +23,7 @@ use Rattle.nl_keep.specs.Private.Judged.{all_follow, follows, is_entry, is_roote
 
 -- ---- paths that follow one another
 
-less_is : (o : Ordering) → is_lt o ≡ true → o ≡ Less
+pub less_is : (o : Ordering) → is_lt o ≡ true → o ≡ Less
 less_is Less is = refl
 less_is Equal is = absurd (true≢false (sym is))
 less_is Greater is = absurd (true≢false (sym is))
@@ -89,7 +89,7 @@ follows_above d (x ∷ a) (n ∷ m ∷ b) (y ∷ top) is above =
 
 -- ---- entries that follow one another
 
-below_more : (p q : Path) (tree : Tree) → path_cmp p q ≡ Less → below_all path_cmp q tree ≡ true
+pub below_more : (p q : Path) (tree : Tree) → path_cmp p q ≡ Less → below_all path_cmp q tree ≡ true
     → below_all path_cmp p tree ≡ true
 below_more p q [] less below = refl
 below_more p q (e ∷ tree) less below =
@@ -98,7 +98,7 @@ below_more p q (e ∷ tree) less below =
     (ap is_lt (path_total.trans p q e.0 less (less_is (path_cmp q e.0) parts.0)))
     (below_more p q tree less parts.1)
 
-absent : (p : Path) (tree : Tree) → below_all path_cmp p tree ≡ true → lookup tree p ≡ None
+pub absent : (p : Path) (tree : Tree) → below_all path_cmp p tree ≡ true → lookup tree p ≡ None
 absent p [] below = refl
 absent p (e ∷ tree) below =
     let parts = and_parts (is_lt (path_cmp p e.0)) (below_all path_cmp p tree) below in

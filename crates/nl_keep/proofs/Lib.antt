@@ -2,6 +2,9 @@ pub mod Steps
 pub mod Calls
 pub mod Spelling
 pub mod TreeReads
+pub mod ReadRefusals
+pub mod StoreRefusals
+pub mod ForgetRefusals
 pub mod Lastings
 pub mod Forgets
 pub mod Judgements

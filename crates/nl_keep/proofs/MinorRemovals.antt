@@ -143,7 +143,7 @@ removes_more xs row Old Mid New one other w means =
 -- ---- all of them
 
 -- every checkpoint has a number from 1 on
-all_told : (copies : List (ℕ × Copy))
+pub all_told : (copies : List (ℕ × Copy))
     → list_all (λ c. nat_lt 0 c.0 && nat_lt c.0 checkpoint_number_limit) copies ≡ true
     → filter (λ row. nat_le 1 row.number) (map copy_row copies) ≡ map copy_row copies
 all_told [] fit = refl

@@ -1,26 +1,50 @@
 -- What the events of storing do to worlds.
-use Rattle.std.proofs.Common.{◌≡◌, ℕ, ◌+◌, [], ◌∷◌, ◌++◌, Ok, Err, refl, sym, ◌∙◌, subst, inl, inr, max}
-use Rattle.std.specs.Prelude.{false, nat_le}
+use Rattle.std.proofs.Common.{◌≡◌, ◌⊎◌, ℕ, ◌+◌, [], ◌∷◌, ◌++◌, Ok, Err, refl, sym, ◌∙◌, subst, inl, inr, max}
+use Rattle.std.specs.Prelude.{Some, None, false, nat_le}
 use Rattle.nl_types.specs.declared.error.VolError.TheVariants as error
 use Rattle.nl_types.specs.declared.event.Event.TheVariants as event
 use Rattle.nl_types.specs.declared.event.Mode.TheVariants.{Snapshot}
 use Rattle.nl_types.specs.declared.reply.Answer.TheVariants as answer
 use Rattle.nl_types.specs.Limits.{checkpoint_number_limit}
 use Rattle.nl_types.specs.Trees.{Tree, IsTree}
-use Rattle.nl_types.specs.Worlds.{World, IsWorld, Outcome, Reply, greatest, greatest_stamp, latest, numbers, step}
+use Rattle.nl_types.specs.Worlds.{World, Copy, IsWorld, Outcome, copy_at, Reply, greatest, greatest_stamp, latest, numbers, step}
 use Rattle.nl_types.specs.Facts.EventCases.{refused_if_gives}
+use Rattle.nl_folders.specs.declared.folder.FolderError.{FolderError}
+use Rattle.nl_folders.specs.declared.folder.FolderError.TheVariants.{Refused}
+use Rattle.nl_folders.specs.Refusals.{RefusesTree}
 use Rattle.nl_keep.specs.Shown.{ShowsCurrent, ShowsKept}
 use Rattle.nl_keep.specs.Stored.{ChangesTreeAlone, IsKept, KeepsTree, TakesSnapshot, snapshot_of, with_stored}
 use Rattle.nl_keep.specs.Volumes.{Follows, LeadsTo, Meaning}
 
 -- ---- whole trees
 
+pub shows_current : (Means : Meaning) (w : World) → Means w → IsTree w.tree → ShowsCurrent Means w.tree
+shows_current Means w means is_tree = record { world = w; means = means; has = refl; is_tree = is_tree }
+
+pub shows_kept : (n : ℕ) (Means : Meaning) (w : World) (copy : Copy) → Means w → copy_at w n ≡ Some copy
+    → IsTree copy.tree → ShowsKept Means n copy.tree
+shows_kept n Means w copy means kept is_tree = record {
+  world = w;
+  means = means;
+  copy = copy;
+  kept = kept;
+  has = refl;
+  is_tree = is_tree;
+}
+
+-- a checkpoint that is kept isn't judged not to be
+pub kept_refused : (n : ℕ) (e : FolderError) (w : World) (copy : Copy) → copy_at w n ≡ Some copy
+    → (e ≡ Refused error.Memory) ⊎ ((e ≡ Refused error.NoCheckpoint) × (copy_at w n ≡ None))
+    → RefusesTree copy.tree e
+kept_refused n e w copy kept (inl memory) = inl memory
+kept_refused n e w copy kept (inr missing) = let no : Some copy ≡ None = sym kept ∙ missing.1 in cc
+
 -- what is read of all of the current tree is that tree
 pub current_read : (tree : Tree) (Old : Meaning) → ((w : World) → Old w → IsWorld w)
     → ((t : Tree) → IsTree t → ShowsCurrent Old t → tree ≡ t) → (w : World) → Old w → tree ≡ w.tree
 current_read tree Old sound reads w means =
     let is_tree = (sound w means).tree in
-    reads w.tree is_tree (record { world = w; means = means; has = refl; is_tree = is_tree })
+    reads w.tree is_tree (shows_current Old w means is_tree)
 
 -- what is read of all of a kept checkpoint is its tree
 pub checkpoint_read : (n : ℕ) (tree : Tree) (Means : Meaning) → ((w : World) → Means w → IsWorld w)
@@ -32,14 +56,7 @@ checkpoint_read n tree Means sound judged reads w means =
     record {
       copy = kept.0;
       kept = kept.1;
-      has = sym (reads kept.0.tree is_tree (record {
-        world = w;
-        means = means;
-        copy = kept.0;
-        kept = kept.1;
-        has = refl;
-        is_tree = is_tree;
-      }));
+      has = sym (reads kept.0.tree is_tree (shows_kept n Means w kept.0 means kept.1 is_tree));
     }
 
 -- ---- a tree, stored

@@ -67,7 +67,7 @@ read_by path bytes tree t named = by_path (path_of (spelling path)) (parsed path
 -- ---- of a checkpoint
 
 -- what `read_at` ensures
-abbrev ReadsAt : ℕ → Ask → Reply → Meaning → Type 0
+abbrev pub ReadsAt : ℕ → Ask → Reply → Meaning → Type 0
 ReadsAt n a reply Means = (w : World) → Means w → IsReadReply a reply (reply_at w n a)
 
 answered : (n : ℕ) (a : Ask) (reply : Reply) (found : Answer) (tree : Tree) (w : World) (copy : Copy)

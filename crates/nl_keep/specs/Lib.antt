@@ -3,6 +3,7 @@ pub mod Shown
 pub mod Stored
 pub mod Made
 pub mod Forgotten
+pub mod Refusals
 pub mod MinorOnes
 pub mod Lasting
 -- for proofs of other crates

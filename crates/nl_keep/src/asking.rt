@@ -1,10 +1,14 @@
 //! What a volume is asked to read whole trees, and its answers.
-ghost use Rattle.std.specs.Prelude.{◌≡◌, IfOk, IsOk, Ok, true};
+ghost use Rattle.std.specs.Prelude.{◌≡◌, ℕ, List, Err, IfErr, IfOk, IsOk, Ok, OnErr, true};
 ghost use Rattle.std.specs.List.{list_all};
 ghost use Rattle.nl_types.specs.Paths.{is_name};
 ghost use Rattle.nl_types.specs.declared.reply.Answer.TheVariants as answer;
 ghost use Rattle.nl_types.specs.declared.event.Ask.TheVariants as ask;
+ghost use Rattle.nl_types.specs.declared.error.VolError.{VolError};
+ghost use Rattle.nl_types.specs.declared.reply.Named.{Named};
+ghost use Rattle.nl_folders.specs.declared.folder.FolderError.TheVariants.{Refused};
 ghost use Rattle.nl_folders.specs.Spelled.{spelling};
+ghost use Rattle.nl_keep.specs.Private.Refused.{RefusesQuestion};
 
 use nl_folders::{FolderError, Name, spelled};
 use nl_types::{Answer, Ask, Items, Named, Reply, VolError, is_name};
@@ -14,7 +18,9 @@ use std::alloc::Global;
 
 /// The names that were asked for. No volume answers a listing by anything else.
 pub(crate) fn names_of(reply: Reply) -> Result<Items<Named>, FolderError>
-    ensures { IfOk result (λ names. reply ≡ Ok (answer.Names names)) }
+    ensures names { IfOk result (λ names. reply ≡ Ok (answer.Names names)) }
+    ensures other { OnErr result ((names : List Named) → reply ≡ Ok (answer.Names names) → ⊥) }
+    ensures refused { IfErr result (λ e. (error : VolError) → reply ≡ Err error → e ≡ Refused error) }
 {
     match reply {
         Ok(Answer::Names(names)) => Ok(names),
@@ -25,7 +31,9 @@ pub(crate) fn names_of(reply: Reply) -> Result<Items<Named>, FolderError>
 
 /// The bytes that were asked for. No volume answers a read by anything else.
 pub(crate) fn bytes_of(reply: Reply) -> Result<Items<u8>, FolderError>
-    ensures { IfOk result (λ bytes. reply ≡ Ok (answer.Bytes bytes)) }
+    ensures bytes { IfOk result (λ bytes. reply ≡ Ok (answer.Bytes bytes)) }
+    ensures other { OnErr result ((bytes : List ℕ) → reply ≡ Ok (answer.Bytes bytes) → ⊥) }
+    ensures refused { IfErr result (λ e. (error : VolError) → reply ≡ Err error → e ≡ Refused error) }
 {
     match reply {
         Ok(Answer::Bytes(bytes)) => Ok(bytes),
@@ -51,6 +59,7 @@ pub(crate) fn are_names(path: &[Name]) -> bool
 fn path_bytes(alloc: Global, path: &[Name]) -> Result<Items<u8>, FolderError>
     ensures bytes { IfOk result (λ bytes. bytes ≡ spelling path.now) }
     ensures names { IsOk result → list_all is_name path.now ≡ true }
+    ensures refused { IfErr result (RefusesQuestion path.now) }
 {
     if !are_names(path) {
         return Err(FolderError::Refused(VolError::BadName));
@@ -63,6 +72,7 @@ fn path_bytes(alloc: Global, path: &[Name]) -> Result<Items<u8>, FolderError>
 pub(crate) fn listing_of(alloc: Global, path: &[Name]) -> Result<Ask, FolderError>
     ensures asked { IfOk result (λ asked. asked ≡ ask.List (spelling path.now)) }
     ensures names { IsOk result → list_all is_name path.now ≡ true }
+    ensures refused { IfErr result (RefusesQuestion path.now) }
 {
     let path = path_bytes(alloc, path)?;
     Ok(Ask::List { path })
@@ -73,6 +83,7 @@ pub(crate) fn whole_file(alloc: Global, path: &[Name]) -> Result<Ask, FolderErro
     ensures asked { IfOk result (λ asked.
         asked ≡ ask.Bytes (spelling path.now) 0 18446744073709551615) }
     ensures names { IsOk result → list_all is_name path.now ≡ true }
+    ensures refused { IfErr result (RefusesQuestion path.now) }
 {
     let path = path_bytes(alloc, path)?;
     Ok(Ask::Bytes {

@@ -1,7 +1,10 @@
 //! Checkpoints that are forgotten.
-ghost use Rattle.std.specs.Prelude.{◌≡◌, ◌&&◌, if◌then◌else◌, nat_lt, not, true, IfOk, OnOk};
+ghost use Rattle.std.specs.Prelude.{◌≡◌, ◌&&◌, if◌then◌else◌, nat_lt, not, true, false, IfErr, IfOk, OnErr, OnOk};
 ghost use Rattle.nl_types.specs.NumberLists.{is_one_of};
+ghost use Rattle.nl_types.specs.Worlds.{World};
 ghost use Rattle.nl_keep.specs.Forgotten.{Forgets, ForgetsOne, MakesPlain, TakesRange, TellsFrom, run_end};
+ghost use Rattle.nl_keep.specs.Private.Refused.{RefusesRange};
+ghost use Rattle.nl_keep.specs.Refusals.{RefusesToForget, RefusesToForgetAll};
 ghost use Rattle.nl_keep.specs.Volumes.{LeadsTo};
 
 use crate::volume::Volume;
@@ -45,7 +48,8 @@ fn run_end(number: CheckpointNumber, rows: &[Row]) -> CheckpointNumber
 
 /// Makes a checkpoint plain, unless it is.
 fn make_plain<V: Volume>(volume: &mut V, number: CheckpointNumber) -> Result<(), VolError>
-    ensures { OnOk result (LeadsTo (MakesPlain number) (V.means volume.old) (V.means volume.new)) }
+    ensures plain { OnOk result (LeadsTo (MakesPlain number) (V.means volume.old) (V.means volume.new)) }
+    ensures refused { IfErr result (λ e. (w : World) → V.means volume.old w → RefusesToForget number w e) }
 {
     volume.apply(&Event::ChangeMode(number, Mode::Plain))?;
     Ok(())
@@ -56,8 +60,9 @@ pub(crate) fn rows_from<V: Volume>(
     volume: &mut V,
     number: CheckpointNumber,
 ) -> Result<Items<Row>, VolError>
-    ensures { IfOk result (λ rows.
+    ensures rows { IfOk result (λ rows.
         LeadsTo (TellsFrom number rows) (V.means volume.old) (V.means volume.new)) }
+    ensures refused { IfErr result (λ e. (w : World) → V.means volume.old w → e ≡ VolError.Memory) }
 {
     let options = ListOptions {
         reverse: false,
@@ -85,7 +90,9 @@ fn is_one_of(numbers: &[CheckpointNumber], number: CheckpointNumber) -> bool
 
 /// Judges whether a checkpoint of a range was removed. Refused by `Latest` where it wasn't: it is plain.
 fn judge_removed(range: &Range, number: CheckpointNumber) -> Result<(), VolError>
-    ensures { OnOk result (is_one_of range.now.removed number ≡ true) }
+    ensures removed { OnOk result (is_one_of range.now.removed number ≡ true) }
+    ensures stays { OnErr result (is_one_of range.now.removed number ≡ false) }
+    ensures refused { IfErr result (λ e. e ≡ VolError.Latest) }
 {
     if is_one_of(range.removed.as_slice(), number) {
         Ok(())
@@ -101,7 +108,8 @@ fn take_range<V: Volume>(
     first: CheckpointNumber,
     last: CheckpointNumber,
 ) -> Result<(), VolError>
-    ensures { OnOk result (LeadsTo (TakesRange first last) (V.means volume.old) (V.means volume.new)) }
+    ensures taken { OnOk result (LeadsTo (TakesRange first last) (V.means volume.old) (V.means volume.new)) }
+    ensures refused { IfErr result (λ e. (w : World) → V.means volume.old w → RefusesRange first last w e) }
 {
     match volume.apply(&Event::RemoveRange { first, last })? {
         Answer::Removed(range) => judge_removed(&range, first),
@@ -112,7 +120,8 @@ fn take_range<V: Volume>(
 
 /// Forgets one checkpoint.
 fn forget_one<V: Volume>(volume: &mut V, number: CheckpointNumber) -> Result<(), VolError>
-    ensures { OnOk result (LeadsTo (ForgetsOne number) (V.means volume.old) (V.means volume.new)) }
+    ensures forgets { OnOk result (LeadsTo (ForgetsOne number) (V.means volume.old) (V.means volume.new)) }
+    ensures refused { IfErr result (λ e. (w : World) → V.means volume.old w → RefusesToForget number w e) }
 {
     make_plain(volume, number)?;
     let rows = rows_from(volume, number)?;
@@ -130,8 +139,10 @@ fn forget_one<V: Volume>(volume: &mut V, number: CheckpointNumber) -> Result<(),
 /// `NoCheckpoint` where a number isn't kept, or comes twice; `Mounted` where a mount shows it; `Latest` where
 /// it is the latest one; `Memory`.
 pub fn forget<V: Volume>(mut volume: V, numbers: &[CheckpointNumber]) -> Result<V, VolError>
-    ensures { IfOk result (λ after.
+    ensures forgets { IfOk result (λ after.
         LeadsTo (Forgets numbers.now) (V.means volume) (V.means after)) }
+    ensures refused { IfErr result (λ e. (w : World) → V.means volume w
+        → RefusesToForgetAll numbers.now w e) }
 {
     for number in numbers {
         forget_one(&mut volume, *number)?;

@@ -1,10 +1,11 @@
 //! Whether file calls can make a tree of entries.
-ghost use Rattle.std.specs.Prelude.{◌≡◌, ◌≤◌, length, true, OnOk};
+ghost use Rattle.std.specs.Prelude.{◌≡◌, ◌≤◌, length, true, IfErr, OnOk};
 ghost use Rattle.std.specs.List.{list_all};
 ghost use Rattle.std.specs.Ordering.{is_lt};
 ghost use Rattle.nl_types.specs.Calls.{is_dir};
 ghost use Rattle.nl_types.specs.Paths.{name_cmp, same_name};
 ghost use Rattle.nl_folders.specs.Spelled.{IsNameable};
+ghost use Rattle.nl_keep.specs.Refusals.{RefusesEntries, RefusesEntry};
 ghost use Rattle.nl_keep.specs.Private.Judged.{all_follow, follows, is_entry, is_rooted, is_small, is_spelled};
 
 use crate::asking::are_names;
@@ -48,7 +49,8 @@ fn is_small(node: &Node) -> bool
 /// Judges an entry by itself. Refused by `BadName` where a name may not stand in a path, `BadPath` where the
 /// path is too long, `TooBig` where the file is.
 fn judge_entry(entry: &(Path, Node)) -> Result<(), VolError>
-    ensures { OnOk result (is_entry entry.now ≡ true) }
+    ensures entry { OnOk result (is_entry entry.now ≡ true) }
+    ensures refused { IfErr result (RefusesEntry entry.now) }
 {
     let path = entry.0.as_slice();
     if !are_names(path) {
@@ -67,6 +69,7 @@ fn judge_entry(entry: &(Path, Node)) -> Result<(), VolError>
 fn judge_entries(entries: &[(Path, Node)]) -> Result<(), VolError>
     ensures each { OnOk result (list_all is_entry entries.now ≡ true) }
     ensures count { OnOk result (length entries.now ≤ 524278) }
+    ensures refused { IfErr result (λ e. RefusesEntries entries.now (KeepError.Refused e)) }
 {
     if entries.len() > MOST_PATHS {
         return Err(VolError::TooBig);
@@ -152,7 +155,8 @@ fn is_rooted(entries: &[(Path, Node)]) -> bool
 /// Refused by `Disordered` where they are none, `BadName`, `BadPath` or `TooBig` where a name, a path or a
 /// file is, and `TooBig` where there are too many.
 pub(crate) fn judge_tree(entries: &[(Path, Node)]) -> Result<(), KeepError>
-    ensures { OnOk result (IsNameable entries.now) }
+    ensures nameable { OnOk result (IsNameable entries.now) }
+    ensures refused { IfErr result (RefusesEntries entries.now) }
 {
     judge_entries(entries)?;
     if is_rooted(entries) {

@@ -1,8 +1,10 @@
 //! The current tree made another one, by the calls of a plan.
-ghost use Rattle.std.specs.Prelude.{◌≡◌, IfOk, OnOk};
+ghost use Rattle.std.specs.Prelude.{◌≡◌, [], ◌∷◌, IfErr, IfOk, OnOk};
 ghost use Rattle.nl_folders.specs.Spelled.{IsNameable};
 ghost use Rattle.nl_keep.specs.Made.{DoesCall, DoesCalls, bytes_of};
 ghost use Rattle.nl_keep.specs.Private.Costs.{IsMade, cost_of, with_more};
+ghost use Rattle.nl_types.specs.Worlds.{World};
+ghost use Rattle.nl_keep.specs.Private.Refused.{RefusesCalls};
 ghost use Rattle.nl_keep.specs.Volumes.{LeadsTo};
 
 use crate::volume::Volume;
@@ -47,7 +49,9 @@ fn with_more(cost: Cost, calls: &[Change]) -> Cost
 
 /// One call.
 fn apply_call<V: Volume>(volume: &mut V, call: Change) -> Result<(), VolError>
-    ensures { OnOk result (LeadsTo (DoesCall call) (V.means volume.old) (V.means volume.new)) }
+    ensures done { OnOk result (LeadsTo (DoesCall call) (V.means volume.old) (V.means volume.new)) }
+    ensures refused { IfErr result (λ e. (w : World) → V.means volume.old w
+        → RefusesCalls (call ∷ []) w e) }
 {
     volume.apply(&Event::Apply(call))?;
     Ok(())
@@ -55,7 +59,8 @@ fn apply_call<V: Volume>(volume: &mut V, call: Change) -> Result<(), VolError>
 
 /// Calls in order, up to the first that is refused.
 fn apply_all<V: Volume>(volume: &mut V, calls: Items<Change>) -> Result<(), VolError>
-    ensures { OnOk result (LeadsTo (DoesCalls calls) (V.means volume.old) (V.means volume.new)) }
+    ensures done { OnOk result (LeadsTo (DoesCalls calls) (V.means volume.old) (V.means volume.new)) }
+    ensures refused { IfErr result (λ e. (w : World) → V.means volume.old w → RefusesCalls calls w e) }
 {
     for call in calls.into_vec() {
         apply_call(volume, call)?;
@@ -63,7 +68,8 @@ fn apply_all<V: Volume>(volume: &mut V, calls: Items<Change>) -> Result<(), VolE
     Ok(())
 }
 
-/// Makes the current tree another one. No call is refused but for want of memory.
+/// Makes the current tree another one. Refused by `Memory`, and by other calls' refusals only where the tree
+/// that is there isn't the current one.
 pub(crate) fn make<V: Volume>(
     alloc: Global,
     volume: &mut V,
@@ -72,8 +78,10 @@ pub(crate) fn make<V: Volume>(
 ) -> Result<Cost, VolError>
     requires present { IsNameable present.now }
     requires wanted { IsNameable wanted.now }
-    ensures { IfOk result (λ cost.
+    ensures made { IfOk result (λ cost.
         IsMade present.now wanted.now cost (V.means volume.old) (V.means volume.new)) }
+    ensures refused { IfErr result (λ e. (w : World) → V.means volume.old w → w.tree ≡ present.now
+        → e ≡ VolError.Memory) }
 {
     let mut plan = Plan::new(alloc, present, wanted)?;
     let mut cost = Cost { calls: 0, bytes: 0 };

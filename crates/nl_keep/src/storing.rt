@@ -1,7 +1,8 @@
 //! A tree stored as the next snapshot of a volume.
-ghost use Rattle.std.specs.Prelude.{◌≡◌, IfOk};
-ghost use Rattle.nl_types.specs.Worlds.{World};
+ghost use Rattle.std.specs.Prelude.{◌≡◌, IfErr, IfOk};
+ghost use Rattle.nl_types.specs.Worlds.{World, latest};
 ghost use Rattle.nl_keep.specs.Made.{AreMadeBy};
+ghost use Rattle.nl_keep.specs.Refusals.{RefusesSnapshot, RefusesStore};
 ghost use Rattle.nl_keep.specs.Stored.{StoresOver, StoresTree, TakesSnapshot};
 ghost use Rattle.nl_keep.specs.Volumes.{LeadsTo};
 
@@ -37,12 +38,22 @@ impl fmt::Display for KeepError {
 impl Error for KeepError {}
 
 impl From<VolError> for KeepError {
+    ghost use Rattle.std.specs.Prelude.{◌≡◌};
+    ghost use Rattle.nl_keep.specs.declared.storing.KeepError.TheVariants.{Refused};
+
+    ghost from_gives = { λ error e. e ≡ Refused error };
+
     fn from(error: VolError) -> KeepError {
         KeepError::Refused(error)
     }
 }
 
 impl From<FolderError> for KeepError {
+    ghost use Rattle.std.specs.Prelude.{◌≡◌};
+    ghost use Rattle.nl_keep.specs.Refusals.{passed_on};
+
+    ghost from_gives = { λ error e. e ≡ passed_on error };
+
     fn from(error: FolderError) -> KeepError {
         match error {
             FolderError::Refused(error) => KeepError::Refused(error),
@@ -64,10 +75,12 @@ pub struct Stored {
     pub bytes: u64,
 }
 
-/// Keeps the current tree as the next snapshot.
+/// Keeps the current tree as the next snapshot. Refused by `NumbersSpent`, `NoSpace`, `Fault` and `Memory`.
 fn snapshot<V: Volume>(volume: &mut V, moment: u64) -> Result<CheckpointNumber, KeepError>
-    ensures { IfOk result (λ number.
+    ensures taken { IfOk result (λ number.
         LeadsTo (TakesSnapshot moment number) (V.means volume.old) (V.means volume.new)) }
+    ensures refused { IfErr result (λ e. (w : World) → V.means volume.old w
+        → RefusesSnapshot (latest w) e) }
 {
     match volume.apply(&Event::Checkpoint {
         mode: Mode::Snapshot,
@@ -100,6 +113,8 @@ pub fn store_over<V: Volume>(
     ensures stored { IfOk result (λ stored.
         LeadsTo (StoresOver moment stored.0.number earlier wanted.now)
         (V.means volume) (V.means stored.1)) }
+    ensures refused { IfErr result (λ e. (w : World) → V.means volume w → w.tree ≡ earlier
+        → RefusesStore wanted.now w e) }
 {
     judge_tree(wanted)?;
     judge_tree(earlier.as_slice())?;
@@ -132,6 +147,7 @@ pub fn store<V: Volume>(
     ensures stored { IfOk result (λ stored.
         LeadsTo (StoresTree moment stored.0.number wanted.now)
         (V.means volume) (V.means stored.1)) }
+    ensures refused { IfErr result (λ e. (w : World) → V.means volume w → RefusesStore wanted.now w e) }
 {
     let (earlier, volume) = current_tree(alloc, volume)?;
     let done = store_over(alloc, volume, earlier, wanted, moment)?;

@@ -1,6 +1,8 @@
 //! Checkpoints that the volume made by itself, taken out.
-ghost use Rattle.std.specs.Prelude.{◌≡◌, [], ◌∷◌, OnOk};
+ghost use Rattle.std.specs.Prelude.{◌≡◌, [], ◌∷◌, IfErr, OnOk};
+ghost use Rattle.nl_types.specs.Worlds.{World};
 ghost use Rattle.nl_keep.specs.MinorOnes.{RemovesMinor, TakesOutAll, is_plain_minor, minor_ones};
+ghost use Rattle.nl_keep.specs.Private.Refused.{RefusesMinor, RefusesMinorOnes};
 ghost use Rattle.nl_keep.specs.Volumes.{LeadsTo};
 
 use crate::forgetting::rows_from;
@@ -19,8 +21,9 @@ fn is_plain_minor(row: &Row) -> bool
 
 /// Takes out a checkpoint, if it is a plain minor one.
 fn remove_if_minor<V: Volume>(volume: &mut V, row: &Row) -> Result<(), VolError>
-    ensures { OnOk result (LeadsTo (TakesOutAll (minor_ones (row.now ∷ [])))
+    ensures taken { OnOk result (LeadsTo (TakesOutAll (minor_ones (row.now ∷ [])))
         (V.means volume.old) (V.means volume.new)) }
+    ensures refused { IfErr result (λ e. (w : World) → V.means volume.old w → RefusesMinor row.now w e) }
 {
     if !is_plain_minor(row) {
         return Ok(());
@@ -31,8 +34,10 @@ fn remove_if_minor<V: Volume>(volume: &mut V, row: &Row) -> Result<(), VolError>
 
 /// Takes out those of these checkpoints that are plain minor ones.
 fn remove_each<V: Volume>(volume: &mut V, rows: &[Row]) -> Result<(), VolError>
-    ensures { OnOk result (LeadsTo (TakesOutAll (minor_ones rows.now))
+    ensures taken { OnOk result (LeadsTo (TakesOutAll (minor_ones rows.now))
         (V.means volume.old) (V.means volume.new)) }
+    ensures refused { IfErr result (λ e. (w : World) → V.means volume.old w
+        → RefusesMinorOnes rows.now w e) }
 {
     for row in rows {
         remove_if_minor(volume, row)?;
@@ -46,7 +51,8 @@ fn remove_each<V: Volume>(volume: &mut V, rows: &[Row]) -> Result<(), VolError>
 /// # Errors
 /// `Memory`.
 pub fn remove_minor<V: Volume>(volume: &mut V) -> Result<(), VolError>
-    ensures { OnOk result (LeadsTo RemovesMinor (V.means volume.old) (V.means volume.new)) }
+    ensures removed { OnOk result (LeadsTo RemovesMinor (V.means volume.old) (V.means volume.new)) }
+    ensures refused { IfErr result (λ e. (w : World) → V.means volume.old w → e ≡ VolError.Memory) }
 {
     let rows = rows_from(volume, CheckpointNumber::new(1))?;
     let count = rows.len().saturating_sub(1);

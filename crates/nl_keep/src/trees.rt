@@ -1,6 +1,7 @@
 //! Whole trees of a volume.
-ghost use Rattle.std.specs.Prelude.{◌≡◌, ◌⊎◌, IfErr, IfOk, None, OnOk};
-ghost use Rattle.nl_types.specs.Worlds.{World, copy_at};
+ghost use Rattle.std.specs.Prelude.{◌≡◌, ◌⊎◌, IfErr, IfOk, None, OnOk, Some};
+ghost use Rattle.nl_types.specs.Worlds.{World, Copy, copy_at};
+ghost use Rattle.nl_folders.specs.Refusals.{RefusesTree};
 ghost use Rattle.nl_keep.specs.Stored.{IsKept, KeepsTree};
 ghost use Rattle.nl_keep.specs.Volumes.{LeadsTo, Stays};
 
@@ -14,10 +15,11 @@ use std::alloc::Global;
 /// The current tree. The volume is given back as it was.
 ///
 /// # Errors
-/// As `whole_tree` of `nl_folders`.
+/// `Refused` by `Memory`, or by `BadPath` where a path of it is too long for any call.
 pub fn current_tree<V: Volume>(alloc: Global, volume: V) -> Result<(Tree, V), FolderError>
     ensures tree { IfOk result (λ read. (w : World) → V.means volume w → read.0 ≡ w.tree) }
     ensures stays { IfOk result (λ read. LeadsTo Stays (V.means volume) (V.means read.1)) }
+    ensures refused { IfErr result (λ e. (w : World) → V.means volume w → RefusesTree w.tree e) }
 {
     let mut folder = CurrentFolder { volume };
     let tree = whole_tree(alloc, &mut folder)?;
@@ -46,7 +48,8 @@ fn judge_kept<V: Volume>(
 /// The whole tree of a kept checkpoint, be it a snapshot or plain. The volume stays as it is.
 ///
 /// # Errors
-/// `Refused` by `NoCheckpoint` where it isn't kept, or by `Memory`; else as `whole_tree`.
+/// `Refused` by `NoCheckpoint` where it isn't kept, or by `Memory`; of one that is kept by `BadPath` where a
+/// path of it is too long for any call.
 pub fn checkpoint_tree<V: Volume>(
     alloc: Global,
     volume: &V,
@@ -56,6 +59,8 @@ pub fn checkpoint_tree<V: Volume>(
     ensures missing { (w : World) → V.means volume.now w → copy_at w number ≡ None
         → IfErr result (λ e. (e ≡ FolderError.Refused VolError.Memory)
         ⊎ (e ≡ FolderError.Refused VolError.NoCheckpoint)) }
+    ensures refused { IfErr result (λ e. (w : World) (copy : Copy) → V.means volume.now w
+        → copy_at w number ≡ Some copy → RefusesTree copy.tree e) }
 {
     judge_kept(alloc, volume, number)?;
     let mut folder = CheckpointFolder { volume, number };

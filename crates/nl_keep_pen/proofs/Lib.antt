@@ -1,3 +1,4 @@
 pub mod Volumes
+pub mod KnownFiles
 pub mod Images
 pub mod Runs

@@ -1,9 +1,8 @@
 -- What is kept over many runs.
-use Rattle.std.proofs.Common.{◌≡◌, ℕ, true, false, List, [], ◌∷◌, Some, refl, sym, ap, ◌∙◌, subst, max}
+use Rattle.std.proofs.Common.{◌≡◌, ℕ, true, List, [], ◌∷◌, refl, sym, ap, ◌∙◌, subst, max}
 use Rattle.std.proofs.lemmas.Option.{same_Some}
 use Rattle.std.specs.FinMap.{is_sorted}
 use Rattle.std.specs.Ordering.{nat_cmp}
-use Rattle.nl_types.specs.NumberLists.{is_one_of}
 use Rattle.nl_types.specs.Trees.{Tree}
 use Rattle.nl_types.specs.Worlds.{World, Copy, copy_at, latest_stamp}
 use Rattle.nl_image.specs.Laws.{PresentMarkStays}
@@ -12,7 +11,7 @@ use Rattle.nl_commit.specs.Volume.{kept_by}
 use Rattle.nl_keep.specs.Lasting.{ForgetsKeepOthers, StoresKeepCopies}
 use Rattle.nl_keep.specs.Facts.StoredTrees.{stored_is_kept}
 use Rattle.nl_keep.specs.Stored.{snapshot_of}
-use Rattle.nl_keep_pen.specs.Images.{ImageMeans, ReadsFromImage, SameBut}
+use Rattle.nl_keep_pen.specs.Images.{ImageMeans, ReadsFromImage}
 use Rattle.nl_keep_pen.specs.Runs.{BackupsComeBack, BackupsKeepThrough, ForgetsKeepThrough, ImagesHaveThePresentMark, IsStillKept, KeepThrough}
 
 pub present_mark : PresentMarkStays → ImagesHaveThePresentMark

@@ -1,2 +1,3 @@
+pub mod Compared
 pub mod Images
 pub mod Runs

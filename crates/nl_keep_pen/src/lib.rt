@@ -1,10 +1,12 @@
 //! A pen as a volume that keeps trees, and what is kept from one image to the next.
 #![tactic(auto)]
 
+mod comparing;
 mod keeping;
 pub mod laws;
 mod tidying;
 
+pub use comparing::{SameFiles, checkpoint_differences};
 pub use keeping::{backup_image, forget_image, format_image, restore_image};
 use nl_core::Pen;
 use nl_device::Device;

@@ -2,7 +2,7 @@ use Rattle.std.proofs.Common.{Ok, ap, ◌∙◌}
 use Rattle.nl_keep.proofs.Steps.{takes_snapshot}
 use Rattle.nl_keep.proofs.storing.snapshot.Goals as goal
 
-pub returns-in-Checkpoint : goal.returns-in-Checkpoint
-returns-in-Checkpoint g c =
+pub returns-in-Checkpoint-clause-taken : goal.returns-in-Checkpoint-clause-taken
+returns-in-Checkpoint-clause-taken g c =
     takes_snapshot c.args.moment c.in-Checkpoint.number c.apply.result (g.V.Volume.means c.args.volume.now)
     (g.V.Volume.means c.apply.new.self) c.apply.ensures (c.in_ok-number.was ∙ ap Ok c.in-Checkpoint.is)

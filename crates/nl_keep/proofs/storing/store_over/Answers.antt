@@ -10,7 +10,7 @@ returns-clause-made g c =
     let new = g.V.Volume.means c.make.new.volume in
     are_made_by c.args.earlier c.args.wanted.now c.in_ok-cost.cost old new
     (subst (λ (t : Tree). IsMade t c.args.wanted.now c.in_ok-cost.cost old new) c.as_slice-2.ensures
-    c.in_ok-cost.ensures)
+    c.in_ok-cost.ensures.made)
 
 pub returns-clause-stored : goal.returns-clause-stored
 returns-clause-stored g c =
@@ -19,5 +19,5 @@ returns-clause-stored g c =
     stored_over c.args.moment c.in_ok-number.number c.args.earlier c.args.wanted.now c.in_ok-cost.cost old mid
     (g.V.Volume.means c.snapshot.new.volume)
     (subst (λ (t : Tree). IsMade t c.args.wanted.now c.in_ok-cost.cost old mid) c.as_slice-2.ensures
-    c.in_ok-cost.ensures)
-    c.in_ok-number.ensures
+    c.in_ok-cost.ensures.made)
+    c.in_ok-number.ensures.taken

@@ -1,4 +1,4 @@
-use Rattle.std.proofs.Common.{ap, subst, sym, ◌∙◌}
+use Rattle.std.proofs.Common.{subst, sym, ◌∙◌}
 use Rattle.nl_types.specs.Trees.{Tree}
 use Rattle.nl_keep.specs.Made.{AreMadeBy}
 use Rattle.nl_keep_pen.proofs.Images.{backup_closes, has_current, prepared, stores_in_image}
@@ -6,11 +6,10 @@ use Rattle.nl_keep_pen.proofs.keeping.backup_image.Goals as goal
 
 pub closed-requires : goal.closed-requires
 closed-requires g c =
-    backup_closes c.args.moment c.in_ok-stored.stored.number c.args.wanted.now c.in_ok-pen.pen
-    c.in_ok-stored.volume.pen c.in_ok-pen.ensures.pen c.in_ok-pen.ensures.rest
-    (prepared c.args.moment c.in_ok-stored.stored.number c.in_ok-earlier.earlier c.args.wanted.now
-    c.in_ok-pen.pen c.in_ok-earlier.volume.pen c.prepare.new.volume.pen c.in_ok-stored.volume.pen
-    c.in_ok-earlier.ensures.tree c.in_ok-earlier.ensures.stays c.in_ok-prepare.ensures
+    backup_closes _ _ _ c.in_ok-pen.pen c.in_ok-stored.volume.pen c.in_ok-pen.ensures.pen
+    c.in_ok-pen.ensures.rest
+    (prepared _ _ _ _ c.in_ok-pen.pen c.in_ok-earlier.volume.pen c.prepare.new.volume.pen
+    c.in_ok-stored.volume.pen c.in_ok-earlier.ensures.tree c.in_ok-earlier.ensures.stays c.in_ok-prepare.ensures
     c.in_ok-stored.ensures.stored)
 
 pub returns-clause-earlier : goal.returns-clause-earlier

@@ -1,5 +1,8 @@
 use Rattle.std.proofs.Common.{refl}
-use Rattle.std.proofs.lemmas.Result.{IfOk-weaker}
+use Rattle.std.proofs.lemmas.Result.{IfOk-weaker, err_from_is_err_and}
+use Rattle.nl_types.specs.declared.event.Ask.TheVariants as ask
+use Rattle.nl_folders.specs.Spelled.{spelling}
+use Rattle.nl_keep.proofs.ReadRefusals.{kept_replies, listed_named, names_refused, question_refused, refused_both}
 use Rattle.nl_keep.proofs.TreeReads.{listed}
 use Rattle.nl_keep.proofs.checkpoint_folder.CheckpointFolderFolder.list.Goals as goal
 
@@ -9,4 +12,20 @@ returns-clause-listed g c =
     listed c.args.self.now.number c.args.path.now c.in_ok-ask.ask c.read_at-reply.result found
     (g.V.Volume.means c.args.self.now.volume.now) (c.in_ok-ask.ensures.names refl) c.in_ok-ask.ensures.asked
     c.read_at-reply.ensures is tree shown)
-    c.names_of.ensures
+    c.names_of.ensures.names
+
+pub returns-clause-refused : goal.returns-clause-refused
+returns-clause-refused g c =
+    refused_both c.names_of.result c.names_of.ensures.other c.names_of.ensures.refused (λ e other refused tree names shown is.
+    let replies =
+    kept_replies c.args.self.now.number c.in_ok-ask.ask (ask.List (spelling c.args.path.now)) c.read_at-reply.result tree
+    (g.V.Volume.means c.args.self.now.volume.now) c.in_ok-ask.ensures.asked c.read_at-reply.ensures shown in
+    names_refused c.args.path.now tree names c.read_at-reply.result e
+    (listed_named tree c.args.path.now names shown.is_tree is) is replies other refused)
+
+pub returns-in_err-ask-clause-refused : goal.returns-in_err-ask-clause-refused
+returns-in_err-ask-clause-refused g c =
+    let p = err_from_is_err_and c.from_residual.result c.from_residual.ensures.1 in
+    rw (p.1, p.2) (λ tree names shown is.
+    question_refused c.args.path.now c.in_err-ask.field-0.0
+    (listed_named tree c.args.path.now names shown.is_tree is) c.in_err-ask.ensures.refused)
