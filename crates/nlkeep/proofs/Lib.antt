@@ -1,0 +1,2 @@
+mod VolumeSteps
+mod RoundSteps

@@ -1,0 +1,82 @@
+//! What a command is given, and what it has at hand.
+use crate::faults::{Fault, fault_at};
+use crate::sizes::{MOST, SEGMENT_BYTES, segments_said};
+use clap::ArgMatches;
+use jiff::tz::TimeZone;
+use nl_types::decimal;
+
+/// The clock and the zone of the system.
+#[derive(Clone, Copy)]
+pub struct Clock<'z> {
+    /// Seconds since 1970.
+    pub now: u64,
+    pub zone: TimeZone<'z>,
+}
+
+/// How a command ended that wasn't refused.
+#[derive(Clone, Copy, PartialEq, Eq)]
+pub enum Outcome {
+    Done,
+    /// `diff` found something.
+    Differs,
+    /// Something was left out.
+    Partly,
+}
+
+impl Outcome {
+    /// Of a command that leaves nothing out but what it tells.
+    pub fn of(is_whole: bool) -> Outcome {
+        if is_whole {
+            Outcome::Done
+        } else {
+            Outcome::Partly
+        }
+    }
+
+    /// The program's status.
+    pub fn status(self) -> u8 {
+        match self {
+            Outcome::Done => 0,
+            Outcome::Differs => 1,
+            Outcome::Partly => 3,
+        }
+    }
+}
+
+/// A word that is required, so it is there.
+pub fn word<'a>(matches: &ArgMatches<'a>, id: &str) -> &'a str {
+    matches.get_str(id).unwrap_or("")
+}
+
+/// The moment of a change: the one that was given, or the clock's.
+pub fn moment(rt: &HostRuntime, matches: &ArgMatches<'_>, now: u64) -> Result<u64, Fault> {
+    let Some(word) = matches.get_str("at") else {
+        return Ok(now);
+    };
+    match decimal(word) {
+        Some(moment) => Ok(moment),
+        None => Err(fault_at(rt.alloc(), word, "no number of seconds")),
+    }
+}
+
+/// How many segments the size has that an option gives.
+pub fn segments(
+    rt: &HostRuntime,
+    matches: &ArgMatches<'_>,
+    id: &str,
+    default: u32,
+) -> Result<u32, Fault> {
+    let Some(word) = matches.get_str(id) else {
+        return Ok(default);
+    };
+    match segments_said(word) {
+        Some(segments) => Ok(segments),
+        None => Err(fault_at(rt.alloc(), word, "no size from 512K to 256M")),
+    }
+}
+
+/// How many bytes a volume may have.
+pub fn most(rt: &HostRuntime, matches: &ArgMatches<'_>) -> Result<u64, Fault> {
+    let segments = segments(rt, matches, "max", MOST)?;
+    Ok(u64::from(segments) * SEGMENT_BYTES)
+}

@@ -1,0 +1,87 @@
+//! Which checkpoints a volume keeps, and which of them a word means.
+use crate::faults::{Fault, fault_at, volume_fault};
+use crate::moments::moment_said;
+use jiff::tz::TimeZone;
+use nl_core::Pen;
+use nl_device::MemDevice;
+use nl_types::{
+    Answer, CheckpointNumber, Event, Items, ListOptions, Reply, Row, VolError, decimal,
+};
+use std::alloc::Global;
+
+/// All checkpoints, the minor ones too.
+const ALL: ListOptions = ListOptions {
+    reverse: false,
+    snapshots_only: false,
+    with_minor: true,
+    from: None,
+    count: None,
+};
+
+/// The rows that were asked for. No pen answers a listing by anything else.
+fn rows_in(reply: Reply) -> Result<Items<Row>, VolError> {
+    match reply {
+        Ok(Answer::Rows(rows)) => Ok(rows),
+        Ok(_) => Err(VolError::Fault),
+        Err(error) => Err(error),
+    }
+}
+
+/// What is told of the kept checkpoints, by their numbers, of the minor ones too. `image` is where the volume's
+/// image stands.
+pub fn rows(alloc: Global, image: &str, pen: &mut Pen<MemDevice>) -> Result<Items<Row>, Fault> {
+    match rows_in(pen.apply(&Event::Listing(ALL))) {
+        Ok(rows) => Ok(rows),
+        Err(error) => Err(volume_fault(alloc, image, error)),
+    }
+}
+
+/// Whether the volume made a checkpoint by itself, and nobody made a snapshot of it.
+pub fn is_minor(row: &Row) -> bool {
+    row.minor && !row.mode.is_snapshot()
+}
+
+/// The latest checkpoint that isn't minor, nor later than a moment.
+fn latest_until(rows: &[Row], moment: u64) -> Option<CheckpointNumber> {
+    rows.iter()
+        .rev()
+        .find(|row| !is_minor(row) && row.stamp <= moment)
+        .map(|row| row.number)
+}
+
+fn by_date(
+    alloc: Global,
+    word: &str,
+    rows: &[Row],
+    now: u64,
+    zone: TimeZone<'_>,
+) -> Result<CheckpointNumber, Fault> {
+    let Some(moment) = moment_said(word, now, zone) else {
+        return Err(fault_at(alloc, word, "neither a number, nor latest, nor a date"));
+    };
+    match latest_until(rows, moment) {
+        Some(number) => Ok(number),
+        None => Err(fault_at(alloc, word, "no checkpoint is as old")),
+    }
+}
+
+/// The checkpoint that a word means: a number; `latest`; or a date, which means the latest one at or before
+/// it. Those two pass minor ones over. `rows` are of all kept ones.
+pub fn meant(
+    alloc: Global,
+    word: &str,
+    rows: &[Row],
+    now: u64,
+    zone: TimeZone<'_>,
+) -> Result<CheckpointNumber, Fault> {
+    if let Some(number) = decimal(word) {
+        return Ok(CheckpointNumber::new(number));
+    }
+    if word == "latest" {
+        return match latest_until(rows, u64::MAX) {
+            Some(number) => Ok(number),
+            None => Err(fault_at(alloc, word, "all checkpoints are minor")),
+        };
+    }
+    by_date(alloc, word, rows, now, zone)
+}

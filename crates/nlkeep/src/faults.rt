@@ -1,0 +1,83 @@
+//! Why a command is refused.
+use nl_folders::FolderError;
+use nl_types::VolError;
+use std::alloc::{AllocError, AllocFailed, Global};
+use std::io;
+
+/// Why a command isn't done. What it is about stays as it was.
+#[derive(Drop)]
+pub enum Fault {
+    /// This is wrong.
+    Told(String),
+    /// There is no memory.
+    Memory,
+    /// Standard output failed.
+    Output(io::Error),
+}
+
+impl From<AllocError> for Fault {
+    fn from(_: AllocError) -> Fault {
+        Fault::Memory
+    }
+}
+
+impl<T: Drop> From<AllocFailed<T>> for Fault {
+    fn from(_: AllocFailed<T>) -> Fault {
+        Fault::Memory
+    }
+}
+
+impl From<io::Error> for Fault {
+    fn from(error: io::Error) -> Fault {
+        if error.kind() == io::ErrorKind::OutOfMemory {
+            Fault::Memory
+        } else {
+            Fault::Output(error)
+        }
+    }
+}
+
+/// What is wrong with what stands at a path, or with a word.
+pub fn fault_at(alloc: Global, path: &str, what: &str) -> Fault {
+    match format!(in alloc; "{path}: {what}") {
+        Ok(text) => Fault::Told(text),
+        Err(_) => Fault::Memory,
+    }
+}
+
+/// The same, with what the system says.
+pub fn system_fault(alloc: Global, path: &str, what: &str, error: &io::Error) -> Fault {
+    if error.kind() == io::ErrorKind::OutOfMemory {
+        return Fault::Memory;
+    }
+    match format!(in alloc; "{path}: {what}: {error}") {
+        Ok(text) => Fault::Told(text),
+        Err(_) => Fault::Memory,
+    }
+}
+
+/// What the volume of an image refuses.
+pub fn volume_fault(alloc: Global, image: &str, error: VolError) -> Fault {
+    match error {
+        VolError::Memory => Fault::Memory,
+        VolError::BadImage(_) => fault_at(
+            alloc,
+            image,
+            "is no image of a volume, or a damaged one",
+        ),
+        VolError::NoSpace => fault_at(alloc, image, "is full"),
+        _ => match format!(in alloc; "{image}: {error}") {
+            Ok(text) => Fault::Told(text),
+            Err(_) => Fault::Memory,
+        },
+    }
+}
+
+/// What is wrong with a tree of the volume of an image.
+pub fn tree_fault(alloc: Global, image: &str, error: FolderError) -> Fault {
+    match error {
+        FolderError::Refused(error) => volume_fault(alloc, image, error),
+        FolderError::Unread => fault_at(alloc, image, "cannot be read"),
+        FolderError::Disordered => fault_at(alloc, image, "has a tree that is not in order"),
+    }
+}

@@ -1,0 +1,94 @@
+//! The image of a volume: read, opened, and saved again.
+ghost use Rattle.std.specs.Prelude.{IfOk};
+ghost use Rattle.nl_image.specs.Conditions.{IsShapeOf, MeetsFirst};
+ghost use Rattle.nl_image.specs.Parts.{Parts};
+
+use crate::faults::{Fault, fault_at, system_fault, volume_fault};
+use nl_core::{Pen, geometry_of, open};
+use nl_device::MemDevice;
+use nl_saving::{FileFault, InUse, SavePlace, Saved, read_file};
+use nl_types::VolError;
+use std::alloc::Global;
+use std::fs::File;
+use std::rt::Files;
+
+/// The bytes of an image.
+pub fn read_image<R: AllocGlobal + Files>(rt: &R, path: &str) -> Result<Vec<u8>, Fault> {
+    match read_file(rt, path.as_bytes()) {
+        Ok(image) => Ok(image),
+        Err(FileFault::Unread) => Err(fault_at(rt.alloc(), path, "cannot be read")),
+        Err(FileFault::Refused(error)) => Err(volume_fault(rt.alloc(), path, error)),
+    }
+}
+
+fn device_of(alloc: Global, image: &[u8]) -> Result<MemDevice, VolError>
+    ensures { IfOk result (λ device. (p : Parts) → MeetsFirst 2 image.now p
+        → IsShapeOf device.geometry p.shape) }
+{
+    let geometry = geometry_of(image)?;
+    let device = MemDevice::new(alloc, geometry)?;
+    Ok(device)
+}
+
+/// A device for the volume of an image. `path` is where that stands.
+pub fn device_for(alloc: Global, path: &str, image: &[u8]) -> Result<MemDevice, Fault>
+    ensures { IfOk result (λ device. (p : Parts) → MeetsFirst 2 image.now p
+        → IsShapeOf device.geometry p.shape) }
+{
+    match device_of(alloc, image) {
+        Ok(device) => Ok(device),
+        Err(error) => Err(volume_fault(alloc, path, error)),
+    }
+}
+
+fn pen_of(alloc: Global, image: &[u8]) -> Result<Pen<MemDevice>, VolError> {
+    let geometry = geometry_of(image)?;
+    let device = MemDevice::new(alloc, geometry)?;
+    open(alloc, image, device)
+}
+
+/// The volume of an image. `path` is where that stands.
+pub fn open_image(alloc: Global, path: &str, image: &[u8]) -> Result<Pen<MemDevice>, Fault> {
+    match pen_of(alloc, image) {
+        Ok(pen) => Ok(pen),
+        Err(error) => Err(volume_fault(alloc, path, error)),
+    }
+}
+
+/// The volume of the image at a path.
+pub fn open_at<R: AllocGlobal + Files>(rt: &R, path: &str) -> Result<Pen<MemDevice>, Fault> {
+    let image = read_image(rt, path)?;
+    open_image(rt.alloc(), path, image.as_slice())
+}
+
+/// The place where an image is saved in the end, for this program alone.
+pub fn take_place<'a, R: AllocGlobal + Files<File = File>>(
+    rt: &R,
+    path: &'a str,
+) -> Result<SavePlace<'a>, Fault> {
+    match SavePlace::take(rt, path.as_bytes()) {
+        Ok(place) => Ok(place),
+        Err(InUse) => Err(fault_at(rt.alloc(), path, "is in use by another program")),
+    }
+}
+
+/// Puts an image in its place, whole or not at all.
+pub fn save_image<R: AllocGlobal + Files<File = File>>(
+    rt: &R,
+    path: &str,
+    place: &mut SavePlace<'_>,
+    image: &[u8],
+) -> Result<(), Fault> {
+    match place.save(rt, image) {
+        Ok(Saved::There) => Ok(()),
+        Ok(Saved::Beside(side)) => Err(changed_fault(rt.alloc(), path, side.as_str())),
+        Err(error) => Err(system_fault(rt.alloc(), path, "cannot be written", &error)),
+    }
+}
+
+fn changed_fault(alloc: Global, path: &str, side: &str) -> Fault {
+    match format!(in alloc; "{path}: was changed by another program: this volume is in {side}") {
+        Ok(text) => Fault::Told(text),
+        Err(_) => Fault::Memory,
+    }
+}

@@ -1,0 +1,120 @@
+//! Keeps folders of the host with their history, in a volume with continuous snapshots.
+#![tactic(auto)]
+
+mod amounts;
+mod asking;
+mod backup;
+mod checkpoints;
+mod comparing;
+mod faults;
+mod forgetting;
+mod images;
+mod looking;
+mod making;
+mod moments;
+mod options;
+mod printing;
+mod progress;
+mod restore;
+mod room;
+mod rounds;
+mod scanning;
+mod sizes;
+mod views;
+
+use asking::{Clock, Outcome};
+use clap::ArgMatches;
+use faults::Fault;
+use moments::{Zones, now};
+use options::program;
+use printing::Printer;
+use std::io::{BufWriter, IsTerminal, Write};
+use std::process::ExitCode;
+use std::{env, io};
+
+/// The status of a command that is refused.
+const REFUSED: u8 = 2;
+
+/// Does a command.
+fn done<W: Write>(
+    rt: &HostRuntime,
+    name: &str,
+    matches: &ArgMatches<'_>,
+    clock: Clock<'_>,
+    printer: &mut Printer<W>,
+) -> Result<Outcome, Fault> {
+    match name {
+        "init" => making::init(rt, matches, clock),
+        "backup" => backup::backup(rt, matches, clock, printer),
+        "forget" => forgetting::forget(rt, matches, clock, printer),
+        _ => looking::look(rt, name, matches, clock, printer),
+    }
+}
+
+/// Does the command that is asked for, and answers the status.
+fn run_command(rt: &HostRuntime, matches: &ArgMatches<'_>) -> Result<u8, Fault> {
+    let Some((name, matches)) = matches.subcommand() else {
+        return Ok(REFUSED);
+    };
+    let zones = Zones::read(rt);
+    let clock = Clock {
+        now: now(rt)?,
+        zone: zones.zone(),
+    };
+    let mut printer = Printer {
+        out: BufWriter::new(rt.alloc(), rt.stdout())?,
+        is_terminal: rt.stdout().is_terminal(),
+    };
+    let outcome = done(rt, name, matches, clock, &mut printer)?;
+    printer.out.flush()?;
+    Ok(outcome.status())
+}
+
+fn tell_fault(rt: &HostRuntime, fault: &Fault) -> u8 {
+    let _ = match fault {
+        Fault::Told(text) => eprintln!(rt; "nlkeep: {text}"),
+        Fault::Memory => eprintln!(rt; "nlkeep: there is no memory"),
+        Fault::Output(error) => eprintln!(rt; "nlkeep: standard output: {error}"),
+    };
+    REFUSED
+}
+
+/// Writes the help or the version, or what is wrong with the words.
+fn tell_words(rt: &HostRuntime, error: &clap::Error) -> u8 {
+    if error.exit_code() == 0 {
+        match print!(rt; "{error}") {
+            Ok(()) => 0,
+            Err(_) => REFUSED,
+        }
+    } else {
+        let _ = eprint!(rt; "{error}");
+        REFUSED
+    }
+}
+
+fn run(rt: &HostRuntime) -> io::Result<u8> {
+    let words: Vec<String> = env::args(rt)?.collect(rt.alloc())?;
+    let words: Vec<&str> = words
+        .iter()
+        .skip(1)
+        .map(String::as_str)
+        .collect(rt.alloc())?;
+    let program = program(rt.alloc())?;
+    Ok(match program.try_get_matches_from(words.as_slice()) {
+        Ok(matches) => match run_command(rt, &matches) {
+            Ok(status) => status,
+            Err(fault) => tell_fault(rt, &fault),
+        },
+        Err(error) => tell_words(rt, &error),
+    })
+}
+
+fn main(rt: HostRuntime) -> ExitCode {
+    match run(&rt) {
+        Ok(status) => ExitCode::from(status),
+        Err(error) => {
+            let _ = eprintln!(rt; "nlkeep: {error}");
+            ExitCode::from(REFUSED)
+        }
+    }
+}

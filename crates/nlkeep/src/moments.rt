@@ -1,0 +1,113 @@
+//! Moments and dates: seconds since 1970, shown and said in the zone of the system.
+use crate::faults::Fault;
+use jiff::civil::{Date, DateTime};
+use jiff::tz::{SystemTimeZone, TimeZone, TimeZoneDatabase};
+use jiff::{Error, Timestamp, ToSpan};
+use std::alloc::Global;
+use std::time::{SystemTime, UNIX_EPOCH};
+
+/// How a date is shown.
+const FORM: &str = "%Y-%m-%d %H:%M:%S";
+
+/// What the system says of time zones. The zone itself borrows from it.
+#[derive(Drop)]
+pub struct Zones {
+    database: TimeZoneDatabase,
+    system: Option<SystemTimeZone>,
+}
+
+/// Whether the system's zone has to be looked up in a database by its name.
+fn is_named(alloc: Global, system: &SystemTimeZone) -> bool {
+    system.time_zone(&TimeZoneDatabase::new(alloc)).is_err()
+}
+
+/// The system's database, whose files are many, where it is needed; else an empty one.
+fn database_for(rt: &HostRuntime, system: Option<&SystemTimeZone>) -> TimeZoneDatabase {
+    let alloc = rt.alloc();
+    match system {
+        Some(system) if is_named(alloc, system) => match TimeZoneDatabase::from_env(rt) {
+            Ok(database) => database,
+            Err(_) => TimeZoneDatabase::new(alloc),
+        },
+        _ => TimeZoneDatabase::new(alloc),
+    }
+}
+
+impl Zones {
+    /// Where the system doesn't say, it is UTC.
+    pub fn read(rt: &HostRuntime) -> Zones {
+        let system = SystemTimeZone::read(rt).ok();
+        Zones {
+            database: database_for(rt, system.as_ref()),
+            system,
+        }
+    }
+
+    pub fn zone(&self) -> TimeZone<'_> {
+        match &self.system {
+            Some(system) => match system.time_zone(&self.database) {
+                Ok(zone) => zone,
+                Err(_) => TimeZone::UTC,
+            },
+            None => TimeZone::UTC,
+        }
+    }
+}
+
+/// The clock's moment.
+pub fn now(rt: &HostRuntime) -> Result<u64, Fault> {
+    let now = SystemTime::now(rt)?;
+    Ok(match now.duration_since(UNIX_EPOCH) {
+        Ok(since) => since.as_secs(),
+        Err(_) => 0,
+    })
+}
+
+fn date_of(zone: TimeZone<'_>, moment: u64) -> Result<DateTime, Error> {
+    let second = i64::try_from(moment).unwrap_or(i64::MAX);
+    let zoned = Timestamp::from_second(second)?.to_zoned(zone);
+    Ok(zoned.datetime())
+}
+
+/// A moment as a date and time, or as the number of its seconds where it has no date.
+pub fn shown(alloc: Global, zone: TimeZone<'_>, moment: u64) -> Result<String, Fault> {
+    match date_of(zone, moment) {
+        Ok(date) => match date.strftime(alloc, FORM) {
+            Ok(text) => Ok(text),
+            // The form is a right one, so memory lacks.
+            Err(_) => Err(Fault::Memory),
+        },
+        Err(_) => Ok(format!(in alloc; "{moment}")?),
+    }
+}
+
+fn last_second_of(date: Date, zone: TimeZone<'_>) -> Result<i64, Error> {
+    let end = DateTime::new(date.year(), date.month(), date.day(), 23, 59, 59, 0)?;
+    Ok(end.to_zoned(zone)?.timestamp().as_second())
+}
+
+fn yesterday(now: u64, zone: TimeZone<'_>) -> Result<i64, Error> {
+    let second = i64::try_from(now).unwrap_or(i64::MAX);
+    let today = Timestamp::from_second(second)?.to_zoned(zone);
+    let day = today.datetime().date().checked_sub(1i64.days())?;
+    last_second_of(day, zone)
+}
+
+fn second_said(word: &str, now: u64, zone: TimeZone<'_>) -> Result<i64, Error> {
+    if word == "yesterday" {
+        return yesterday(now, zone);
+    }
+    if word.contains('T') {
+        let at: DateTime = word.parse()?;
+        return Ok(at.to_zoned(zone)?.timestamp().as_second());
+    }
+    let day: Date = word.parse()?;
+    last_second_of(day, zone)
+}
+
+/// The moment that a date in the zone says: `2026-11-26T18:00`, or the last second of `2026-11-26` or of
+/// `yesterday`. None where it is no date, or one before 1970.
+pub fn moment_said(word: &str, now: u64, zone: TimeZone<'_>) -> Option<u64> {
+    let second = second_said(word, now, zone).ok()?;
+    u64::try_from(second).ok()
+}

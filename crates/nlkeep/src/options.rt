@@ -1,0 +1,290 @@
+//! What the program is told.
+use clap::{Arg, ArgAction, Command};
+use std::alloc::{AllocError, Global};
+
+/// What stands behind the commands in the help.
+const MORE: &str = "\
+CNO is a checkpoint: its number, `latest`, or a date as 2026-11-26, 2026-11-26T18:00 or
+`yesterday`, which means the latest one at or before it.
+Status: 0 done, 1 `diff` found something, 2 refused, 3 done but something was left out.
+Modes and times of files are not kept yet, nor are symbolic links.";
+
+/// How a command is given an argument.
+#[derive(Clone, Copy)]
+enum Kind<'a> {
+    /// By a word, which is required.
+    Word,
+    /// By a word, which may be left out.
+    OptionalWord,
+    /// By words, one at least.
+    Words,
+    /// By an option with a value, which the help calls so.
+    Valued(&'a str),
+    /// By such options, any number of them.
+    Repeated(&'a str),
+    /// By a letter.
+    Letter(char),
+}
+
+/// An argument of a command.
+#[derive(Clone, Copy)]
+struct Argument<'a> {
+    /// Its name, in the help too.
+    name: &'a str,
+    kind: Kind<'a>,
+    /// What the help says of it.
+    help: &'a str,
+}
+
+/// A command of the program.
+#[derive(Clone, Copy)]
+struct Form<'a> {
+    name: &'a str,
+    /// What the help says of it.
+    about: &'a str,
+    arguments: &'a [Argument<'a>],
+}
+
+/// What is said of each argument that is a checkpoint.
+const CHECKPOINT: &str = "Checkpoint: its number, latest, or a date";
+
+const PART: &str = "What lies at and below this path alone";
+
+const IMAGE: Argument<'static> = Argument {
+    name: "IMAGE",
+    kind: Kind::Word,
+    help: "File that holds the volume",
+};
+
+const NUMBER: Argument<'static> = Argument {
+    name: "CNO",
+    kind: Kind::Word,
+    help: CHECKPOINT,
+};
+
+const PATH: Argument<'static> = Argument {
+    name: "PATH",
+    kind: Kind::OptionalWord,
+    help: PART,
+};
+
+const MOST: Argument<'static> = Argument {
+    name: "max",
+    kind: Kind::Valued("SIZE"),
+    help: "How great the volume may become [default: 256M]",
+};
+
+const MOMENT: Argument<'static> = Argument {
+    name: "at",
+    kind: Kind::Valued("MOMENT"),
+    help: "Seconds since 1970 [default: the clock's]",
+};
+
+/// The commands, in the order of the help.
+const COMMANDS: &[Form<'static>] = &[
+    Form {
+        name: "init",
+        about: "Makes a new volume in a new file",
+        arguments: &[
+            IMAGE,
+            Argument {
+                name: "size",
+                kind: Kind::Valued("SIZE"),
+                help: "Size of the volume [default: 8M]",
+            },
+            MOMENT,
+        ],
+    },
+    Form {
+        name: "backup",
+        about: "Keeps a folder as it is, as the next snapshot",
+        arguments: &[
+            IMAGE,
+            Argument {
+                name: "FOLDER",
+                kind: Kind::Word,
+                help: "Folder to keep",
+            },
+            Argument {
+                name: "dry-run",
+                kind: Kind::Letter('n'),
+                help: "Tells what would change, and changes nothing",
+            },
+            Argument {
+                name: "exclude",
+                kind: Kind::Repeated("PATTERN"),
+                help: "Path below FOLDER, or name, to pass over; * and ? stand for all but /",
+            },
+            MOST,
+            MOMENT,
+        ],
+    },
+    Form {
+        name: "restore",
+        about: "Lays a checkpoint's tree out in a folder",
+        arguments: &[
+            IMAGE,
+            NUMBER,
+            Argument {
+                name: "FOLDER",
+                kind: Kind::Word,
+                help: "Folder that isn't there yet, or is empty",
+            },
+            Argument {
+                name: "path",
+                kind: Kind::Valued("PATH"),
+                help: PART,
+            },
+        ],
+    },
+    Form {
+        name: "list",
+        about: "Lists the checkpoints",
+        arguments: &[
+            IMAGE,
+            Argument {
+                name: "all",
+                kind: Kind::Letter('a'),
+                help: "Minor ones, which cleaning made, too",
+            },
+            Argument {
+                name: "long",
+                kind: Kind::Letter('l'),
+                help: "With the paths and bytes of each",
+            },
+        ],
+    },
+    Form {
+        name: "ls",
+        about: "Lists the files and folders of a checkpoint with their sizes",
+        arguments: &[IMAGE, NUMBER, PATH],
+    },
+    Form {
+        name: "cat",
+        about: "Writes a file of a checkpoint to standard output",
+        arguments: &[
+            IMAGE,
+            NUMBER,
+            Argument {
+                name: "PATH",
+                kind: Kind::Word,
+                help: "Path of the file",
+            },
+        ],
+    },
+    Form {
+        name: "diff",
+        about: "Tells what differs from one checkpoint to another",
+        arguments: &[
+            IMAGE,
+            Argument {
+                name: "A",
+                kind: Kind::Word,
+                help: CHECKPOINT,
+            },
+            Argument {
+                name: "B",
+                kind: Kind::Word,
+                help: CHECKPOINT,
+            },
+            PATH,
+        ],
+    },
+    Form {
+        name: "forget",
+        about: "Removes checkpoints",
+        arguments: &[
+            IMAGE,
+            Argument {
+                name: "R",
+                kind: Kind::Words,
+                help: "Number of a checkpoint, or two with .. between them",
+            },
+            MOST,
+            MOMENT,
+        ],
+    },
+];
+
+impl Kind<'_> {
+    fn is_required(self) -> bool {
+        matches!(self, Kind::Word | Kind::Words)
+    }
+
+    /// What the library does with a value.
+    fn action(self) -> ArgAction {
+        match self {
+            Kind::Word | Kind::OptionalWord | Kind::Valued(_) => ArgAction::Set,
+            Kind::Words | Kind::Repeated(_) => ArgAction::Append,
+            Kind::Letter(_) => ArgAction::SetTrue,
+        }
+    }
+}
+
+/// What all arguments have.
+fn plain_argument(alloc: Global, argument: Argument<'_>) -> Arg<'_> {
+    Arg::new(alloc, argument.name)
+        .help(argument.help)
+        .required(argument.kind.is_required())
+        .action(argument.kind.action())
+}
+
+/// An argument, as one of the library's.
+fn library_argument(alloc: Global, argument: Argument<'_>) -> Arg<'_> {
+    let plain = plain_argument(alloc, argument);
+    match argument.kind {
+        Kind::Word | Kind::OptionalWord => plain,
+        Kind::Words => plain.num_args(1..),
+        Kind::Valued(value) | Kind::Repeated(value) => plain.long(argument.name).value_name(value),
+        Kind::Letter(letter) => plain.short(letter),
+    }
+}
+
+fn with_arguments<'a>(
+    alloc: Global,
+    command: Command<'a>,
+    arguments: &[Argument<'a>],
+) -> Result<Command<'a>, AllocError> {
+    let mut command = command;
+    for argument in arguments {
+        command = command.arg(library_argument(alloc, *argument))?;
+    }
+    Ok(command)
+}
+
+/// A command, as one of the library's.
+fn library_command(alloc: Global, form: Form<'_>) -> Result<Command<'_>, AllocError> {
+    let bare = Command::new(alloc, form.name).about(form.about);
+    with_arguments(alloc, bare, form.arguments)
+}
+
+/// The program without its commands.
+fn bare<'a>(alloc: Global) -> Command<'a> {
+    Command::new(alloc, "nlkeep")
+        .about("Keeps folders with their history, in a volume with continuous snapshots")
+        .version("0.1.0")
+        .after_help(MORE)
+        .subcommand_required(true)
+        .no_binary_name(true)
+}
+
+fn with_command<'a>(
+    alloc: Global,
+    program: Command<'a>,
+    form: Form<'a>,
+) -> Result<Command<'a>, AllocError> {
+    match library_command(alloc, form) {
+        Ok(command) => program.subcommand(command),
+        Err(error) => Err(error),
+    }
+}
+
+/// The program with its commands.
+pub fn program<'a>(alloc: Global) -> Result<Command<'a>, AllocError> {
+    let commands = COMMANDS;
+    let mut program = bare(alloc);
+    for form in commands {
+        program = with_command(alloc, program, *form)?;
+    }
+    Ok(program)
+}

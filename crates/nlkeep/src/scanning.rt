@@ -1,0 +1,120 @@
+//! The folder of the host that is kept.
+use crate::faults::{Fault, fault_at, system_fault, volume_fault};
+use crate::progress::{Progress, Watched};
+use nl_folders::{FolderError, Tree, whole_tree};
+use nl_host::{HostFolder, LeftOut, Pattern, Selection, TooBig};
+use std::alloc::{AllocError, Global};
+use std::path::{Path, PathBuf};
+use std::{fs, io};
+
+/// The most bytes that a volume has.
+const MOST_BYTES: u64 = 268_435_456;
+
+/// What was found in a folder.
+#[derive(Drop)]
+pub struct Scan {
+    pub tree: Tree,
+    pub left_out: Vec<LeftOut>,
+}
+
+/// The folder of a path with its links followed, and the name in it, which need not stand there.
+fn folder_and_name(rt: &HostRuntime, path: &str) -> io::Result<(PathBuf, String)> {
+    let path = Path::new(path);
+    let folder = match path.parent() {
+        Some(folder) if !folder.as_str().is_empty() => folder,
+        _ => Path::new("."),
+    };
+    let name = String::from_str(rt.alloc(), path.file_name().unwrap_or(""))?;
+    Ok((fs::canonicalize(rt, folder)?, name))
+}
+
+fn too_big_text(alloc: Global, files: &[TooBig]) -> Result<String, AllocError> {
+    let begin = "no volume takes files above 64M; leave them out by --exclude:";
+    let mut text = String::from_str(alloc, begin)?;
+    for file in files {
+        let (path, size) = (file.path.as_str(), file.size);
+        let line = format!(in alloc; "\n  {path} ({size} bytes)")?;
+        text.push_str(line.as_str())?;
+    }
+    Ok(text)
+}
+
+fn too_many_text(alloc: Global, folder: &str, bytes: u64) -> Result<String, AllocError> {
+    let more = bytes.saturating_sub(MOST_BYTES);
+    format!(in alloc;
+        "{folder}: has {bytes} bytes in files, and no volume has more than {MOST_BYTES}: \
+         leave {more} out by --exclude"
+    )
+}
+
+fn told(text: Result<String, AllocError>) -> Fault {
+    match text {
+        Ok(text) => Fault::Told(text),
+        Err(_) => Fault::Memory,
+    }
+}
+
+fn scan_fault(alloc: Global, path: &str, error: FolderError) -> Fault {
+    match error {
+        FolderError::Refused(error) => volume_fault(alloc, path, error),
+        FolderError::Unread => fault_at(alloc, path, "cannot be read"),
+        FolderError::Disordered => fault_at(alloc, path, "changed while it was read"),
+    }
+}
+
+/// All that is to be kept of a folder, and what is left out.
+///
+/// # Errors
+/// A folder that can't be read; files that no volume takes; more bytes than a volume takes.
+fn scan_below(
+    rt: &HostRuntime,
+    folder: &str,
+    selection: Selection<'_>,
+    progress: &mut Progress<'_>,
+) -> Result<Scan, Fault> {
+    let alloc = rt.alloc();
+    let mut watched = Watched::new(HostFolder::new(rt, folder, selection), progress);
+    let read = whole_tree(alloc, &mut watched);
+    let host = watched.folder;
+    if !host.too_big.is_empty() {
+        return Err(told(too_big_text(alloc, host.too_big.as_slice())));
+    }
+    if host.bytes > MOST_BYTES {
+        return Err(told(too_many_text(alloc, folder, host.bytes)));
+    }
+    match read {
+        Ok(tree) => Ok(Scan {
+            tree,
+            left_out: host.left_out,
+        }),
+        Err(error) => {
+            let path = host.failed_at.as_ref().map_or(folder, String::as_str);
+            Err(scan_fault(alloc, path, error))
+        }
+    }
+}
+
+/// All that is to be kept of a folder but what a person left out. `image` is where the volume's image stands.
+pub fn scan_folder(
+    rt: &HostRuntime,
+    folder: &str,
+    image: &str,
+    excluded: &[Pattern<'_>],
+    progress: &mut Progress<'_>,
+) -> Result<Scan, Fault> {
+    let alloc = rt.alloc();
+    let root = match fs::canonicalize(rt, folder) {
+        Ok(root) => root,
+        Err(error) => return Err(system_fault(alloc, folder, "cannot be read", &error)),
+    };
+    let (image_folder, image_name) = match folder_and_name(rt, image) {
+        Ok(place) => place,
+        Err(error) => return Err(system_fault(alloc, image, "cannot be read", &error)),
+    };
+    let selection = Selection {
+        excluded,
+        image_folder: image_folder.as_path().as_str(),
+        image_name: image_name.as_str(),
+    };
+    scan_below(rt, root.as_path().as_str(), selection, progress)
+}

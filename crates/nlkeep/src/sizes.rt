@@ -1,0 +1,46 @@
+//! Sizes of volumes, as a person says them.
+use nl_types::decimal;
+use std::alloc::{AllocError, Global};
+
+/// How many blocks each segment has. A volume of such segments can have any size up to the greatest.
+pub const BLOCKS: u32 = 64;
+
+/// How many bytes a segment has.
+pub const SEGMENT_BYTES: u64 = 65_536;
+
+/// The fewest and the most segments.
+pub const FEWEST: u32 = 8;
+
+pub const MOST: u32 = 4096;
+
+/// How many bytes a word such as `8M`, `512K` or `65536` says.
+fn bytes_said(word: &str) -> Option<u64> {
+    let (digits, unit) = if let Some(digits) = word.strip_suffix('K') {
+        (digits, 1024)
+    } else if let Some(digits) = word.strip_suffix('M') {
+        (digits, 1_048_576)
+    } else {
+        (word, 1)
+    };
+    decimal(digits)?.checked_mul(unit)
+}
+
+/// A size in bytes, as a person says it.
+pub fn size_shown(alloc: Global, bytes: u64) -> Result<String, AllocError> {
+    if bytes % 1_048_576 == 0 {
+        format!(in alloc; "{}M", bytes / 1_048_576)
+    } else {
+        format!(in alloc; "{}K", bytes / 1024)
+    }
+}
+
+/// How many segments a size has, the last one whole; none where that is no size of a volume.
+pub fn segments_said(word: &str) -> Option<u32> {
+    let segments = bytes_said(word)?.div_ceil(SEGMENT_BYTES);
+    let segments = u32::try_from(segments).ok()?;
+    if FEWEST <= segments && segments <= MOST {
+        Some(segments)
+    } else {
+        None
+    }
+}
