@@ -14,6 +14,7 @@ use Rattle.nl_layout.specs.declared.inode.Inode.{Inode}
 use Rattle.nl_layout.specs.declared.inode.InodeKind.{InodeKind}
 use Rattle.nl_layout.specs.declared.inode.InodeKind.TheVariants.{File, Directory, InodeFile}
 use Rattle.nl_layout.specs.declared.root.Root.{Root as CodeRoot}
+use Rattle.nl_layout.specs.declared.root.RootFields.{RootFields}
 use Rattle.nl_vstore.specs.Periods.{Periods}
 use Rattle.nl_files.specs.CheckpointRoots.{StandsAs, StandsFor, Stores}
 use Rattle.nl_files.specs.CheckpointTrees.{HoldsTree}
@@ -21,7 +22,7 @@ use Rattle.nl_ifile.specs.Inodes.{inode_at}
 use Rattle.nl_tree.specs.Held.{Held, Holding, IsHolding, inode_content, inodes_of_holding}
 use Rattle.nl_check.specs.Conditions.{AreExact, AreShaped, AreTrees, FirstFault, HasExactPeriods, IsSoundShape, IsSoundTree, MeetsItsNumbers, all_met, periods_fail, shapes_fail, trees_fail}
 use Rattle.nl_check.specs.InodeTrees.{FormTree, used_below}
-use Rattle.nl_check.specs.Judging.{IsJudged, IsTold, fault_told, told}
+use Rattle.nl_check.specs.Judging.{AreMetAt, IsAlike, IsJudged, IsLast, IsTold, fault_told, told}
 use Rattle.nl_check.specs.Private.Naming.{TellsKinds, awaited_count, kind_held}
 use Rattle.nl_check.specs.Periods.{AreOfPeriods}
 use Rattle.nl_check.specs.Shapes.{HasShape, Itself}
@@ -29,8 +30,9 @@ use Rattle.nl_check.specs.Private.SoundInodes.{kind_for, kind_in, kind_told}
 use Rattle.nl_check.specs.Trees.{IsSizeOf, IsTreeOf}
 use Rattle.nl_check.specs.Private.Walks.{IsWalk}
 use Rattle.nl_check.specs.declared.checks.Judged.{Judged}
+use Rattle.nl_check.specs.declared.checks.Last.{Last}
 use Rattle.nl_check.specs.declared.shape.Walk.{Walk}
-use Rattle.nl_check.specs.Facts.Below.{not-none, some-by}
+use Rattle.nl_check.specs.Facts.Below.{both, not-none, some-by}
 use Rattle.nl_check.proofs.MetNumbers.{tell-periods}
 
 -- ---- how many are in use
@@ -191,6 +193,55 @@ module _ (pages : Pages) (periods : Periods) (entry : CheckpointEntry) (root : C
     where
       by : (b : Bool) → b ≡ true → b ≡ false → ⊥
       by b p q = cc
+
+  pub met-at : (numbers : List Bool) (kinds : List (Option Kind)) (walk : Walk)
+      → IsWalk pages (root_of root) numbers kinds walk → AreMetAt pages (told entry) numbers
+  met-at numbers kinds walk w = (root_of root, told-root, w.met_in)
+
+-- ---- a checkpoint with the file of inodes of the last one
+
+module _ (pages : Pages) (periods : Periods) (entry : CheckpointEntry) (numbers : List Bool) (last : Last)
+    (before : IsLast pages numbers last) (alike : IsAlike last.entry entry) where
+  one-root : (told last.entry).root ≡ (told entry).root
+  one-root = ap (λ (fields : RootFields). option_map root_of (root_told fields)) alike.root
+
+  shape-here : IsSoundShape pages (told entry)
+  shape-here = let s = before.shape in (s.0, sym one-root ∙ s.1, s.2)
+
+  tree-here : IsSoundTree pages (told last.entry) → IsSoundTree pages (told entry)
+  tree-here (root, is, t) = (
+    root,
+    sym one-root ∙ is,
+    subst (λ (n : ℕ). IsTreeOf pages root entry.size n) alike.inodes
+        (subst (λ (n : ℕ). IsTreeOf pages root n last.entry.inodes) alike.size t),
+  )
+
+  tree-before : IsSoundTree pages (told entry) → IsSoundTree pages (told last.entry)
+  tree-before (root, is, t) = (
+    root,
+    one-root ∙ is,
+    subst (λ (n : ℕ). IsTreeOf pages root last.entry.size n) (sym alike.inodes)
+        (subst (λ (n : ℕ). IsTreeOf pages root n entry.inodes) (sym alike.size) t),
+  )
+
+  pub met-alike : AreMetAt pages (told entry) numbers
+  met-alike = let m = before.met in (m.0, sym one-root ∙ m.1, m.2)
+
+  pub judged-alike : (tree exact : Bool) → tree ≡ last.tree
+      → (exact ≡ true → AreOfPeriods periods entry.number numbers)
+      → (AreOfPeriods periods entry.number numbers → exact ≡ true)
+      → IsJudged pages periods (told entry) (record { tree = tree; periods = exact })
+  judged-alike tree exact same are of = let m = met-alike in record {
+    shape = shape-here;
+    tree = λ e. tree-here (before.tree (sym same ∙ e));
+    no_tree = λ e t. before.no_tree (sym same ∙ e) (tree-before t);
+    exact = λ e. (m.0, m.1, tell-periods.yes pages periods entry.number m.0 numbers m.2 (are e));
+    not_exact = λ e (r, is, x).
+        let one : Some r ≡ Some m.0 = sym is ∙ m.1 in
+        let root_is : r ≡ m.0 = cc in
+        both exact (of (tell-periods.no pages periods entry.number m.0 numbers m.2
+        (subst (MeetsItsNumbers pages periods entry.number) root_is x))) e;
+  }
 
 -- ---- all of them
 

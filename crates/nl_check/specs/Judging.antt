@@ -2,13 +2,15 @@
 use Rattle.std.specs.Prelude.{◌≡◌, ℕ, ◌*◌, Bool, true, false, cond, List, Option, None, Some}
 use Rattle.std.specs.Option.{option_map}
 use Rattle.nl_types.specs.declared.kind.Kind.{Kind}
-use Rattle.nl_types.specs.Roots.{Pages}
+use Rattle.nl_types.specs.Roots.{Pages, Root}
 use Rattle.nl_layout.specs.Root.{root_of, root_told}
 use Rattle.nl_layout.specs.declared.checkpoint_entry.CheckpointEntry.{CheckpointEntry}
 use Rattle.nl_vstore.specs.Periods.{Periods}
 use Rattle.nl_check.specs.Conditions.{HasExactPeriods, IsSoundShape, IsSoundTree, Told}
+use Rattle.nl_check.specs.Periods.{AreMetIn}
 use Rattle.nl_check.specs.Private.Naming.{awaited_count}
 use Rattle.nl_check.specs.declared.checks.Judged.{Judged}
+use Rattle.nl_check.specs.declared.checks.Last.{Last}
 use Rattle.nl_check.specs.declared.shape.Walk.{Walk}
 
 -- what an entry of the checkpoint file tells of its checkpoint
@@ -34,6 +36,24 @@ pub record IsJudged (pages : Pages) (periods : Periods) (c : Told) (judged : Jud
   pub no_tree : judged.tree ≡ false → IsSoundTree pages c → ⊥
   pub exact : judged.periods ≡ true → HasExactPeriods pages periods c
   pub not_exact : judged.periods ≡ false → HasExactPeriods pages periods c → ⊥
+
+-- the numbers that were met are those at the places of a checkpoint
+abbrev pub AreMetAt : Pages → Told → List Bool → Type 0
+AreMetAt pages c numbers = (root : Root) × (c.root ≡ Some root) × AreMetIn pages root numbers
+
+-- What is known of the checkpoint judged last: its numbers are met, and it has its shape. Whether it holds a
+-- tree is known.
+pub record IsLast (pages : Pages) (numbers : List Bool) (last : Last) : Type 0 where
+  pub met : AreMetAt pages (told last.entry) numbers
+  pub shape : IsSoundShape pages (told last.entry)
+  pub tree : last.tree ≡ true → IsSoundTree pages (told last.entry)
+  pub no_tree : last.tree ≡ false → IsSoundTree pages (told last.entry) → ⊥
+
+-- two checkpoints have one file of inodes, and one size and count are told of it
+pub record IsAlike (one other : CheckpointEntry) : Type 0 where
+  pub root : one.root ≡ other.root
+  pub size : one.size ≡ other.size
+  pub inodes : one.inodes ≡ other.inodes
 
 -- the first condition that fails, where it is known of the last two whether they hold
 abbrev pub fault_told : Bool → Bool → Option ℕ

@@ -5,7 +5,7 @@ ghost use Rattle.nl_types.specs.declared.error.VolError;
 ghost use Rattle.nl_types.specs.Roots.{Pages, Root as AnyRoot};
 ghost use Rattle.nl_layout.specs.Root.{root_of};
 ghost use Rattle.nl_check.specs.Conditions.{FirstFault, IsSoundShape};
-ghost use Rattle.nl_check.specs.Judging.{IsJudged, IsTold, fault_told, told};
+ghost use Rattle.nl_check.specs.Judging.{AreMetAt, IsAlike, IsJudged, IsLast, IsTold, fault_told, told};
 ghost use Rattle.nl_check.specs.MetFiles.{is_met};
 ghost use Rattle.nl_check.specs.Private.SoundInodes.{TellsInodes};
 ghost use Rattle.nl_check.specs.Trees.{IsTreeOf};
@@ -28,6 +28,14 @@ pub(crate) struct Judged {
     pub(crate) tree: bool,
     /// Whether it meets just the numbers whose periods have it.
     pub(crate) periods: bool,
+}
+
+/// The checkpoint that was judged last. Its numbers are those that are met.
+#[derive(Clone, Copy, Debug)]
+pub(crate) struct Last {
+    pub(crate) entry: CheckpointEntry,
+    /// Whether its inodes hold a tree.
+    pub(crate) tree: bool,
 }
 
 /// Whether the file of inodes has a size, where so many indices lead up to its last block.
@@ -103,6 +111,8 @@ fn judge<V: VRead>(
     ensures yes { IfOk result (λ found. IfSome found
         (IsJudged (V.pages store.now) (V.periods store.now) (told entry.now))) }
     ensures no { result ≡ Ok None → IsSoundShape (V.pages store.now) (told entry.now) → ⊥ }
+    ensures met { IfOk result (λ found. IfSome found
+        (λ _. AreMetAt (V.pages store.now) (told entry.now) met.new)) }
     ensures refused { IfErr result (λ e. e ≡ VolError.Memory) }
     ensures count { length met.new ≡ length met.old }
     ensures kinds { length kinds.new ≡ limits.inode_limit }
@@ -118,6 +128,59 @@ fn judge<V: VRead>(
     let periods = are_of_periods(store, met, entry.number);
     let tree = holds_tree(alloc, store, kinds, &root, &walk, entry)?;
     Ok(Some(Judged { tree, periods }))
+}
+
+/// Whether two checkpoints have one file of inodes, and are told to be of one size and count.
+fn is_alike(one: &CheckpointEntry, other: &CheckpointEntry) -> bool
+    ensures { IsTrue result ↔ IsAlike one.now other.now }
+{
+    one.root == other.root && one.size == other.size && one.inodes == other.inodes
+}
+
+/// Whether the inodes of a checkpoint hold a tree, where that is known by the one judged last.
+fn tree_known(last: Option<Last>, entry: &CheckpointEntry) -> Option<bool>
+    ensures { IfSome result (λ tree. (before : Last) × (last ≡ Some before)
+        × IsAlike before.entry entry.now × (tree ≡ before.tree)) }
+{
+    let before = last?;
+    if is_alike(&before.entry, entry) {
+        Some(before.tree)
+    } else {
+        None
+    }
+}
+
+/// Judges the next checkpoint, as `judge` does. One with the file of inodes of the last one meets the same
+/// numbers, and nothing is judged of it but their periods.
+fn judge_next<V: VRead>(
+    alloc: Global,
+    store: &V,
+    met: &mut [bool],
+    kinds: &mut [Option<Kind>],
+    last: Option<Last>,
+    entry: &CheckpointEntry,
+) -> Result<Option<Judged>, VolError>
+    requires within { (v : ℕ) → IsSome (V.pages store.now v) → v < length met.old }
+    requires each { (v : ℕ) → is_some (V.pages store.now v) ≡ is_some (V.periods store.now v) }
+    requires few { length met.old < 2 ^ 40 }
+    requires kinds { length kinds.old ≡ limits.inode_limit }
+    requires last { IfSome last (IsLast (V.pages store.now) met.old) }
+    ensures yes { IfOk result (λ found. IfSome found
+        (IsJudged (V.pages store.now) (V.periods store.now) (told entry.now))) }
+    ensures no { result ≡ Ok None → IsSoundShape (V.pages store.now) (told entry.now) → ⊥ }
+    ensures met { IfOk result (λ found. IfSome found
+        (λ _. AreMetAt (V.pages store.now) (told entry.now) met.new)) }
+    ensures refused { IfErr result (λ e. e ≡ VolError.Memory) }
+    ensures count { length met.new ≡ length met.old }
+    ensures kinds { length kinds.new ≡ limits.inode_limit }
+{
+    match tree_known(last, entry) {
+        Some(tree) => {
+            let periods = are_of_periods(store, met, entry.number);
+            Ok(Some(Judged { tree, periods }))
+        }
+        None => judge(alloc, store, met, kinds, entry),
+    }
 }
 
 /// Whether both hold.
@@ -159,12 +222,17 @@ fn judge_all<V: VRead>(
 {
     let mut trees = true;
     let mut periods = true;
+    let mut last = None;
     for entry in kept {
-        let Some(judged) = judge(alloc, store, met, kinds, entry)? else {
+        let Some(judged) = judge_next(alloc, store, met, kinds, last, entry)? else {
             return Ok(Some(8));
         };
         trees = both(trees, judged.tree);
         periods = both(periods, judged.periods);
+        last = Some(Last {
+            entry: *entry,
+            tree: judged.tree,
+        });
     }
     Ok(fault_of(trees, periods))
 }

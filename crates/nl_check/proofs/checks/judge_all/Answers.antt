@@ -2,7 +2,7 @@ use Rattle.std.proofs.Common.{◌∙◌, Ok, Option, length, ap, arith, refl, su
 use Rattle.std.specs.Prelude.{IfSome, map}
 use Rattle.std.proofs.lemmas.Option.{slice_get_read}
 use Rattle.nl_check.specs.Conditions.{FirstFault}
-use Rattle.nl_check.specs.Judging.{IsJudged, told}
+use Rattle.nl_check.specs.Judging.{AreMetAt, IsJudged, told}
 use Rattle.nl_check.specs.declared.checks.Judged.{Judged}
 use Rattle.nl_check.specs.Facts.Below.{none-from}
 use Rattle.nl_check.proofs.JudgedCheckpoints.{judged-all, judged-more, judged-none, shape-fails}
@@ -13,6 +13,7 @@ loop-entry-init g c = record {
   count = refl;
   within = c.requires.within;
   kinds = c.requires.kinds;
+  last = tt;
   judged =
       judged-none (g.V.VRead.pages c.args.store.now) (g.V.VRead.periods c.args.store.now) c.args.kept.now;
 }
@@ -34,12 +35,21 @@ loop-entry-preserved g c =
     subst (λ (o : Option Judged). IfSome o (IsJudged pages periods (told c.entry-item.result)))
     c.in-Some.is c.in_ok-judged.ensures.yes in
     record {
-      count = c.judge.ensures.count ∙ c.loop-entry.invariant.count;
+      count = c.judge_next.ensures.count ∙ c.loop-entry.invariant.count;
       within = λ v s.
           let low = c.loop-entry.invariant.within v s in
-          let same = c.judge.ensures.count in
+          let same = c.judge_next.ensures.count in
           omega (arith, low, same);
-      kinds = c.judge.ensures.kinds;
+      kinds = c.judge_next.ensures.kinds;
+      last = record {
+        met =
+            subst (λ (o : Option Judged).
+            IfSome o (λ _. AreMetAt pages (told c.entry-item.result) c.judge_next.new.met))
+            c.in-Some.is c.in_ok-judged.ensures.met;
+        shape = judged.shape;
+        tree = judged.tree;
+        no_tree = judged.no_tree;
+      };
       judged =
           judged-more pages periods c.args.kept.now c.loop-entry.entry-index c.entry-item.result
           c.loop-entry.trees c.loop-entry.periods
