@@ -1,9 +1,9 @@
 -- What is judged of each checkpoint, and of all.
-use Rattle.std.proofs.Common.{◌≡◌, ◌⊎◌, ℕ, zero, suc, ◌+◌, ◌*◌, ◌<◌, ◌≤◌, Bool, true, false, cond, List, [], ◌∷◌, length, Option, Some, None, refl, ap, sym, subst, ◌∙◌, inl, inr, arith}
-use Rattle.std.specs.Prelude.{map, ◌&&◌}
+use Rattle.std.proofs.Common.{◌≡◌, ℕ, zero, suc, ◌+◌, ◌*◌, ◌<◌, ◌≤◌, Bool, true, false, cond, List, [], ◌∷◌, length, Option, Some, None, refl, ap, sym, subst, ◌∙◌, inl, inr, arith}
+use Rattle.std.specs.Prelude.{map}
 use Rattle.std.specs.List.{All, slice_get}
 use Rattle.std.specs.Option.{is_some, option_and_then, option_map}
-use Rattle.std.proofs.lemmas.Bool.{cases_lt}
+use Rattle.std.proofs.lemmas.Bool.{cases_Bool, cases_lt}
 use Rattle.std.proofs.lemmas.List.Elements.{All-cons, All-head, All-nil, All-tail}
 use Rattle.nl_types.specs.declared.kind.Kind.{Kind}
 use Rattle.nl_types.specs.Inodes.{Inodes}
@@ -168,45 +168,56 @@ module _ (pages : Pages) (periods : Periods) (entry : CheckpointEntry) (root : C
   same-root : (r : Root) → (told entry).root ≡ Some r → root_of root ≡ r
   same-root r e = let both : Some (root_of root) ≡ Some r = sym told-root ∙ e in cc
 
-  pub judged : (numbers : List Bool) (kinds : List (Option Kind)) (walk : Walk) (formed exact : Bool)
-      → IsWalk pages (root_of root) numbers kinds walk
-      → (formed ≡ true → IsTreeOf pages (root_of root) entry.size entry.inodes)
-      → (formed ≡ false → IsTreeOf pages (root_of root) entry.size entry.inodes → ⊥)
-      → (exact ≡ true → AreOfPeriods periods entry.number numbers)
-      → (AreOfPeriods periods entry.number numbers → exact ≡ true)
-      → IsJudged pages periods (told entry) (record { tree = formed; periods = exact })
-  judged numbers kinds walk formed exact w holds unless are of = record {
-    shape = (root_of root, told-root, w.shaped);
-    tree = λ e. (root_of root, told-root, holds e);
-    no_tree = λ e (r, is, t).
-        unless e (subst (λ (x : Root). IsTreeOf pages x entry.size entry.inodes) (sym (same-root r is)) t);
-    exact = λ e. (
-      root_of root,
-      told-root,
-      tell-periods.yes pages periods entry.number (root_of root) numbers w.met_in (are e),
-    );
-    not_exact = λ e (r, is, m).
-        by exact (of (tell-periods.no pages periods entry.number (root_of root) numbers w.met_in
-        (subst (MeetsItsNumbers pages periods entry.number) (sym (same-root r is)) m)))
-        e;
-  }
-    where
-      by : (b : Bool) → b ≡ true → b ≡ false → ⊥
-      by b p q = cc
+  module _ (numbers : List Bool) (kinds : List (Option Kind)) (walk : Walk) (before now : Judged)
+      (w : IsWalk pages (root_of root) numbers kinds walk)
+      (holds : now.trees ≡ true → (before.trees ≡ true)
+      × IsTreeOf pages (root_of root) entry.size entry.inodes) where
+    pub judged : (now.trees ≡ false → before.trees ≡ true
+        → IsTreeOf pages (root_of root) entry.size entry.inodes → ⊥)
+        → (now.periods ≡ true → (before.periods ≡ true) × AreOfPeriods periods entry.number numbers)
+        → ((before.periods ≡ true) × AreOfPeriods periods entry.number numbers → now.periods ≡ true)
+        → IsJudged pages periods (told entry) before now
+    judged unless are of = record {
+      shape = (root_of root, told-root, w.shaped);
+      trees = λ e. let h = holds e in (h.0, (root_of root, told-root, h.1));
+      no_tree = λ e was (r, is, t).
+          unless e was
+          (subst (λ (x : Root). IsTreeOf pages x entry.size entry.inodes) (sym (same-root r is)) t);
+      exact = λ e.
+          let a = are e in (
+            a.0,
+            (
+              root_of root,
+              told-root,
+              tell-periods.yes pages periods entry.number (root_of root) numbers w.met_in a.1,
+            ),
+          );
+      not_exact = λ e was (r, is, m).
+          both now.periods (of (
+            was,
+            tell-periods.no pages periods entry.number (root_of root) numbers w.met_in
+                (subst (MeetsItsNumbers pages periods entry.number) (sym (same-root r is)) m),
+          ))
+          e;
+    }
 
-  pub met-at : (numbers : List Bool) (kinds : List (Option Kind)) (walk : Walk)
-      → IsWalk pages (root_of root) numbers kinds walk → AreMetAt pages (told entry) numbers
-  met-at numbers kinds walk w = (root_of root, told-root, w.met_in)
+    pub last-judged : IsLast pages numbers now (record { entry = entry })
+    last-judged = record {
+      met = (root_of root, told-root, w.met_in);
+      shape = (root_of root, told-root, w.shaped);
+      tree = λ e. (root_of root, told-root, (holds e).1);
+    }
 
 -- ---- a checkpoint with the file of inodes of the last one
 
 module _ (pages : Pages) (periods : Periods) (entry : CheckpointEntry) (numbers : List Bool) (last : Last)
-    (before : IsLast pages numbers last) (alike : IsAlike last.entry entry) where
+    (before now : Judged) (known : IsLast pages numbers before last) (alike : IsAlike last.entry entry)
+    (kept : now.trees ≡ before.trees) where
   one-root : (told last.entry).root ≡ (told entry).root
   one-root = ap (λ (fields : RootFields). option_map root_of (root_told fields)) alike.root
 
   shape-here : IsSoundShape pages (told entry)
-  shape-here = let s = before.shape in (s.0, sym one-root ∙ s.1, s.2)
+  shape-here = let s = known.shape in (s.0, sym one-root ∙ s.1, s.2)
 
   tree-here : IsSoundTree pages (told last.entry) → IsSoundTree pages (told entry)
   tree-here (root, is, t) = (
@@ -216,31 +227,35 @@ module _ (pages : Pages) (periods : Periods) (entry : CheckpointEntry) (numbers 
         (subst (λ (n : ℕ). IsTreeOf pages root n last.entry.inodes) alike.size t),
   )
 
-  tree-before : IsSoundTree pages (told entry) → IsSoundTree pages (told last.entry)
-  tree-before (root, is, t) = (
-    root,
-    one-root ∙ is,
-    subst (λ (n : ℕ). IsTreeOf pages root last.entry.size n) (sym alike.inodes)
-        (subst (λ (n : ℕ). IsTreeOf pages root n entry.inodes) (sym alike.size) t),
-  )
+  met-here : AreMetAt pages (told entry) numbers
+  met-here = let m = known.met in (m.0, sym one-root ∙ m.1, m.2)
 
-  pub met-alike : AreMetAt pages (told entry) numbers
-  met-alike = let m = before.met in (m.0, sym one-root ∙ m.1, m.2)
-
-  pub judged-alike : (tree exact : Bool) → tree ≡ last.tree
-      → (exact ≡ true → AreOfPeriods periods entry.number numbers)
-      → (AreOfPeriods periods entry.number numbers → exact ≡ true)
-      → IsJudged pages periods (told entry) (record { tree = tree; periods = exact })
-  judged-alike tree exact same are of = let m = met-alike in record {
+  pub judged-alike : (now.periods ≡ true → (before.periods ≡ true) × AreOfPeriods periods entry.number numbers)
+      → ((before.periods ≡ true) × AreOfPeriods periods entry.number numbers → now.periods ≡ true)
+      → IsJudged pages periods (told entry) before now
+  judged-alike are of = let m = met-here in record {
     shape = shape-here;
-    tree = λ e. tree-here (before.tree (sym same ∙ e));
-    no_tree = λ e t. before.no_tree (sym same ∙ e) (tree-before t);
-    exact = λ e. (m.0, m.1, tell-periods.yes pages periods entry.number m.0 numbers m.2 (are e));
-    not_exact = λ e (r, is, x).
+    trees = λ e. let was = sym kept ∙ e in (was, tree-here (known.tree was));
+    no_tree = λ e was t. both now.trees (kept ∙ was) e;
+    exact = λ e.
+        let a = are e in
+        (a.0, (m.0, m.1, tell-periods.yes pages periods entry.number m.0 numbers m.2 a.1));
+    not_exact = λ e was (r, is, x).
         let one : Some r ≡ Some m.0 = sym is ∙ m.1 in
         let root_is : r ≡ m.0 = cc in
-        both exact (of (tell-periods.no pages periods entry.number m.0 numbers m.2
-        (subst (MeetsItsNumbers pages periods entry.number) root_is x))) e;
+        both now.periods (of (
+          was,
+          tell-periods.no pages periods entry.number m.0 numbers m.2
+              (subst (MeetsItsNumbers pages periods entry.number) root_is x),
+        ))
+        e;
+  }
+
+  pub last-alike : IsLast pages numbers now (record { entry = entry })
+  last-alike = record {
+    met = met-here;
+    shape = shape-here;
+    tree = λ e. tree-here (known.tree (sym kept ∙ e));
   }
 
 -- ---- all of them
@@ -279,48 +294,38 @@ module _ (pages : Pages) (periods : Periods) (kept : List CheckpointEntry) where
     not_exact = λ f all. cc;
   }
 
-  both-parts : (a b c : Bool) → c ≡ (a && b) → c ≡ true → (a ≡ true) × (b ≡ true)
-  both-parts true true c e t = (refl, refl)
-  both-parts true false c e t = cc
-  both-parts false b c e t = cc
-
-  either : (a b c : Bool) → c ≡ (a && b) → c ≡ false → (a ≡ false) ⊎ (b ≡ false)
-  either false b c e f = inl refl
-  either true false c e f = inr refl
-  either true true c e f = cc
-
-  pub judged-more : (n : ℕ) (entry : CheckpointEntry) (trees exact trees_now exact_now : Bool) (j : Judged)
-      → AreJudged pages periods kept n trees exact → slice_get kept n ≡ Some entry
-      → IsJudged pages periods (told entry) j → trees_now ≡ (trees && j.tree)
-      → exact_now ≡ (exact && j.periods) → AreJudged pages periods kept (n + 1) trees_now exact_now
-  judged-more n entry trees exact trees_now exact_now j so_far here is trees_is exact_is = record {
+  pub judged-more : (n : ℕ) (entry : CheckpointEntry) (before now : Judged)
+      → AreJudged pages periods kept n before.trees before.periods → slice_get kept n ≡ Some entry
+      → IsJudged pages periods (told entry) before now
+      → AreJudged pages periods kept (n + 1) now.trees now.periods
+  judged-more n entry before now so_far here is = record {
     shapes = λ k e low at. elim (cases_lt k n) [
       | inl less ↦ so_far.shapes k e less at
       | inr high ↦
           subst (λ (x : CheckpointEntry). IsSoundShape pages (told x)) (same k e low high at) is.shape
     ];
     all_trees = λ t k e low at.
-        let b = both-parts trees j.tree trees_now trees_is t in
+        let b = is.trees t in
         elim (cases_lt k n) [
           | inl less ↦ so_far.all_trees b.0 k e less at
           | inr high ↦
-              subst (λ (x : CheckpointEntry). IsSoundTree pages (told x)) (same k e low high at) (is.tree b.1)
+              subst (λ (x : CheckpointEntry). IsSoundTree pages (told x)) (same k e low high at) b.1
         ];
-    no_tree = λ f all. elim (either trees j.tree trees_now trees_is f) [
-      | inl before ↦ so_far.no_tree before all
-      | inr this ↦ is.no_tree this (all-at (IsSoundTree pages) told kept n entry all here)
+    no_tree = λ f all. elim (cases_Bool before.trees) [
+      | inl held ↦ is.no_tree f held (all-at (IsSoundTree pages) told kept n entry all here)
+      | inr failed ↦ so_far.no_tree failed all
     ];
     all_exact = λ t k e low at.
-        let b = both-parts exact j.periods exact_now exact_is t in
+        let b = is.exact t in
         elim (cases_lt k n) [
           | inl less ↦ so_far.all_exact b.0 k e less at
           | inr high ↦
               subst (λ (x : CheckpointEntry). HasExactPeriods pages periods (told x)) (same k e low high at)
-              (is.exact b.1)
+              b.1
         ];
-    not_exact = λ f all. elim (either exact j.periods exact_now exact_is f) [
-      | inl before ↦ so_far.not_exact before all
-      | inr this ↦ is.not_exact this (all-at (HasExactPeriods pages periods) told kept n entry all here)
+    not_exact = λ f all. elim (cases_Bool before.periods) [
+      | inl held ↦ is.not_exact f held (all-at (HasExactPeriods pages periods) told kept n entry all here)
+      | inr failed ↦ so_far.not_exact failed all
     ];
   }
     where

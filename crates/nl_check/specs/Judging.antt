@@ -1,5 +1,5 @@
 -- What is judged of each kept checkpoint.
-use Rattle.std.specs.Prelude.{◌≡◌, ℕ, ◌*◌, Bool, true, false, cond, List, Option, None, Some}
+use Rattle.std.specs.Prelude.{◌≡◌, ℕ, ◌*◌, Bool, true, false, cond, List, Option, None, Some, IfSome}
 use Rattle.std.specs.Option.{option_map}
 use Rattle.nl_types.specs.declared.kind.Kind.{Kind}
 use Rattle.nl_types.specs.Roots.{Pages, Root}
@@ -29,25 +29,27 @@ pub record IsTold (kinds : List (Option Kind)) (walk : Walk) (entry : Checkpoint
   pub size : entry.size ≡ 1024 * walk.count
   pub inodes : entry.inodes ≡ awaited_count kinds
 
--- the checkpoint has its shape, and whether it meets the other conditions is known
-pub record IsJudged (pages : Pages) (periods : Periods) (c : Told) (judged : Judged) : Type 0 where
+-- A checkpoint has its shape. Whether it meets the other conditions is known where all before it do.
+pub record IsJudged (pages : Pages) (periods : Periods) (c : Told) (before now : Judged) : Type 0 where
   pub shape : IsSoundShape pages c
-  pub tree : judged.tree ≡ true → IsSoundTree pages c
-  pub no_tree : judged.tree ≡ false → IsSoundTree pages c → ⊥
-  pub exact : judged.periods ≡ true → HasExactPeriods pages periods c
-  pub not_exact : judged.periods ≡ false → HasExactPeriods pages periods c → ⊥
+  pub trees : now.trees ≡ true → (before.trees ≡ true) × IsSoundTree pages c
+  pub no_tree : now.trees ≡ false → before.trees ≡ true → IsSoundTree pages c → ⊥
+  pub exact : now.periods ≡ true → (before.periods ≡ true) × HasExactPeriods pages periods c
+  pub not_exact : now.periods ≡ false → before.periods ≡ true → HasExactPeriods pages periods c → ⊥
 
 -- the numbers that were met are those at the places of a checkpoint
 abbrev pub AreMetAt : Pages → Told → List Bool → Type 0
 AreMetAt pages c numbers = (root : Root) × (c.root ≡ Some root) × AreMetIn pages root numbers
 
--- What is known of the checkpoint judged last: its numbers are met, and it has its shape. Whether it holds a
--- tree is known.
-pub record IsLast (pages : Pages) (numbers : List Bool) (last : Last) : Type 0 where
+-- What is known of the checkpoint judged last: its numbers are met, it has its shape, and it holds a tree
+-- where all do.
+pub record IsLast (pages : Pages) (numbers : List Bool) (judged : Judged) (last : Last) : Type 0 where
   pub met : AreMetAt pages (told last.entry) numbers
   pub shape : IsSoundShape pages (told last.entry)
-  pub tree : last.tree ≡ true → IsSoundTree pages (told last.entry)
-  pub no_tree : last.tree ≡ false → IsSoundTree pages (told last.entry) → ⊥
+  pub tree : judged.trees ≡ true → IsSoundTree pages (told last.entry)
+
+abbrev pub KnowsLast : Pages → List Bool → Judged → Type 0
+KnowsLast pages numbers judged = IfSome judged.last (IsLast pages numbers judged)
 
 -- two checkpoints have one file of inodes, and one size and count are told of it
 pub record IsAlike (one other : CheckpointEntry) : Type 0 where

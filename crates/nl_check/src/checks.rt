@@ -1,18 +1,18 @@
 //! The first of the conditions of checkpoints that fails.
-ghost use Rattle.std.specs.Prelude.{◌≡◌, ◌↔◌, ◌<◌, ◌≤◌, ◌*◌, ◌^◌, ◌&&◌, ℕ, List, Bool, length, map, is_some, false, true, IsTrue, IsSome, IfOk, IfErr, IfSome, IsOkUnless, None, Ok};
+ghost use Rattle.std.specs.Prelude.{◌≡◌, ◌↔◌, ◌<◌, ◌≤◌, ◌*◌, ◌^◌, ℕ, List, Bool, length, map, is_some, false, true, IsTrue, IsSome, IfOk, IfErr, IfSome, IsOkUnless, None, Ok};
 ghost use Rattle.nl_types.specs.Limits as limits;
 ghost use Rattle.nl_types.specs.declared.error.VolError;
 ghost use Rattle.nl_types.specs.Roots.{Pages, Root as AnyRoot};
 ghost use Rattle.nl_layout.specs.Root.{root_of};
 ghost use Rattle.nl_check.specs.Conditions.{FirstFault, IsSoundShape};
-ghost use Rattle.nl_check.specs.Judging.{AreMetAt, IsAlike, IsJudged, IsLast, IsTold, fault_told, told};
+ghost use Rattle.nl_check.specs.Judging.{IsAlike, IsJudged, IsLast, IsTold, KnowsLast, fault_told, told};
 ghost use Rattle.nl_check.specs.MetFiles.{is_met};
 ghost use Rattle.nl_check.specs.Private.SoundInodes.{TellsInodes};
 ghost use Rattle.nl_check.specs.Trees.{IsTreeOf};
 ghost use Rattle.nl_check.specs.Private.Walks.{IsWalk};
 
 use crate::inodes::{INODE_LIMIT, count_of};
-use crate::periods::are_of_periods;
+use crate::periods::are_still_of_periods;
 use crate::shape::{Walk, walk_checkpoint};
 use crate::trees::forms_tree;
 use nl_files::ReadTree;
@@ -21,21 +21,21 @@ use nl_types::{BLOCK_SIZE, Geometry, Kind, VolError};
 use nl_vstore::VRead;
 use std::alloc::Global;
 
-/// What is judged of a checkpoint that has its shape.
+/// What is known of the checkpoints judged so far.
 #[derive(Clone, Copy, Debug)]
 pub(crate) struct Judged {
-    /// Whether its inodes hold a tree.
-    pub(crate) tree: bool,
-    /// Whether it meets just the numbers whose periods have it.
+    /// Whether the inodes of each hold a tree.
+    pub(crate) trees: bool,
+    /// Whether each meets just the numbers whose periods have it.
     pub(crate) periods: bool,
+    /// The last of them.
+    pub(crate) last: Option<Last>,
 }
 
 /// The checkpoint that was judged last. Its numbers are those that are met.
 #[derive(Clone, Copy, Debug)]
 pub(crate) struct Last {
     pub(crate) entry: CheckpointEntry,
-    /// Whether its inodes hold a tree.
-    pub(crate) tree: bool,
 }
 
 /// Whether the file of inodes has a size, where so many indices lead up to its last block.
@@ -79,6 +79,33 @@ fn holds_tree<V: VRead>(
     forms_tree(alloc, &ReadTree::new(store, *root), kinds)
 }
 
+/// Whether the inodes of a walked checkpoint hold a tree, and those of all before it. Where those of one
+/// before it don't, it isn't judged any more. Refused by `Memory` alone.
+fn hold_trees<V: VRead>(
+    alloc: Global,
+    store: &V,
+    kinds: &mut [Option<Kind>],
+    root: &Root,
+    walk: &Walk,
+    entry: &CheckpointEntry,
+    before: bool,
+) -> Result<bool, VolError>
+    requires { (numbers : List Bool)
+        × IsWalk (V.pages store.now) (root_of root.now) numbers kinds.old walk.now }
+    ensures yes { IfOk result (λ hold. IsTrue hold → IsTrue before
+        × IsTreeOf (V.pages store.now) (root_of root.now) entry.now.size entry.now.inodes) }
+    ensures no { IfOk result (λ hold. hold ≡ false → IsTrue before
+        → IsTreeOf (V.pages store.now) (root_of root.now) entry.now.size entry.now.inodes → ⊥) }
+    ensures refused { IfErr result (λ e. e ≡ VolError.Memory) }
+    ensures count { length kinds.new ≡ length kinds.old }
+{
+    if before {
+        holds_tree(alloc, store, kinds, root, walk, entry)
+    } else {
+        Ok(false)
+    }
+}
+
 /// Forgets which numbers were met.
 fn clear_met(met: &mut [bool])
     ensures none { (v : ℕ) → is_met met.new v ≡ false }
@@ -96,12 +123,14 @@ fn clear_kinds(kinds: &mut [Option<Kind>])
     kinds.fill(None);
 }
 
-/// Judges one checkpoint. None where it has not its shape. Refused by `Memory` alone.
+/// Judges one checkpoint, whatever those before it are. None where it has not its shape. Refused by `Memory`
+/// alone.
 fn judge<V: VRead>(
     alloc: Global,
     store: &V,
     met: &mut [bool],
     kinds: &mut [Option<Kind>],
+    before: Judged,
     entry: &CheckpointEntry,
 ) -> Result<Option<Judged>, VolError>
     requires within { (v : ℕ) → IsSome (V.pages store.now v) → v < length met.old }
@@ -109,10 +138,9 @@ fn judge<V: VRead>(
     requires few { length met.old < 2 ^ 40 }
     requires kinds { length kinds.old ≡ limits.inode_limit }
     ensures yes { IfOk result (λ found. IfSome found
-        (IsJudged (V.pages store.now) (V.periods store.now) (told entry.now))) }
+        (IsJudged (V.pages store.now) (V.periods store.now) (told entry.now) before)) }
     ensures no { result ≡ Ok None → IsSoundShape (V.pages store.now) (told entry.now) → ⊥ }
-    ensures met { IfOk result (λ found. IfSome found
-        (λ _. AreMetAt (V.pages store.now) (told entry.now) met.new)) }
+    ensures last { IfOk result (λ found. IfSome found (KnowsLast (V.pages store.now) met.new)) }
     ensures refused { IfErr result (λ e. e ≡ VolError.Memory) }
     ensures count { length met.new ≡ length met.old }
     ensures kinds { length kinds.new ≡ limits.inode_limit }
@@ -125,9 +153,14 @@ fn judge<V: VRead>(
     let Some(walk) = walk_checkpoint(alloc, store, met, kinds, &root)? else {
         return Ok(None);
     };
-    let periods = are_of_periods(store, met, entry.number);
-    let tree = holds_tree(alloc, store, kinds, &root, &walk, entry)?;
-    Ok(Some(Judged { tree, periods }))
+    let periods = are_still_of_periods(store, met, entry.number, before.periods);
+    let trees = hold_trees(alloc, store, kinds, &root, &walk, entry, before.trees)?;
+    let last = Some(Last { entry: *entry });
+    Ok(Some(Judged {
+        trees,
+        periods,
+        last,
+    }))
 }
 
 /// Whether two checkpoints have one file of inodes, and are told to be of one size and count.
@@ -137,66 +170,77 @@ fn is_alike(one: &CheckpointEntry, other: &CheckpointEntry) -> bool
     one.root == other.root && one.size == other.size && one.inodes == other.inodes
 }
 
-/// Whether the inodes of a checkpoint hold a tree, where that is known by the one judged last.
-fn tree_known(last: Option<Last>, entry: &CheckpointEntry) -> Option<bool>
-    ensures { IfSome result (λ tree. (before : Last) × (last ≡ Some before)
-        × IsAlike before.entry entry.now × (tree ≡ before.tree)) }
+/// The checkpoint judged last, where the next one has its file of inodes.
+fn alike_last(last: Option<Last>, entry: &CheckpointEntry) -> Option<Last>
+    ensures { IfSome result (λ found. (last ≡ Some found) × IsAlike found.entry entry.now) }
 {
-    let before = last?;
-    if is_alike(&before.entry, entry) {
-        Some(before.tree)
+    let last = last?;
+    if is_alike(&last.entry, entry) {
+        Some(last)
     } else {
         None
     }
 }
 
-/// Judges the next checkpoint, as `judge` does. One with the file of inodes of the last one meets the same
-/// numbers, and nothing is judged of it but their periods.
+/// Judges a checkpoint that has the file of inodes of the last one. It meets the same numbers, and holds a
+/// tree where that one does, so nothing is judged of it but its periods.
+fn judge_alike<V: VRead>(
+    store: &V,
+    met: &[bool],
+    before: Judged,
+    last: Last,
+    entry: &CheckpointEntry,
+) -> Judged
+    requires within { (v : ℕ) → IsSome (V.periods store.now v) → v < length met.now }
+    requires last { IsLast (V.pages store.now) met.now before last }
+    requires alike { IsAlike last.entry entry.now }
+    ensures judged { IsJudged (V.pages store.now) (V.periods store.now) (told entry.now) before result }
+    ensures last { KnowsLast (V.pages store.now) met.now result }
+{
+    let periods = are_still_of_periods(store, met, entry.number, before.periods);
+    let last = Some(Last { entry: *entry });
+    Judged {
+        trees: before.trees,
+        periods,
+        last,
+    }
+}
+
+/// Judges the next checkpoint, as `judge` does, by what is known of the last one where that tells of it.
 fn judge_next<V: VRead>(
     alloc: Global,
     store: &V,
     met: &mut [bool],
     kinds: &mut [Option<Kind>],
-    last: Option<Last>,
+    before: Judged,
     entry: &CheckpointEntry,
 ) -> Result<Option<Judged>, VolError>
     requires within { (v : ℕ) → IsSome (V.pages store.now v) → v < length met.old }
     requires each { (v : ℕ) → is_some (V.pages store.now v) ≡ is_some (V.periods store.now v) }
     requires few { length met.old < 2 ^ 40 }
     requires kinds { length kinds.old ≡ limits.inode_limit }
-    requires last { IfSome last (IsLast (V.pages store.now) met.old) }
+    requires last { KnowsLast (V.pages store.now) met.old before }
     ensures yes { IfOk result (λ found. IfSome found
-        (IsJudged (V.pages store.now) (V.periods store.now) (told entry.now))) }
+        (IsJudged (V.pages store.now) (V.periods store.now) (told entry.now) before)) }
     ensures no { result ≡ Ok None → IsSoundShape (V.pages store.now) (told entry.now) → ⊥ }
-    ensures met { IfOk result (λ found. IfSome found
-        (λ _. AreMetAt (V.pages store.now) (told entry.now) met.new)) }
+    ensures last { IfOk result (λ found. IfSome found (KnowsLast (V.pages store.now) met.new)) }
     ensures refused { IfErr result (λ e. e ≡ VolError.Memory) }
     ensures count { length met.new ≡ length met.old }
     ensures kinds { length kinds.new ≡ limits.inode_limit }
 {
-    match tree_known(last, entry) {
-        Some(tree) => {
-            let periods = are_of_periods(store, met, entry.number);
-            Ok(Some(Judged { tree, periods }))
-        }
-        None => judge(alloc, store, met, kinds, entry),
+    match alike_last(before.last, entry) {
+        Some(last) => Ok(Some(judge_alike(store, met, before, last, entry))),
+        None => judge(alloc, store, met, kinds, before, entry),
     }
 }
 
-/// Whether both hold.
-fn both(one: bool, other: bool) -> bool
-    ensures { result ≡ (one && other) }
-{
-    one && other
-}
-
 /// The first condition that fails of checkpoints that have their shape.
-fn fault_of(trees: bool, periods: bool) -> Option<u8>
-    ensures { result ≡ fault_told trees periods }
+fn fault_of(judged: Judged) -> Option<u8>
+    ensures { result ≡ fault_told judged.trees judged.periods }
 {
-    if !trees {
+    if !judged.trees {
         Some(9)
-    } else if !periods {
+    } else if !judged.periods {
         Some(10)
     } else {
         None
@@ -220,21 +264,18 @@ fn judge_all<V: VRead>(
         (map told kept.now) fault) }
     ensures refused { IfErr result (λ e. e ≡ VolError.Memory) }
 {
-    let mut trees = true;
-    let mut periods = true;
-    let mut last = None;
+    let mut judged = Judged {
+        trees: true,
+        periods: true,
+        last: None,
+    };
     for entry in kept {
-        let Some(judged) = judge_next(alloc, store, met, kinds, last, entry)? else {
+        let Some(now) = judge_next(alloc, store, met, kinds, judged, entry)? else {
             return Ok(Some(8));
         };
-        trees = both(trees, judged.tree);
-        periods = both(periods, judged.periods);
-        last = Some(Last {
-            entry: *entry,
-            tree: judged.tree,
-        });
+        judged = now;
     }
-    Ok(fault_of(trees, periods))
+    Ok(fault_of(judged))
 }
 
 /// Which of the conditions 8 to 10 of an image is the first that a kept checkpoint doesn't meet: the shape of

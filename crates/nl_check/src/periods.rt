@@ -39,3 +39,16 @@ pub(crate) fn are_of_periods<V: VRead>(store: &V, met: &[bool], number: Checkpoi
     }
     true
 }
+
+/// The same, and whether it was so for all checkpoints before. Where it wasn't, no number is looked at.
+pub(crate) fn are_still_of_periods<V: VRead>(
+    store: &V,
+    met: &[bool],
+    number: CheckpointNumber,
+    before: bool,
+) -> bool
+    requires { (v : ℕ) → IsSome (V.periods store.now v) → v < length met.now }
+    ensures { IsTrue result ↔ (IsTrue before × AreOfPeriods (V.periods store.now) number met.now) }
+{
+    before && are_of_periods(store, met, number)
+}

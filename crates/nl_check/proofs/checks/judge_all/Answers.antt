@@ -2,7 +2,7 @@ use Rattle.std.proofs.Common.{◌∙◌, Ok, Option, length, ap, arith, refl, su
 use Rattle.std.specs.Prelude.{IfSome, map}
 use Rattle.std.proofs.lemmas.Option.{slice_get_read}
 use Rattle.nl_check.specs.Conditions.{FirstFault}
-use Rattle.nl_check.specs.Judging.{AreMetAt, IsJudged, told}
+use Rattle.nl_check.specs.Judging.{IsJudged, KnowsLast, told}
 use Rattle.nl_check.specs.declared.checks.Judged.{Judged}
 use Rattle.nl_check.specs.Facts.Below.{none-from}
 use Rattle.nl_check.proofs.JudgedCheckpoints.{judged-all, judged-more, judged-none, shape-fails}
@@ -25,15 +25,12 @@ returns-in_default-clause-fault g c =
     (slice_get_read c.args.kept.now
     (length c.args.kept.now) c.loop-entry.entry-index c.entry-item.result refl c.loop-entry-test.true
     c.entry-item.is)
-    (c.in_ok-judged.ensures.no (ap Ok (none-from c.in_ok-judged.field-0 c.in_default.not-Some)))
+    (c.in_ok-now.ensures.no (ap Ok (none-from c.in_ok-now.field-0 c.in_default.not-Some)))
 
 pub loop-entry-preserved : goal.loop-entry-preserved
 loop-entry-preserved g c =
     let pages = g.V.VRead.pages c.args.store.now in
     let periods = g.V.VRead.periods c.args.store.now in
-    let judged =
-    subst (λ (o : Option Judged). IfSome o (IsJudged pages periods (told c.entry-item.result)))
-    c.in-Some.is c.in_ok-judged.ensures.yes in
     record {
       count = c.judge_next.ensures.count ∙ c.loop-entry.invariant.count;
       within = λ v s.
@@ -41,23 +38,18 @@ loop-entry-preserved g c =
           let same = c.judge_next.ensures.count in
           omega (arith, low, same);
       kinds = c.judge_next.ensures.kinds;
-      last = record {
-        met =
-            subst (λ (o : Option Judged).
-            IfSome o (λ _. AreMetAt pages (told c.entry-item.result) c.judge_next.new.met))
-            c.in-Some.is c.in_ok-judged.ensures.met;
-        shape = judged.shape;
-        tree = judged.tree;
-        no_tree = judged.no_tree;
-      };
+      last =
+          subst (λ (o : Option Judged). IfSome o (KnowsLast pages c.judge_next.new.met))
+          c.in-Some.is c.in_ok-now.ensures.last;
       judged =
           judged-more pages periods c.args.kept.now c.loop-entry.entry-index c.entry-item.result
-          c.loop-entry.trees c.loop-entry.periods
-          c.both-trees.result c.both-periods.result c.in-Some.judged c.loop-entry.invariant.judged
+          c.loop-entry.judged c.in-Some.now c.loop-entry.invariant.judged
           (slice_get_read c.args.kept.now
           (length c.args.kept.now) c.loop-entry.entry-index c.entry-item.result refl c.loop-entry-test.true
           c.entry-item.is)
-          judged c.both-trees.ensures c.both-periods.ensures;
+          (subst (λ (o : Option Judged).
+          IfSome o (IsJudged pages periods (told c.entry-item.result) c.loop-entry.judged))
+          c.in-Some.is c.in_ok-now.ensures.yes);
     }
 
 pub returns-clause-fault : goal.returns-clause-fault
@@ -65,5 +57,6 @@ returns-clause-fault g c =
     let pages = g.V.VRead.pages c.args.store.now in
     let periods = g.V.VRead.periods c.args.store.now in
     subst (FirstFault pages periods (map told c.args.kept.now)) (sym c.fault_of.ensures)
-    (judged-all pages periods c.args.kept.now c.loop-entry.entry-index c.loop-entry.trees c.loop-entry.periods
+    (judged-all pages periods c.args.kept.now c.loop-entry.entry-index c.loop-entry.judged.trees
+    c.loop-entry.judged.periods
     c.loop-entry-test.false c.loop-entry.invariant.judged)
