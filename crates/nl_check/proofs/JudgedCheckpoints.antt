@@ -171,13 +171,13 @@ module _ (pages : Pages) (periods : Periods) (entry : CheckpointEntry) (root : C
   module _ (numbers : List Bool) (kinds : List (Option Kind)) (walk : Walk) (before now : Judged)
       (w : IsWalk pages (root_of root) numbers kinds walk)
       (holds : now.trees ≡ true → (before.trees ≡ true)
-      × IsTreeOf pages (root_of root) entry.size entry.inodes) where
+      × IsTreeOf pages (root_of root) entry.size entry.inodes)
+      (are : now.periods ≡ true → (before.periods ≡ true) × AreOfPeriods periods entry.number numbers) where
     pub judged : (now.trees ≡ false → before.trees ≡ true
         → IsTreeOf pages (root_of root) entry.size entry.inodes → ⊥)
-        → (now.periods ≡ true → (before.periods ≡ true) × AreOfPeriods periods entry.number numbers)
         → ((before.periods ≡ true) × AreOfPeriods periods entry.number numbers → now.periods ≡ true)
         → IsJudged pages periods (told entry) before now
-    judged unless are of = record {
+    judged unless of = record {
       shape = (root_of root, told-root, w.shaped);
       trees = λ e. let h = holds e in (h.0, (root_of root, told-root, h.1));
       no_tree = λ e was (r, is, t).
@@ -201,18 +201,20 @@ module _ (pages : Pages) (periods : Periods) (entry : CheckpointEntry) (root : C
           e;
     }
 
-    pub last-judged : IsLast pages numbers now (record { entry = entry })
+    pub last-judged : IsLast pages periods numbers now (record { entry = entry })
     last-judged = record {
       met = (root_of root, told-root, w.met_in);
       shape = (root_of root, told-root, w.shaped);
       tree = λ e. (root_of root, told-root, (holds e).1);
+      exact = λ e. (are e).1;
     }
 
 -- ---- a checkpoint with the file of inodes of the last one
 
 module _ (pages : Pages) (periods : Periods) (entry : CheckpointEntry) (numbers : List Bool) (last : Last)
-    (before now : Judged) (known : IsLast pages numbers before last) (alike : IsAlike last.entry entry)
-    (kept : now.trees ≡ before.trees) where
+    (before now : Judged) (known : IsLast pages periods numbers before last)
+    (alike : IsAlike last.entry entry) (kept : now.trees ≡ before.trees)
+    (are : now.periods ≡ true → (before.periods ≡ true) × AreOfPeriods periods entry.number numbers) where
   one-root : (told last.entry).root ≡ (told entry).root
   one-root = ap (λ (fields : RootFields). option_map root_of (root_told fields)) alike.root
 
@@ -230,10 +232,10 @@ module _ (pages : Pages) (periods : Periods) (entry : CheckpointEntry) (numbers 
   met-here : AreMetAt pages (told entry) numbers
   met-here = let m = known.met in (m.0, sym one-root ∙ m.1, m.2)
 
-  pub judged-alike : (now.periods ≡ true → (before.periods ≡ true) × AreOfPeriods periods entry.number numbers)
-      → ((before.periods ≡ true) × AreOfPeriods periods entry.number numbers → now.periods ≡ true)
+  pub judged-alike : ((before.periods ≡ true) × AreOfPeriods periods entry.number numbers
+      → now.periods ≡ true)
       → IsJudged pages periods (told entry) before now
-  judged-alike are of = let m = met-here in record {
+  judged-alike of = let m = met-here in record {
     shape = shape-here;
     trees = λ e. let was = sym kept ∙ e in (was, tree-here (known.tree was));
     no_tree = λ e was t. both now.trees (kept ∙ was) e;
@@ -251,11 +253,12 @@ module _ (pages : Pages) (periods : Periods) (entry : CheckpointEntry) (numbers 
         e;
   }
 
-  pub last-alike : IsLast pages numbers now (record { entry = entry })
+  pub last-alike : IsLast pages periods numbers now (record { entry = entry })
   last-alike = record {
     met = met-here;
     shape = shape-here;
     tree = λ e. tree-here (known.tree (sym kept ∙ e));
+    exact = λ e. (are e).1;
   }
 
 -- ---- all of them

@@ -4,6 +4,7 @@ pub mod TreePlaces
 pub mod MetRanges
 pub mod MetTrees
 pub mod MetNumbers
+pub mod PeriodsBetween
 pub mod EntryFields
 pub mod InodeSpelling
 pub mod InodeBlocks

@@ -7,7 +7,7 @@ use Rattle.nl_layout.specs.Root.{root_of, root_told}
 use Rattle.nl_layout.specs.declared.checkpoint_entry.CheckpointEntry.{CheckpointEntry}
 use Rattle.nl_vstore.specs.Periods.{Periods}
 use Rattle.nl_check.specs.Conditions.{HasExactPeriods, IsSoundShape, IsSoundTree, Told}
-use Rattle.nl_check.specs.Periods.{AreMetIn}
+use Rattle.nl_check.specs.Periods.{AreMetIn, AreOfPeriods}
 use Rattle.nl_check.specs.Private.Naming.{awaited_count}
 use Rattle.nl_check.specs.declared.checks.Judged.{Judged}
 use Rattle.nl_check.specs.declared.checks.Last.{Last}
@@ -41,15 +41,17 @@ pub record IsJudged (pages : Pages) (periods : Periods) (c : Told) (before now :
 abbrev pub AreMetAt : Pages → Told → List Bool → Type 0
 AreMetAt pages c numbers = (root : Root) × (c.root ≡ Some root) × AreMetIn pages root numbers
 
--- What is known of the checkpoint judged last: its numbers are met, it has its shape, and it holds a tree
--- where all do.
-pub record IsLast (pages : Pages) (numbers : List Bool) (judged : Judged) (last : Last) : Type 0 where
+-- What is known of the checkpoint judged last: its numbers are met, and it has its shape. Where all so far
+-- meet the other conditions, so does it.
+pub record IsLast (pages : Pages) (periods : Periods) (numbers : List Bool) (judged : Judged) (last : Last)
+    : Type 0 where
   pub met : AreMetAt pages (told last.entry) numbers
   pub shape : IsSoundShape pages (told last.entry)
   pub tree : judged.trees ≡ true → IsSoundTree pages (told last.entry)
+  pub exact : judged.periods ≡ true → AreOfPeriods periods last.entry.number numbers
 
-abbrev pub KnowsLast : Pages → List Bool → Judged → Type 0
-KnowsLast pages numbers judged = IfSome judged.last (IsLast pages numbers judged)
+abbrev pub KnowsLast : Pages → Periods → List Bool → Judged → Type 0
+KnowsLast pages periods numbers judged = IfSome judged.last (IsLast pages periods numbers judged)
 
 -- two checkpoints have one file of inodes, and one size and count are told of it
 pub record IsAlike (one other : CheckpointEntry) : Type 0 where

@@ -5,4 +5,5 @@ pub mod Naming
 pub mod SoundFiles
 pub mod SoundInodes
 pub mod TreePlaces
+pub mod Turns
 pub mod Walks

@@ -9,12 +9,14 @@ ghost use Rattle.nl_check.specs.Judging.{IsAlike, IsJudged, IsLast, IsTold, Know
 ghost use Rattle.nl_check.specs.MetFiles.{is_met};
 ghost use Rattle.nl_check.specs.Private.SoundInodes.{TellsInodes};
 ghost use Rattle.nl_check.specs.Trees.{IsTreeOf};
+ghost use Rattle.nl_check.specs.Private.Turns.{AreTurns};
 ghost use Rattle.nl_check.specs.Private.Walks.{IsWalk};
 
 use crate::inodes::{INODE_LIMIT, count_of};
-use crate::periods::are_still_of_periods;
+use crate::periods::{are_still_of_periods, are_still_of_periods_since};
 use crate::shape::{Walk, walk_checkpoint};
 use crate::trees::forms_tree;
+use crate::turns::{Turn, all_turns};
 use nl_files::ReadTree;
 use nl_layout::{CheckpointEntry, Root};
 use nl_types::{BLOCK_SIZE, Geometry, Kind, VolError};
@@ -140,7 +142,8 @@ fn judge<V: VRead>(
     ensures yes { IfOk result (λ found. IfSome found
         (IsJudged (V.pages store.now) (V.periods store.now) (told entry.now) before)) }
     ensures no { result ≡ Ok None → IsSoundShape (V.pages store.now) (told entry.now) → ⊥ }
-    ensures last { IfOk result (λ found. IfSome found (KnowsLast (V.pages store.now) met.new)) }
+    ensures last { IfOk result (λ found. IfSome found
+        (KnowsLast (V.pages store.now) (V.periods store.now) met.new)) }
     ensures refused { IfErr result (λ e. e ≡ VolError.Memory) }
     ensures count { length met.new ≡ length met.old }
     ensures kinds { length kinds.new ≡ limits.inode_limit }
@@ -187,17 +190,20 @@ fn alike_last(last: Option<Last>, entry: &CheckpointEntry) -> Option<Last>
 fn judge_alike<V: VRead>(
     store: &V,
     met: &[bool],
+    turns: &[Turn],
     before: Judged,
     last: Last,
     entry: &CheckpointEntry,
 ) -> Judged
     requires within { (v : ℕ) → IsSome (V.periods store.now v) → v < length met.now }
-    requires last { IsLast (V.pages store.now) met.now before last }
+    requires turns { AreTurns (V.periods store.now) turns.now }
+    requires last { IsLast (V.pages store.now) (V.periods store.now) met.now before last }
     requires alike { IsAlike last.entry entry.now }
     ensures judged { IsJudged (V.pages store.now) (V.periods store.now) (told entry.now) before result }
-    ensures last { KnowsLast (V.pages store.now) met.now result }
+    ensures last { KnowsLast (V.pages store.now) (V.periods store.now) met.now result }
 {
-    let periods = are_still_of_periods(store, met, entry.number, before.periods);
+    let last = last.entry.number;
+    let periods = are_still_of_periods_since(store, met, turns, last, entry.number, before.periods);
     let last = Some(Last { entry: *entry });
     Judged {
         trees: before.trees,
@@ -212,6 +218,7 @@ fn judge_next<V: VRead>(
     store: &V,
     met: &mut [bool],
     kinds: &mut [Option<Kind>],
+    turns: &[Turn],
     before: Judged,
     entry: &CheckpointEntry,
 ) -> Result<Option<Judged>, VolError>
@@ -219,17 +226,19 @@ fn judge_next<V: VRead>(
     requires each { (v : ℕ) → is_some (V.pages store.now v) ≡ is_some (V.periods store.now v) }
     requires few { length met.old < 2 ^ 40 }
     requires kinds { length kinds.old ≡ limits.inode_limit }
-    requires last { KnowsLast (V.pages store.now) met.old before }
+    requires turns { AreTurns (V.periods store.now) turns.now }
+    requires last { KnowsLast (V.pages store.now) (V.periods store.now) met.old before }
     ensures yes { IfOk result (λ found. IfSome found
         (IsJudged (V.pages store.now) (V.periods store.now) (told entry.now) before)) }
     ensures no { result ≡ Ok None → IsSoundShape (V.pages store.now) (told entry.now) → ⊥ }
-    ensures last { IfOk result (λ found. IfSome found (KnowsLast (V.pages store.now) met.new)) }
+    ensures last { IfOk result (λ found. IfSome found
+        (KnowsLast (V.pages store.now) (V.periods store.now) met.new)) }
     ensures refused { IfErr result (λ e. e ≡ VolError.Memory) }
     ensures count { length met.new ≡ length met.old }
     ensures kinds { length kinds.new ≡ limits.inode_limit }
 {
     match alike_last(before.last, entry) {
-        Some(last) => Ok(Some(judge_alike(store, met, before, last, entry))),
+        Some(last) => Ok(Some(judge_alike(store, met, turns, before, last, entry))),
         None => judge(alloc, store, met, kinds, before, entry),
     }
 }
@@ -254,12 +263,14 @@ fn judge_all<V: VRead>(
     store: &V,
     met: &mut [bool],
     kinds: &mut [Option<Kind>],
+    turns: &[Turn],
     kept: &[CheckpointEntry],
 ) -> Result<Option<u8>, VolError>
     requires within { (v : ℕ) → IsSome (V.pages store.now v) → v < length met.old }
     requires each { (v : ℕ) → is_some (V.pages store.now v) ≡ is_some (V.periods store.now v) }
     requires few { length met.old < 2 ^ 40 }
     requires kinds { length kinds.old ≡ limits.inode_limit }
+    requires turns { AreTurns (V.periods store.now) turns.now }
     ensures fault { IfOk result (λ fault. FirstFault (V.pages store.now) (V.periods store.now)
         (map told kept.now) fault) }
     ensures refused { IfErr result (λ e. e ≡ VolError.Memory) }
@@ -270,7 +281,7 @@ fn judge_all<V: VRead>(
         last: None,
     };
     for entry in kept {
-        let Some(now) = judge_next(alloc, store, met, kinds, judged, entry)? else {
+        let Some(now) = judge_next(alloc, store, met, kinds, turns, judged, entry)? else {
             return Ok(Some(8));
         };
         judged = now;
@@ -299,5 +310,13 @@ pub fn first_fault<V: VRead>(
 {
     let mut met = vec![in alloc; false; geometry.total() as usize + 1]?;
     let mut kinds = vec![in alloc; None; INODE_LIMIT]?;
-    judge_all(alloc, store, met.as_mut_slice(), kinds.as_mut_slice(), kept)
+    let turns = all_turns(alloc, store, met.len())?;
+    judge_all(
+        alloc,
+        store,
+        met.as_mut_slice(),
+        kinds.as_mut_slice(),
+        turns.as_slice(),
+        kept,
+    )
 }

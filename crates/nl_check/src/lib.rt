@@ -13,6 +13,7 @@ mod shape;
 mod sizes;
 mod tree_nodes;
 mod trees;
+mod turns;
 mod walking;
 
 pub use checks::first_fault;

@@ -1,8 +1,12 @@
 //! Whether a checkpoint meets just the numbers whose periods have it.
-ghost use Rattle.std.specs.Prelude.{◌≡◌, ◌↔◌, ◌<◌, ℕ, length, IsTrue, IsSome};
+ghost use Rattle.std.specs.Prelude.{◌≡◌, ◌↔◌, ◌<◌, ◌≤◌, ℕ, false, length, IsTrue, IsSome};
+ghost use Rattle.std.specs.List.{AllWithin};
 ghost use Rattle.nl_check.specs.Conditions.{has};
+ghost use Rattle.nl_check.specs.MetFiles.{is_met};
 ghost use Rattle.nl_check.specs.Periods.{AreOfPeriods, has_in};
+ghost use Rattle.nl_check.specs.Private.Turns.{AreTurnedOfPeriods, AreTurns, IsOfPeriod, IsTurnOfPeriod};
 
+use crate::turns::{Turn, reach};
 use nl_types::{CheckpointNumber, Period, VirtualNumber};
 use nl_vstore::VRead;
 
@@ -26,8 +30,30 @@ fn is_in_period(number: CheckpointNumber, period: Option<Period>) -> bool
     }
 }
 
+/// Whether a number was met.
+fn is_met(met: &[bool], number: VirtualNumber) -> bool
+    ensures { result ≡ is_met met.now number }
+{
+    match met.get(number.get() as usize) {
+        Some(met) => *met,
+        None => false,
+    }
+}
+
+/// Whether a number was met exactly where its period has the checkpoint.
+fn is_of_period<V: VRead>(
+    store: &V,
+    met: &[bool],
+    number: CheckpointNumber,
+    name: VirtualNumber,
+) -> bool
+    ensures { IsTrue result ↔ IsOfPeriod (V.periods store.now) number met.now name }
+{
+    is_met(met, name) == is_in_period(number, store.period(name))
+}
+
 /// Whether a number was met exactly where its period has the checkpoint, for all numbers.
-pub(crate) fn are_of_periods<V: VRead>(store: &V, met: &[bool], number: CheckpointNumber) -> bool
+fn are_of_periods<V: VRead>(store: &V, met: &[bool], number: CheckpointNumber) -> bool
     requires { (v : ℕ) → IsSome (V.periods store.now v) → v < length met.now }
     ensures { IsTrue result ↔ AreOfPeriods (V.periods store.now) number met.now }
 {
@@ -40,7 +66,69 @@ pub(crate) fn are_of_periods<V: VRead>(store: &V, met: &[bool], number: Checkpoi
     true
 }
 
-/// The same, and whether it was so for all checkpoints before. Where it wasn't, no number is looked at.
+/// Whether each number of a run of turns was met exactly where its period has the checkpoint.
+fn is_run_of_periods<V: VRead>(
+    store: &V,
+    met: &[bool],
+    turns: &[Turn],
+    first: usize,
+    end: usize,
+    number: CheckpointNumber,
+) -> bool
+    requires { end ≤ length turns.now }
+    ensures { IsTrue result
+        ↔ AllWithin (IsTurnOfPeriod (V.periods store.now) number met.now) turns.now first end }
+{
+    for at in first..end {
+        if !is_of_period(store, met, number, turns[at].number) {
+            return false;
+        }
+    }
+    true
+}
+
+/// Whether each number whose period turns behind the last checkpoint, and not behind the next one, was met
+/// exactly where its period has the next one.
+pub(crate) fn are_turned_of_periods<V: VRead>(
+    store: &V,
+    met: &[bool],
+    turns: &[Turn],
+    last: CheckpointNumber,
+    next: CheckpointNumber,
+) -> bool
+    requires { AreTurns (V.periods store.now) turns.now }
+    ensures yes { IsTrue result → AreTurnedOfPeriods (V.periods store.now) last next met.now }
+    ensures no { result ≡ false → AreOfPeriods (V.periods store.now) next met.now → ⊥ }
+{
+    let first = reach(turns, last);
+    let end = reach(turns, next);
+    is_run_of_periods(store, met, turns, first, end, next)
+}
+
+/// Whether each number was met exactly where its period has the next checkpoint, given that it was so at the
+/// last one, which met the same numbers. Where the last one comes first, only those numbers are looked at whose
+/// periods turn between the two.
+fn are_of_periods_since<V: VRead>(
+    store: &V,
+    met: &[bool],
+    turns: &[Turn],
+    last: CheckpointNumber,
+    next: CheckpointNumber,
+) -> bool
+    requires within { (v : ℕ) → IsSome (V.periods store.now v) → v < length met.now }
+    requires turns { AreTurns (V.periods store.now) turns.now }
+    requires last { AreOfPeriods (V.periods store.now) last met.now }
+    ensures { IsTrue result ↔ AreOfPeriods (V.periods store.now) next met.now }
+{
+    if last <= next {
+        are_turned_of_periods(store, met, turns, last, next)
+    } else {
+        are_of_periods(store, met, next)
+    }
+}
+
+/// Whether each number was met exactly where its period has the checkpoint, and so it was at all checkpoints
+/// before. Where it wasn't, no number is looked at.
 pub(crate) fn are_still_of_periods<V: VRead>(
     store: &V,
     met: &[bool],
@@ -51,4 +139,22 @@ pub(crate) fn are_still_of_periods<V: VRead>(
     ensures { IsTrue result ↔ (IsTrue before × AreOfPeriods (V.periods store.now) number met.now) }
 {
     before && are_of_periods(store, met, number)
+}
+
+/// As `are_still_of_periods` for the next checkpoint, by what was so at the last one, which met the same
+/// numbers.
+pub(crate) fn are_still_of_periods_since<V: VRead>(
+    store: &V,
+    met: &[bool],
+    turns: &[Turn],
+    last: CheckpointNumber,
+    next: CheckpointNumber,
+    before: bool,
+) -> bool
+    requires within { (v : ℕ) → IsSome (V.periods store.now v) → v < length met.now }
+    requires turns { AreTurns (V.periods store.now) turns.now }
+    requires last { IsTrue before → AreOfPeriods (V.periods store.now) last met.now }
+    ensures { IsTrue result ↔ (IsTrue before × AreOfPeriods (V.periods store.now) next met.now) }
+{
+    before && are_of_periods_since(store, met, turns, last, next)
 }

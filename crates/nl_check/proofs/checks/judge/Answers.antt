@@ -21,8 +21,8 @@ returns-clause-yes g c =
     judged pages (g.V.VRead.periods c.args.store.now) c.args.entry.now c.in-Some.root
     (sym c.in-Some.is ∙ c.root.ensures)
     c.walk_checkpoint.new.met c.walk_checkpoint.new.kinds c.in-Some-2.walk c.args.before _ walked
-    c.in_ok-trees.ensures.yes c.in_ok-trees.ensures.no
-    c.are_still_of_periods-periods.ensures.0 c.are_still_of_periods-periods.ensures.1
+    c.in_ok-trees.ensures.yes c.are_still_of_periods-periods.ensures.0
+    c.in_ok-trees.ensures.no c.are_still_of_periods-periods.ensures.1
 
 pub returns-clause-last : goal.returns-clause-last
 returns-clause-last g c =
@@ -35,4 +35,4 @@ returns-clause-last g c =
     last-judged pages (g.V.VRead.periods c.args.store.now) c.args.entry.now c.in-Some.root
     (sym c.in-Some.is ∙ c.root.ensures)
     c.walk_checkpoint.new.met c.walk_checkpoint.new.kinds c.in-Some-2.walk c.args.before _ walked
-    c.in_ok-trees.ensures.yes
+    c.in_ok-trees.ensures.yes c.are_still_of_periods-periods.ensures.0

@@ -6,9 +6,10 @@ pub returns-clause-judged : goal.returns-clause-judged
 returns-clause-judged g c =
     judged-alike (g.V.VRead.pages c.args.store.now) (g.V.VRead.periods c.args.store.now) c.args.entry.now
     c.args.met.now c.args.last c.args.before _ c.requires.last c.requires.alike refl
-    c.are_still_of_periods-periods.ensures.0 c.are_still_of_periods-periods.ensures.1
+    c.are_still_of_periods_since-periods.ensures.0 c.are_still_of_periods_since-periods.ensures.1
 
 pub returns-clause-last : goal.returns-clause-last
 returns-clause-last g c =
     last-alike (g.V.VRead.pages c.args.store.now) (g.V.VRead.periods c.args.store.now) c.args.entry.now
     c.args.met.now c.args.last c.args.before _ c.requires.last c.requires.alike refl
+    c.are_still_of_periods_since-periods.ensures.0
