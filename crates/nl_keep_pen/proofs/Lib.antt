@@ -1,4 +1,3 @@
-pub mod Volumes
 pub mod KnownFiles
 pub mod Images
 pub mod Runs

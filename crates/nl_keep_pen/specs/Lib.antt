@@ -1,3 +1,5 @@
 pub mod Compared
 pub mod Images
 pub mod Runs
+-- for proofs of other crates
+pub mod Facts

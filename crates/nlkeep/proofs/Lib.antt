@@ -1,2 +1,1 @@
-mod VolumeSteps
 mod RoundSteps

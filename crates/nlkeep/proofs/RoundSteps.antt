@@ -23,7 +23,7 @@ use Rattle.nl_cleaner.specs.declared.job.Stage.{Stage}
 use Rattle.nl_keep.specs.Lasting.{BlockEventsKeepAll, IsOfBlocks, KeepsOwn, MinorRemovalsKeepOwn}
 use Rattle.nl_keep.specs.MinorOnes.{RemovesMinor}
 use Rattle.nl_keep.specs.Volumes.{LeadsTo, Meaning, volume_refusals}
-use Rattle.nlkeep.proofs.VolumeSteps.{volume_step}
+use Rattle.nl_keep_pen.specs.Facts.Volumes.{volume_step}
 
 -- ---- one after another
 

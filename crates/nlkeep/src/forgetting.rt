@@ -1,5 +1,5 @@
 //! `forget`: checkpoints are removed, snapshots too.
-use crate::asking::{Clock, Outcome, moment, word};
+use crate::asking::{Clock, Outcome, moment, most, word};
 use crate::checkpoints::rows;
 use crate::faults::{Fault, fault_at, volume_fault};
 use crate::images::{device_for, open_image, read_image, save_image, take_place};
@@ -130,6 +130,7 @@ pub fn forget<W: Write>(
     let words = matches.get_strs("R").unwrap_or(&[]);
     let numbers = numbers_said(rt, path, image.as_slice(), words, clock)?;
     let moment = moment(rt, matches, clock.now)?;
+    most(rt, matches)?;
     let device = device_for(alloc, path, image.as_slice())?;
     match forget_image(
         alloc,

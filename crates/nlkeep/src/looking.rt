@@ -8,11 +8,12 @@ use crate::images::open_at;
 use crate::moments::shown;
 use crate::printing::Printer;
 use crate::restore::restore;
-use crate::views::{View, node_at, part_said, path_said};
+use crate::views::{View, path_said};
 use clap::ArgMatches;
 use nl_device::MemDevice;
+use nl_folders::begins_with;
 use nl_keep_pen::PenVolume;
-use nl_types::{CheckpointNumber, Mode, Node, Row};
+use nl_types::{CheckpointNumber, Mode, Row};
 use std::alloc::Global;
 use std::io::Write;
 
@@ -50,132 +51,127 @@ struct Counted {
     amount: Amount,
 }
 
-/// Ends the line of a checkpoint with how much its tree has.
-fn tell_amount<W: Write>(
+/// What a command asks that looks at a volume.
+#[derive(Clone, Copy)]
+struct Asked<'q> {
     alloc: Global,
-    view: &View<'_>,
-    before: Option<Counted>,
-    number: CheckpointNumber,
-    printer: &mut Printer<W>,
-) -> Result<Counted, Fault> {
-    let amount = amount_behind(alloc, view, before, number)?;
-    write!(printer.out, "  {:>8}  {:>10}", amount.paths, amount.bytes)?;
-    Ok(Counted { number, amount })
+    matches: &'q ArgMatches<'q>,
+    clock: Clock<'q>,
+    view: &'q View<'q>,
 }
 
-/// Tells of a checkpoint, without the end of the line.
-fn tell_row<W: Write>(
-    alloc: Global,
-    clock: Clock<'_>,
-    row: &Row,
-    printer: &mut Printer<W>,
-) -> Result<(), Fault> {
-    let date = shown(alloc, clock.zone, row.stamp)?;
-    let (number, inodes) = (row.number.get(), row.inodes);
-    let kind = kind(row);
-    write!(printer.out, "{number:>8}  {date}  {kind:<8}  {inodes:>8}")?;
-    Ok(())
-}
+impl Asked<'_> {
+    /// The kept checkpoint that an argument means.
+    fn number(&self, id: &str) -> Result<CheckpointNumber, Fault> {
+        self.view
+            .number(self.alloc, word(self.matches, id), self.clock)
+    }
 
-/// Lists the checkpoints, the oldest first.
-fn list<W: Write>(
-    alloc: Global,
-    matches: &ArgMatches<'_>,
-    clock: Clock<'_>,
-    view: &View<'_>,
-    printer: &mut Printer<W>,
-) -> Result<Outcome, Fault> {
-    let (is_all, is_long) = (matches.get_flag("all"), matches.get_flag("long"));
-    let mut counted = None;
-    for row in view.rows.as_slice() {
-        if is_all || !is_minor(row) {
-            tell_row(alloc, clock, row, printer)?;
-            if is_long {
-                counted = Some(tell_amount(alloc, view, counted, row.number, printer)?);
+    /// Ends the line of a checkpoint with how much its tree has.
+    fn tell_amount<W: Write>(
+        &self,
+        before: Option<Counted>,
+        number: CheckpointNumber,
+        printer: &mut Printer<W>,
+    ) -> Result<Counted, Fault> {
+        let amount = amount_behind(self.alloc, self.view, before, number)?;
+        write!(printer.out, "  {:>8}  {:>10}", amount.paths, amount.bytes)?;
+        Ok(Counted { number, amount })
+    }
+
+    /// Tells of a checkpoint, without the end of the line.
+    fn tell_row<W: Write>(&self, row: &Row, printer: &mut Printer<W>) -> Result<(), Fault> {
+        let date = shown(self.alloc, self.clock.zone, row.stamp)?;
+        let (number, inodes) = (row.number.get(), row.inodes);
+        let kind = kind(row);
+        write!(printer.out, "{number:>8}  {date}  {kind:<8}  {inodes:>8}")?;
+        Ok(())
+    }
+
+    /// Lists the checkpoints, the oldest first.
+    fn list<W: Write>(&self, printer: &mut Printer<W>) -> Result<Outcome, Fault> {
+        let (is_all, is_long) = (self.matches.get_flag("all"), self.matches.get_flag("long"));
+        let mut counted = None;
+        for row in self.view.rows.as_slice() {
+            if is_all || !is_minor(row) {
+                self.tell_row(row, printer)?;
+                if is_long {
+                    counted = Some(self.tell_amount(counted, row.number, printer)?);
+                }
+                printer.line()?;
             }
-            printer.line()?;
         }
+        Ok(Outcome::Done)
     }
-    Ok(Outcome::Done)
-}
 
-/// Lists what lies at and below a path of a checkpoint, with the bytes of files.
-fn ls<W: Write>(
-    alloc: Global,
-    matches: &ArgMatches<'_>,
-    clock: Clock<'_>,
-    view: &View<'_>,
-    printer: &mut Printer<W>,
-) -> Result<Outcome, Fault> {
-    let tree = view.tree(alloc, word(matches, "CNO"), clock)?;
-    let part = part_said(alloc, tree.as_slice(), matches.get_str("PATH"))?;
-    for (path, node) in part.as_slice() {
-        match node {
-            Node::Dir => write!(printer.out, "{:>10}  ", "")?,
-            Node::File(bytes) => write!(printer.out, "{:>10}  ", bytes.len())?,
+    /// Lists what lies at and below a path of a checkpoint, with the bytes of files.
+    fn ls<W: Write>(&self, printer: &mut Printer<W>) -> Result<Outcome, Fault> {
+        let number = self.number("CNO")?;
+        let names = self.view.names(self.alloc, number)?;
+        let word = self.matches.get_str("PATH").unwrap_or("");
+        let top = path_said(self.alloc, word)?;
+        let mut is_there = false;
+        for (path, _) in names.as_slice() {
+            let path = path.as_slice();
+            if begins_with(path, top.as_slice()) {
+                if let Some(entry) = self.view.entry_at(self.alloc, number, path)? {
+                    printer.entry(&path[top.len()..], entry)?;
+                    is_there = true;
+                }
+            }
         }
-        printer.path(path.as_slice(), matches!(node, Node::Dir))?;
-        printer.line()?;
-    }
-    Ok(Outcome::Done)
-}
-
-/// Writes the bytes of a file, and nothing else.
-fn cat<W: Write>(
-    alloc: Global,
-    matches: &ArgMatches<'_>,
-    clock: Clock<'_>,
-    view: &View<'_>,
-    printer: &mut Printer<W>,
-) -> Result<Outcome, Fault> {
-    let tree = view.tree(alloc, word(matches, "CNO"), clock)?;
-    let path = word(matches, "PATH");
-    match node_at(alloc, tree.as_slice(), path)? {
-        Node::Dir => Err(fault_at(alloc, path, "is a folder")),
-        Node::File(bytes) => {
-            printer.out.write_all(bytes.as_slice())?;
+        if is_there {
             Ok(Outcome::Done)
+        } else {
+            Err(fault_at(self.alloc, word, "nothing is there"))
         }
     }
-}
 
-/// Tells what differs from one checkpoint to another, at and below a path.
-fn diff<W: Write>(
-    alloc: Global,
-    matches: &ArgMatches<'_>,
-    clock: Clock<'_>,
-    view: &View<'_>,
-    printer: &mut Printer<W>,
-) -> Result<Outcome, Fault> {
-    let pair = Pair {
-        old: view.number(alloc, word(matches, "A"), clock)?,
-        new: view.number(alloc, word(matches, "B"), clock)?,
-    };
-    let top = path_said(alloc, matches.get_str("PATH").unwrap_or(""))?;
-    let count = tell_checkpoint_differences(alloc, view, pair, top.as_slice(), printer)?;
-    Ok(if count == 0 {
-        Outcome::Done
-    } else {
-        Outcome::Differs
-    })
+    /// Writes the bytes of a file, and nothing else.
+    fn cat<W: Write>(&self, printer: &mut Printer<W>) -> Result<Outcome, Fault> {
+        let number = self.number("CNO")?;
+        let bytes = self
+            .view
+            .file(self.alloc, number, word(self.matches, "PATH"))?;
+        printer.out.write_all(bytes.as_slice())?;
+        Ok(Outcome::Done)
+    }
+
+    /// Tells what differs from one checkpoint to another, at and below a path.
+    fn diff<W: Write>(&self, printer: &mut Printer<W>) -> Result<Outcome, Fault> {
+        let pair = Pair {
+            old: self.number("A")?,
+            new: self.number("B")?,
+        };
+        let top = path_said(self.alloc, self.matches.get_str("PATH").unwrap_or(""))?;
+        let count = tell_checkpoint_differences(
+            self.alloc,
+            self.view,
+            pair,
+            top.as_slice(),
+            printer,
+        )?;
+        Ok(if count == 0 {
+            Outcome::Done
+        } else {
+            Outcome::Differs
+        })
+    }
 }
 
 /// Does a command that looks at a volume.
 fn look_at<W: Write>(
     rt: &HostRuntime,
     name: &str,
-    matches: &ArgMatches<'_>,
-    clock: Clock<'_>,
-    view: &View<'_>,
+    asked: Asked<'_>,
     printer: &mut Printer<W>,
 ) -> Result<Outcome, Fault> {
-    let alloc = rt.alloc();
     match name {
-        "list" => list(alloc, matches, clock, view, printer),
-        "ls" => ls(alloc, matches, clock, view, printer),
-        "cat" => cat(alloc, matches, clock, view, printer),
-        "diff" => diff(alloc, matches, clock, view, printer),
-        _ => restore(rt, matches, clock, view),
+        "list" => asked.list(printer),
+        "ls" => asked.ls(printer),
+        "cat" => asked.cat(printer),
+        "diff" => asked.diff(printer),
+        _ => restore(rt, asked.matches, asked.clock, asked.view),
     }
 }
 
@@ -188,7 +184,13 @@ fn look_into<W: Write>(
     printer: &mut Printer<W>,
 ) -> Result<Outcome, Fault> {
     let view = View::of(rt, word(matches, "IMAGE"), volume, clock)?;
-    look_at(rt, name, matches, clock, &view, printer)
+    let asked = Asked {
+        alloc: rt.alloc(),
+        matches,
+        clock,
+        view: &view,
+    };
+    look_at(rt, name, asked, printer)
 }
 
 /// Opens the image that a command names, and does that command, which looks at it.

@@ -93,6 +93,16 @@ fn sign(difference: Difference) -> char {
 }
 
 impl<W: Write> Printer<W> {
+    /// What stands at a path, in a line: how many bytes a file has, and the path.
+    pub fn entry(&mut self, path: &[Name], entry: Entry) -> io::Result<()> {
+        match entry {
+            Entry::Folder => write!(self.out, "{:>10}  ", "")?,
+            Entry::File(bytes) => write!(self.out, "{bytes:>10}  ")?,
+        }
+        self.path(path, entry == Entry::Folder)?;
+        self.line()
+    }
+
     /// How many bytes a file has, and had.
     fn sizes(&mut self, old: Option<Entry>, new: Option<Entry>) -> io::Result<()> {
         match (old, new) {

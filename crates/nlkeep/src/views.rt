@@ -5,10 +5,10 @@ use crate::faults::{Fault, fault_at, tree_fault, volume_fault};
 use crate::moments::shown;
 use crate::printing::Entry;
 use nl_device::MemDevice;
-use nl_folders::{Name, Path, Tree, found_at, part_below, spelled};
-use nl_keep::{Volume, checkpoint_tree};
+use nl_folders::{Folder, FolderError, Name, Path, Tree, part_below, spelled, whole_tree};
+use nl_keep::{CheckpointFolder, Volume, checkpoint_tree};
 use nl_keep_pen::PenVolume;
-use nl_types::{Answer, Ask, CheckpointNumber, Items, Node, Reply, Row, Stat, VolError};
+use nl_types::{Answer, Ask, CheckpointNumber, Items, Named, Node, Reply, Row, Stat, VolError};
 use std::alloc::{AllocError, Global};
 
 /// The volume of an image.
@@ -80,6 +80,44 @@ impl<'a> View<'a> {
         self.tree_of(alloc, number)
     }
 
+    fn folder_of(&self, number: CheckpointNumber) -> CheckpointFolder<'_, PenVolume<MemDevice>> {
+        CheckpointFolder {
+            volume: self.volume,
+            number,
+        }
+    }
+
+    /// The paths and kinds of a kept checkpoint: each file stands there without its bytes, which aren't read.
+    pub fn names(&self, alloc: Global, number: CheckpointNumber) -> Result<Tree, Fault> {
+        let mut names = Names {
+            folder: self.folder_of(number),
+        };
+        match whole_tree(alloc, &mut names) {
+            Ok(tree) => Ok(tree),
+            Err(error) => Err(tree_fault(alloc, self.path, error)),
+        }
+    }
+
+    /// The bytes of the file at the path that a word says, of a kept checkpoint.
+    pub fn file(
+        &self,
+        alloc: Global,
+        number: CheckpointNumber,
+        word: &str,
+    ) -> Result<Items<u8>, Fault> {
+        let path = path_said(alloc, word)?;
+        match self.folder_of(number).read(alloc, path.as_slice()) {
+            Ok(bytes) => Ok(bytes),
+            Err(FolderError::Refused(VolError::IsDir)) => {
+                Err(fault_at(alloc, word, "is a folder"))
+            }
+            Err(FolderError::Refused(error)) if is_of_no_entry(error) => {
+                Err(fault_at(alloc, word, "nothing is there"))
+            }
+            Err(error) => Err(tree_fault(alloc, self.path, error)),
+        }
+    }
+
     /// What stands at a path of a kept checkpoint, if anything does.
     pub fn entry_at(
         &self,
@@ -105,8 +143,43 @@ fn entry_told(reply: Reply) -> Result<Option<Entry>, VolError> {
     match reply {
         Ok(Answer::Stat(Stat::File(size))) => Ok(Some(Entry::File(size))),
         Ok(Answer::Stat(Stat::Dir(_))) => Ok(Some(Entry::Folder)),
-        Ok(_) | Err(VolError::NotFound | VolError::NotDir) => Ok(None),
+        Ok(_) => Ok(None),
+        Err(error) if is_of_no_entry(error) => Ok(None),
         Err(error) => Err(error),
+    }
+}
+
+/// Whether a read is refused so where nothing stands at its path.
+fn is_of_no_entry(error: VolError) -> bool {
+    matches!(
+        error,
+        VolError::NotFound | VolError::NotDir | VolError::BadName | VolError::BadPath
+    )
+}
+
+/// A folder whose files aren't read.
+#[derive(Drop)]
+struct Names<F: Folder> {
+    folder: F,
+}
+
+impl<F: Folder> Folder for Names<F> {
+    ghost use Rattle.std.specs.Prelude.{⊤};
+
+    ghost shows = { λ f tree. ⊥ };
+
+    ghost keeps = { λ f g. ⊤ };
+
+    ghost keeps_itself = { λ f. tt };
+
+    ghost keeps_on = { λ f g h one other. tt };
+
+    fn list(&mut self, alloc: Global, path: &[Name]) -> Result<Items<Named>, FolderError> {
+        self.folder.list(alloc, path)
+    }
+
+    fn read(&mut self, alloc: Global, _: &[Name]) -> Result<Items<u8>, FolderError> {
+        Ok(Items::new(alloc))
     }
 }
 
@@ -119,15 +192,6 @@ pub fn path_said(alloc: Global, word: &str) -> Result<Path, AllocError> {
         }
     }
     Ok(path)
-}
-
-/// What stands at a path of a tree.
-pub fn node_at<'t>(alloc: Global, tree: &'t [(Path, Node)], word: &str) -> Result<&'t Node, Fault> {
-    let path = path_said(alloc, word)?;
-    match found_at(tree, path.as_slice()) {
-        Some(node) => Ok(node),
-        None => Err(fault_at(alloc, word, "nothing is there")),
-    }
 }
 
 /// What lies at and below the path that a word says, with the rest of the paths.

@@ -1,5 +1,5 @@
 use Rattle.nl_commit.specs.Layout.{FailsIn, LacksSpaceFor, cleaned}
-use Rattle.nl_keep_pen.proofs.Volumes.{volume_step}
+use Rattle.nl_keep_pen.specs.Facts.Volumes.{volume_step}
 use Rattle.nl_keep_pen.proofs.PenVolumeVolume.apply.Goals as goal
 
 pub returns : goal.returns
