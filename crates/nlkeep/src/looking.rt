@@ -53,14 +53,14 @@ struct Counted {
 
 /// What a command asks that looks at a volume.
 #[derive(Clone, Copy)]
-struct Asked<'q> {
+struct Asked<'q, 'm> {
     alloc: Global,
-    matches: &'q ArgMatches<'q>,
+    matches: &'q ArgMatches<'m>,
     clock: Clock<'q>,
     view: &'q View<'q>,
 }
 
-impl Asked<'_> {
+impl Asked<'_, '_> {
     /// The kept checkpoint that an argument means.
     fn number(&self, id: &str) -> Result<CheckpointNumber, Fault> {
         self.view
@@ -163,7 +163,7 @@ impl Asked<'_> {
 fn look_at<W: Write>(
     rt: &HostRuntime,
     name: &str,
-    asked: Asked<'_>,
+    asked: Asked<'_, '_>,
     printer: &mut Printer<W>,
 ) -> Result<Outcome, Fault> {
     match name {
