@@ -13,7 +13,7 @@ use Rattle.nl_types.specs.Worlds.{Reply}
 use Rattle.nl_vstore.specs.Located.{numbers_in}
 use Rattle.nl_reclaim.specs.Moves.{FullMoves, KeepsNeeds, Retires}
 use Rattle.nl_reclaim.specs.Facts.Moves.{full-moves-come-clean}
-use Rattle.nl_core.specs.CleanedPens.{kept_store, kept_number}
+use Rattle.nl_events.specs.CleanedPens.{kept_store, kept_number}
 use Rattle.nl_commit.specs.Layout.{Does, IsPen, Layout, unshared}
 use Rattle.nl_commit.specs.Volume.{Lists, kept_by}
 use Rattle.nl_core.specs.Facts.Refusals.{retirements_are_judged}

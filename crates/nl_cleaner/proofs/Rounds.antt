@@ -13,7 +13,7 @@ use Rattle.nl_types.specs.Facts.PartialMaps.{is_one_of-get_or}
 use Rattle.nl_vstore.specs.Located.{needed_count}
 use Rattle.nl_reclaim.specs.Rounds.{IsRoundEvent, AreRoundEvents}
 use Rattle.nl_reclaim.specs.Facts.Rounds.{rounds-leave-nothing-dead}
-use Rattle.nl_core.specs.CleanedPens.{kept_store}
+use Rattle.nl_events.specs.CleanedPens.{kept_store}
 use Rattle.nl_commit.specs.CleanerViews.{cleaning_event}
 use Rattle.nl_commit.specs.CleaningEvents.{needed_by}
 use Rattle.nl_commit.specs.Layout.{Does, IsPen, Layout, unshared}

@@ -10,7 +10,7 @@ use Rattle.nl_types.specs.Worlds.{Reply}
 use Rattle.nl_vstore.specs.Located.{needed_count, numbers_in}
 use Rattle.nl_vstore.specs.Stores.{address_in}
 use Rattle.nl_reclaim.specs.Rounds.{IsLeftOut, IsNeeded}
-use Rattle.nl_core.specs.CleanedPens.{kept_store}
+use Rattle.nl_events.specs.CleanedPens.{kept_store}
 use Rattle.nl_commit.specs.CleaningEvents.{needed_by}
 use Rattle.nl_commit.specs.Layout.{Does, IsPen, Layout, unshared}
 use Rattle.nl_commit.specs.Notes.{shared}

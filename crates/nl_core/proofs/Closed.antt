@@ -23,8 +23,8 @@ use Rattle.nl_cpfile.specs.declared.checkpoint.Checkpoint.{Checkpoint}
 use Rattle.nl_core.specs.Private.Closed.{AreSized, HasSize, HaveSizes}
 use Rattle.nl_commit.specs.Layout.{IsPen, Layout, layout_of, layout_pages, reached_by}
 use Rattle.nl_commit.specs.Volume.{Lists, kept_by}
-use Rattle.nl_core.specs.Facts.CleanedPens.{all-held, content-of, same-content}
-use Rattle.nl_core.specs.Facts.KeptNumbers.{found-own}
+use Rattle.nl_events.specs.Facts.CleanedPens.{all-held, content-of, same-content}
+use Rattle.nl_events.specs.Facts.KeptNumbers.{found-own}
 
 -- ---- sizes
 

@@ -17,21 +17,21 @@ use Rattle.nl_vstore.specs.Located.{needed_in}
 use Rattle.nl_vstore.specs.Stores.{IsMoveRefused, IsStore}
 use Rattle.nl_reclaim.specs.Cleaning.{judged_for}
 use Rattle.nl_reclaim.specs.Reclaims.{stood_in}
-use Rattle.nl_core.specs.CleanedPens.{AddsMinor, LeavesPen, StaysPen}
+use Rattle.nl_events.specs.CleanedPens.{AddsMinor, LeavesPen, StaysPen}
 use Rattle.nl_commit.specs.CleaningEvents.{HasMovedOut, IsMoveRefusal, needed_by}
 use Rattle.nl_commit.specs.Draft.{HasNextNumber}
 use Rattle.nl_core.specs.LedgerEvents.{EventsAreLedgerEvents, LedgerGoesOn, RunsAreLedgerEvents, RunsKeepNumbers, done_events}
 use Rattle.nl_commit.specs.Layout.{AllowedBetween, HasDone, HasPublished, HasRefused, HasRetired, IsPen, Layout, layout_of, ledger_of}
 use Rattle.nl_commit.specs.Volume.{IsTakenOut, Lists, moved_lists, with_minor}
-use Rattle.nl_core.proofs.Checkpointing.{ledger-same}
-use Rattle.nl_core.specs.Facts.Checkpoints.{allowed-behind, ledger-behind}
-use Rattle.nl_core.specs.Facts.CleanedPens.{moves_keep_pens, refused_moves_keep_pens, retirements_keep_pens}
-use Rattle.nl_core.specs.Facts.CleaningEvents.{none_needed}
-use Rattle.nl_core.specs.Facts.Ledgers.{stands-latest}
-use Rattle.nl_core.specs.Facts.MinorPens.{minors_keep_pens, nothing-allowed}
-use Rattle.nl_core.proofs.ModeChanges.{ledger-moded}
-use Rattle.nl_core.proofs.Removals.{each-allowed, ledger-left}
-use Rattle.nl_core.proofs.ResizedPens.{resized-ledger, unresized-ledger}
+use Rattle.nl_events.specs.Facts.Checkpointing.{ledger-same}
+use Rattle.nl_events.specs.Facts.Checkpoints.{allowed-behind, ledger-behind}
+use Rattle.nl_events.specs.Facts.CleanedPens.{moves_keep_pens, refused_moves_keep_pens, retirements_keep_pens}
+use Rattle.nl_events.specs.Facts.CleaningEvents.{none_needed}
+use Rattle.nl_events.specs.Facts.Ledgers.{stands-latest}
+use Rattle.nl_events.specs.Facts.MinorPens.{minors_keep_pens, nothing-allowed}
+use Rattle.nl_events.specs.Facts.ModeChanges.{ledger-moded}
+use Rattle.nl_events.specs.Facts.Removals.{each-allowed, ledger-left}
+use Rattle.nl_events.specs.Facts.ResizedPens.{resized-ledger, unresized-ledger}
 
 -- ---- one event
 

@@ -1,5 +1,5 @@
--- Events beside readers, with the commits that they note.
-use Rattle.std.proofs.Common.{◌≡◌, ℕ, ◌<◌, ◌≤◌, List, [], ◌∷◌, ◌++◌, length, refl, ap, sym, ◌∙◌, inl, inr, false, arith}
+-- Events beside readers that the pen notes by itself.
+use Rattle.std.proofs.Common.{◌≡◌, ℕ, List, [], ◌++◌, length, refl, ap, sym, ◌∙◌, false, arith}
 use Rattle.std.specs.Prelude.{nat_lt, Ok, Err}
 use Rattle.std.proofs.lemmas.List.{append-nil}
 use Rattle.nl_types.specs.declared.error.VolError.{VolError}
@@ -9,72 +9,17 @@ use Rattle.nl_types.specs.declared.event.Event.TheVariants as event
 use Rattle.nl_types.specs.declared.event.Mode.{Mode}
 use Rattle.nl_types.specs.declared.reply.Answer.{Answer}
 use Rattle.nl_types.specs.declared.reply.Answer.TheVariants as answer
-use Rattle.nl_types.specs.Runs.{Step}
 use Rattle.nl_types.specs.Segments.{Segments}
-use Rattle.nl_types.specs.Worlds.{Reply, World}
-use Rattle.nl_vstore.specs.Batches.{Changes}
-use Rattle.nl_vstore.specs.Located.{numbers_in}
-use Rattle.nl_vstore.specs.Stores.{IsStore}
-use Rattle.nl_commit.specs.CleaningEvents.{needed_by, resized_by}
-use Rattle.nl_commit.specs.Layout.{Does, HasRefused, IsPen, Layout, Becomes, cleaned, unshared}
-use Rattle.nl_core.specs.NeededBlocks.{HasWrittenBatch}
-use Rattle.nl_commit.specs.Notes.{AreCommitsOf, ChangesLists, DoesNoting, HasNoted, HasNotedWrite, has_other_mode, moved_as, new_checkpoint, shared, where_any, where_true}
+use Rattle.nl_types.specs.Worlds.{Reply}
+use Rattle.nl_commit.specs.CleaningEvents.{resized_by}
+use Rattle.nl_commit.specs.Layout.{Does, HasRefused, IsPen, Layout, unshared}
+use Rattle.nl_commit.specs.Notes.{AreCommitsOf, ChangesLists, DoesNoting, HasNoted, has_other_mode, where_true}
 use Rattle.nl_commit.specs.declared.commit.Commit.{Commit}
-use Rattle.nl_commit.specs.declared.commit.Commit.TheVariants.{Freed, ModeSet, Resized, Written}
-use Rattle.nl_core.proofs.Checkpointing.{does-refused, does-written}
-use Rattle.nl_core.specs.Facts.Ledgers.{same-numbers}
-use Rattle.nl_core.specs.Facts.Outside.{retired-inside}
-use Rattle.nl_core.proofs.ResizedPens.{does-not-resized, not-asked}
-use Rattle.nl_core.proofs.Telling.{commits_tell_all}
+use Rattle.nl_commit.specs.declared.commit.Commit.TheVariants.{ModeSet, Resized}
+use Rattle.nl_events.specs.Facts.ResizedPens.{does-not-resized, not-asked}
+use Rattle.nl_events.specs.Facts.NotedEvents.{does-shared, no-memory, noting, noting-refused}
 
--- ---- beside readers
-
--- what may be refused to a pen alone may be refused beside readers
-shared-more : (old new : Layout) (event : Event) (e : VolError) → unshared old new event e
-    → shared old new event e
-shared-more old new event error.Memory may = tt
-shared-more old new event e may = may
-
-pub does-shared : (old new : Layout) (event : Event) (reply : Reply) → Does unshared old event reply new
-    → Does shared old event reply new
-does-shared old new event reply does = record {
-  follows = λ w m. let next = does.follows w m in record {
-    after = next.after;
-    means = next.means;
-    step = more w next.after next.step;
-  };
-  becomes = does.becomes;
-  numbers = does.numbers;
-  pen = does.pen;
-  failures = does.failures;
-}
-  where
-    more : (w after : World) → Step (unshared old new) (cleaned old event) w event reply after
-        → Step (shared old new) (cleaned old event) w event reply after
-    more w after step = elim step [
-      | inl is ↦ inl is
-      | inr refused ↦ inr (record {
-        error = refused.error;
-        reply_is = refused.reply_is;
-        may_be = shared-more old new event refused.error refused.may_be;
-        unchanged = refused.unchanged;
-      })
-    ]
-
--- memory is refused before anything changes
-no-memory : (l : Layout) (event : Event) → IsPen l → Becomes l event (Err error.Memory) l
-    → Does shared l event (Err error.Memory) l
-no-memory l event pen becomes = record {
-  follows = λ w m. record {
-    after = w;
-    means = m;
-    step = inr (record { error = error.Memory; reply_is = refl; may_be = tt; unchanged = refl });
-  };
-  becomes = becomes;
-  numbers = same-numbers l l refl;
-  pen = pen;
-  failures = omega arith;
-}
+-- ---- memory is refused
 
 unlisted : (l : Layout) (event : Event) → ChangesLists event → HasRefused event error.Memory l l
 unlisted l (event.ChangeMode n mode) lists = refl
@@ -92,23 +37,6 @@ unlisted l (event.Read ask) lists = absurd lists
 unlisted l (event.MountRead m ask) lists = absurd lists
 unlisted l (event.Listing options) lists = absurd lists
 
--- ---- with commits
-
-module _ (old : Layout) (event : Event) (new : Layout) (before after : List Commit) (pen : IsPen old) where
-  pub noting : (reply : Reply) (more : List Commit) → Does shared old event reply new → after ≡ before ++ more
-      → AreCommitsOf old event reply new more → DoesNoting old event reply new before after
-  noting reply more does behind commits = record {
-    does = does;
-    more = more;
-    behind = behind;
-    noted = commits_tell_all shared old new event reply more pen does commits;
-  }
-
-  -- a refused event has no commit
-  pub noting-refused : (e : VolError) → Does shared old event (Err e) new → after ≡ before
-      → DoesNoting old event (Err e) new before after
-  noting-refused e does same = noting (Err e) [] does (same ∙ sym (append-nil before)) refl
-
 -- memory is refused to an event that changes lists
 pub noting-unlisted : (l : Layout) (event : Event) (before after : List Commit) → IsPen l → ChangesLists event
     → after ≡ before
@@ -116,13 +44,6 @@ pub noting-unlisted : (l : Layout) (event : Event) (before after : List Commit) 
 noting-unlisted l event before after pen lists same =
     noting-refused l event l before after pen error.Memory
     (no-memory l event pen (unlisted l event lists)) same
-
--- and to a retirement
-pub noting-unretired : (l : Layout) (segment : ℕ) (before after : List Commit) → IsPen l → after ≡ before
-    → DoesNoting l (event.Retire segment) (Err error.Memory) l before after
-noting-unretired l segment before after pen same =
-    noting-refused l (event.Retire segment) l before after pen error.Memory
-    (no-memory l (event.Retire segment) pen (refl, tt)) same
 
 -- ---- events of which nothing is seen
 
@@ -182,83 +103,6 @@ noting-same_mode old new n mode (Ok a) before pen same does =
     (sym (ap (λ b. where_true b (ModeSet n mode)) same))
 noting-same_mode old new n mode (Err e) before pen same does =
     noting-none old new before pen (event.ChangeMode n mode) (Err e) does refl
-
--- ---- checkpoints and retirements
-
-pub noting-written : (old new : Layout) (mode : Mode) (moment : ℕ) (batch : Changes)
-    (before after : List Commit)
-    → IsPen old
-    → HasNotedWrite mode moment batch old new before after → IsStore new.store
-    → old.store.failures ≤ new.store.failures
-    → DoesNoting old (event.Checkpoint mode moment)
-    (Ok (answer.Checkpoint new.lists.table.latest.number)) new before after
-noting-written old new mode moment batch before after pen noted store counted =
-    let done = event.Checkpoint mode moment in
-    let reply : Reply = Ok (answer.Checkpoint new.lists.table.latest.number) in
-    noting old done new before after pen reply
-    (Written (new_checkpoint noted.writes.settled.changes new.lists.table.latest) ∷ [])
-    (does-shared old new done reply (does-written old new mode moment pen noted.writes store counted))
-    noted.behind
-    (noted.writes, refl)
-
--- what was noted was written by its batch
-pub written-batch : (old new : Layout) (mode : Mode) (moment : ℕ) (batch : Changes)
-    (before after : List Commit)
-    → HasNotedWrite mode moment batch old new before after → HasWrittenBatch mode moment batch old new
-written-batch old new mode moment batch before after noted =
-    record { writes = noted.writes; batch_is = noted.batch_is }
-
-pub noting-unwritten : (old new : Layout) (mode : Mode) (moment : ℕ) (e : VolError)
-    (before after : List Commit)
-    → IsPen old
-    → HasRefused (event.Checkpoint mode moment) e old new → IsStore new.store → after ≡ before
-    → DoesNoting old (event.Checkpoint mode moment) (Err e) new before after
-noting-unwritten old new mode moment e before after pen refused store same =
-    noting-refused old (event.Checkpoint mode moment) new before after pen e
-    (does-shared old new (event.Checkpoint mode moment) (Err e)
-    (does-refused old new mode moment e pen refused store))
-    same
-
-pub noting-retired : (old new : Layout) (segment : ℕ) (a : Answer) (gone : List ℕ)
-    (before after : List Commit)
-    → IsPen old
-    → Does unshared old (event.Retire segment) (Ok a) new
-    → (segment < length old.store.segments.each → gone ≡ numbers_in old.store segment)
-    → after ≡ before ++ where_any gone (Freed gone)
-    → DoesNoting old (event.Retire segment) (Ok a) new before after
-noting-retired old new segment a gone before after pen does are behind =
-    let there =
-    retired-inside old.store
-    (needed_by old.lists) segment does.becomes.emptied.count does.becomes.emptied.judged in
-    noting old (event.Retire segment) new before after pen (Ok a) (where_any gone (Freed gone))
-    (does-shared old new (event.Retire segment) (Ok a) does) behind
-    (ap (λ (vs : List ℕ). where_any vs (Freed vs)) (are there))
-
-pub noting-not_retired : (old new : Layout) (segment : ℕ) (e : VolError) (before after : List Commit)
-    → IsPen old
-    → Does unshared old (event.Retire segment) (Err e) new → after ≡ before
-    → DoesNoting old (event.Retire segment) (Err e) new before after
-noting-not_retired old new segment e before after pen does same =
-    noting-refused old (event.Retire segment) new before after pen e
-    (does-shared old new (event.Retire segment) (Err e) does) same
-
--- ---- moves
-
-module _ (old new : Layout) (segment limit moment : ℕ) (before after : List Commit) (pen : IsPen old) where
-  pub noting-moved : (a : Answer) → Does unshared old (event.Move segment limit moment) (Ok a) new
-      → after ≡ before ++ moved_as a new.lists.table.latest
-      → DoesNoting old (event.Move segment limit moment) (Ok a) new before after
-  noting-moved a does behind =
-      noting old (event.Move segment limit moment) new before after pen (Ok a)
-      (moved_as a new.lists.table.latest)
-      (does-shared old new (event.Move segment limit moment) (Ok a) does) behind refl
-
-  pub noting-not_moved : (e : VolError) → Does unshared old (event.Move segment limit moment) (Err e) new
-      → after ≡ before
-      → DoesNoting old (event.Move segment limit moment) (Err e) new before after
-  noting-not_moved e does same =
-      noting-refused old (event.Move segment limit moment) new before after pen e
-      (does-shared old new (event.Move segment limit moment) (Err e) does) same
 
 -- ---- resizes
 

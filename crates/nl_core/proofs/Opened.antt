@@ -29,7 +29,7 @@ use Rattle.nl_commit.specs.Layout.{IsPen, IsSoundPen, Layout, MeansWorld, ledger
 use Rattle.nl_core.specs.Opened.{CheckedCheckpointsHaveInodes, IsChecked, IsOpened, OpenedImagesArePens}
 use Rattle.nl_commit.specs.Volume.{kept_by, mount_of}
 use Rattle.nl_core.proofs.CheckedCopies.{HasTree, InLimits, copies-fit, copies-last, copies-mean, copies-sorted, copies-stamped, copies_of, copy_of, copy_of-tree, found-tree, is-tree, last_tree, some-inode}
-use Rattle.nl_core.specs.Facts.Ledgers.{found-all}
+use Rattle.nl_events.specs.Facts.Ledgers.{found-all}
 
 -- what is found under a number has it
 numbered-found : (n : ℕ) (kept : List Checkpoint) (c : Checkpoint)

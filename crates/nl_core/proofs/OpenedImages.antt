@@ -1,5 +1,5 @@
 -- What was read of an image, against the store that is made of it.
-use Rattle.std.proofs.Common.{◌≡◌, ◌∙◌, ℕ, suc, ◌-◌, List, [], ◌∷◌, ◌++◌, length, map, slice_get, slice_index_or, Option, None, Some, ap, sym, refl, subst, arith}
+use Rattle.std.proofs.Common.{◌≡◌, ◌∙◌, ℕ, suc, ◌+◌, ◌-◌, ◌≤◌, List, [], ◌∷◌, ◌++◌, length, map, slice_get, slice_index_or, Option, None, Some, ap, sym, refl, subst, arith}
 use Rattle.std.specs.Prelude.{All}
 use Rattle.std.specs.List.{AllZip}
 use Rattle.std.specs.Option.{option_and_then, option_map, option_map_or}
@@ -27,8 +27,9 @@ use Rattle.nl_image.specs.Parts.{Parts, dat_in}
 use Rattle.nl_image.specs.Reading.{HaveOwn, IsReadImage}
 use Rattle.nl_image.specs.Facts.OnePayload.{own_by_both, used_page}
 use Rattle.nl_commit.specs.Layout.{layout_of}
-use Rattle.nl_core.specs.Opened.{IsAtRest, IsChecked, IsOpened, IsRestoredStore, opened_lists}
 use Rattle.nl_commit.specs.Volume.{Lists}
+use Rattle.nl_events.specs.Opened.{opened_lists}
+use Rattle.nl_core.specs.Opened.{IsAtRest, IsChecked, IsOpened, IsRestoredStore}
 use Rattle.nl_core.proofs.Opening.{each-checked, each-rooted, latest-checked, periods-bounded}
 
 last-behind : (e f : CheckpointEntry) (kept : List CheckpointEntry)
@@ -54,6 +55,20 @@ last-number (c ∷ []) latest (e ∷ []) are = absurd are.1
 last-number (c ∷ d ∷ earlier) latest (e ∷ []) are = absurd are.1
 last-number (c ∷ earlier) latest (e ∷ f ∷ kept) are =
     last-behind e f kept ∙ last-number earlier latest (f ∷ kept) are.1
+
+-- what is opened is at rest, where the latest checkpoint has an inode
+pub opened-rest : (t : Table) (lists : Lists) → lists ≡ opened_lists t → 1 ≤ t.latest.inodes → IsAtRest lists
+opened-rest t lists same rooted =
+    let names : t.latest.inodes - 1 + 1 ≡ t.latest.inodes = omega (arith, rooted) in
+    subst IsAtRest (sym same) (record {
+      clean = refl;
+      unchanged = refl;
+      none_freed = refl;
+      unmarked = refl;
+      names = names;
+      unmounted = refl;
+      none_given = refl;
+    })
 
 module _ (bytes : List ℕ) (r : ReadImage) (is : IsReadImage bytes r) where
   abbrev p : Parts

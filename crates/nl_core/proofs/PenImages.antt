@@ -39,7 +39,7 @@ use Rattle.nl_commit.specs.Means.{CopyMeans}
 use Rattle.nl_core.specs.PenImages.{PenImagesAreImages, PensHaveOneImage}
 use Rattle.nl_commit.specs.Volume.{kept_by}
 use Rattle.nl_core.proofs.CheckedCopies.{HasTree}
-use Rattle.nl_core.specs.Facts.KeptNumbers.{found-own}
+use Rattle.nl_events.specs.Facts.KeptNumbers.{found-own}
 use Rattle.nl_core.proofs.OpenedImages.{last-number}
 use Rattle.nl_core.proofs.Opening.{told-whole}
 

@@ -8,7 +8,7 @@ use Rattle.nl_types.specs.Roots.{Pages, Root, pages_of}
 use Rattle.nl_types.specs.Segments.{IsUsed, Segments, total_blocks}
 use Rattle.nl_layout.specs.declared.checkpoint_entry.CheckpointEntry.{CheckpointEntry}
 use Rattle.nl_space.specs.Images as blocks
-use Rattle.nl_space.specs.Images.{AreBlocksOf, IsPageOf, zero_page}
+use Rattle.nl_space.specs.Images.{AreBlocksOf, IsPageOf}
 use Rattle.nl_space.specs.Facts.ImageBlocks.{page_there}
 use Rattle.nl_vstore.specs.Stores.{IsStore, Store, content_in, space_in}
 use Rattle.nl_dat.specs.declared.entries.DatEntry.{DatEntry}
@@ -31,7 +31,8 @@ use Rattle.nl_image.specs.Reading.{IsReadImage}
 use Rattle.nl_image.specs.StoreImages.{AreOf, HaveSpelling, IsImageOf, IsShapeOfStore, IsSizedEntry, parts_of}
 use Rattle.nl_image.specs.Facts.ReadParts.{part-length}
 use Rattle.nl_commit.specs.Layout.{Layout, layout_of}
-use Rattle.nl_core.specs.Opened.{IsRestoredStore, opened_lists}
+use Rattle.nl_events.specs.Opened.{opened_lists}
+use Rattle.nl_core.specs.Opened.{IsRestoredStore}
 use Rattle.nl_commit.specs.Volume.{Lists, kept_by}
 use Rattle.nl_core.proofs.BlockPages.{IsPageAt, cut-at, cut-count, cut-spelled, cut_pages}
 use Rattle.nl_core.proofs.OpenedImages.{numbers-shown, pages-are}

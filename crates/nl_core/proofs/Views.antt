@@ -12,7 +12,7 @@ use Rattle.nl_cpfile.specs.declared.checkpoint.Checkpoint.{Checkpoint}
 use Rattle.nl_commit.specs.Means.{CopyMeans, Means}
 use Rattle.nl_core.specs.Views.{counted}
 use Rattle.nl_commit.specs.Volume.{Lists, boundary_in, kept_by, mount_of}
-use Rattle.nl_core.specs.Facts.CheckpointEvents.{latest-same, rows-means}
+use Rattle.nl_events.specs.Facts.CheckpointEvents.{latest-same, rows-means}
 
 count-told : (pages : Pages) (kept : List Checkpoint) (copies : List (ℕ × Copy))
     → AllZip (CopyMeans pages) kept copies

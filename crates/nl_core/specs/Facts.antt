@@ -1,22 +1,5 @@
 -- Facts about the definitions, for proofs of other crates.
-pub mod CheckpointEvents
-pub mod Checkpoints
-pub mod CleanedPens
-pub mod CleaningEvents
-pub mod CountedPens
 pub mod EqualInodes
-pub mod ExpiredNumbers
-pub mod KeptLists
-pub mod KeptNumbers
-pub mod Ledgers
-pub mod MinorPens
-pub mod MorePages
 pub mod MovedNeeds
-pub mod NeededNumbers
-pub mod NothingChanged
-pub mod Outside
-pub mod Published
 pub mod Refusals
 pub mod SameFiles
-pub mod Settlings
-pub mod TableChanges

@@ -1,22 +1,16 @@
 -- Events of a pen as events of its ledger, and what becomes of numbers over whole lists of them.
-use Rattle.std.specs.Prelude.{◌≡◌, ℕ, if◌then◌else◌, List, [], ◌∷◌, Ok, Err, map}
+use Rattle.std.specs.Prelude.{◌≡◌, if◌then◌else◌, List, [], ◌∷◌, Ok, Err, map}
 use Rattle.nl_types.specs.declared.event.Event.{Event}
 use Rattle.nl_types.specs.declared.event.Event.TheVariants as event
 use Rattle.nl_types.specs.declared.reply.Answer.{Answer}
-use Rattle.nl_types.specs.declared.reply.Answer.TheVariants.{Expired, Removed}
 use Rattle.nl_types.specs.Lifetimes.{EachAllowed, EndsOnceSince, KeepsCovered, Ledger, LedgerEvent, Frees, Forgets, Makes, ledger_after_all}
 use Rattle.nl_types.specs.Runs.{Run}
 use Rattle.nl_types.specs.Worlds.{Reply, is_moving}
 use Rattle.nl_reclaim.specs.Reclaims.{stood_in}
 use Rattle.nl_commit.specs.Layout.{AllowedBetween, Does, HasDone, IsPen, Layout, Becomes, ledger_of}
+use Rattle.nl_events.specs.NeededBlocks.{taken_out}
 
 -- ---- which they are
-
--- the numbers of the checkpoints that an answer tells to be gone
-abbrev pub taken_out : Answer → List ℕ
-taken_out (Removed range) = range.removed
-taken_out (Expired gone) = gone
-taken_out answer = []
 
 -- A checkpoint is a write of the births and ends that it has, and a move of blocks one of none: at the minor
 -- checkpoint that it makes no number starts or ends. A removal is that of its checkpoint, and the removal of

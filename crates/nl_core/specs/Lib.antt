@@ -1,8 +1,5 @@
 pub mod Views
-pub mod Inside
 pub mod LedgerEvents
-pub mod NeededBlocks
-pub mod CleanedPens
 pub mod Opened
 pub mod PenImages
 pub mod SameFiles

@@ -1,5 +1,5 @@
--- What is opened of an image: the lists over a store, and what they have to be for a pen.
-use Rattle.std.specs.Prelude.{◌≡◌, ◌⊎◌, ℕ, ◌+◌, ◌-◌, ◌≤◌, List, [], false, All, Option, Some}
+-- What is opened of an image, and what it has to be for a pen.
+use Rattle.std.specs.Prelude.{◌≡◌, ◌⊎◌, ℕ, ◌+◌, ◌≤◌, List, [], false, All, Option, Some}
 use Rattle.nl_types.specs.Limits.{first_inode}
 use Rattle.nl_types.specs.declared.error.VolError.{VolError}
 use Rattle.nl_types.specs.declared.error.VolError.TheVariants.{Fault}
@@ -14,23 +14,12 @@ use Rattle.nl_segwriter.specs.Writing.{held_in}
 use Rattle.nl_dat.specs.declared.entries.DatEntry.{DatEntry}
 use Rattle.nl_dat.specs.Table.{entries_shown}
 use Rattle.nl_check.specs.Laws.{MeetsAll}
-use Rattle.nl_cpfile.specs.Tables.{IsTable, Table, checkpoint_root}
+use Rattle.nl_cpfile.specs.Tables.{IsTable, checkpoint_root}
 use Rattle.nl_cpfile.specs.declared.checkpoint.Checkpoint.{Checkpoint}
 use Rattle.nl_image.specs.Conditions.{AreImage}
 use Rattle.nl_image.specs.Reading.{IsRefusal}
 use Rattle.nl_commit.specs.Layout.{IsPen, Layout}
 use Rattle.nl_commit.specs.Volume.{Lists, kept_by}
-
--- the lists over checkpoints that an image keeps: nothing differs from the latest one, and nothing was
--- mounted
-abbrev pub opened_lists : Table → Lists
-opened_lists table = record {
-  current = record { became = []; freed = []; mark = first_inode; names = table.latest.inodes - 1 };
-  dirty = false;
-  table = table;
-  mounts = [];
-  given = 0;
-}
 
 -- nothing differs from the latest checkpoint, which has the paths of the current tree, and no mount number
 -- was given

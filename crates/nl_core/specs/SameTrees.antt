@@ -1,17 +1,10 @@
--- Trees that are one in two checkpoints, as their roots tell.
+-- Trees that are one in two checkpoints of a pen.
 use Rattle.std.specs.Prelude.{◌≡◌, ℕ, Some}
 use Rattle.nl_types.specs.Worlds.{World, Copy, copy_at}
-use Rattle.nl_cpfile.specs.Tables.{Table, checkpoint_root, kept_at}
-use Rattle.nl_cpfile.specs.declared.checkpoint.Checkpoint.{Checkpoint}
 use Rattle.nl_commit.specs.Layout.{Layout, MeansWorld}
+use Rattle.nl_events.specs.SameTrees.{IsOneRoot}
 
--- both checkpoints are kept, and have one root
-abbrev pub IsOneRoot : Table → (old new : ℕ) → Type 0
-IsOneRoot kept old new =
-    (one : Checkpoint) × (other : Checkpoint) × (kept_at old kept ≡ Some one) × (kept_at new kept ≡ Some other)
-    × (checkpoint_root one ≡ checkpoint_root other)
-
--- they have in a pen
+-- both checkpoints are kept in a pen, and have one root
 abbrev pub HaveOneRoot : Layout → (old new : ℕ) → Type 0
 HaveOneRoot l old new = IsOneRoot l.lists.table old new
 

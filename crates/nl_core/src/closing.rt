@@ -10,10 +10,10 @@ ghost use Rattle.nl_core.specs.Private.Closed.{AreSized, HasSize, HaveSizes};
 ghost use Rattle.nl_commit.specs.Layout.{IsPen, layout_of};
 ghost use Rattle.nl_core.specs.PenImages.{IsPenImage};
 
-use crate::tables::Tables;
 use nl_check::size_of_blocks;
 use nl_cpfile::{Checkpoint, Checkpoints};
 use nl_dat::Dat;
+use nl_events::Tables;
 use nl_image::write_image;
 use nl_layout::CheckpointEntry;
 use nl_space::Space;

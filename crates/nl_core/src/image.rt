@@ -3,7 +3,6 @@ ghost use Rattle.std.specs.Prelude.{◌≡◌, ◌⊎◌, IfErr, IfOk, OnErr, Li
 ghost use Rattle.nl_types.specs.Segments.{HaveLogs, total_blocks};
 ghost use Rattle.nl_segwriter.specs.Images.{HoldLogs, page_in};
 ghost use Rattle.nl_segwriter.specs.Images as spaces;
-ghost use Rattle.nl_segwriter.specs.Writing.{held_in};
 ghost use Rattle.nl_dat.specs.Images.{IsTableOver};
 ghost use Rattle.nl_image.specs.Conditions.{AreImage, IsShapeOf, MeetsFirst};
 ghost use Rattle.nl_image.specs.Parts.{Parts, with_present_mark};
@@ -14,11 +13,11 @@ ghost use Rattle.nl_core.specs.PenImages.{IsPenImage};
 
 use crate::laws::{checked_checkpoints_have_inodes, opened_images_are_pens};
 use crate::pen::Pen;
-use crate::tables::Tables;
 use nl_counts::NeededCounts;
 use nl_cpfile::Checkpoints;
 use nl_dat::{Dat, DatEntry};
 use nl_device::Device;
+use nl_events::Tables;
 use nl_image::laws::images_are_spelled;
 use nl_image::{ReadImage, read_image};
 use nl_segwriter::{LogSpace, Restored};

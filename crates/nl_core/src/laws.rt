@@ -1,5 +1,5 @@
 //! What the pen's definitions mean, as contracts of functions that do nothing.
-ghost use Rattle.nl_core.specs.CleanedPens.{MinorsKeepPens, MovesKeepPens, RefusedMovesKeepPens, RetirementsKeepPens};
+ghost use Rattle.nl_events.specs.CleanedPens.{MinorsKeepPens, MovesKeepPens, RefusedMovesKeepPens, RetirementsKeepPens};
 ghost use Rattle.nl_commit.specs.Commits.{MountsStillShow};
 ghost use Rattle.nl_commit.specs.Layout.{unshared};
 ghost use Rattle.nl_core.specs.LedgerEvents.{EventsAreLedgerEvents, RunsAreLedgerEvents, RunsKeepNumbers};

@@ -1,5 +1,5 @@
 //! The pen: what the writer of a volume holds, the device included.
-ghost use Rattle.std.specs.Prelude.{◌≡◌, ◌↔◌, ◌⊎◌, ◌<◌, ◌≤◌, ◌+◌, ◌-◌, ◌∷◌, [], false, IfErr, IfOk, IsErr, IsErrOf, IsTrue, OnErr, IsOkUnless, length};
+ghost use Rattle.std.specs.Prelude.{◌≡◌, ◌↔◌, ◌⊎◌, ◌<◌, ◌≤◌, ◌-◌, ◌∷◌, [], IfErr, IfOk, IsErr, IsErrOf, IsTrue, OnErr, IsOkUnless, length};
 ghost use Rattle.std.specs.Option.{option_map};
 ghost use Rattle.nl_types.specs.Runs.{Run};
 ghost use Rattle.nl_types.specs.Rows.{kept_row};
@@ -8,7 +8,7 @@ ghost use Rattle.nl_types.specs.Worlds.{World, formatted};
 ghost use Rattle.nl_cpfile.specs.Tables as cpfile;
 ghost use Rattle.nl_core.specs.Views.{counted};
 ghost use Rattle.nl_dat.specs.Described.{descs_of};
-ghost use Rattle.nl_vstore.specs.Stores.{capacity, content_in, numbered_in};
+ghost use Rattle.nl_vstore.specs.Stores.{capacity, numbered_in};
 ghost use Rattle.nl_dat.specs.Table.{dat_entry_of};
 ghost use Rattle.nl_vstore.specs.Summaries.{payload_row};
 ghost use Rattle.nl_vstore.specs.Located.{needed_count, payload_count_in};
@@ -19,26 +19,20 @@ ghost use Rattle.nl_commit.specs.Shown.{MountsRise};
 ghost use Rattle.nl_commit.specs.Notes.{ChangesLists, DoesNoting, HasNoted, has_other_mode, shown_of, where_gone};
 ghost use Rattle.nl_commit.specs.Volume.{boundary_in, without_mounts};
 
-use crate::cleaner_views::{counts_after, needed_in, payload_count};
-use crate::cleaning::{empty, move_out};
 use crate::closing::image_of;
 use crate::laws::opened_images_are_pens;
-use crate::noting::{
-    note, note_checkpoint, note_mounted, note_move, note_resized, note_retirement, note_where_gone,
-    whole,
-};
-use crate::removing::{expire, remove, remove_range};
-use crate::resizing::{adds_segments, resize};
-use crate::same_files::is_same_file;
-use crate::same_trees::is_same_tree;
-use crate::tables::Tables;
-use crate::writing::{checkpoint, first_checkpoint};
 use nl_commit::Commit;
 use nl_counts::NeededCounts;
 use nl_counts::laws::counts_stay;
 use nl_cpfile::Cpstat;
 use nl_dat::{Bdesc, Dat, DatEntry};
 use nl_device::Device;
+use nl_events::{
+    Tables, adds_segments, checkpoint, counts_after, empty, expire, first_checkpoint, is_same_file,
+    is_same_tree, move_out, needed_in, note, note_checkpoint, note_mounted, note_move,
+    note_resized, note_retirement, note_where_gone, payload_count, remove, remove_range, resize,
+    whole,
+};
 use nl_protect::boundary;
 use nl_segwriter::LogSpace;
 use nl_sufile::{SegTable, SegmentCounts};
@@ -62,7 +56,7 @@ pub struct Pen<D: Device> {
 
 impl<D: Device> Model for Pen<D> {
     ghost use Rattle.nl_commit.specs.Layout.{Layout, layout_of};
-    ghost use Rattle.nl_core.specs.NeededBlocks.{IsCountedPen};
+    ghost use Rattle.nl_events.specs.NeededBlocks.{IsCountedPen};
 
     ghost Value = { Layout };
 
@@ -76,7 +70,7 @@ ghost use Rattle.nl_types.specs.declared.event.Event.TheVariants.{ChangeMode, Mo
 
 impl<D: Device> Pen<D> {
     ghost use Rattle.nl_commit.specs.Layout.{IsFormatted, Layout};
-    ghost use Rattle.nl_core.specs.NeededBlocks.{AreNeededCounts};
+    ghost use Rattle.nl_events.specs.NeededBlocks.{AreNeededCounts};
     ghost use Rattle.nl_core.specs.Opened.{IsOpened};
     ghost use Rattle.nl_vstore.specs.Stores.{KeepsStored};
     ghost use Rattle.nl_core.specs.PenImages.{CanBeClosed, IsPenImage};

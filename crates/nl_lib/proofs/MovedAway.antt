@@ -15,7 +15,7 @@ use Rattle.nl_vstore.specs.Located.{needed_count}
 use Rattle.nl_reclaim.specs.Cleaning.{judged_segment, judged_by, judged_info}
 use Rattle.nl_reclaim.specs.Moves.{HasMovedPages, needed_now}
 use Rattle.nl_reclaim.specs.Facts.Moves.{move-takes-first}
-use Rattle.nl_core.specs.CleanedPens.{kept_store}
+use Rattle.nl_events.specs.CleanedPens.{kept_store}
 use Rattle.nl_commit.specs.CleaningEvents.{needed_by}
 use Rattle.nl_commit.specs.Layout.{Does, IsPen, Layout, unshared}
 use Rattle.nl_core.specs.Facts.MovedNeeds.{moved-needs}

@@ -15,7 +15,7 @@ use Rattle.nl_types.specs.Worlds.{Copy, Outcome, Reply, World, change_mode, chec
 use Rattle.nl_types.specs.Facts.EventCases.{either_gives, refused_if_gives}
 use Rattle.nl_commit.specs.Layout.{Does, IsPen, Layout, layout_pages, unshared}
 use Rattle.nl_commit.specs.Volume.{Lists}
-use Rattle.nl_core.specs.Facts.CheckpointEvents.{latest-same}
+use Rattle.nl_events.specs.Facts.CheckpointEvents.{latest-same}
 use Rattle.nl_core.specs.Facts.Refusals.{memory_is_taken}
 use Rattle.nl_lib.specs.Calls.{done_reply}
 

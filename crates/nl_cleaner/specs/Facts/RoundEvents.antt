@@ -4,7 +4,7 @@ use Rattle.nl_types.specs.declared.event.Event.{Event}
 use Rattle.nl_types.specs.declared.event.Event.TheVariants.{Move}
 use Rattle.nl_types.specs.declared.reply.Answer.{Answer}
 use Rattle.nl_reclaim.specs.Moves.{HasMovedPages}
-use Rattle.nl_core.specs.CleanedPens.{kept_store}
+use Rattle.nl_events.specs.CleanedPens.{kept_store}
 use Rattle.nl_core.specs.Facts.MovedNeeds.{moved-needs}
 use Rattle.nl_commit.specs.Layout.{AllowedBetween, Does, IsPen, Layout}
 use Rattle.nl_cleaner.specs.Job.{Cleaning, JobView}

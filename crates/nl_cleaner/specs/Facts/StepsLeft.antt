@@ -17,7 +17,7 @@ use Rattle.nl_vstore.specs.Located.{needed_at, needed_count, onto, picked}
 use Rattle.nl_reclaim.specs.Cleaning.{judged_segment, judged_by, judged_info}
 use Rattle.nl_reclaim.specs.Moves.{needed_now}
 use Rattle.nl_reclaim.specs.Facts.Moves.{move-takes-first}
-use Rattle.nl_core.specs.CleanedPens.{kept_store}
+use Rattle.nl_events.specs.CleanedPens.{kept_store}
 use Rattle.nl_commit.specs.CleanerViews.{cleaning_event}
 use Rattle.nl_commit.specs.CleaningEvents.{needed_by}
 use Rattle.nl_commit.specs.Layout.{AllowedBetween, Does, IsPen, Layout, layout_of}

@@ -29,7 +29,8 @@ use Rattle.nl_commit.specs.Layout.{Layout, layout_pages}
 use Rattle.nl_commit.specs.Means.{Means}
 use Rattle.nl_commit.specs.Volume.{Lists}
 use Rattle.nl_commit.specs.Facts.Events.{copy_of}
-use Rattle.nl_core.specs.SameFiles.{HasFile, HasFileInode, HaveOneFile, HaveOneInode, file_inode, inode_found}
+use Rattle.nl_events.specs.SameFiles.{HasFileInode, file_inode, inode_found}
+use Rattle.nl_core.specs.SameFiles.{HasFile, HaveOneFile, HaveOneInode}
 
 -- ---- the walk to a file
 

@@ -9,10 +9,10 @@ use Rattle.nl_types.specs.Worlds.{is_moving}
 use Rattle.nl_types.specs.Facts.Needs.{checkpoints-keep}
 use Rattle.nl_vstore.specs.Stores.{content_in}
 use Rattle.nl_reclaim.specs.Moves.{KeepsNeeds}
-use Rattle.nl_core.specs.CleanedPens.{kept_store, kept_number}
+use Rattle.nl_events.specs.CleanedPens.{kept_store, kept_number}
 use Rattle.nl_commit.specs.Layout.{AllowedBetween, Does, IsPen, Layout}
 use Rattle.nl_commit.specs.Volume.{Lists, kept_by, with_minor}
-use Rattle.nl_core.specs.Facts.CountedPens.{kept-minor, latest-of}
+use Rattle.nl_events.specs.Facts.CountedPens.{kept-minor, latest-of}
 
 pub moved-needs : {allowed : AllowedBetween} (old new : Layout) (segment limit now : ℕ) (answer : Answer)
     → IsPen old

@@ -16,13 +16,13 @@ use Rattle.nl_vstore.specs.Located.{needed_in}
 use Rattle.nl_vstore.specs.Stores.{IsMoveRefused, KeepsStored, StaysStored, Store}
 use Rattle.nl_reclaim.specs.Cleaning.{judged_for, retired}
 use Rattle.nl_commit.specs.CleaningEvents.{HasResizedNone, IsMoveRefusal, needed_by}
-use Rattle.nl_core.specs.Facts.CleaningEvents.{cleaned_judges}
+use Rattle.nl_events.specs.Facts.CleaningEvents.{cleaned_judges}
 use Rattle.nl_layout.specs.declared.root.Root.{Root}
 use Rattle.nl_commit.specs.Laws.{IsAsBefore, MemoryIsTaken, RefusalsKeepPens, RefusalsHaveReasons, NoSpaceIsTrue, NoSpaceIsSaid}
 use Rattle.nl_commit.specs.Volume.{latest_root}
 use Rattle.nl_commit.specs.Layout.{AllowedBetween, Does, HasRefused, IsPen, LacksSpaceToSettle, Layout, Settled, cleaned, unshared}
-use Rattle.nl_core.specs.Facts.NothingChanged.{keeps-same}
-use Rattle.nl_core.specs.Facts.Settlings.{births-alike, count-items}
+use Rattle.nl_events.specs.Facts.NothingChanged.{keeps-same}
+use Rattle.nl_events.specs.Facts.Settlings.{births-alike, count-items}
 
 move-kept : (checkpoint stamp : ℕ) (numbers : List ℕ) (e : VolError) (old new : Store)
     → IsMoveRefused checkpoint stamp numbers old new e

@@ -1,5 +1,5 @@
 use Rattle.std.proofs.Common.{Err, refl}
-use Rattle.nl_core.specs.Facts.Outside.{no-segment}
+use Rattle.nl_events.specs.Facts.Outside.{no-segment}
 use Rattle.nl_cleaner.proofs.Victims.{candidate-outside}
 use Rattle.nl_cleaner.proofs.planning.candidate.Goals as goal
 

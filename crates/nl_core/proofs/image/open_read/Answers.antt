@@ -5,9 +5,10 @@ use Rattle.nl_cpfile.specs.Images.{HasRoot, IsEntryOf}
 use Rattle.nl_cpfile.specs.Tables.{all}
 use Rattle.nl_vstore.specs.Stores.{content_in}
 use Rattle.nl_commit.specs.CleaningEvents.{kept_numbers}
-use Rattle.nl_commit.specs.Layout.{layout_of}
-use Rattle.nl_core.specs.Facts.CountedPens.{latest-of, tells-needs}
-use Rattle.nl_core.proofs.OpenedImages.{is-opened, kept-rooted, latest-was-checked, own-read}
+use Rattle.nl_commit.specs.Layout.{Layout, layout_of}
+use Rattle.nl_core.specs.Opened.{IsAtRest}
+use Rattle.nl_events.specs.Facts.CountedPens.{latest-of, tells-needs}
+use Rattle.nl_core.proofs.OpenedImages.{is-opened, kept-rooted, latest-was-checked, opened-rest, own-read}
 use Rattle.nl_core.proofs.RestoredImages.{image-opened}
 use Rattle.nl_core.proofs.image.open_read.Goals as goal
 
@@ -37,7 +38,8 @@ opened-requires-clause-opened g c =
     (subst (AllZip IsEntryOf (all c.in_ok-checkpoints.checkpoints.table)) c.as_slice.ensures
     c.in_ok-checkpoints.ensures)
     c.opened-tables.result.lists c.opened-tables.ensures.lists c.opened-tables.ensures.table
-    c.opened-tables.ensures.rest
+    (opened-rest c.in_ok-checkpoints.checkpoints.table c.opened-tables.result.lists
+    c.opened-tables.ensures.lists (opened-tables-requires g c))
 
 pub opened-requires-clause-needed : goal.opened-requires-clause-needed
 opened-requires-clause-needed g c =
@@ -45,6 +47,12 @@ opened-requires-clause-needed g c =
     let pen = c.opened_images_are_pens.ensures l (opened-requires-clause-opened g c) in
     c.in_ok-needed.ensures.counted l.lists.table.latest.number (kept_numbers l.lists) (tells-needs l.lists)
     (latest-of l pen.sound)
+
+pub returns-clause-rest : goal.returns-clause-rest
+returns-clause-rest g c =
+    subst (λ (l : Layout). IsAtRest l.lists) (sym c.opened.ensures.layout)
+    (opened-rest c.in_ok-checkpoints.checkpoints.table c.opened-tables.result.lists
+    c.opened-tables.ensures.lists (opened-tables-requires g c))
 
 pub returns-clause-image : goal.returns-clause-image
 returns-clause-image g c bytes is =

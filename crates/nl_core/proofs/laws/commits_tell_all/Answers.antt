@@ -1,6 +1,6 @@
 use Rattle.nl_commit.specs.Layout.{unshared}
 use Rattle.nl_commit.specs.Notes.{shared}
-use Rattle.nl_core.proofs.Telling.{commits_tell_all}
+use Rattle.nl_events.specs.Facts.Telling.{commits_tell_all}
 use Rattle.nl_core.proofs.laws.commits_tell_all.Goals as goal
 
 pub returns-clause-alone : goal.returns-clause-alone

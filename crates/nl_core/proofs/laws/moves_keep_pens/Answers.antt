@@ -1,4 +1,4 @@
-use Rattle.nl_core.specs.Facts.CleanedPens.{moves_keep_pens, refused_moves_keep_pens}
+use Rattle.nl_events.specs.Facts.CleanedPens.{moves_keep_pens, refused_moves_keep_pens}
 use Rattle.nl_core.proofs.laws.moves_keep_pens.Goals as goal
 
 pub returns-clause-moved : goal.returns-clause-moved

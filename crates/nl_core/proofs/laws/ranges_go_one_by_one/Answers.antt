@@ -1,5 +1,5 @@
 use Rattle.nl_commit.specs.Layout.{unshared}
-use Rattle.nl_core.proofs.Removals.{expiries_go_one_by_one, ranges_go_one_by_one}
+use Rattle.nl_events.specs.Facts.Removals.{expiries_go_one_by_one, ranges_go_one_by_one}
 use Rattle.nl_core.proofs.laws.ranges_go_one_by_one.Goals as goal
 
 pub returns-clause-ranges : goal.returns-clause-ranges

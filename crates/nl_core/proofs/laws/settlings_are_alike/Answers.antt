@@ -1,4 +1,4 @@
-use Rattle.nl_core.specs.Facts.Settlings.{settlings_are_alike}
+use Rattle.nl_events.specs.Facts.Settlings.{settlings_are_alike}
 use Rattle.nl_core.proofs.laws.settlings_are_alike.Goals as goal
 
 pub returns : goal.returns

@@ -1,8 +1,8 @@
 use Rattle.std.proofs.Common.{refl, sym, subst}
 use Rattle.nl_commit.specs.Layout.{Does, layout_of, unshared}
 use Rattle.nl_commit.specs.Volume.{with_change, with_checkpoint_mode, with_mount, without_mount}
-use Rattle.nl_core.specs.Facts.CountedPens.{counts-over, kept-moded, kept-unless}
-use Rattle.nl_core.proofs.Moving.{does-Apply, does-ChangeMode, does-Listing, does-Mount, does-MountRead, does-Read, does-Unmount, pages_under}
+use Rattle.nl_events.specs.Facts.CountedPens.{counts-over, kept-moded, kept-unless}
+use Rattle.nl_events.specs.Facts.Moving.{does-Apply, does-ChangeMode, does-Listing, does-Mount, does-MountRead, does-Read, does-Unmount, pages_under}
 use Rattle.nl_core.proofs.pen.Pen.apply.Goals as goal
 
 pub returns-in-Apply : goal.returns-in-Apply

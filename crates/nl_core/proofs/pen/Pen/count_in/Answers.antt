@@ -1,6 +1,6 @@
 use Rattle.nl_commit.specs.CleaningEvents.{needed_by}
-use Rattle.nl_core.specs.Facts.CountedPens.{told-count, told-none}
-use Rattle.nl_core.specs.Facts.Outside.{needed-outside}
+use Rattle.nl_events.specs.Facts.CountedPens.{told-count, told-none}
+use Rattle.nl_events.specs.Facts.Outside.{needed-outside}
 use Rattle.nl_core.proofs.pen.Pen.count_in.Goals as goal
 
 pub returns-in-Ok : goal.returns-in-Ok

@@ -2,7 +2,7 @@ use Rattle.nl_cpfile.specs.Tables.{rows}
 use Rattle.std.proofs.Common.{ap, ◌∙◌}
 use Rattle.nl_types.specs.Rows.{kept_row}
 use Rattle.nl_commit.specs.Layout.{Layout, layout_pages}
-use Rattle.nl_core.specs.Facts.CheckpointEvents.{rows-means}
+use Rattle.nl_events.specs.Facts.CheckpointEvents.{rows-means}
 use Rattle.nl_core.proofs.pen.Pen.cpinfo.Goals as goal
 
 pub returns-clause-world : goal.returns-clause-world

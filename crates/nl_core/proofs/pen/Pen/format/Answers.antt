@@ -1,6 +1,5 @@
 use Rattle.nl_commit.specs.Layout.{layout_of}
-use Rattle.nl_core.proofs.FirstCounts.{as-many-segments}
-use Rattle.nl_core.proofs.Formats.{blank-volume}
+use Rattle.nl_core.proofs.BlankVolumes.{as-many-segments, blank-volume}
 use Rattle.nl_core.proofs.pen.Pen.format.Goals as goal
 
 pub first_checkpoint-requires-clause-blank : goal.first_checkpoint-requires-clause-blank

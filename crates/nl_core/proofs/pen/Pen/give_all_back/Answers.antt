@@ -2,7 +2,7 @@ use Rattle.std.proofs.Common.{ap, subst, sym}
 use Rattle.nl_commit.specs.CleaningEvents.{kept_numbers}
 use Rattle.nl_commit.specs.Layout.{IsPen, layout_of}
 use Rattle.nl_commit.specs.Volume.{Lists}
-use Rattle.nl_core.specs.Facts.CountedPens.{counts-over}
+use Rattle.nl_events.specs.Facts.CountedPens.{counts-over}
 use Rattle.nl_core.proofs.GivenBack.{pen-given_back}
 use Rattle.nl_core.proofs.pen.Pen.give_all_back.Goals as goal
 

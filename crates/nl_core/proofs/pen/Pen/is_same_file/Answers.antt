@@ -2,7 +2,8 @@ use Rattle.std.proofs.Common.{subst, sym}
 use Rattle.std.specs.Prelude.{◌↔◌, IsTrue}
 use Rattle.nl_cpfile.specs.Tables.{Table}
 use Rattle.nl_commit.specs.Layout.{Layout, layout_of, layout_pages}
-use Rattle.nl_core.specs.SameFiles.{AreHeld, HaveOneInode, IsOneInode}
+use Rattle.nl_events.specs.SameFiles.{AreHeld, IsOneInode}
+use Rattle.nl_core.specs.SameFiles.{HaveOneInode}
 use Rattle.nl_core.specs.Facts.SameFiles.{are_held}
 use Rattle.nl_core.specs.Facts.EqualInodes.{have_one_file}
 use Rattle.nl_core.proofs.pen.Pen.is_same_file.Goals as goal

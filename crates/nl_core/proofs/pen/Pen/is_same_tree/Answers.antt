@@ -2,7 +2,8 @@ use Rattle.std.proofs.Common.{subst}
 use Rattle.std.specs.Prelude.{◌↔◌, IsTrue}
 use Rattle.nl_cpfile.specs.Tables.{Table}
 use Rattle.nl_commit.specs.Layout.{Layout, layout_of}
-use Rattle.nl_core.specs.SameTrees.{HaveOneRoot, IsOneRoot}
+use Rattle.nl_events.specs.SameTrees.{IsOneRoot}
+use Rattle.nl_core.specs.SameTrees.{HaveOneRoot}
 use Rattle.nl_core.proofs.EqualTrees.{have_one_tree}
 use Rattle.nl_core.proofs.pen.Pen.is_same_tree.Goals as goal
 

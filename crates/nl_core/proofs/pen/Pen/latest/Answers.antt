@@ -1,6 +1,6 @@
 use Rattle.std.proofs.Common.{ap, ◌∙◌}
 use Rattle.nl_commit.specs.Layout.{Layout, layout_pages}
-use Rattle.nl_core.specs.Facts.CheckpointEvents.{latest-same}
+use Rattle.nl_events.specs.Facts.CheckpointEvents.{latest-same}
 use Rattle.nl_core.proofs.pen.Pen.latest.Goals as goal
 
 pub returns-clause-world : goal.returns-clause-world

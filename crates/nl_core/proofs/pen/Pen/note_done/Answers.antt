@@ -2,7 +2,8 @@ use Rattle.std.proofs.Common.{[], ◌∷◌, ◌++◌, List, ap, ◌∙◌}
 use Rattle.std.specs.Prelude.{Ok, Err}
 use Rattle.std.proofs.lemmas.Result.{err_from_is_err_and}
 use Rattle.nl_commit.specs.declared.commit.Commit.{Commit}
-use Rattle.nl_core.proofs.NotedEvents.{does-shared, noting, noting-refused, noting-unlisted}
+use Rattle.nl_events.specs.Facts.NotedEvents.{does-shared, noting, noting-refused}
+use Rattle.nl_core.proofs.NotedEvents.{noting-unlisted}
 use Rattle.nl_core.proofs.pen.Pen.note_done.Goals as goal
 
 pub returns-in_err-reserve : goal.returns-in_err-reserve

@@ -3,7 +3,8 @@ use Rattle.std.specs.Prelude.{Ok, Err}
 use Rattle.std.proofs.lemmas.Result.{err_from_is_err_and}
 use Rattle.nl_commit.specs.Notes.{where_gone}
 use Rattle.nl_commit.specs.declared.commit.Commit.{Commit}
-use Rattle.nl_core.proofs.NotedEvents.{does-shared, noting, noting-refused, noting-unlisted}
+use Rattle.nl_events.specs.Facts.NotedEvents.{does-shared, noting, noting-refused}
+use Rattle.nl_core.proofs.NotedEvents.{noting-unlisted}
 use Rattle.nl_core.proofs.pen.Pen.note_gone.Goals as goal
 
 pub returns-in_err-reserve : goal.returns-in_err-reserve

@@ -4,7 +4,8 @@ use Rattle.std.proofs.lemmas.Result.{err_from_is_err_and}
 use Rattle.nl_types.specs.declared.event.Event.{Event}
 use Rattle.nl_commit.specs.Notes.{ChangesLists, HasNoted, mounted_as}
 use Rattle.nl_commit.specs.declared.commit.Commit.{Commit}
-use Rattle.nl_core.proofs.NotedEvents.{does-shared, noting, noting-refused, noting-unlisted}
+use Rattle.nl_events.specs.Facts.NotedEvents.{does-shared, noting, noting-refused}
+use Rattle.nl_core.proofs.NotedEvents.{noting-unlisted}
 use Rattle.nl_core.proofs.pen.Pen.note_mount.Goals as goal
 
 pub returns-in_err-reserve : goal.returns-in_err-reserve

@@ -9,7 +9,8 @@ use Rattle.nl_commit.specs.CleaningEvents.{resized_in}
 use Rattle.nl_commit.specs.Layout.{Layout}
 use Rattle.nl_commit.specs.Notes.{DoesNoting, HasNoted, where_true}
 use Rattle.nl_commit.specs.declared.commit.Commit.TheVariants.{Resized}
-use Rattle.nl_core.proofs.NotedEvents.{does-shared, noted-more, noting, noting-not_asked, noting-refused, noting-unreserved}
+use Rattle.nl_events.specs.Facts.NotedEvents.{does-shared, noting, noting-refused}
+use Rattle.nl_core.proofs.NotedEvents.{noted-more, noting-not_asked, noting-unreserved}
 use Rattle.nl_core.proofs.pen.Pen.note_resize.Goals as goal
 
 pub returns-in_err-adds_segments : goal.returns-in_err-adds_segments

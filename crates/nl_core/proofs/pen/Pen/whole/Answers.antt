@@ -1,7 +1,7 @@
 use Rattle.std.proofs.Common.{subst, sym}
 use Rattle.nl_commit.specs.Commits.{IsImage}
 use Rattle.nl_commit.specs.Layout.{layout_of}
-use Rattle.nl_core.proofs.Images.{pen-image}
+use Rattle.nl_events.specs.Facts.Images.{pen-image}
 use Rattle.nl_core.proofs.pen.Pen.whole.Goals as goal
 
 pub returns-clause-begins : goal.returns-clause-begins

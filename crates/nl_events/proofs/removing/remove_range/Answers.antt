@@ -1,0 +1,34 @@
+use Rattle.std.proofs.Common.{ℕ, List, subst, sym}
+use Rattle.std.specs.Prelude.{Ok, Err}
+use Rattle.std.proofs.lemmas.Result.{err_from_is_err_and}
+use Rattle.nl_commit.specs.Volume.{IsTakenOut}
+use Rattle.nl_events.specs.Facts.CountedPens.{range-taken}
+use Rattle.nl_events.specs.Facts.Moving.{does-RemoveRange, pages_under}
+use Rattle.nl_events.proofs.removing.remove_range.Goals as goal
+
+pub returns-in_err-answer-clause-does : goal.returns-in_err-answer-clause-does
+returns-in_err-answer-clause-does g c =
+    let p = err_from_is_err_and c.from_residual.result c.from_residual.ensures.1 in
+    let store = g.V.Vstore.store c.args.store.now in
+    rw (p.1, p.2)
+    (does-RemoveRange c.args.tables.now.lists c.remove_range.new.self.lists store c.args.first c.args.last
+    (Err c.in_err-answer.field-0.0) c.requires.pen
+    (c.in_err-answer.ensures.follows (pages_under store)) c.in_err-answer.ensures.removed
+    c.in_err-answer.ensures.same)
+
+pub returns-clause-does : goal.returns-clause-does
+returns-clause-does g c =
+    let store = g.V.Vstore.store c.args.store.now in
+    does-RemoveRange c.args.tables.now.lists c.remove_range.new.self.lists store c.args.first c.args.last
+    (Ok c.in_ok-answer.answer) c.requires.pen
+    (c.in_ok-answer.ensures.follows (pages_under store)) c.in_ok-answer.ensures.removed
+    c.in_ok-answer.ensures.same
+
+pub returns-clause-needed : goal.returns-clause-needed
+returns-clause-needed g c =
+    let old = c.args.tables.now.lists in
+    let new = c.remove_range.new.self.lists in
+    c.let_go.ensures old
+    (subst (λ (gone : List ℕ). IsTakenOut gone old new) (sym c.gone_by.ensures)
+    (range-taken c.args.first c.args.last c.in_ok-answer.answer old new c.in_ok-answer.ensures.removed))
+    c.requires.counts

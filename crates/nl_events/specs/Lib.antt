@@ -1,0 +1,7 @@
+pub mod Inside
+pub mod NeededBlocks
+pub mod CleanedPens
+pub mod Opened
+pub mod SameFiles
+pub mod SameTrees
+pub mod Facts

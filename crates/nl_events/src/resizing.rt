@@ -1,0 +1,82 @@
+//! A volume that gets more segments.
+ghost use Rattle.std.specs.Prelude.{◌≡◌, ◌≤◌, nat_lt, length, Ok, Err, IfOk, IfErr, OnOk, OnErr};
+ghost use Rattle.nl_types.specs.declared.event.Event.TheVariants.{Resize};
+ghost use Rattle.nl_types.specs.declared.reply.Answer.TheVariants.{Done};
+ghost use Rattle.nl_types.specs.Limits.{IsGeometry};
+ghost use Rattle.nl_counts.specs.Counted.{with_segments};
+ghost use Rattle.nl_vstore.specs.Stores.{HasGrown, IsGrowthRefused};
+ghost use Rattle.nl_commit.specs.CleaningEvents.{resized_in};
+ghost use Rattle.nl_commit.specs.Layout.{Does, layout_of, unshared};
+ghost use Rattle.nl_events.specs.NeededBlocks.{AreNeededCounts, IsCountedPen};
+
+use crate::tables::Tables;
+use nl_counts::NeededCounts;
+use nl_counts::laws::growth_keeps_counts;
+use nl_sufile::SegTable;
+use nl_types::{Answer, Geometry, Reply, VolError};
+use nl_vstore::Vstore;
+use std::alloc::Global;
+
+/// Whether a resize to so many segments adds any. Refused by `BadRange` for fewer than there are, and as
+/// `Geometry::new` is for more than a volume can have.
+pub fn adds_segments(table: &SegTable, segments: u32) -> Result<bool, VolError>
+    ensures adds { IfOk result (λ adds. adds ≡ nat_lt (length table.now.each) segments) }
+    ensures done { IfOk result (λ _. resized_in table.now segments ≡ Ok Done) }
+    ensures refused { IfErr result (λ e. resized_in table.now segments ≡ Err e) }
+{
+    let wanted = segments as usize;
+    let present = table.sustat().segments;
+    if wanted < present {
+        return Err(VolError::BadRange);
+    }
+    Geometry::new(segments, table.blocks())?;
+    Ok(present < wanted)
+}
+
+/// Adds clean segments, up to so many, with a count of needed blocks for each. Refused, the counts stay.
+fn add_segments<V: Vstore>(
+    alloc: Global,
+    store: &mut V,
+    needed: &mut NeededCounts,
+    segments: u32,
+) -> Result<(), VolError>
+    requires more { length (V.store store.old).segments.each ≤ segments }
+    requires limits { IsGeometry segments (V.store store.old).segments.blocks }
+    requires counts { length needed.old.counts ≡ length (V.store store.old).segments.each }
+    ensures grown { OnOk result (HasGrown segments (V.store store.old) (V.store store.new)) }
+    ensures counts { OnOk result (needed.new ≡ with_segments segments needed.old) }
+    ensures refused { IfErr result (IsGrowthRefused (V.store store.old) (V.store store.new)) }
+    ensures same { OnErr result (needed.new ≡ needed.old) }
+    ensures counted { (V.store store.old).failures ≤ (V.store store.new).failures }
+{
+    growth_keeps_counts();
+    let present = store.table().sustat().segments as u32;
+    needed.grow(alloc, segments)?;
+    let grown = store.grow(alloc, segments);
+    if grown.is_err() {
+        needed.shrink(present);
+    }
+    grown
+}
+
+/// Makes the volume one of so many segments, the new ones clean, where it has fewer, with a count of needed
+/// blocks for each. Refused as `adds_segments` is, by `Memory`, and by `Fault` where the device failed.
+pub fn resize<V: Vstore>(
+    alloc: Global,
+    tables: &Tables,
+    store: &mut V,
+    needed: &mut NeededCounts,
+    segments: u32,
+) -> Reply
+    requires { IsCountedPen (layout_of tables.now.lists (V.store store.old)) needed.old }
+    ensures does { Does unshared (layout_of tables.now.lists (V.store store.old))
+        (Resize segments) result (layout_of tables.now.lists (V.store store.new)) }
+    ensures needed { AreNeededCounts (layout_of tables.now.lists (V.store store.new)) needed.new }
+{
+    growth_keeps_counts();
+    if !adds_segments(store.table(), segments)? {
+        return Ok(Answer::Done);
+    }
+    add_segments(alloc, store, needed, segments)?;
+    Ok(Answer::Done)
+}
