@@ -29,7 +29,7 @@ use Rattle.nl_image.specs.Facts.OnePayload.{own_by_both, used_page}
 use Rattle.nl_commit.specs.Layout.{layout_of}
 use Rattle.nl_commit.specs.Volume.{Lists}
 use Rattle.nl_events.specs.Opened.{opened_lists}
-use Rattle.nl_core.specs.Opened.{IsAtRest, IsChecked, IsOpened, IsRestoredStore}
+use Rattle.nl_core.specs.Opened.{CheckedCheckpointsHaveInodes, IsAtRest, IsChecked, IsOpened, IsRestoredStore}
 use Rattle.nl_core.proofs.Opening.{each-checked, each-rooted, latest-checked, periods-bounded}
 
 last-behind : (e f : CheckpointEntry) (kept : List CheckpointEntry)
@@ -57,8 +57,8 @@ last-number (c ∷ earlier) latest (e ∷ f ∷ kept) are =
     last-behind e f kept ∙ last-number earlier latest (f ∷ kept) are.1
 
 -- what is opened is at rest, where the latest checkpoint has an inode
-pub opened-rest : (t : Table) (lists : Lists) → lists ≡ opened_lists t → 1 ≤ t.latest.inodes → IsAtRest lists
-opened-rest t lists same rooted =
+at-rest : (t : Table) (lists : Lists) → lists ≡ opened_lists t → 1 ≤ t.latest.inodes → IsAtRest lists
+at-rest t lists same rooted =
     let names : t.latest.inodes - 1 + 1 ≡ t.latest.inodes = omega (arith, rooted) in
     subst IsAtRest (sym same) (record {
       clean = refl;
@@ -174,14 +174,20 @@ module _ (bytes : List ℕ) (r : ReadImage) (is : IsReadImage bytes r) where
           (periods-bounded p.segments (latest_told p)
           (dat_in p.shape bytes) p.numbers dat store numbers-shown)
 
-      pub is-opened : (lists : Lists) → lists ≡ opened_lists t → IsTable lists.table → IsAtRest lists
+      pub opened-rest : CheckedCheckpointsHaveInodes → (lists : Lists) → lists ≡ opened_lists t
+          → IsAtRest lists
+      opened-rest have lists same =
+          at-rest t lists same (have (content_in store) t.latest latest-was-checked)
+
+      pub is-opened : CheckedCheckpointsHaveInodes → (lists : Lists) → lists ≡ opened_lists t
+          → IsTable lists.table
           → IsOpened (layout_of lists store)
-      is-opened lists same table rest =
+      is-opened have lists same table =
           let at : lists.table ≡ t = ap (λ (l : Lists). l.table) same in record {
             store = sound;
             periods = subst (λ (u : Table). IsBounded (content_in store) u.latest.number) (sym at) bounded;
             table = table;
             checked =
                 subst (λ (u : Table). All (IsChecked (content_in store)) (all u)) (sym at) each-was-checked;
-            rest = rest;
+            rest = opened-rest have lists same;
           }

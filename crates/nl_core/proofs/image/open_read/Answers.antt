@@ -37,9 +37,8 @@ opened-requires-clause-opened g c =
     c.in_ok-checkpoints.checkpoints.table
     (subst (AllZip IsEntryOf (all c.in_ok-checkpoints.checkpoints.table)) c.as_slice.ensures
     c.in_ok-checkpoints.ensures)
+    c.checked_checkpoints_have_inodes.ensures
     c.opened-tables.result.lists c.opened-tables.ensures.lists c.opened-tables.ensures.table
-    (opened-rest c.in_ok-checkpoints.checkpoints.table c.opened-tables.result.lists
-    c.opened-tables.ensures.lists (opened-tables-requires g c))
 
 pub opened-requires-clause-needed : goal.opened-requires-clause-needed
 opened-requires-clause-needed g c =
@@ -51,8 +50,12 @@ opened-requires-clause-needed g c =
 pub returns-clause-rest : goal.returns-clause-rest
 returns-clause-rest g c =
     subst (λ (l : Layout). IsAtRest l.lists) (sym c.opened.ensures.layout)
-    (opened-rest c.in_ok-checkpoints.checkpoints.table c.opened-tables.result.lists
-    c.opened-tables.ensures.lists (opened-tables-requires g c))
+    (opened-rest c.requires.image.0 c.args.read c.requires.image.1
+    c.in_ok-store.store.store c.in_ok-store.ensures.restored c.in_ok-store.store.sound
+    c.in_ok-checkpoints.checkpoints.table
+    (subst (AllZip IsEntryOf (all c.in_ok-checkpoints.checkpoints.table)) c.as_slice.ensures
+    c.in_ok-checkpoints.ensures)
+    c.checked_checkpoints_have_inodes.ensures c.opened-tables.result.lists c.opened-tables.ensures.lists)
 
 pub returns-clause-image : goal.returns-clause-image
 returns-clause-image g c bytes is =
