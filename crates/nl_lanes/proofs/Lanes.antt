@@ -1,25 +1,25 @@
 -- What lanes keep while they read, and what is gathered of them.
-use Rattle.std.proofs.Common.{◌≡◌, ℕ, zero, suc, ◌⊎◌, ◌<◌, arith, length, inl, inr, List, [], ◌∷◌, ◌++◌, refl, sym, ◌∙◌, subst, Some, Err, ◌+◌, ap, drop, slice_index_or}
-use Rattle.std.specs.Prelude.{map, slice_get, slice_set}
+use Rattle.std.proofs.Common.{◌≡◌, ℕ, zero, suc, ◌+◌, ◌⊎◌, ◌<◌, arith, length, inl, inr, List, [], ◌∷◌, ◌++◌, refl, sym, ◌∙◌, subst, Some, Err, ap, slice_index_or}
+use Rattle.std.specs.Prelude.{All, map, slice_get, slice_set, take}
 use Rattle.std.specs.List.{AllZip}
-use Rattle.std.proofs.lemmas.Option.{slice_get-get_or}
+use Rattle.std.proofs.lemmas.List.Elements.{All-nil}
 use Rattle.nl_types.specs.declared.error.VolError.TheVariants.{BadMount, Memory}
 use Rattle.nl_publish.specs.Histories.{Known}
 use Rattle.nl_publish.specs.Mounts.{Claim}
 use Rattle.nl_lanes.specs.declared.many.ReadJob.{ReadJob}
-use Rattle.nl_lanes.specs.Jobs.{AreAnswers, AreLanes, AreLaterReaders, ArePlaced, HasRunBy, IsAnswerTo, IsLaneOf, IsLaterReader, IsPlaced, JobAnswer, LaneView, idle, no_memory}
+use Rattle.nl_lanes.specs.Jobs.{AreAnswers, AreLanesOver, AreLaterReaders, ArePlaced, HasRunBy, HaveLearned, IsAnswerTo, IsLaneOver, IsLaterReader, IsPlaced, JobAnswer, LaneView, ReaderLaws, all_back, idle, no_memory, with_back}
 use Rattle.nl_lanes.specs.Reading.{HasLearned, IsBytesOf, IsLater, Told}
-use Rattle.nl_lanes.specs.Facts.Later.{later_self}
+use Rattle.nl_lanes.specs.Facts.Later.{later_on, later_self}
 
--- an answer of a reader that has learned of the mount is that of its job
-pub placed : (m : Claim) (old : Known) (jobs : List ReadJob) (index : ℕ) (job : ReadJob) (answer : JobAnswer)
-    → HasLearned m old → slice_get jobs index ≡ Some job
-    → Told m old (answer ≡ Err BadMount) (λ t. IsBytesOf t job.path job.offset job.len answer)
+-- an answer of a reader is that of its job
+pub placed : (m : Claim) (jobs : List ReadJob) (index : ℕ) (job : ReadJob) (answer : JobAnswer)
+    → slice_get jobs index ≡ Some job
+    → Told m (answer ≡ Err BadMount) (λ t. IsBytesOf t job.path job.offset job.len answer)
     → IsPlaced m jobs (index, answer)
-placed m old jobs index job answer learned at told other there t tree =
+placed m jobs index job answer at told other there t tree =
     let same : job ≡ other = cc (at, there) in
     subst (λ (k : ReadJob). (answer ≡ Err BadMount) ⊎ IsBytesOf t k.path k.offset k.len answer) same
-    (told learned t tree)
+    (told t tree)
 
 -- ---- lists that go together
 
@@ -30,13 +30,6 @@ zip_set R (x ∷ xs) (v ∷ ys) zero y z h = (h x refl, z.1)
 zip_set R (x ∷ xs) (v ∷ ys) (suc i) y z h = (z.0, zip_set R xs ys i y z.1 h)
 zip_set R [] (v ∷ ys) i y z h = absurd z
 zip_set R (x ∷ xs) [] i y z h = absurd z
-
-zip_at : {A B : Type 0} (R : A → B → Type 0) (xs : List A) (ys : List B) (i : ℕ) (x : A) (d : B)
-    → AllZip R xs ys → slice_get xs i ≡ Some x → R x (slice_index_or ys i d)
-zip_at R [] ys i x d z at = absurd cc
-zip_at R (a ∷ xs) [] i x d z at = absurd z
-zip_at R (a ∷ xs) (b ∷ ys) zero x d z at = subst (λ k. R k b) (cc at) z.0
-zip_at R (a ∷ xs) (b ∷ ys) (suc i) x d z at = zip_at R xs ys i x d z.1 at
 
 pub zip_all : {A : Type 0} (R : A → A → Type 0) (xs ys : List A) → length ys ≡ length xs
     → ((i : ℕ) (d : A) → i < length xs → R (slice_index_or xs i d) (slice_index_or ys i d)) → AllZip R xs ys
@@ -72,115 +65,213 @@ placed_more m jobs was now a all is (inl same) = subst (ArePlaced m jobs) (sym s
 placed_more m jobs was now a all is (inr grown) =
     subst (ArePlaced m jobs) (sym grown) (placed_snoc m jobs was a all is)
 
--- ---- readers that aren't back yet
+-- ---- lists that change from the front on
 
-same_behind : {A : Type 0} (xs : List A) (i : ℕ) (x : A) → drop (suc i) (slice_set xs i x) ≡ drop (suc i) xs
-same_behind [] i x = refl
-same_behind (y ∷ xs) zero x = refl
-same_behind (y ∷ xs) (suc i) x = same_behind xs i x
+-- the first so many are changed
+abbrev pub first_of : {A : Type 0} → (f : A → A) → ℕ → List A → List A
+first_of f zero xs = xs
+first_of f (suc n) [] = []
+first_of f (suc n) (x ∷ xs) = f x ∷ first_of f n xs
 
-drop_one : {A : Type 0} (xs : List A) (i : ℕ) → drop (suc i) xs ≡ drop 1 (drop i xs)
-drop_one [] zero = refl
-drop_one [] (suc i) = refl
-drop_one (x ∷ xs) zero = refl
-drop_one (x ∷ xs) (suc i) = drop_one xs i
+pub first_next : {A : Type 0} (f : A → A) (xs : List A) (i : ℕ) (d : A) → i < length xs
+    → slice_set (first_of f i xs) i (f (slice_index_or (first_of f i xs) i d)) ≡ first_of f (suc i) xs
+first_next f [] i d less = absurd (omega arith)
+first_next f (x ∷ xs) zero d less = refl
+first_next f (x ∷ xs) (suc i) d less = ap (λ ys. f x ∷ ys) (first_next f xs i d (omega arith))
 
-pub behind_set : {A : Type 0} (xs ys : List A) (i : ℕ) (x : A) → drop i xs ≡ drop i ys
-    → drop (i + 1) (slice_set xs i x) ≡ drop (i + 1) ys
-behind_set {A} xs ys i x same =
-    let next : i + 1 ≡ suc i = omega arith in
-    subst (λ (n : ℕ). drop n (slice_set xs i x) ≡ drop n ys) (sym next)
-    (same_behind xs i x ∙ (drop_one xs i ∙ (ap (λ (zs : List A). drop 1 zs) same ∙ sym (drop_one ys i))))
+pub first_all : {A : Type 0} (f : A → A) (xs : List A) → first_of f (length xs) xs ≡ map f xs
+first_all f [] = refl
+first_all f (x ∷ xs) = ap (λ ys. f x ∷ ys) (first_all f xs)
 
-first : {A : Type 0} (xs : List A) (j : ℕ) (p : A) → slice_index_or xs j p ≡ slice_index_or (drop j xs) 0 p
-first [] zero p = refl
-first [] (suc j) p = refl
-first (x ∷ xs) zero p = refl
-first (x ∷ xs) (suc j) p = first xs j p
+-- the next one is as it was
+pub first_at : {A : Type 0} (f : A → A) (xs : List A) (i : ℕ) (d : A)
+    → slice_index_or (first_of f i xs) i d ≡ slice_index_or xs i d
+first_at f xs zero d = refl
+first_at f [] (suc i) d = refl
+first_at f (x ∷ xs) (suc i) d = first_at f xs i d
 
-at_front : {A : Type 0} (xs ys : List A) (j : ℕ) (p : A) → drop j xs ≡ drop j ys
-    → slice_index_or xs j p ≡ slice_index_or ys j p
-at_front {A} xs ys j p is =
-    first xs j p ∙ (ap (λ (zs : List A). slice_index_or zs 0 p) is ∙ sym (first ys j p))
+pub map_next : {A B : Type 0} (f : A → B) (xs : List A) (i : ℕ) (d : A) → i < length xs
+    → map f (take i xs) ++ f (slice_index_or xs i d) ∷ [] ≡ map f (take (suc i) xs)
+map_next f [] i d less = absurd (omega arith)
+map_next f (x ∷ xs) zero d less = refl
+map_next f (x ∷ xs) (suc i) d less = ap (λ ys. f x ∷ ys) (map_next f xs i d (omega arith))
 
-get_is : {A : Type 0} (xs : List A) (i : ℕ) (p x : A) → slice_get xs i ≡ Some x → slice_index_or xs i p ≡ x
-get_is [] i p x at = absurd cc
-get_is (y ∷ xs) zero p x at = cc at
-get_is (y ∷ xs) (suc i) p x at = get_is xs i p x at
+-- by the steps of a loop
+pub first_on : {A : Type 0} (f : A → A) (xs ys : List A) (i : ℕ) (d y : A) → ys ≡ first_of f i xs
+    → i < length xs → y ≡ f (slice_index_or ys i d) → slice_set ys i y ≡ first_of f (i + 1) xs
+first_on {A} f xs ys i d y is less made =
+    let next : suc i ≡ i + 1 = omega arith in
+    ap (slice_set ys i) made
+    ∙ (subst (λ (zs : List A). slice_set zs i (f (slice_index_or zs i d)) ≡ first_of f (suc i) xs) (sym is)
+    (first_next f xs i d less) ∙ ap (λ n. first_of f n xs) next)
 
--- ---- the lanes of readers
+pub map_on : {A B : Type 0} (f : A → B) (xs : List A) (ys : List B) (i : ℕ) (d : A) (y : B)
+    → ys ≡ map f (take i xs) → i < length xs → y ≡ f (slice_index_or xs i d)
+    → ys ++ y ∷ [] ≡ map f (take (i + 1) xs)
+map_on f xs ys i d y is less made =
+    let next : suc i ≡ i + 1 = omega arith in
+    rw (is, made) (map_next f xs i d less ∙ ap (λ n. map f (take n xs)) next)
 
-module _ {P : Type 0} (known : P → Known) (m : Claim) (jobs : List ReadJob) where
-  -- idle lanes that have run are the lanes of their readers
-  pub lanes_run : (readers : List P) (lanes : List LaneView)
-      → AllZip (HasRunBy m jobs) (map (idle known) readers) lanes → AreLanes m jobs known readers lanes
-  lanes_run [] lanes run = run
-  lanes_run (r ∷ readers) [] run = absurd run
-  lanes_run (r ∷ readers) (l ∷ lanes) run = (run.0, lanes_run readers lanes run.1)
+-- the item that is changed next is as it was
+pub first_same : {A : Type 0} (f : A → A) (xs ys : List A) (i : ℕ) (d : A) → ys ≡ first_of f i xs
+    → slice_index_or ys i d ≡ slice_index_or xs i d
+first_same {A} f xs ys i d is = ap (λ (zs : List A). slice_index_or zs i d) is ∙ first_at f xs i d
 
-  abbrev IsLane : P → LaneView → Type 0
-  IsLane reader lane = IsLaneOf m jobs (known reader) lane
+-- ---- the first readers are back
 
-  -- a reader that isn't back is as it was, and its lane is later
-  pub lane_later : (old readers : List P) (lanes : List LaneView) (i : ℕ) (p : P) (d : LaneView)
-      → i < length old
-      → drop i readers ≡ drop i old → AreLanes m jobs known old lanes
-      → IsLater (known (slice_index_or readers i p)) (slice_index_or lanes i d).seen
-  lane_later old readers lanes i p d less same all =
-      let at : slice_get old i ≡ Some (slice_index_or old i p) = slice_get-get_or old i p less in
-      let was : slice_index_or readers i p ≡ slice_index_or old i p = at_front readers old i p same in
-      subst (λ (q : P). IsLater (known q) (slice_index_or lanes i d).seen) (sym was)
-      (zip_at IsLane old lanes i (slice_index_or old i p) d all at).later
+module _ {P : Type 0} (joined : P → P → P) (taken left : P → P) where
+  -- a lane whose reader is back
+  abbrev pub emptied : LaneView P → LaneView P
+  emptied l = record { reader = left l.reader; answers = [] }
 
-  -- once it is back, its lane is still one of it
-  pub lane_back : (old : List P) (lanes : List LaneView) (i : ℕ) (d : LaneView)
-      → AreLanes m jobs known old lanes
-      → AreLanes m jobs known old
-      (slice_set lanes i (record { seen = (slice_index_or lanes i d).seen; answers = [] }))
-  lane_back old lanes i d all =
-      zip_set IsLane old lanes i (record { seen = (slice_index_or lanes i d).seen; answers = [] }) all
-      (λ q at. record { later = (zip_at IsLane old lanes i q d all at).later; answers = tt })
+  abbrev pub first_back : ℕ → List P → List (LaneView P) → List P
+  first_back zero places lanes = places
+  first_back (suc n) [] lanes = []
+  first_back (suc n) (p ∷ places) [] = p ∷ places
+  first_back (suc n) (p ∷ places) (l ∷ lanes) =
+      with_back joined taken p l ∷ first_back n places lanes
 
-  pub lane_answers : (old : List P) (lanes : List LaneView) (i : ℕ) (d : LaneView)
-      → i < length lanes → AreLanes m jobs known old lanes
-      → ArePlaced m jobs (slice_index_or lanes i d).answers
-  lane_answers old [] i d less all = absurd (omega arith)
-  lane_answers [] (l ∷ lanes) i d less all = absurd all
-  lane_answers (p ∷ old) (l ∷ lanes) zero d less all = all.0.answers
-  lane_answers (p ∷ old) (l ∷ lanes) (suc i) d less all = lane_answers old lanes i d (omega arith) all.1
+  pub back_next : (places : List P) (lanes : List (LaneView P)) (i : ℕ) (d : P) (e : LaneView P)
+      → i < length places → length lanes ≡ length places
+      → slice_set (first_back i places lanes) i
+      (with_back joined taken (slice_index_or (first_back i places lanes) i d) (slice_index_or lanes i e))
+      ≡ first_back (suc i) places lanes
+  back_next [] lanes i d e less same = absurd (omega arith)
+  back_next (p ∷ places) [] i d e less same = absurd (omega arith)
+  back_next (p ∷ places) (l ∷ lanes) zero d e less same = refl
+  back_next (p ∷ places) (l ∷ lanes) (suc i) d e less same =
+      ap (λ ps. with_back joined taken p l ∷ ps)
+      (back_next places lanes i d e (omega arith) (omega arith))
 
--- ---- readers that are back
+  pub back_all : (places : List P) (lanes : List (LaneView P)) → length lanes ≡ length places
+      → first_back (length places) places lanes ≡ all_back joined taken places lanes
+  back_all [] lanes same = refl
+  back_all (p ∷ places) [] same = absurd (omega arith)
+  back_all (p ∷ places) (l ∷ lanes) same =
+      ap (λ ps. with_back joined taken p l ∷ ps) (back_all places lanes (omega arith))
 
-module _ {P : Type 0} (known : P → Known) (with_known : P → Known → P)
-    (same_known : (r : P) → with_known r (known r) ≡ r)
-    (known_with : (r : P) (k : Known) → known (with_known r k) ≡ k) where
-  later_reader : (r : P) → IsLaterReader known with_known r r
-  later_reader r = record { later = later_self (known r); kept = sym (same_known r) }
+  back_at : (places : List P) (lanes : List (LaneView P)) (i : ℕ) (d : P)
+      → slice_index_or (first_back i places lanes) i d ≡ slice_index_or places i d
+  back_at places lanes zero d = refl
+  back_at [] lanes (suc i) d = refl
+  back_at (p ∷ places) [] (suc i) d = refl
+  back_at (p ∷ places) (l ∷ lanes) (suc i) d = back_at places lanes i d
+
+  -- by the steps of a loop
+  pub back_on : (places readers : List P) (old lanes : List (LaneView P)) (i : ℕ) (d q : P) (e : LaneView P)
+      → readers ≡ first_back i places old → lanes ≡ first_of emptied i old
+      → i < length places → length old ≡ length places
+      → q ≡ with_back joined taken (slice_index_or readers i d) (slice_index_or lanes i e)
+      → slice_set readers i q ≡ first_back (i + 1) places old
+  back_on places readers old lanes i d q e is are less same made =
+      let next : suc i ≡ i + 1 = omega arith in
+      let item : q ≡ with_back joined taken (slice_index_or readers i d) (slice_index_or old i e) =
+      made ∙ ap (with_back joined taken (slice_index_or readers i d)) (first_same emptied old lanes i e are) in
+      ap (slice_set readers i) item
+      ∙ (subst (λ (zs : List P).
+      slice_set zs i (with_back joined taken (slice_index_or zs i d) (slice_index_or old i e))
+      ≡ first_back (suc i) places old)
+      (sym is) (back_next places old i d e less same)
+      ∙ ap (λ n. first_back n places old) next)
+
+  pub back_same : (places readers : List P) (old : List (LaneView P)) (i : ℕ) (d : P)
+      → readers ≡ first_back i places old → slice_index_or readers i d ≡ slice_index_or places i d
+  back_same places readers old i d is =
+      ap (λ (zs : List P). slice_index_or zs i d) is ∙ back_at places old i d
+
+-- ---- lanes that have run
+
+-- what is known of the lane at a place
+pub lane_over : {P : Type 0} (known : P → Known) (m : Claim) (jobs : List ReadJob) (places : List P)
+    (lanes : List (LaneView P)) (i : ℕ) (d : P) (e : LaneView P)
+    → i < length places → AreLanesOver known m jobs places lanes
+    → IsLaneOver known m jobs (slice_index_or places i d) (slice_index_or lanes i e)
+lane_over known m jobs [] lanes i d e less all = absurd (omega arith)
+lane_over known m jobs (p ∷ places) [] i d e less all = absurd all
+lane_over known m jobs (p ∷ places) (l ∷ lanes) zero d e less all = all.0
+lane_over known m jobs (p ∷ places) (l ∷ lanes) (suc i) d e less all =
+    lane_over known m jobs places lanes i d e (omega arith) all.1
+
+-- so it is in a loop that changes those before it
+pub lane_now : {P : Type 0} (known : P → Known) (m : Claim) (jobs : List ReadJob) (p q : P) (l k : LaneView P)
+    → q ≡ p → k ≡ l → IsLaneOver known m jobs p l → IsLaneOver known m jobs q k
+lane_now {P} known m jobs p q l k same is over =
+    subst (λ (r : P). IsLaneOver known m jobs r k) (sym same)
+    (subst (λ (n : LaneView P). IsLaneOver known m jobs p n) (sym is) over)
+
+all_cons : {A : Type 0} (P : A → Type 0) (x : A) (xs : List A) → P x → All P xs → All P (x ∷ xs)
+all_cons P x xs here rest zero d less = here
+all_cons P x xs here rest (suc k) d less = rest k d (omega arith)
+
+module _ {P : Type 0} (known : P → Known) (with_known : P → Known → P) (taken left : P → P)
+    (joined : P → P → P) (laws : ReaderLaws known with_known taken left joined) where
+  pub later_reader : (r : P) → IsLaterReader known with_known r r
+  later_reader r = record { later = later_self (known r); kept = sym (laws.same_known r) }
+
+  pub reader_on : (a b c : P) → IsLaterReader known with_known a b → IsLaterReader known with_known b c
+      → IsLaterReader known with_known a c
+  reader_on a b c p q = record {
+    later = later_on (known a) (known b) (known c) p.later q.later;
+    kept =
+        q.kept ∙ (ap (λ r. with_known r (known c)) p.kept ∙ laws.with_more a (known b) (known c));
+  }
 
   pub all_later : (readers : List P) → AreLaterReaders known with_known readers readers
   all_later [] = tt
   all_later (r ∷ readers) = (later_reader r, all_later readers)
 
-  seen_more : (r : P) (k : Known) → IsLater (known r) k → IsLaterReader known with_known r (with_known r k)
-  seen_more r k later = record {
-    later = subst (IsLater (known r)) (sym (known_with r k)) later;
-    kept = ap (with_known r) (sym (known_with r k));
-  }
+  module _ (m : Claim) (jobs : List ReadJob) where
+    -- a lane that ran for a reader is over the place that it left
+    pub lanes_over : (readers : List P) (lanes : List (LaneView P))
+        → AllZip (HasRunBy known with_known m jobs) (map (idle taken) readers) lanes
+        → AreLanesOver known m jobs (map left readers) lanes
+    lanes_over [] [] run = run
+    lanes_over [] (l ∷ lanes) run = absurd run
+    lanes_over (r ∷ readers) [] run = absurd run
+    lanes_over (r ∷ readers) (l ∷ lanes) run = (
+      record {
+        later =
+            subst (λ (k : Known). IsLater k (known l.reader)) (laws.known_taken r ∙ sym (laws.known_left r))
+            run.0.later.later;
+        answers = run.0.answers;
+      },
+      lanes_over readers lanes run.1,
+    )
 
-  -- one that comes back is later than it was
-  pub reader_back : (m : Claim) (jobs : List ReadJob) (old readers : List P) (lanes : List LaneView) (i : ℕ)
-      (p : P) (d : LaneView)
-      → drop i readers ≡ drop i old
-      → AreLanes m jobs known old lanes → AreLaterReaders known with_known old readers
-      → AreLaterReaders known with_known old
-      (slice_set readers i (with_known (slice_index_or readers i p) (slice_index_or lanes i d).seen))
-  reader_back m jobs old readers lanes i p d same all later =
-      let seen = (slice_index_or lanes i d).seen in
-      zip_set (IsLaterReader known with_known) old readers i (with_known (slice_index_or readers i p) seen)
-      later
-      (λ q at.
-      let was : slice_index_or readers i p ≡ q =
-      at_front readers old i p same ∙ get_is old i p q at in
-      subst (λ (r : P). IsLaterReader known with_known q (with_known r seen)) (sym was)
-      (seen_more q seen
-      (zip_at (λ reader lane. IsLaneOf m jobs (known reader) lane) old lanes i q d all at).later))
+    -- the reader that comes back is the one that was taken, but for what it has seen
+    back_is : (r : P) (l : LaneView P) → HasRunBy known with_known m jobs (idle taken r) l
+        → with_back joined taken (left r) l ≡ with_known r (known l.reader)
+    back_is r l run =
+        ap (λ q. joined (left r) (taken q)) run.later.kept ∙ laws.joined_again r (known l.reader)
+
+    pub back_later : (readers : List P) (lanes : List (LaneView P))
+        → AllZip (HasRunBy known with_known m jobs) (map (idle taken) readers) lanes
+        → AreLaterReaders known with_known readers (all_back joined taken (map left readers) lanes)
+    back_later [] [] run = tt
+    back_later [] (l ∷ lanes) run = absurd run
+    back_later (r ∷ readers) [] run = absurd run
+    back_later (r ∷ readers) (l ∷ lanes) run =
+        let now = with_back joined taken (left r) l in
+        let seen : known now ≡ known l.reader =
+        ap known (back_is r l run.0) ∙ laws.known_with r (known l.reader) in (
+          record {
+            later =
+                subst (λ (k : Known). IsLater (known r) k) (sym seen)
+                (subst (λ (k : Known). IsLater k (known l.reader)) (laws.known_taken r) run.0.later.later);
+            kept = back_is r l run.0 ∙ ap (with_known r) (sym seen);
+          },
+          back_later readers lanes run.1,
+        )
+
+    pub back_learned : (readers : List P) (lanes : List (LaneView P))
+        → AllZip (HasRunBy known with_known m jobs) (map (idle taken) readers) lanes
+        → HaveLearned known m (all_back joined taken (map left readers) lanes)
+    back_learned [] [] run = All-nil (λ r. HasLearned m (known r))
+    back_learned [] (l ∷ lanes) run = absurd run
+    back_learned (r ∷ readers) [] run = absurd run
+    back_learned (r ∷ readers) (l ∷ lanes) run =
+        all_cons (λ q. HasLearned m (known q)) (with_back joined taken (left r) l)
+        (all_back joined taken (map left readers) lanes)
+        (subst (HasLearned m) (sym (ap known (back_is r l run.0) ∙ laws.known_with r (known l.reader)))
+        run.0.learned)
+        (back_learned readers lanes run.1)

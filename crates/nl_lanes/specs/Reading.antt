@@ -26,21 +26,22 @@ abbrev pub IsBytesOf : Tree → List ℕ → (offset len : ℕ) → Result (List
 IsBytesOf t path offset len result =
     ShowsUnlessMemory Bytes result (and_then (path_of path) (read t offset len))
 
--- What a call of a reader comes to. It is refused where the mount is another volume's, where no image was
--- entered that is as new as what was seen, and where the image that was entered lacks the mount. Else the
+-- What a call of a reader comes to. It is refused where the mount is another volume's, where it was given no
+-- image that is as new as what it has seen, and where the image that it entered lacks the mount. Else the
 -- answer is that of the mount's checkpoint in the image of one history, which goes on from what was seen, and
 -- is what has been seen then.
-pub data Looked (m : Claim) (old new : Known) (Refused : Type 0) (Answers : Tree → Type 0) : Type 0 where
-  Foreign : m.told.volume ≢ old.volume → new ≡ old → Refused → Looked m old new Refused Answers
-  NoImage : new ≡ old → Refused → Looked m old new Refused Answers
-  NoMount : IsHistory new.commits → mounted_on (image_of new.commits) m.number ≡ None → Refused
-      → Looked m old new Refused Answers
+pub data Looked (m : Claim) (old new : Known) (Ungiven Refused : Type 0) (Answers : Tree → Type 0) : Type 0 where
+  Foreign : m.told.volume ≢ old.volume → new ≡ old → Refused → Looked m old new Ungiven Refused Answers
+  NoImage : m.told.volume ≡ old.volume → Ungiven → new ≡ old → Refused
+      → Looked m old new Ungiven Refused Answers
+  NoMount : m.told.volume ≡ old.volume → IsHistory new.commits
+      → mounted_on (image_of new.commits) m.number ≡ None → Refused
+      → Looked m old new Ungiven Refused Answers
   Entered : (n : ℕ) → m.told.volume ≡ old.volume → IsHistory new.commits
       → mounted_on (image_of new.commits) m.number ≡ Some n
-      → ((t : Tree) → TreeOn (image_of new.commits) n t → Answers t) → Looked m old new Refused Answers
+      → ((t : Tree) → TreeOn (image_of new.commits) n t → Answers t)
+      → Looked m old new Ungiven Refused Answers
 
--- where the mount was learned of, what is answered is true of the tree that its checkpoint had when the mount
--- was told
-abbrev pub Told : Claim → Known → (Refused : Type 0) → (Answers : Tree → Type 0) → Type 0
-Told m old Refused Answers = HasLearned m old
-    → (t : Tree) → TreeOn (image_of m.told.commits) m.checkpoint t → Refused ⊎ Answers t
+-- what is answered is true of the tree that the mount's checkpoint had when the mount was told
+abbrev pub Told : Claim → (Refused : Type 0) → (Answers : Tree → Type 0) → Type 0
+Told m Refused Answers = (t : Tree) → TreeOn (image_of m.told.commits) m.checkpoint t → Refused ⊎ Answers t

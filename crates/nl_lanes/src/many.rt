@@ -1,8 +1,8 @@
 //! Many reads of a mount at once, one thread a reader.
-ghost use Rattle.std.specs.Prelude.{◌≡◌, ◌<◌, ◌⊎◌, ◌++◌, ◌∷◌, [], length, map, IfErr, IfOk};
+ghost use Rattle.std.specs.Prelude.{◌≡◌, ◌<◌, ◌≤◌, ◌⊎◌, ◌++◌, ◌∷◌, [], length, map, IfErr, IfOk, OnErr, OnOk};
 ghost use Rattle.std.specs.List.{AllZip};
-ghost use Rattle.nl_lanes.specs.Jobs.{AreAnswers, AreLanes, AreLaterReaders, ArePlaced, HasRunBy, IsPlaced, idle, no_memory};
-ghost use Rattle.nl_lanes.specs.Reading.{HasLearned, IsLater};
+ghost use Rattle.nl_lanes.specs.Jobs.{AreAnswers, AreLanesOver, AreLaterReaders, ArePlaced, HasRunBy, HaveLearned, IsLaterReader, IsPlaced, ReaderLaws, all_back, idle, no_memory, with_back};
+ghost use Rattle.nl_lanes.specs.Reading.{IsLater};
 
 use crate::reader::FileReader;
 use nl_publish::{Mount, Volumes};
@@ -43,9 +43,9 @@ struct Lane<J: Volumes, P: FileReader<J>> {
 impl<J: Volumes, P: FileReader<J>> Model for Lane<J, P> {
     ghost use Rattle.nl_lanes.specs.Jobs.{LaneView};
 
-    ghost Value = { LaneView };
+    ghost Value = { LaneView P };
 
-    ghost view = { λ l. record { seen = P.known l.reader; answers = l.answers.items } };
+    ghost view = { λ l. record { reader = l.reader; answers = l.answers.items } };
 }
 
 /// Adds an answer, where there is memory for it.
@@ -60,8 +60,8 @@ fn push_answer(answers: &mut Vec<(usize, JobAnswer)>, index: usize, answer: JobA
 impl<J: Volumes, P: FileReader<J>> Lane<J, P> {
     /// Takes a reader out of its place.
     fn new(alloc: Global, reader: &mut P) -> Lane<J, P>
-        ensures lane { result ≡ idle P.known reader.old }
-        ensures same { reader.new ≡ reader.old }
+        ensures lane { result ≡ idle P.taken reader.old }
+        ensures left { reader.new ≡ P.left reader.old }
     {
         Lane {
             reader: reader.take(),
@@ -80,9 +80,8 @@ impl<J: Volumes, P: FileReader<J>> Lane<J, P> {
         gate: &G,
     )
         requires index { index < length jobs.now }
-        requires learned { HasLearned mount.now self.old.seen }
         requires answers { ArePlaced mount.now jobs.now self.old.answers }
-        ensures later { IsLater self.old.seen self.new.seen }
+        ensures later { IsLaterReader P.known P.with_known self.old.reader self.new.reader }
         ensures answers { ArePlaced mount.now jobs.now self.new.answers }
     {
         let job = &jobs[index];
@@ -92,6 +91,26 @@ impl<J: Volumes, P: FileReader<J>> Lane<J, P> {
             .read(alloc, mount, job.path.as_slice(), job.offset, job.len);
         gate.after(index);
         push_answer(&mut self.answers, index, answer);
+    }
+
+    /// Does a job, where it is this lane's.
+    fn run_job<G: Gate>(
+        &mut self,
+        alloc: Global,
+        mount: &Mount<J>,
+        jobs: &[ReadJob],
+        index: usize,
+        is_own: bool,
+        gate: &G,
+    )
+        requires index { index < length jobs.now }
+        requires answers { ArePlaced mount.now jobs.now self.old.answers }
+        ensures later { IsLaterReader P.known P.with_known self.old.reader self.new.reader }
+        ensures answers { ArePlaced mount.now jobs.now self.new.answers }
+    {
+        if is_own {
+            self.read(alloc, mount, jobs, index, gate);
+        }
     }
 
     /// Tells the reader of the mount, and does each job whose place modulo `lanes` is this lane's.
@@ -105,41 +124,56 @@ impl<J: Volumes, P: FileReader<J>> Lane<J, P> {
         gate: &G,
     )
         requires lanes { 0 < lanes }
-        ensures { HasRunBy mount.now jobs.now self.old self.new }
+        ensures { HasRunBy P.known P.with_known mount.now jobs.now self.old self.new }
     {
         self.answers.clear();
         self.reader.learn(mount);
         for index in 0..jobs.len() {
-            if index % lanes == lane {
-                self.read(alloc, mount, jobs, index, gate);
-            }
+            self.run_job(alloc, mount, jobs, index, index % lanes == lane, gate);
         }
     }
 
     /// Puts the reader back into its place, and takes the answers out.
     fn put_back(&mut self, alloc: Global, reader: &mut P) -> Vec<(usize, JobAnswer)>
-        requires { IsLater (P.known reader.old) self.old.seen }
-        ensures reader { reader.new ≡ P.with_known reader.old self.old.seen }
+        requires { IsLater (P.known reader.old) (P.known self.old.reader) }
+        ensures reader { reader.new ≡ with_back P.joined P.taken reader.old self.old }
         ensures answers { result.items ≡ self.old.answers }
-        ensures lane { self.new ≡ record { seen = self.old.seen; answers = [] } }
+        ensures lane { self.new ≡ record { reader = P.left self.old.reader; answers = [] } }
     {
         reader.put_back(self.reader.take());
         replace(&mut self.answers, Vec::new(alloc))
     }
 }
 
-/// Takes readers out of their places.
+/// Takes readers out of their places, into lanes for which there is room.
+fn fill_lanes<J: Volumes, P: FileReader<J>>(
+    alloc: Global,
+    lanes: &mut Vec<Lane<J, P>>,
+    readers: &mut [P],
+)
+    requires none { lanes.old.items ≡ [] }
+    requires room { length readers.old ≤ lanes.old.cap }
+    ensures readers { readers.new ≡ map P.left readers.old }
+    ensures lanes { lanes.new.items ≡ map (idle P.taken) readers.old }
+{
+    for index in 0..readers.len() {
+        lanes.push_reserved(Lane::new(alloc, &mut readers[index]));
+    }
+}
+
+/// Takes readers out of their places. All of them stay there, where there is no memory.
 fn take_out<J: Volumes, P: FileReader<J>>(
     alloc: Global,
     readers: &mut [P],
 ) -> Result<Vec<Lane<J, P>>, AllocError>
-    ensures readers { readers.new ≡ readers.old }
-    ensures lanes { IfOk result (λ lanes. lanes.items ≡ map (idle P.known) readers.old) }
+    ensures readers { OnOk result (readers.new ≡ map P.left readers.old) }
+    ensures lanes { IfOk result (λ lanes. lanes.items ≡ map (idle P.taken) readers.old) }
+    ensures same { OnErr result (readers.new ≡ readers.old) }
 {
-    let mut lanes = Vec::with_capacity(alloc, readers.len())?;
-    for index in 0..readers.len() {
-        lanes.push(Lane::new(alloc, &mut readers[index]))?;
-    }
+    let Ok(mut lanes) = Vec::with_capacity(alloc, readers.len()) else {
+        return Err(AllocError);
+    };
+    fill_lanes(alloc, &mut lanes, readers);
     Ok(lanes)
 }
 
@@ -153,7 +187,7 @@ fn run_lanes<J: Volumes + Send + Sync, P: FileReader<J> + Send, G: Gate + Sync, 
     gate: &G,
 )
     requires lanes { 0 < length lanes.old }
-    ensures { AllZip (HasRunBy mount.now jobs.now) lanes.old lanes.new }
+    ensures { AllZip (HasRunBy P.known P.with_known mount.now jobs.now) lanes.old lanes.new }
 {
     let count = lanes.len();
     for_each_mut(
@@ -162,7 +196,8 @@ fn run_lanes<J: Volumes + Send + Sync, P: FileReader<J> + Send, G: Gate + Sync, 
         count,
         &|i: usize, lane: &mut Lane<J, P>|
             requires { 0 < count }
-            ensures { HasRunBy mount.entry.now jobs.entry.now lane.entry.now lane.exit.now }
+            ensures { HasRunBy P.known P.with_known mount.entry.now jobs.entry.now
+                lane.entry.now lane.exit.now }
         { lane.run(alloc, mount, jobs, i, count, gate) },
     );
 }
@@ -219,9 +254,9 @@ fn gather<J: Volumes, P: FileReader<J>>(
     answers: &mut [JobAnswer],
 )
     requires count { length lanes.old ≡ length readers.old }
-    requires lanes { AreLanes mount.now jobs.now P.known readers.old lanes.old }
+    requires lanes { AreLanesOver P.known mount.now jobs.now readers.old lanes.old }
     requires answers { AreAnswers mount.now jobs.now answers.old }
-    ensures later { AreLaterReaders P.known P.with_known readers.old readers.new }
+    ensures readers { readers.new ≡ all_back P.joined P.taken readers.old lanes.old }
     ensures answers { AreAnswers mount.now jobs.now answers.new }
 {
     for index in 0..readers.len() {
@@ -230,9 +265,9 @@ fn gather<J: Volumes, P: FileReader<J>>(
     }
 }
 
-/// Readers to which nothing was done have seen no less. This says so, and does nothing.
-fn have_seen_no_less<J: Volumes, P: FileReader<J>>(readers: &[P])
-    ensures { AreLaterReaders P.known P.with_known readers.now readers.now }
+/// Readers keep their laws. This says so to its callers, and does nothing.
+fn keep_laws<J: Volumes, P: FileReader<J>>()
+    ensures { ReaderLaws P.known P.with_known P.taken P.left P.joined }
 {}
 
 /// Does jobs by readers at once, each reader in a thread of its own: job j by reader j modulo the number of
@@ -257,9 +292,10 @@ pub fn read_many<
     requires { 0 < length readers.old }
     ensures answers { IfOk result (λ answers. AreAnswers mount.now jobs.now answers.items) }
     ensures later { AreLaterReaders P.known P.with_known readers.old readers.new }
+    ensures learned { OnOk result (HaveLearned P.known mount.now readers.new) }
     ensures refused { IfErr result (λ e. (e ≡ VolError.Memory) × (readers.new ≡ readers.old)) }
 {
-    have_seen_no_less::<J, P>(readers);
+    keep_laws::<J, P>();
     let Ok(mut answers) = unanswered(alloc, jobs) else {
         return Err(VolError::Memory);
     };

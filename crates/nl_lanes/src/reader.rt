@@ -17,15 +17,27 @@ pub trait FileReader<J: Volumes>: Drop {
     /// The same reader, but for what it has seen.
     ghost with_known: { Self → Known → Self };
 
+    /// Why it may be given no image that is as new as what it has seen.
+    ghost ungiven: { Self → Type 0 };
+
+    /// The reader out of its place.
+    ghost taken: { Self → Self };
+
+    /// The place without its reader.
+    ghost left: { Self → Self };
+
+    /// A place with a reader.
+    ghost joined: { Self → Self → Self };
+
     /// Takes the reader out of its place, where one stays that finds nothing. It takes no memory.
     fn take(&mut self) -> Self
-        ensures known { known result ≡ known self.old }
-        ensures same { self.new ≡ self.old };
+        ensures taken { result ≡ taken self.old }
+        ensures left { self.new ≡ left self.old };
 
     /// Puts a reader back into the place that it was taken from. What it has seen meanwhile is seen.
     fn put_back(&mut self, reader: Self)
         requires { IsLater (known self.old) (known reader) }
-        ensures { self.new ≡ with_known self.old (known reader) };
+        ensures { self.new ≡ joined self.old reader };
 
     /// Tells the reader of a mount of its volume. It takes no memory.
     fn learn(&mut self, mount: &Mount<J>)
@@ -45,13 +57,22 @@ pub trait FileReader<J: Volumes>: Drop {
         len: u64,
     ) -> Result<Items<u8>, VolError>
         ensures later { IsLater (known self.old) (known self.new) }
-        ensures looked { Looked mount.now (known self.old) (known self.new) (result ≡ Err BadMount)
-            (λ t. IsBytesOf t path.now offset len result) }
-        ensures told { Told mount.now (known self.old) (result ≡ Err BadMount)
+        ensures looked { Looked mount.now (known self.old) (known self.new) (ungiven self.old)
+            (result ≡ Err BadMount) (λ t. IsBytesOf t path.now offset len result) }
+        ensures told { Told mount.now (result ≡ Err BadMount)
             (λ t. IsBytesOf t path.now offset len result) }
         ensures kept { self.new ≡ with_known self.old (known self.new) };
 
+    ghost known_with: { (r : Self) (k : Known) → known (with_known r k) ≡ k };
+
+    ghost known_taken: { (r : Self) → known (taken r) ≡ known r };
+
+    ghost known_left: { (r : Self) → known (left r) ≡ known r };
+
+    ghost with_more: { (r : Self) (k l : Known) → with_known (with_known r k) l ≡ with_known r l };
+
     ghost same_known: { (r : Self) → with_known r (known r) ≡ r };
 
-    ghost known_with: { (r : Self) (k : Known) → known (with_known r k) ≡ k };
+    ghost joined_again: { (r : Self) (k : Known)
+        → joined (left r) (taken (with_known (taken r) k)) ≡ with_known r k };
 }

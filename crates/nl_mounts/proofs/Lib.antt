@@ -6,3 +6,5 @@ pub mod PortPages
 pub mod Stored
 pub mod Warming
 pub mod PortReaders
+pub mod FirstSeen
+pub mod MountStandings

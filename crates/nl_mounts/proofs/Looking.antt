@@ -1,8 +1,9 @@
 -- What a look at an image comes to.
-use Rattle.std.proofs.Common.{◌≡◌, ℕ, zero, suc, inl, inr, List, [], ◌∷◌, refl, ap, sym, ◌∙◌, subst, Option, None, Some}
+use Rattle.std.proofs.Common.{◌≡◌, ℕ, zero, suc, true, inl, inr, List, [], ◌∷◌, refl, ap, sym, ◌∙◌, subst, Option, None, Some}
 use Rattle.std.specs.Prelude.{slice_set}
 use Rattle.std.specs.Option.{option_and_then, option_map}
 use mathlib.Core.Option.{some, some-injective}
+use mathlib.Core.List.{IsPrefix}
 use lib.ListN.{get_elem?}
 use Rattle.crossbeam_utils.specs.Register.{Turns}
 use Rattle.nl_types.specs.Roots.{Pages}
@@ -13,14 +14,13 @@ use Rattle.nl_commit.specs.Commits.{IsHistory, IsImage, image_of}
 use Rattle.nl_commit.specs.Means.{RootMeans}
 use Rattle.nl_commit.specs.Shown.{Shown, mounted_on, pages_shown}
 use Rattle.nl_publish.specs.declared.image.Image.{Image}
-use Rattle.nl_publish.specs.Histories.{Known}
+use Rattle.nl_publish.specs.Histories.{IsBegun, Known}
 use Rattle.nl_publish.specs.Images.{IsWhole, Kept, Looks}
 use Rattle.nl_publish.specs.Mounts.{Claim, IsClaim}
-use Rattle.nl_publish.specs.Told.{HistoriesShowImages, MountsStay, TreeOn}
-use Rattle.nl_mounts.specs.declared.port.MountedTree.{MountedTree}
-use Rattle.nl_lanes.specs.Reading.{Entered, IsLater, Looked, NoImage, NoMount, Told}
-use Rattle.nl_lanes.specs.Facts.Later.{later_self, prefix_trans}
-use Rattle.nl_mounts.specs.Ports.{Finds, IsMountTree, IsOfTree, Lacks, LookView, Older, Shows, mounted_tree, tree_of}
+use Rattle.nl_publish.specs.Told.{HistoriesShowImages, MountsBegin, MountsStay, TreeOn}
+use Rattle.nl_mounts.specs.declared.looks.MountedTree.{MountedTree}
+use Rattle.nl_lanes.specs.Reading.{Entered, Foreign, IsLater, Looked, NoImage, NoMount, Told}
+use Rattle.nl_mounts.specs.Ports.{Finds, HasTreeIn, IsMountTree, IsOfTree, IsSeenOn, IsUngiven, Lacks, LookView, Made, Misses, NotGiven, NotMade, OfAnother, PortView, Shows, mounted_tree, seeing, tree_of, vacant}
 
 -- ---- the rule of images
 
@@ -74,7 +74,8 @@ means_root x n c t kept tree =
 
 -- an image that is as new as what was seen lacks the mount, or shows its checkpoint
 module _ (m : Claim) (old new : Known) (i : Image) (images : HistoriesShowImages) (stay : MountsStay)
-    (claim : IsClaim m) (volume : m.told.volume ≡ old.volume)
+    (begin : MountsBegin) (claim : IsClaim m) (begun : IsBegun m.told.commits)
+    (volume : m.told.volume ≡ old.volume)
     (whole : IsWhole i) (later : IsLater old new) (log : new.commits ≡ i.seen.log) where
   history : IsHistory new.commits
   history = subst IsHistory (sym log) whole.history
@@ -91,9 +92,10 @@ module _ (m : Claim) (old new : Known) (i : Image) (images : HistoriesShowImages
       (λ n at. let c = image.mounted m.number n at in (c.0, c.1)) (sym is))
 
   -- the checkpoint is shown
-  shows : (n : ℕ) (c : Checkpoint) → mounted_on i.tables m.number ≡ Some n → kept_at n i.tables.table ≡ Some c
+  shows : (n : ℕ) (c : Checkpoint) → IsPrefix m.told.commits new.commits
+      → mounted_on i.tables m.number ≡ Some n → kept_at n i.tables.table ≡ Some c
       → IsMountTree m old new i.tables (tree_of n c)
-  shows n c mounted_was kept_was =
+  shows n c made mounted_was kept_was =
       let mounted : mounted_on (image_of new.commits) m.number ≡ Some n =
       subst (λ (x : Shown). mounted_on x m.number ≡ Some n) shown mounted_was in
       let means : (t : Tree) → TreeOn (image_of new.commits) n t
@@ -103,73 +105,99 @@ module _ (m : Claim) (old new : Known) (i : Image) (images : HistoriesShowImages
         volume = volume;
         shown = shown;
         mounted = mounted;
+        is_own = (stay m new.commits n claim history made mounted).checkpoint;
         checkpoint = c;
         kept = subst (λ (x : Shown). kept_at n x.table ≡ Some c) shown kept_was;
         root = refl;
         means = means;
-        told = λ learned t tree.
-            means t ((stay m new.commits n claim history
-            (prefix_trans m.told.commits old.commits new.commits (learned volume) later.commits)
-            mounted).trees
-            t tree);
+        told = λ t tree. means t ((stay m new.commits n claim history made mounted).trees t tree);
       }
 
-  pub looked_at : (tree : Option MountedTree) → tree ≡ mounted_tree i.tables m.number
+  seen : IsSeenOn old new
+  seen = record { later = later; history = history }
+
+  looked_at : (tree : Option MountedTree) → IsPrefix m.told.commits new.commits
+      → tree ≡ mounted_tree i.tables m.number
       → Finds m old new i.tables tree
-  looked_at None is = Lacks later history (lacks is) refl
-  looked_at (Some tree) is =
+  looked_at None made is = Lacks volume seen (lacks is) refl
+  looked_at (Some tree) made is =
       let at = has_tree (mounted_on i.tables m.number) (λ n. kept_at n i.tables.table) tree (sym is) in
-      Shows tree later history
+      Shows tree seen
       (subst (λ (t : MountedTree). IsMountTree m old new i.tables t) at.tree_is
-      (shows at.n at.checkpoint at.mounted at.at))
+      (shows at.n at.checkpoint made at.mounted at.at))
       refl
+
+  pub found_at : (tree : Option MountedTree) → HasTreeIn m new i.tables tree → Finds m old new i.tables tree
+  found_at tree (Made made is) = looked_at tree made is
+  found_at tree (NotMade ends less is) =
+      Lacks volume seen (begin m new.commits claim begun history ends less) is
 
 -- ---- what a call of a port comes to
 
-pub record Comes (m : Claim) (old new : Known) (Refused : Type 0) (Answers : Tree → Type 0) : Type 0 where
+pub record Comes (m : Claim) (old new : Known) (Ungiven Refused : Type 0) (Answers : Tree → Type 0)
+    : Type 0 where
   pub later : IsLater old new
-  pub looked : Looked m old new Refused Answers
-  pub told : Told m old Refused Answers
+  pub looked : Looked m old new Ungiven Refused Answers
+  pub told : Told m Refused Answers
 
-module _ (m : Claim) (old new : Known) (x : Shown) (Refused : Type 0) (Answers : Tree → Type 0) where
+module _ (m : Claim) (old new : Known) (x : Shown) (Ungiven Refused : Type 0) (Answers : Tree → Type 0) where
   under : (o p : Option MountedTree) → o ≡ p → IsOfTree (pages_shown x) o Refused Answers
       → IsOfTree (pages_shown x) p Refused Answers
   under o p is answers =
       subst (λ (r : Option MountedTree). IsOfTree (pages_shown x) r Refused Answers) is answers
 
   comes_of : (o : Option MountedTree) → Finds m old new x o → IsOfTree (pages_shown x) o Refused Answers
-      → Comes m old new Refused Answers
-  comes_of o (Older same none) answers =
+      → Comes m old new Ungiven Refused Answers
+  comes_of o (Lacks volume seen lacks none) answers =
       let refused : Refused = under o None none answers in
       record {
-        later = subst (λ (k : Known). IsLater old k) (sym same) (later_self old);
-        looked = NoImage same refused;
-        told = λ learned t tree. inl refused;
+        later = seen.later;
+        looked = NoMount volume seen.history lacks refused;
+        told = λ t tree. inl refused;
       }
-  comes_of o (Lacks later history lacks none) answers =
-      let refused : Refused = under o None none answers in
-      record { later = later; looked = NoMount history lacks refused; told = λ learned t tree. inl refused }
-  comes_of o (Shows tree later history at is) answers =
+  comes_of o (Shows tree seen at is) answers =
       let answered : (t : Tree) → RootMeans (pages_shown x) tree.root t → Answers t =
       under o (Some tree) is answers in
       record {
-        later = later;
+        later = seen.later;
         looked =
-            Entered tree.checkpoint at.volume history at.mounted (λ t tree. answered t (at.means t tree));
-        told = λ learned t tree. inr (answered t (at.told learned t tree));
+            Entered tree.checkpoint at.volume seen.history at.mounted
+            (λ t tree. answered t (at.means t tree));
+        told = λ t tree. inr (answered t (at.told t tree));
       }
 
 -- by the steps of its body
 pub comes : (m : Claim) (old new : Known) (look : LookView) (x : Shown) (o : Option MountedTree)
-    (Refused : Type 0) (Answers : Tree → Type 0)
+    (Ungiven Refused : Type 0) (Answers : Tree → Type 0)
     → Finds m old look.front look.shown look.tree → new ≡ look.front → x ≡ look.shown → o ≡ look.tree
     → IsOfTree (pages_shown x) o Refused Answers
-    → Comes m old new Refused Answers
-comes m old new look x o Refused Answers finds seen shown root answers =
-    subst (λ (k : Known). Comes m old k Refused Answers) (sym seen)
-    (comes_of m old look.front look.shown Refused Answers look.tree finds
-    (under m old new look.shown Refused Answers o look.tree root
+    → Comes m old new Ungiven Refused Answers
+comes m old new look x o Ungiven Refused Answers finds seen shown root answers =
+    subst (λ (k : Known). Comes m old k Ungiven Refused Answers) (sym seen)
+    (comes_of m old look.front look.shown Ungiven Refused Answers look.tree finds
+    (under m old new look.shown Ungiven Refused Answers o look.tree root
     (subst (λ (y : Shown). IsOfTree (pages_shown y) o Refused Answers) shown answers)))
+
+-- a call that finds no image is refused
+pub missed : {E : Type 0} (gives : E → Option Image → Type 0) (m : Claim) (p : PortView) (new : Known)
+    (Refused : Type 0) (Answers : Tree → Type 0)
+    → Misses gives m p → new ≡ p.known → Refused
+    → Looked m p.known new (IsUngiven gives p.known p.seated) Refused Answers
+missed gives m p new Refused Answers (OfAnother other) same refused = Foreign other same refused
+missed gives m p new Refused Answers (NotGiven volume why) same refused = NoImage volume why same refused
+
+-- a port whose look came back
+pub record IsBack (old new : PortView) (front : Known) : Type 0 where
+  pub known : new.known ≡ front
+  pub kept : new ≡ seeing old new.known
+
+pub back_at : (old out new : PortView) (front : Known) → old.seated ≡ true → out ≡ vacant old
+    → new ≡ record { known = front; cache = out.cache; seated = true } → IsBack old new front
+back_at old out new front seated left is =
+    let cache : out.cache ≡ old.cache = ap (λ (p : PortView). p.cache) left in
+    let now : new ≡ seeing old front = rw (is, cache, seated) refl in
+    let known : new.known ≡ front = ap (λ (p : PortView). p.known) now in
+    record { known = known; kept = now ∙ ap (seeing old) (sym known) }
 
 -- ---- answers under a tree
 

@@ -23,12 +23,12 @@ use Rattle.nl_commit.specs.declared.commit.Commit.{Commit}
 use Rattle.nl_publish.specs.Cached.{IsCachedPage}
 use Rattle.nl_publish.specs.Histories.{IsBegun, Known}
 use Rattle.nl_publish.specs.Mounts.{Claim}
-use Rattle.nl_publish.specs.Facts.CachedPages.{cached_pages_stay}
+use Rattle.nl_publish.specs.Facts.CachedPages.{cached_pages_stay, kept_low}
 use Rattle.nl_publish.specs.Facts.Staying.{history_image}
 use Rattle.nl_mounts.specs.declared.cache.CacheKey.{CacheKey}
-use Rattle.nl_mounts.specs.declared.port.MountedTree.{MountedTree}
+use Rattle.nl_mounts.specs.declared.looks.MountedTree.{MountedTree}
 use Rattle.nl_mounts.specs.Caching.{AreCachedPages, Cache, HasCachedBlocks, key_of}
-use Rattle.nl_mounts.specs.Ports.{Finds, IsCacheOf, IsMountTree, IsNotRead, IsOfTree, IsSeenOn, Lacks, More, OfMountFile, OfTreeFile, Older, PutsOfTree, Same, Shows, TouchesIfAny}
+use Rattle.nl_mounts.specs.Ports.{Finds, IsCacheOf, IsMountTree, IsNotRead, IsOfTree, IsSeenOn, Lacks, OfMountFile, OfTreeFile, PutsOfTree, Shows, TouchesIfAny}
 use Rattle.nl_mounts.specs.Warming.{HasTouched, IsStored, OfHeldFile, PutsStored, Warms}
 use Rattle.nl_mounts.specs.Warming.Warms.{Nothing, Part, Whole}
 
@@ -49,9 +49,8 @@ learned_pages old new cache more prefix pages = record {
 
 pub seen_on : (old new : Known) (cache : Option Cache) → IsSeenOn old new → AreCachedPages old.commits cache
     → AreCachedPages new.commits cache
-seen_on old new cache (Same is) pages = subst (λ (k : Known). AreCachedPages k.commits cache) (sym is) pages
-seen_on old new cache (More later history) pages =
-    learned_pages old new cache (begun new.commits history) later.commits pages
+seen_on old new cache seen pages =
+    learned_pages old new cache (begun new.commits seen.history) seen.later.commits pages
 
 pub nothing_kept : (log : List Commit) (cache : Option Cache) → cache ≡ None → AreCachedPages log cache
 nothing_kept log cache none = record { each = λ c key page is has. absurd (cc (none, is)) }
@@ -64,37 +63,12 @@ none_kept log pages = record {
       (Contains-nil (key, page) (subst (λ (d : Cache). Contains d.entries (key, page)) (sym same) has));
 }
 
--- ---- numbers
-
--- a kept number is at most the latest
-low_at : (n : ℕ) (latest : Checkpoint) (c : Checkpoint) (b : Bool) → eq_by_cmp nat_cmp n latest.number ≡ b
-    → cond b (Some latest) None ≡ Some c → n ≤ latest.number
-low_at n latest c true h is =
-    let same = eqb-true latest.number n (sym (eq_by_cmp-nat_cmp n latest.number) ∙ h) in omega (arith, same)
-low_at n latest c false h is = absurd cc
-
-kept_low : (earlier : List Checkpoint) (latest : Checkpoint) → IsRising (earlier ++ latest ∷ [])
-    → (n : ℕ) (c : Checkpoint)
-    → found n (earlier ++ latest ∷ []) ≡ Some c → n ≤ latest.number
-kept_low [] latest rising n c is = low_at n latest c (eq_by_cmp nat_cmp n latest.number) refl is
-kept_low (d ∷ earlier) latest rising n c is =
-    by (eq_by_cmp nat_cmp n d.number) refl is (kept_low earlier latest rising.1 n c)
-  where
-    by : (b : Bool) → eq_by_cmp nat_cmp n d.number ≡ b
-        → cond b (Some d) (found n (earlier ++ latest ∷ [])) ≡ Some c
-        → (found n (earlier ++ latest ∷ []) ≡ Some c → n ≤ latest.number) → n ≤ latest.number
-    by true h here later =
-        let same = eqb-true d.number n (sym (eq_by_cmp-nat_cmp n d.number) ∙ h) in
-        let up = (All-last (Precedes d) earlier latest rising.0).number in omega (arith, same, up)
-    by false h here later = later here
-
 -- ---- what a look finds
 
 pub finds_seen : (m : Claim) (old new : Known) (x : Shown) (tree : Option MountedTree)
     → Finds m old new x tree → IsSeenOn old new
-finds_seen m old new x tree (Older same none) = Same same
-finds_seen m old new x tree (Lacks later history lacks none) = More later history
-finds_seen m old new x tree (Shows t later history at is) = More later history
+finds_seen m old new x tree (Lacks volume seen lacks none) = seen
+finds_seen m old new x tree (Shows t seen at is) = seen
 
 holds_at : (x y : Shown) (r s : Root) (held : Holding) → x ≡ y → r ≡ s
     → HoldsTree (pages_shown x) (root_of r) held → HoldsTree (pages_shown y) (root_of s) held
@@ -224,10 +198,9 @@ found_in m old new x y o p shown tree finds =
 pub is_cache : (m : Claim) (old new : Known) (x : Shown) (tree : Option MountedTree) (cache : Option Cache)
     → Finds m old new x tree → AreCachedPages new.commits cache
     → IsCacheOf (pages_shown x) tree cache
-is_cache m old new x tree cache (Older same none) pages t c held is has holds = absurd (cc (none, is))
-is_cache m old new x tree cache (Lacks later history lacks none) pages t c held is has holds =
+is_cache m old new x tree cache (Lacks volume seen lacks none) pages t c held is has holds =
     absurd (cc (none, is))
-is_cache m old new x tree cache (Shows s later history at shows) pages t c held is has holds =
+is_cache m old new x tree cache (Shows s seen at shows) pages t c held is has holds =
     let same : s ≡ t = cc (shows, is) in
     let at_t : IsMountTree m old new x t = subst (λ (u : MountedTree). IsMountTree m old new x u) same at in
     blocks_of m old new x t at_t c (λ key page inside. pages.each c key page has inside) held holds
@@ -261,13 +234,12 @@ put_pages m old new x tree was now finds puts pages = record {
     stored : (key : CacheKey) (page : List ℕ) → Finds m old new x tree → (t : MountedTree) → tree ≡ Some t
         → IsStored (HoldsTree (pages_shown x) (root_of t.root)) t.checkpoint (key, page)
         → IsCachedPage new.commits key.checkpoint key.inode key.index page
-    stored key page (Older same none) t is put = absurd (cc (none, is))
-    stored key page (Lacks later history lacks none) t is put = absurd (cc (none, is))
-    stored key page (Shows s later history at shows) t is put =
+    stored key page (Lacks volume seen lacks none) t is put = absurd (cc (none, is))
+    stored key page (Shows s seen at shows) t is put =
         let same : s ≡ t = cc (shows, is) in
         let at_t : IsMountTree m old new x t =
         subst (λ (u : MountedTree). IsMountTree m old new x u) same at in
-        stored_page m old new x t at_t history key page put
+        stored_page m old new x t at_t seen.history key page put
 
 -- ---- of the file of the mount's checkpoint
 
@@ -278,10 +250,9 @@ module _ (m : Claim) (old new : Known) (x : Shown) (tree : Option MountedTree) (
       → HasTouched (OfMountFile (image_of new.commits) m.number path) offset was result now
   touched_at offset was now (Err e) finds refused touched =
       record { touched_is = tt; none = touched.none; same = touched.same }
-  touched_at offset was now (Ok count) (Older same none) refused touched = absurd (cc (refused none))
-  touched_at offset was now (Ok count) (Lacks later history lacks none) refused touched =
+  touched_at offset was now (Ok count) (Lacks volume seen lacks none) refused touched =
       absurd (cc (refused none))
-  touched_at offset was now (Ok count) (Shows t later history at is) refused touched = record {
+  touched_at offset was now (Ok count) (Shows t seen at is) refused touched = record {
     touched_is = of_mount_file m old new x t at path _ (touched.touched_is t is);
     none = touched.none;
     same = touched.same;
@@ -300,14 +271,11 @@ module _ (m : Claim) (old new : Known) (x : Shown) (tree : Option MountedTree) (
       → Warms (OfTreeFile (pages_shown x) tree path) offset len was result now
       → Warms (OfMountFile (image_of new.commits) m.number path) offset len was result now
   warms_at offset len was now result finds refused (Nothing e is same) = Nothing e is same
-  warms_at offset len was now result (Older same none) refused (Whole count is all) =
+  warms_at offset len was now result (Lacks volume seen lacks none) refused (Whole count is all) =
       absurd (cc (refused none, is))
-  warms_at offset len was now result (Older same none) refused (Part is part) = absurd (cc (refused none, is))
-  warms_at offset len was now result (Lacks later history lacks none) refused (Whole count is all) =
+  warms_at offset len was now result (Lacks volume seen lacks none) refused (Part is part) =
       absurd (cc (refused none, is))
-  warms_at offset len was now result (Lacks later history lacks none) refused (Part is part) =
-      absurd (cc (refused none, is))
-  warms_at offset len was now result (Shows t later history at shows) refused (Whole count is all) =
+  warms_at offset len was now result (Shows t seen at shows) refused (Whole count is all) =
       Whole count is (of_mount_file m old new x t at path _ (all t shows))
-  warms_at offset len was now result (Shows t later history at shows) refused (Part is part) =
+  warms_at offset len was now result (Shows t seen at shows) refused (Part is part) =
       Part is (of_mount_file m old new x t at path _ (part t shows))

@@ -1,4 +1,5 @@
 pub mod Caching
 pub mod Warming
 pub mod Ports
+pub mod Standings
 pub mod Sharing

@@ -1,7 +1,8 @@
 -- What a port answers.
-use Rattle.std.specs.Prelude.{ℕ, ◌≡◌, ◌⊎◌, List, Contains, length, take, drop, IfOk, OnErr, Option, None, Some, Result, Ok, Err}
+use Rattle.std.specs.Prelude.{ℕ, ◌≡◌, ◌≢◌, ◌<◌, ◌⊎◌, Bool, true, false, List, Contains, length, take, drop, IfOk, OnErr, Option, None, Some, Result, Ok, Err}
 use Rattle.std.specs.List.{AllZip}
 use Rattle.std.specs.Option.{option_and_then, option_map}
+use mathlib.Core.List.{IsPrefix}
 use Rattle.nl_types.specs.declared.error.VolError.{VolError}
 use Rattle.nl_types.specs.declared.error.VolError.TheVariants.{BadMount}
 use Rattle.nl_types.specs.declared.reply.Answer.TheVariants.{Bytes}
@@ -20,40 +21,77 @@ use Rattle.nl_files.specs.CheckpointTrees.{HoldsTree}
 use Rattle.nl_commit.specs.Commits.{IsHistory, image_of}
 use Rattle.nl_commit.specs.Means.{RootMeans}
 use Rattle.nl_commit.specs.Shown.{Shown, mounted_on, pages_shown}
+use Rattle.nl_publish.specs.declared.image.Image.{Image}
 use Rattle.nl_publish.specs.Histories.{Known}
 use Rattle.nl_publish.specs.Mounts.{Claim}
 use Rattle.nl_publish.specs.Told.{TreeOn}
-use Rattle.nl_lanes.specs.Reading.{HasLearned, IsLater}
+use Rattle.nl_lanes.specs.Reading.{IsLater}
 use Rattle.nl_mounts.specs.declared.cache.CacheKey.{CacheKey}
-use Rattle.nl_mounts.specs.declared.port.MountedTree.{MountedTree}
+use Rattle.nl_mounts.specs.declared.looks.MountedTree.{MountedTree}
 use Rattle.nl_mounts.specs.Caching.{Cache, HasCachedBlocks}
 use Rattle.nl_mounts.specs.Warming.{HasTouched, IsStored, OfHeldFile, Warms}
 
--- a port: what it has seen, and what it keeps of files
+-- a port: what it has seen, what it keeps of files, and whether it has its reader
 pub record PortView : Type 0 where
   pub known : Known
   pub cache : Option Cache
+  pub seated : Bool
 
--- a port that keeps nothing
-abbrev pub bare : Known → PortView
-bare known = record { known = known; cache = None }
+-- a port that keeps nothing, and has its reader
+abbrev pub fresh : Known → PortView
+fresh known = record { known = known; cache = None; seated = true }
 
--- a port that has seen this instead, and keeps what it kept
+-- a port that has seen this instead
 abbrev pub seeing : PortView → Known → PortView
-seeing p k = record { known = k; cache = p.cache }
+seeing p k = record { known = k; cache = p.cache; seated = p.seated }
 
--- nothing more is seen, or a history that goes on
-pub data IsSeenOn (old new : Known) : Type 0 where
-  Same : new ≡ old → IsSeenOn old new
-  More : IsLater old new → IsHistory new.commits → IsSeenOn old new
+-- a port without its reader
+abbrev pub vacant : PortView → PortView
+vacant p = record { known = p.known; cache = p.cache; seated = false }
 
--- a port is later, and keeps what it kept
+-- a port out of its place, which keeps nothing
+abbrev pub taken : PortView → PortView
+taken p = record { known = p.known; cache = None; seated = p.seated }
+
+-- the place of a port, with what comes back to it
+abbrev pub joined : PortView → PortView → PortView
+joined p q = record { known = q.known; cache = p.cache; seated = q.seated }
+
+-- a history that goes on is seen
+pub record IsSeenOn (old new : Known) : Type 0 where
+  pub later : IsLater old new
+  pub history : IsHistory new.commits
+
+-- a port is later, and the same but for what it has seen
 pub record IsLaterPort (old new : PortView) : Type 0 where
   pub later : IsLater old.known new.known
-  pub cache : new.cache ≡ old.cache
+  pub kept : new ≡ seeing old new.known
 
 abbrev pub AreLater : (old new : List PortView) → Type 0
 AreLater old new = AllZip IsLaterPort old new
+
+-- a port has learned of a mount, and is else what it was
+abbrev pub Learns : Claim → (old new : PortView) → Type 0
+Learns m old new = (new ≡ old) ⊎ (new ≡ seeing old m.told)
+
+-- ---- entering
+
+-- an image's history is a proper beginning of what was seen
+pub record IsOlder (i : Image) (k : Known) : Type 0 where
+  pub begins : IsPrefix i.seen.log k.commits
+  pub shorter : length i.seen.log < length k.commits
+
+-- Why a port was given no image that is as new as what it has seen: it has no reader, or its reader was given
+-- none, or an older one.
+pub data IsUngiven {E : Type 0} (gives : E → Option Image → Type 0) (k : Known) (seated : Bool) : Type 0 where
+  HasNoReader : seated ≡ false → IsUngiven gives k seated
+  GivenNone : (reader : E) → gives reader None → IsUngiven gives k seated
+  GivenOlder : (reader : E) (i : Image) → gives reader (Some i) → IsOlder i k → IsUngiven gives k seated
+
+-- why it doesn't look for a mount: the mount is another volume's, or it was given no image
+pub data Misses {E : Type 0} (gives : E → Option Image → Type 0) (m : Claim) (p : PortView) : Type 0 where
+  OfAnother : m.told.volume ≢ p.known.volume → Misses gives m p
+  NotGiven : m.told.volume ≡ p.known.volume → IsUngiven gives p.known p.seated → Misses gives m p
 
 -- ---- answers
 
@@ -89,30 +127,35 @@ tree_of n c = record { checkpoint = n; root = checkpoint_root c }
 abbrev pub mounted_tree : Shown → ℕ → Option MountedTree
 mounted_tree x m = option_and_then (λ n. option_map (tree_of n) (kept_at n x.table)) (mounted_on x m)
 
--- The tree that a mount shows in the image x of what has been seen. Where the mount was learned of, its root
--- means the tree that its checkpoint had when the mount was told.
+-- The tree that a mount shows in the image x of what has been seen, of the checkpoint that it names. Its root
+-- means the tree that this had when the mount was told.
 pub record IsMountTree (m : Claim) (old new : Known) (x : Shown) (tree : MountedTree) : Type 0 where
   pub volume : m.told.volume ≡ old.volume
   pub shown : x ≡ image_of new.commits
   pub mounted : mounted_on (image_of new.commits) m.number ≡ Some tree.checkpoint
+  pub is_own : tree.checkpoint ≡ m.checkpoint
   pub checkpoint : Checkpoint
   pub kept : kept_at tree.checkpoint (image_of new.commits).table ≡ Some checkpoint
   pub root : checkpoint_root checkpoint ≡ tree.root
   pub means : (t : Tree) → TreeOn (image_of new.commits) tree.checkpoint t
       → RootMeans (pages_shown x) tree.root t
-  pub told : HasLearned m old → (t : Tree) → TreeOn (image_of m.told.commits) m.checkpoint t
+  pub told : (t : Tree) → TreeOn (image_of m.told.commits) m.checkpoint t
       → RootMeans (pages_shown x) tree.root t
 
--- What a look for a mount at the image x finds. The image is older than what was seen, and nothing more is
--- seen; or its history is seen then, and the image lacks the mount, or shows its checkpoint.
+-- What a look for a mount at the image x finds, whose history is as new as what was seen: the image lacks the
+-- mount, or shows its checkpoint.
 pub data Finds (m : Claim) (old new : Known) (x : Shown) (tree : Option MountedTree) : Type 0 where
-  Older : new ≡ old → tree ≡ None → Finds m old new x tree
-  Lacks : IsLater old new → IsHistory new.commits → mounted_on (image_of new.commits) m.number ≡ None
-      → tree ≡ None
+  Lacks : m.told.volume ≡ old.volume → IsSeenOn old new
+      → mounted_on (image_of new.commits) m.number ≡ None → tree ≡ None
       → Finds m old new x tree
-  Shows : (t : MountedTree) → IsLater old new → IsHistory new.commits → IsMountTree m old new x t
-      → tree ≡ Some t
+  Shows : (t : MountedTree) → IsSeenOn old new → IsMountTree m old new x t → tree ≡ Some t
       → Finds m old new x tree
+
+-- the tree of a mount in an image whose history is known, where the mount was made
+pub data HasTreeIn (m : Claim) (k : Known) (x : Shown) (tree : Option MountedTree) : Type 0 where
+  Made : IsPrefix m.told.commits k.commits → tree ≡ mounted_tree x m.number → HasTreeIn m k x tree
+  NotMade : IsPrefix k.commits m.told.commits → length k.commits < length m.told.commits → tree ≡ None
+      → HasTreeIn m k x tree
 
 -- what is shown where a port has entered, what it has seen then, and the tree that a mount has there
 pub record LookView : Type 0 where

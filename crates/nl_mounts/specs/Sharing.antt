@@ -1,13 +1,12 @@
 -- What calls of a shared volume come to. Each runs a call under the lock, in a state that other calls may
 -- have made.
-use Rattle.std.specs.Prelude.{◌≡◌, ◌≢◌, ◌<◌, ◌≤◌, ◌+◌, ◌⊎◌, ℕ, length, slice_get, IfOk, MatchResult, Option, Result, Ok, Err}
+use Rattle.std.specs.Prelude.{◌≡◌, ◌≢◌, ◌<◌, ◌≤◌, ◌+◌, ◌⊎◌, ℕ, false, List, All, length, slice_get, IfOk, MatchBool, Option, Result, Ok, Err}
 use Rattle.std.specs.Option.{ok_or}
+use mathlib.Core.List.{IsPrefix}
 use Rattle.nl_types.specs.declared.error.VolError.{VolError}
 use Rattle.nl_types.specs.declared.error.VolError.TheVariants.{BadMount, BadRange, Memory}
 use Rattle.nl_types.specs.declared.event.Ask.{Ask}
 use Rattle.nl_types.specs.declared.event.Event.{Event}
-use Rattle.nl_types.specs.declared.event.Event.TheVariants.{Unmount}
-use Rattle.nl_types.specs.declared.reply.Answer.{Answer}
 use Rattle.nl_types.specs.declared.segment.SegmentInfo.{SegmentInfo}
 use Rattle.nl_types.specs.Segments.{clean_segments}
 use Rattle.nl_types.specs.Worlds.{Reply, World}
@@ -17,20 +16,18 @@ use Rattle.nl_cpfile.specs.declared.table.Cpstat.{Cpstat}
 use Rattle.nl_protect.specs.declared.config.Config.{Config}
 use Rattle.nl_commit.specs.CleanerViews.{needed_told}
 use Rattle.nl_commit.specs.Commits.{image_of}
-use Rattle.nl_commit.specs.Layout.{IsPen, Layout, MeansWorld, ReadsCopy, layout_of}
+use Rattle.nl_commit.specs.Layout.{Layout, MeansWorld, ReadsCopy, layout_of}
 use Rattle.nl_commit.specs.Volume.{without_mounts}
 use Rattle.nl_commit.specs.Rounds.{RoundHabits}
+use Rattle.nl_publish.specs.Begun.{HasBegun}
 use Rattle.nl_publish.specs.Cleaning.{CleanRan}
 use Rattle.nl_publish.specs.Histories.{Known}
-use Rattle.nl_publish.specs.Locks.{HeldPen, IsTold, MountReply, MountRan, Ran}
+use Rattle.nl_publish.specs.Locks.{HeldPen, IsSoundState, MountReply, MountRan, Ran, told_by}
 use Rattle.nl_publish.specs.Mounts.{Claim}
+use Rattle.nl_publish.specs.Returns.{IsGivenBack, Returned}
 use Rattle.nl_publish.specs.Told.{ShowsCopy}
-
--- a state under the lock: its pen means a world, and readers see of the pen what a legal history makes, of
--- which a beginning is published
-pub record IsSoundState (h : HeldPen) : Type 0 where
-  pub told : IsTold h
-  pub pen : IsPen h.layout
+use Rattle.nl_mounts.specs.declared.shared.ToldReply.{ToldReply}
+use Rattle.nl_mounts.specs.Ports.{PortView, fresh}
 
 -- ---- the beginning
 
@@ -43,6 +40,15 @@ abbrev pub IsShareRefused : (ports : ℕ) → VolError → Type 0
 IsShareRefused ports error =
     (IsPortCount ports × (error ≡ Memory)) ⊎ ((IsPortCount ports → ⊥) × (error ≡ BadRange))
 
+-- A volume is shared under an id: its first commit shows all of the pen that was handed in. Each port has seen
+-- it, keeps nothing, and has its reader.
+pub record IsShared (id : ℕ) (pen : Layout) (volume : ℕ) (ports : List PortView) : Type 0 where
+  pub is : volume ≡ id
+  pub state : HeldPen
+  pub sound : IsSoundState state
+  pub begun : HasBegun id pen state
+  pub seen : All (λ port. port ≡ fresh (told_by state)) ports
+
 -- ---- events
 
 pub record HasRun (event : Event) (reply : Reply) : Type 0 where
@@ -50,6 +56,32 @@ pub record HasRun (event : Event) (reply : Reply) : Type 0 where
   pub new : HeldPen
   pub sound : IsSoundState old
   pub ran : Ran old event reply new
+
+-- a port is of the volume, and has seen no more than is published
+pub record IsKnownTo (h : HeldPen) (port : Known) : Type 0 where
+  pub volume : port.volume ≡ h.volume
+  pub published : IsPrefix port.commits h.published
+
+-- The event ran, and the port knows what is published then, which is all of the history, or not. What lies
+-- under the lock is of the volume whose id stands beside it, and knows what its ports have seen; were that not
+-- so, memory would be refused, and nothing done.
+pub data Tells (old : HeldPen) (port : Known) (event : Event) (told : ToldReply) (new : HeldPen)
+    (seen : Known) : Type 0 where
+  Came : IsKnownTo old port → Ran old event told.reply new
+      → MatchBool told.is_told (new.published ≡ new.history) (new.published ≢ new.history)
+      → seen ≡ told_by new → Tells old port event told new seen
+  Apart : (IsKnownTo old port → ⊥) → told.reply ≡ Err Memory → told.is_told ≡ false → new ≡ old → seen ≡ port
+      → Tells old port event told new seen
+
+pub record HasTold (port : Known) (event : Event) (told : ToldReply) (seen : Known) : Type 0 where
+  pub old : HeldPen
+  pub new : HeldPen
+  pub sound : IsSoundState old
+  pub left : IsSoundState new
+  pub tells : Tells old port event told new seen
+
+abbrev pub IsForeignReply : ToldReply → Type 0
+IsForeignReply told = (told.reply ≡ Err BadMount) × (told.is_told ≡ false)
 
 -- ---- mounts
 
@@ -62,38 +94,32 @@ number_in (Err e) = Err e
 abbrev pub MountsCopy : HeldPen → Claim → Type 0
 MountsCopy h m = (w : World) → MeansWorld h.layout w → ShowsCopy (image_of m.told.commits) m.checkpoint w
 
--- the port is another volume's, and nothing is done; or the checkpoint is mounted, or that is refused
-pub data MountComes (port : Known) (checkpoint : ℕ) (result : Result Claim VolError)
-    (old : HeldPen) : Type 0 where
-  Foreign : port.volume ≢ old.volume → result ≡ Err BadMount → MountComes port checkpoint result old
-  Came : (new : HeldPen) → port.volume ≡ old.volume → MountRan old checkpoint (number_in result) new
-      → IfOk result (MountsCopy new) → MountComes port checkpoint result old
+-- The checkpoint is mounted, and the mount is told of all that is published then; or that is refused. What
+-- lies under the lock is as before an event.
+pub data MountComes (old : HeldPen) (port : Known) (checkpoint : ℕ) (result : Result Claim VolError)
+    (new : HeldPen) : Type 0 where
+  Came : IsKnownTo old port → MountRan old checkpoint (number_in result) new
+      → IfOk result (MountsCopy new) → IfOk result (λ m. m.told ≡ told_by new)
+      → MountComes old port checkpoint result new
+  Apart : (IsKnownTo old port → ⊥) → result ≡ Err Memory → new ≡ old
+      → MountComes old port checkpoint result new
 
 pub record HasMounted (port : Known) (checkpoint : ℕ) (result : Result Claim VolError) : Type 0 where
   pub old : HeldPen
+  pub new : HeldPen
   pub sound : IsSoundState old
-  pub comes : MountComes port checkpoint result old
+  pub comes : MountComes old port checkpoint result new
 
--- what comes of an unmount: nothing, or why it is refused, with the mount
-abbrev pub Returned : Type 0
-Returned = Result (Unit {0}) (VolError × Claim)
-
--- the mount is given back, or that is refused
-abbrev pub IsGivenBack : HeldPen → Claim → Returned → HeldPen → Type 0
-IsGivenBack old m result new =
-    MatchResult result (λ u. (answer : Answer) × Ran old (Unmount m.number) (Ok answer) new)
-    (λ r. Ran old (Unmount m.number) (Err r.0) new)
-
--- the mount is another volume's, and nothing is done; or it is given back, or that is refused
-pub data UnmountComes (m : Claim) (result : Returned) (old : HeldPen) : Type 0 where
-  Foreign : m.told.volume ≢ old.volume → result ≡ Err (BadMount, m) → UnmountComes m result old
-  Came : (new : HeldPen) → m.told.volume ≡ old.volume → IsGivenBack old m result new
-      → UnmountComes m result old
+-- the mount is given back, or that is refused; were it not of the volume under the lock, memory would be
+pub data UnmountComes (old : HeldPen) (m : Claim) (result : Returned) (new : HeldPen) : Type 0 where
+  Came : m.told.volume ≡ old.volume → IsGivenBack old m result new → UnmountComes old m result new
+  Apart : m.told.volume ≢ old.volume → result ≡ Err (Memory, m) → new ≡ old → UnmountComes old m result new
 
 pub record HasUnmounted (m : Claim) (result : Returned) : Type 0 where
   pub old : HeldPen
+  pub new : HeldPen
   pub sound : IsSoundState old
-  pub comes : UnmountComes m result old
+  pub comes : UnmountComes old m result new
 
 -- ---- rounds of cleaning, and what is told
 

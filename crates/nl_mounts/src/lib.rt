@@ -4,12 +4,18 @@
 
 mod cache;
 mod cached_reads;
+mod enters;
 mod file_read;
+mod looks;
 mod many;
 mod port;
 mod shared;
+mod standing;
 
+pub use enters::Enters;
 pub use many::read_many;
 pub use nl_lanes::{Gate, JobAnswer, ReadJob};
+pub use nl_publish::is_mount_event;
 pub use port::Port;
-pub use shared::{Shared, seat_all, share, spend_all};
+pub use shared::{Shared, ToldReply, seat_all, share, spend_all};
+pub use standing::Standing;

@@ -1,8 +1,10 @@
 //! Ports as what reads many files of a mount at once.
-ghost use Rattle.std.specs.Prelude.{◌≡◌, ◌<◌, length, IfErr, IfOk};
+ghost use Rattle.std.specs.Prelude.{◌≡◌, ◌<◌, All, length, IfErr, IfOk, OnOk};
 ghost use Rattle.nl_lanes.specs.Jobs.{AreAnswers};
+ghost use Rattle.nl_lanes.specs.Reading.{HasLearned};
 ghost use Rattle.nl_mounts.specs.Ports.{AreLater};
 
+use crate::enters::Enters;
 use crate::port::Port;
 use nl_lanes::{FileReader, Gate, JobAnswer, ReadJob};
 use nl_publish::{Mount, Volumes};
@@ -10,13 +12,21 @@ use nl_types::{Items, VolError};
 use std::alloc::Global;
 use std::thread::Threads;
 
-impl<J: Volumes> FileReader<J> for Port<J> {
+impl<J: Volumes, E: Enters> FileReader<J> for Port<J, E> {
     ghost use Rattle.std.specs.Prelude.{refl};
-    ghost use Rattle.nl_mounts.specs.Ports.{seeing};
+    ghost use Rattle.nl_mounts.specs.Ports.{IsUngiven, joined, seeing, taken, vacant};
 
     ghost known = { λ p. p.known };
 
     ghost with_known = { seeing };
+
+    ghost ungiven = { λ p. IsUngiven E.gives p.known p.seated };
+
+    ghost taken = { taken };
+
+    ghost left = { vacant };
+
+    ghost joined = { joined };
 
     fn take(&mut self) -> Self {
         Port::take(self)
@@ -41,9 +51,17 @@ impl<J: Volumes> FileReader<J> for Port<J> {
         Port::read(self, alloc, mount, path, offset, len)
     }
 
+    ghost known_with = { λ p k. refl };
+
+    ghost known_taken = { λ p. refl };
+
+    ghost known_left = { λ p. refl };
+
+    ghost with_more = { λ p k l. refl };
+
     ghost same_known = { λ p. refl };
 
-    ghost known_with = { λ p k. refl };
+    ghost joined_again = { λ p k. refl };
 }
 
 /// Does jobs by ports at once, each port in a thread of its own: job j by port j modulo the number of ports.
@@ -63,6 +81,7 @@ pub fn read_many<J: Volumes + Send + Sync, G: Gate + Sync, R: Threads + Sync>(
     requires { 0 < length ports.old }
     ensures answers { IfOk result (λ answers. AreAnswers mount.now jobs.now answers.items) }
     ensures later { AreLater ports.old ports.new }
+    ensures learned { OnOk result (All (λ p. HasLearned mount.now p.known) ports.new) }
     ensures refused { IfErr result (λ e. (e ≡ VolError.Memory) × (ports.new ≡ ports.old)) }
 {
     nl_lanes::read_many(rt, alloc, ports, mount, jobs, gate)

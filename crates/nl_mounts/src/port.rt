@@ -1,143 +1,50 @@
 //! Ports, which read without waiting.
-ghost use Rattle.std.specs.Prelude.{◌≡◌, ◌≢◌, ◌⊎◌, [], None, Some, IfErr, IfOk, IfSome, OnErr, OnOk, IsSome, length};
+ghost use Rattle.std.specs.Prelude.{◌≡◌, ◌≢◌, [], None, Some, true, IfErr, IfOk, OnErr, OnOk, IsSome, length};
 ghost use Rattle.std.specs.Option.{option_map_or};
 ghost use Rattle.lru.specs.LruCache.{lru_cache};
 ghost use Rattle.nl_commit.specs.Commits.{image_of};
 ghost use Rattle.nl_commit.specs.Shown.{pages_shown};
-ghost use Rattle.nl_publish.specs.Images.{IsWhole};
-ghost use Rattle.nl_publish.specs.Mounts.{IsClaim};
+ghost use Rattle.nl_publish.specs.Images.{name_of};
 ghost use Rattle.nl_mounts.specs.Caching.{AreCachedPages, IsCacheRefused, IsCacheSize};
 ghost use Rattle.nl_lanes.specs.Reading.{HasLearned, IsBytesOf, IsLater, Looked, Told};
-ghost use Rattle.nl_mounts.specs.Ports.{Finds, IsCacheOf, IsListOf, IsNotRead, IsOfTree, IsReadOf, IsSeenOn, IsStatOf, OfMountFile, OfTreeFile, PutsOfTree, TouchesIfAny, WarmsIfAny, bare, mounted_tree};
+ghost use Rattle.nl_mounts.specs.Ports.{Finds, IsCacheOf, IsListOf, IsNotRead, IsOfTree, IsReadOf, IsSeenOn, IsStatOf, IsUngiven, Learns, Misses, OfMountFile, OfTreeFile, PutsOfTree, TouchesIfAny, WarmsIfAny, fresh, joined, seeing, taken, vacant};
 ghost use Rattle.nl_mounts.specs.Warming.{IsWarmingOf, Warms};
 
 use crate::cache::{Cache, new_cache};
 use crate::cached_reads::{read_cached, warm};
-use left_right::reader::Reading;
+use crate::enters::Enters;
+use crate::looks::{Look, MountedTree, find};
 use nl_files::ReadTree;
-use nl_layout::Root;
-use nl_publish::laws::{histories_show_images, mounts_stay};
-use nl_publish::{Front, Image, ImageReader, Keeps, Mount, Name, Seat, Sees, Volumes};
+use nl_publish::{Front, Image, ImageReader, Mount, Seat, Volumes};
 use nl_tree::{list, read, read_into, stat};
-use nl_types::{CheckpointNumber, Items, MountNumber, Named, Stat, VolError};
+use nl_types::{Items, Named, Stat, VolError};
 use std::alloc::Global;
 use std::marker::Model;
 
 /// A reader's end of a shared volume. It may keep pages of files that it reads often. Contracts see what it
-/// has seen of the volume's history, and what it keeps.
+/// has seen of the volume's history, what it keeps, and whether it has its reader.
 #[derive(Drop)]
-pub struct Port<J: Volumes> {
-    /// It is out only while a call looks.
-    reader: Option<ImageReader>,
+pub struct Port<J: Volumes, E: Enters = ImageReader> {
+    /// It is out while a call looks, and while the port is out of its place.
+    reader: Option<E>,
     front: Front<J>,
     /// It is out only while a call uses it.
     cache: Option<Cache>,
 }
 
-impl<J: Volumes> Model for Port<J> {
-    ghost use Rattle.std.specs.Prelude.{◌≡◌};
+impl<J: Volumes, E: Enters> Model for Port<J, E> {
+    ghost use Rattle.std.specs.Prelude.{◌≡◌, is_some};
     ghost use Rattle.std.specs.Option.{ForSome};
     ghost use Rattle.nl_publish.specs.Images.{name_of};
-    ghost use Rattle.nl_publish.specs.Seats.{known_to};
     ghost use Rattle.nl_mounts.specs.Caching.{AreCachedPages};
     ghost use Rattle.nl_mounts.specs.Ports.{PortView};
 
     ghost Value = { PortView };
 
-    ghost view = { λ p. record { known = p.front; cache = p.cache } };
+    ghost view = { λ p. record { known = p.front; cache = p.cache; seated = is_some p.reader } };
 
-    ghost invariant = { λ p. ForSome p.reader (λ r. known_to r.place ≡ name_of (J.book p.front.volume))
+    ghost invariant = { λ p. ForSome p.reader (λ r. E.names r ≡ name_of (J.book p.front.volume))
         × AreCachedPages p.front.commits p.cache };
-}
-
-/// The tree of a checkpoint that a mount shows.
-#[derive(Clone, Copy)]
-pub struct MountedTree {
-    pub checkpoint: CheckpointNumber,
-    pub root: Root,
-}
-
-/// The tree that a mount shows.
-fn tree_of_mount(image: &Image, mount: MountNumber) -> Option<MountedTree>
-    ensures { result ≡ mounted_tree image.now.tables mount }
-{
-    let checkpoint = image.tables.mounted(mount)?;
-    let kept = image.tables.kept(checkpoint)?;
-    Some(MountedTree {
-        checkpoint,
-        root: kept.root,
-    })
-}
-
-/// The history that made an image, where the image is as new as what was seen.
-fn front_at<J: Volumes>(image: &Image, seen: &Front<J>) -> Option<Front<J>>
-    requires whole { IsWhole image.now }
-    requires book { image.now.seen.book ≡ J.book seen.now.volume }
-    ensures later { IfSome result (λ front. IsLater seen.now front) }
-    ensures log { IfSome result (λ front. front.commits ≡ image.now.seen.log) }
-{
-    let front = Front::of(image, seen.volume());
-    if !front.covers(seen) {
-        return None;
-    }
-    Some(front)
-}
-
-/// What has been seen once a port has looked at an image, and the tree that a mount of its volume has there.
-/// No more is seen of an image that is older than what was seen, and it has no tree.
-fn find<J: Volumes>(
-    image: &Image,
-    seen: &Front<J>,
-    mount: &Mount<J>,
-) -> (Front<J>, Option<MountedTree>)
-    requires whole { IsWhole image.now }
-    requires book { image.now.seen.book ≡ J.book seen.now.volume }
-    requires claim { IsClaim mount.now }
-    requires volume { mount.now.told.volume ≡ seen.now.volume }
-    ensures volume { result.0.volume ≡ seen.now.volume }
-    ensures finds { Finds mount.now seen.now result.0 image.now.tables result.1 }
-{
-    histories_show_images();
-    mounts_stay();
-    let Some(front) = front_at(image, seen) else {
-        return (seen.again(), None);
-    };
-    (front, tree_of_mount(image, mount.number()))
-}
-
-/// A port's look at the image that is published, and what it found. It is not `Drop`: `Port::come_back` takes
-/// it.
-struct Look<J: Volumes> {
-    reading: Reading<Image, Name, Keeps>,
-    front: Front<J>,
-    tree: Option<MountedTree>,
-}
-
-impl<J: Volumes> Model for Look<J> {
-    ghost use Rattle.std.specs.Prelude.{◌≡◌};
-    ghost use Rattle.nl_publish.specs.Images.{name_of};
-    ghost use Rattle.nl_publish.specs.Seats.{known_to};
-    ghost use Rattle.nl_mounts.specs.Ports.{LookView};
-
-    ghost Value = { LookView };
-
-    ghost view = { λ l. record { shown = l.reading.part.value.tables; front = l.front; tree = l.tree } };
-
-    ghost invariant = { λ l. known_to l.reading.place ≡ name_of (J.book l.front.volume) };
-}
-
-impl<J: Volumes> Look<J> {
-    fn image(&self) -> &Image
-        ensures { result.now.tables ≡ self.now.shown }
-    {
-        self.reading.get()
-    }
-
-    fn tree(&self) -> Option<MountedTree>
-        ensures { result ≡ self.now.tree }
-    {
-        self.tree
-    }
 }
 
 // ---- what is done in a tree that was found; `BadMount` where there is none
@@ -246,9 +153,19 @@ fn list_in(
 impl<J: Volumes> Port<J> {
     /// The port that has a seat of a shared volume. It keeps no pages yet.
     pub fn new(seat: Seat<J>) -> Port<J>
-        ensures { result ≡ bare seat.front }
+        ensures { result ≡ fresh seat.front }
     {
         let Seat { reader, front } = seat;
+        Port::over(reader, front)
+    }
+}
+
+impl<J: Volumes, E: Enters> Port<J, E> {
+    /// A port with a reader of its own, and what it has seen. It keeps no pages yet.
+    pub fn over(reader: E, front: Front<J>) -> Port<J, E>
+        requires { E.names reader ≡ name_of (J.book front.volume) }
+        ensures { result ≡ fresh front }
+    {
         Port {
             reader: Some(reader),
             front,
@@ -258,8 +175,9 @@ impl<J: Volumes> Port<J> {
 
     /// Takes the port out of its place, where one stays that finds nothing. Pages that are kept stay there.
     /// Takes no memory.
-    pub fn take(&mut self) -> Port<J>
-        ensures { (result ≡ bare self.old.known) × (self.new ≡ self.old) }
+    pub(crate) fn take(&mut self) -> Port<J, E>
+        ensures taken { result ≡ taken self.old }
+        ensures left { self.new ≡ vacant self.old }
     {
         Port {
             reader: self.reader.take(),
@@ -269,9 +187,9 @@ impl<J: Volumes> Port<J> {
     }
 
     /// Puts a port back into the place that it was taken from. What it has seen meanwhile is seen.
-    pub fn put_back(&mut self, port: Port<J>)
+    pub(crate) fn put_back(&mut self, port: Port<J, E>)
         requires { IsLater self.old.known port.known }
-        ensures { self.new ≡ record { known = port.known; cache = self.old.cache } }
+        ensures { self.new ≡ joined self.old port }
     {
         let Port {
             reader,
@@ -280,6 +198,22 @@ impl<J: Volumes> Port<J> {
         } = port;
         front.volume();
         self.reader = reader;
+        self.front = front;
+    }
+
+    /// What it has seen of its volume's history.
+    pub(crate) fn seen(&self) -> &Front<J>
+        ensures { result.now ≡ self.now.known }
+    {
+        &self.front
+    }
+
+    /// Tells the port of a history of its volume that is no shorter than what it has seen.
+    pub(crate) fn see(&mut self, front: Front<J>)
+        requires { IsLater self.old.known front }
+        ensures { self.new ≡ seeing self.old front }
+    {
+        front.volume();
         self.front = front;
     }
 
@@ -297,6 +231,7 @@ impl<J: Volumes> Port<J> {
     /// `BadRange` for none or more than 4,096, `Memory`; then all that was kept stays.
     pub fn set_cache(&mut self, alloc: Global, pages: usize) -> Result<(), VolError>
         ensures known { self.new.known ≡ self.old.known }
+        ensures seated { self.new.seated ≡ self.old.seated }
         ensures empty { OnOk result (self.new.cache ≡ Some (lru_cache [] pages)) }
         ensures size { OnOk result (IsCacheSize pages) }
         ensures same { OnErr result (self.new ≡ self.old) }
@@ -317,12 +252,13 @@ impl<J: Volumes> Port<J> {
         }
     }
 
-    /// Tells the port of a mount of its volume. It takes no memory, and never waits.
+    /// Tells the port of a mount of its volume: what it has seen is then what the mount was told, where that
+    /// is more. It takes no memory, and never waits.
     pub fn learn(&mut self, mount: &Mount<J>)
         ensures later { IsLater self.old.known self.new.known }
         ensures told { HasLearned mount.now self.new.known }
         ensures others { mount.now.told.volume ≢ self.old.known.volume → self.new ≡ self.old }
-        ensures cache { self.new.cache ≡ self.old.cache }
+        ensures kept { Learns mount.now self.old self.new }
     {
         if mount.told().volume() != self.front.volume() {
             return;
@@ -333,10 +269,14 @@ impl<J: Volumes> Port<J> {
     }
 
     /// Enters the image that is published, and looks for a mount there. Until the look comes back, the port
-    /// has no reader. Refused by `BadMount` where the mount is another volume's, and where no image is found.
-    fn look(&mut self, mount: &Mount<J>) -> Result<Look<J>, VolError>
-        ensures same { self.new ≡ self.old }
+    /// has no reader. Refused by `BadMount` where the mount is another volume's, and where no image is given
+    /// that is as new as what was seen.
+    pub(crate) fn look(&mut self, mount: &Mount<J>) -> Result<Look<J, E>, VolError>
+        ensures same { OnErr result (self.new ≡ self.old) }
         ensures refused { IfErr result (λ e. e ≡ VolError.BadMount) }
+        ensures missed { OnErr result (Misses E.gives mount.now self.old) }
+        ensures seated { OnOk result (self.old.seated ≡ true) }
+        ensures out { OnOk result (self.new ≡ vacant self.old) }
         ensures finds { IfOk result (λ look.
             Finds mount.now self.old.known look.front look.shown look.tree) }
     {
@@ -346,34 +286,36 @@ impl<J: Volumes> Port<J> {
         let Some(reader) = self.reader.take() else {
             return Err(VolError::BadMount);
         };
-        match reader.enter_as::<Sees>() {
+        match reader.enter() {
             Err(reader) => {
                 self.reader = Some(reader);
                 Err(VolError::BadMount)
             }
-            Ok(reading) => {
-                let (front, tree) = find(reading.get(), &self.front, mount);
-                Ok(Look {
-                    reading,
+            Ok(inside) => match find(E::image(&inside), &self.front, mount) {
+                None => {
+                    self.reader = Some(E::leave(inside));
+                    Err(VolError::BadMount)
+                }
+                Some((front, tree)) => Ok(Look {
+                    inside,
                     front,
                     tree,
-                })
-            }
+                }),
+            },
         }
     }
 
     /// The reader is back, and what it found is seen. Pages that are kept are right there too.
-    fn come_back(&mut self, look: Look<J>)
+    pub(crate) fn come_back(&mut self, look: Look<J, E>)
         requires { IsSeenOn self.old.known look.front }
-        ensures known { self.new.known ≡ look.front }
-        ensures cache { self.new.cache ≡ self.old.cache }
+        ensures { self.new ≡ record { known = look.front; cache = self.old.cache; seated = true } }
     {
         let Look {
-            reading,
+            inside,
             front,
             tree: _,
         } = look;
-        self.reader = Some(reading.leave());
+        self.reader = Some(E::leave(inside));
         self.front = front;
     }
 
@@ -387,28 +329,34 @@ impl<J: Volumes> Port<J> {
         into: &mut [u8],
     ) -> Result<usize, VolError>
         requires { AreCachedPages self.old.known.commits cache.old }
+        ensures kept { self.new ≡ seeing self.old self.new.known }
         ensures pages { AreCachedPages self.new.known.commits cache.new }
         ensures later { IsLater self.old.known self.new.known }
         ensures looked { Looked mount.now self.old.known self.new.known
+            (IsUngiven E.gives self.old.known self.old.seated)
             (IsNotRead result into.old into.new)
             (λ t. IsReadOf t path.now offset into.old result into.new) }
-        ensures told { Told mount.now self.old.known (IsNotRead result into.old into.new)
+        ensures told { Told mount.now (IsNotRead result into.old into.new)
             (λ t. IsReadOf t path.now offset into.old result into.new) }
         ensures touched { TouchesIfAny
             (OfMountFile (image_of self.new.known.commits) mount.now.number path.now)
             offset cache.old result cache.new }
     {
-        let look = self.look(mount)?;
-        let result = read_in(look.image(), look.tree(), cache, path, offset, into);
-        self.come_back(look);
-        result
+        match self.look(mount) {
+            Err(refusal) => Err(refusal),
+            Ok(look) => {
+                let result = read_in(look.image(), look.tree(), cache, path, offset, into);
+                self.come_back(look);
+                result
+            }
+        }
     }
 
     /// Reads the bytes of the file at a path of the mount's tree, as `nl_tree::read_into` does. Where the
     /// port keeps pages, it looks for the file's there, and brings those of the bytes that it answers to the
     /// front, ascending; it puts none. It takes no memory, and never waits. Refused by `BadMount` where the
-    /// state that it enters lacks the mount, where it is given none, and where the mount is another volume's;
-    /// the path isn't looked at then.
+    /// state that it enters lacks the mount, where it is given none or one that is older than what it has
+    /// seen, and where the mount is another volume's; the path isn't looked at then.
     pub fn read_into(
         &mut self,
         mount: &Mount<J>,
@@ -418,13 +366,15 @@ impl<J: Volumes> Port<J> {
     ) -> Result<usize, VolError>
         ensures later { IsLater self.old.known self.new.known }
         ensures looked { Looked mount.now self.old.known self.new.known
+            (IsUngiven E.gives self.old.known self.old.seated)
             (IsNotRead result into.old into.new)
             (λ t. IsReadOf t path.now offset into.old result into.new) }
-        ensures told { Told mount.now self.old.known (IsNotRead result into.old into.new)
+        ensures told { Told mount.now (IsNotRead result into.old into.new)
             (λ t. IsReadOf t path.now offset into.old result into.new) }
         ensures touched { TouchesIfAny
             (OfMountFile (image_of self.new.known.commits) mount.now.number path.now)
             offset self.old.cache result self.new.cache }
+        ensures seated { self.new.seated ≡ self.old.seated }
     {
         let mut cache = self.cache.take();
         let result = self.read_through(&mut cache, mount, path, offset, into);
@@ -442,20 +392,26 @@ impl<J: Volumes> Port<J> {
         len: u64,
     ) -> Result<usize, VolError>
         requires { AreCachedPages self.old.known.commits (Some cache.old) }
+        ensures kept { self.new ≡ seeing self.old self.new.known }
         ensures pages { AreCachedPages self.new.known.commits (Some cache.new) }
         ensures later { IsLater self.old.known self.new.known }
         ensures looked { Looked mount.now self.old.known self.new.known
+            (IsUngiven E.gives self.old.known self.old.seated)
             (result ≡ Err VolError.BadMount) (λ t. IsWarmingOf t path.now result) }
-        ensures told { Told mount.now self.old.known (result ≡ Err VolError.BadMount)
+        ensures told { Told mount.now (result ≡ Err VolError.BadMount)
             (λ t. IsWarmingOf t path.now result) }
         ensures warmed { Warms
             (OfMountFile (image_of self.new.known.commits) mount.now.number path.now)
             offset len cache.old result cache.new }
     {
-        let look = self.look(mount)?;
-        let result = warm_in(look.image(), look.tree(), cache, path, offset, len);
-        self.come_back(look);
-        result
+        match self.look(mount) {
+            Err(refusal) => Err(refusal),
+            Ok(look) => {
+                let result = warm_in(look.image(), look.tree(), cache, path, offset, len);
+                self.come_back(look);
+                result
+            }
+        }
     }
 
     /// Puts the blocks in which bytes of a file lie from an offset on, at most so many bytes, into the cache:
@@ -474,12 +430,14 @@ impl<J: Volumes> Port<J> {
         ensures later { IsLater self.old.known self.new.known }
         ensures nothing { self.old.cache ≡ None → self.new ≡ self.old }
         ensures looked { IsSome self.old.cache → Looked mount.now self.old.known self.new.known
+            (IsUngiven E.gives self.old.known self.old.seated)
             (result ≡ Err VolError.BadMount) (λ t. IsWarmingOf t path.now result) }
-        ensures told { IsSome self.old.cache → Told mount.now self.old.known
+        ensures told { IsSome self.old.cache → Told mount.now
             (result ≡ Err VolError.BadMount) (λ t. IsWarmingOf t path.now result) }
         ensures warmed { WarmsIfAny
             (OfMountFile (image_of self.new.known.commits) mount.now.number path.now)
             offset len self.old.cache result self.new.cache }
+        ensures seated { self.new.seated ≡ self.old.seated }
     {
         let Some(mut cache) = self.cache.take() else {
             return Ok(0);
@@ -501,16 +459,21 @@ impl<J: Volumes> Port<J> {
     ) -> Result<Items<u8>, VolError>
         ensures later { IsLater self.old.known self.new.known }
         ensures looked { Looked mount.now self.old.known self.new.known
+            (IsUngiven E.gives self.old.known self.old.seated)
             (result ≡ Err VolError.BadMount)
             (λ t. IsBytesOf t path.now offset len result) }
-        ensures told { Told mount.now self.old.known (result ≡ Err VolError.BadMount)
+        ensures told { Told mount.now (result ≡ Err VolError.BadMount)
             (λ t. IsBytesOf t path.now offset len result) }
-        ensures cache { self.new.cache ≡ self.old.cache }
+        ensures kept { self.new ≡ seeing self.old self.new.known }
     {
-        let look = self.look(mount)?;
-        let result = bytes_in(alloc, look.image(), look.tree(), path, offset, len);
-        self.come_back(look);
-        result
+        match self.look(mount) {
+            Err(refusal) => Err(refusal),
+            Ok(look) => {
+                let result = bytes_in(alloc, look.image(), look.tree(), path, offset, len);
+                self.come_back(look);
+                result
+            }
+        }
     }
 
     /// What stands at a path of the mount's tree. It takes no memory, and never waits. Refused as `read_into`
@@ -518,16 +481,21 @@ impl<J: Volumes> Port<J> {
     pub fn stat(&mut self, mount: &Mount<J>, path: &[u8]) -> Result<Stat, VolError>
         ensures later { IsLater self.old.known self.new.known }
         ensures looked { Looked mount.now self.old.known self.new.known
+            (IsUngiven E.gives self.old.known self.old.seated)
             (result ≡ Err VolError.BadMount)
             (λ t. IsStatOf t path.now result) }
-        ensures told { Told mount.now self.old.known (result ≡ Err VolError.BadMount)
+        ensures told { Told mount.now (result ≡ Err VolError.BadMount)
             (λ t. IsStatOf t path.now result) }
-        ensures cache { self.new.cache ≡ self.old.cache }
+        ensures kept { self.new ≡ seeing self.old self.new.known }
     {
-        let look = self.look(mount)?;
-        let result = stat_in(look.image(), look.tree(), path);
-        self.come_back(look);
-        result
+        match self.look(mount) {
+            Err(refusal) => Err(refusal),
+            Ok(look) => {
+                let result = stat_in(look.image(), look.tree(), path);
+                self.come_back(look);
+                result
+            }
+        }
     }
 
     /// The names in the directory at a path of the mount's tree. It never waits. Refused as `read_into` is,
@@ -540,15 +508,20 @@ impl<J: Volumes> Port<J> {
     ) -> Result<Items<Named>, VolError>
         ensures later { IsLater self.old.known self.new.known }
         ensures looked { Looked mount.now self.old.known self.new.known
+            (IsUngiven E.gives self.old.known self.old.seated)
             (result ≡ Err VolError.BadMount)
             (λ t. IsListOf t path.now result) }
-        ensures told { Told mount.now self.old.known (result ≡ Err VolError.BadMount)
+        ensures told { Told mount.now (result ≡ Err VolError.BadMount)
             (λ t. IsListOf t path.now result) }
-        ensures cache { self.new.cache ≡ self.old.cache }
+        ensures kept { self.new ≡ seeing self.old self.new.known }
     {
-        let look = self.look(mount)?;
-        let result = list_in(alloc, look.image(), look.tree(), path);
-        self.come_back(look);
-        result
+        match self.look(mount) {
+            Err(refusal) => Err(refusal),
+            Ok(look) => {
+                let result = list_in(alloc, look.image(), look.tree(), path);
+                self.come_back(look);
+                result
+            }
+        }
     }
 }

@@ -1,33 +1,92 @@
 //! A volume that threads share.
-ghost use Rattle.std.specs.Prelude.{◌≡◌, ◌≤◌, ◌+◌, IfErr, IfOk, IsOkUnless, length};
+ghost use Rattle.std.specs.Prelude.{◌≡◌, ◌≢◌, ◌≤◌, ◌+◌, ◌++◌, Err, IfErr, IfOk, IsOkUnless, MatchBool, length, map};
 ghost use Rattle.nl_lanes.specs.Reading.{HasLearned, IsLater};
-ghost use Rattle.nl_mounts.specs.Sharing.{AreCheckpointsCounted, AreSegmentsCounted, IsPenBack, HasCleaned, HasMounted, HasRun, HasUnmounted, IsCopyRead, IsNeededTold, IsRoundPlanned, IsPortCount, IsSegmentTold, IsShareRefused, IsSoundState};
+ghost use Rattle.nl_mounts.specs.Sharing.{AreCheckpointsCounted, AreSegmentsCounted, HasCleaned, HasMounted, HasRun, HasTold, HasUnmounted, IsCopyRead, IsForeignReply, IsKnownTo, IsNeededTold, IsPenBack, IsPortCount, IsRoundPlanned, IsSegmentTold, IsShareRefused, IsShared, MountComes, Tells, UnmountComes};
+ghost use Rattle.nl_mounts.specs.Ports.{Learns, fresh, seeing};
+ghost use Rattle.nl_publish.specs.Locks.{IsNoMountEvent, IsSoundState};
 
 use crate::port::Port;
 use nl_commit::Round;
 use nl_cpfile::Cpstat;
 use nl_protect::Config;
-use nl_publish::{Locked, Mount, NotingPen, Opened, Press, Publisher, Seat, Volumes};
+use nl_publish::{
+    Gone, Locked, Mount, NotingPen, Opened, Press, Publisher, RefusedMount, Seat, Volumes,
+};
 use nl_sufile::Sustat;
 use nl_types::{Ask, CheckpointNumber, Event, Reply, Segment, SegmentInfo, VolError};
 use std::alloc::Global;
+use std::marker::Model;
 use std::sync::{Mutex, Wait};
 
 /// The most ports of a volume.
 const MOST_PORTS: usize = 32;
 
 /// A volume that one pen changes under a lock. Each call takes the lock, does what `Locked` does, and lets it
-/// go: what a contract says of a call is said of some state that stood under the lock then.
+/// go: what a contract says of a call is said of some state that stood under the lock then. Contracts see the
+/// volume's id, which stands beside the lock: ports and mounts are judged by it before the lock is taken.
 pub struct Shared<P: NotingPen, J: Volumes, W: Press = Publisher> {
+    volume: u64,
     locked: Mutex<Locked<P, J, W>>,
 }
 
-/// What lies under a lock is sound. This says so to its callers, and does nothing.
-fn is_sound<P: NotingPen, J: Volumes, W: Press>(locked: &Locked<P, J, W>)
-    ensures { IsSoundState locked.now }
+impl<P: NotingPen, J: Volumes, W: Press> Model for Shared<P, J, W> {
+    ghost use Rattle.std.specs.Prelude.{ℕ};
+
+    ghost Value = { ℕ };
+
+    ghost view = { λ s. s.volume };
+}
+
+/// The reply to an event, and whether the port knows all of the history behind it. It doesn't where a commit waits
+/// to be published.
+#[derive(Drop)]
+pub struct ToldReply {
+    pub reply: Reply,
+    pub is_told: bool,
+}
+
+// ---- what is lent the guard beside a port or a mount
+
+/// Whether a port is of the volume under the lock, and has seen no more than is published. Both are so where it
+/// is of the volume whose id stands beside the lock, but no contract can know it of what lies under a lock.
+fn is_known<P: NotingPen, J: Volumes, W: Press>(locked: &Locked<P, J, W>, port: &Port<J>) -> bool
+    ensures { MatchBool result (IsKnownTo locked.now port.now.known)
+        (IsKnownTo locked.now port.now.known → ⊥) }
 {
-    locked.means_a_world();
-    locked.is_told();
+    if port.volume() != locked.volume() {
+        return false;
+    }
+    locked.told().covers(port.seen())
+}
+
+/// Applies an event, and tells the port of what is published then.
+fn apply_for<P: NotingPen, J: Volumes, W: Press, R: Wait>(
+    rt: &R,
+    locked: &mut Locked<P, J, W>,
+    port: &mut Port<J>,
+    event: &Event,
+) -> ToldReply
+    requires { IsNoMountEvent event.now }
+    ensures sound { IsSoundState locked.old }
+    ensures left { IsSoundState locked.new }
+    ensures tells { Tells locked.old port.old.known event.now result locked.new port.new.known }
+    ensures later { IsLater port.old.known port.new.known }
+    ensures kept { port.new ≡ seeing port.old port.new.known }
+{
+    locked.is_sound();
+    if !is_known(locked, port) {
+        return ToldReply {
+            reply: Err(VolError::Memory),
+            is_told: false,
+        };
+    }
+    let reply = locked.apply(rt, event);
+    locked.is_sound();
+    port.see(locked.told());
+    ToldReply {
+        reply,
+        is_told: locked.is_settled(),
+    }
 }
 
 /// Mounts a checkpoint, and tells the port.
@@ -37,17 +96,18 @@ fn mount_for<P: NotingPen, J: Volumes, W: Press, R: Wait>(
     port: &mut Port<J>,
     checkpoint: CheckpointNumber,
 ) -> Result<Mount<J>, VolError>
-    ensures mounted { HasMounted port.old.known checkpoint result }
+    ensures sound { IsSoundState locked.old }
+    ensures comes { MountComes locked.old port.old.known checkpoint result locked.new }
     ensures checkpoint { IfOk result (λ m. m.checkpoint ≡ checkpoint) }
-    ensures volume { IfOk result (λ m. m.told.volume ≡ port.old.known.volume) }
+    ensures ahead { IfOk result (λ m. IsLater port.old.known m.told) }
     ensures told { IfOk result (λ m. HasLearned m port.new.known) }
     ensures later { IsLater port.old.known port.new.known }
-    ensures cache { port.new.cache ≡ port.old.cache }
+    ensures learns { IfOk result (λ m. Learns m port.old port.new) }
     ensures same { IfErr result (λ _. port.new ≡ port.old) }
 {
-    is_sound(locked);
-    if port.volume() != locked.volume() {
-        return Err(VolError::BadMount);
+    locked.is_sound();
+    if !is_known(locked, port) {
+        return Err(VolError::Memory);
     }
     match locked.mount(rt, checkpoint) {
         Err(refusal) => Err(refusal),
@@ -58,33 +118,25 @@ fn mount_for<P: NotingPen, J: Volumes, W: Press, R: Wait>(
     }
 }
 
-/// Gives a mount back, where it is of this volume.
+/// Gives a mount back. It is of the volume under the lock where it is of the one whose id stands beside it,
+/// which no contract can know.
 fn unmount_of<P: NotingPen, J: Volumes, W: Press, R: Wait>(
     rt: &R,
     locked: &mut Locked<P, J, W>,
     mount: Mount<J>,
-) -> Result<(), (VolError, Mount<J>)>
-    ensures unmounted { HasUnmounted mount result }
+) -> Result<(), (VolError, RefusedMount<J>)>
+    ensures sound { IsSoundState locked.old }
+    ensures comes { UnmountComes locked.old mount result locked.new }
     ensures same { IfErr result (λ r. r.1 ≡ mount) }
 {
-    is_sound(locked);
-    if mount.volume() != locked.volume() {
-        return Err((VolError::BadMount, mount));
+    locked.is_sound();
+    match mount.of_volume(locked.volume()) {
+        Err(refused) => Err((VolError::Memory, refused)),
+        Ok(mount) => locked.unmount(rt, mount),
     }
-    locked.unmount(rt, mount)
 }
 
-/// Applies an event.
-fn apply_to<P: NotingPen, J: Volumes, W: Press, R: Wait>(
-    rt: &R,
-    locked: &mut Locked<P, J, W>,
-    event: &Event,
-) -> Reply
-    ensures { HasRun event.now result }
-{
-    is_sound(locked);
-    locked.apply(rt, event)
-}
+// ---- events and mounts
 
 impl<P: NotingPen, J: Volumes, W: Press> Shared<P, J, W> {
     /// Applies an event that is no mount and no unmount, which have calls of their own. It stands where its
@@ -93,12 +145,38 @@ impl<P: NotingPen, J: Volumes, W: Press> Shared<P, J, W> {
     /// # Errors
     /// Those of the event, and `Memory`.
     pub fn apply<R: Wait>(&self, rt: &R, event: &Event) -> Reply
+        requires { IsNoMountEvent event.now }
         ensures { HasRun event.now result }
     {
-        apply_to(rt, &mut self.locked.lock(rt), event)
+        let mut locked = self.locked.lock(rt);
+        locked.is_sound();
+        locked.apply(rt, event)
     }
 
-    /// Mounts a checkpoint, and tells the port. Other ports are told by `Port::learn`.
+    /// Applies an event as `apply` does, and tells the port of the history behind it, where all of that is
+    /// published: a mount that the port asks for then is told of it too. So what one thread does goes in order.
+    ///
+    /// # Errors
+    /// `BadMount` where the port is another volume's, before all else; those of `apply`.
+    pub fn apply_told<R: Wait>(&self, rt: &R, port: &mut Port<J>, event: &Event) -> ToldReply
+        requires { IsNoMountEvent event.now }
+        ensures foreign { port.old.known.volume ≢ self.now → IsForeignReply result }
+        ensures ran { port.old.known.volume ≡ self.now
+            → HasTold port.old.known event.now result port.new.known }
+        ensures later { IsLater port.old.known port.new.known }
+        ensures kept { port.new ≡ seeing port.old port.new.known }
+    {
+        if port.volume() != self.volume {
+            return ToldReply {
+                reply: Err(VolError::BadMount),
+                is_told: false,
+            };
+        }
+        apply_for(rt, &mut self.locked.lock(rt), port, event)
+    }
+
+    /// Mounts a checkpoint, and tells the port. The mount is told of all that the port had seen. Other ports are
+    /// told by `Port::learn`.
     ///
     /// # Errors
     /// `BadMount` where the port is another volume's, before all else; those of a mount; `Memory`, also while
@@ -109,14 +187,19 @@ impl<P: NotingPen, J: Volumes, W: Press> Shared<P, J, W> {
         port: &mut Port<J>,
         checkpoint: CheckpointNumber,
     ) -> Result<Mount<J>, VolError>
-        ensures mounted { HasMounted port.old.known checkpoint result }
+        ensures foreign { port.old.known.volume ≢ self.now → result ≡ Err VolError.BadMount }
+        ensures mounted { port.old.known.volume ≡ self.now
+            → HasMounted port.old.known checkpoint result }
         ensures checkpoint { IfOk result (λ m. m.checkpoint ≡ checkpoint) }
-        ensures volume { IfOk result (λ m. m.told.volume ≡ port.old.known.volume) }
+        ensures ahead { IfOk result (λ m. IsLater port.old.known m.told) }
         ensures told { IfOk result (λ m. HasLearned m port.new.known) }
         ensures later { IsLater port.old.known port.new.known }
-        ensures cache { port.new.cache ≡ port.old.cache }
+        ensures learns { IfOk result (λ m. Learns m port.old port.new) }
         ensures same { IfErr result (λ _. port.new ≡ port.old) }
     {
+        if port.volume() != self.volume {
+            return Err(VolError::BadMount);
+        }
         mount_for(rt, &mut self.locked.lock(rt), port, checkpoint)
     }
 
@@ -124,84 +207,23 @@ impl<P: NotingPen, J: Volumes, W: Press> Shared<P, J, W> {
     ///
     /// # Errors
     /// `BadMount` where the mount is another volume's, before all else; `Memory`.
-    pub fn unmount<R: Wait>(&self, rt: &R, mount: Mount<J>) -> Result<(), (VolError, Mount<J>)>
-        ensures unmounted { HasUnmounted mount result }
+    pub fn unmount<R: Wait>(
+        &self,
+        rt: &R,
+        mount: Mount<J>,
+    ) -> Result<(), (VolError, RefusedMount<J>)>
+        ensures foreign { mount.told.volume ≢ self.now → result ≡ Err (VolError.BadMount, mount) }
+        ensures unmounted { mount.told.volume ≡ self.now → HasUnmounted mount result }
         ensures same { IfErr result (λ r. r.1 ≡ mount) }
     {
-        unmount_of(rt, &mut self.locked.lock(rt), mount)
+        match mount.of_volume(self.volume) {
+            Err(refused) => Err((VolError::BadMount, refused)),
+            Ok(mount) => unmount_of(rt, &mut self.locked.lock(rt), mount),
+        }
     }
 }
 
 // ---- rounds of cleaning, and what is told
-
-fn clean_in<P: NotingPen, G: Round<P>, J: Volumes, W: Press, R: Wait>(
-    rt: &R,
-    locked: &mut Locked<P, J, W>,
-    round: &mut G,
-) -> Option<Reply>
-    ensures { HasCleaned G.habits round.old result round.new }
-{
-    is_sound(locked);
-    locked.clean_step(rt, round)
-}
-
-fn planned_in<P: NotingPen, G: Round<P>, J: Volumes, W: Press>(
-    locked: &Locked<P, J, W>,
-    alloc: Global,
-    config: &Config,
-    now: u64,
-) -> Result<G, VolError>
-    ensures planned { IfOk result (IsRoundPlanned G.habits config.now now) }
-    ensures refused { IsOkUnless result VolError.Memory }
-{
-    is_sound(locked);
-    locked.plan(alloc, config, now)
-}
-
-fn segment_in<P: NotingPen, J: Volumes, W: Press>(
-    locked: &Locked<P, J, W>,
-    segment: Segment,
-) -> Result<SegmentInfo, VolError>
-    ensures { IsSegmentTold segment result }
-{
-    is_sound(locked);
-    locked.suinfo(segment)
-}
-
-fn needed_in<P: NotingPen, J: Volumes, W: Press>(
-    locked: &Locked<P, J, W>,
-    segment: Segment,
-) -> Result<u32, VolError>
-    ensures { IsNeededTold segment result }
-{
-    is_sound(locked);
-    locked.needed(segment)
-}
-
-fn segments_in<P: NotingPen, J: Volumes, W: Press>(locked: &Locked<P, J, W>) -> Sustat
-    ensures { AreSegmentsCounted result }
-{
-    is_sound(locked);
-    locked.sustat()
-}
-
-fn checkpoints_in<P: NotingPen, J: Volumes, W: Press>(locked: &Locked<P, J, W>) -> Cpstat
-    ensures { AreCheckpointsCounted result }
-{
-    is_sound(locked);
-    locked.cpstat()
-}
-
-fn copy_in<P: NotingPen, J: Volumes, W: Press>(
-    locked: &Locked<P, J, W>,
-    number: CheckpointNumber,
-    ask: &Ask,
-) -> Reply
-    ensures { IsCopyRead number ask.now result }
-{
-    is_sound(locked);
-    locked.read_at(number, ask)
-}
 
 impl<P: NotingPen, J: Volumes, W: Press> Shared<P, J, W> {
     /// Does the next event of a round of cleaning, and notes the reply in the round; None where the round is
@@ -209,7 +231,9 @@ impl<P: NotingPen, J: Volumes, W: Press> Shared<P, J, W> {
     pub fn clean_step<G: Round<P>, R: Wait>(&self, rt: &R, round: &mut G) -> Option<Reply>
         ensures { HasCleaned G.habits round.old result round.new }
     {
-        clean_in(rt, &mut self.locked.lock(rt), round)
+        let mut locked = self.locked.lock(rt);
+        locked.is_sound();
+        locked.clean_step(rt, round)
     }
 
     /// The round of cleaning that a configuration asks for at a moment, in whole seconds. It only looks.
@@ -226,7 +250,9 @@ impl<P: NotingPen, J: Volumes, W: Press> Shared<P, J, W> {
         ensures planned { IfOk result (IsRoundPlanned G.habits config.now now) }
         ensures refused { IsOkUnless result VolError.Memory }
     {
-        planned_in(&self.locked.lock(rt), alloc, config, now)
+        let locked = self.locked.lock(rt);
+        locked.is_sound();
+        locked.plan(alloc, config, now)
     }
 
     /// What is known of a segment. It takes no memory.
@@ -236,7 +262,9 @@ impl<P: NotingPen, J: Volumes, W: Press> Shared<P, J, W> {
     pub fn suinfo<R: Wait>(&self, rt: &R, segment: Segment) -> Result<SegmentInfo, VolError>
         ensures { IsSegmentTold segment result }
     {
-        segment_in(&self.locked.lock(rt), segment)
+        let locked = self.locked.lock(rt);
+        locked.is_sound();
+        locked.suinfo(segment)
     }
 
     /// How many needed blocks a segment has. It takes no memory.
@@ -246,21 +274,27 @@ impl<P: NotingPen, J: Volumes, W: Press> Shared<P, J, W> {
     pub fn needed<R: Wait>(&self, rt: &R, segment: Segment) -> Result<u32, VolError>
         ensures { IsNeededTold segment result }
     {
-        needed_in(&self.locked.lock(rt), segment)
+        let locked = self.locked.lock(rt);
+        locked.is_sound();
+        locked.needed(segment)
     }
 
     /// How many segments there are, and of them how many are clean, and how many dirty. It takes no memory.
     pub fn sustat<R: Wait>(&self, rt: &R) -> Sustat
         ensures { AreSegmentsCounted result }
     {
-        segments_in(&self.locked.lock(rt))
+        let locked = self.locked.lock(rt);
+        locked.is_sound();
+        locked.sustat()
     }
 
     /// How many checkpoints and snapshots are kept, and the latest one's number. It takes no memory.
     pub fn cpstat<R: Wait>(&self, rt: &R) -> Cpstat
         ensures { AreCheckpointsCounted result }
     {
-        checkpoints_in(&self.locked.lock(rt))
+        let locked = self.locked.lock(rt);
+        locked.is_sound();
+        locked.cpstat()
     }
 
     /// What the tree of a kept checkpoint answers, without a mount: of a plain one too, and of a minor one.
@@ -271,7 +305,9 @@ impl<P: NotingPen, J: Volumes, W: Press> Shared<P, J, W> {
     pub fn read_at<R: Wait>(&self, rt: &R, number: CheckpointNumber, ask: &Ask) -> Reply
         ensures { IsCopyRead number ask.now result }
     {
-        copy_in(&self.locked.lock(rt), number, ask)
+        let locked = self.locked.lock(rt);
+        locked.is_sound();
+        locked.read_at(number, ask)
     }
 }
 
@@ -280,7 +316,7 @@ impl<P: NotingPen, J: Volumes, W: Press> Shared<P, J, W> {
 /// A port for each seat, in a list that has room for all.
 pub fn seat_all<J: Volumes>(ports: &mut Vec<Port<J>>, seats: Vec<Seat<J>>)
     requires { length ports.old.items + length seats.items ≤ ports.old.cap }
-    ensures { length ports.new.items ≡ length ports.old.items + length seats.items }
+    ensures { ports.new.items ≡ ports.old.items ++ map (λ s. fresh s.front) seats.items }
 {
     for seat in seats {
         if ports.push(Port::new(seat)).is_err() {
@@ -289,7 +325,8 @@ pub fn seat_all<J: Volumes>(ports: &mut Vec<Port<J>>, seats: Vec<Seat<J>>)
     }
 }
 
-/// Shares a volume among so many ports. `opened` has its id, and an empty history.
+/// Shares a volume among so many ports, each of which has seen its first commit. `opened` has its id, and an
+/// empty history.
 ///
 /// # Errors
 /// `BadRange` for no port or more than 32, `Memory`; then the pen comes back.
@@ -301,7 +338,8 @@ pub fn share<P: NotingPen, J: Volumes, R: Wait>(
     opened: Opened,
 ) -> Result<(Shared<P, J>, Vec<Port<J>>), (VolError, P)>
     requires id { opened.seen.book ≡ J.book opened.id }
-    ensures ports { IfOk result (λ made. IsPortCount ports × (length made.1.items ≡ ports)) }
+    ensures count { IfOk result (λ made. IsPortCount ports × (length made.1.items ≡ ports)) }
+    ensures shared { IfOk result (λ made. IsShared opened.id (P.layout pen) made.0 made.1.items) }
     ensures refused { IfErr result (λ e. IsShareRefused ports e.0) }
     ensures pen { IfErr result (λ e. P.layout e.1 ≡ P.layout pen) }
 {
@@ -315,39 +353,44 @@ pub fn share<P: NotingPen, J: Volumes, R: Wait>(
         Err(refused) => return Err(refused),
         Ok(made) => made,
     };
+    locked.is_sound();
     seat_all(&mut list, seats);
     Ok((
         Shared {
+            volume: locked.volume(),
             locked: Mutex::new(locked),
         },
         list,
     ))
 }
 
-/// Takes mounts whose volume ends.
-pub fn spend_all<J: Volumes>(mut mounts: Vec<Mount<J>>) {
+/// Lets go of mounts whose volume has ended.
+pub fn spend_all<J: Volumes>(mut mounts: Vec<Mount<J>>, gone: &Gone) {
     while let Some(mount) = mounts.pop() {
-        mount.spend();
+        mount.spend(gone);
     }
     mounts.destroy_empty();
 }
 
-/// The pen of a volume that ends, without its mounts.
-fn pen_of<P: NotingPen, J: Volumes, R: Wait>(rt: &R, locked: Locked<P, J, Publisher>) -> P
-    ensures { IsPenBack (P.layout result) }
-{
-    is_sound(&locked);
-    locked.end(rt)
-}
-
 impl<P: NotingPen, J: Volumes> Shared<P, J> {
+    /// Takes all mounts out, and gives the pen back. Who holds a mount elsewhere lets go of it by what comes with
+    /// the pen. Ports find nothing from now on. It takes no memory.
+    pub fn end_for_holders<R: Wait>(self, rt: &R) -> (P, Gone)
+        ensures { IsPenBack (P.layout result.0) }
+    {
+        let Shared { volume: _, locked } = self;
+        let locked = locked.into_inner();
+        locked.is_sound();
+        locked.end(rt)
+    }
+
     /// Takes all mounts out, those that are handed in among them, and gives the pen back. Ports find nothing
     /// from now on. It takes no memory.
     pub fn end<R: Wait>(self, rt: &R, mounts: Vec<Mount<J>>) -> P
         ensures { IsPenBack (P.layout result) }
     {
-        spend_all(mounts);
-        let Shared { locked } = self;
-        pen_of(rt, locked.into_inner())
+        let (pen, gone) = self.end_for_holders(rt);
+        spend_all(mounts, &gone);
+        pen
     }
 }

@@ -1,5 +1,6 @@
 //! A backup of a snapshot, taken by a port on a thread of its own while the writer goes on.
-ghost use Rattle.std.specs.Prelude.{◌≡◌};
+ghost use Rattle.std.specs.Prelude.{◌≡◌, IfOk};
+ghost use Rattle.nl_publish.specs.Locks.{IsNoMountEvent};
 
 use nl_core::Pen;
 use nl_device::MemDevice;
@@ -29,7 +30,9 @@ fn pen_with_notes(alloc: Global) -> Result<Pen<MemDevice>, VolError> {
 }
 
 /// A text for the file.
-fn writing(alloc: Global, text: &[u8]) -> Result<Event, VolError> {
+fn writing(alloc: Global, text: &[u8]) -> Result<Event, VolError>
+    ensures { IfOk result IsNoMountEvent }
+{
     let path = Items::from_slice(alloc, b"/notes")?;
     let bytes = Items::from_slice(alloc, text)?;
     Ok(Event::Apply(Change::Write {
@@ -110,11 +113,11 @@ fn back_up_beside<J: Volumes + Send + Sync, R: Threads + Wait + Sync>(
     written.and(files)
 }
 
-/// Gives a mount back. Refused, it comes back: then the end of the volume takes it out.
+/// Gives a mount back. Refused, it is let go of: the end of the volume takes it out.
 fn give_back<J: Volumes, R: Wait>(rt: &R, volume: &Volume<J>, mount: Mount<J>) {
     match volume.unmount(rt, mount) {
         Ok(()) => {}
-        Err((_refusal, mount)) => mount.spend(),
+        Err((_refusal, refused)) => refused.spend(),
     }
 }
 

@@ -303,7 +303,7 @@ fn beside_a_writer<J: Volumes + Send + Sync, R: Threads + Wait + Sync>(
 {
     let (shared, ports) = shared_among::<J, _>(rt, alloc, 4, opened)?;
     let good = stands_still_on(rt, alloc, &shared, ports);
-    let ended = ends(rt, alloc, shared);
+    let ended = ends(rt, shared);
     good.map(|good| good && ended)
 }
 

@@ -1,9 +1,9 @@
 //! Volumes that know no mounts of one another, and numbers of ports that no volume has.
 ghost use Rattle.std.specs.Prelude.{◌≡◌};
 
-use crate::ports::{has_stat, learns};
+use crate::ports::{all_hold, has_stat, learns, stands_as};
 use crate::volume::{Volume, ends, mounts, new_pen, shared_among, unmounts};
-use nl_mounts::{Port, share};
+use nl_mounts::{Port, Standing, share};
 use nl_publish::{Mount, Opened, Volumes};
 use nl_types::{Stat, VolError};
 use std::alloc::Global;
@@ -16,7 +16,7 @@ fn refuses_port<J: Volumes, R: Wait>(rt: &R, other: &Volume<J>, port: &mut Port<
     match mounts(rt, other, port, 2) {
         Err(refusal) => refusal == VolError::BadMount,
         Ok(mount) => {
-            mount.spend();
+            let _given_back = unmounts(rt, other, mount);
             false
         }
     }
@@ -31,8 +31,8 @@ fn refuses_mount<J: Volumes, R: Wait>(
 ) -> Result<bool, VolError> {
     match other.unmount(rt, mount) {
         Ok(()) => Ok(false),
-        Err((refusal, mount)) => {
-            unmounts(rt, one, mount)?;
+        Err((refusal, refused)) => {
+            unmounts(rt, one, refused.again())?;
             Ok(refusal == VolError::BadMount)
         }
     }
@@ -43,7 +43,9 @@ fn is_unread<J: Volumes>(port: &mut Port<J>, others: &mut Port<J>, mount: &Mount
     learns(others, mount);
     let unread = has_stat(others, mount, b"/one", Err(VolError::BadMount));
     let read = has_stat(port, mount, b"/one", Ok(Stat::File(1)));
-    unread && read
+    let stands = stands_as(port, mount, Standing::Mounted);
+    let is_foreign = stands_as(others, mount, Standing::Foreign);
+    all_hold(&[unread, read, stands, is_foreign])
 }
 
 /// Whether a mount of one volume is refused by another one and its port.
@@ -65,6 +67,56 @@ fn is_foreign<J: Volumes, R: Wait>(
     }
 }
 
+/// Whether a volume refuses another one's mount beside a mount of its own with the same number, and goes on to
+/// show its own.
+fn keeps_own<J: Volumes, R: Wait>(
+    rt: &R,
+    one: &Volume<J>,
+    mount: Mount<J>,
+    other: &Volume<J>,
+    others: &mut Port<J>,
+    own: Mount<J>,
+) -> Result<bool, VolError> {
+    let has_its_number = mount.number() == own.number();
+    let refused = refuses_mount(rt, one, other, mount);
+    let read = has_stat(others, &own, b"/one", Ok(Stat::File(1)));
+    unmounts(rt, other, own)?;
+    Ok(refused? && has_its_number && read)
+}
+
+/// Whether a mount of one volume, handed to another one, leaves that one's own mount of the same number.
+fn leaves_own<J: Volumes, R: Wait>(
+    rt: &R,
+    one: &Volume<J>,
+    port: &mut Port<J>,
+    other: &Volume<J>,
+    others: &mut Port<J>,
+) -> Result<bool, VolError> {
+    let mount = match mounts(rt, one, port, 2) {
+        Err(refusal) => return Err(refusal),
+        Ok(mount) => mount,
+    };
+    match mounts(rt, other, others, 2) {
+        Err(refusal) => {
+            unmounts(rt, one, mount)?;
+            Err(refusal)
+        }
+        Ok(own) => keeps_own(rt, one, mount, other, others, own),
+    }
+}
+
+/// Whether two volumes know no mounts of one another, whether one of them has mounts or both.
+fn keep_apart<J: Volumes, R: Wait>(
+    rt: &R,
+    one: &Volume<J>,
+    port: &mut Port<J>,
+    other: &Volume<J>,
+    others: &mut Port<J>,
+) -> Result<bool, VolError> {
+    // Neither has given a number yet, so their first mounts have the same one.
+    Ok(leaves_own(rt, one, port, other, others)? && is_foreign(rt, one, port, other, others)?)
+}
+
 fn are_foreign_with<J: Volumes, R: Wait>(
     rt: &R,
     alloc: Global,
@@ -76,10 +128,10 @@ fn are_foreign_with<J: Volumes, R: Wait>(
 {
     let (other, mut others) = shared_among::<J, _>(rt, alloc, 1, opened)?;
     let good = match others.first_mut() {
-        Some(others) => is_foreign(rt, one, port, &other, others),
+        Some(others) => keep_apart(rt, one, port, &other, others),
         None => Ok(false),
     };
-    let ended = ends(rt, alloc, other);
+    let ended = ends(rt, other);
     good.map(|good| good && ended)
 }
 
@@ -97,7 +149,7 @@ fn are_foreign<J: Volumes, R: Wait>(
         Some(port) => are_foreign_with(rt, alloc, &one, port, second),
         None => Ok(false),
     };
-    let ended = ends(rt, alloc, one);
+    let ended = ends(rt, one);
     good.map(|good| good && ended)
 }
 
@@ -112,7 +164,7 @@ fn refusal_of<J: Volumes, R: Wait>(
 {
     match share::<_, J, _>(alloc, rt, new_pen(alloc)?, ports, opened) {
         Ok((shared, _ports)) => {
-            ends(rt, alloc, shared);
+            ends(rt, shared);
             Ok(None)
         }
         Err((refusal, pen)) => Ok(Some((refusal, pen.cpstat().latest.get()))),

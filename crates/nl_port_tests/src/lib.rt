@@ -10,8 +10,12 @@ mod beside_a_writer;
 #[cfg(test)]
 mod foreign;
 #[cfg(test)]
+mod gates;
+#[cfg(test)]
 mod many_reads;
 #[cfg(test)]
 mod ports;
+#[cfg(test)]
+mod seats;
 #[cfg(test)]
 mod volume;

@@ -1,10 +1,10 @@
 //! Many reads at once, each port on a thread of its own.
 ghost use Rattle.std.specs.Prelude.{◌≡◌};
 
-use crate::ports::{all_hold, has_stat, reads};
-use crate::volume::{Volume, applies, ends, mounts, shared_among};
-use nl_mounts::{Gate, JobAnswer, Port, ReadJob, read_many};
-use nl_publish::{Mount, Opened, Volumes};
+use crate::ports::{all_hold, has_stat, reads, stands_as};
+use crate::volume::{Volume, applies, ends_with, mounts, shared_among};
+use nl_mounts::{Gate, JobAnswer, Port, ReadJob, Standing, read_many};
+use nl_publish::{Gone, Mount, Opened, Volumes};
 use nl_types::{Answer, Event, Items, Reply, Segment, VolError};
 use std::alloc::Global;
 use std::marker::Brand;
@@ -264,6 +264,7 @@ fn finds_nothing<J: Volumes>(alloc: Global, port: &mut Port<J>, mount: &Mount<J>
         has_stat(port, mount, b"/one", Err(VolError::BadMount)),
         lists_nothing(alloc, port, mount),
         gives_nothing(alloc, port, mount),
+        stands_as(port, mount, Standing::Ended),
     ])
 }
 
@@ -296,9 +297,14 @@ fn all_find_nothing<J: Volumes>(alloc: Global, ports: &mut [Port<J>], mount: &Mo
 }
 
 /// Whether the ports find nothing through a mount whose volume has ended.
-fn spent_unseen<J: Volumes>(alloc: Global, ports: &mut [Port<J>], mount: Mount<J>) -> bool {
+fn spent_unseen<J: Volumes>(
+    alloc: Global,
+    ports: &mut [Port<J>],
+    mount: Mount<J>,
+    gone: &Gone,
+) -> bool {
     let nothing = all_find_nothing(alloc, ports, &mount);
-    mount.spend();
+    mount.spend(gone);
     nothing
 }
 
@@ -311,11 +317,11 @@ fn many_reads<J: Volumes + Send + Sync, R: Threads + Wait + Sync>(
 {
     let (shared, mut ports) = shared_among::<J, _>(rt, alloc, 3, opened)?;
     let came = read_all_at_once(rt, alloc, &shared, ports.as_mut_slice());
-    let ended = ends(rt, alloc, shared);
+    let (ended, gone) = ends_with(rt, shared);
     match came {
         Err(refusal) => Err(refusal),
         Ok((good, mount)) => {
-            let nothing = spent_unseen(alloc, ports.as_mut_slice(), mount);
+            let nothing = spent_unseen(alloc, ports.as_mut_slice(), mount, &gone);
             Ok(good && nothing && ended)
         }
     }

@@ -1,6 +1,6 @@
 //! Calls of a port, each with what is due. They promise nothing, as those of `volume`.
 
-use nl_mounts::Port;
+use nl_mounts::{Port, Standing};
 use nl_publish::{Mount, Volumes};
 use nl_types::{Stat, VolError};
 use std::alloc::Global;
@@ -51,6 +51,10 @@ pub(crate) fn has_stat<J: Volumes>(
     due: Result<Stat, VolError>,
 ) -> bool {
     port.stat(mount, path) == due
+}
+
+pub(crate) fn stands_as<J: Volumes>(port: &mut Port<J>, mount: &Mount<J>, due: Standing) -> bool {
+    port.standing(mount) == due
 }
 
 pub(crate) fn all_hold(answers: &[bool]) -> bool {

@@ -5,9 +5,9 @@ ghost use Rattle.std.specs.Prelude.{◌≡◌};
 use nl_cleaner::Job;
 use nl_core::Pen;
 use nl_device::MemDevice;
-use nl_mounts::{Port, Shared, share};
+use nl_mounts::{Port, Shared, is_mount_event, share};
 use nl_protect::Config;
-use nl_publish::{Mount, Opened, Volumes};
+use nl_publish::{Gone, Mount, Opened, Volumes};
 use nl_types::{Answer, Change, CheckpointNumber, Event, Geometry, Items, Mode, Reply, VolError};
 use std::alloc::Global;
 use std::sync::Wait;
@@ -156,6 +156,9 @@ pub(crate) fn applies<J: Volumes, R: Wait>(
     shared: &Volume<J>,
     event: &Event,
 ) -> Result<(), VolError> {
+    if is_mount_event(event) {
+        return Err(VolError::BadMount);
+    }
     outcome(&shared.apply(rt, event))
 }
 
@@ -200,8 +203,8 @@ pub(crate) fn unmounts<J: Volumes, R: Wait>(
 ) -> Result<(), VolError> {
     match shared.unmount(rt, mount) {
         Ok(()) => Ok(()),
-        Err((refusal, mount)) => {
-            mount.spend();
+        Err((refusal, refused)) => {
+            refused.spend();
             Err(refusal)
         }
     }
@@ -234,7 +237,13 @@ pub(crate) fn cleans<J: Volumes, R: Wait>(
 }
 
 /// Ends a volume, and says whether its pen has no mounts.
-pub(crate) fn ends<J: Volumes, R: Wait>(rt: &R, alloc: Global, shared: Volume<J>) -> bool {
-    let pen = shared.end(rt, Vec::new(alloc));
-    pen.mount_count() == 0
+pub(crate) fn ends_with<J: Volumes, R: Wait>(rt: &R, shared: Volume<J>) -> (bool, Gone) {
+    let (pen, gone) = shared.end_for_holders(rt);
+    (pen.mount_count() == 0, gone)
+}
+
+/// Ends a volume that has no mount, and says whether its pen has none.
+pub(crate) fn ends<J: Volumes, R: Wait>(rt: &R, shared: Volume<J>) -> bool {
+    let (ended, _gone) = ends_with(rt, shared);
+    ended
 }

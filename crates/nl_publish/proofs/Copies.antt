@@ -1,19 +1,20 @@
 -- The copy that a mount names.
-use Rattle.std.proofs.Common.{◌≡◌, ℕ, List, [], ◌∷◌, ◌++◌, Some, ap, sym, ◌∙◌, subst}
+use Rattle.std.proofs.Common.{◌≡◌, ℕ, List, [], ◌∷◌, ◌++◌, Option, None, Some, ap, refl, sym, ◌∙◌, subst}
 use Rattle.nl_types.specs.Roots.{Pages}
-use Rattle.nl_types.specs.Worlds.{World}
-use Rattle.nl_cpfile.specs.Tables.{checkpoint_root}
+use Rattle.nl_types.specs.Worlds.{Copy, World, copy_at}
+use Rattle.nl_cpfile.specs.Tables.{kept_at, checkpoint_root}
+use Rattle.nl_cpfile.specs.declared.checkpoint.Checkpoint.{Checkpoint}
 use Rattle.nl_commit.specs.Commits.{IsHistory, IsImage, image_of}
 use Rattle.nl_commit.specs.Layout.{MeansWorld, layout_pages}
 use Rattle.nl_commit.specs.Means.{RootMeans}
 use Rattle.nl_commit.specs.Notes.{shown_of}
-use Rattle.nl_commit.specs.Shown.{Shown, mounted_on}
+use Rattle.nl_commit.specs.Shown.{Shown, mounted_on, pages_shown}
 use Rattle.nl_commit.specs.declared.commit.Commit.{Commit}
 use Rattle.nl_commit.specs.declared.commit.Commit.TheVariants as commit
 use Rattle.nl_commit.specs.Facts.Events.{copy_of}
 use Rattle.nl_commit.specs.Facts.ShownNumbers.{pages-shown}
 use Rattle.nl_publish.specs.Locks.{HeldPen, IsTold}
-use Rattle.nl_publish.specs.Told.{ShowsCopy}
+use Rattle.nl_publish.specs.Told.{PublishedWorldsAreShown, ShowsCopy, TreeOn}
 use Rattle.nl_publish.proofs.Running.{HasMounted}
 use Rattle.nl_publish.specs.Facts.Staying.{found_pushed, history_image, new_mount}
 
@@ -57,3 +58,27 @@ shows_copy h m k w told mounted means =
     subst (λ (x : Shown). ShowsCopy x k w) (sym at)
     (copy_shown h k w means m (subst IsImage at (history_image h.published history))
     (subst (λ (x : Shown). mounted_on x m ≡ Some k) at found))
+
+-- where all is published, each copy of a world that the pen means is shown
+module _ (h : HeldPen) (w : World) (n : ℕ) (copy : Copy) (means : MeansWorld h.layout w)
+    (is : copy_at w n ≡ Some copy) where
+  shown_at : (o : Option Checkpoint) → kept_at n (shown_of h.layout).table ≡ o
+      → TreeOn (shown_of h.layout) n copy.tree
+  shown_at None none =
+      absurd (cc (is, copy_of (layout_pages h.layout) h.layout.lists w n None means none))
+  shown_at (Some c) kept =
+      let found = copy_of (layout_pages h.layout) h.layout.lists w n (Some c) means kept in
+      let same : found.0 ≡ copy = (let at = found.1 in cc (is, at)) in
+      record {
+        checkpoint = c;
+        kept = kept;
+        means =
+            subst (λ (k : Copy). RootMeans (pages_shown (shown_of h.layout)) (checkpoint_root c) k.tree) same
+            (subst (λ (pages : Pages). RootMeans pages (checkpoint_root c) found.0.tree)
+            (sym (pages-shown h.layout)) found.2.tree);
+      }
+
+pub published_worlds_are_shown : PublishedWorldsAreShown
+published_worlds_are_shown h w told all means n copy is =
+    subst (λ (x : Shown). TreeOn x n copy.tree) (told.shown ∙ ap image_of (sym all))
+    (shown_at h w n copy means is (kept_at n (shown_of h.layout).table) refl)

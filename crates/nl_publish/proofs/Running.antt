@@ -156,13 +156,13 @@ pub unmounted : (a b : HeldPen) (m : ℕ) (reply : Reply) (r : Result (Unit {0})
 unmounted a b m reply (Ok u) goes is = (is.0, subst (λ (q : Reply). GoesBy a (Unmount m) q b) is.1 goes)
 unmounted a b m reply (Err e) goes is = subst (λ (q : Reply). GoesBy a (Unmount m) q b) is goes
 
-pub ran_unmount : (a b c d : HeldPen) (m : ℕ) (r : Result (Unit {0}) VolError) → IsReady a b
-    → MatchResult r (λ _. (x : Answer) × GoesBy b (Unmount m) (Ok x) c) (λ e. GoesBy b (Unmount m) (Err e) c)
-    → Keeps c d
-    → MatchResult r (λ _. (x : Answer) × Ran a (Unmount m) (Ok x) d) (λ e. Ran a (Unmount m) (Err e) d)
-ran_unmount a b c d m (Ok u) begun here more =
-    (here.0, ran a b c d (Unmount m) (Ok here.0) begun here.1 more)
-ran_unmount a b c d m (Err e) begun here more = ran a b c d (Unmount m) (Err e) begun here more
+-- an unmount ran, and its answer is dropped
+pub ran_unmounted : (a b : HeldPen) (m : ℕ) (reply : Reply) (r : Result (Unit {0}) VolError)
+    → Ran a (Unmount m) reply b
+    → MatchResult r (λ _. (x : Answer) × (reply ≡ Ok x)) (λ e. reply ≡ Err e)
+    → MatchResult r (λ _. (x : Answer) × Ran a (Unmount m) (Ok x) b) (λ e. Ran a (Unmount m) (Err e) b)
+ran_unmounted a b m reply (Ok u) ran is = (is.0, subst (λ (q : Reply). Ran a (Unmount m) q b) is.1 ran)
+ran_unmounted a b m reply (Err e) ran is = subst (λ (q : Reply). Ran a (Unmount m) q b) is ran
 
 -- ---- mounts
 
@@ -190,7 +190,7 @@ mount_done a c d k all n (Ok m) f here end =
     (ap (λ (x : ℕ). Ok x) end.0) end.2 end.3
 mount_done a c d k all n (Err e) f here end =
     Lost c n all (goes_still c d f (Mount k ∷ []) (mount_reply n ∷ []) here.0 end.1)
-    (ap (λ (x : VolError). Err x) end.0) end.2
+    (ap (λ (x : VolError). Err x) end.0) end.2 end.3
 
 -- a mount's step adds the commit of the mount that it answers
 mount_noted : (a b : State) (k m : ℕ) → NotedStep a (Mount k) (mount_reply m) b
@@ -217,7 +217,7 @@ has_mounted a b k n r is (Mounted clear m begun goes reply all none) =
             same),
       );
     }
-has_mounted a b k n r is (Lost clear m begun goes reply lost) = absurd (cc (is, reply))
+has_mounted a b k n r is (Lost clear m begun goes reply apart lost) = absurd (cc (is, reply))
 has_mounted a b k n r is (Refused clear e begun goes reply) = absurd (cc (is, reply))
 has_mounted a b k n r is (Pending ready apart reply) = absurd (cc (is, reply))
 has_mounted a b k n r is (Stuck stuck reply) = absurd (cc (is, reply))

@@ -1,4 +1,5 @@
 -- Facts about the definitions, for proofs of other crates.
 pub mod CachedPages
 pub mod Growing
+pub mod MountEvents
 pub mod Staying

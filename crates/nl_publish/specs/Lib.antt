@@ -6,6 +6,7 @@ pub mod Locks
 pub mod Begun
 pub mod Cleaning
 pub mod Mounts
+pub mod Returns
 pub mod Told
 pub mod Cached
 pub mod Facts

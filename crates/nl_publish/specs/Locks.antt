@@ -11,7 +11,7 @@ use Rattle.nl_types.specs.declared.reply.Answer.TheVariants as answer
 use Rattle.nl_types.specs.Runs.{Run}
 use Rattle.nl_types.specs.Worlds.{Reply}
 use Rattle.nl_commit.specs.Commits.{IsHistory, image_of}
-use Rattle.nl_commit.specs.Layout.{Layout}
+use Rattle.nl_commit.specs.Layout.{IsPen, Layout}
 use Rattle.nl_commit.specs.Notes.{DoesNoting, shown_of}
 use Rattle.nl_commit.specs.Shown.{Shown}
 use Rattle.nl_commit.specs.declared.commit.Commit.{Commit}
@@ -28,6 +28,10 @@ pub record HeldPen : Type 0 where
   pub history : List Commit
   pub lost : Option ℕ
   pub layout : Layout
+
+-- what is published of it
+abbrev pub told_by : HeldPen → Known
+told_by h = record { volume = h.volume; commits = h.published }
 
 abbrev pub listed : {A : Type 0} → Option A → List A
 listed None = []
@@ -50,6 +54,11 @@ pub record IsTold (h : HeldPen) : Type 0 where
   pub history : IsHistory h.history
   pub shown : shown_of h.layout ≡ image_of h.history
   pub published : IsPrefix h.published h.history
+
+-- so it is sound: its pen means a world, and that is true of it
+pub record IsSoundState (h : HeldPen) : Type 0 where
+  pub told : IsTold h
+  pub pen : IsPen h.layout
 
 -- ---- events, with the history that they make
 
@@ -110,6 +119,12 @@ Begins old (Err e) new = (e ≡ Memory) × IsStuck old new
 
 -- ---- calls
 
+-- an event that neither mounts nor gives a mount back
+abbrev pub IsNoMountEvent : Event → Type 0
+IsNoMountEvent (Mount n) = ⊥
+IsNoMountEvent (Unmount m) = ⊥
+IsNoMountEvent _ = Unit {0}
+
 -- a lost mount is given back, and then the event runs; or the give-back is refused, and nothing else runs
 pub data Ran (old : HeldPen) (event : Event) (reply : Reply) (new : HeldPen) : Type 0 where
   Done : (backs : List Answer)
@@ -137,7 +152,8 @@ MountGoes old n (Err e) new = GoesBy old (Mount n) (Err e) new
 -- a mount's commit is published, or its number is kept to be given back
 abbrev pub Finished : HeldPen → ℕ → MountReply → HeldPen → Type 0
 Finished old n (Ok m) new = (m ≡ n) × Goes old [] [] new × (new.published ≡ new.history) × (new.lost ≡ None)
-Finished old n (Err e) new = (e ≡ Memory) × Goes old [] [] new × (new.lost ≡ Some n)
+Finished old n (Err e) new =
+    (e ≡ Memory) × Goes old [] [] new × (new.published ≢ new.history) × (new.lost ≡ Some n)
 
 -- before a mount: a lost mount is back, and nothing is pending
 pub record IsClear (old new : HeldPen) : Type 0 where
@@ -152,7 +168,7 @@ pub data MountRan (old : HeldPen) (checkpoint : ℕ) (reply : MountReply) (new :
       → new.published ≡ new.history → new.lost ≡ None → MountRan old checkpoint reply new
   Lost : (clear : HeldPen) (n : ℕ) → IsClear old clear
       → Goes clear (Mount checkpoint ∷ []) (mount_reply n ∷ []) new → reply ≡ Err Memory
-      → new.lost ≡ Some n → MountRan old checkpoint reply new
+      → new.published ≢ new.history → new.lost ≡ Some n → MountRan old checkpoint reply new
   Refused : (clear : HeldPen) (e : VolError) → IsClear old clear → GoesBy clear (Mount checkpoint) (Err e) new
       → reply ≡ Err e → MountRan old checkpoint reply new
   Pending : IsReady old new → new.published ≢ new.history → reply ≡ Err Memory

@@ -1,5 +1,5 @@
 -- What a told history says of those that go on from it, and what runs under the lock mean.
-use Rattle.std.specs.Prelude.{◌≡◌, ℕ, List, Some}
+use Rattle.std.specs.Prelude.{◌≡◌, ◌<◌, ℕ, List, None, Some, length}
 use mathlib.Core.List.{IsPrefix}
 use Rattle.nl_types.specs.declared.event.Event.{Event}
 use Rattle.nl_types.specs.Trees.{Tree}
@@ -7,12 +7,13 @@ use Rattle.nl_types.specs.Worlds.{Copy, Reply, World, copy_at}
 use Rattle.nl_cpfile.specs.Tables.{kept_at, checkpoint_root}
 use Rattle.nl_cpfile.specs.declared.checkpoint.Checkpoint.{Checkpoint}
 use Rattle.nl_commit.specs.Commits.{IsHistory, IsImage, image_of}
-use Rattle.nl_commit.specs.Layout.{Runs}
+use Rattle.nl_commit.specs.Layout.{MeansWorld, Runs}
 use Rattle.nl_commit.specs.Means.{RootMeans}
 use Rattle.nl_commit.specs.Notes.{shared}
 use Rattle.nl_commit.specs.Shown.{Shown, mounted_on, pages_shown}
 use Rattle.nl_commit.specs.declared.commit.Commit.{Commit}
-use Rattle.nl_publish.specs.Locks.{Goes, HeldPen}
+use Rattle.nl_publish.specs.Histories.{IsBegun}
+use Rattle.nl_publish.specs.Locks.{Goes, HeldPen, IsTold}
 use Rattle.nl_publish.specs.Mounts.{Claim, IsClaim}
 
 -- a kept checkpoint means the tree
@@ -27,6 +28,21 @@ pub record ShowsCopy (x : Shown) (n : ℕ) (w : World) : Type 0 where
   pub kept : copy_at w n ≡ Some copy
   pub shown : TreeOn x n copy.tree
 
+-- an image shows each copy of a world under its number
+abbrev pub ShowsWorld : Shown → World → Type 0
+ShowsWorld x w = (n : ℕ) (copy : Copy) → copy_at w n ≡ Some copy → TreeOn x n copy.tree
+
+-- so does what is published, where it is all of the history, of each world that the pen means
+abbrev pub PublishedWorldsAreShown : Type 0
+PublishedWorldsAreShown = (h : HeldPen) (w : World) → IsTold h → h.published ≡ h.history → MeansWorld h.layout w
+    → ShowsWorld (image_of h.published) w
+
+-- a checkpoint that is still kept has the trees that it had
+abbrev pub KeptTreesStay : Type 0
+KeptTreesStay = (log later : List Commit) (n : ℕ) (t : Tree) (c : Checkpoint) → IsHistory log → IsBegun later
+    → IsPrefix log later → TreeOn (image_of log) n t → kept_at n (image_of later).table ≡ Some c
+    → TreeOn (image_of later) n t
+
 -- a history shows an image
 abbrev pub HistoriesShowImages : Type 0
 HistoriesShowImages = (log : List Commit) → IsHistory log → IsImage (image_of log)
@@ -40,6 +56,12 @@ pub record ShowsTold (m : Claim) (log : List Commit) (n : ℕ) : Type 0 where
 abbrev pub MountsStay : Type 0
 MountsStay = (m : Claim) (log : List Commit) (n : ℕ) → IsClaim m → IsHistory log → IsPrefix m.told.commits log
     → mounted_on (image_of log) m.number ≡ Some n → ShowsTold m log n
+
+-- and in none that ends before the mount's own commit is the mount shown
+abbrev pub MountsBegin : Type 0
+MountsBegin = (m : Claim) (log : List Commit) → IsClaim m → IsBegun m.told.commits → IsHistory log
+    → IsPrefix log m.told.commits → length log < length m.told.commits
+    → mounted_on (image_of log) m.number ≡ None
 
 -- what ran under the lock leads on beside each world that the pen meant
 abbrev pub LockedRunsLeadOn : Type 0

@@ -1,6 +1,6 @@
 //! What published histories and runs under the lock mean, as contracts of functions that do nothing.
 ghost use Rattle.nl_publish.specs.Cached.{CachedPagesStay};
-ghost use Rattle.nl_publish.specs.Told.{HistoriesShowImages, LockedRunsLeadOn, MountsStay};
+ghost use Rattle.nl_publish.specs.Told.{HistoriesShowImages, KeptTreesStay, LockedRunsLeadOn, MountsBegin, MountsStay, PublishedWorldsAreShown};
 
 /// In each image every kept checkpoint means a tree, and each mount is of a kept snapshot.
 pub fn histories_show_images()
@@ -10,6 +10,21 @@ pub fn histories_show_images()
 /// A mount shows the checkpoint that it names, with the tree that it was told of, until it is given back.
 pub fn mounts_stay()
     ensures { MountsStay }
+{}
+
+/// A mount is shown in no history that ends before the mount's own commit.
+pub fn mounts_begin()
+    ensures { MountsBegin }
+{}
+
+/// A checkpoint that is still kept in a history that goes on has the trees that it had.
+pub fn kept_trees_stay()
+    ensures { KeptTreesStay }
+{}
+
+/// Where all of the history is published, readers see each copy of each world that the pen means.
+pub fn published_worlds_are_shown()
+    ensures { PublishedWorldsAreShown }
 {}
 
 /// A page of a file that was kept aside is right for good: numbers of checkpoints aren't given twice, and a

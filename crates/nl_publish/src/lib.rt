@@ -3,6 +3,7 @@
 #![tactic(auto)]
 
 mod cleaning;
+mod events;
 mod history;
 mod image;
 pub mod laws;
@@ -12,10 +13,11 @@ mod opening;
 mod press;
 mod tables;
 
+pub use events::is_mount_event;
 pub use history::{Front, Opened, Record, Volumes};
 pub use image::{Entry, Image, Keeps, Name, Sees};
 pub use locked::Locked;
-pub use mount::Mount;
+pub use mount::{Gone, Mount, RefusedMount};
 pub use nl_commit::NotingPen;
 pub use opening::{Seat, publish};
 pub use press::{ImageReader, Press, Publisher};

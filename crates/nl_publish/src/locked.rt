@@ -1,5 +1,5 @@
 //! What lies under the lock: the pen, and what is published of it.
-ghost use Rattle.std.specs.Prelude.{◌≡◌, ◌≢◌, ◌++◌, ◌∷◌, [], None, Some, Ok, Err, IfOk, MatchBool, MatchResult};
+ghost use Rattle.std.specs.Prelude.{◌≡◌, ◌≢◌, ◌++◌, ◌∷◌, [], None, Some, Ok, Err, IfErr, IfOk, MatchBool, MatchResult};
 ghost use Rattle.nl_types.specs.declared.event.Event.TheVariants as event;
 ghost use Rattle.nl_types.specs.declared.reply.Answer.{Answer};
 ghost use Rattle.nl_types.specs.Worlds.{World};
@@ -8,13 +8,14 @@ ghost use Rattle.nl_commit.specs.Layout.{IsPen, MeansWorld, ReadsCopy, layout_of
 ghost use Rattle.nl_commit.specs.Notes.{shown_of};
 ghost use Rattle.nl_commit.specs.Volume.{without_mounts};
 ghost use Rattle.nl_publish.specs.Images.{IsPublished};
-ghost use Rattle.nl_publish.specs.Locks.{Begins, Finished, GoesBy, IsMountReply, IsTold, Keeps, MountGoes, MountRan, Ran};
-ghost use Rattle.nl_publish.specs.Locks.{mount_reply};
+ghost use Rattle.nl_publish.specs.Locks.{Begins, Finished, GoesBy, IsMountReply, IsNoMountEvent, IsSoundState, IsTold, Keeps, MountGoes, MountRan, Ran};
+ghost use Rattle.nl_publish.specs.Locks.{mount_reply, told_by};
+ghost use Rattle.nl_publish.specs.Returns.{IsGivenBack, UnmountRan};
 ghost use Rattle.nl_publish.specs.Told.{ShowsCopy};
 
 use crate::history::{Front, Record, Volumes};
 use crate::image::Entry;
-use crate::mount::Mount;
+use crate::mount::{Gone, Mount, RefusedMount};
 use crate::press::{Press, Publisher};
 use nl_commit::{Commit, NotingPen};
 use nl_types::{Answer, Ask, CheckpointNumber, Event, MountNumber, Reply, VolError};
@@ -131,8 +132,8 @@ impl<P: NotingPen, J: Volumes, W: Press> Locked<P, J, W> {
         self.writer.show(rt);
     }
 
-    /// Whether nothing is pending.
-    fn is_settled(&self) -> bool
+    /// Whether all of the history is published.
+    pub fn is_settled(&self) -> bool
         ensures { MatchBool result (self.now.published ≡ self.now.history)
             (self.now.published ≢ self.now.history) }
     {
@@ -199,6 +200,14 @@ impl<P: NotingPen, J: Volumes, W: Press> Locked<P, J, W> {
         let _ = &self.noted;
     }
 
+    /// Both of it. This says so to its callers, and does nothing.
+    pub fn is_sound(&self)
+        ensures { IsSoundState self.now }
+    {
+        self.means_a_world();
+        self.is_told();
+    }
+
     /// Applies an event to the pen alone.
     pub(crate) fn run(&mut self, event: &Event) -> Reply
         ensures { GoesBy self.old event.now result self.new }
@@ -255,9 +264,8 @@ impl<P: NotingPen, J: Volumes, W: Press> Locked<P, J, W> {
         self.give_back()
     }
 
-    /// Applies an event. It stands where its commit can't be published for want of memory, and the commit
-    /// stays pending: each later call publishes first. Mounts have calls of their own.
-    pub fn apply<R: Wait>(&mut self, rt: &R, event: &Event) -> Reply
+    /// Applies an event, behind what comes before it, and publishes its commit.
+    fn do_event<R: Wait>(&mut self, rt: &R, event: &Event) -> Reply
         ensures { Ran self.old event.now result self.new }
     {
         if let Err(refusal) = self.begin(rt) {
@@ -266,6 +274,23 @@ impl<P: NotingPen, J: Volumes, W: Press> Locked<P, J, W> {
         let reply = self.run(event);
         self.settle(rt);
         reply
+    }
+
+    /// Applies an event of the volume's own so.
+    fn do_own<R: Wait>(&mut self, rt: &R, event: Event) -> Reply
+        ensures { Ran self.old event result self.new }
+    {
+        self.do_event(rt, &event)
+    }
+
+    /// Applies an event that is no mount and no unmount, which have calls of their own. It stands where its
+    /// commit can't be published for want of memory, and the commit stays pending: each later call publishes
+    /// first.
+    pub fn apply<R: Wait>(&mut self, rt: &R, event: &Event) -> Reply
+        requires { IsNoMountEvent event.now }
+        ensures { Ran self.old event.now result self.new }
+    {
+        self.do_event(rt, event)
     }
 
     /// The pen, to be asked.
@@ -333,7 +358,7 @@ impl<P: NotingPen, J: Volumes, W: Press> Locked<P, J, W> {
 
     /// What is published.
     pub fn told(&self) -> Front<J>
-        ensures { result ≡ record { volume = self.now.volume; commits = self.now.published } }
+        ensures { result ≡ told_by self.now }
     {
         Front::of(self.writer.image(), self.noted.volume())
     }
@@ -349,8 +374,7 @@ impl<P: NotingPen, J: Volumes, W: Press> Locked<P, J, W> {
         ensures ran { MatchResult result (λ m. MountRan self.old checkpoint (Ok m.number) self.new)
             (λ e. MountRan self.old checkpoint (Err e) self.new) }
         ensures checkpoint { IfOk result (λ m. m.checkpoint ≡ checkpoint) }
-        ensures told { IfOk result (λ m.
-            m.told ≡ record { volume = self.new.volume; commits = self.new.published }) }
+        ensures told { IfOk result (λ m. m.told ≡ told_by self.new) }
         ensures copy { IfOk result (λ m. (w : World) → MeansWorld self.new.layout w
             → ShowsCopy (image_of m.told.commits) m.checkpoint w) }
     {
@@ -363,33 +387,63 @@ impl<P: NotingPen, J: Volumes, W: Press> Locked<P, J, W> {
         }
     }
 
-    /// Gives back the mount of a number.
+    /// Gives back the mount of a number, for who has all mounts of the volume by their numbers. With the
+    /// answer comes what lets go of that mount.
+    pub fn unmount_number<R: Wait>(
+        &mut self,
+        rt: &R,
+        number: MountNumber,
+    ) -> Result<(Answer, Gone), VolError>
+        ensures { MatchResult result
+            (λ done. Ran self.old (event.Unmount number) (Ok done.0) self.new)
+            (λ e. Ran self.old (event.Unmount number) (Err e) self.new) }
+    {
+        match self.do_own(rt, Event::Unmount(number)) {
+            Ok(answer) => Ok((answer, Gone::new())),
+            Err(refusal) => Err(refusal),
+        }
+    }
+
+    /// Gives back the mount of a number, without the answer.
     fn apply_unmount<R: Wait>(&mut self, rt: &R, number: MountNumber) -> Result<(), VolError>
         ensures { MatchResult result
             (λ _. (answer : Answer) × Ran self.old (event.Unmount number) (Ok answer) self.new)
             (λ e. Ran self.old (event.Unmount number) (Err e) self.new) }
     {
-        if let Err(refusal) = self.begin(rt) {
-            return Err(refusal);
-        }
-        let given = self.run_unmount(number);
-        self.settle(rt);
-        given
+        without_answer(self.do_own(rt, Event::Unmount(number)))
     }
 
-    /// Gives a mount back. Refused, it comes back.
-    pub fn unmount<R: Wait>(&mut self, rt: &R, mount: Mount<J>) -> Result<(), (VolError, Mount<J>)>
-        ensures ran { MatchResult result
-            (λ _. (answer : Answer) × Ran self.old (event.Unmount mount.number) (Ok answer) self.new)
-            (λ r. Ran self.old (event.Unmount mount.number) (Err r.0) self.new) }
-        ensures same { MatchResult result (λ _. Unit {0}) (λ r. r.1 ≡ mount) }
+    /// Gives back a mount of this volume. Refused, it comes back.
+    fn unmount_own<R: Wait>(
+        &mut self,
+        rt: &R,
+        mount: Mount<J>,
+    ) -> Result<(), (VolError, RefusedMount<J>)>
+        ensures given { IsGivenBack self.old mount result self.new }
+        ensures same { IfErr result (λ r. r.1 ≡ mount) }
     {
         match self.apply_unmount(rt, mount.number()) {
             Ok(()) => {
-                mount.spend();
+                mount.spend(&Gone::new());
                 Ok(())
             }
-            Err(refusal) => Err((refusal, mount)),
+            Err(refusal) => Err((refusal, RefusedMount::new(mount))),
+        }
+    }
+
+    /// Gives a mount back. Refused, it comes back: by `BadMount` where it is another volume's, and nothing is
+    /// done then.
+    pub fn unmount<R: Wait>(
+        &mut self,
+        rt: &R,
+        mount: Mount<J>,
+    ) -> Result<(), (VolError, RefusedMount<J>)>
+        ensures ran { UnmountRan self.old mount result self.new }
+        ensures same { IfErr result (λ r. r.1 ≡ mount) }
+    {
+        match mount.of_volume(self.volume()) {
+            Err(refused) => Err((VolError::BadMount, refused)),
+            Ok(mount) => self.unmount_own(rt, mount),
         }
     }
 }
@@ -423,8 +477,9 @@ impl<P: NotingPen, J: Volumes, W: Press> Locked<P, J, W> {
         }
     }
 
-    /// The pen, from which all mounts are taken out, and the writer. It takes no memory.
-    pub fn take_apart(self) -> (P, W)
+    /// The pen, from which all mounts are taken out, the writer, and that the volume has ended. It takes no
+    /// memory.
+    pub fn take_apart(self) -> (P, W, Gone)
         ensures { P.layout result.0 ≡ layout_of (without_mounts self.layout.lists) self.layout.store }
     {
         let Locked {
@@ -437,17 +492,18 @@ impl<P: NotingPen, J: Volumes, W: Press> Locked<P, J, W> {
             writer,
         } = self;
         pen.give_all_back();
-        (pen, writer)
+        (pen, writer, Gone::new())
     }
 }
 
 impl<P: NotingPen, J: Volumes> Locked<P, J, Publisher> {
-    /// Takes all mounts out, and gives the pen back. Readers find nothing from now on. It takes no memory.
-    pub fn end<R: Wait>(self, rt: &R) -> P
-        ensures { P.layout result ≡ layout_of (without_mounts self.layout.lists) self.layout.store }
+    /// Takes all mounts out, and gives the pen back: who holds a mount lets go of it by what comes with the
+    /// pen. Readers find nothing from now on. It takes no memory.
+    pub fn end<R: Wait>(self, rt: &R) -> (P, Gone)
+        ensures { P.layout result.0 ≡ layout_of (without_mounts self.layout.lists) self.layout.store }
     {
-        let (pen, writer) = self.take_apart();
+        let (pen, writer, gone) = self.take_apart();
         writer.end(rt);
-        pen
+        (pen, gone)
     }
 }

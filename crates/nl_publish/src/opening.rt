@@ -1,8 +1,9 @@
 //! How a shared volume begins: all that readers see of its pen is published, and each reader has a seat.
-ghost use Rattle.std.specs.Prelude.{◌≡◌, ◌<◌, ◌^◌, ◌∷◌, [], drop, length, IfErr, IfOk};
+ghost use Rattle.std.specs.Prelude.{◌≡◌, ◌<◌, ◌^◌, ◌∷◌, [], All, drop, length, IfErr, IfOk};
 ghost use Rattle.nl_commit.specs.Commits.{IsHistory, image_of};
 ghost use Rattle.nl_publish.specs.Begun.{HasBegun};
 ghost use Rattle.nl_publish.specs.Images.{IsPublished, name_of};
+ghost use Rattle.nl_publish.specs.Locks.{told_by};
 ghost use Rattle.nl_commit.specs.Shown.{MountsRise};
 ghost use Rattle.nl_publish.specs.Seats.{known_to};
 
@@ -32,6 +33,7 @@ fn take_seats<J: Volumes>(
 ) -> Result<Vec<Seat<J>>, AllocError>
     requires { named.old.writer.desk.shown.value.seen.book ≡ J.book front.now.volume }
     ensures count { IfOk result (λ seats. length seats.items ≡ readers) }
+    ensures fronts { IfOk result (λ seats. All (λ s. s.front ≡ front.now) seats.items) }
     ensures shown { named.new.writer.desk.shown ≡ named.old.writer.desk.shown }
     ensures unseen { drop named.new.writer.behind named.new.writer.log.items
         ≡ drop named.old.writer.behind named.old.writer.log.items }
@@ -63,6 +65,7 @@ pub fn publish<J: Volumes, R: Wait>(
     ensures book { IfOk result (λ made.
         (⟦<Publisher as Press>⟧.shown made.0).seen.book ≡ J.book front.now.volume) }
     ensures seats { IfOk result (λ made. length made.1.items ≡ readers) }
+    ensures fronts { IfOk result (λ made. All (λ s. s.front ≡ front.now) made.1.items) }
 {
     let first = Image::first(alloc, commit, front)?;
     let second = first.again(alloc, commit)?;
@@ -95,6 +98,7 @@ fn publish_first<J: Volumes, R: Wait>(
     ensures book { IfOk result (λ made.
         (⟦<Publisher as Press>⟧.shown made.0).seen.book ≡ J.book front.new.volume) }
     ensures seats { IfOk result (λ made. length made.1.items ≡ readers) }
+    ensures fronts { IfOk result (λ made. All (λ s. s.front ≡ front.new) made.1.items) }
 {
     if !front.add(record, commit) {
         return Err(AllocError);
@@ -104,7 +108,8 @@ fn publish_first<J: Volumes, R: Wait>(
 
 impl<P: NotingPen, J: Volumes> Locked<P, J, Publisher> {
     /// Publishes all that readers see of a pen as the first commit of the history that was opened, with a
-    /// seat for each of so many readers. Refused by `Memory` alone, which gives the pen back.
+    /// seat for each of so many readers, which have seen that commit. Refused by `Memory` alone, which gives
+    /// the pen back.
     pub fn new<R: Wait>(
         alloc: Global,
         rt: &R,
@@ -116,6 +121,7 @@ impl<P: NotingPen, J: Volumes> Locked<P, J, Publisher> {
         requires readers { (0 < readers) × (readers < 2 ^ 32) }
         ensures begun { IfOk result (λ made. HasBegun opened.id (P.layout pen) made.0) }
         ensures seats { IfOk result (λ made. length made.1.items ≡ readers) }
+        ensures fronts { IfOk result (λ made. All (λ s. s.front ≡ told_by made.0) made.1.items) }
         ensures refused { IfErr result (λ e. e.0 ≡ VolError.Memory) }
         ensures pen { IfErr result (λ e. P.layout e.1 ≡ P.layout pen) }
     {

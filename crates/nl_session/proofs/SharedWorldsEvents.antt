@@ -198,7 +198,7 @@ module _ (laws : Laws) (w : World) (old new : Sharing) (reply : Reply) (before :
       (mount_reply n) before.means begun.ready goes in
       Came (subst (λ (r : Reply). ComesBeside w old (Mount k) r new) (sym (is ∙ ap mount_reply number))
       (mount_held k n behind m number of copy none same))
-  mount_made k m is of copy same (locks.Lost clear n begun goes result lost) = absurd (cc result)
+  mount_made k m is of copy same (locks.Lost clear n begun goes result apart lost) = absurd (cc result)
   mount_made k m is of copy same (locks.Refused clear e begun goes result) = absurd (cc result)
   mount_made k m is of copy same (locks.Pending ready apart result) = absurd (cc result)
   mount_made k m is of copy same (locks.Stuck stuck result) = absurd (cc result)
@@ -207,7 +207,7 @@ module _ (laws : Laws) (w : World) (old new : Sharing) (reply : Reply) (before :
       → MountRan old.held k (Err e) new.held
       → IsDoneBeside w old (Mount k) reply new
   mount_refused k e is same (locks.Mounted clear n begun goes result all none) = absurd (cc result)
-  mount_refused k e is same (locks.Lost clear n begun goes result lost) =
+  mount_refused k e is same (locks.Lost clear n begun goes result apart lost) =
       let memory : e ≡ Memory = cc result in
       let behind =
       behind_ready laws w old.held clear new.held (Mount k)

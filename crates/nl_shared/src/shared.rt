@@ -12,7 +12,7 @@ use nl_commit::{NotingPen, Round};
 use nl_cpfile::Cpstat;
 use nl_mounts::{Port, seat_all, spend_all};
 use nl_protect::Config;
-use nl_publish::{Locked, Mount, Opened, Publisher, Volumes};
+use nl_publish::{Gone, Locked, Mount, Opened, Publisher, Volumes};
 use nl_script::{Volume, is_bad_mount, reply_of};
 use nl_sufile::Sustat;
 use nl_types::{
@@ -60,11 +60,11 @@ fn mount_of<J: Volumes>(mounts: &[Mount<J>], number: MountNumber) -> Option<&Mou
 }
 
 /// Takes the mount of a number out, which was given back.
-fn forget<J: Volumes>(mounts: &mut Vec<Mount<J>>, number: MountNumber)
+fn forget<J: Volumes>(mounts: &mut Vec<Mount<J>>, number: MountNumber, gone: &Gone)
     ensures { mounts.new.items ≡ without_mount number mounts.old.items }
 {
     if let Some(place) = place_of(mounts.as_slice(), number) {
-        mounts.remove(place).spend();
+        mounts.remove(place).spend(gone);
     }
 }
 
@@ -182,8 +182,9 @@ impl<'a, P: NotingPen, G: Round<P>, J: Volumes, R: Wait> SharedVolume<'a, P, G, 
             rounds: _,
         } = self;
         drop(port);
-        spend_all(mounts);
-        locked.end(rt)
+        let (pen, gone) = locked.end(rt);
+        spend_all(mounts, &gone);
+        pen
     }
 }
 
@@ -230,13 +231,13 @@ impl<P: NotingPen, G: Round<P>, J: Volumes, R: Wait> SharedVolume<'_, P, G, J, R
         ensures ran { Ran self.old.held (event.Unmount number) result self.new.held }
         ensures mounts { self.new.mounts ≡ mounts_left_by number result self.old.mounts }
     {
-        let event = Event::Unmount(number);
-        let reply = self.locked.apply(self.rt, &event);
-        drop(event);
-        if reply.is_ok() {
-            forget(&mut self.mounts, number);
+        match self.locked.unmount_number(self.rt, number) {
+            Ok((answer, gone)) => {
+                forget(&mut self.mounts, number, &gone);
+                Ok(answer)
+            }
+            Err(refusal) => Err(refusal),
         }
-        reply
     }
 
     /// What the port tells of a mount that is held, unless it doesn't find the mount.

@@ -5,7 +5,7 @@ ghost use Rattle.std.specs.Prelude.{◌≡◌};
 use crate::logs::{NONE_FAILS, Shape};
 use crate::volumes::volume;
 use nl_core::{Commit, Cpstat};
-use nl_publish::{Entry, Image, Locked, Mount, NotingPen, Opened, Press, Volumes, publish};
+use nl_publish::{Entry, Gone, Image, Locked, Mount, NotingPen, Opened, Press, Volumes, publish};
 use nl_sufile::SegTable;
 use nl_types::{Answer, Ask, CheckpointNumber, Event, Mode, Reply, Segment, VolError};
 use std::alloc::Global;
@@ -131,9 +131,23 @@ enum Call {
     Unmount,
 }
 
-fn spend<J: Volumes>(mount: Option<Mount<J>>) {
+fn spend<J: Volumes>(mount: Option<Mount<J>>, gone: &Gone) {
     if let Some(mount) = mount {
-        mount.spend();
+        mount.spend(gone);
+    }
+}
+
+/// Holds a mount in the place of the one that was held, which is given back.
+fn hold<P: NotingPen, J: Volumes, W: Press, R: Wait>(
+    rt: &R,
+    locked: &mut Locked<P, J, W>,
+    held: &mut Option<Mount<J>>,
+    mount: Mount<J>,
+) {
+    if let Some(other) = replace(held, Some(mount)) {
+        if let Err((_, refused)) = locked.unmount(rt, other) {
+            refused.spend();
+        }
     }
 }
 
@@ -162,7 +176,7 @@ fn answer<P: NotingPen, J: Volumes, W: Press, R: Wait>(
             Err(refusal) => Err(refusal),
             Ok(mount) => {
                 let number = mount.number().get();
-                spend(replace(held, Some(mount)));
+                hold(rt, locked, held, mount);
                 Ok(number)
             }
         },
@@ -170,8 +184,8 @@ fn answer<P: NotingPen, J: Volumes, W: Press, R: Wait>(
             None => Err(VolError::BadMount),
             Some(mount) => match locked.unmount(rt, mount) {
                 Ok(()) => Ok(0),
-                Err((refusal, mount)) => {
-                    spend(replace(held, Some(mount)));
+                Err((refusal, refused)) => {
+                    hold(rt, locked, held, refused.again());
                     Err(refusal)
                 }
             },
@@ -182,12 +196,12 @@ fn answer<P: NotingPen, J: Volumes, W: Press, R: Wait>(
 /// A call, what it answers, and how many commits are published then.
 type Step = (Call, Result<u64, VolError>, u64);
 
-/// The first step that comes out otherwise.
+/// The first step that comes out otherwise, and the mount that is held in the end.
 fn first_unwanted<P: NotingPen, J: Volumes, W: Press, R: Wait>(
     rt: &R,
     locked: &mut Locked<P, J, W>,
     steps: &[Step],
-) -> Option<usize> {
+) -> (Option<usize>, Option<Mount<J>>) {
     let mut held = None;
     let mut unwanted = None;
     for (index, (call, reply, published)) in steps.iter().enumerate() {
@@ -197,8 +211,7 @@ fn first_unwanted<P: NotingPen, J: Volumes, W: Press, R: Wait>(
             unwanted = Some(index);
         }
     }
-    spend(held);
-    unwanted
+    (unwanted, held)
 }
 
 // ---- cases
@@ -334,8 +347,9 @@ fn unwanted<J: Volumes, R: Wait>(
         refusals: Refusals::new(calls),
     };
     let mut locked = Locked::begun(alloc, pen, record, front, press);
-    let unwanted = first_unwanted(rt, &mut locked, steps);
-    let (_pen, press) = locked.take_apart();
+    let (unwanted, held) = first_unwanted(rt, &mut locked, steps);
+    let (_pen, press, gone) = locked.take_apart();
+    spend(held, &gone);
     let RefusingPress { press, refusals: _ } = press;
     press.end(rt);
     Ok(unwanted)

@@ -6,7 +6,7 @@ use crate::volumes::{add_file, checkpoint, closes_again, do_event, image_of, vol
 use nl_cleaner::Job;
 use nl_core::Pen;
 use nl_device::FaultDevice;
-use nl_mounts::{Gate, JobAnswer, Port, ReadJob, Shared, read_many, share};
+use nl_mounts::{Gate, JobAnswer, Port, ReadJob, Shared, is_mount_event, read_many, share};
 use nl_protect::{Amount, Config};
 use nl_publish::{Mount, Opened, Volumes};
 use nl_types::{Answer, CheckpointNumber, Event, Items, Mode, Reply, VolError};
@@ -87,6 +87,17 @@ fn number_made(reply: &Reply) -> u64 {
     }
 }
 
+/// Applies an event that mounts nothing.
+fn applies<J: Volumes, R: Wait>(rt: &R, shared: &Volume<J>, event: &Event) -> Result<(), VolError> {
+    if is_mount_event(event) {
+        return Err(VolError::BadMount);
+    }
+    match shared.apply(rt, event) {
+        Ok(_) => Ok(()),
+        Err(refusal) => Err(refusal),
+    }
+}
+
 /// Writes one byte after another, with a checkpoint behind each. Their numbers ascend from 3 on, with
 /// those of minor ones between.
 fn writes<J: Volumes, R: Wait>(
@@ -97,11 +108,14 @@ fn writes<J: Volumes, R: Wait>(
 ) -> Result<bool, VolError> {
     let mut last = 2;
     for turn in 0..CHECKPOINTS {
-        let event = write(alloc, turn as u8)?;
-        let written = shared.apply(rt, &event);
-        drop(event);
-        written?;
-        let made = number_made(&shared.apply(rt, &checkpoint(Mode::Plain)));
+        applies(rt, shared, &write(alloc, turn as u8)?)?;
+        let made = number_made(&shared.apply(
+            rt,
+            &Event::Checkpoint {
+                mode: Mode::Plain,
+                moment: 0,
+            },
+        ));
         if made <= last {
             return Ok(false);
         }
@@ -254,8 +268,8 @@ fn go_beside_a_mount<J: Volumes + Send + Sync, R: Threads + Wait + Sync>(
     let good = go_side_by_side(rt, alloc, shared, ports.as_mut_slice(), &mount);
     match shared.unmount(rt, mount) {
         Ok(()) => Ok(good),
-        Err((refusal, mount)) => {
-            mount.spend();
+        Err((refusal, refused)) => {
+            refused.spend();
             Err(refusal)
         }
     }

@@ -3,10 +3,11 @@ use Rattle.std.proofs.Common.{◌≡◌, ℕ, ◌<◌, ◌≤◌, Bool, true, fa
 use Rattle.std.specs.List.{filter}
 use Rattle.std.specs.Option.{option_or}
 use Rattle.std.specs.Ordering.{nat_cmp, eq_by_cmp}
-use Rattle.std.proofs.lemmas.Bool.{cases_Bool, cond-false, cond-true, ne_eqb}
+use Rattle.std.proofs.lemmas.Bool.{cases_Bool, cond-false, cond-true, eqb-true, ne_eqb}
 use mathlib.Core.List.{IsPrefix}
 use Rattle.nl_types.specs.declared.event.Mode.{Mode}
 use Rattle.nl_types.specs.Roots.{Root}
+use Rattle.nl_types.specs.Trees.{Tree}
 use Rattle.nl_layout.specs.Root.{root_of}
 use Rattle.nl_layout.specs.declared.root.Root.{Root as RootBlock}
 use Rattle.nl_tree.specs.Held.{Holding, held_block}
@@ -15,9 +16,10 @@ use Rattle.nl_files.specs.CheckpointTrees.{HoldsTree}
 use Rattle.nl_files.specs.Staying.{AgreeAtCheckpoint}
 use Rattle.nl_files.specs.Facts.Holdings.{roots-hold_one}
 use Rattle.nl_files.specs.Facts.Staying.{checkpoints-stay}
-use Rattle.nl_cpfile.specs.Tables.{Table, all, is_kept_without, kept_at, moded, range_in, checkpoint_root}
+use Rattle.nl_cpfile.specs.Tables.{IsRising, Precedes, Table, all, is_kept_without, kept_at, moded, range_in, checkpoint_root}
 use Rattle.nl_cpfile.specs.declared.checkpoint.Checkpoint.{Checkpoint}
-use Rattle.nl_cpfile.specs.Facts.Found.{found, found-push}
+use Rattle.nl_cpfile.specs.Facts.Found.{eq_by_cmp-nat_cmp, found, found-push}
+use Rattle.nl_cpfile.specs.Facts.Rising.{All-last}
 use Rattle.nl_commit.specs.Commits.{AllNext, IsHistory, IsImage, IsNext, applied, image_of}
 use Rattle.nl_commit.specs.Shown.{Shown, nothing, pages_shown}
 use Rattle.nl_commit.specs.declared.commit.Commit.{Commit}
@@ -25,7 +27,8 @@ use Rattle.nl_commit.specs.declared.commit.Commit.TheVariants.{Freed, GivenBack,
 use Rattle.nl_publish.specs.Cached.{CachedPagesStay, IsCachedPage}
 use Rattle.nl_publish.specs.Histories.{IsBegun}
 use Rattle.nl_publish.specs.Facts.Growing.{fold-grows}
-use Rattle.nl_publish.specs.Facts.Staying.{history_image, rest_of}
+use Rattle.nl_publish.specs.Told.{KeptTreesStay, TreeOn}
+use Rattle.nl_publish.specs.Facts.Staying.{history_image, rest_of, tree_on}
 
 -- ---- what is kept behind a commit under a number that was given was kept before it
 
@@ -190,3 +193,62 @@ begun_on (c ∷ log) (d ∷ later) begun prefix history = begun
 pub cached_pages_stay : CachedPagesStay
 cached_pages_stay log later n inode index page begun prefix cached =
     page_stays n inode index page log later (begun_on log later begun prefix cached.history) prefix cached
+
+-- ---- trees of kept checkpoints
+
+-- a kept number is at most the latest
+low_at : (n : ℕ) (latest : Checkpoint) (c : Checkpoint) (b : Bool) → eq_by_cmp nat_cmp n latest.number ≡ b
+    → cond b (Some latest) None ≡ Some c → n ≤ latest.number
+low_at n latest c true h is =
+    let same = eqb-true latest.number n (sym (eq_by_cmp-nat_cmp n latest.number) ∙ h) in omega (arith, same)
+low_at n latest c false h is = absurd cc
+
+pub kept_low : (earlier : List Checkpoint) (latest : Checkpoint) → IsRising (earlier ++ latest ∷ [])
+    → (n : ℕ) (c : Checkpoint)
+    → found n (earlier ++ latest ∷ []) ≡ Some c → n ≤ latest.number
+kept_low [] latest rising n c is = low_at n latest c (eq_by_cmp nat_cmp n latest.number) refl is
+kept_low (d ∷ earlier) latest rising n c is =
+    by (eq_by_cmp nat_cmp n d.number) refl is (kept_low earlier latest rising.1 n c)
+  where
+    by : (b : Bool) → eq_by_cmp nat_cmp n d.number ≡ b
+        → cond b (Some d) (found n (earlier ++ latest ∷ [])) ≡ Some c
+        → (found n (earlier ++ latest ∷ []) ≡ Some c → n ≤ latest.number) → n ≤ latest.number
+    by true h here later =
+        let same = eqb-true d.number n (sym (eq_by_cmp-nat_cmp n d.number) ∙ h) in
+        let up = (All-last (Precedes d) earlier latest rising.0).number in omega (arith, same, up)
+    by false h here later = later here
+
+-- an image has the tree, where it keeps the checkpoint
+record HasTree (n : ℕ) (t : Tree) (x : Shown) : Type 0 where
+  given : n ≤ x.table.latest.number
+  tree : (c : Checkpoint) → kept_at n x.table ≡ Some c → TreeOn x n t
+
+tree_step : (n : ℕ) (t : Tree) (x : Shown) (c : Commit) → IsNext x c → HasTree n t x → HasTree n t (applied x c)
+tree_step n t x c next has =
+    let at = behind x c n has.given next in
+    record {
+      given = let given = has.given in let more = at.latest in omega (arith, given, more);
+      tree = λ d is. let was = at.kept d is in tree_on x c n d t next is (has.tree was.0 was.1);
+    }
+
+trees_on : (n : ℕ) (t : Tree) (x : Shown) (more : List Commit) → AllNext x more → HasTree n t x
+    → HasTree n t (fold applied x more)
+trees_on n t x [] next has = has
+trees_on n t x (c ∷ more) next has =
+    trees_on n t (applied x c) more next.1 (tree_step n t x c next.0 has)
+
+pub kept_trees_stay : KeptTreesStay
+kept_trees_stay log later n t c history begun prefix tree is =
+    let whole : IsHistory (log ++ prefix.0) =
+    subst IsHistory (sym prefix.1) (begun_on log later begun prefix history) in
+    let table = (image_of log).table in
+    let has : HasTree n t (image_of log) = record {
+      given =
+          kept_low table.earlier table.latest (history_image log history).table.rising n tree.checkpoint
+          tree.kept;
+      tree = λ d kept. tree;
+    } in
+    let after = trees_on n t (image_of log) prefix.0 (rest_of log prefix.0 whole history) has in
+    let at : fold applied (image_of log) prefix.0 ≡ image_of later =
+    sym (fold-grows nothing log prefix.0) ∙ ap image_of prefix.1 in
+    (subst (HasTree n t) at after).tree c is

@@ -1,5 +1,5 @@
 -- What stays in the images of a history.
-use Rattle.std.proofs.Common.{◌≡◌, ℕ, ◌≤◌, ◌==◌, Bool, true, false, not, List, [], ◌∷◌, ◌++◌, map, fold, refl, ap, sym, ◌∙◌, subst, arith, Option, Some, cond, true≢false}
+use Rattle.std.proofs.Common.{◌≡◌, ℕ, ◌<◌, ◌≤◌, ◌==◌, Bool, true, false, not, List, [], ◌∷◌, ◌++◌, map, fold, length, refl, ap, sym, ◌∙◌, subst, arith, Option, None, Some, cond, true≢false}
 use Rattle.std.proofs.lemmas.Bool.{eq-eqb, eqb-true, ne_eqb}
 use Rattle.std.specs.Cmp.{unsigned_tied}
 use Rattle.std.specs.List.{filter}
@@ -17,7 +17,7 @@ use Rattle.nl_commit.specs.declared.commit.Commit.TheVariants as commit
 use Rattle.nl_commit.specs.declared.mounts.Mounted.{Mounted}
 use Rattle.nl_publish.specs.Histories.{IsBegun}
 use Rattle.nl_publish.specs.Mounts.{Claim, IsClaim}
-use Rattle.nl_publish.specs.Told.{ShowsTold, TreeOn}
+use Rattle.nl_publish.specs.Told.{MountsBegin, ShowsTold, TreeOn}
 use Rattle.nl_publish.specs.Facts.Growing.{begun_more, fold-grows, history_start}
 
 -- ---- images
@@ -188,7 +188,7 @@ record ShowsStill (first : Shown) (m k : ℕ) (x : Shown) : Type 0 where
   given : m ≤ x.given
   shows : (n : ℕ) → mounted_on x m ≡ Some n → (n ≡ k) × ((t : Tree) → TreeOn first k t → TreeOn x n t)
 
-tree_on : (x : Shown) (c : Commit) (n : ℕ) (d : Checkpoint) (t : Tree) → IsNext x c
+pub tree_on : (x : Shown) (c : Commit) (n : ℕ) (d : Checkpoint) (t : Tree) → IsNext x c
     → kept_at n (applied x c).table ≡ Some d → TreeOn x n t → TreeOn (applied x c) n t
 tree_on x c n d t next kept tree =
     let stays = next.keeps n tree.checkpoint d tree.kept kept in
@@ -299,3 +299,48 @@ mount_stays m log n claim history prefix is =
     let still = subst (λ (y : Shown). ShowsStill (image_of told) m.number m.checkpoint y) at all in
     let shows = still.shows n is in
     record { checkpoint = shows.0; trees = shows.1 }
+
+-- ---- before a mount's own commit
+
+prefix_before : {A : Type 0} (xs ys : List A) (y : A) → IsPrefix xs (ys ++ y ∷ [])
+    → length xs < length (ys ++ y ∷ []) → IsPrefix xs ys
+prefix_before [] ys y p less = (ys, refl)
+prefix_before (x ∷ xs) [] y p less = absurd (omega arith)
+prefix_before (x ∷ xs) (z ∷ ys) y p less =
+    let heads : x ≡ z = cc (p.1) in
+    let rest = prefix_before xs ys y (p.0, cc (p.1)) (omega arith) in
+    (rest.0, cc (heads, rest.1))
+
+given_all : (x : Shown) (log : List Commit) (m : ℕ) → AllNext x log → m ≤ x.given
+    → m ≤ (fold applied x log).given
+given_all x [] m next low = low
+given_all x (c ∷ log) m next low = given_all (applied x c) log m next.1 (given_on x c m next.0.new low)
+
+not_some : (o : Option ℕ) → ((n : ℕ) → o ≡ Some n → ⊥) → o ≡ None
+not_some None none = refl
+not_some (Some n) none = absurd (none n refl)
+
+pub mount_begins : MountsBegin
+mount_begins m log claim begun history prefix less =
+    let c : Commit = commit.Mounted (record { number = m.number; checkpoint = m.checkpoint }) in
+    let before = claim.0 in
+    let whole : IsHistory (before ++ c ∷ []) = begun_more before c (subst IsBegun claim.1 begun) in
+    let new = new_mount before m.number m.checkpoint whole in
+    let was : IsHistory before =
+    begun_is before c (record { number = m.number; checkpoint = m.checkpoint }) refl whole
+    (history_start before (c ∷ []) whole) in
+    let first : IsPrefix log before =
+    prefix_before log before c (subst (λ (l : List Commit). IsPrefix log l) claim.1 prefix)
+    (subst (λ (l : List Commit). length log < length l) claim.1 less) in
+    let next : AllNext (image_of log) first.0 =
+    rest_of log first.0 (subst IsHistory (sym first.1) was) history in
+    let at : fold applied (image_of log) first.0 ≡ image_of before =
+    sym (fold-grows nothing log first.0) ∙ ap image_of first.1 in
+    let up : (image_of log).given ≤ (image_of before).given =
+    subst (λ (y : Shown). (image_of log).given ≤ y.given) at
+    (given_all (image_of log) first.0 (image_of log).given next (omega arith)) in
+    not_some (mounted_on (image_of log) m.number)
+    (λ n is.
+    let low = (history_image log history).given m.number n is in
+    let above = new.next.new in
+    absurd (omega (arith, low, up, above)))

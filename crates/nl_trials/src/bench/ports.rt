@@ -5,7 +5,7 @@ use crate::bench::clock::{now, since};
 use crate::bench::volume::{SEGMENTS, large, new_pen, plain_checkpoint, preparation, small_write};
 use nl_core::Pen;
 use nl_device::MemDevice;
-use nl_mounts::{Port, Shared, share};
+use nl_mounts::{Port, Shared, is_mount_event, share};
 use nl_publish::{Mount, Opened, Volumes};
 use nl_types::{CheckpointNumber, Event, Segment, VolError};
 use std::alloc::Global;
@@ -18,6 +18,9 @@ type Volume<J> = Shared<Pen<MemDevice>, J>;
 
 /// Does an event whose answer doesn't matter.
 fn done<J: Volumes, R: Wait>(rt: &R, volume: &Volume<J>, event: &Event) -> Result<(), VolError> {
+    if is_mount_event(event) {
+        return Err(VolError::BadMount);
+    }
     volume.apply(rt, event)?;
     Ok(())
 }
@@ -296,6 +299,21 @@ fn prepare<J: Volumes, R: Wait>(rt: &R, alloc: Global, volume: &Volume<J>) -> Re
     do_all(rt, volume, events.as_slice())
 }
 
+/// Gives a mount back.
+fn give_back<J: Volumes, R: Wait>(
+    rt: &R,
+    volume: &Volume<J>,
+    mount: Mount<J>,
+) -> Result<(), VolError> {
+    match volume.unmount(rt, mount) {
+        Ok(()) => Ok(()),
+        Err((refusal, refused)) => {
+            refused.spend();
+            Err(refusal)
+        }
+    }
+}
+
 /// Makes the snapshot, mounts it, and does a task.
 fn mount_and_time<J: Volumes + Send + Sync, R: Threads + Wait + Clock + Sync>(
     rt: &R,
@@ -312,7 +330,7 @@ fn mount_and_time<J: Volumes + Send + Sync, R: Threads + Wait + Clock + Sync>(
         Err(refusal) => Err(refusal),
         Ok(mount) => {
             let took = time_on(rt, alloc, volume, &mount, ports, task);
-            mount.spend();
+            give_back(rt, volume, mount)?;
             took
         }
     }

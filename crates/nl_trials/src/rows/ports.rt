@@ -8,7 +8,7 @@ use nl_cleaner::Job;
 use nl_core::Pen;
 use nl_device::FaultDevice;
 use nl_lib::Cleaned;
-use nl_mounts::{Port, Shared};
+use nl_mounts::{Port, Shared, is_mount_event};
 use nl_publish::{Mount, Volumes};
 use nl_types::{
     Answer, Ask, CheckpointNumber, Event, MAX_PAYLOAD, MountNumber, Reply, Segment, VolError,
@@ -81,8 +81,8 @@ impl<J: Volumes, R: Wait> Ported<'_, J, R> {
         let mount = self.mounts.remove(place);
         match self.shared.unmount(self.rt, mount) {
             Ok(()) => Ok(Answer::Done),
-            Err((refusal, mount)) => {
-                self.mounts.push_reserved(mount);
+            Err((refusal, refused)) => {
+                self.mounts.push_reserved(refused.again());
                 Err(refusal)
             }
         }
@@ -94,6 +94,14 @@ impl<J: Volumes, R: Wait> Ported<'_, J, R> {
             return Err(VolError::BadMount);
         };
         ask_port(alloc, &mut self.port, mount, ask)
+    }
+
+    /// Applies an event that mounts nothing and gives no mount back.
+    fn change(&self, event: &Event) -> Reply {
+        if is_mount_event(event) {
+            return Err(VolError::BadMount);
+        }
+        self.shared.apply(self.rt, event)
     }
 
     fn warm(&mut self, words: &[&str]) -> Result<usize, VolError> {
@@ -170,7 +178,7 @@ impl<J: Volumes, R: Wait> Volume for Ported<'_, J, R> {
             Event::Mount(checkpoint) => self.mount(*checkpoint),
             Event::Unmount(number) => self.unmount(*number),
             Event::MountRead(number, ask) => self.ask(alloc, *number, ask),
-            _ => self.shared.apply(self.rt, event),
+            _ => self.change(event),
         }
     }
 

@@ -36,3 +36,15 @@ returns-in_err-named-clause-book g c =
 pub returns-in_err-named-clause-seats : goal.returns-in_err-named-clause-seats
 returns-in_err-named-clause-seats g c =
     IfOk-from_err c.from_residual-in_err-named.result _ c.from_residual-in_err-named.ensures.0
+
+pub returns-in_err-first-clause-fronts : goal.returns-in_err-first-clause-fronts
+returns-in_err-first-clause-fronts g c =
+    IfOk-from_err c.from_residual.result _ c.from_residual.ensures.0
+
+pub returns-in_err-second-clause-fronts : goal.returns-in_err-second-clause-fronts
+returns-in_err-second-clause-fronts g c =
+    IfOk-from_err c.from_residual-in_err-second.result _ c.from_residual-in_err-second.ensures.0
+
+pub returns-in_err-named-clause-fronts : goal.returns-in_err-named-clause-fronts
+returns-in_err-named-clause-fronts g c =
+    IfOk-from_err c.from_residual-in_err-named.result _ c.from_residual-in_err-named.ensures.0

@@ -5,4 +5,4 @@ pub returns : goal.returns
 returns g c t tree =
     bytes_told t c.args.path.now c.args.offset c.args.len c.read.result c.reply_of.result
     c.reply_of.ensures.reply c.reply_of.ensures.shows
-    (c.read.ensures.told c.learn.ensures.told t tree)
+    (c.read.ensures.told t tree)

@@ -8,4 +8,4 @@ use Rattle.nl_shared.proofs.shared.names_through.Goals as goal
 pub returns : goal.returns
 returns g c t tree =
     subst (λ (r : Reply). IsToldBy t (ask.List c.args.path.now) r) (sym c.names_reply.ensures)
-    (names_told t c.args.path.now c.list.result (c.list.ensures.told c.learn.ensures.told t tree))
+    (names_told t c.args.path.now c.list.result (c.list.ensures.told t tree))

@@ -8,4 +8,4 @@ use Rattle.nl_shared.proofs.shared.stat_through.Goals as goal
 pub returns : goal.returns
 returns g c t tree =
     subst (λ (r : Reply). IsToldBy t (ask.Stat c.args.path.now) r) (sym c.stat_reply.ensures)
-    (stat_told t c.args.path.now c.stat.result (c.stat.ensures.told c.learn.ensures.told t tree))
+    (stat_told t c.args.path.now c.stat.result (c.stat.ensures.told t tree))

@@ -2,29 +2,23 @@ use Rattle.std.proofs.Common.{◌≡◌, ℕ, List, ap, sym, ◌∙◌, subst, S
 use Rattle.nl_types.specs.declared.error.VolError.TheVariants.{BadMount}
 use Rattle.std.specs.Prelude.{slice_get}
 use Rattle.std.proofs.lemmas.Option.{slice_get-get_or}
-use Rattle.nl_publish.specs.Histories.{Known}
 use Rattle.nl_lanes.specs.Jobs.{ArePlaced, LaneView}
-use Rattle.nl_lanes.specs.Reading.{HasLearned, IsBytesOf, Told}
+use Rattle.nl_lanes.specs.Reading.{IsBytesOf, Told}
 use Rattle.nl_lanes.proofs.Lanes.{placed, placed_more}
 use Rattle.nl_lanes.proofs.many.Lane.read.Goals as goal
 
 pub returns-clause-answers : goal.returns-clause-answers
 returns-clause-answers g c =
     let m = c.args.mount.now in let jobs = c.args.jobs.now in let job = c.index-jobs-index.result in
-    let was = ap (λ (l : LaneView). l.answers) c.self.view_is in
-    let known = g.P.FileReader.known c.self.inside.reader in
-    let seen : known ≡ c.args.self.now.seen =
-    ap (λ (l : LaneView). l.seen) c.self.view_is in
-    let learned : HasLearned m known =
-    subst (λ (k : Known). HasLearned m k) (sym seen) c.requires.learned in
+    let was = ap (λ (l : LaneView g.row.P.Denot). l.answers) c.self.view_is in
     let at : slice_get jobs c.args.index ≡ Some job =
     slice_get-get_or jobs c.args.index job c.requires.index ∙ ap Some (sym c.index-jobs-index.is) in
     let told =
     subst (λ (p : List ℕ).
-    Told m known (c.read-answer.result ≡ Err BadMount)
+    Told m (c.read-answer.result ≡ Err BadMount)
     (λ t. IsBytesOf t p job.offset job.len c.read-answer.result))
     c.as_slice.ensures c.read-answer.ensures.told in
     placed_more m jobs c.self.inside.answers.items c.push_answer.new.answers.items
     (c.args.index, c.read-answer.result) (subst (ArePlaced m jobs) (sym was) c.requires.answers)
-    (placed m known jobs c.args.index job c.read-answer.result learned at told)
+    (placed m jobs c.args.index job c.read-answer.result at told)
     c.push_answer.ensures

@@ -1,43 +1,52 @@
-use Rattle.std.proofs.Common.{Some, sym, refl, subst}
-use Rattle.std.proofs.lemmas.Result.{err_from_is_err_and}
+use Rattle.std.proofs.Common.{Some, Err, ap, sym, refl, subst}
+use Rattle.nl_types.specs.declared.error.VolError.{VolError}
 use Rattle.nl_commit.specs.Commits.{image_of}
 use Rattle.nl_commit.specs.Shown.{pages_shown}
 use Rattle.nl_publish.specs.Histories.{Known}
 use Rattle.nl_mounts.specs.Caching.{AreCachedPages}
-use Rattle.nl_mounts.specs.Ports.{IsSeenOn, OfMountFile, PortView}
+use Rattle.nl_mounts.specs.Ports.{IsSeenOn, IsUngiven, OfMountFile, PortView}
 use Rattle.nl_mounts.specs.Warming.{Warms}
 use Rattle.nl_mounts.specs.Warming.Warms.{Nothing}
-use Rattle.nl_mounts.proofs.Looking.{comes}
+use Rattle.nl_mounts.proofs.Looking.{back_at, comes, missed}
 use Rattle.nl_mounts.proofs.PortPages.{finds_seen, found_in, put_pages, seen_on, warming_refused, warms_at}
 use Rattle.nl_mounts.proofs.port.Port.warm_through.Goals as goal
 
-pub returns-in_err-look-clause-warmed : goal.returns-in_err-look-clause-warmed
-returns-in_err-look-clause-warmed g c =
-    let given = err_from_is_err_and c.from_residual.result c.from_residual.ensures.1 in
-    Nothing given.0 given.1 refl
+pub returns-in-Err-clause-warmed : goal.returns-in-Err-clause-warmed
+returns-in-Err-clause-warmed g c = Nothing c.in-Err.refusal refl refl
 
 pub come_back-requires : goal.come_back-requires
 come_back-requires g c =
-    subst (λ (p : PortView). IsSeenOn p.known c.in_ok-look.look.front) (sym c.look.ensures.same)
-    (finds_seen c.args.mount.now c.args.self.now.known c.in_ok-look.look.front c.in_ok-look.look.shown
-    c.in_ok-look.look.tree c.in_ok-look.ensures.finds)
+    subst (λ (p : PortView). IsSeenOn p.known c.in-Ok.look.front) (sym c.in-Ok.ensures.out)
+    (finds_seen c.args.mount.now c.args.self.now.known c.in-Ok.look.front c.in-Ok.look.shown
+    c.in-Ok.look.tree c.in-Ok.ensures.finds)
 
-pub returns : goal.returns
-returns g c =
-    let m = c.args.mount.now in let old = c.args.self.now.known in let look = c.in_ok-look.look in
+pub returns-in-Err-clause-looked : goal.returns-in-Err-clause-looked
+returns-in-Err-clause-looked g c =
+    missed g.E.Enters.gives c.args.mount.now c.args.self.now c.look.new.self.known _ _ c.in-Err.ensures.missed
+    (ap (λ (p : PortView). p.known) c.in-Err.ensures.same)
+    (ap (λ (e : VolError). Err e) c.in-Err.ensures.refused)
+
+pub returns-in-Ok : goal.returns-in-Ok
+returns-in-Ok g c =
+    let m = c.args.mount.now in let old = c.args.self.now.known in let look = c.in-Ok.look in
     let image = c.image.result.now.tables in
     let tree = c.tree.result in
     let result = c.warm_in-result.result in
     let was = c.args.cache.now in let now = c.warm_in-result.new.cache in
     let finds =
     found_in m old look.front look.shown image look.tree tree c.image.ensures c.tree.ensures
-    c.in_ok-look.ensures.finds in
+    c.in-Ok.ensures.finds in
     let pages = seen_on old look.front (Some was) (finds_seen m old look.front image tree finds) c.requires in
+    let back =
+    back_at c.args.self.now c.look.new.self c.come_back.new.self look.front c.in-Ok.ensures.seated
+    c.in-Ok.ensures.out c.come_back.ensures in
     let all =
-    comes m old c.come_back.new.self.known look image tree _ _ c.in_ok-look.ensures.finds
-    c.come_back.ensures.known c.image.ensures c.tree.ensures c.warm_in-result.ensures.refused in
+    comes m old c.come_back.new.self.known look image tree
+    (IsUngiven g.E.Enters.gives old c.args.self.now.seated) _ _ c.in-Ok.ensures.finds
+    back.known c.image.ensures c.tree.ensures c.warm_in-result.ensures.refused in
     record {
-      pages = subst (λ (k : Known). AreCachedPages k.commits (Some now)) (sym c.come_back.ensures.known)
+      kept = back.kept;
+      pages = subst (λ (k : Known). AreCachedPages k.commits (Some now)) (sym back.known)
           (put_pages m old look.front image tree was now finds c.warm_in-result.ensures.stored pages);
       later = all.later;
       looked = all.looked;
@@ -46,7 +55,7 @@ returns g c =
           subst (λ (k : Known).
           Warms (OfMountFile (image_of k.commits) m.number c.args.path.now) c.args.offset c.args.len was
           result now)
-          (sym c.come_back.ensures.known)
+          (sym back.known)
           (warms_at m old look.front image tree c.args.path.now c.args.offset c.args.len was now result finds
           (warming_refused (pages_shown image) tree result _ c.warm_in-result.ensures.refused)
           c.warm_in-result.ensures.warmed);

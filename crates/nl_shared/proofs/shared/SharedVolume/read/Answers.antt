@@ -1,6 +1,6 @@
-use Rattle.std.proofs.Common.{◌∙◌, inr, refl, subst}
+use Rattle.std.proofs.Common.{◌∙◌, inr, refl, subst, sym}
 use Rattle.nl_types.specs.declared.event.Event.{Event}
-use Rattle.nl_publish.specs.Locks.{Ran}
+use Rattle.nl_publish.specs.Locks.{IsNoMountEvent, Ran}
 use Rattle.nl_shared.specs.SharedVolumes.{ReadComes, Sharing}
 use Rattle.nl_shared.proofs.shared.SharedVolume.read.Goals as goal
 
@@ -12,3 +12,6 @@ returns-in-None g c =
     c.apply.ensures in
     subst (λ (s : Sharing). ReadComes s c.args.number c.args.ask.now c.apply.result new)
     (c.self.view_is ∙ c.told.ensures.same) (inr (ran, refl))
+
+pub apply-requires : goal.apply-requires
+apply-requires g c = subst IsNoMountEvent (sym c.requires) tt

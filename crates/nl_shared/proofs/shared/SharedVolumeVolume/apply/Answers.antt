@@ -1,5 +1,6 @@
 use Rattle.std.proofs.Common.{refl, subst, sym}
 use Rattle.nl_types.specs.declared.event.Event.{Event}
+use Rattle.nl_publish.specs.Facts.MountEvents.{no_mount}
 use Rattle.nl_shared.specs.SharedVolumes.{Sharing, shared_does}
 use Rattle.nl_shared.proofs.SharedEvents.{others_do}
 use Rattle.nl_shared.proofs.shared.SharedVolumeVolume.apply.Goals as goal
@@ -28,3 +29,6 @@ returns-in_default g c =
     (others_do old new c.args.event.now c.apply.result c.in_default.not-Mount c.in_default.not-Unmount
     c.in_default.not-MountRead
     c.apply.ensures refl)
+
+pub apply-requires : goal.apply-requires
+apply-requires g c = no_mount c.args.event.now c.in_default.not-Mount c.in_default.not-Unmount

@@ -2,7 +2,7 @@ use Rattle.std.proofs.Common.{ap, Err}
 use Rattle.nl_types.specs.declared.error.VolError.{VolError}
 use Rattle.nl_publish.specs.Locks.{NotBegun}
 use Rattle.nl_publish.proofs.Running.{ran}
-use Rattle.nl_publish.proofs.locked.Locked.apply.Goals as goal
+use Rattle.nl_publish.proofs.locked.Locked.do_event.Goals as goal
 
 pub returns-in-Err : goal.returns-in-Err
 returns-in-Err g c = NotBegun c.in-Err.ensures.1 (ap (λ (e : VolError). Err e) c.in-Err.ensures.0)
