@@ -1,9 +1,10 @@
 -- What is judged of each checkpoint, and of all.
-use Rattle.std.proofs.Common.{◌≡◌, ℕ, zero, suc, ◌+◌, ◌*◌, ◌<◌, ◌≤◌, Bool, true, false, cond, List, [], ◌∷◌, length, Option, Some, None, refl, ap, sym, subst, ◌∙◌, inl, inr, arith}
+use Rattle.std.proofs.Common.{◌≡◌, ℕ, zero, suc, ◌+◌, ◌*◌, ◌/◌, ◌<◌, ◌≤◌, Bool, true, false, cond, List, [], ◌∷◌, length, Option, Some, None, refl, ap, sym, subst, ◌∙◌, inl, inr, arith}
 use Rattle.std.specs.Prelude.{map}
 use Rattle.std.specs.List.{All, slice_get}
 use Rattle.std.specs.Option.{is_some, option_and_then, option_map}
 use Rattle.std.proofs.lemmas.Bool.{cases_Bool, cases_lt}
+use Rattle.std.proofs.lemmas.List.{get_or_past}
 use Rattle.std.proofs.lemmas.List.Elements.{All-cons, All-head, All-nil, All-tail}
 use Rattle.nl_types.specs.declared.kind.Kind.{Kind}
 use Rattle.nl_types.specs.Inodes.{Inodes}
@@ -22,18 +23,18 @@ use Rattle.nl_ifile.specs.Inodes.{inode_at}
 use Rattle.nl_tree.specs.Held.{Held, Holding, IsHolding, inode_content, inodes_of_holding}
 use Rattle.nl_check.specs.Conditions.{AreExact, AreShaped, AreTrees, FirstFault, HasExactPeriods, IsSoundShape, IsSoundTree, MeetsItsNumbers, all_met, periods_fail, shapes_fail, trees_fail}
 use Rattle.nl_check.specs.InodeTrees.{FormTree, used_below}
-use Rattle.nl_check.specs.Judging.{AreMetAt, IsAlike, IsJudged, IsLast, IsTold, fault_told, told}
-use Rattle.nl_check.specs.Private.Naming.{TellsKinds, awaited_count, kind_held}
+use Rattle.nl_check.specs.Judging.{IsAlike, IsJudged, IsLast, IsTold, fault_told, told}
+use Rattle.nl_check.specs.Private.Naming.{HasKindsOf, TellsKinds, awaited_count, kind_held}
 use Rattle.nl_check.specs.Periods.{AreOfPeriods}
 use Rattle.nl_check.specs.Shapes.{HasShape, Itself}
-use Rattle.nl_check.specs.Private.SoundInodes.{kind_for, kind_in, kind_told}
+use Rattle.nl_check.specs.Private.SoundInodes.{TellsAll, kind_for, kind_in, kind_told}
 use Rattle.nl_check.specs.Trees.{IsSizeOf, IsTreeOf}
-use Rattle.nl_check.specs.Private.Walks.{IsWalk}
+use Rattle.nl_check.specs.Private.Walks.{AreSoundAt, IsMetWholeAt, IsWalk}
 use Rattle.nl_check.specs.declared.checks.Judged.{Judged}
-use Rattle.nl_check.specs.declared.checks.Last.{Last}
 use Rattle.nl_check.specs.declared.shape.Walk.{Walk}
 use Rattle.nl_check.specs.Facts.Below.{both, not-none, some-by}
 use Rattle.nl_check.proofs.MetNumbers.{tell-periods}
+use Rattle.nl_check.proofs.WalkedFiles.{none-in}
 
 -- ---- how many are in use
 
@@ -52,6 +53,18 @@ count-used (k ∷ kinds) inodes same =
     ap (λ (b : Bool). cond b 1 0) (same 0 (omega arith)) in
     let all = used-first inodes (length kinds) in
     omega (arith, rest, first, all)
+
+-- where none from a number on is
+used-past : (inodes : Inodes) (n k : ℕ) → n ≤ k → ((i : ℕ) → n ≤ i → i < k → is_some (inodes i) ≡ false)
+    → used_below inodes k ≡ used_below inodes n
+used-past inodes n zero le none = let e : ◌≡◌ {A = ℕ} 0 n = omega (arith, le) in ap (used_below inodes) e
+used-past inodes n (suc k) le none = elim (cases_lt k n) [
+  | inl less ↦ (let e : suc k ≡ n = omega (arith, le, less) in ap (used_below inodes) e)
+  | inr high ↦ (let rest = used-past inodes n k high (λ i low less. none i low (omega (arith, less))) in
+      let not_here : ◌≡◌ {A = ℕ} (cond (is_some (inodes k)) 1 0) 0 =
+      ap (λ (b : Bool). cond b 1 0) (none k high (omega arith)) in
+      omega (arith, rest, not_here))
+]
 
 -- ---- a file's size is one
 
@@ -90,25 +103,44 @@ stands-kind pages (Some inode) held is = by inode.kind refl is
 
 module _ (pages : Pages) (root : Root) (numbers : List Bool) (kinds : List (Option Kind)) (walk : Walk)
     (w : IsWalk pages root numbers kinds walk) where
-  pub tells-kinds : (held : Holding) → Stores pages root held → TellsKinds held kinds
-  tells-kinds held stores = record {
-    count = w.told.count;
-    told = λ i low. w.told.told i low ∙ stands-kind pages (inode_at pages root i) (held i) (stores i);
+  kinds-held : (held : Holding) → Stores pages root held → (i : ℕ) → i < 524288
+      → kind_in kinds i ≡ kind_held (held i)
+  kinds-held held stores i low =
+      w.told.told i low ∙ stands-kind pages (inode_at pages root i) (held i) (stores i)
+
+  -- no block behind the last one has inodes
+  none-held : (held : Holding) → Stores pages root held → (i : ℕ) → 8 * walk.count ≤ i
+      → kind_held (held i) ≡ None
+  none-held held stores i past =
+      sym (stands-kind pages (inode_at pages root i) (held i) (stores i))
+      ∙ ap kind_told
+      (none-in pages root (i / 8) i
+      (w.sized.none_past (i / 8) (let same = w.sized.is in omega (arith, past, same))) refl)
+
+  pub tells-kinds : (held : Holding) → Stores pages root held → (part : List (Option Kind))
+      → HasKindsOf walk.count kinds part → TellsKinds held part
+  tells-kinds held stores part of = record {
+    few = let c = w.told.count in let f = of.few in omega (arith, c, f);
+    told = λ i low. elim (of.each i) [
+      | inl same ↦ same ∙ kinds-held held stores i low
+      | inr (past, none) ↦ none ∙ sym (none-held held stores i past)
+    ];
   }
 
-  counted : (held : Holding) → Stores pages root held
-      → awaited_count kinds ≡ used_below (inodes_of_holding held) 524288
-  counted held stores =
-      count-used kinds (inodes_of_holding held) same ∙ ap (used_below (inodes_of_holding held)) w.told.count
+  counted : (held : Holding) → Stores pages root held → (part : List (Option Kind))
+      → HasKindsOf walk.count kinds part → awaited_count part ≡ used_below (inodes_of_holding held) 524288
+  counted held stores part of =
+      let few = (tells-kinds held stores part of).few in
+      count-used part (inodes_of_holding held) (λ i low. same i (omega (arith, low, few)))
+      ∙ sym (used-past (inodes_of_holding held) (length part) 524288 few
+      (λ i past low. sym (same i low) ∙ ap is_some (get_or_past part i None past)))
     where
       some-held : (o : Option Held) → is_some (kind_held o) ≡ is_some (option_map inode_content o)
       some-held None = refl
       some-held (Some x) = refl
 
-      same : (i : ℕ) → i < length kinds → is_some (kind_in kinds i) ≡ is_some (inodes_of_holding held i)
-      same i low =
-          ap is_some ((tells-kinds held stores).told i (let c = w.told.count in omega (arith, low, c)))
-          ∙ some-held (held i)
+      same : (i : ℕ) → i < 524288 → is_some (kind_in part i) ≡ is_some (inodes_of_holding held i)
+      same i low = ap is_some ((tells-kinds held stores part of).told i low) ∙ some-held (held i)
 
   module _ (sound : walk.sound ≡ true) where
     pub holding-of : Holding
@@ -129,25 +161,21 @@ module _ (pages : Pages) (root : Root) (numbers : List Bool) (kinds : List (Opti
     holds-of = record { stores = stores-of; sound = limits-of }
 
   -- the tree that is told, and formed
-  pub tree-of : (entry : CheckpointEntry) (t : IsTold kinds walk entry)
+  pub tree-of : (entry : CheckpointEntry) (part : List (Option Kind)) → HasKindsOf walk.count kinds part
+      → (t : IsTold part walk entry)
       → FormTree (inodes_of_holding (holding-of t.sound)) → IsTreeOf pages root entry.size entry.inodes
-  tree-of entry t forms = record {
+  tree-of entry part of t forms = record {
     holding = holding-of t.sound;
     stores = stores-of t.sound;
     limits = limits-of t.sound;
     forms = forms;
-    counted = t.inodes ∙ counted (holding-of t.sound) (stores-of t.sound);
+    counted = t.inodes ∙ counted (holding-of t.sound) (stores-of t.sound) part of;
     sized = subst (IsSizeOf pages root) (sym t.size) w.sized;
   }
 
-  -- what is a tree is told
-  pub tree-told : (entry : CheckpointEntry) → IsTreeOf pages root entry.size entry.inodes
-      → IsTold kinds walk entry
-  tree-told entry t = record {
-    sound = by walk.sound refl;
-    size = one-size pages root entry.size (1024 * walk.count) (w.shaped.files Itself) t.sized w.sized;
-    inodes = t.counted ∙ sym (counted t.holding t.stores);
-  }
+  -- the inodes of a tree are sound
+  pub sound-told : (size inodes : ℕ) → IsTreeOf pages root size inodes → walk.sound ≡ true
+  sound-told size inodes t = by walk.sound refl
     where
       by : (b : Bool) → walk.sound ≡ b → walk.sound ≡ true
       by true e = e
@@ -155,111 +183,104 @@ module _ (pages : Pages) (root : Root) (numbers : List Bool) (kinds : List (Opti
           let u = w.told.some_not e in
           absurd (u.1 (record { holding = t.holding; stands = t.stores u.0; limits = t.limits }))
 
+  -- what is a tree is told
+  pub tree-told : (entry : CheckpointEntry) (part : List (Option Kind)) → HasKindsOf walk.count kinds part
+      → IsTreeOf pages root entry.size entry.inodes → IsTold part walk entry
+  tree-told entry part of t = record {
+    sound = sound-told entry.size entry.inodes t;
+    size = one-size pages root entry.size (1024 * walk.count) (w.known.shaped.files Itself) t.sized w.sized;
+    inodes = t.counted ∙ sym (counted t.holding t.stores part of);
+  }
+
   pub tree-holds : (size inodes : ℕ) (t : IsTreeOf pages root size inodes) → HoldsTree pages root t.holding
   tree-holds size inodes t = record { stores = t.stores; sound = t.limits }
 
 -- ---- one checkpoint
 
-module _ (pages : Pages) (periods : Periods) (entry : CheckpointEntry) (root : CodeRoot)
+module _ (pages : Pages) (entry : CheckpointEntry) (root : CodeRoot)
     (root_is : Some root ≡ root_told entry.root) where
   told-root : (told entry).root ≡ Some (root_of root)
   told-root = ap (option_map root_of) (sym root_is)
 
-  same-root : (r : Root) → (told entry).root ≡ Some r → root_of root ≡ r
-  same-root r e = let both : Some (root_of root) ≡ Some r = sym told-root ∙ e in cc
+  pub met-whole : (numbers : List Bool) (kinds : List (Option Kind)) (walk : Walk)
+      → IsWalk pages (root_of root) numbers kinds walk → IsMetWholeAt pages (told entry) numbers
+  met-whole numbers kinds walk w = (root_of root, told-root, w.known)
 
-  module _ (numbers : List Bool) (kinds : List (Option Kind)) (walk : Walk) (before now : Judged)
-      (w : IsWalk pages (root_of root) numbers kinds walk)
-      (holds : now.trees ≡ true → (before.trees ≡ true)
-      × IsTreeOf pages (root_of root) entry.size entry.inodes)
-      (are : now.periods ≡ true → (before.periods ≡ true) × AreOfPeriods periods entry.number numbers) where
-    pub judged : (now.trees ≡ false → before.trees ≡ true
-        → IsTreeOf pages (root_of root) entry.size entry.inodes → ⊥)
-        → ((before.periods ≡ true) × AreOfPeriods periods entry.number numbers → now.periods ≡ true)
-        → IsJudged pages periods (told entry) before now
-    judged unless of = record {
-      shape = (root_of root, told-root, w.shaped);
-      trees = λ e. let h = holds e in (h.0, (root_of root, told-root, h.1));
-      no_tree = λ e was (r, is, t).
-          unless e was
-          (subst (λ (x : Root). IsTreeOf pages x entry.size entry.inodes) (sym (same-root r is)) t);
-      exact = λ e.
-          let a = are e in (
-            a.0,
-            (
-              root_of root,
-              told-root,
-              tell-periods.yes pages periods entry.number (root_of root) numbers w.met_in a.1,
-            ),
-          );
-      not_exact = λ e was (r, is, m).
-          both now.periods (of (
-            was,
-            tell-periods.no pages periods entry.number (root_of root) numbers w.met_in
-                (subst (MeetsItsNumbers pages periods entry.number) (sym (same-root r is)) m),
-          ))
-          e;
-    }
+  pub sound-at : (numbers : List Bool) (kinds : List (Option Kind)) (walk : Walk)
+      → IsWalk pages (root_of root) numbers kinds walk
+      → IsTreeOf pages (root_of root) entry.size entry.inodes → AreSoundAt pages (told entry) kinds
+  sound-at numbers kinds walk w t = (
+    root_of root,
+    told-root,
+    subst (TellsAll pages (root_of root) kinds)
+        (sound-told pages (root_of root) numbers kinds walk w entry.size entry.inodes t) w.told,
+  )
 
-    pub last-judged : IsLast pages periods numbers now (record { entry = entry })
-    last-judged = record {
-      met = (root_of root, told-root, w.met_in);
-      shape = (root_of root, told-root, w.shaped);
-      tree = λ e. (root_of root, told-root, (holds e).1);
-      exact = λ e. (are e).1;
-    }
+  pub sound-tree : IsTreeOf pages (root_of root) entry.size entry.inodes → IsSoundTree pages (told entry)
+  sound-tree t = (root_of root, told-root, t)
+
+  pub tree-there : IsSoundTree pages (told entry) → IsTreeOf pages (root_of root) entry.size entry.inodes
+  tree-there (r, is, t) =
+      let one : Some r ≡ Some (root_of root) = sym is ∙ told-root in
+      let same : r ≡ root_of root = cc in
+      subst (λ (x : Root). IsTreeOf pages x entry.size entry.inodes) same t
+
+-- what is judged of it, where it is met
+module _ (pages : Pages) (periods : Periods) (entry : CheckpointEntry) (numbers : List Bool)
+    (before now : Judged) (known : IsMetWholeAt pages (told entry) numbers)
+    (holds : now.trees ≡ true → (before.trees ≡ true) × IsSoundTree pages (told entry))
+    (are : now.periods ≡ true → (before.periods ≡ true) × AreOfPeriods periods entry.number numbers) where
+  exact-here : AreOfPeriods periods entry.number numbers → HasExactPeriods pages periods (told entry)
+  exact-here of = (
+    known.0,
+    known.1,
+    tell-periods.yes pages periods entry.number known.0 numbers known.2.met_in of,
+  )
+
+  of-periods-here : HasExactPeriods pages periods (told entry) → AreOfPeriods periods entry.number numbers
+  of-periods-here (r, is, meets) =
+      let one : Some r ≡ Some known.0 = sym is ∙ known.1 in
+      let same : r ≡ known.0 = cc in
+      tell-periods.no pages periods entry.number known.0 numbers known.2.met_in
+      (subst (MeetsItsNumbers pages periods entry.number) same meets)
+
+  pub judged : (now.trees ≡ false → before.trees ≡ true → IsSoundTree pages (told entry) → ⊥)
+      → ((before.periods ≡ true) × AreOfPeriods periods entry.number numbers → now.periods ≡ true)
+      → IsJudged pages periods (told entry) before now
+  judged unless of = record {
+    shape = (known.0, known.1, known.2.shaped);
+    trees = holds;
+    no_tree = unless;
+    exact = λ e. let a = are e in (a.0, exact-here a.1);
+    not_exact = λ e was exact. both now.periods (of (was, of-periods-here exact)) e;
+  }
+
+  pub last-judged : (kinds : List (Option Kind)) → (now.trees ≡ true → AreSoundAt pages (told entry) kinds)
+      → IsLast pages periods numbers kinds now (record { entry = entry })
+  last-judged kinds sound =
+      record { known = known; sound = sound; tree = λ e. (holds e).1; exact = λ e. (are e).1 }
 
 -- ---- a checkpoint with the file of inodes of the last one
 
-module _ (pages : Pages) (periods : Periods) (entry : CheckpointEntry) (numbers : List Bool) (last : Last)
-    (before now : Judged) (known : IsLast pages periods numbers before last)
-    (alike : IsAlike last.entry entry) (kept : now.trees ≡ before.trees)
-    (are : now.periods ≡ true → (before.periods ≡ true) × AreOfPeriods periods entry.number numbers) where
-  one-root : (told last.entry).root ≡ (told entry).root
+module _ (pages : Pages) (one other : CheckpointEntry) (alike : IsAlike one other) where
+  one-root : (told one).root ≡ (told other).root
   one-root = ap (λ (fields : RootFields). option_map root_of (root_told fields)) alike.root
 
-  shape-here : IsSoundShape pages (told entry)
-  shape-here = let s = known.shape in (s.0, sym one-root ∙ s.1, s.2)
+  pub known-alike : (numbers : List Bool) → IsMetWholeAt pages (told one) numbers
+      → IsMetWholeAt pages (told other) numbers
+  known-alike numbers (root, is, known) = (root, sym one-root ∙ is, known)
 
-  tree-here : IsSoundTree pages (told last.entry) → IsSoundTree pages (told entry)
-  tree-here (root, is, t) = (
+  pub sound-alike : (kinds : List (Option Kind)) → AreSoundAt pages (told one) kinds
+      → AreSoundAt pages (told other) kinds
+  sound-alike kinds (root, is, sound) = (root, sym one-root ∙ is, sound)
+
+  pub tree-alike : IsSoundTree pages (told one) → IsSoundTree pages (told other)
+  tree-alike (root, is, t) = (
     root,
     sym one-root ∙ is,
-    subst (λ (n : ℕ). IsTreeOf pages root entry.size n) alike.inodes
-        (subst (λ (n : ℕ). IsTreeOf pages root n last.entry.inodes) alike.size t),
+    subst (λ (n : ℕ). IsTreeOf pages root other.size n) alike.inodes
+        (subst (λ (n : ℕ). IsTreeOf pages root n one.inodes) alike.size t),
   )
-
-  met-here : AreMetAt pages (told entry) numbers
-  met-here = let m = known.met in (m.0, sym one-root ∙ m.1, m.2)
-
-  pub judged-alike : ((before.periods ≡ true) × AreOfPeriods periods entry.number numbers
-      → now.periods ≡ true)
-      → IsJudged pages periods (told entry) before now
-  judged-alike of = let m = met-here in record {
-    shape = shape-here;
-    trees = λ e. let was = sym kept ∙ e in (was, tree-here (known.tree was));
-    no_tree = λ e was t. both now.trees (kept ∙ was) e;
-    exact = λ e.
-        let a = are e in
-        (a.0, (m.0, m.1, tell-periods.yes pages periods entry.number m.0 numbers m.2 a.1));
-    not_exact = λ e was (r, is, x).
-        let one : Some r ≡ Some m.0 = sym is ∙ m.1 in
-        let root_is : r ≡ m.0 = cc in
-        both now.periods (of (
-          was,
-          tell-periods.no pages periods entry.number m.0 numbers m.2
-              (subst (MeetsItsNumbers pages periods entry.number) root_is x),
-        ))
-        e;
-  }
-
-  pub last-alike : IsLast pages periods numbers now (record { entry = entry })
-  last-alike = record {
-    met = met-here;
-    shape = shape-here;
-    tree = λ e. tree-here (known.tree (sym kept ∙ e));
-    exact = λ e. (are e).1;
-  }
 
 -- ---- all of them
 

@@ -18,7 +18,7 @@ use Rattle.nl_check.specs.Facts.Below.{some-by}
 use Rattle.nl_check.proofs.InodeBlocks.{block_for-cong, block_for-none}
 use Rattle.nl_check.proofs.MetPlaces.{walked-empty}
 use Rattle.nl_check.proofs.ToldInodes.{told-all, told-hole, told-more, told-none}
-use Rattle.nl_check.proofs.WalkedFiles.{inode-there, next-can, none-in, walked-first, walked-hole, walked-met, walked-more, walked-shaped}
+use Rattle.nl_check.proofs.WalkedFiles.{inode-there, next-can, none-in, walked-first, walked-hole, walked-met, walked-more, walked-shaped, walked-whole}
 
 -- a walked file is measured
 pub measured : (pages : Pages) (root : Root) (old new : List Bool) (count : ℕ)
@@ -122,8 +122,11 @@ module _ (pages : Pages) (root : Root) where
       → ((i : ℕ) → i < walk.count → IsBlockOf pages root i)
       → AreKnown pages root (8 * walk.count) new kinds walk.sound → IsWalk pages root new kinds walk
   walk-of walk old met new kinds w blocks k = record {
-    shaped = walked-shaped pages root walk.count new past k.walked inodes;
-    met_in = walked-met pages root walk.count new past k.walked;
+    known = record {
+      shaped = walked-shaped pages root walk.count new past k.walked inodes;
+      met_in = walked-met pages root walk.count new past k.walked;
+      whole = walked-whole pages root walk.count new past k.walked;
+    };
     sized = w.sized;
     told = told-all pages root walk.count kinds walk.sound past k.told;
   }

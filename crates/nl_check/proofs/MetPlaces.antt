@@ -404,7 +404,7 @@ module _ (pages : Pages) (top p : ℕ) (page : List ℕ) (node : IsNode pages (C
         tree_shape = λ k. cc;
       }
 
-empty-place : (pages : Pages) (level offset : ℕ) → place_at pages Empty level offset ≡ None
+pub empty-place : (pages : Pages) (level offset : ℕ) → place_at pages Empty level offset ≡ None
 unfolding place_at
 empty-place pages level offset = refl
 

@@ -300,7 +300,7 @@ no-block-there pages height top level offset number old stands why can =
 
 -- ---- a whole tree
 
-under-top : (pages : Pages) (height top : ℕ) (b : ℕ × ℕ)
+pub under-top : (pages : Pages) (height top : ℕ) (b : ℕ × ℕ)
     → IsUnder height 0 1 b ⊎ (places pages (Tree height top) b ≡ None)
 under-top pages height top b = elim (cases_lt height b.0) [
   | inl high ↦ inr (tree-above pages height top b.0 b.1 high)
@@ -310,7 +310,8 @@ under-top pages height top b = elim (cases_lt height b.0) [
   ]
 ]
 
-under-there : (pages : Pages) (height top : ℕ) (b : ℕ × ℕ) (v : ℕ) → places pages (Tree height top) b ≡ Some v
+pub under-there : (pages : Pages) (height top : ℕ) (b : ℕ × ℕ) (v : ℕ)
+    → places pages (Tree height top) b ≡ Some v
     → IsUnder height 0 1 b
 under-there pages height top b v is = elim (under-top pages height top b) [
   | inl h ↦ h

@@ -148,7 +148,7 @@ module _ (held : Holding) (limits : IsHolding held) where
     awaited-here i e = ap (kind_in old) e ∙ t.was
 
     inside : r.inode < 524288
-    inside = let low = in-table old r.inode r.kind t.was in let c = n.count in omega (arith, low, c)
+    inside = let low = in-table old r.inode r.kind t.was in let c = n.few in omega (arith, low, c)
 
     kind-here : kind_held (held r.inode) ≡ Some r.kind
     kind-here = elim (n.awaits r.inode inside) [
@@ -216,7 +216,8 @@ module _ (held : Holding) (limits : IsHolding held) where
 
     pub naming-step : IsNaming held next done (j + 1) new
     naming-step = record {
-      count = taken-length r.inode r.kind old new t ∙ n.count;
+      few =
+          let same = taken-length r.inode r.kind old new t in let c = n.few in omega (arith, same, c);
       awaits = λ i low. elim (cases_eq i r.inode) [
         | inl e ↦ inr (ap (kind_in new) e ∙ taken-here r.inode r.kind old new t)
         | inr other ↦ elim (n.awaits i low) [
@@ -348,7 +349,7 @@ module _ (held : Holding) (limits : IsHolding held) where
       → slice_get queue done ≡ Some d → end ≡ length (records_in (held d)) → IsNaming held queue done end old
       → IsNaming held queue (done + 1) 0 old
   naming-next queue done d old end turn is n = record {
-    count = n.count;
+    few = n.few;
     awaits = n.awaits;
     root = n.root;
     queued = n.queued;
@@ -412,7 +413,8 @@ module _ (held : Holding) (limits : IsHolding held) where
   pub naming-first : (old new : List (Option Kind)) → TellsKinds held old → IsTaken 2 kind.Directory old new
       → IsNaming held (2 ∷ []) 0 0 new
   naming-first old new told t = record {
-    count = taken-length 2 kind.Directory old new t ∙ told.count;
+    few =
+        let same = taken-length 2 kind.Directory old new t in let c = told.few in omega (arith, same, c);
     awaits = λ i low. elim (cases_eq i 2) [
       | inl e ↦ inr (ap (kind_in new) e ∙ taken-here 2 kind.Directory old new t)
       | inr other ↦ inl (taken-other 2 kind.Directory old new t i other ∙ told.told i low)
@@ -530,7 +532,7 @@ module _ (held : Holding) (limits : IsHolding held) where
         by None e = e
         by (Some k) e =
             absurd
-            (elim (n.awaits i (let low = in-table now i k e in let c = n.count in omega (arith, low, c))) [
+            (elim (n.awaits i (let low = in-table now i k e in let c = n.few in omega (arith, low, c))) [
               | inl same ↦ (let u = used-as held limits i k (sym same ∙ e) in
                   let p = f.found i u.content u.used in
                   clash (kind_in now i) k (reached-named p.0 i p.1) e)

@@ -2,16 +2,16 @@
 use Rattle.std.proofs.Common.{◌≡◌, ◌⊎◌, ℕ, ◌<◌, ◌≤◌, Bool, true, false, List, ◌∷◌, ◌++◌, ◌+◌, leb, Option, Some, None, refl, ap, sym, subst, ◌∙◌, inl, inr, arith}
 use Rattle.std.specs.Prelude.{nat_le, ◌&&◌, map}
 use Rattle.std.specs.Option.{IsSome, is_some, option_to_list}
-use Rattle.std.specs.List.{AllWithin, Contains}
+use Rattle.std.specs.List.{All, AllWithin, Contains}
 use Rattle.std.specs.List.Sorted.{IsPartitionPoint}
-use Rattle.std.proofs.lemmas.List.Elements.{Contains-append_left, Contains-append_right}
+use Rattle.std.proofs.lemmas.List.Elements.{All-contains, Contains-append_left, Contains-append_right}
 use Rattle.std.proofs.lemmas.Bool.{cases_lt, le-leb, le-ltb, leb-true, leb-false, lt-leb, lt-ltb}
 use Rattle.nl_types.specs.declared.period.Period.{Period}
 use Rattle.nl_types.specs.Entries.{is_before_end}
 use Rattle.nl_vstore.specs.Periods.{Periods}
 use Rattle.nl_check.specs.Conditions.{has}
 use Rattle.nl_check.specs.Periods.{AreOfPeriods, has_in}
-use Rattle.nl_check.specs.Private.Turns.{AreTurnedOfPeriods, AreTurns, HasTurnsBelow, IsOfPeriod, IsTurnOfPeriod, StaysBetween, checkpoint_of, turn_at, turns_of}
+use Rattle.nl_check.specs.Private.Turns.{AreTurnedOfPeriods, AreTurns, HasTurnsBelow, IsOfPeriod, IsTurnOfPeriod, StaysBetween, WereOfPeriods, checkpoint_of, turn_at, turns_of}
 use Rattle.nl_check.specs.MetFiles.{is_met}
 use Rattle.nl_check.specs.declared.turns.Turn.{Turn}
 
@@ -38,7 +38,7 @@ has-stays a b period le s =
 
 -- Numbers of their periods at one checkpoint are so at a later one, where those that changed, and those whose
 -- periods turned between the two, are.
-pub of-periods-later : (periods : Periods) (a b : ℕ) (old new : List Bool) → a ≤ b
+of-periods-later : (periods : Periods) (a b : ℕ) (old new : List Bool) → a ≤ b
     → AreOfPeriods periods a old
     → ((v : ℕ) → (is_met old v ≡ is_met new v) ⊎ IsOfPeriod periods b new v)
     → AreTurnedOfPeriods periods a b new
@@ -54,10 +54,16 @@ of-periods-later periods a b old new le are changed turns v =
       | inr s ↦ sym same ∙ (are v ∙ (ap (has_in a) is ∙ (has-stays a b p le s ∙ sym (ap (has_in b) is))))
     ]
 
-pub of-periods-since : (periods : Periods) (a b : ℕ) (numbers : List Bool) → a ≤ b
-    → AreOfPeriods periods a numbers → AreTurnedOfPeriods periods a b numbers → AreOfPeriods periods b numbers
-of-periods-since periods a b numbers le are turns =
-    of-periods-later periods a b numbers numbers le are (λ v. inl refl) turns
+pub of-periods-since : (periods : Periods) (a b : ℕ) (now : List Bool) (changed : List ℕ) → a ≤ b
+    → WereOfPeriods periods a now changed → All (IsOfPeriod periods b now) changed
+    → AreTurnedOfPeriods periods a b now → AreOfPeriods periods b now
+of-periods-since periods a b now changed le (start, are, tells) all turns =
+    of-periods-later periods a b start now le are
+    (λ v. elim (tells v) [
+      | inl same ↦ inl same
+      | inr there ↦ inr (All-contains (IsOfPeriod periods b now) changed v all there)
+    ])
+    turns
 
 -- ---- lists of turns
 

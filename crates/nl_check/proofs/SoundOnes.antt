@@ -1,5 +1,5 @@
 -- Inodes that are sound, each by itself.
-use Rattle.std.proofs.Common.{◌≡◌, ℕ, Bool, true, false, cond, List, length, Some, None, refl, ap, sym, subst}
+use Rattle.std.proofs.Common.{◌≡◌, ℕ, Bool, true, false, cond, Some, None, refl, ap, sym, subst}
 use Rattle.std.specs.Prelude.{◌==◌}
 use Rattle.std.proofs.lemmas.Bool.{eqb-true, eq-eqb}
 use Rattle.nl_types.specs.Roots.{Blocks, Pages, page_at}
@@ -7,10 +7,9 @@ use Rattle.nl_layout.specs.Root.{root_of}
 use Rattle.nl_layout.specs.declared.inode.Inode.{Inode}
 use Rattle.nl_layout.specs.declared.inode.InodeKind.{InodeKind}
 use Rattle.nl_layout.specs.declared.inode.InodeKind.TheVariants.{File, Directory, InodeFile}
-use Rattle.nl_dirs.specs.Records.{NamesAscend}
 use Rattle.nl_files.specs.CheckpointRoots.{StandsAs}
 use Rattle.nl_tree.specs.Held.{Held, Holding, IsHolding, IsInodeNumber, Listed, MayHold, Stored}
-use Rattle.nl_check.specs.Private.SoundFiles.{AreSoundRecords, IsSoundDirectory, IsSoundFile}
+use Rattle.nl_check.specs.Private.SoundFiles.{IsSoundDirectory, IsSoundFile}
 use Rattle.nl_check.specs.Private.SoundInodes.{IsMeasured, IsSoundInode}
 
 -- one inode in use, and no other

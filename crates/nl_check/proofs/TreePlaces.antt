@@ -51,7 +51,7 @@ tree-child pages height top level offset l =
 div-pow-out : (q d : ℕ) → q / 128 ^ suc d ≡ q / 128 ^ d / 128
 div-pow-out q d = ap (λ (k : ℕ). q / k) (pow-suc 128 d) ∙ sym (div-div-eq-div-mul q (128 ^ d) 128)
 
-div-pow-in : (q d : ℕ) → q / 128 ^ suc d ≡ q / 128 / 128 ^ d
+pub div-pow-in : (q d : ℕ) → q / 128 ^ suc d ≡ q / 128 / 128 ^ d
 div-pow-in q d =
     ap (λ (k : ℕ). q / k) (pow-suc 128 d ∙ mul_comm (128 ^ d) 128) ∙ sym (div-div-eq-div-mul q 128 (128 ^ d))
 

@@ -9,7 +9,7 @@ use Rattle.nl_ifile.specs.Inodes.{IsInodeFile, inode_at, inode_in}
 use Rattle.nl_check.specs.MetFiles.{CanBeMet, IsWalked, is_met}
 use Rattle.nl_check.specs.Periods.{AreMetIn}
 use Rattle.nl_check.specs.Shapes.{At, HasShape, IsShaped, Itself, Of, Owner, met, root_for}
-use Rattle.nl_check.specs.Private.Walks.{AreWalked, IsBelow}
+use Rattle.nl_check.specs.Private.Walks.{AreWalked, AreWhole, IsBelow}
 use Rattle.nl_check.proofs.MetPlaces.{walked-empty}
 
 same-at : (p q : At) → p.owner ≡ q.owner → p.level ≡ q.level → p.offset ≡ q.offset → p ≡ q
@@ -70,6 +70,7 @@ module _ (pages : Pages) (root : Root) where
     once = λ p q v a b h k.
         pair-at p q (below-zero p.owner a ∙ sym (below-zero q.owner b))
         (w.met.once (p.level, p.offset) (q.level, q.offset) v tt tt (there p v a h) (there q v b k));
+    whole = λ at v page a h is. w.met.whole (at.level, at.offset) v page tt (there at v a h) is;
     all = λ at v a h. w.met.added (at.level, at.offset) v tt (there at v a h);
     only = λ v is. elim (w.met.only v is) [
       | inl old_is ↦ absurd (no-two (is_met old v) old_is (none v))
@@ -103,6 +104,10 @@ module _ (pages : Pages) (root : Root) where
             pair-at p q (own ∙ sym also)
             (w.met.once (p.level, p.offset) (q.level, q.offset) v tt tt (there p v own h) (there q v also k))
       ]
+    ];
+    whole = λ at v page a h is. elim (below-split n at.owner a) [
+      | inl before ↦ m.whole at v page before h is
+      | inr own ↦ w.met.whole (at.level, at.offset) v page tt (there at v own h) is
     ];
     all = λ at v a h. elim (below-split n at.owner a) [
       | inl before ↦ w.met.met_stay v (m.all at v before h)
@@ -188,6 +193,11 @@ module _ (pages : Pages) (root : Root) where
           (below-end (8 * count + end-of at.owner) at.owner (omega arith)) h;
       only = λ v is. let o = w.only v is in (o.0, o.2);
     }
+
+    pub walked-whole : AreWhole pages root
+    walked-whole at v page h is =
+        (walked-on (end-of at.owner)).whole at v page
+        (below-end (8 * count + end-of at.owner) at.owner (omega arith)) h is
 
   -- ---- the other way round
 

@@ -2,13 +2,14 @@
 use Rattle.std.specs.Prelude.{◌≡◌, ℕ, ◌*◌, Bool, true, false, cond, List, Option, None, Some, IfSome}
 use Rattle.std.specs.Option.{option_map}
 use Rattle.nl_types.specs.declared.kind.Kind.{Kind}
-use Rattle.nl_types.specs.Roots.{Pages, Root}
+use Rattle.nl_types.specs.Roots.{Pages}
 use Rattle.nl_layout.specs.Root.{root_of, root_told}
 use Rattle.nl_layout.specs.declared.checkpoint_entry.CheckpointEntry.{CheckpointEntry}
 use Rattle.nl_vstore.specs.Periods.{Periods}
 use Rattle.nl_check.specs.Conditions.{HasExactPeriods, IsSoundShape, IsSoundTree, Told}
-use Rattle.nl_check.specs.Periods.{AreMetIn, AreOfPeriods}
+use Rattle.nl_check.specs.Periods.{AreOfPeriods}
 use Rattle.nl_check.specs.Private.Naming.{awaited_count}
+use Rattle.nl_check.specs.Private.Walks.{AreSoundAt, IsMetWholeAt}
 use Rattle.nl_check.specs.declared.checks.Judged.{Judged}
 use Rattle.nl_check.specs.declared.checks.Last.{Last}
 use Rattle.nl_check.specs.declared.shape.Walk.{Walk}
@@ -37,21 +38,17 @@ pub record IsJudged (pages : Pages) (periods : Periods) (c : Told) (before now :
   pub exact : now.periods ≡ true → (before.periods ≡ true) × HasExactPeriods pages periods c
   pub not_exact : now.periods ≡ false → before.periods ≡ true → HasExactPeriods pages periods c → ⊥
 
--- the numbers that were met are those at the places of a checkpoint
-abbrev pub AreMetAt : Pages → Told → List Bool → Type 0
-AreMetAt pages c numbers = (root : Root) × (c.root ≡ Some root) × AreMetIn pages root numbers
-
--- What is known of the checkpoint judged last: its numbers are met, and it has its shape. Where all so far
--- meet the other conditions, so does it.
-pub record IsLast (pages : Pages) (periods : Periods) (numbers : List Bool) (judged : Judged) (last : Last)
-    : Type 0 where
-  pub met : AreMetAt pages (told last.entry) numbers
-  pub shape : IsSoundShape pages (told last.entry)
+-- What is known of the checkpoint judged last: it is met. Where all so far meet the other conditions, so does
+-- it, and the kinds of its inodes are told.
+pub record IsLast (pages : Pages) (periods : Periods) (numbers : List Bool) (kinds : List (Option Kind))
+    (judged : Judged) (last : Last) : Type 0 where
+  pub known : IsMetWholeAt pages (told last.entry) numbers
+  pub sound : judged.trees ≡ true → AreSoundAt pages (told last.entry) kinds
   pub tree : judged.trees ≡ true → IsSoundTree pages (told last.entry)
   pub exact : judged.periods ≡ true → AreOfPeriods periods last.entry.number numbers
 
-abbrev pub KnowsLast : Pages → Periods → List Bool → Judged → Type 0
-KnowsLast pages periods numbers judged = IfSome judged.last (IsLast pages periods numbers judged)
+abbrev pub KnowsLast : Pages → Periods → List Bool → List (Option Kind) → Judged → Type 0
+KnowsLast pages periods numbers kinds judged = IfSome judged.last (IsLast pages periods numbers kinds judged)
 
 -- two checkpoints have one file of inodes, and one size and count are told of it
 pub record IsAlike (one other : CheckpointEntry) : Type 0 where

@@ -1,25 +1,27 @@
 //! The first of the conditions of checkpoints that fails.
-ghost use Rattle.std.specs.Prelude.{◌≡◌, ◌↔◌, ◌<◌, ◌≤◌, ◌*◌, ◌^◌, ℕ, List, Bool, length, map, is_some, false, true, IsTrue, IsSome, IfOk, IfErr, IfSome, IsOkUnless, None, Ok};
+ghost use Rattle.std.specs.Prelude.{◌≡◌, ◌↔◌, ◌<◌, ◌≤◌, ◌*◌, ◌^◌, ℕ, List, Bool, Option, length, map, is_some, false, true, IsTrue, IsSome, IfOk, IfErr, IfSome, IsOkUnless, None, Ok};
 ghost use Rattle.nl_types.specs.Limits as limits;
 ghost use Rattle.nl_types.specs.declared.error.VolError;
 ghost use Rattle.nl_types.specs.Roots.{Pages, Root as AnyRoot};
 ghost use Rattle.nl_layout.specs.Root.{root_of};
-ghost use Rattle.nl_check.specs.Conditions.{FirstFault, IsSoundShape};
+ghost use Rattle.nl_check.specs.Conditions.{FirstFault, IsSoundShape, IsSoundTree};
 ghost use Rattle.nl_check.specs.Judging.{IsAlike, IsJudged, IsLast, IsTold, KnowsLast, fault_told, told};
 ghost use Rattle.nl_check.specs.MetFiles.{is_met};
+ghost use Rattle.nl_check.specs.Private.Naming.{HasKindsOf};
 ghost use Rattle.nl_check.specs.Private.SoundInodes.{TellsInodes};
 ghost use Rattle.nl_check.specs.Trees.{IsTreeOf};
-ghost use Rattle.nl_check.specs.Private.Turns.{AreTurns};
-ghost use Rattle.nl_check.specs.Private.Walks.{IsWalk};
+ghost use Rattle.nl_check.specs.Private.Turns.{AreTurns, WereOfPeriods};
+ghost use Rattle.nl_check.specs.Private.Walks.{AreSoundAt, IsMetWholeAt, IsWalk};
 
-use crate::inodes::{INODE_LIMIT, count_of};
+use crate::beside::{Beside, Changes, judge_beside};
+use crate::inodes::{INODE_LIMIT, count_of, kinds_of_blocks};
 use crate::periods::{are_still_of_periods, are_still_of_periods_since};
 use crate::shape::{Walk, walk_checkpoint};
 use crate::trees::forms_tree;
 use crate::turns::{Turn, all_turns};
 use nl_files::ReadTree;
 use nl_layout::{CheckpointEntry, Root};
-use nl_types::{BLOCK_SIZE, Geometry, Kind, VolError};
+use nl_types::{BLOCK_SIZE, CheckpointNumber, Geometry, Kind, VirtualNumber, VolError};
 use nl_vstore::VRead;
 use std::alloc::Global;
 
@@ -34,7 +36,8 @@ pub(crate) struct Judged {
     pub(crate) last: Option<Last>,
 }
 
-/// The checkpoint that was judged last. Its numbers are those that are met.
+/// The checkpoint that was judged last. Its numbers are those that are met. Where all so far hold trees, the
+/// kinds are those of its inodes.
 #[derive(Clone, Copy, Debug)]
 pub(crate) struct Last {
     pub(crate) entry: CheckpointEntry,
@@ -50,35 +53,35 @@ fn has_size(size: u64, count: u64) -> bool
 /// Whether all inodes of a walked checkpoint are sound, and its entry tells the size of the file of inodes
 /// and how many inodes are in use.
 fn is_told(kinds: &[Option<Kind>], walk: &Walk, entry: &CheckpointEntry) -> bool
-    requires { length kinds.now ≡ limits.inode_limit }
+    requires { length kinds.now ≤ limits.inode_limit }
     ensures { IsTrue result ↔ IsTold kinds.now walk.now entry.now }
 {
     walk.sound && has_size(entry.size, walk.count) && count_of(kinds) == entry.inodes
 }
 
-/// Whether the inodes of a walked checkpoint hold a tree, and as many inodes as are told. Refused by `Memory`
-/// alone.
+/// Whether the inodes of a walked checkpoint hold a tree, and as many inodes as are told. The kinds of its
+/// inodes are given, and taken out one after another. Refused by `Memory` alone.
 fn holds_tree<V: VRead>(
     alloc: Global,
     store: &V,
-    kinds: &mut [Option<Kind>],
+    awaited: &mut [Option<Kind>],
     root: &Root,
     walk: &Walk,
     entry: &CheckpointEntry,
 ) -> Result<bool, VolError>
-    requires { (numbers : List Bool)
-        × IsWalk (V.pages store.now) (root_of root.now) numbers kinds.old walk.now }
+    requires { (numbers : List Bool) × (kinds : List (Option Kind))
+        × IsWalk (V.pages store.now) (root_of root.now) numbers kinds walk.now
+        × HasKindsOf walk.now.count kinds awaited.old }
     ensures yes { IfOk result (λ holds. IsTrue holds
         → IsTreeOf (V.pages store.now) (root_of root.now) entry.now.size entry.now.inodes) }
     ensures no { IfOk result (λ holds. holds ≡ false
         → IsTreeOf (V.pages store.now) (root_of root.now) entry.now.size entry.now.inodes → ⊥) }
     ensures refused { IfErr result (λ e. e ≡ VolError.Memory) }
-    ensures count { length kinds.new ≡ length kinds.old }
 {
-    if !is_told(kinds, walk, entry) {
+    if !is_told(awaited, walk, entry) {
         return Ok(false);
     }
-    forms_tree(alloc, &ReadTree::new(store, *root), kinds)
+    forms_tree(alloc, &ReadTree::new(store, *root), awaited)
 }
 
 /// Whether the inodes of a walked checkpoint hold a tree, and those of all before it. Where those of one
@@ -86,26 +89,25 @@ fn holds_tree<V: VRead>(
 fn hold_trees<V: VRead>(
     alloc: Global,
     store: &V,
-    kinds: &mut [Option<Kind>],
+    kinds: &[Option<Kind>],
     root: &Root,
     walk: &Walk,
     entry: &CheckpointEntry,
     before: bool,
 ) -> Result<bool, VolError>
     requires { (numbers : List Bool)
-        × IsWalk (V.pages store.now) (root_of root.now) numbers kinds.old walk.now }
+        × IsWalk (V.pages store.now) (root_of root.now) numbers kinds.now walk.now }
     ensures yes { IfOk result (λ hold. IsTrue hold → IsTrue before
         × IsTreeOf (V.pages store.now) (root_of root.now) entry.now.size entry.now.inodes) }
     ensures no { IfOk result (λ hold. hold ≡ false → IsTrue before
         → IsTreeOf (V.pages store.now) (root_of root.now) entry.now.size entry.now.inodes → ⊥) }
     ensures refused { IfErr result (λ e. e ≡ VolError.Memory) }
-    ensures count { length kinds.new ≡ length kinds.old }
 {
-    if before {
-        holds_tree(alloc, store, kinds, root, walk, entry)
-    } else {
-        Ok(false)
+    if !before {
+        return Ok(false);
     }
+    let mut awaited = kinds_of_blocks(alloc, kinds, walk.count)?;
+    holds_tree(alloc, store, awaited.as_mut_slice(), root, walk, entry)
 }
 
 /// Forgets which numbers were met.
@@ -132,7 +134,7 @@ fn judge<V: VRead>(
     store: &V,
     met: &mut [bool],
     kinds: &mut [Option<Kind>],
-    before: Judged,
+    before: &Judged,
     entry: &CheckpointEntry,
 ) -> Result<Option<Judged>, VolError>
     requires within { (v : ℕ) → IsSome (V.pages store.now v) → v < length met.old }
@@ -140,10 +142,10 @@ fn judge<V: VRead>(
     requires few { length met.old < 2 ^ 40 }
     requires kinds { length kinds.old ≡ limits.inode_limit }
     ensures yes { IfOk result (λ found. IfSome found
-        (IsJudged (V.pages store.now) (V.periods store.now) (told entry.now) before)) }
+        (IsJudged (V.pages store.now) (V.periods store.now) (told entry.now) before.now)) }
     ensures no { result ≡ Ok None → IsSoundShape (V.pages store.now) (told entry.now) → ⊥ }
     ensures last { IfOk result (λ found. IfSome found
-        (KnowsLast (V.pages store.now) (V.periods store.now) met.new)) }
+        (KnowsLast (V.pages store.now) (V.periods store.now) met.new kinds.new)) }
     ensures refused { IfErr result (λ e. e ≡ VolError.Memory) }
     ensures count { length met.new ≡ length met.old }
     ensures kinds { length kinds.new ≡ limits.inode_limit }
@@ -185,30 +187,109 @@ fn alike_last(last: Option<Last>, entry: &CheckpointEntry) -> Option<Last>
     }
 }
 
-/// Judges a checkpoint that has the file of inodes of the last one. It meets the same numbers, and holds a
-/// tree where that one does, so nothing is judged of it but its periods.
-fn judge_alike<V: VRead>(
+/// Judges a checkpoint by the last one. It is met, and holds a tree if all before it do, with these kinds of
+/// inodes. The numbers that changed since the last one are given, others may be among them. So nothing is
+/// judged of it but its periods.
+fn judge_by_last<V: VRead>(
     store: &V,
     met: &[bool],
+    kinds: &[Option<Kind>],
     turns: &[Turn],
-    before: Judged,
-    last: Last,
+    changed: &[VirtualNumber],
+    before: &Judged,
+    last: CheckpointNumber,
     entry: &CheckpointEntry,
 ) -> Judged
     requires within { (v : ℕ) → IsSome (V.periods store.now v) → v < length met.now }
     requires turns { AreTurns (V.periods store.now) turns.now }
-    requires last { IsLast (V.pages store.now) (V.periods store.now) met.now before last }
-    requires alike { IsAlike last.entry entry.now }
-    ensures judged { IsJudged (V.pages store.now) (V.periods store.now) (told entry.now) before result }
-    ensures last { KnowsLast (V.pages store.now) (V.periods store.now) met.now result }
+    requires known { IsMetWholeAt (V.pages store.now) (told entry.now) met.now }
+    requires sound { IsTrue before.now.trees → AreSoundAt (V.pages store.now) (told entry.now) kinds.now }
+    requires tree { IsTrue before.now.trees → IsSoundTree (V.pages store.now) (told entry.now) }
+    requires last { IsTrue before.now.periods
+        → WereOfPeriods (V.periods store.now) last met.now changed.now }
+    ensures judged { IsJudged (V.pages store.now) (V.periods store.now) (told entry.now) before.now result }
+    ensures last { KnowsLast (V.pages store.now) (V.periods store.now) met.now kinds.now result }
 {
-    let last = last.entry.number;
-    let periods = are_still_of_periods_since(store, met, turns, last, entry.number, before.periods);
+    let next = entry.number;
+    let periods = are_still_of_periods_since(
+        store,
+        met,
+        turns,
+        changed,
+        last,
+        next,
+        before.periods,
+    );
     let last = Some(Last { entry: *entry });
     Judged {
         trees: before.trees,
         periods,
         last,
+    }
+}
+
+/// Judges a checkpoint that has the file of inodes of the last one. It meets the same numbers, and holds a
+/// tree where that one does.
+fn judge_alike<V: VRead>(
+    store: &V,
+    met: &[bool],
+    kinds: &[Option<Kind>],
+    turns: &[Turn],
+    before: &Judged,
+    last: Last,
+    entry: &CheckpointEntry,
+) -> Judged
+    requires within { (v : ℕ) → IsSome (V.periods store.now v) → v < length met.now }
+    requires turns { AreTurns (V.periods store.now) turns.now }
+    requires last { IsLast (V.pages store.now) (V.periods store.now) met.now kinds.now before.now last }
+    requires alike { IsAlike last.entry entry.now }
+    ensures judged { IsJudged (V.pages store.now) (V.periods store.now) (told entry.now) before.now result }
+    ensures last { KnowsLast (V.pages store.now) (V.periods store.now) met.now kinds.now result }
+{
+    judge_by_last(
+        store,
+        met,
+        kinds,
+        turns,
+        &[],
+        before,
+        last.entry.number,
+        entry,
+    )
+}
+
+/// Judges a checkpoint by the last one, where the two differ in files alone. None where that can't be told;
+/// then the numbers that are met are any. Refused by `Memory` alone.
+fn judge_differing<V: VRead>(
+    store: &V,
+    met: &mut [bool],
+    kinds: &[Option<Kind>],
+    turns: &[Turn],
+    changes: &mut Changes,
+    before: &Judged,
+    entry: &CheckpointEntry,
+) -> Result<Option<Judged>, VolError>
+    requires within { (v : ℕ) → IsSome (V.pages store.now v) → v < length met.old }
+    requires each { (v : ℕ) → is_some (V.pages store.now v) ≡ is_some (V.periods store.now v) }
+    requires turns { AreTurns (V.periods store.now) turns.now }
+    requires last { KnowsLast (V.pages store.now) (V.periods store.now) met.old kinds.now before.now }
+    ensures yes { IfOk result (λ found. IfSome found
+        (IsJudged (V.pages store.now) (V.periods store.now) (told entry.now) before.now)) }
+    ensures last { IfOk result (λ found. IfSome found
+        (KnowsLast (V.pages store.now) (V.periods store.now) met.new kinds.now)) }
+    ensures refused { IfErr result (λ e. e ≡ VolError.Memory) }
+    ensures count { length met.new ≡ length met.old }
+{
+    let Some(last) = &before.last else {
+        return Ok(None);
+    };
+    match judge_beside(store, met, changes, &last.entry, entry)? {
+        Beside::Good => {
+            let changed = changes.numbers.as_slice();
+            let last = last.entry.number;
+            Ok(Some(judge_by_last(store, met, kinds, turns, changed, before, last, entry)))
+        }
+        Beside::CanNotTell => Ok(None),
     }
 }
 
@@ -219,7 +300,8 @@ fn judge_next<V: VRead>(
     met: &mut [bool],
     kinds: &mut [Option<Kind>],
     turns: &[Turn],
-    before: Judged,
+    changes: &mut Changes,
+    before: &Judged,
     entry: &CheckpointEntry,
 ) -> Result<Option<Judged>, VolError>
     requires within { (v : ℕ) → IsSome (V.pages store.now v) → v < length met.old }
@@ -227,18 +309,21 @@ fn judge_next<V: VRead>(
     requires few { length met.old < 2 ^ 40 }
     requires kinds { length kinds.old ≡ limits.inode_limit }
     requires turns { AreTurns (V.periods store.now) turns.now }
-    requires last { KnowsLast (V.pages store.now) (V.periods store.now) met.old before }
+    requires last { KnowsLast (V.pages store.now) (V.periods store.now) met.old kinds.old before.now }
     ensures yes { IfOk result (λ found. IfSome found
-        (IsJudged (V.pages store.now) (V.periods store.now) (told entry.now) before)) }
+        (IsJudged (V.pages store.now) (V.periods store.now) (told entry.now) before.now)) }
     ensures no { result ≡ Ok None → IsSoundShape (V.pages store.now) (told entry.now) → ⊥ }
     ensures last { IfOk result (λ found. IfSome found
-        (KnowsLast (V.pages store.now) (V.periods store.now) met.new)) }
+        (KnowsLast (V.pages store.now) (V.periods store.now) met.new kinds.new)) }
     ensures refused { IfErr result (λ e. e ≡ VolError.Memory) }
     ensures count { length met.new ≡ length met.old }
     ensures kinds { length kinds.new ≡ limits.inode_limit }
 {
-    match alike_last(before.last, entry) {
-        Some(last) => Ok(Some(judge_alike(store, met, turns, before, last, entry))),
+    if let Some(last) = alike_last(before.last, entry) {
+        return Ok(Some(judge_alike(store, met, kinds, turns, before, last, entry)));
+    }
+    match judge_differing(store, met, kinds, turns, changes, before, entry)? {
+        Some(judged) => Ok(Some(judged)),
         None => judge(alloc, store, met, kinds, before, entry),
     }
 }
@@ -264,6 +349,7 @@ fn judge_all<V: VRead>(
     met: &mut [bool],
     kinds: &mut [Option<Kind>],
     turns: &[Turn],
+    changes: &mut Changes,
     kept: &[CheckpointEntry],
 ) -> Result<Option<u8>, VolError>
     requires within { (v : ℕ) → IsSome (V.pages store.now v) → v < length met.old }
@@ -281,7 +367,7 @@ fn judge_all<V: VRead>(
         last: None,
     };
     for entry in kept {
-        let Some(now) = judge_next(alloc, store, met, kinds, turns, judged, entry)? else {
+        let Some(now) = judge_next(alloc, store, met, kinds, turns, changes, &judged, entry)? else {
             return Ok(Some(8));
         };
         judged = now;
@@ -311,12 +397,14 @@ pub fn first_fault<V: VRead>(
     let mut met = vec![in alloc; false; geometry.total() as usize + 1]?;
     let mut kinds = vec![in alloc; None; INODE_LIMIT]?;
     let turns = all_turns(alloc, store, met.len())?;
+    let mut changes = Changes::new(alloc);
     judge_all(
         alloc,
         store,
         met.as_mut_slice(),
         kinds.as_mut_slice(),
         turns.as_slice(),
+        &mut changes,
         kept,
     )
 }

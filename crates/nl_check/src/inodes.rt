@@ -1,15 +1,16 @@
 //! What is judged of an inode by itself, and what is known of the kinds of all.
-ghost use Rattle.std.specs.Prelude.{◌≡◌, ◌↔◌, ◌<◌, ◌≤◌, ℕ, length, false, IsTrue, IfOk, IfErr, Some, cond, is_some};
+ghost use Rattle.std.specs.Prelude.{◌≡◌, ◌↔◌, ◌⊎◌, ◌<◌, ◌≤◌, ◌*◌, ℕ, length, false, IsTrue, IfOk, IfErr, Some, cond, is_some};
 ghost use Rattle.nl_types.specs.Limits as limits;
 ghost use Rattle.nl_types.specs.declared.error.VolError;
 ghost use Rattle.nl_types.specs.declared.kind.Kind.{Kind};
 ghost use Rattle.nl_layout.specs.Root.{root_of};
 ghost use Rattle.nl_tree.specs.Held.{IsInodeNumber};
 ghost use Rattle.nl_check.specs.Private.SoundInodes.{IsMeasured, IsSoundInode, kind_for, kind_in};
-ghost use Rattle.nl_check.specs.Private.Naming.{awaited_count};
+ghost use Rattle.nl_check.specs.Private.Naming.{HasKindsOf, awaited_count};
 
 use crate::directories::is_sound_directory;
 use crate::files::is_sound_file;
+use crate::shape::INODES_PER_BLOCK;
 use nl_layout::{Inode, InodeKind};
 use nl_types::{Kind, VolError};
 use nl_vstore::VRead;
@@ -82,7 +83,7 @@ pub(crate) fn note_kind(kinds: &mut [Option<Kind>], number: u64, kind: Option<Ki
 
 /// How many inodes are in use.
 pub(crate) fn count_of(kinds: &[Option<Kind>]) -> u64
-    requires { length kinds.now ≡ limits.inode_limit }
+    requires { length kinds.now ≤ limits.inode_limit }
     ensures { result ≡ awaited_count kinds.now }
 {
     let mut count: u64 = 0;
@@ -100,4 +101,30 @@ fn count_of_one(kind: &Option<Kind>) -> u64
         Some(_) => 1,
         None => 0,
     }
+}
+
+/// Where the kinds of the inodes that so many blocks may have end, in a table of so many places.
+fn end_of_kinds(blocks: u64, count: usize) -> usize
+    ensures within { result ≤ count }
+    ensures all { (result ≡ count) ⊎ (8 * blocks ≤ result) }
+{
+    if blocks < count as u64 / INODES_PER_BLOCK as u64 {
+        INODES_PER_BLOCK * blocks as usize
+    } else {
+        count
+    }
+}
+
+/// The kinds of the inodes that so many blocks may have. Refused by `Memory` alone.
+pub(crate) fn kinds_of_blocks(
+    alloc: Global,
+    kinds: &[Option<Kind>],
+    blocks: u64,
+) -> Result<Vec<Option<Kind>>, VolError>
+    ensures kinds { IfOk result (λ part. HasKindsOf blocks kinds.now part.items) }
+    ensures refused { IfErr result (λ e. e ≡ VolError.Memory) }
+{
+    let end = end_of_kinds(blocks, kinds.len());
+    let part = Vec::from_slice(alloc, &kinds[..end])?;
+    Ok(part)
 }

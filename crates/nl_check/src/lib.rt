@@ -2,15 +2,21 @@
 //! the periods of their numbers.
 #![tactic(auto)]
 
+mod beside;
 mod checks;
+mod differing;
 mod directories;
+mod ends;
 mod files;
 mod inodes;
 pub mod laws;
+mod leaving;
 mod meeting;
+mod meeting_anew;
 mod periods;
 mod shape;
 mod sizes;
+mod subtrees;
 mod tree_nodes;
 mod trees;
 mod turns;

@@ -1,10 +1,10 @@
 //! Whether a checkpoint meets just the numbers whose periods have it.
-ghost use Rattle.std.specs.Prelude.{◌≡◌, ◌↔◌, ◌<◌, ◌≤◌, ℕ, false, length, IsTrue, IsSome};
+ghost use Rattle.std.specs.Prelude.{◌≡◌, ◌↔◌, ◌<◌, ◌≤◌, ℕ, false, length, All, IsTrue, IsSome};
 ghost use Rattle.std.specs.List.{AllWithin};
 ghost use Rattle.nl_check.specs.Conditions.{has};
 ghost use Rattle.nl_check.specs.MetFiles.{is_met};
 ghost use Rattle.nl_check.specs.Periods.{AreOfPeriods, has_in};
-ghost use Rattle.nl_check.specs.Private.Turns.{AreTurnedOfPeriods, AreTurns, IsOfPeriod, IsTurnOfPeriod};
+ghost use Rattle.nl_check.specs.Private.Turns.{AreTurnedOfPeriods, AreTurns, IsOfPeriod, IsTurnOfPeriod, WereOfPeriods};
 
 use crate::turns::{Turn, reach};
 use nl_types::{CheckpointNumber, Period, VirtualNumber};
@@ -89,7 +89,7 @@ fn is_run_of_periods<V: VRead>(
 
 /// Whether each number whose period turns behind the last checkpoint, and not behind the next one, was met
 /// exactly where its period has the next one.
-pub(crate) fn are_turned_of_periods<V: VRead>(
+fn are_turned_of_periods<V: VRead>(
     store: &V,
     met: &[bool],
     turns: &[Turn],
@@ -105,26 +105,47 @@ pub(crate) fn are_turned_of_periods<V: VRead>(
     is_run_of_periods(store, met, turns, first, end, next)
 }
 
+/// Whether each of these numbers was met exactly where its period has the checkpoint.
+fn are_these_of_periods<V: VRead>(
+    store: &V,
+    met: &[bool],
+    number: CheckpointNumber,
+    names: &[VirtualNumber],
+) -> bool
+    ensures { IsTrue result ↔ All (IsOfPeriod (V.periods store.now) number met.now) names.now }
+{
+    for name in names {
+        if !is_of_period(store, met, number, *name) {
+            return false;
+        }
+    }
+    true
+}
+
 /// Whether each number was met exactly where its period has the next checkpoint, given that it was so at the
-/// last one, which met the same numbers. Where the last one comes first, only those numbers are looked at whose
-/// periods turn between the two.
+/// last one, and which numbers changed since. Where the last one comes first, only these are looked at, and
+/// those whose periods turn between the two.
 fn are_of_periods_since<V: VRead>(
     store: &V,
     met: &[bool],
     turns: &[Turn],
+    changed: &[VirtualNumber],
     last: CheckpointNumber,
     next: CheckpointNumber,
 ) -> bool
     requires within { (v : ℕ) → IsSome (V.periods store.now v) → v < length met.now }
     requires turns { AreTurns (V.periods store.now) turns.now }
-    requires last { AreOfPeriods (V.periods store.now) last met.now }
-    ensures { IsTrue result ↔ AreOfPeriods (V.periods store.now) next met.now }
+    requires last { WereOfPeriods (V.periods store.now) last met.now changed.now }
+    ensures yes { IsTrue result → AreOfPeriods (V.periods store.now) next met.now }
+    ensures no { result ≡ false → AreOfPeriods (V.periods store.now) next met.now → ⊥ }
 {
-    if last <= next {
-        are_turned_of_periods(store, met, turns, last, next)
-    } else {
-        are_of_periods(store, met, next)
+    if last > next {
+        return are_of_periods(store, met, next);
     }
+    if !are_these_of_periods(store, met, next, changed) {
+        return false;
+    }
+    are_turned_of_periods(store, met, turns, last, next)
 }
 
 /// Whether each number was met exactly where its period has the checkpoint, and so it was at all checkpoints
@@ -141,20 +162,22 @@ pub(crate) fn are_still_of_periods<V: VRead>(
     before && are_of_periods(store, met, number)
 }
 
-/// As `are_still_of_periods` for the next checkpoint, by what was so at the last one, which met the same
-/// numbers.
+/// As `are_still_of_periods` for the next checkpoint, by what was so at the last one, and the numbers that
+/// changed since.
 pub(crate) fn are_still_of_periods_since<V: VRead>(
     store: &V,
     met: &[bool],
     turns: &[Turn],
+    changed: &[VirtualNumber],
     last: CheckpointNumber,
     next: CheckpointNumber,
     before: bool,
 ) -> bool
     requires within { (v : ℕ) → IsSome (V.periods store.now v) → v < length met.now }
     requires turns { AreTurns (V.periods store.now) turns.now }
-    requires last { IsTrue before → AreOfPeriods (V.periods store.now) last met.now }
-    ensures { IsTrue result ↔ (IsTrue before × AreOfPeriods (V.periods store.now) next met.now) }
+    requires last { IsTrue before → WereOfPeriods (V.periods store.now) last met.now changed.now }
+    ensures yes { IsTrue result → IsTrue before × AreOfPeriods (V.periods store.now) next met.now }
+    ensures no { IsTrue before × AreOfPeriods (V.periods store.now) next met.now → IsTrue result }
 {
-    before && are_of_periods_since(store, met, turns, last, next)
+    before && are_of_periods_since(store, met, turns, changed, last, next)
 }

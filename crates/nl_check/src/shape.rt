@@ -20,7 +20,7 @@ use nl_vstore::VRead;
 use std::alloc::Global;
 
 /// The inodes of a block.
-const INODES_PER_BLOCK: usize = 8;
+pub(crate) const INODES_PER_BLOCK: usize = 8;
 
 /// What the walk over a checkpoint of the right shape found.
 #[derive(Clone, Copy, Debug)]
@@ -41,7 +41,7 @@ fn entry_in(page: &Page, place: usize) -> Option<InodeEntry>
 }
 
 /// The inode in use at a place of a block.
-fn inode_at_place(page: &Page, place: usize) -> Option<Inode>
+pub(crate) fn inode_at_place(page: &Page, place: usize) -> Option<Inode>
     requires { place < 8 }
     ensures { result ≡ inode_in page.now place }
 {
@@ -77,7 +77,7 @@ fn has_inode(page: &Page) -> bool
 }
 
 /// Whether a block is one of eight inodes, of which one at least is in use.
-fn is_inode_block(page: &Page) -> bool
+pub(crate) fn is_inode_block(page: &Page) -> bool
     ensures { IsTrue result ↔ (Some page.now ≡ block_for (inode_in page.now)) }
 {
     let block = page.bytes();

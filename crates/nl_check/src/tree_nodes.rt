@@ -49,7 +49,7 @@ fn walk_below<V: VRead>(
 }
 
 /// How many indices a tree of a height has.
-fn indexes_below(height: u8) -> u64
+pub(crate) fn indexes_below(height: u8) -> u64
     requires { height ≤ 3 }
     ensures { result ≡ 128 ^ height }
 {

@@ -58,7 +58,13 @@ pub both-first : (a b : Bool) → a ≡ false → (a && b) ≡ a
 both-first true b e = cc
 both-first false b e = refl
 
--- two facts of what a call found give another
+-- a fact of what a call found gives another
+pub some-map : {A : Type 0} (o : Option A) (P Q : A → Type 0) → ((x : A) → P x → Q x) → IfSome o P
+    → IfSome o Q
+some-map None P Q f p = tt
+some-map (Some x) P Q f p = f x p
+
+-- so do two
 pub some-both : {A : Type 0} {P Q R : A → Type 0} (o : Option A) → IfSome o P → IfSome o Q
     → ((x : A) → P x → Q x → R x) → IfSome o R
 some-both None p q f = tt

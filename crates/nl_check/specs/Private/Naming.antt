@@ -1,5 +1,5 @@
 -- How far the names of a tree were followed from the root.
-use Rattle.std.specs.Prelude.{◌≡◌, ◌≢◌, ◌⊎◌, ℕ, ◌+◌, ◌<◌, cond, List, [], ◌∷◌, ◌++◌, length, slice_get, slice_set, is_some, Option, None, Some}
+use Rattle.std.specs.Prelude.{◌≡◌, ◌≢◌, ◌⊎◌, ℕ, ◌+◌, ◌*◌, ◌<◌, ◌≤◌, cond, List, [], ◌∷◌, ◌++◌, length, slice_get, slice_set, is_some, Option, None, Some}
 use Rattle.std.specs.Option.{option_map}
 use Rattle.nl_types.specs.Limits.{inode_limit, root_inode}
 use Rattle.nl_types.specs.declared.kind.Kind.{Kind}
@@ -20,8 +20,13 @@ kind_held held = option_map kind_of_held held
 
 -- the table has the kinds of all inodes in use
 pub record TellsKinds (holding : Holding) (kinds : List (Option Kind)) : Type 0 where
-  pub count : length kinds ≡ inode_limit
+  pub few : length kinds ≤ inode_limit
   pub told : (i : ℕ) → i < inode_limit → kind_in kinds i ≡ kind_held (holding i)
+
+-- the kinds of all inodes that so many blocks may have, as a table has them
+pub record HasKindsOf (blocks : ℕ) (kinds part : List (Option Kind)) : Type 0 where
+  pub few : length part ≤ length kinds
+  pub each : (i : ℕ) → (kind_in part i ≡ kind_in kinds i) ⊎ ((8 * blocks ≤ i) × (kind_in part i ≡ None))
 
 -- how many numbers no record has named yet
 abbrev pub awaited_count : List (Option Kind) → ℕ
@@ -75,7 +80,7 @@ pub record IsNamedBy (holding : Holding) (queue : List ℕ) (done place i : ℕ)
 -- are awaited.
 pub record IsNaming (holding : Holding) (queue : List ℕ) (done place : ℕ)
     (awaited : List (Option Kind)) : Type 0 where
-  pub count : length awaited ≡ inode_limit
+  pub few : length awaited ≤ inode_limit
   pub awaits : (i : ℕ) → i < inode_limit
       → (kind_in awaited i ≡ kind_held (holding i)) ⊎ (kind_in awaited i ≡ None)
   pub root : (kind_held (holding 2) ≡ Some kind.Directory) × (kind_in awaited 2 ≡ None)

@@ -6,7 +6,7 @@ use Rattle.std.specs.Option.{option_to_list}
 use Rattle.nl_types.specs.declared.period.Period.{Period}
 use Rattle.nl_vstore.specs.Periods.{Periods}
 use Rattle.nl_check.specs.MetFiles.{is_met}
-use Rattle.nl_check.specs.Periods.{has_in}
+use Rattle.nl_check.specs.Periods.{AreOfPeriods, has_in}
 use Rattle.nl_check.specs.declared.turns.Turn.{Turn}
 
 abbrev pub turn_at : ℕ → ℕ → Turn
@@ -48,3 +48,12 @@ abbrev pub AreTurnedOfPeriods : Periods → (a b : ℕ) → List Bool → Type 0
 AreTurnedOfPeriods periods a b numbers =
     (v : ℕ) (period : Period) → periods v ≡ Some period
     → IsOfPeriod periods b numbers v ⊎ StaysBetween a b period
+
+-- each number that is met now and wasn't, or was and isn't, is in a list
+abbrev pub TellsChanges : List Bool → List Bool → List ℕ → Type 0
+TellsChanges start now changed = (v : ℕ) → (is_met start v ≡ is_met now v) ⊎ Contains changed v
+
+-- a checkpoint met just the numbers whose periods have it, and what changed since is in a list
+abbrev pub WereOfPeriods : Periods → ℕ → List Bool → List ℕ → Type 0
+WereOfPeriods periods c now changed =
+    (start : List Bool) × AreOfPeriods periods c start × TellsChanges start now changed

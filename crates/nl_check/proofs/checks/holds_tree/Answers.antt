@@ -15,8 +15,8 @@ returns-then-not-is_told-clause-no g c = λ _ t.
     both c.is_told.result
     (c.is_told.ensures.1
     (tree-told pages
-    (root_of c.args.root.now) c.requires.0 c.args.kinds.now c.args.walk.now c.requires.1
-    c.args.entry.now t))
+    (root_of c.args.root.now) c.requires.0 c.requires.1 c.args.walk.now c.requires.2
+    c.args.entry.now c.args.awaited.now c.requires.3 t))
     c.if-not-is_told.true
 
 pub returns-clause-yes : goal.returns-clause-yes
@@ -27,15 +27,17 @@ returns-clause-yes g c =
     ok-then c.forms_tree.result c.forms_tree.ensures.yes
     (λ (holds : Bool). IsTrue holds → IsTreeOf pages root c.args.entry.now.size c.args.entry.now.inodes)
     (λ holds f t.
-    tree-of pages root c.requires.0 c.args.kinds.now c.args.walk.now c.requires.1 c.args.entry.now told
-    (f t (holding-of pages root c.requires.0 c.args.kinds.now c.args.walk.now c.requires.1 told.sound)
+    tree-of pages root c.requires.0 c.requires.1 c.args.walk.now c.requires.2 c.args.entry.now
+    c.args.awaited.now c.requires.3 told
+    (f t (holding-of pages root c.requires.0 c.requires.1 c.args.walk.now c.requires.2 told.sound)
     (c.new.ensures
-    (holding-of pages root c.requires.0 c.args.kinds.now c.args.walk.now c.requires.1 told.sound)
-    (holds-of pages root c.requires.0 c.args.kinds.now c.args.walk.now c.requires.1 told.sound))
-    (limits-of pages root c.requires.0 c.args.kinds.now c.args.walk.now c.requires.1 told.sound)
-    (tells-kinds pages root c.requires.0 c.args.kinds.now c.args.walk.now c.requires.1
-    (holding-of pages root c.requires.0 c.args.kinds.now c.args.walk.now c.requires.1 told.sound)
-    (stores-of pages root c.requires.0 c.args.kinds.now c.args.walk.now c.requires.1 told.sound))))
+    (holding-of pages root c.requires.0 c.requires.1 c.args.walk.now c.requires.2 told.sound)
+    (holds-of pages root c.requires.0 c.requires.1 c.args.walk.now c.requires.2 told.sound))
+    (limits-of pages root c.requires.0 c.requires.1 c.args.walk.now c.requires.2 told.sound)
+    (tells-kinds pages root c.requires.0 c.requires.1 c.args.walk.now c.requires.2
+    (holding-of pages root c.requires.0 c.requires.1 c.args.walk.now c.requires.2 told.sound)
+    (stores-of pages root c.requires.0 c.requires.1 c.args.walk.now c.requires.2 told.sound)
+    c.args.awaited.now c.requires.3)))
 
 pub returns-clause-no : goal.returns-clause-no
 returns-clause-no g c =
@@ -46,8 +48,9 @@ returns-clause-no g c =
     holds ≡ false → IsTreeOf pages root c.args.entry.now.size c.args.entry.now.inodes → ⊥)
     (λ holds f e t.
     f e t.holding (c.new.ensures t.holding
-    (tree-holds pages root c.requires.0 c.args.kinds.now c.args.walk.now c.requires.1
+    (tree-holds pages root c.requires.0 c.requires.1 c.args.walk.now c.requires.2
     c.args.entry.now.size c.args.entry.now.inodes t))
     t.limits
-    (tells-kinds pages root c.requires.0 c.args.kinds.now c.args.walk.now c.requires.1 t.holding t.stores)
+    (tells-kinds pages root c.requires.0 c.requires.1 c.args.walk.now c.requires.2 t.holding t.stores
+    c.args.awaited.now c.requires.3)
     t.forms)

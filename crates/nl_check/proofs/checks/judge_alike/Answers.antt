@@ -1,15 +1,21 @@
-use Rattle.std.proofs.Common.{refl}
-use Rattle.nl_check.proofs.JudgedCheckpoints.{judged-alike, last-alike}
+use Rattle.std.proofs.Common.{refl, inl}
+use Rattle.nl_check.proofs.JudgedCheckpoints.{known-alike, sound-alike, tree-alike}
 use Rattle.nl_check.proofs.checks.judge_alike.Goals as goal
 
-pub returns-clause-judged : goal.returns-clause-judged
-returns-clause-judged g c =
-    judged-alike (g.V.VRead.pages c.args.store.now) (g.V.VRead.periods c.args.store.now) c.args.entry.now
-    c.args.met.now c.args.last c.args.before _ c.requires.last c.requires.alike refl
-    c.are_still_of_periods_since-periods.ensures.0 c.are_still_of_periods_since-periods.ensures.1
+pub judge_by_last-requires-clause-known : goal.judge_by_last-requires-clause-known
+judge_by_last-requires-clause-known g c =
+    known-alike (g.V.VRead.pages c.args.store.now) c.args.last.entry c.args.entry.now c.requires.alike
+    c.args.met.now c.requires.last.known
 
-pub returns-clause-last : goal.returns-clause-last
-returns-clause-last g c =
-    last-alike (g.V.VRead.pages c.args.store.now) (g.V.VRead.periods c.args.store.now) c.args.entry.now
-    c.args.met.now c.args.last c.args.before _ c.requires.last c.requires.alike refl
-    c.are_still_of_periods_since-periods.ensures.0
+pub judge_by_last-requires-clause-sound : goal.judge_by_last-requires-clause-sound
+judge_by_last-requires-clause-sound g c = λ held.
+    sound-alike (g.V.VRead.pages c.args.store.now) c.args.last.entry c.args.entry.now c.requires.alike
+    c.args.kinds.now (c.requires.last.sound held)
+
+pub judge_by_last-requires-clause-tree : goal.judge_by_last-requires-clause-tree
+judge_by_last-requires-clause-tree g c = λ held.
+    tree-alike (g.V.VRead.pages c.args.store.now) c.args.last.entry c.args.entry.now c.requires.alike
+    (c.requires.last.tree held)
+
+pub judge_by_last-requires-clause-last : goal.judge_by_last-requires-clause-last
+judge_by_last-requires-clause-last g c = λ held. (c.args.met.now, c.requires.last.exact held, λ v. inl refl)

@@ -39,7 +39,7 @@ loop-entry-preserved g c =
           omega (arith, low, same);
       kinds = c.judge_next.ensures.kinds;
       last =
-          subst (λ (o : Option Judged). IfSome o (KnowsLast pages periods c.judge_next.new.met))
+          subst (λ (o : Option Judged). IfSome o (KnowsLast pages periods c.judge_next.new.met c.judge_next.new.kinds))
           c.in-Some.is c.in_ok-now.ensures.last;
       judged =
           judged-more pages periods c.args.kept.now c.loop-entry.entry-index c.entry-item.result

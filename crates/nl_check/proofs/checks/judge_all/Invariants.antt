@@ -12,6 +12,6 @@ invariant-loop-entry g l =
       count : length l.met ≡ length l.initial.met;
       within : (v : ℕ) → IsSome (pages v) → v < length l.met;
       kinds : length l.kinds ≡ 524288;
-      last : KnowsLast pages periods l.met l.judged;
+      last : KnowsLast pages periods l.met l.kinds l.judged;
       judged : AreJudged pages periods l.kept l.entry-index l.judged.trees l.judged.periods;
     }

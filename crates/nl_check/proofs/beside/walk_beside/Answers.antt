@@ -1,0 +1,49 @@
+use Rattle.std.proofs.Common.{ℕ, Option, subst, sym}
+use Rattle.std.specs.Prelude.{IfSome, IsSome}
+use Rattle.nl_types.specs.Roots.{Pages, Root}
+use Rattle.nl_layout.specs.Root.{root_of}
+use Rattle.nl_check.specs.Private.BesideTrees.{TellsOn}
+use Rattle.nl_check.specs.Private.ChangedFiles.{AreAllListed, AreAllMet, IsWalkedBeside}
+use Rattle.nl_check.specs.Facts.Below.{ok-map, some-map}
+use Rattle.nl_check.proofs.StepsBeside.{files-whole}
+use Rattle.nl_check.proofs.TreesBeside.{walked-beside}
+use Rattle.nl_check.proofs.beside.walk_beside.Goals as goal
+
+pub leave_all-requires-clause-before : goal.leave_all-requires-clause-before
+leave_all-requires-clause-before g c =
+    files-whole (g.V.VRead.pages c.args.store.now) (root_of c.args.before) c.args.met.now c.requires.known
+
+pub meet_all-requires-clause-before : goal.meet_all-requires-clause-before
+meet_all-requires-clause-before g c =
+    files-whole (g.V.VRead.pages c.args.store.now) (root_of c.args.before) c.args.met.now c.requires.known
+
+pub returns-clause-yes : goal.returns-clause-yes
+returns-clause-yes g c =
+    let pages : Pages = g.V.VRead.pages c.args.store.now in
+    let old : Root = root_of c.args.before in
+    let new : Root = root_of c.args.now in
+    let files = c.as_slice-files.result.now in
+    let mid = c.leave_all.new.met in
+    let met = c.meet_all.new.met in
+    let listed : AreAllListed pages old new files =
+    subst (AreAllListed pages old new) (sym c.as_slice-files.ensures.value)
+    (c.in_ok-list_changed.ensures.yes c.if-not-branch.false) in
+    ok-map c.meet_all.result (λ (found : Option ℕ). IfSome found (AreAllMet pages old new files mid met))
+    (λ (found : Option ℕ). IfSome found (IsWalkedBeside pages old new met))
+    (λ found all.
+    some-map found (AreAllMet pages old new files mid met) (IsWalkedBeside pages old new met)
+    (λ count is.
+    walked-beside pages old new c.args.met.now mid met files count c.requires.known listed
+    c.in_ok-leave_all.ensures.left is)
+    all)
+    c.meet_all.ensures.yes
+
+pub returns-clause-told : goal.returns-clause-told
+returns-clause-told g c =
+    ok-map c.meet_all.result
+    (λ (found : Option ℕ). IsSome found → TellsOn c.leave_all.new.met c.leave_all.new.changed.items
+    c.meet_all.new.met c.meet_all.new.changed.items)
+    (λ (found : Option ℕ). IsSome found → TellsOn c.args.met.now c.args.changes.now.numbers.items
+    c.meet_all.new.met c.meet_all.new.changed.items)
+    (λ found told some start is. told some start (c.in_ok-leave_all.ensures.told start is))
+    c.meet_all.ensures.told
