@@ -4,7 +4,7 @@ had at the same place."""
 
 import struct
 
-from volume import CHAIN, DIRECTORY, FILE, INODES, NO_END, TREE, Places, Volume
+from volume import CHAIN, DIRECTORY, FILE, INODES, NO_END, ROOT, TREE, Places, Volume
 
 CHECKPOINTS = 50
 
@@ -18,10 +18,12 @@ class Succession:
     """A volume whose file /a had another first block at each checkpoint, and its image, which may be changed."""
 
     # The numbers of the inodes, as they were made.
-    INODE = {"/a": 11, "/b": 12, "/d": 13, "/d/c": 14, "/long": 15}
+    INODE = {"/a": 11, "/b": 12, "/d": 13, "/d/c": 14, "/long": 15, "/e": 16, "/d/g": 17}
 
-    def __init__(self, last=("/b", 0), removed=()):
-        """The last checkpoint has another block of this file, or nothing else; some checkpoints are removed."""
+    def __init__(self, last=("/b", 0), removed=(), each=None, end=None):
+        """The last checkpoint has another block of this file, or nothing else; some checkpoints are removed. A
+        call changes the volume before each of the checkpoints with another block of /a, and one before the last
+        one."""
         volume = Volume(16, 64, CHAIN)
         volume.create("/a")
         volume.create("/b")
@@ -35,12 +37,18 @@ class Succession:
         volume.kind = TREE
         volume.write("/a", 0, b"first" + bytes(1019) + b"second")
         volume.write("/b", 0, b"of b")
+        volume.create("/e")
+        volume.create("/d/g")
         while volume.kept[-1].number < CHECKPOINTS - 1:
             volume.write("/a", 0, b"%05d" % volume.kept[-1].number)
+            if each:
+                each(volume)
             volume.checkpoint(0)
         if last:
             path, block = last
             volume.write(path, 1024 * block, b"last")
+        if end:
+            end(volume)
         volume.checkpoint(0)
         for number in removed:
             volume.remove(number)
@@ -142,11 +150,11 @@ def file_as_directory():
 
 
 def moved_inodes():
-    """A block of the file of inodes stands eight inodes further on."""
+    """A block of the file of inodes stands at another index."""
     it = Succession()
     number = it.got(it.slot(INODES, 1))
-    it.put(it.slot(INODES, 1), 0).put(it.slot(INODES, 2), number)
-    return it.put(it.entry(CHECKPOINTS - 1, CHECKPOINT_RECORD + INODE_SIZE), 3 * 1024)
+    it.put(it.slot(INODES, 1), 0).put(it.slot(INODES, 3), number)
+    return it.put(it.entry(CHECKPOINTS - 1, CHECKPOINT_RECORD + INODE_SIZE), 4 * 1024)
 
 
 def shorter():
@@ -163,9 +171,124 @@ def told_wrongly():
 
 def unnamed():
     """An inode more, which no record names."""
-    it = Succession()
-    it.put(it.inode("/long") + 128, FILE, 1)
+    it = Succession(last=("/e", 0))
+    it.put(it.inode("/d/g") + 128, FILE, 1)
     return it.more(it.entry(CHECKPOINTS - 1, CHECKPOINT_INODES))
+
+
+# ---- trees, where inodes come and go
+
+
+def come_and_go():
+    """Each checkpoint has a file that the one before has not, and not the one that that has. In between so many
+    come that the file of inodes has a block more, and go again."""
+    more = [f"/d/{k}" for k in range(8)]
+
+    def each(volume):
+        number = volume.kept[-1].number
+        volume.create(f"/come{number}")
+        if f"come{number - 1}".encode() in volume.inodes[ROOT].names:
+            volume.drop(f"/come{number - 1}")
+        if number == 20:
+            for path in more:
+                volume.create(path)
+        if number == 30:
+            for path in more:
+                volume.drop(path)
+
+    return Succession(each=each)
+
+
+def another_kind():
+    """The number of a file that goes becomes that of a directory, with a file in it."""
+
+    def end(volume):
+        volume.drop("/b")
+        volume.mkdir("/f")
+        volume.create("/f/f")
+
+    return Succession(last=None, end=end)
+
+
+def moved_directory():
+    """A directory moves into another one, which comes."""
+
+    def end(volume):
+        volume.mkdir("/f")
+        volume.rename("/d", "/f/d")
+
+    return Succession(last=None, end=end)
+
+
+def comes_unnamed():
+    """Two files come, and one of them has no name."""
+
+    def end(volume):
+        volume.create("/new")
+        volume.create("/unnamed")
+        del volume.inodes[ROOT].names[b"unnamed"]
+
+    return Succession(end=end)
+
+
+def comes_counted_wrongly():
+    """A file comes, and one more is told."""
+    it = Succession(end=lambda volume: volume.create("/new"))
+    return it.more(it.entry(CHECKPOINTS - 1, CHECKPOINT_INODES))
+
+
+def names_what_went():
+    """A file goes whose name stays, beside one that comes."""
+
+    def end(volume):
+        volume.create("/new")
+        del volume.inodes[Succession.INODE["/b"]]
+
+    return Succession(last=None, end=end)
+
+
+def full_directory_goes():
+    """A directory goes though it has files, which stay."""
+
+    def end(volume):
+        del volume.inodes[ROOT].names[b"d"]
+        del volume.inodes[Succession.INODE["/d"]]
+
+    return Succession(end=end)
+
+
+def cycle():
+    """Two directories come that name each other, and nothing else names them."""
+
+    def end(volume):
+        volume.mkdir("/f")
+        volume.mkdir("/h")
+        names = volume.inodes[ROOT].names
+        one, other = names.pop(b"f"), names.pop(b"h")
+        volume.inodes[one[0]].names[b"h"] = other
+        volume.inodes[other[0]].names[b"f"] = one
+
+    return Succession(end=end)
+
+
+def cycle_of_moved():
+    """A directory moves into itself."""
+
+    def end(volume):
+        volume.mkdir("/d/f")
+        inside, _ = volume.inodes[Succession.INODE["/d"]].names[b"f"]
+        volume.inodes[inside].names[b"d"] = volume.inodes[ROOT].names.pop(b"d")
+
+    return Succession(end=end)
+
+
+def named_twice():
+    """A file gets a second name, in another directory."""
+
+    def end(volume):
+        volume.inodes[Succession.INODE["/d"]].names[b"again"] = volume.inodes[ROOT].names[b"b"]
+
+    return Succession(end=end)
 
 
 # ---- periods
@@ -215,6 +338,8 @@ def image_of(name):
     """The image of a name. None where there is none."""
     made = {it.__name__: it for it in (
         sound, equal_trees, shared, shared_node, exchanged, twice_in_a_file, chain_as_tree, long_chain_as_tree,
-        file_as_directory, moved_inodes, shorter, told_wrongly, unnamed, ended, ended_between, begun_nowhere,
-        left_out, tree_before_shape, periods_before_tree)}.get(name)
+        file_as_directory, moved_inodes, shorter, told_wrongly, unnamed, come_and_go, another_kind,
+        moved_directory, comes_unnamed, comes_counted_wrongly, names_what_went, full_directory_goes, cycle,
+        cycle_of_moved, named_twice, ended, ended_between, begun_nowhere, left_out, tree_before_shape,
+        periods_before_tree)}.get(name)
     return made and bytes(made().image)

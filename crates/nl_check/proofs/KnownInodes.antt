@@ -11,6 +11,7 @@ use Rattle.nl_files.specs.CheckpointRoots.{inode_root}
 use Rattle.nl_ifile.specs.Inodes.{IsInodeFile, block_for, in_block, inode_at, inode_in}
 use Rattle.nl_check.specs.MetFiles.{CanBeMet, IsWalked, is_met}
 use Rattle.nl_check.specs.Shapes.{IsShaped}
+use Rattle.nl_check.specs.Private.ChangedFiles.{IsOfInodes}
 use Rattle.nl_check.specs.Private.SoundInodes.{IsMeasured, IsSoundInode, TellsInodes, kind_for, kind_in}
 use Rattle.nl_check.specs.Private.Walks.{AreKnown, IsBlockOf, IsWalk}
 use Rattle.nl_check.specs.declared.shape.Walk.{Walk}
@@ -103,11 +104,25 @@ module _ (pages : Pages) (root : Root) where
       → Some page ≡ block_for (inode_in page)
   page-is-block b page at s = sym at ∙ (s.inodes b ∙ same-block b page at)
 
+  -- a block that there may be, where it is one of inodes if it is there
+  pub block-of : (b : ℕ) (o : Option (List ℕ)) → page_at pages root b ≡ o → IsOfInodes o
+      → IsBlockOf pages root b
+  block-of b None at is = block-of-hole b at
+  block-of b (Some page) at is = block-of-page b page at is
+
   -- the inode at a place of the block
   pub inode-at-place : (b p n : ℕ) (page : List ℕ) (o : Option Inode) → n ≡ 8 * b + p → p < 8
       → o ≡ inode_in page p → page_at pages root b ≡ Some page → inode_at pages root n ≡ o
   inode-at-place b p n page o number low is at =
       ap (inode_at pages root) number ∙ (inode-there pages root b p page at low ∙ sym is)
+
+  -- and at one of a block that there may be
+  pub inode-under : (b p : ℕ) (o : Option (List ℕ)) (found : Option Inode) → p < 8
+      → found ≡ option_and_then (λ (page : List ℕ). inode_in page p) o → page_at pages root b ≡ o
+      → inode_at pages root (8 * b + p) ≡ found
+  inode-under b p None found low is at =
+      none-in pages root b (8 * b + p) at (omega (arith, low)) ∙ sym is
+  inode-under b p (Some page) found low is at = inode-there pages root b p page at low ∙ sym is
 
   -- before the first inode
   pub known-first : (old new : List Bool) (count : ℕ) (kinds : List (Option Kind))

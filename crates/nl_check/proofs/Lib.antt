@@ -31,6 +31,7 @@ pub mod TreeEnds
 pub mod HeightsBeside
 pub mod FilesBeside
 pub mod TurnPlaces
+pub mod NotedKinds
 pub mod ListedFiles
 pub mod AlikeTrees
 pub mod NamesStay

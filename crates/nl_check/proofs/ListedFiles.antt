@@ -1,14 +1,13 @@
 -- Files whose inodes changed, listed block by block.
-use Rattle.std.proofs.Common.{◌≡◌, ◌⊎◌, ℕ, suc, ◌+◌, ◌*◌, ◌≤◌, List, [], ◌∷◌, Some, refl, ap, sym, subst, ◌∙◌, inl, inr, arith}
+use Rattle.std.proofs.Common.{◌≡◌, ◌⊎◌, ℕ, suc, ◌+◌, ◌*◌, ◌≤◌, List, [], ◌∷◌, Option, refl, ap, sym, subst, ◌∙◌, inl, inr, arith}
 use Rattle.std.specs.List.{Contains}
 use Rattle.std.proofs.lemmas.List.Elements.{Contains-append_left, Contains-push, Contains-push_cases}
 use Rattle.nl_types.specs.Roots.{Pages, Root, Tree, page_at, place_at}
-use Rattle.nl_layout.specs.declared.inode.Inode.{Inode}
-use Rattle.nl_ifile.specs.Inodes.{block_for, inode_at, inode_in}
+use Rattle.nl_ifile.specs.Inodes.{inode_at}
 use Rattle.nl_check.specs.Facts.Below.{below-more}
-use Rattle.nl_check.specs.Private.ChangedFiles.{AreAllListed, IsBlockListed, IsChangedFile, IsSameOrListed, ListsAll, ListsBlock, ListsFile, ListsInode, ListsMore, ListsPlaces, ListsUnder}
+use Rattle.nl_check.specs.Private.ChangedFiles.{AreAllListed, IsBlockListed, IsChangedFile, IsOfInodes, IsSameOrListed, ListsAll, ListsBlock, ListsFile, ListsInode, ListsMore, ListsPlaces, ListsUnder}
 use Rattle.nl_check.specs.declared.differing.ChangedFile.{ChangedFile}
-use Rattle.nl_check.proofs.KnownInodes.{block-of-page}
+use Rattle.nl_check.proofs.KnownInodes.{block-of}
 use Rattle.nl_check.proofs.MetRanges.{range-none, range-step, whole-step}
 use Rattle.nl_check.proofs.MetTrees.{under-top}
 use Rattle.nl_check.proofs.SamePlaces.{same-under}
@@ -35,14 +34,14 @@ module _ (pages : Pages) (old new : Root) where
   -- ---- one inode
 
   pub inode-listed : (f : ChangedFile) (before after : List ChangedFile)
-      → ListsFile f before after → inode_at pages old f.number ≡ Some f.earlier
-      → inode_at pages new f.number ≡ Some f.later
+      → ListsFile f before after → inode_at pages old f.number ≡ f.earlier
+      → inode_at pages new f.number ≡ f.later
       → ListsInode pages old new f.number before after
   inode-listed f before after (inl (one, list)) a b =
       subst (ListsInode pages old new f.number before) (sym list)
       (record {
         lists = lists-none before;
-        here = inl (a ∙ (ap (λ (i : Inode). Some i) one ∙ sym b));
+        here = inl (a ∙ (one ∙ sym b));
       })
   inode-listed f before after (inr (can, list)) a b =
       subst (ListsInode pages old new f.number before) (sym list)
@@ -72,12 +71,12 @@ module _ (pages : Pages) (old new : Root) where
         (λ q low. still (8 * index + q) mid after k.lists (m.each q low)) k.here;
   }
 
-  pub block-listed : (index : ℕ) (page : List ℕ) (before after : List ChangedFile)
-      → page_at pages new index ≡ Some page → Some page ≡ block_for (inode_in page)
+  pub block-listed : (index : ℕ) (o : Option (List ℕ)) (before after : List ChangedFile)
+      → page_at pages new index ≡ o → IsOfInodes o
       → ListsPlaces pages old new index 8 before after → ListsBlock pages old new index before after
-  block-listed index page before after at is m = record {
+  block-listed index o before after at is m = record {
     lists = m.lists;
-    listed = record { block = block-of-page pages new index page at is; each = m.each };
+    listed = record { block = block-of pages new index o at is; each = m.each };
   }
 
   block-still : (index : ℕ) (mid after : List ChangedFile) → ListsMore pages old new mid after

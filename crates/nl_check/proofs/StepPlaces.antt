@@ -3,7 +3,6 @@ use Rattle.std.proofs.Common.{◌≡◌, ◌⊎◌, ℕ, ◌+◌, ◌*◌, ◌/�
 use Rattle.std.specs.List.{Contains, slice_get}
 use Rattle.std.proofs.lemmas.Option.{get_or_from_slice_get, slice_get_read}
 use Rattle.nl_types.specs.Roots.{Pages, Root, place_at}
-use Rattle.nl_layout.specs.Root.{root_of}
 use Rattle.nl_files.specs.CheckpointRoots.{inode_root}
 use Rattle.nl_check.specs.Shapes.{At, Itself, Of, Owner, root_for}
 use Rattle.nl_check.specs.Private.BesideTrees.{HasLeft}
@@ -34,11 +33,11 @@ module _ (pages : Pages) (old new : Root) (files : List ChangedFile)
           subst (IsSameOrListed pages old new files) number (block.each (n % 8) (omega arith))
 
   pub was-root : (f : ChangedFile) → Contains files f
-      → root_for pages old (Of f.number) ≡ root_of f.earlier.root
+      → root_for pages old (Of f.number) ≡ inode_root f.earlier
   was-root f c = let changed = listed.right f c in ap inode_root changed.was
 
   pub is-root : (f : ChangedFile) → Contains files f
-      → root_for pages new (Of f.number) ≡ root_of f.later.root
+      → root_for pages new (Of f.number) ≡ inode_root f.later
   is-root f c = let changed = listed.right f c in ap inode_root changed.is
 
   pub turn-of : (f : ChangedFile) (c : Contains files f) → slice_get files c.0 ≡ Some f
@@ -77,7 +76,7 @@ module _ (pages : Pages) (old new : Root) (files : List ChangedFile)
               of = record { turn = c.0; before = c.1; is = turn-of f c; owner_is = owner };
               stands =
                   in-roots Stands (root_for pages old at.owner) (root_for pages new at.owner)
-                  (root_of f.earlier.root) (root_of f.later.root) (at.level, at.offset) v
+                  (inode_root f.earlier) (inode_root f.later) (at.level, at.offset) v
                   (ap (root_for pages old) owner ∙ was-root f c)
                   (ap (root_for pages new) owner ∙ is-root f c) s;
             })
@@ -96,7 +95,7 @@ module _ (pages : Pages) (old new : Root) (files : List ChangedFile)
     right at v s =
         let f = s.file in
         let c = contained s.of.turn f s.of.before s.of.is in
-        in-roots Stands (root_of f.earlier.root) (root_of f.later.root) (root_for pages old at.owner)
+        in-roots Stands (inode_root f.earlier) (inode_root f.later) (root_for pages old at.owner)
         (root_for pages new at.owner) (at.level, at.offset) v
         (sym (ap (root_for pages old) s.of.owner_is ∙ was-root f c))
         (sym (ap (root_for pages new) s.of.owner_is ∙ is-root f c)) s.stands

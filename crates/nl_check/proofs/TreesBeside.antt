@@ -1,33 +1,30 @@
--- A checkpoint holds a tree where the one before it does, and files alone changed.
-use Rattle.std.proofs.Common.{◌≡◌, true, ◌⊎◌, ℕ, zero, suc, ◌+◌, ◌*◌, Bool, cond, List, length, Option, Some, None, refl, ap, sym, subst, ◌∙◌, inl, inr}
+-- What a checkpoint holds, by what the one before it does and by the files whose inodes changed.
+use Rattle.std.proofs.Common.{◌≡◌, true, ◌⊎◌, ℕ, zero, suc, ◌+◌, ◌*◌, ◌<◌, Bool, cond, List, length, Option, Some, None, refl, ap, sym, subst, ◌∙◌, inl, inr}
 use Rattle.std.specs.List.{Contains}
-use Rattle.std.specs.Option.{is_some, option_and_then, option_map}
+use Rattle.std.specs.Option.{is_some, option_map}
 use Rattle.nl_types.specs.declared.kind.Kind.{Kind}
 use Rattle.nl_types.specs.Inodes.{InodeContent, Bytes, Records, Inodes}
-use Rattle.nl_types.specs.Roots.{Pages, Root, page_at, place_at}
+use Rattle.nl_types.specs.Roots.{Pages, Root}
 use Rattle.nl_layout.specs.Root.{root_of, root_told}
 use Rattle.nl_layout.specs.declared.checkpoint_entry.CheckpointEntry.{CheckpointEntry}
-use Rattle.nl_layout.specs.declared.root.Root.{Root as CodeRoot}
 use Rattle.nl_layout.specs.declared.inode.Inode.{Inode}
-use Rattle.nl_layout.specs.declared.inode.InodeKind.{InodeKind}
-use Rattle.nl_layout.specs.declared.inode.InodeKind.TheVariants.{File}
-use Rattle.nl_files.specs.CheckpointRoots.{StandsAs, StandsFor, Stores}
+use Rattle.nl_layout.specs.declared.root.Root.{Root as CodeRoot}
+use Rattle.nl_files.specs.CheckpointRoots.{StandsFor, Stores}
 use Rattle.nl_ifile.specs.Inodes.{inode_at}
-use Rattle.nl_tree.specs.Held.{Held, Holding, IsHolding, IsInodeNumber, MayHold, Stored, inodes_of_holding}
+use Rattle.nl_tree.specs.Held.{Held, Holding, IsHolding, IsInodeNumber, MayHold, inodes_of_holding}
+use Rattle.nl_check.specs.Conditions.{IsSoundTree}
 use Rattle.nl_check.specs.InodeTrees.{used_below}
 use Rattle.nl_check.specs.Judging.{told}
 use Rattle.nl_check.specs.Shapes.{At}
 use Rattle.nl_check.specs.Trees.{IsSizeOf, IsTreeOf}
 use Rattle.nl_check.specs.Private.AlikeNames.{AreAlike, AreFiles, NamesAlike}
 use Rattle.nl_check.specs.Private.BesideTrees.{HasLeft}
-use Rattle.nl_check.specs.Private.SoundInodes.{IsSoundInode, TellsAll, kind_for, kind_told}
-use Rattle.nl_check.specs.Private.ChangedFiles.{AreAllListed, AreAllMet, IsGoodBeside, IsLost, IsSameOrListed, IsSoundNow, IsWalkedBeside, IsWholeFile}
-use Rattle.nl_check.specs.Private.Walks.{IsMetWhole, IsMetWholeAt}
+use Rattle.nl_check.specs.Private.SoundInodes.{IsSoundInode, TellsAll, kind_in, kind_told}
+use Rattle.nl_check.specs.Private.ChangedFiles.{AreAllListed, AreAllMet, AreFilesStill, AreNoted, HaveLater, IsGoodBeside, IsLost, IsSameOrListed, IsSoundNow, IsToldStill, IsWalkedBeside}
+use Rattle.nl_check.specs.Private.Walks.{AreSoundAt, IsMetWhole, IsMetWholeAt, IsWalk}
 use Rattle.nl_check.specs.declared.differing.ChangedFile.{ChangedFile}
-use Rattle.nl_check.proofs.FilesBeside.{file-measured}
 use Rattle.nl_check.proofs.NamesStay.{forms-stay, names-stay}
-use Rattle.nl_check.proofs.StepPlaces.{inode-case}
-use Rattle.nl_check.proofs.SoundOnes.{file-sound, number-of}
+use Rattle.nl_check.proofs.StepPlaces.{inode-case, turn-of}
 use Rattle.nl_check.proofs.StepsBeside.{known-later}
 
 -- ---- how many are in use
@@ -43,177 +40,146 @@ used-alike a b alike (suc n) =
     ap (λ (x : Bool). cond x 1 0 + used_below a n) (alike-used (a n) (b n) (alike n))
     ∙ ap (λ (k : ℕ). cond (is_some (b n)) 1 0 + k) (used-alike a b alike n)
 
--- ---- what a file holds
-
-stands-file : (pages : Pages) (inode : Inode) (held : Option Held) → inode.kind ≡ File
-    → StandsFor pages (Some inode) held → held ≡ Some (Stored inode.size (page_at pages (root_of inode.root)))
-stands-file pages inode held kind s =
-    subst (λ (k : InodeKind). StandsAs (page_at pages (root_of inode.root)) k inode.size held) kind s
-
-file-stands : (pages : Pages) (inode : Inode) → inode.kind ≡ File
-    → StandsFor pages (Some inode) (Some (Stored inode.size (page_at pages (root_of inode.root))))
-file-stands pages inode kind =
-    subst
-    (λ (k : InodeKind). StandsAs (page_at pages (root_of inode.root)) k inode.size
-    (Some (Stored inode.size (page_at pages (root_of inode.root))))) (sym kind) refl
-
-page-whole : (pages : Pages) (root : Root) → IsWholeFile pages root → (i : ℕ) (page : List ℕ)
-    → page_at pages root i ≡ Some page → length page ≡ 1024
-page-whole pages root w i page is = by (place_at pages root 0 i) refl is
-  where
-    by : (o : Option ℕ) → place_at pages root 0 i ≡ o → option_and_then pages o ≡ Some page
-        → length page ≡ 1024
-    by None at is = cc
-    by (Some v) at is = w.whole (0, i) v page at is
-
 module _ (pages : Pages) (old new : Root) (files : List ChangedFile)
     (listed : AreAllListed pages old new files)
-    (sound : (f : ChangedFile) → Contains files f → IsSoundNow pages f)
-    (size inodes : ℕ) (t : IsTreeOf pages old size inodes) where
-  -- a file that changed holds its blocks, any other inode what it held
-  held-by : (i : ℕ) → IsSameOrListed pages old new files i → Option Held
-  held-by i (inl one) = t.holding i
-  held-by i (inr (f, c, number)) = Some (Stored f.later.size (page_at pages (root_of f.later.root)))
+    (sound : (f : ChangedFile) → Contains files f → IsSoundNow pages f) where
+  -- ---- what inodes hold
 
-  held-now : Holding
-  held-now i = held-by i (inode-case pages old new files listed i)
+  module _ (held : Holding) (stores : Stores pages old held) (limits : IsHolding held) where
+    -- what a file that changed holds now, any other inode what it held
+    held-by : (i : ℕ) → IsSameOrListed pages old new files i → Option Held
+    held-by i (inl one) = held i
+    held-by i (inr (f, c, number)) = let s = sound f c in s.sound.holding f.number
 
-  stands-by : (i : ℕ) (case : IsSameOrListed pages old new files i)
-      → StandsFor pages (inode_at pages new i) (held-by i case)
-  unfolding held-by
-  stands-by i (inl one) = subst (λ (o : Option Inode). StandsFor pages o (t.holding i)) one (t.stores i)
-  stands-by i (inr (f, c, number)) =
-      let changed = listed.right f c in
-      subst
-      (λ (o : Option Inode). StandsFor pages o
-      (Some (Stored f.later.size (page_at pages (root_of f.later.root)))))
-      (sym (ap (inode_at pages new) (sym number) ∙ changed.is))
-      (file-stands pages f.later changed.can.is_file)
+    held-now : Holding
+    held-now i = held-by i (inode-case pages old new files listed i)
 
-  stores-now : Stores pages new held-now
-  unfolding held-now
-  stores-now i = stands-by i (inode-case pages old new files listed i)
+    stands-by : (i : ℕ) (case : IsSameOrListed pages old new files i)
+        → StandsFor pages (inode_at pages new i) (held-by i case)
+    unfolding held-by
+    stands-by i (inl one) = subst (λ (o : Option Inode). StandsFor pages o (held i)) one (stores i)
+    stands-by i (inr (f, c, number)) =
+        let changed = listed.right f c in
+        let s = sound f c in
+        subst (λ (o : Option Inode). StandsFor pages o (s.sound.holding f.number))
+        (sym changed.is ∙ ap (inode_at pages new) number) s.sound.stands
 
-  -- what the inode of a file that changed held
-  was-held : (i : ℕ) (f : ChangedFile) → Contains files f → f.number ≡ i
-      → t.holding i ≡ Some (Stored f.earlier.size (page_at pages (root_of f.earlier.root)))
-  was-held i f c number =
-      let changed = listed.right f c in
-      stands-file pages f.earlier (t.holding i) changed.can.was_file
-      (subst (λ (o : Option Inode). StandsFor pages o (t.holding i))
-      (ap (inode_at pages old) (sym number) ∙ changed.was) (t.stores i))
+    stores-now : Stores pages new held-now
+    unfolding held-now
+    stores-now i = stands-by i (inode-case pages old new files listed i)
 
-  number-by : (i : ℕ) (held : Held) (case : IsSameOrListed pages old new files i) → held-by i case ≡ Some held
-      → IsInodeNumber i
-  unfolding held-by
-  number-by i held (inl one) is = t.limits.inode_numbers i held is
-  number-by i held (inr (f, c, number)) is =
-      t.limits.inode_numbers i (Stored f.earlier.size (page_at pages (root_of f.earlier.root)))
-      (was-held i f c number)
+    number-by : (i : ℕ) (x : Held) (case : IsSameOrListed pages old new files i)
+        → held-by i case ≡ Some x → IsInodeNumber i
+    unfolding held-by
+    number-by i x (inl one) is = limits.inode_numbers i x is
+    number-by i x (inr (f, c, number)) is =
+        let s = sound f c in subst IsInodeNumber number (s.sound.limits.inode_numbers f.number x is)
 
-  may-by : (i : ℕ) (held : Held) (case : IsSameOrListed pages old new files i) → held-by i case ≡ Some held
-      → MayHold (Some held)
-  unfolding held-by
-  may-by i held (inl one) is = t.limits.each i held is
-  may-by i held (inr (f, c, number)) is =
-      let s = sound f c in
-      let own : Stored f.later.size (page_at pages (root_of f.later.root)) ≡ held = cc in
-      subst (λ (h : Held). MayHold (Some h)) own
-      (record {
-        small = s.sound.most;
-        none_past = s.sound.none_past;
-        zeros = s.sound.zeros;
-        whole = page-whole pages (root_of f.later.root) s.file;
-      })
+    may-by : (i : ℕ) (x : Held) (case : IsSameOrListed pages old new files i)
+        → held-by i case ≡ Some x → MayHold (Some x)
+    unfolding held-by
+    may-by i x (inl one) is = limits.each i x is
+    may-by i x (inr (f, c, number)) is = let s = sound f c in s.sound.limits.each f.number x is
 
-  limits-now : IsHolding held-now
-  unfolding held-now
-  limits-now = record {
-    inode_numbers = λ i held is. number-by i held (inode-case pages old new files listed i) is;
-    each = λ i held is. may-by i held (inode-case pages old new files listed i) is;
-  }
+    limits-now : IsHolding held-now
+    unfolding held-now
+    limits-now = record {
+      inode_numbers = λ i x is. number-by i x (inode-case pages old new files listed i) is;
+      each = λ i x is. may-by i x (inode-case pages old new files listed i) is;
+    }
 
-  each-case : (i : ℕ) → (inode_at pages old i ≡ inode_at pages new i)
-      ⊎ AreFiles (inode_at pages old i) (inode_at pages new i)
-  each-case i = by (inode-case pages old new files listed i)
-    where
-      by : IsSameOrListed pages old new files i → (inode_at pages old i ≡ inode_at pages new i)
-          ⊎ AreFiles (inode_at pages old i) (inode_at pages new i)
-      by (inl one) = inl one
-      by (inr (f, c, number)) =
-          let changed = listed.right f c in
-          inr (record {
-            one = f.earlier;
-            other = f.later;
-            one_is = ap (inode_at pages old) (sym number) ∙ changed.was;
-            other_is = ap (inode_at pages new) (sym number) ∙ changed.is;
-            one_file = changed.can.was_file;
-            other_file = changed.can.is_file;
-          })
+  -- ---- files alone changed
 
-  -- the tree goes over
-  pub tree-later : (count : ℕ) → IsSizeOf pages new (1024 * count) → IsTreeOf pages new (1024 * count) inodes
-  tree-later count sized = record {
-    holding = held-now;
-    stores = stores-now;
-    limits = limits-now;
-    forms = forms-stay pages old new t.holding held-now t.stores stores-now each-case t.forms;
-    counted =
-        t.counted
-        ∙ used-alike (inodes_of_holding t.holding) (inodes_of_holding held-now)
-        (names-stay pages old new t.holding held-now t.stores stores-now each-case) 524288;
-    sized = sized;
-  }
+  module _ (still : AreFilesStill files (length files)) where
+    each-case : (i : ℕ) → (inode_at pages old i ≡ inode_at pages new i)
+        ⊎ AreFiles (inode_at pages old i) (inode_at pages new i)
+    each-case i = by (inode-case pages old new files listed i)
+      where
+        by : IsSameOrListed pages old new files i → (inode_at pages old i ≡ inode_at pages new i)
+            ⊎ AreFiles (inode_at pages old i) (inode_at pages new i)
+        by (inl one) = inl one
+        by (inr (f, c, number)) =
+            let changed = listed.right f c in
+            let both = still c.0 f c.1 (turn-of pages old new files listed f c) in
+            inr (record {
+              one = both.one;
+              other = both.other;
+              one_is = ap (inode_at pages old) (sym number) ∙ (changed.was ∙ both.one_is);
+              other_is = ap (inode_at pages new) (sym number) ∙ (changed.is ∙ both.other_is);
+              one_file = both.one_file;
+              other_file = both.other_file;
+            })
 
--- ---- the kinds of inodes, and whether each is sound
+    -- the tree goes over
+    pub tree-later : (size inodes count : ℕ) → IsTreeOf pages old size inodes → IsSizeOf pages new (1024 * count)
+        → IsTreeOf pages new (1024 * count) inodes
+    tree-later size inodes count t sized = record {
+      holding = held-now t.holding t.stores t.limits;
+      stores = stores-now t.holding t.stores t.limits;
+      limits = limits-now t.holding t.stores t.limits;
+      forms =
+          forms-stay pages old new t.holding (held-now t.holding t.stores t.limits) t.stores
+          (stores-now t.holding t.stores t.limits) each-case t.forms;
+      counted =
+          t.counted
+          ∙ used-alike (inodes_of_holding t.holding)
+          (inodes_of_holding (held-now t.holding t.stores t.limits))
+          (names-stay pages old new t.holding (held-now t.holding t.stores t.limits) t.stores
+          (stores-now t.holding t.stores t.limits) each-case) 524288;
+      sized = sized;
+    }
 
-module _ (pages : Pages) (old new : Root) (files : List ChangedFile)
-    (listed : AreAllListed pages old new files)
-    (sound : (f : ChangedFile) → Contains files f → IsSoundNow pages f) (kinds : List (Option Kind))
-    (t : TellsAll pages old kinds true) where
-  kind-same : (i : ℕ) → IsSameOrListed pages old new files i
-      → kind_told (inode_at pages old i) ≡ kind_told (inode_at pages new i)
-  kind-same i (inl one) = ap kind_told one
-  kind-same i (inr (f, c, number)) =
-      let changed = listed.right f c in
-      ap (λ (n : ℕ). kind_told (inode_at pages old n)) (sym number)
-      ∙ (ap kind_told changed.was
-      ∙ (ap kind_for (changed.can.was_file ∙ sym changed.can.is_file)
-      ∙ (sym (ap kind_told changed.is) ∙ ap (λ (n : ℕ). kind_told (inode_at pages new n)) number)))
+  -- ---- the kinds of inodes, and whether each is sound
 
-  sound-by : (i : ℕ) → IsSameOrListed pages old new files i → IsSoundInode pages i (inode_at pages new i)
-  sound-by i (inl one) = subst (IsSoundInode pages i) one (t.all refl i)
-  sound-by i (inr (f, c, number)) =
-      let changed = listed.right f c in
-      let s = sound f c in
-      let earlier : IsSoundInode pages f.number (Some f.earlier) =
-      subst (IsSoundInode pages f.number) changed.was (t.all refl f.number) in
-      let later : IsSoundInode pages f.number (Some f.later) =
-      file-sound pages f.number f.later s.count changed.can.is_file
-      (number-of pages f.number f.earlier earlier)
-      (file-measured pages (root_of f.later.root) s.count s.file s.sized) s.sound in
-      subst (λ (n : ℕ). IsSoundInode pages n (inode_at pages new n)) number
-      (subst (IsSoundInode pages f.number) (sym changed.is) later)
+  have-later : HaveLater files (inode_at pages new)
+  have-later f c = let changed = listed.right f c in changed.is
 
-  pub told-later : TellsAll pages new kinds true
-  told-later = record {
-    count = t.count;
-    told = λ i low. t.told i low ∙ kind-same i (inode-case pages old new files listed i);
-    all = λ _ i. sound-by i (inode-case pages old new files listed i);
-    some_not = λ e. cc;
-  }
+  module _ (kinds kinds_new : List (Option Kind)) (t : TellsAll pages old kinds true)
+      (noted : AreNoted (inode_at pages new) files (length files) kinds kinds_new) where
+    kind-by : (i : ℕ) → i < 524288 → IsSameOrListed pages old new files i
+        → kind_in kinds_new i ≡ kind_told (inode_at pages new i)
+    kind-by i low (inl one) = elim (noted.others i low) [
+      | inl as_before ↦ as_before ∙ (t.told i low ∙ ap kind_told one)
+      | inr now ↦ now
+    ]
+    kind-by i low (inr (f, c, number)) =
+        subst (λ (n : ℕ). kind_in kinds_new n ≡ kind_told (inode_at pages new n)) number
+        (noted.here c.0 f c.1 (turn-of pages old new files listed f c)
+        (subst (λ (n : ℕ). n < 524288) (sym number) low))
+
+    sound-by : (i : ℕ) → IsSameOrListed pages old new files i → IsSoundInode pages i (inode_at pages new i)
+    sound-by i (inl one) = subst (IsSoundInode pages i) one (t.all refl i)
+    sound-by i (inr (f, c, number)) =
+        let changed = listed.right f c in
+        let s = sound f c in
+        subst (λ (n : ℕ). IsSoundInode pages n (inode_at pages new n)) number
+        (subst (IsSoundInode pages f.number) (sym changed.is) s.sound)
+
+    pub told-later : length kinds_new ≡ 524288 → TellsAll pages new kinds_new true
+    told-later count = record {
+      count = count;
+      told = λ i low. kind-by i low (inode-case pages old new files listed i);
+      all = λ _ i. sound-by i (inode-case pages old new files listed i);
+      some_not = λ e. cc;
+    }
 
 -- ---- a whole step
 
-pub walked-beside : (pages : Pages) (old new : Root) (before now after : List Bool) (files : List ChangedFile)
-    (count : ℕ) → IsMetWhole pages old before → AreAllListed pages old new files
+pub walked-beside : (pages : Pages) (old new : Root) (before now after : List Bool)
+    (kinds kinds_new : List (Option Kind)) (files : List ChangedFile) (count : ℕ)
+    → IsMetWhole pages old before → AreAllListed pages old new files
     → HasLeft At (IsLost pages old new) before now → AreAllMet pages old new files now after count
-    → IsWalkedBeside pages old new after count
-walked-beside pages old new before now after files count m listed l all = record {
+    → length kinds_new ≡ 524288
+    → ((now : ℕ → Option Inode) → HaveLater files now → AreNoted now files (length files) kinds kinds_new)
+    → IsWalkedBeside pages old new after kinds kinds_new files count
+walked-beside pages old new before now after kinds kinds_new files count m listed l all long noted = record {
   known = known-later pages old new before now after m l all.met files listed count all;
   sized = all.sized;
-  told = λ kinds t. told-later pages old new files listed all.sound kinds t;
-  tree = λ size inodes t. tree-later pages old new files listed all.sound size inodes t count all.sized;
+  told = λ t.
+      told-later pages old new files listed all.sound kinds kinds_new t
+      (noted (inode_at pages new) (have-later pages old new files listed all.sound)) long;
+  tree = λ still size inodes t.
+      tree-later pages old new files listed all.sound still size inodes count t all.sized;
 }
 
 -- of checkpoints as their entries tell of them
@@ -232,23 +198,31 @@ module _ (pages : Pages) (last entry : CheckpointEntry) (before now : CodeRoot)
       → IsMetWhole pages (root_of before) numbers
   known-before numbers (r, is, m) = subst (λ (x : Root). IsMetWhole pages x numbers) (own-root r is) m
 
-  pub good-beside : (after : List Bool) (count : ℕ) → entry.inodes ≡ last.inodes
-      → entry.size ≡ 1024 * count
-      → IsWalkedBeside pages (root_of before) (root_of now) after count
-      → IsGoodBeside pages (told last) (told entry) after
-  good-beside after count inodes size w = record {
-    known = (root_of now, told-now, w.known);
-    sound = λ kinds (r, is, t). (
-      root_of now,
-      told-now,
-      w.told kinds (subst (λ (x : Root). TellsAll pages x kinds true) (own-root r is) t),
-    );
-    tree = λ (r, is, t). (
-      root_of now,
-      told-now,
-      subst (λ (n : ℕ). IsTreeOf pages (root_of now) n entry.inodes) (sym size)
-          (subst (IsTreeOf pages (root_of now) (1024 * count)) (sym inodes)
-          (w.tree last.size last.inodes
-          (subst (λ (x : Root). IsTreeOf pages x last.size last.inodes) (own-root r is) t))),
-    );
-  }
+  module _ (after : List Bool) (kinds kinds_new : List (Option Kind)) (files : List ChangedFile) (count : ℕ)
+      (asked : Bool) (sound : asked ≡ true → AreSoundAt pages (told last) kinds)
+      (w : IsWalkedBeside pages (root_of before) (root_of now) after kinds kinds_new files count) where
+    told-sound : asked ≡ true → TellsAll pages (root_of now) kinds_new true
+    told-sound is =
+        let s = sound is in
+        w.told (subst (λ (x : Root). TellsAll pages x kinds true) (own-root s.0 s.1) s.2)
+
+    -- it is walked as if it was judged by itself
+    pub walk-beside : asked ≡ true → IsWalk pages (root_of now) after kinds_new (record { count = count; sound = true })
+    walk-beside is = record { known = w.known; sized = w.sized; told = told-sound is }
+
+    -- the tree goes over
+    pub tree-still : IsToldStill files count last entry → IsSoundTree pages (told last)
+        → IsTreeOf pages (root_of now) entry.size entry.inodes
+    tree-still still (r, is, t) =
+        subst (λ (n : ℕ). IsTreeOf pages (root_of now) n entry.inodes) (sym still.size)
+        (subst (IsTreeOf pages (root_of now) (1024 * count)) (sym still.inodes)
+        (w.tree still.files_still last.size last.inodes
+        (subst (λ (x : Root). IsTreeOf pages x last.size last.inodes) (own-root r is) t)))
+
+    pub good-beside : (asked ≡ true → IsTreeOf pages (root_of now) entry.size entry.inodes)
+        → IsGoodBeside pages (told entry) after kinds_new asked
+    good-beside holds = record {
+      known = (root_of now, told-now, w.known);
+      sound = λ is. (root_of now, told-now, told-sound is);
+      tree = λ is. (root_of now, told-now, holds is);
+    }

@@ -3,7 +3,7 @@ use Rattle.std.proofs.Common.{◌≡◌, ◌⊎◌, ℕ, ◌+◌, Bool, List, So
 use Rattle.std.specs.List.{slice_get}
 use Rattle.std.proofs.lemmas.Bool.{cases_lt}
 use Rattle.nl_types.specs.Roots.{Pages, Root}
-use Rattle.nl_layout.specs.Root.{root_of}
+use Rattle.nl_files.specs.CheckpointRoots.{inode_root}
 use Rattle.nl_check.specs.Shapes.{At, Of}
 use Rattle.nl_check.specs.Private.BesideTrees.{HasLeft}
 use Rattle.nl_check.specs.Private.ChangedFiles.{AreFilesMet, AreMetAnew, IsLostIn, IsNewIn, IsSoundNow, StandsOf}
@@ -12,7 +12,7 @@ use Rattle.nl_check.proofs.AnewPlaces.{anew-joined, anew-nowhere, anew-of}
 use Rattle.nl_check.proofs.LeftPlaces.{left-joined, left-nowhere, left-of}
 
 abbrev File : (Root → Root → ℕ × ℕ → ℕ → Type 0) → ChangedFile → ℕ × ℕ → ℕ → Type 0
-File Stands f at v = Stands (root_of f.earlier.root) (root_of f.later.root) at v
+File Stands f at v = Stands (inode_root f.earlier) (inode_root f.later) at v
 
 abbrev Own : (Root → Root → ℕ × ℕ → ℕ → Type 0) → ChangedFile → At → ℕ → Type 0
 Own Stands f at v = (at.owner ≡ Of f.number) × File Stands f (at.level, at.offset) v
@@ -68,7 +68,7 @@ module _ (pages : Pages) (files : List ChangedFile) where
   -- the file whose turn it is, is left
   pub left-turn : (k : ℕ) (f : ChangedFile) (old now new : List Bool) → slice_get files k ≡ Some f
       → HasLeft At (StandsOf (IsLostIn pages) files k) old now
-      → HasLeft (ℕ × ℕ) (IsLostIn pages (root_of f.earlier.root) (root_of f.later.root)) now new
+      → HasLeft (ℕ × ℕ) (IsLostIn pages (inode_root f.earlier) (inode_root f.later)) now new
       → HasLeft At (StandsOf (IsLostIn pages) files (k + 1)) old new
   left-turn k f old now new is m l =
       left-joined At (StandsOf (IsLostIn pages) files k) (Own (IsLostIn pages) f)
@@ -85,7 +85,7 @@ module _ (pages : Pages) (files : List ChangedFile) where
   -- or met, and sound
   pub met-turn : (k : ℕ) (f : ChangedFile) (old now new : List Bool) → slice_get files k ≡ Some f
       → AreFilesMet pages files k old now
-      → AreMetAnew (ℕ × ℕ) (IsNewIn pages (root_of f.earlier.root) (root_of f.later.root)) now new
+      → AreMetAnew (ℕ × ℕ) (IsNewIn pages (inode_root f.earlier) (inode_root f.later)) now new
       → IsSoundNow pages f → AreFilesMet pages files (k + 1) old new
   met-turn k f old now new is m l sound = record {
     met =

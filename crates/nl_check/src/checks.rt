@@ -1,27 +1,23 @@
 //! The first of the conditions of checkpoints that fails.
-ghost use Rattle.std.specs.Prelude.{◌≡◌, ◌↔◌, ◌<◌, ◌≤◌, ◌*◌, ◌^◌, ℕ, List, Bool, Option, length, map, is_some, false, true, IsTrue, IsSome, IfOk, IfErr, IfSome, IsOkUnless, None, Ok};
+ghost use Rattle.std.specs.Prelude.{◌≡◌, ◌↔◌, ◌<◌, ◌≤◌, ◌*◌, ◌^◌, ℕ, length, map, is_some, false, true, IsTrue, IsSome, IfOk, IfErr, IfSome, IsOkUnless, None, Ok};
 ghost use Rattle.nl_types.specs.Limits as limits;
 ghost use Rattle.nl_types.specs.declared.error.VolError;
 ghost use Rattle.nl_types.specs.Roots.{Pages, Root as AnyRoot};
-ghost use Rattle.nl_layout.specs.Root.{root_of};
 ghost use Rattle.nl_check.specs.Conditions.{FirstFault, IsSoundShape, IsSoundTree};
-ghost use Rattle.nl_check.specs.Judging.{IsAlike, IsJudged, IsLast, IsTold, KnowsLast, fault_told, told};
+ghost use Rattle.nl_check.specs.Judging.{IsAlike, IsJudged, IsLast, KnowsLast, fault_told, told};
 ghost use Rattle.nl_check.specs.MetFiles.{is_met};
-ghost use Rattle.nl_check.specs.Private.Naming.{HasKindsOf};
 ghost use Rattle.nl_check.specs.Private.SoundInodes.{TellsInodes};
-ghost use Rattle.nl_check.specs.Trees.{IsTreeOf};
 ghost use Rattle.nl_check.specs.Private.Turns.{AreTurns, WereOfPeriods};
-ghost use Rattle.nl_check.specs.Private.Walks.{AreSoundAt, IsMetWholeAt, IsWalk};
+ghost use Rattle.nl_check.specs.Private.Walks.{AreSoundAt, IsMetWholeAt};
 
 use crate::beside::{Beside, Changes, judge_beside};
-use crate::inodes::{INODE_LIMIT, count_of, kinds_of_blocks};
+use crate::holding::hold_trees;
+use crate::inodes::INODE_LIMIT;
 use crate::periods::{are_still_of_periods, are_still_of_periods_since};
-use crate::shape::{Walk, walk_checkpoint};
-use crate::trees::forms_tree;
+use crate::shape::walk_checkpoint;
 use crate::turns::{Turn, all_turns};
-use nl_files::ReadTree;
-use nl_layout::{CheckpointEntry, Root};
-use nl_types::{BLOCK_SIZE, CheckpointNumber, Geometry, Kind, VirtualNumber, VolError};
+use nl_layout::CheckpointEntry;
+use nl_types::{CheckpointNumber, Geometry, Kind, VirtualNumber, VolError};
 use nl_vstore::VRead;
 use std::alloc::Global;
 
@@ -41,73 +37,6 @@ pub(crate) struct Judged {
 #[derive(Clone, Copy, Debug)]
 pub(crate) struct Last {
     pub(crate) entry: CheckpointEntry,
-}
-
-/// Whether the file of inodes has a size, where so many indices lead up to its last block.
-fn has_size(size: u64, count: u64) -> bool
-    ensures { IsTrue result ↔ (size ≡ 1024 * count) }
-{
-    size % BLOCK_SIZE as u64 == 0 && size / BLOCK_SIZE as u64 == count
-}
-
-/// Whether all inodes of a walked checkpoint are sound, and its entry tells the size of the file of inodes
-/// and how many inodes are in use.
-fn is_told(kinds: &[Option<Kind>], walk: &Walk, entry: &CheckpointEntry) -> bool
-    requires { length kinds.now ≤ limits.inode_limit }
-    ensures { IsTrue result ↔ IsTold kinds.now walk.now entry.now }
-{
-    walk.sound && has_size(entry.size, walk.count) && count_of(kinds) == entry.inodes
-}
-
-/// Whether the inodes of a walked checkpoint hold a tree, and as many inodes as are told. The kinds of its
-/// inodes are given, and taken out one after another. Refused by `Memory` alone.
-fn holds_tree<V: VRead>(
-    alloc: Global,
-    store: &V,
-    awaited: &mut [Option<Kind>],
-    root: &Root,
-    walk: &Walk,
-    entry: &CheckpointEntry,
-) -> Result<bool, VolError>
-    requires { (numbers : List Bool) × (kinds : List (Option Kind))
-        × IsWalk (V.pages store.now) (root_of root.now) numbers kinds walk.now
-        × HasKindsOf walk.now.count kinds awaited.old }
-    ensures yes { IfOk result (λ holds. IsTrue holds
-        → IsTreeOf (V.pages store.now) (root_of root.now) entry.now.size entry.now.inodes) }
-    ensures no { IfOk result (λ holds. holds ≡ false
-        → IsTreeOf (V.pages store.now) (root_of root.now) entry.now.size entry.now.inodes → ⊥) }
-    ensures refused { IfErr result (λ e. e ≡ VolError.Memory) }
-{
-    if !is_told(awaited, walk, entry) {
-        return Ok(false);
-    }
-    forms_tree(alloc, &ReadTree::new(store, *root), awaited)
-}
-
-/// Whether the inodes of a walked checkpoint hold a tree, and those of all before it. Where those of one
-/// before it don't, it isn't judged any more. Refused by `Memory` alone.
-fn hold_trees<V: VRead>(
-    alloc: Global,
-    store: &V,
-    kinds: &[Option<Kind>],
-    root: &Root,
-    walk: &Walk,
-    entry: &CheckpointEntry,
-    before: bool,
-) -> Result<bool, VolError>
-    requires { (numbers : List Bool)
-        × IsWalk (V.pages store.now) (root_of root.now) numbers kinds.now walk.now }
-    ensures yes { IfOk result (λ hold. IsTrue hold → IsTrue before
-        × IsTreeOf (V.pages store.now) (root_of root.now) entry.now.size entry.now.inodes) }
-    ensures no { IfOk result (λ hold. hold ≡ false → IsTrue before
-        → IsTreeOf (V.pages store.now) (root_of root.now) entry.now.size entry.now.inodes → ⊥) }
-    ensures refused { IfErr result (λ e. e ≡ VolError.Memory) }
-{
-    if !before {
-        return Ok(false);
-    }
-    let mut awaited = kinds_of_blocks(alloc, kinds, walk.count)?;
-    holds_tree(alloc, store, awaited.as_mut_slice(), root, walk, entry)
 }
 
 /// Forgets which numbers were met.
@@ -258,12 +187,13 @@ fn judge_alike<V: VRead>(
     )
 }
 
-/// Judges a checkpoint by the last one, where the two differ in files alone. None where that can't be told;
-/// then the numbers that are met are any. Refused by `Memory` alone.
+/// Judges a checkpoint by the last one, and by what differs from it. None where that can't be told; then the
+/// numbers that are met are any, and so are the kinds. Refused by `Memory` alone.
 fn judge_differing<V: VRead>(
+    alloc: Global,
     store: &V,
     met: &mut [bool],
-    kinds: &[Option<Kind>],
+    kinds: &mut [Option<Kind>],
     turns: &[Turn],
     changes: &mut Changes,
     before: &Judged,
@@ -271,19 +201,30 @@ fn judge_differing<V: VRead>(
 ) -> Result<Option<Judged>, VolError>
     requires within { (v : ℕ) → IsSome (V.pages store.now v) → v < length met.old }
     requires each { (v : ℕ) → is_some (V.pages store.now v) ≡ is_some (V.periods store.now v) }
+    requires kinds { length kinds.old ≡ limits.inode_limit }
     requires turns { AreTurns (V.periods store.now) turns.now }
-    requires last { KnowsLast (V.pages store.now) (V.periods store.now) met.old kinds.now before.now }
+    requires last { KnowsLast (V.pages store.now) (V.periods store.now) met.old kinds.old before.now }
     ensures yes { IfOk result (λ found. IfSome found
         (IsJudged (V.pages store.now) (V.periods store.now) (told entry.now) before.now)) }
     ensures last { IfOk result (λ found. IfSome found
-        (KnowsLast (V.pages store.now) (V.periods store.now) met.new kinds.now)) }
+        (KnowsLast (V.pages store.now) (V.periods store.now) met.new kinds.new)) }
     ensures refused { IfErr result (λ e. e ≡ VolError.Memory) }
     ensures count { length met.new ≡ length met.old }
+    ensures kinds { length kinds.new ≡ limits.inode_limit }
 {
     let Some(last) = &before.last else {
         return Ok(None);
     };
-    match judge_beside(store, met, changes, &last.entry, entry)? {
+    match judge_beside(
+        alloc,
+        store,
+        met,
+        kinds,
+        changes,
+        before.trees,
+        &last.entry,
+        entry,
+    )? {
         Beside::Good => {
             let changed = changes.numbers.as_slice();
             let last = last.entry.number;
@@ -322,7 +263,7 @@ fn judge_next<V: VRead>(
     if let Some(last) = alike_last(before.last, entry) {
         return Ok(Some(judge_alike(store, met, kinds, turns, before, last, entry)));
     }
-    match judge_differing(store, met, kinds, turns, changes, before, entry)? {
+    match judge_differing(alloc, store, met, kinds, turns, changes, before, entry)? {
         Some(judged) => Ok(Some(judged)),
         None => judge(alloc, store, met, kinds, before, entry),
     }

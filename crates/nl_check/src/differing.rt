@@ -1,25 +1,39 @@
 //! The files whose inodes are not what they were in another checkpoint.
-ghost use Rattle.std.specs.Prelude.{◌≡◌, ◌≢◌, ◌<◌, ◌≤◌, ◌-◌, ◌*◌, ◌^◌, ℕ, suc, IsTrue, IfOk, IfErr, IfSome, Some, false, option_copied};
+ghost use Rattle.std.specs.Prelude.{◌≡◌, ◌≢◌, ◌<◌, ◌≤◌, ◌-◌, ◌^◌, ℕ, suc, IsTrue, IfOk, IfErr, false, option_copied};
+ghost use Rattle.std.specs.Option.{option_and_then};
 ghost use Rattle.nl_types.specs.declared.error.VolError;
 ghost use Rattle.nl_types.specs.Roots.{OfChain, Pages, Root as AnyRoot, Tree as AnyTree, kind_of, page_at, place_at};
 ghost use Rattle.nl_layout.specs.Root.{root_of};
-ghost use Rattle.nl_layout.specs.declared.inode.InodeKind.TheVariants as kind;
-ghost use Rattle.nl_ifile.specs.Inodes.{inode_at};
-ghost use Rattle.nl_check.specs.Private.ChangedFiles.{AreAllListed, CanBeWalked, ListsAll, ListsBlock, ListsFile, ListsInode, ListsUnder};
+ghost use Rattle.nl_files.specs.CheckpointRoots.{inode_root};
+ghost use Rattle.nl_ifile.specs.Inodes.{inode_in};
+ghost use Rattle.nl_check.specs.Private.ChangedFiles.{AreAllListed, CanBeWalked, IsOfInodes, ListsAll, ListsBlock, ListsFile, ListsUnder};
 
+use crate::inodes::INODE_LIMIT;
 use crate::shape::{INODES_PER_BLOCK, inode_at_place, is_inode_block};
 use crate::subtrees::{are_one, named, page_under, slot_of, top_beside};
-use nl_layout::{Inode, InodeKind, Level, Root, SLOTS};
+use nl_layout::{Inode, Level, Root, SLOTS};
 use nl_types::{Page, VirtualNumber, VolError};
 use nl_vstore::VRead;
 
-/// A file whose inode isn't what it was.
+/// A file or a directory whose inode isn't what it was.
 #[derive(Clone, Copy, Debug)]
 pub(crate) struct ChangedFile {
     /// The number of its inode.
     pub(crate) number: u64,
-    pub(crate) earlier: Inode,
-    pub(crate) later: Inode,
+    /// Its inode before. None where it came.
+    pub(crate) earlier: Option<Inode>,
+    /// Its inode now. None where it went.
+    pub(crate) later: Option<Inode>,
+}
+
+/// The root of the file of an inode. A number that isn't in use has an empty one.
+pub(crate) fn root_of_file(inode: &Option<Inode>) -> Root
+    ensures { root_of result ≡ inode_root inode.now }
+{
+    match inode {
+        Some(inode) => inode.root,
+        None => Root::Empty,
+    }
 }
 
 /// Whether a root is that of a chain.
@@ -33,122 +47,88 @@ fn is_chain(root: Root) -> bool
     }
 }
 
-/// Whether a file was one before, and its blocks are walked beside those from before. A chain's aren't: no
-/// file is written as one.
-fn can_be_walked(file: &ChangedFile) -> bool
-    ensures { IsTrue result → CanBeWalked file.now }
+/// Whether two inodes that there may be are one.
+fn is_same(one: &Option<Inode>, other: &Option<Inode>) -> bool
+    ensures { IsTrue result → one.now ≡ other.now }
 {
-    is_file(&file.earlier) && is_file(&file.later) && !is_chain(file.earlier.root)
-}
-
-/// Whether the inode is that of a file.
-fn is_file(inode: &Inode) -> bool
-    ensures { IsTrue result → inode.now.kind ≡ kind.File }
-{
-    match inode.kind {
-        InodeKind::File => true,
-        InodeKind::Directory => false,
-        InodeKind::InodeFile => false,
+    match (one, other) {
+        (None, None) => true,
+        (Some(one), Some(other)) => one == other,
+        _ => false,
     }
 }
 
-/// Lists an inode that changed. It answers false where that isn't one of a file still. Refused by `Memory`
-/// alone.
+/// Lists a file where its inode changed. It answers false where it was a chain, whose blocks aren't walked
+/// beside others: no file is written as one. Refused by `Memory` alone.
 fn list_file(files: &mut Vec<ChangedFile>, file: ChangedFile) -> Result<bool, VolError>
     ensures yes { IfOk result (λ all. IsTrue all → ListsFile file files.old.items files.new.items) }
     ensures refused { IfErr result (λ e. e ≡ VolError.Memory) }
 {
-    if file.earlier == file.later {
+    if is_same(&file.earlier, &file.later) {
         return Ok(true);
     }
-    if !can_be_walked(&file) {
+    let before = root_of_file(&file.earlier);
+    if is_chain(before) {
         return Ok(false);
     }
     files.push(file)?;
     Ok(true)
 }
 
-/// Lists a number's inode where it changed. It answers false where that isn't one of a file still. Refused by
-/// `Memory` alone.
-fn list_inode(
-    files: &mut Vec<ChangedFile>,
-    number: u64,
-    before: Option<Inode>,
-    now: Option<Inode>,
-) -> Result<bool, VolError>
-    ensures yes { IfOk result (λ all. IsTrue all → (pages : Pages) (old new : AnyRoot)
-        → inode_at pages old number ≡ before → inode_at pages new number ≡ now
-        → ListsInode pages old new number files.old.items files.new.items) }
-    ensures refused { IfErr result (λ e. e ≡ VolError.Memory) }
+/// The inode in use at a place of a block that there may be.
+fn inode_under(page: Option<&Page>, place: usize) -> Option<Inode>
+    requires { place < 8 }
+    ensures { result ≡ option_and_then (λ bytes. inode_in bytes place) (option_copied page.entry) }
 {
-    match (before, now) {
-        (None, None) => Ok(true),
-        (Some(earlier), Some(later)) => list_file(
-            files,
-            ChangedFile {
-                number,
-                earlier,
-                later,
-            },
-        ),
-        _ => Ok(false),
+    inode_at_place(page?, place)
+}
+
+/// Whether a block that there may be is one of inodes.
+fn is_of_inodes(page: Option<&Page>) -> bool
+    ensures { IsTrue result → IsOfInodes (option_copied page.entry) }
+{
+    match page {
+        Some(page) => is_inode_block(page),
+        None => true,
     }
 }
 
-/// Lists the inodes of a block that changed. It answers false where it is no block of inodes, or one that
-/// changed isn't one of a file still. Refused by `Memory` alone.
+/// Lists the files of the inodes that changed in a block, which may come or go. It answers false where it is no
+/// block of inodes, its index is that of no inode, or as `list_file` does. Refused by `Memory` alone.
 fn list_block(
-    files: &mut Vec<ChangedFile>,
-    index: u64,
-    before: &Page,
-    now: &Page,
-) -> Result<bool, VolError>
-    requires { index < 2 ^ 60 }
-    ensures yes { IfOk result (λ all. IsTrue all → (pages : Pages) (old new : AnyRoot)
-        → page_at pages old index ≡ Some before.now → page_at pages new index ≡ Some now.now
-        → ListsBlock pages old new index files.old.items files.new.items) }
-    ensures refused { IfErr result (λ e. e ≡ VolError.Memory) }
-{
-    if !is_inode_block(now) {
-        return Ok(false);
-    }
-    for place in 0..INODES_PER_BLOCK {
-        let number = INODES_PER_BLOCK as u64 * index + place as u64;
-        if !list_inode(
-            files,
-            number,
-            inode_at_place(before, place),
-            inode_at_place(now, place),
-        )? {
-            return Ok(false);
-        }
-    }
-    Ok(true)
-}
-
-/// Lists the inodes of a block that there is in both checkpoints, as `list_block` does. It answers false
-/// where one of them has it not.
-fn list_pages(
     files: &mut Vec<ChangedFile>,
     index: u64,
     before: Option<&Page>,
     now: Option<&Page>,
 ) -> Result<bool, VolError>
-    requires { index < 2 ^ 60 }
     ensures yes { IfOk result (λ all. IsTrue all → (pages : Pages) (old new : AnyRoot)
         → page_at pages old index ≡ option_copied before.entry
         → page_at pages new index ≡ option_copied now.entry
         → ListsBlock pages old new index files.old.items files.new.items) }
     ensures refused { IfErr result (λ e. e ≡ VolError.Memory) }
 {
-    match (before, now) {
-        (Some(before), Some(now)) => list_block(files, index, before, now),
-        _ => Ok(false),
+    // So a file of inodes without end, where nodes lead into themselves, is not listed.
+    if index >= (INODE_LIMIT / INODES_PER_BLOCK) as u64 {
+        return Ok(false);
     }
+    if !is_of_inodes(now) {
+        return Ok(false);
+    }
+    for place in 0..INODES_PER_BLOCK {
+        let file = ChangedFile {
+            number: INODES_PER_BLOCK as u64 * index + place as u64,
+            earlier: inode_under(before, place),
+            later: inode_under(now, place),
+        };
+        if !list_file(files, file)? {
+            return Ok(false);
+        }
+    }
+    Ok(true)
 }
 
-/// Lists the inodes that changed in the blocks under two nodes of one place. It answers false where a block
-/// came or went, or as `list_block` does. Refused by `Memory` alone.
+/// Lists the files of the inodes that changed in the blocks under two nodes of one place. It answers false as
+/// `list_block` does. Refused by `Memory` alone.
 fn list_below<V: VRead>(
     store: &V,
     files: &mut Vec<ChangedFile>,
@@ -172,7 +152,7 @@ fn list_below<V: VRead>(
     let page = page_under(store, before);
     let other = page_under(store, now);
     if level == 0 {
-        return list_pages(files, offset, page, other);
+        return list_block(files, offset, page, other);
     }
     for slot in 0..SLOTS {
         let below = SLOTS as u64 * offset + slot as u64;
@@ -202,8 +182,7 @@ fn is_tree_of(root: &Root, height: Level) -> bool
 }
 
 /// Lists the files whose inodes changed from a tree of inodes to another file of inodes. It answers false
-/// where that is no tree of this height, a block of inodes came or went, or an inode that changed isn't one
-/// of a file still. Refused by `Memory` alone.
+/// where that is no tree of this height, or as `list_block` does. Refused by `Memory` alone.
 fn list_tree<V: VRead>(
     store: &V,
     files: &mut Vec<ChangedFile>,
@@ -229,7 +208,7 @@ fn list_tree<V: VRead>(
 }
 
 /// Lists the files whose inodes changed from one file of inodes to another. It answers false where these are
-/// not trees of one height, or as `list_tree` does. Refused by `Memory` alone.
+/// not trees of one height, or as `list_block` does. Refused by `Memory` alone.
 pub(crate) fn list_changed<V: VRead>(
     store: &V,
     files: &mut Vec<ChangedFile>,

@@ -4,12 +4,13 @@ ghost use Rattle.std.specs.List.{Contains};
 ghost use Rattle.nl_types.specs.declared.error.VolError;
 ghost use Rattle.nl_types.specs.Roots.{OfChain, Root as AnyRoot, Tree as AnyTree, kind_of};
 ghost use Rattle.nl_layout.specs.Root.{root_of};
+ghost use Rattle.nl_files.specs.CheckpointRoots.{inode_root};
 ghost use Rattle.nl_check.specs.Shapes.{At, HasShape};
 ghost use Rattle.nl_check.specs.declared.differing.ChangedFile.{ChangedFile};
 ghost use Rattle.nl_check.specs.Private.BesideTrees.{HasLeft, Leaves, StandAt, StandsAnew, TellsOn};
 ghost use Rattle.nl_check.specs.Private.ChangedFiles.{IsLostIn, StandsOf};
 
-use crate::differing::ChangedFile;
+use crate::differing::{ChangedFile, root_of_file};
 use crate::subtrees::{is_named, page_under, slot_of, top_beside};
 use nl_layout::{Root, SLOTS};
 use nl_types::{VirtualNumber, VolError};
@@ -110,9 +111,9 @@ pub(crate) fn leave_files<V: VRead>(
     files: &[ChangedFile],
 ) -> Result<(), VolError>
     requires no_chain { (f : ChangedFile) → Contains files.now f
-        → kind_of (root_of f.earlier.root) ≢ OfChain }
+        → kind_of (inode_root f.earlier) ≢ OfChain }
     requires shape { (f : ChangedFile) → Contains files.now f
-        → HasShape (V.pages store.now) (root_of f.earlier.root) }
+        → HasShape (V.pages store.now) (inode_root f.earlier) }
     ensures left { OnOk result
         (HasLeft At (StandsOf (IsLostIn (V.pages store.now)) files.now (length files.now))
         met.old met.new) }
@@ -121,7 +122,9 @@ pub(crate) fn leave_files<V: VRead>(
     ensures count { length met.new ≡ length met.old }
 {
     for file in files {
-        leave_file(store, met, changed, file.earlier.root, file.later.root)?;
+        let before = root_of_file(&file.earlier);
+        let now = root_of_file(&file.later);
+        leave_file(store, met, changed, before, now)?;
     }
     Ok(())
 }

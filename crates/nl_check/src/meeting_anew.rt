@@ -4,20 +4,23 @@ ghost use Rattle.std.specs.List.{Contains};
 ghost use Rattle.nl_types.specs.declared.error.VolError;
 ghost use Rattle.nl_types.specs.Roots.{Root as AnyRoot, Tree as AnyTree};
 ghost use Rattle.nl_layout.specs.Root.{root_of};
+ghost use Rattle.nl_files.specs.CheckpointRoots.{inode_root};
 ghost use Rattle.nl_check.specs.MetFiles.{Meets};
 ghost use Rattle.nl_check.specs.Shapes.{HasShape};
 ghost use Rattle.nl_check.specs.declared.differing.ChangedFile.{ChangedFile};
 ghost use Rattle.nl_check.specs.Private.BesideTrees.{HasDataUnder, IsMetAnew, StandAt, TellsOn};
-ghost use Rattle.nl_check.specs.Private.ChangedFiles.{AreFilesMet, IsFileMet, IsSoundNow, IsWholeFile};
+ghost use Rattle.nl_check.specs.Private.ChangedFiles.{AreFilesMet, AreMetAnew, IsFileMet, IsNewIn, IsSoundNow, IsWholeFile};
+ghost use Rattle.nl_check.specs.Private.SoundInodes.{IsMeasured, IsSoundInode};
 
-use crate::differing::ChangedFile;
+use crate::differing::{ChangedFile, root_of_file};
 use crate::ends::end_of_tree;
-use crate::files::is_sound_file;
+use crate::inodes::is_sound_inode;
 use crate::meeting::meet;
 use crate::subtrees::{is_named, page_under, slot_of, top_beside};
 use nl_layout::{Level, Root, SLOTS};
 use nl_types::{VirtualNumber, VolError};
 use nl_vstore::VRead;
+use std::alloc::Global;
 
 /// Meets a number, where it is in use and wasn't met, and tells it among those that changed. Refused by
 /// `Memory` alone.
@@ -150,34 +153,58 @@ pub(crate) fn meet_file<V: VRead>(
     }
 }
 
+/// Whether the inode of a changed file is as it has to be, where it is in use and so many indices lead up to its
+/// last block. Refused by `Memory` alone.
+fn is_sound_later<V: VRead>(
+    alloc: Global,
+    store: &V,
+    file: &ChangedFile,
+    count: u64,
+) -> Result<bool, VolError>
+    requires { IsMeasured (V.pages store.now) (inode_root file.now.later) count }
+    ensures yes { IfOk result (λ sound. IsTrue sound
+        → IsSoundInode (V.pages store.now) file.now.number file.now.later) }
+    ensures refused { IfErr result (λ e. e ≡ VolError.Memory) }
+{
+    match &file.later {
+        Some(inode) => is_sound_inode(alloc, store, file.number, inode, count),
+        None => Ok(true),
+    }
+}
+
 /// Meets the numbers of a changed file that it had not at their places before. It answers false where it may
-/// not have its shape, or isn't as a file has to be. Refused by `Memory` alone.
+/// not have its shape, or its inode isn't as it has to be. Refused by `Memory` alone.
 fn meet_changed<V: VRead>(
+    alloc: Global,
     store: &V,
     met: &mut [bool],
     changed: &mut Vec<VirtualNumber>,
     file: &ChangedFile,
 ) -> Result<bool, VolError>
     requires within { (v : ℕ) → IsSome (V.pages store.now v) → v < length met.old }
-    requires before { IsWholeFile (V.pages store.now) (root_of file.now.earlier.root) }
-    ensures yes { IfOk result (λ sound. IsTrue sound → (count : ℕ)
-        × IsFileMet (V.pages store.now) (root_of file.now.earlier.root) (root_of file.now.later.root)
-        met.old met.new count) }
+    requires before { IsWholeFile (V.pages store.now) (inode_root file.now.earlier) }
+    ensures yes { IfOk result (λ sound. IsTrue sound
+        → AreMetAnew (ℕ × ℕ)
+        (IsNewIn (V.pages store.now) (inode_root file.now.earlier) (inode_root file.now.later))
+        met.old met.new) }
     ensures sound { IfOk result (λ sound. IsTrue sound → IsSoundNow (V.pages store.now) file.now) }
     ensures told { IfOk result (λ sound. IsTrue sound
         → TellsOn met.old changed.old.items met.new changed.new.items) }
     ensures refused { IfErr result (λ e. e ≡ VolError.Memory) }
     ensures count { length met.new ≡ length met.old }
 {
-    match meet_file(store, met, changed, file.earlier.root, file.later.root)? {
-        Some(count) => Ok(is_sound_file(store, &file.later, count)),
+    let before = root_of_file(&file.earlier);
+    let now = root_of_file(&file.later);
+    match meet_file(store, met, changed, before, now)? {
+        Some(count) => is_sound_later(alloc, store, file, count),
         None => Ok(false),
     }
 }
 
 /// Meets the numbers that each file had not at their places before. It answers false where one may not have
-/// its shape, or isn't as a file has to be. Refused by `Memory` alone.
+/// its shape, or its inode isn't as it has to be. Refused by `Memory` alone.
 pub(crate) fn meet_files<V: VRead>(
+    alloc: Global,
     store: &V,
     met: &mut [bool],
     changed: &mut Vec<VirtualNumber>,
@@ -185,7 +212,7 @@ pub(crate) fn meet_files<V: VRead>(
 ) -> Result<bool, VolError>
     requires within { (v : ℕ) → IsSome (V.pages store.now v) → v < length met.old }
     requires before { (f : ChangedFile) → Contains files.now f
-        → IsWholeFile (V.pages store.now) (root_of f.earlier.root) }
+        → IsWholeFile (V.pages store.now) (inode_root f.earlier) }
     ensures yes { IfOk result (λ all. IsTrue all
         → AreFilesMet (V.pages store.now) files.now (length files.now) met.old met.new) }
     ensures told { IfOk result (λ all. IsTrue all
@@ -194,7 +221,7 @@ pub(crate) fn meet_files<V: VRead>(
     ensures count { length met.new ≡ length met.old }
 {
     for file in files {
-        if !meet_changed(store, met, changed, file)? {
+        if !meet_changed(alloc, store, met, changed, file)? {
             return Ok(false);
         }
     }

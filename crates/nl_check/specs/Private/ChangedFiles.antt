@@ -1,18 +1,20 @@
 -- The files of a checkpoint beside those of the one before it.
-use Rattle.std.specs.Prelude.{◌≡◌, ◌≢◌, ◌⊎◌, ℕ, ◌+◌, ◌*◌, ◌<◌, Bool, true, false, List, [], ◌∷◌, ◌++◌, length, ◌==◌, if◌then◌else◌, Option, Some}
+use Rattle.std.specs.Prelude.{◌≡◌, ◌≢◌, ◌⊎◌, ℕ, ◌+◌, ◌*◌, ◌<◌, Bool, true, false, List, [], ◌∷◌, ◌++◌, length, ◌==◌, if◌then◌else◌, IfSome, Option, Some}
 use Rattle.std.specs.List.{Contains, slice_get}
+use Rattle.nl_types.specs.Limits.{inode_limit}
 use Rattle.nl_types.specs.declared.kind.Kind.{Kind}
 use Rattle.nl_types.specs.RootChanges.{places}
-use Rattle.nl_types.specs.Roots.{Chain, Empty, OfChain, OfTree, Pages, Root, Tree, height_of, kind_of, page_at, place_at}
-use Rattle.nl_layout.specs.Root.{root_of}
-use Rattle.nl_layout.specs.declared.inode.InodeKind.TheVariants.{File}
-use Rattle.nl_ifile.specs.Inodes.{inode_at}
+use Rattle.nl_types.specs.Roots.{Chain, Empty, OfChain, OfTree, Pages, Root, Tree, height_of, kind_of, place_at}
+use Rattle.nl_layout.specs.declared.checkpoint_entry.CheckpointEntry.{CheckpointEntry}
+use Rattle.nl_layout.specs.declared.inode.Inode.{Inode}
+use Rattle.nl_files.specs.CheckpointRoots.{inode_root}
+use Rattle.nl_ifile.specs.Inodes.{block_for, inode_at, inode_in}
 use Rattle.nl_check.specs.Conditions.{IsSoundTree, Told}
 use Rattle.nl_check.specs.MetFiles.{is_met}
 use Rattle.nl_check.specs.Shapes.{At, HasShape, Of, Owner, root_for}
 use Rattle.nl_check.specs.Trees.{IsSizeOf, IsTreeOf}
-use Rattle.nl_check.specs.Private.SoundFiles.{IsSoundFile}
-use Rattle.nl_check.specs.Private.SoundInodes.{TellsAll}
+use Rattle.nl_check.specs.Private.AlikeNames.{AreFiles}
+use Rattle.nl_check.specs.Private.SoundInodes.{IsSoundInode, TellsAll, kind_in, kind_told}
 use Rattle.nl_check.specs.Private.TreePlaces.{IsUnder}
 use Rattle.nl_check.specs.Private.Walks.{AreSoundAt, IsBlockOf, IsMetWhole, IsMetWholeAt}
 use Rattle.nl_check.specs.declared.differing.ChangedFile.{ChangedFile}
@@ -63,16 +65,14 @@ pub record IsFileMet (pages : Pages) (old new : Root) (old_met new_met : List Bo
 
 -- ---- files that changed
 
--- both inodes are those of files, and no chain was walked before
-pub record CanBeWalked (f : ChangedFile) : Type 0 where
-  pub was_file : f.earlier.kind ≡ File
-  pub is_file : f.later.kind ≡ File
-  pub no_chain : kind_of (root_of f.earlier.root) ≢ OfChain
+-- it was no chain before
+abbrev pub CanBeWalked : ChangedFile → Type 0
+CanBeWalked f = kind_of (inode_root f.earlier) ≢ OfChain
 
--- the inode of a number was this one, and is that one
+-- the inode of a number was this one, or none, and is that one, or none
 pub record IsChangedFile (pages : Pages) (old new : Root) (f : ChangedFile) : Type 0 where
-  pub was : inode_at pages old f.number ≡ Some f.earlier
-  pub is : inode_at pages new f.number ≡ Some f.later
+  pub was : inode_at pages old f.number ≡ f.earlier
+  pub is : inode_at pages new f.number ≡ f.later
   pub can : CanBeWalked f
 
 abbrev pub AreChangedFiles : Pages → Root → Root → List ChangedFile → Type 0
@@ -107,7 +107,11 @@ pub record ListsPlaces (pages : Pages) (old new : Root) (index places : ℕ) (be
   pub lists : ListsMore pages old new before after
   pub each : (p : ℕ) → p < places → IsSameOrListed pages old new after (8 * index + p)
 
--- a block of inodes is one still, and its inodes are listed where they changed
+-- a block that there may be is one of inodes
+abbrev pub IsOfInodes : Option (List ℕ) → Type 0
+IsOfInodes block = IfSome block (λ page. Some page ≡ block_for (inode_in page))
+
+-- a block is one of inodes, or isn't there, and its inodes are listed where they changed
 pub record IsBlockListed (pages : Pages) (old new : Root) (files : List ChangedFile) (index : ℕ)
     : Type 0 where
   pub block : IsBlockOf pages new index
@@ -138,6 +142,24 @@ pub record AreAllListed (pages : Pages) (old new : Root) (files : List ChangedFi
   pub right : AreChangedFiles pages old new files
   pub each : (i : ℕ) → (place_at pages old 0 i ≡ place_at pages new 0 i) ⊎ IsBlockListed pages old new files i
 
+-- ---- their kinds
+
+-- each number of these files has the inode that it has now
+abbrev pub HaveLater : List ChangedFile → (ℕ → Option Inode) → Type 0
+HaveLater files now = (f : ChangedFile) → Contains files f → now f.number ≡ f.later
+
+-- a table has the kinds of the first of them, and for all other numbers what it had
+pub record AreNoted (now : ℕ → Option Inode) (files : List ChangedFile) (count : ℕ)
+    (old new : List (Option Kind)) : Type 0 where
+  pub here : (turn : ℕ) (f : ChangedFile) → turn < count → slice_get files turn ≡ Some f
+      → f.number < inode_limit → kind_in new f.number ≡ kind_told (now f.number)
+  pub others : (i : ℕ) → i < inode_limit → (kind_in new i ≡ kind_in old i) ⊎ (kind_in new i ≡ kind_told (now i))
+
+-- the first of them were files, and are
+abbrev pub AreFilesStill : List ChangedFile → ℕ → Type 0
+AreFilesStill files count = (turn : ℕ) (f : ChangedFile) → turn < count → slice_get files turn ≡ Some f
+    → AreFiles f.earlier f.later
+
 -- ---- places of these files
 
 -- one of the first files of a list, whose blocks an owner has
@@ -152,14 +174,12 @@ pub record StandsOf (Stands : Root → Root → ℕ × ℕ → ℕ → Type 0) (
     (at : At) (v : ℕ) : Type 0 where
   pub file : ChangedFile
   pub of : IsTurnOf files count at.owner file
-  pub stands : Stands (root_of file.earlier.root) (root_of file.later.root) (at.level, at.offset) v
+  pub stands : Stands (inode_root file.earlier) (inode_root file.later) (at.level, at.offset) v
 
--- the file is whole, and sound; so many indices lead up to its last block
+-- the file is whole, and its inode sound
 pub record IsSoundNow (pages : Pages) (f : ChangedFile) : Type 0 where
-  pub file : IsWholeFile pages (root_of f.later.root)
-  pub count : ℕ
-  pub sized : IsSizeOf pages (root_of f.later.root) (1024 * count)
-  pub sound : IsSoundFile (page_at pages (root_of f.later.root)) f.later.size
+  pub file : IsWholeFile pages (inode_root f.later)
+  pub sound : IsSoundInode pages f.number f.later
 
 -- what the first files of a list have anew is met, and each of them is sound
 pub record AreFilesMet (pages : Pages) (files : List ChangedFile) (count : ℕ) (old new : List Bool)
@@ -197,18 +217,27 @@ pub record AreAllMet (pages : Pages) (old new : Root) (files : List ChangedFile)
   pub sized : IsSizeOf pages new (1024 * count)
   pub sound : (f : ChangedFile) → Contains files f → IsSoundNow pages f
 
--- What was known of the checkpoint before is known of this one: its inodes are of the same kinds and sound,
--- and hold a tree.
-pub record IsWalkedBeside (pages : Pages) (old new : Root) (numbers : List Bool) (count : ℕ) : Type 0 where
+-- What was known of the checkpoint before is known of this one: its inodes are sound, and their kinds stand in
+-- a table. It holds the same tree, if files alone changed.
+pub record IsWalkedBeside (pages : Pages) (old new : Root) (numbers : List Bool)
+    (kinds_old kinds : List (Option Kind)) (files : List ChangedFile) (count : ℕ) : Type 0 where
   pub known : IsMetWhole pages new numbers
   pub sized : IsSizeOf pages new (1024 * count)
-  pub told : (kinds : List (Option Kind)) → TellsAll pages old kinds true → TellsAll pages new kinds true
-  pub tree : (size inodes : ℕ) → IsTreeOf pages old size inodes → IsTreeOf pages new (1024 * count) inodes
+  pub told : TellsAll pages old kinds_old true → TellsAll pages new kinds true
+  pub tree : AreFilesStill files (length files) → (size inodes : ℕ) → IsTreeOf pages old size inodes
+      → IsTreeOf pages new (1024 * count) inodes
 
--- The checkpoint that one entry tells of is good beside that of another: it has its shape, and its numbers
--- are met. If all inodes of the other are sound, so are its own, of the same kinds. If the other holds a
--- tree, it does.
-pub record IsGoodBeside (pages : Pages) (last entry : Told) (new : List Bool) : Type 0 where
-  pub known : IsMetWholeAt pages entry new
-  pub sound : (kinds : List (Option Kind)) → AreSoundAt pages last kinds → AreSoundAt pages entry kinds
-  pub tree : IsSoundTree pages last → IsSoundTree pages entry
+-- No directory changed, and no inode came or went. As many inodes are told to be in use as before, and the size
+-- of the file of inodes.
+pub record IsToldStill (files : List ChangedFile) (count : ℕ) (last entry : CheckpointEntry) : Type 0 where
+  pub size : entry.size ≡ 1024 * count
+  pub inodes : entry.inodes ≡ last.inodes
+  pub files_still : AreFilesStill files (length files)
+
+-- The checkpoint that an entry tells of is good: it has its shape, and its numbers are met. If it is asked, its
+-- inodes are sound and of these kinds, and hold a tree.
+pub record IsGoodBeside (pages : Pages) (entry : Told) (numbers : List Bool) (kinds : List (Option Kind))
+    (asked : Bool) : Type 0 where
+  pub known : IsMetWholeAt pages entry numbers
+  pub sound : asked ≡ true → AreSoundAt pages entry kinds
+  pub tree : asked ≡ true → IsSoundTree pages entry

@@ -1,10 +1,9 @@
-use Rattle.std.proofs.Common.{ℕ, Option, subst, sym}
-use Rattle.std.specs.Prelude.{IfSome, IsSome}
+use Rattle.std.proofs.Common.{List, subst, sym}
 use Rattle.nl_types.specs.Roots.{Pages, Root}
 use Rattle.nl_layout.specs.Root.{root_of}
-use Rattle.nl_check.specs.Private.BesideTrees.{TellsOn}
 use Rattle.nl_check.specs.Private.ChangedFiles.{AreAllListed, AreAllMet, IsWalkedBeside}
-use Rattle.nl_check.specs.Facts.Below.{ok-map, some-map}
+use Rattle.nl_check.specs.Facts.Below.{some-map}
+use Rattle.nl_check.specs.declared.differing.ChangedFile.{ChangedFile}
 use Rattle.nl_check.proofs.StepsBeside.{files-whole}
 use Rattle.nl_check.proofs.TreesBeside.{walked-beside}
 use Rattle.nl_check.proofs.beside.walk_beside.Goals as goal
@@ -28,22 +27,18 @@ returns-clause-yes g c =
     let listed : AreAllListed pages old new files =
     subst (AreAllListed pages old new) (sym c.as_slice-files.ensures.value)
     (c.in_ok-list_changed.ensures.yes c.if-not-branch.false) in
-    ok-map c.meet_all.result (λ (found : Option ℕ). IfSome found (AreAllMet pages old new files mid met))
-    (λ (found : Option ℕ). IfSome found (IsWalkedBeside pages old new met))
-    (λ found all.
-    some-map found (AreAllMet pages old new files mid met) (IsWalkedBeside pages old new met)
+    some-map c.in_ok-found.found (AreAllMet pages old new files mid met)
+    (IsWalkedBeside pages old new met c.args.kinds.now c.note_kinds.new.kinds
+    c.list_changed.new.files.items)
     (λ count is.
-    walked-beside pages old new c.args.met.now mid met files count c.requires.known listed
-    c.in_ok-leave_all.ensures.left is)
-    all)
-    c.meet_all.ensures.yes
+    subst (λ (fs : List ChangedFile). IsWalkedBeside pages old new met c.args.kinds.now
+    c.note_kinds.new.kinds fs count)
+    c.as_slice-files.ensures.value
+    (walked-beside pages old new c.args.met.now mid met c.args.kinds.now c.note_kinds.new.kinds files count
+    c.requires.known listed c.in_ok-leave_all.ensures.left is c.note_kinds.ensures.count
+    c.note_kinds.ensures.noted))
+    c.in_ok-found.ensures.yes
 
 pub returns-clause-told : goal.returns-clause-told
-returns-clause-told g c =
-    ok-map c.meet_all.result
-    (λ (found : Option ℕ). IsSome found → TellsOn c.leave_all.new.met c.leave_all.new.changed.items
-    c.meet_all.new.met c.meet_all.new.changed.items)
-    (λ (found : Option ℕ). IsSome found → TellsOn c.args.met.now c.args.changes.now.numbers.items
-    c.meet_all.new.met c.meet_all.new.changed.items)
-    (λ found told some start is. told some start (c.in_ok-leave_all.ensures.told start is))
-    c.meet_all.ensures.told
+returns-clause-told g c = λ some start is.
+    c.in_ok-found.ensures.told some start (c.in_ok-leave_all.ensures.told start is)

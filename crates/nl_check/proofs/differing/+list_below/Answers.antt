@@ -23,27 +23,23 @@ returns-then-level-eq0-clause-yes g t c =
     (was : place_at pages (Tree height top) c.args.level c.args.offset ≡ o).
     ap (λ (k : ℕ). option_and_then pages (place_at pages (Tree height top) k c.args.offset)) (sym zero_is)
     ∙ ap (option_and_then pages) was in
-    ok-map c.list_pages.result
+    ok-map c.list_block.result
     (λ (all : Bool). IsTrue all → (pages : Pages) (old new : Root)
     → page_at pages old c.args.offset ≡ option_copied c.page_under-page.result
     → page_at pages new c.args.offset ≡ option_copied c.page_under-other.result
-    → ListsBlock pages old new c.args.offset c.args.files.now.items c.list_pages.new.files.items)
+    → ListsBlock pages old new c.args.offset c.args.files.now.items c.list_block.new.files.items)
     (λ (all : Bool). IsTrue all → (height top other : ℕ) → c.args.level ≤ height
     → place_at pages (Tree height top) c.args.level c.args.offset ≡ c.args.before
     → place_at pages (Tree height other) c.args.level c.args.offset ≡ c.args.now
     → ListsUnder pages (Tree height top) (Tree height other) c.args.level c.args.offset (suc c.args.offset)
-    c.args.files.now.items c.list_pages.new.files.items)
+    c.args.files.now.items c.list_block.new.files.items)
     (λ all lists t height top other low was is.
     under-block pages (Tree height top) (Tree height other) c.args.level c.args.offset c.args.files.now.items
-    c.list_pages.new.files.items zero_is
+    c.list_block.new.files.items zero_is
     (lists t pages (Tree height top) (Tree height other)
     (stands height top c.args.before was ∙ sym c.page_under-page.ensures)
     (stands height other c.args.now is ∙ sym c.page_under-other.ensures)))
-    c.list_pages.ensures.yes
-
-pub list_pages-requires : goal.list_pages-requires
-list_pages-requires g t c =
-    let low = low-offset c.args.level c.args.offset c.requires.offset in omega (arith, low)
+    c.list_block.ensures.yes
 
 pub overflow_mul-below : goal.overflow_mul-below
 overflow_mul-below g t c = omega (arith, low-offset c.args.level c.args.offset c.requires.offset)

@@ -1,7 +1,9 @@
-use Rattle.std.proofs.Common.{◌≡◌, ◌+◌, ◌*◌, ℕ, refl, subst, arith}
+use Rattle.std.proofs.Common.{◌≡◌, ◌+◌, ◌*◌, ℕ, subst, arith}
+use Rattle.std.specs.Prelude.{option_copied}
 use Rattle.nl_check.specs.Private.ChangedFiles.{ListsPlaces}
-use Rattle.nl_check.proofs.KnownInodes.{inode-at-place}
-use Rattle.nl_check.proofs.ListedFiles.{block-listed, places-next, places-start}
+use Rattle.nl_check.specs.declared.differing.ChangedFile.{ChangedFile}
+use Rattle.nl_check.proofs.KnownInodes.{inode-under}
+use Rattle.nl_check.proofs.ListedFiles.{block-listed, inode-listed, places-next, places-start}
 use Rattle.nl_check.proofs.differing.list_block.Goals as goal
 
 pub loop-place-init : goal.loop-place-init
@@ -11,20 +13,25 @@ pub loop-place-preserved : goal.loop-place-preserved
 loop-place-preserved c = λ pages old new was is.
     let p : ℕ = c.loop-place.place in
     let low = c.loop-place-test.true in
+    let file : ChangedFile = record {
+      number = 8 * c.args.index + p;
+      earlier = c.inode_under.result;
+      later = c.inode_under-in-loop-place.result;
+    } in
     places-next pages old new c.args.index p c.args.files.now.items c.loop-place.files.items
-    c.list_inode.new.files.items (c.loop-place.invariant pages old new was is)
-    (c.in_ok-list_inode.ensures.yes c.if-not-branch.false pages old new
-    (inode-at-place pages old c.args.index p (8 * c.args.index + p) c.args.before.now c.inode_at_place.result
-    refl low
-    c.inode_at_place.ensures was)
-    (inode-at-place pages new c.args.index p (8 * c.args.index + p) c.args.now.now
-    c.inode_at_place-in-loop-place.result refl low c.inode_at_place-in-loop-place.ensures is))
+    c.list_file.new.files.items (c.loop-place.invariant pages old new was is)
+    (inode-listed pages old new file c.loop-place.files.items c.list_file.new.files.items
+    (c.in_ok-list_file.ensures.yes c.if-not-branch.false)
+    (inode-under pages old c.args.index p (option_copied c.args.before) c.inode_under.result low
+    c.inode_under.ensures was)
+    (inode-under pages new c.args.index p (option_copied c.args.now) c.inode_under-in-loop-place.result low
+    c.inode_under-in-loop-place.ensures is))
 
 pub returns-clause-yes : goal.returns-clause-yes
 returns-clause-yes c = λ _ pages old new was is.
     let all : c.loop-place.place ≡ 8 = omega (arith, c.loop-place-test.false, c.loop-place.auto.place-end) in
-    block-listed pages old new c.args.index c.args.now.now c.args.files.now.items c.loop-place.files.items is
-    (c.is_inode_block.ensures.0 c.if-not-is_inode_block.false)
+    block-listed pages old new c.args.index (option_copied c.args.now) c.args.files.now.items
+    c.loop-place.files.items is (c.is_of_inodes.ensures c.if-not-is_of_inodes.false)
     (subst (λ (p : ℕ). ListsPlaces pages old new c.args.index p c.args.files.now.items
     c.loop-place.files.items) all
     (c.loop-place.invariant pages old new was is))

@@ -33,7 +33,7 @@ loop-file-preserved g c =
           c.args.met.now c.loop-file.met c.meet_changed.new.met
           (slice_get_read c.args.files.now (length c.args.files.now) c.loop-file.file-index
           c.file-item.result refl
-          c.loop-file-test.true c.file-item.is) before.met m.1.met (l.sound c.if-not-branch.false);
+          c.loop-file-test.true c.file-item.is) before.met m (l.sound c.if-not-branch.false);
       told = λ start told. l.told c.if-not-branch.false start (before.told start told);
     }
 

@@ -4,7 +4,7 @@ use Rattle.nl_layout.specs.Root.{root_of}
 use Rattle.nl_check.specs.Private.Naming.{HasKindsOf}
 use Rattle.nl_check.specs.Trees.{IsTreeOf}
 use Rattle.nl_check.specs.Facts.Below.{ok-then}
-use Rattle.nl_check.proofs.checks.hold_trees.Goals as goal
+use Rattle.nl_check.proofs.holding.hold_trees.Goals as goal
 
 pub holds_tree-requires : goal.holds_tree-requires
 holds_tree-requires g c = (

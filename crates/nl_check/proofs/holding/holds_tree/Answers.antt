@@ -4,7 +4,7 @@ use Rattle.nl_layout.specs.Root.{root_of}
 use Rattle.nl_check.specs.Trees.{IsTreeOf}
 use Rattle.nl_check.specs.Facts.Below.{both, ok-then}
 use Rattle.nl_check.proofs.JudgedCheckpoints.{holding-of, holds-of, limits-of, stores-of, tells-kinds, tree-holds, tree-of, tree-told}
-use Rattle.nl_check.proofs.checks.holds_tree.Goals as goal
+use Rattle.nl_check.proofs.holding.holds_tree.Goals as goal
 
 pub returns-then-not-is_told-clause-yes : goal.returns-then-not-is_told-clause-yes
 returns-then-not-is_told-clause-yes g c = λ t. cc
