@@ -97,6 +97,16 @@ pub record KeepsNumbers (old new : Layout) : Type 0 where
   pub covered : KeepsCovered (ledger_of old) (ledger_of new)
   pub ends : EndsOnce (ledger_of old) (ledger_of new)
 
+-- ---- classes of events
+
+-- these write blocks, free them or add some; the others leave the store
+abbrev pub LeavesStore : Event → Type 0
+LeavesStore (Checkpoint mode moment) = ⊥
+LeavesStore (Move segment limit moment) = ⊥
+LeavesStore (Retire segment) = ⊥
+LeavesStore (Resize segments) = ⊥
+LeavesStore event = Unit {0}
+
 -- ---- what a done event does to the lists and the blocks
 
 -- a batch takes the current tree to a checkpoint of this root, over the latest one

@@ -1,5 +1,5 @@
 -- What readers see of a pen, and the commits of its events.
-use Rattle.std.specs.Prelude.{◌≡◌, ℕ, ◌-◌, ◌||◌, nat_lt, Bool, false, true, List, [], ◌∷◌, ◌++◌, fold, length, map, Ok, MatchResult}
+use Rattle.std.specs.Prelude.{◌≡◌, ℕ, ◌-◌, ◌||◌, nat_lt, Bool, false, true, List, [], ◌∷◌, ◌++◌, fold, length, map, Ok, MatchResult, Option, Some, None}
 use Rattle.std.specs.Option.{option_map, option_map_or}
 use Rattle.nl_types.specs.declared.error.VolError.TheVariants as error
 use Rattle.nl_types.specs.declared.event.Event.{Event}
@@ -17,7 +17,7 @@ use Rattle.nl_vstore.specs.Stores.{Numbered, Store}
 use Rattle.nl_commit.specs.Commits.{AllNext, IsImage, applied}
 use Rattle.nl_commit.specs.Layout.{AllowedBetween, Does, HasWrittenCheckpoint, IsPen, Layout, unshared}
 use Rattle.nl_commit.specs.Shown.{Shown}
-use Rattle.nl_commit.specs.Volume.{boundary_in}
+use Rattle.nl_commit.specs.Volume.{Lists, boundary_in}
 use Rattle.nl_commit.specs.declared.commit.Commit.{Commit}
 use Rattle.nl_commit.specs.declared.commit.Commit.TheVariants.{Freed, GivenBack, ModeSet, Mounted, RangeRemoved, Removed, Resized, Written}
 use Rattle.nl_commit.specs.declared.commit.NewPage.{NewPage}
@@ -97,28 +97,50 @@ moved_as a latest = where_true (is_moving (Ok a)) (without_changes latest)
 abbrev pub freed_in : Store → (segment : ℕ) → List Commit
 freed_in s segment = where_any (numbers_in s segment) (Freed (numbers_in s segment))
 
+-- ---- the commit of an event that leaves the store
+
+-- a commit that is made only where a condition holds
+abbrev pub made_where : Bool → Commit → Option Commit
+made_where true c = Some c
+made_where false c = None
+
+abbrev pub made : Option Commit → List Commit
+made (Some c) = c ∷ []
+made None = []
+
+-- the commit that is known before the event; 0 stands for the number of a mount, which the answer tells
+abbrev pub known_commit : Lists → Event → Option Commit
+known_commit l (event.ChangeMode n mode) = made_where (has_other_mode n mode l.table) (ModeSet n mode)
+known_commit l (event.Remove n) = Some (Removed n)
+known_commit l (event.RemoveRange first last) = Some (RangeRemoved first last)
+known_commit l (event.Expire now period) = Some (RangeRemoved 1 (boundary_in l.table now period - 1))
+known_commit l (event.Mount n) = Some (Mounted (record { number = 0; checkpoint = n }))
+known_commit l (event.Unmount m) = Some (GivenBack m)
+known_commit l event = None
+
+-- what is noted of it once the event has answered
+abbrev pub noted_of : Answer → Commit → List Commit
+noted_of a (RangeRemoved first last) = where_gone a (RangeRemoved first last)
+noted_of a (Mounted mount) = mounted_as a mount.checkpoint
+noted_of a c = c ∷ []
+
+abbrev pub noted_by : Answer → Option Commit → List Commit
+noted_by a None = []
+noted_by a (Some c) = noted_of a c
+
+-- ---- the commit of each event
+
 -- what readers see changes by one commit at most
 abbrev pub HasNoted : Layout → Event → Answer → Layout → List Commit → Type 0
 HasNoted old (event.Checkpoint mode moment) a new more =
     (writes : HasWrittenCheckpoint mode moment old new)
     × (more ≡ Written (new_checkpoint writes.settled.changes new.lists.table.latest) ∷ [])
-HasNoted old (event.ChangeMode n mode) a new more =
-    more ≡ where_true (has_other_mode n mode old.lists.table) (ModeSet n mode)
-HasNoted old (event.Remove n) a new more = more ≡ Removed n ∷ []
-HasNoted old (event.RemoveRange first last) a new more = more ≡ where_gone a (RangeRemoved first last)
-HasNoted old (event.Expire now period) a new more =
-    more ≡ where_gone a (RangeRemoved 1 (boundary_in old.lists.table now period - 1))
 HasNoted old (event.Move segment limit moment) a new more = more ≡ moved_as a new.lists.table.latest
 HasNoted old (event.Retire segment) a new more = more ≡ freed_in old.store segment
 HasNoted old (event.Resize segments) a new more =
     more ≡ where_true (nat_lt (length old.store.segments.each) segments)
     (Resized segments old.store.segments.blocks)
-HasNoted old (event.Mount n) a new more = more ≡ mounted_as a n
-HasNoted old (event.Unmount m) a new more = more ≡ GivenBack m ∷ []
-HasNoted old (event.Apply change) a new more = more ≡ []
-HasNoted old (event.Read ask) a new more = more ≡ []
-HasNoted old (event.MountRead m ask) a new more = more ≡ []
-HasNoted old (event.Listing options) a new more = more ≡ []
+HasNoted old event a new more = more ≡ noted_by a (known_commit old.lists event)
 
 -- the commits of an event: a refused one has none
 abbrev pub AreCommitsOf : Layout → Event → Reply → Layout → List Commit → Type 0
@@ -139,41 +161,30 @@ CommitsTellAll allowed =
     → Does allowed old event reply new → AreCommitsOf old event reply new more
     → IsNoted old event reply new more
 
--- ---- events beside readers
+-- ---- events, beside readers or not
 
--- An event is done beside readers, and its commits are noted behind those before. Memory may be refused to
--- any event.
-pub record DoesNoting (old : Layout) (event : Event) (reply : Reply) (new : Layout)
+-- what may be refused, where readers are told and where they aren't
+abbrev pub allowed_where : (told : Bool) → AllowedBetween
+allowed_where true = shared
+allowed_where false = unshared
+
+-- what is noted of commits
+abbrev pub told_where : (told : Bool) → List Commit → List Commit
+told_where true more = more
+told_where false more = []
+
+-- An event is done. Its commits tell all of it; where readers are told, they are noted behind those before,
+-- and memory may be refused to any event.
+pub record DoesTelling (told : Bool) (old : Layout) (event : Event) (reply : Reply) (new : Layout)
     (before after : List Commit) : Type 0 where
-  pub does : Does shared old event reply new
+  pub does : Does (allowed_where told) old event reply new
   pub more : List Commit
-  pub behind : after ≡ before ++ more
+  pub behind : after ≡ before ++ told_where told more
   pub noted : IsNoted old event reply new more
 
--- a checkpoint was written by this batch, and is noted behind the commits before
-pub record HasNotedWrite (mode : Mode) (moment : ℕ) (batch : Changes) (old new : Layout)
-    (before after : List Commit) : Type 0 where
-  pub writes : HasWrittenCheckpoint mode moment old new
-  pub batch_is : writes.settled.changes ≡ batch
-  pub behind : after
-      ≡ before ++ Written (new_checkpoint writes.settled.changes new.lists.table.latest) ∷ []
-
--- these events change lists alone, and are refused as the lists are
-abbrev pub ChangesLists : Event → Type 0
-ChangesLists (event.ChangeMode n mode) = Unit {0}
-ChangesLists (event.Remove n) = Unit {0}
-ChangesLists (event.RemoveRange first last) = Unit {0}
-ChangesLists (event.Expire now period) = Unit {0}
-ChangesLists (event.Mount n) = Unit {0}
-ChangesLists (event.Unmount m) = Unit {0}
-ChangesLists (event.Checkpoint mode moment) = ⊥
-ChangesLists (event.Move segment limit moment) = ⊥
-ChangesLists (event.Retire segment) = ⊥
-ChangesLists (event.Resize segments) = ⊥
-ChangesLists (event.Apply change) = ⊥
-ChangesLists (event.Read ask) = ⊥
-ChangesLists (event.MountRead m ask) = ⊥
-ChangesLists (event.Listing options) = ⊥
+-- so beside readers
+abbrev pub DoesNoting : Layout → Event → Reply → Layout → (before after : List Commit) → Type 0
+DoesNoting old event reply new before after = DoesTelling true old event reply new before after
 
 -- ---- laws
 

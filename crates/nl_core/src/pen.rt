@@ -1,5 +1,5 @@
 //! The pen: what the writer of a volume holds, the device included.
-ghost use Rattle.std.specs.Prelude.{◌≡◌, ◌↔◌, ◌⊎◌, ◌<◌, ◌≤◌, ◌-◌, ◌∷◌, [], IfErr, IfOk, IsErr, IsErrOf, IsTrue, OnErr, IsOkUnless, length};
+ghost use Rattle.std.specs.Prelude.{◌≡◌, ◌↔◌, ◌⊎◌, ◌<◌, ◌≤◌, ◌∷◌, [], IfErr, IfOk, IsErr, IsErrOf, IsTrue, OnErr, IsOkUnless, length};
 ghost use Rattle.std.specs.Option.{option_map};
 ghost use Rattle.nl_types.specs.Runs.{Run};
 ghost use Rattle.nl_types.specs.Rows.{kept_row};
@@ -16,7 +16,7 @@ ghost use Rattle.nl_commit.specs.CleaningEvents.{needed_by};
 ghost use Rattle.nl_commit.specs.CleanerViews.{cleaning_event, counts_after, needed_after, needed_told};
 ghost use Rattle.nl_commit.specs.Commits.{IsHistory, image_of};
 ghost use Rattle.nl_commit.specs.Shown.{MountsRise};
-ghost use Rattle.nl_commit.specs.Notes.{ChangesLists, DoesNoting, HasNoted, has_other_mode, shown_of, where_gone};
+ghost use Rattle.nl_commit.specs.Notes.{DoesNoting, shown_of};
 ghost use Rattle.nl_commit.specs.Volume.{boundary_in, without_mounts};
 
 use crate::closing::image_of;
@@ -28,17 +28,15 @@ use nl_cpfile::Cpstat;
 use nl_dat::{Bdesc, Dat, DatEntry};
 use nl_device::Device;
 use nl_events::{
-    Tables, adds_segments, checkpoint, counts_after, empty, expire, first_checkpoint, is_same_file,
-    is_same_tree, move_out, needed_in, note, note_checkpoint, note_mounted, note_move,
-    note_resized, note_retirement, note_where_gone, payload_count, remove, remove_range, resize,
-    whole,
+    Formatted, NoNotes, Tables, counts_after, format, is_same_file, is_same_tree, needed_in,
+    payload_count, step, whole,
 };
 use nl_protect::boundary;
 use nl_segwriter::LogSpace;
 use nl_sufile::{SegTable, SegmentCounts};
 use nl_types::{
-    Answer, Ask, CheckpointNumber, Event, Geometry, Items, MAX_PAYLOAD, Mode, Reply, Row, Segment,
-    VirtualNumber, VolError,
+    Ask, CheckpointNumber, Event, Geometry, Items, MAX_PAYLOAD, Reply, Row, Segment, VirtualNumber,
+    VolError,
 };
 use nl_vstore::Vstore;
 use std::alloc::Global;
@@ -65,8 +63,8 @@ impl<D: Device> Model for Pen<D> {
     ghost invariant = { λ p. IsCountedPen (layout_of p.tables.lists p.store.store) p.needed };
 }
 
-ghost use Rattle.nl_commit.specs.Layout.{IsPen, Does, MeansWorld, ReadsCopy, Runs, layout_of, unshared};
-ghost use Rattle.nl_types.specs.declared.event.Event.TheVariants.{ChangeMode, Mount, Resize};
+ghost use Rattle.nl_commit.specs.Layout.{IsPen, Does, MeansWorld, ReadsCopy, Runs, blank_layout, layout_of, unshared};
+ghost use Rattle.nl_commit.specs.Tables.{blank_lists};
 
 impl<D: Device> Pen<D> {
     ghost use Rattle.nl_commit.specs.Layout.{IsFormatted, Layout};
@@ -88,11 +86,8 @@ impl<D: Device> Pen<D> {
         ensures pen { IfOk result IsPen }
         ensures refused { IfErr result (λ e. (e ≡ VolError.Memory) ⊎ (e ≡ VolError.Fault)) }
     {
-        let space = LogSpace::new(alloc, device, geometry)?;
-        let mut store = Dat::new(alloc, space)?;
-        let mut tables = Tables::blank(alloc)?;
-        let mut needed = NeededCounts::new(alloc, geometry.segments)?;
-        first_checkpoint(alloc, &mut tables, &mut store, &mut needed, now)?;
+        let mut store = blank_store(alloc, device, geometry)?;
+        let Formatted { tables, needed } = format(alloc, &mut store, now)?;
         Ok(Pen {
             alloc,
             store,
@@ -322,67 +317,14 @@ impl<D: Device> Pen<D> {
     pub fn apply(&mut self, event: &Event) -> Reply
         ensures { Does unshared self.old event.now result self.new }
     {
-        match event {
-            Event::Apply(change) => self.tables.change(self.alloc, &self.store, change),
-            Event::Read(ask) => self.tables.read(self.alloc, &self.store, ask),
-            Event::Checkpoint { mode, moment } => checkpoint(
-                self.alloc,
-                &mut self.tables,
-                &mut self.store,
-                &mut self.needed,
-                *mode,
-                *moment,
-            ),
-            Event::ChangeMode(number, mode) => self.tables.change_mode(*number, *mode),
-            Event::Remove(number) => {
-                remove(&mut self.tables, &self.store, &mut self.needed, *number)
-            }
-            Event::RemoveRange { first, last } => remove_range(
-                self.alloc,
-                &mut self.tables,
-                &self.store,
-                &mut self.needed,
-                *first,
-                *last,
-            ),
-            Event::Expire { now, period } => expire(
-                self.alloc,
-                &mut self.tables,
-                &self.store,
-                &mut self.needed,
-                *now,
-                *period,
-            ),
-            Event::Move {
-                segment,
-                limit,
-                now,
-            } => move_out(
-                self.alloc,
-                &mut self.tables,
-                &mut self.store,
-                &mut self.needed,
-                *segment,
-                *limit,
-                *now,
-            ),
-            Event::Retire(segment) => {
-                empty(&self.tables, &mut self.store, &self.needed, *segment)
-            },
-            Event::Resize(segments) => resize(
-                self.alloc,
-                &self.tables,
-                &mut self.store,
-                &mut self.needed,
-                *segments,
-            ),
-            Event::Mount(number) => self.tables.mount(*number),
-            Event::Unmount(mount) => self.tables.unmount(*mount),
-            Event::MountRead(mount, ask) => self
-                .tables
-                .read_mounted(self.alloc, &self.store, *mount, ask),
-            Event::Listing(options) => self.tables.listing(self.alloc, options),
-        }
+        step(
+            self.alloc,
+            &mut self.tables,
+            &mut self.store,
+            &mut self.needed,
+            event,
+            &mut NoNotes,
+        )
     }
 
     /// One event beside readers, who are told of it by a commit behind the others in `notes`, where it
@@ -390,156 +332,14 @@ impl<D: Device> Pen<D> {
     pub fn apply_noting(&mut self, event: &Event, notes: &mut Vec<Commit>) -> Reply
         ensures { DoesNoting self.old event.now result self.new notes.old.items notes.new.items }
     {
-        match event {
-            Event::Checkpoint { mode, moment } => note_checkpoint(
-                self.alloc,
-                &mut self.tables,
-                &mut self.store,
-                &mut self.needed,
-                *mode,
-                *moment,
-                notes,
-            ),
-            Event::Move {
-                segment,
-                limit,
-                now,
-            } => note_move(
-                self.alloc,
-                &mut self.tables,
-                &mut self.store,
-                &mut self.needed,
-                *segment,
-                *limit,
-                *now,
-                notes,
-            ),
-            Event::Retire(segment) => note_retirement(
-                self.alloc,
-                &self.tables,
-                &mut self.store,
-                &self.needed,
-                *segment,
-                notes,
-            ),
-            Event::ChangeMode(number, mode) => self.note_mode(event, *number, *mode, notes),
-            Event::Remove(number) => self.note_done(event, Commit::Removed(*number), notes),
-            Event::Mount(number) => self.note_mount(event, *number, notes),
-            Event::Unmount(mount) => self.note_done(event, Commit::GivenBack(*mount), notes),
-            Event::RemoveRange { first, last } => {
-                let commit = Commit::RangeRemoved {
-                    first: *first,
-                    last: *last,
-                };
-                self.note_gone(event, commit, notes)
-            }
-            Event::Expire { now, period } => {
-                let commit = Commit::RangeRemoved {
-                    first: CheckpointNumber::new(1),
-                    last: self.last_unprotected(*now, *period),
-                };
-                self.note_gone(event, commit, notes)
-            }
-            Event::Resize(segments) => self.note_resize(event, *segments, notes),
-            Event::Apply(_) | Event::Read(_) | Event::MountRead(..) | Event::Listing(_) => {
-                self.means_a_world();
-                self.apply(event)
-            }
-        }
-    }
-
-    /// A change of a mode, which is noted where the checkpoint has another one.
-    fn note_mode(
-        &mut self,
-        event: &Event,
-        number: CheckpointNumber,
-        mode: Mode,
-        notes: &mut Vec<Commit>,
-    ) -> Reply
-        requires { event.now ≡ ChangeMode number mode }
-        ensures { DoesNoting self.old event.now result self.new notes.old.items notes.new.items }
-    {
-        self.means_a_world();
-        if self.has_other_mode(number, mode) {
-            self.note_done(event, Commit::ModeSet(number, mode), notes)
-        } else {
-            self.apply(event)
-        }
-    }
-
-    /// An event whose commit is known before it.
-    fn note_done(&mut self, event: &Event, commit: Commit, notes: &mut Vec<Commit>) -> Reply
-        requires lists { ChangesLists event.now }
-        requires commit { (answer : Answer) (new : Layout)
-            → HasNoted self.old event.now answer new (commit ∷ []) }
-        ensures { DoesNoting self.old event.now result self.new notes.old.items notes.new.items }
-    {
-        self.means_a_world();
-        notes.reserve(1)?;
-        let answer = self.apply(event)?;
-        note(notes, commit);
-        Ok(answer)
-    }
-
-    /// A removal, which is noted where anything is gone.
-    fn note_gone(&mut self, event: &Event, commit: Commit, notes: &mut Vec<Commit>) -> Reply
-        requires lists { ChangesLists event.now }
-        requires commit { (answer : Answer) (new : Layout)
-            → HasNoted self.old event.now answer new (where_gone answer commit) }
-        ensures { DoesNoting self.old event.now result self.new notes.old.items notes.new.items }
-    {
-        self.means_a_world();
-        notes.reserve(1)?;
-        let answer = self.apply(event)?;
-        note_where_gone(notes, &answer, commit);
-        Ok(answer)
-    }
-
-    /// A mount, which is noted with the number that it answers.
-    fn note_mount(
-        &mut self,
-        event: &Event,
-        checkpoint: CheckpointNumber,
-        notes: &mut Vec<Commit>,
-    ) -> Reply
-        requires { event.now ≡ Mount checkpoint }
-        ensures { DoesNoting self.old event.now result self.new notes.old.items notes.new.items }
-    {
-        self.means_a_world();
-        notes.reserve(1)?;
-        let answer = self.apply(event)?;
-        note_mounted(notes, &answer, checkpoint);
-        Ok(answer)
-    }
-
-    /// A resize, which is noted where there are more segments then. What it asks for is judged first.
-    fn note_resize(&mut self, event: &Event, segments: u32, notes: &mut Vec<Commit>) -> Reply
-        requires { event.now ≡ Resize segments }
-        ensures { DoesNoting self.old event.now result self.new notes.old.items notes.new.items }
-    {
-        self.means_a_world();
-        let table = self.store.table();
-        let present = table.sustat().segments;
-        let blocks = table.blocks();
-        let _ = adds_segments(table, segments)?;
-        notes.reserve(1)?;
-        let answer = self.apply(event)?;
-        note_resized(notes, present, segments, blocks);
-        Ok(answer)
-    }
-
-    /// Whether a checkpoint is kept in another mode.
-    fn has_other_mode(&self, number: CheckpointNumber, mode: Mode) -> bool
-        ensures { result ≡ has_other_mode number mode self.now.lists.table }
-    {
-        self.tables.has_other_mode(number, mode)
-    }
-
-    /// The number just below the boundary of protection.
-    fn last_unprotected(&self, now: u64, period: u64) -> CheckpointNumber
-        ensures { result ≡ boundary_in self.now.lists.table now period - 1 }
-    {
-        CheckpointNumber::new(self.boundary(now, period).get().saturating_sub(1))
+        step(
+            self.alloc,
+            &mut self.tables,
+            &mut self.store,
+            &mut self.needed,
+            event,
+            notes,
+        )
     }
 
     /// The commit with which a history begins: it shows all that readers see of the pen. Refused by `Memory`
@@ -577,6 +377,23 @@ impl<D: Device> Pen<D> {
         counts_stay();
         image_of(self.alloc, &self.tables, &mut self.store)
     }
+}
+
+/// The store of a device of this geometry, with no number in use. Refused by `Memory` alone; the device is
+/// dropped then.
+fn blank_store<D: Device>(
+    alloc: Global,
+    device: D,
+    geometry: Geometry,
+) -> Result<Dat<LogSpace<D>>, VolError>
+    requires { D.shape device ≡ geometry }
+    ensures blank { IfOk result (λ store.
+        layout_of blank_lists store.store ≡ blank_layout geometry (D.pages device) (D.failed device)) }
+    ensures refused { IsOkUnless result VolError.Memory }
+{
+    let space = LogSpace::new(alloc, device, geometry)?;
+    let store = Dat::new(alloc, space)?;
+    Ok(store)
 }
 
 /// Does the events in order. Each reply is that of plain files with a whole copied tree for each checkpoint.

@@ -1,5 +1,5 @@
 -- What comes of the draft of a checkpoint.
-use Rattle.std.proofs.Common.{◌≡◌, ℕ, ◌+◌, List, [], ◌∷◌, ◌++◌, refl, ap, sym, subst, ◌∙◌, arith}
+use Rattle.std.proofs.Common.{◌≡◌, ℕ, ◌+◌, [], ◌∷◌, ◌++◌, refl, ap, sym, subst, ◌∙◌, arith}
 use Rattle.std.specs.Prelude.{max}
 use Rattle.nl_types.specs.declared.error.VolError.{VolError}
 use Rattle.nl_types.specs.declared.error.VolError.TheVariants as error
@@ -11,9 +11,6 @@ use Rattle.nl_commit.specs.Draft.{CanBeDrafted, IsNextDraft}
 use Rattle.nl_commit.specs.Layout.{HasRefused, HasWrittenCheckpoint, Settled, layout_of}
 use Rattle.nl_layout.specs.Root.{root_of}
 use Rattle.nl_events.specs.NeededBlocks.{HasWrittenBatch}
-use Rattle.nl_commit.specs.Notes.{HasNotedWrite, new_checkpoint}
-use Rattle.nl_commit.specs.declared.commit.Commit.{Commit}
-use Rattle.nl_commit.specs.declared.commit.Commit.TheVariants.{Written}
 use Rattle.nl_cpfile.specs.Tables.{ComesNext, checkpoint_root}
 use Rattle.nl_commit.specs.Volume.{Lists, latest_root, published}
 use Rattle.nl_cpfile.specs.declared.checkpoint.Checkpoint.{Checkpoint}
@@ -63,19 +60,6 @@ module _ (lists : Lists) (store : Store) (mode : Mode) (moment : ℕ) (draft : D
         HasWrittenBatch mode moment draft.batch (layout_of lists store) (layout_of ls after))
         (sym is)
         (record { writes = writes-draft; batch_is = refl })
-
-    -- and it is noted
-    pub noted-draft : (before notes : List Commit) (commit : Commit)
-        → commit ≡ Written (new_checkpoint draft.batch draft.checkpoint) → notes ≡ before ++ commit ∷ []
-        → HasNotedWrite mode moment draft.batch (layout_of lists store) (layout_of now after) before notes
-    noted-draft before notes commit told behind =
-        subst (λ (ls : Lists).
-        HasNotedWrite mode moment draft.batch (layout_of lists store) (layout_of ls after) before notes)
-        (sym is) (record {
-          writes = writes-draft;
-          batch_is = refl;
-          behind = behind ∙ ap (λ (c : Commit). before ++ c ∷ []) told;
-        })
 
   -- the batch is not written
   refused : (e : VolError) (after : Store)

@@ -2,5 +2,6 @@ pub mod Drafted
 pub mod FirstLogs
 pub mod Formats
 pub mod FirstCounts
-pub mod NotedBlocks
+pub mod Moving
+pub mod NotedEvents
 pub mod ShownStores

@@ -14,9 +14,7 @@ pub mod Ledgers
 pub mod MinorPens
 pub mod ModeChanges
 pub mod MorePages
-pub mod Moving
 pub mod NeededNumbers
-pub mod NotedEvents
 pub mod NothingChanged
 pub mod Outside
 pub mod Published

@@ -1,27 +1,27 @@
-//! What each event does to the lists, the store and the counts of a pen.
+//! What each event does to the lists, the store and the counts of a pen, and what readers are told of it.
 #![tactic(auto)]
 
+mod checkpoints;
 mod cleaner_views;
 mod cleaning;
 mod draft;
+mod events;
 mod expiry;
-mod noting;
+mod formatting;
+mod list_events;
+mod notes;
 mod removing;
 mod resizing;
 mod same_files;
 mod same_trees;
+mod showing;
 mod tables;
-mod writing;
 
 pub use cleaner_views::{counts_after, needed_in, payload_count};
-pub use cleaning::{empty, move_out};
-pub use noting::{
-    note, note_checkpoint, note_mounted, note_move, note_resized, note_retirement, note_where_gone,
-    whole,
-};
-pub use removing::{expire, remove, remove_range};
-pub use resizing::{adds_segments, resize};
+pub use events::step;
+pub use formatting::{Formatted, format};
+pub use notes::{NoNotes, Notes};
 pub use same_files::is_same_file;
 pub use same_trees::is_same_tree;
+pub use showing::whole;
 pub use tables::Tables;
-pub use writing::{checkpoint, first_checkpoint};

@@ -1,4 +1,4 @@
-//! A volume that gets more segments.
+//! A volume that gets more segments, and the commit that tells readers of it.
 ghost use Rattle.std.specs.Prelude.{◌≡◌, ◌≤◌, nat_lt, length, Ok, Err, IfOk, IfErr, OnOk, OnErr};
 ghost use Rattle.nl_types.specs.declared.event.Event.TheVariants.{Resize};
 ghost use Rattle.nl_types.specs.declared.reply.Answer.TheVariants.{Done};
@@ -6,10 +6,13 @@ ghost use Rattle.nl_types.specs.Limits.{IsGeometry};
 ghost use Rattle.nl_counts.specs.Counted.{with_segments};
 ghost use Rattle.nl_vstore.specs.Stores.{HasGrown, IsGrowthRefused};
 ghost use Rattle.nl_commit.specs.CleaningEvents.{resized_in};
-ghost use Rattle.nl_commit.specs.Layout.{Does, layout_of, unshared};
+ghost use Rattle.nl_commit.specs.Layout.{layout_of};
+ghost use Rattle.nl_commit.specs.Notes.{DoesTelling};
 ghost use Rattle.nl_events.specs.NeededBlocks.{AreNeededCounts, IsCountedPen};
 
+use crate::notes::Notes;
 use crate::tables::Tables;
+use nl_commit::Commit;
 use nl_counts::NeededCounts;
 use nl_counts::laws::growth_keeps_counts;
 use nl_sufile::SegTable;
@@ -61,22 +64,26 @@ fn add_segments<V: Vstore>(
 
 /// Makes the volume one of so many segments, the new ones clean, where it has fewer, with a count of needed
 /// blocks for each. Refused as `adds_segments` is, by `Memory`, and by `Fault` where the device failed.
-pub fn resize<V: Vstore>(
+pub fn resize<V: Vstore, N: Notes>(
     alloc: Global,
     tables: &Tables,
     store: &mut V,
     needed: &mut NeededCounts,
     segments: u32,
+    notes: &mut N,
 ) -> Reply
     requires { IsCountedPen (layout_of tables.now.lists (V.store store.old)) needed.old }
-    ensures does { Does unshared (layout_of tables.now.lists (V.store store.old))
-        (Resize segments) result (layout_of tables.now.lists (V.store store.new)) }
+    ensures does { DoesTelling N.told (layout_of tables.now.lists (V.store store.old)) (Resize segments) result
+        (layout_of tables.now.lists (V.store store.new)) (N.commits notes.old) (N.commits notes.new) }
     ensures needed { AreNeededCounts (layout_of tables.now.lists (V.store store.new)) needed.new }
 {
     growth_keeps_counts();
     if !adds_segments(store.table(), segments)? {
         return Ok(Answer::Done);
     }
+    let blocks = store.table().blocks();
+    notes.reserve()?;
     add_segments(alloc, store, needed, segments)?;
+    notes.note(Some(Commit::Resized { segments, blocks }));
     Ok(Answer::Done)
 }

@@ -5,7 +5,7 @@ use Rattle.std.specs.Option.{option_map}
 use Rattle.std.proofs.Math.Nat.{mul-le-mul_right}
 use Rattle.std.proofs.Math.ListN.{get_or-map}
 use Rattle.std.proofs.lemmas.Bool.{ltb-false, ltb-true}
-use Rattle.std.proofs.lemmas.List.{ext_get_or, length-append, length-map, length-replicate}
+use Rattle.std.proofs.lemmas.List.{append-nil, ext_get_or, length-append, length-map, length-replicate}
 use Rattle.std.proofs.lemmas.List.FromFn.{length-map-range_with_len}
 use Rattle.nl_types.specs.declared.error.VolError.{VolError}
 use Rattle.nl_types.specs.declared.error.VolError.TheVariants as error
@@ -14,7 +14,8 @@ use Rattle.nl_types.specs.declared.reply.Answer.{Answer}
 use Rattle.nl_types.specs.declared.reply.Answer.TheVariants as answer
 use Rattle.nl_types.specs.Entries.{is_needed}
 use Rattle.nl_types.specs.Limits.{is_geometry}
-use Rattle.nl_types.specs.Segments.{Segments}
+use Rattle.nl_types.specs.Segments.{Segments, clean_info}
+use Rattle.nl_types.specs.declared.segment.SegmentInfo.{SegmentInfo}
 use Rattle.nl_types.specs.Runs.{Step}
 use Rattle.nl_types.specs.Worlds.{Reply, World}
 use Rattle.nl_vstore.specs.Located.{needed_count}
@@ -162,10 +163,10 @@ has-resized segments old new more judged grown = record {
 }
 
 -- a table tells whether segments are added
-pub is-more : (s table : Segments) (segments : ℕ) (adds : Bool) → table ≡ s
-    → adds ≡ nat_lt (length table.each) segments → adds ≡ true
-    → nat_lt (length s.each) segments ≡ true
-is-more s table segments adds same is adding =
+pub is-more : (s table : Segments) (segments : ℕ) (adds is_adding : Bool) → table ≡ s
+    → adds ≡ nat_lt (length table.each) segments → adds ≡ is_adding
+    → nat_lt (length s.each) segments ≡ is_adding
+is-more s table segments adds is_adding same is adding =
     ap (λ (t : Segments). nat_lt (length t.each) segments) (sym same) ∙ sym is ∙ adding
 
 -- there is a count for each segment
@@ -200,6 +201,26 @@ resized-as-many s segments judged fewer =
       ltb-false segments (length s.segments.each) (at-least s segments judged),
       ltb-false (length s.segments.each) segments fewer,
     )
+
+-- where there are as many, nothing is added
+pub has-as-many : (segments : ℕ) (s : Store) → resized_by s segments ≡ Ok answer.Done
+    → nat_lt (length s.segments.each) segments ≡ false
+    → HasResized segments answer.Done s s
+has-as-many segments s judged fewer = record {
+  answer_is = refl;
+  judged = judged;
+  grown = record {
+    segments = sym (ap (λ (infos : List SegmentInfo). record s.segments { each = infos })
+        (ap (λ (k : ℕ). s.segments.each ++ replicate k clean_info) none ∙ append-nil s.segments.each));
+    numbers = λ v. refl;
+    payload = λ b. refl;
+    device = λ b used. refl;
+  };
+  same = λ as-many. refl;
+}
+  where
+    none : segments - length s.segments.each ≡ 0
+    none = let many = resized-as-many s segments judged fewer in omega (arith, many)
 
 -- ---- what readers see
 

@@ -23,7 +23,7 @@ use Rattle.nl_cpfile.specs.declared.checkpoint.Checkpoint.{Checkpoint}
 use Rattle.nl_commit.specs.CleaningEvents.{HasMovedOut, HasResized, IsMoveRefusal, needed_by}
 use Rattle.nl_commit.specs.Commits.{AllNext, IsImage, IsNew, KeepsCheckpoints, applied, numbers_written, with_room, without_numbers}
 use Rattle.nl_commit.specs.Layout.{AllowedBetween, Does, HasRefused, HasWrittenCheckpoint, IsPen, KeepsNumbers, Layout, layout_of}
-use Rattle.nl_commit.specs.Notes.{AreCommitsOf, CommitsTellAll, HasNoted, freed_in, has_other_mode, mounted_as, moved_as, new_checkpoint, shown_of, shown_page, where_any, where_true, without_changes}
+use Rattle.nl_commit.specs.Notes.{AreCommitsOf, CommitsTellAll, HasNoted, freed_in, has_other_mode, known_commit, made_where, mounted_as, moved_as, new_checkpoint, noted_by, shown_of, shown_page, where_any, where_true, without_changes}
 use Rattle.nl_commit.specs.Shown.{Shown}
 use Rattle.nl_commit.specs.Volume.{IsTakenOut, Lists, boundary_in, minor_checkpoint, moved_lists, with_checkpoint_mode, with_minor}
 use Rattle.nl_commit.specs.declared.commit.Commit.{Commit}
@@ -202,16 +202,16 @@ module _ (old new : Layout) (gone : List ℕ) (leads : Leads old new)
 
 -- ---- a change of a mode
 
-tells-moded : (old new : Layout) (n : ℕ) (mode : Mode) → Leads old new
+tells-moded : (old new : Layout) (n : ℕ) (mode : Mode) (a : Answer) → Leads old new
     → new ≡ layout_of (with_checkpoint_mode n mode old.lists) old.store
-    → TellsAll old new (where_true (has_other_mode n mode old.lists.table) (ModeSet n mode))
-tells-moded old new n mode leads is = by (has_other_mode n mode old.lists.table) refl
+    → TellsAll old new (noted_by a (known_commit old.lists (event.ChangeMode n mode)))
+tells-moded old new n mode a leads is = by (has_other_mode n mode old.lists.table) refl
   where
     shown : shown_of new ≡ record (shown_of old) { table = with_mode n mode old.lists.table }
     shown = ap shown_of is
 
     by : (b : Bool) → has_other_mode n mode old.lists.table ≡ b
-        → TellsAll old new (where_true b (ModeSet n mode))
+        → TellsAll old new (noted_by a (made_where b (ModeSet n mode)))
     by true other =
         tells-commit old new (ModeSet n mode) leads
         (subst (λ (l : Layout). KeepsRoots old.lists.table l.lists.table) (sym is)
@@ -332,7 +332,7 @@ module _ (allowed : AllowedBetween) (old new : Layout) (pen : IsPen old) where
       (tells-written old new mode moment noted.0 (leads-on (event.Checkpoint mode moment) (Ok a) does))
   tells-done (event.ChangeMode n mode) a more does noted =
       subst (TellsAll old new) (sym noted)
-      (tells-moded old new n mode (leads-on (event.ChangeMode n mode) (Ok a) does) does.becomes)
+      (tells-moded old new n mode a (leads-on (event.ChangeMode n mode) (Ok a) does) does.becomes)
   tells-done (event.Remove n) a more does noted =
       let leads = leads-on (event.Remove n) (Ok a) does in
       subst (TellsAll old new) (sym noted)

@@ -3,7 +3,7 @@ use Rattle.std.specs.Prelude.{Ok, Err}
 use Rattle.std.proofs.lemmas.Result.{err_from_is_err_and}
 use Rattle.nl_commit.specs.Volume.{IsTakenOut}
 use Rattle.nl_events.specs.Facts.CountedPens.{expiry-taken}
-use Rattle.nl_events.specs.Facts.Moving.{does-Expire, pages_under}
+use Rattle.nl_events.proofs.Moving.{does-Expire, pages_under}
 use Rattle.nl_events.proofs.removing.expire.Goals as goal
 
 pub returns-in_err-answer-clause-does : goal.returns-in_err-answer-clause-does

@@ -1,7 +1,7 @@
 use Rattle.std.specs.Prelude.{Ok, Err}
 use Rattle.std.proofs.lemmas.Result.{err_from_is_err_and}
 use Rattle.nl_events.specs.Facts.CountedPens.{lost-one}
-use Rattle.nl_events.specs.Facts.Moving.{does-Remove, pages_under}
+use Rattle.nl_events.proofs.Moving.{does-Remove, pages_under}
 use Rattle.nl_events.proofs.removing.remove.Goals as goal
 
 pub returns-in_err-answer-clause-does : goal.returns-in_err-answer-clause-does

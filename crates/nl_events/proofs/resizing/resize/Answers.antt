@@ -1,15 +1,72 @@
-use Rattle.std.proofs.Common.{◌≡◌, length, sym, subst, arith}
-use Rattle.std.specs.Prelude.{Ok}
+use Rattle.std.proofs.Common.{◌≡◌, ◌++◌, List, length, refl, ap, sym, subst, ◌∙◌, arith}
+use Rattle.std.specs.Prelude.{Ok, Err, true, false}
 use Rattle.std.proofs.lemmas.Bool.{ltb-true}
 use Rattle.std.proofs.lemmas.Result.{err_from_is_err_and}
+use Rattle.nl_types.specs.declared.error.VolError.TheVariants as error
+use Rattle.nl_types.specs.declared.event.Event.TheVariants.{Resize}
 use Rattle.nl_types.specs.declared.reply.Answer.TheVariants as answer
 use Rattle.nl_types.specs.Segments.{Segments}
 use Rattle.nl_counts.specs.Counted.{Counted}
 use Rattle.nl_commit.specs.CleaningEvents.{kept_numbers, resized_in}
 use Rattle.nl_commit.specs.Layout.{layout_of}
+use Rattle.nl_commit.specs.Notes.{told_where, where_true}
+use Rattle.nl_commit.specs.declared.commit.Commit.{Commit}
+use Rattle.nl_commit.specs.declared.commit.Commit.TheVariants.{Resized}
 use Rattle.nl_events.specs.NeededBlocks.{AreNeededCounts}
-use Rattle.nl_events.specs.Facts.ResizedPens.{counts-are-as-many, does-not-resized, does-resized, has-resized, is-more, not-grown}
+use Rattle.nl_events.specs.Facts.ResizedPens.{counts-are-as-many, does-not-resized, does-resized, has-as-many, has-resized, is-more, not-asked, not-grown}
+use Rattle.nl_events.proofs.NotedEvents.{telling-refused, telling-resized, told-none}
 use Rattle.nl_events.proofs.resizing.resize.Goals as goal
+
+pub returns-in_err-adds_segments-clause-does : goal.returns-in_err-adds_segments-clause-does
+returns-in_err-adds_segments-clause-does g c =
+    let p = err_from_is_err_and c.from_residual.result c.from_residual.ensures.1 in
+    let l = c.args.tables.now.lists in
+    let old = g.V.Vstore.store c.args.store.now in
+    let e = c.in_err-adds_segments.field-0.0 in
+    let before = g.N.Notes.commits c.args.notes.now in
+    rw (p.1, p.2)
+    (telling-refused g.N.Notes.told (layout_of l old) (Resize c.args.segments) (layout_of l old) before before
+    c.requires.pen e
+    (does-not-resized l old old c.args.segments c.requires.pen c.requires.pen.sound.store (omega arith) e
+    (not-asked c.args.segments e old
+    (subst (λ (s : Segments). resized_in s c.args.segments ≡ Err e) c.table.ensures
+    c.in_err-adds_segments.ensures.refused)))
+    refl)
+
+pub returns-then-not-branch-clause-does : goal.returns-then-not-branch-clause-does
+returns-then-not-branch-clause-does g c =
+    let l = c.args.tables.now.lists in
+    let old = g.V.Vstore.store c.args.store.now in
+    let before = g.N.Notes.commits c.args.notes.now in
+    let fewer =
+    is-more old.segments c.table.result.now c.args.segments c.in_ok-adds_segments.field-0 false c.table.ensures
+    c.in_ok-adds_segments.ensures.adds c.if-not-branch.true in
+    telling-resized g.N.Notes.told (layout_of l old) (layout_of l old) c.args.segments old.segments.blocks false
+    answer.Done before before c.requires.pen
+    (does-resized l old old c.args.segments c.requires.pen c.requires.pen.sound.store (omega arith)
+    (has-as-many c.args.segments old
+    (subst (λ (s : Segments). resized_in s c.args.segments ≡ Ok answer.Done) c.table.ensures
+    c.in_ok-adds_segments.ensures.done)
+    fewer))
+    fewer refl (told-none g.N.Notes.told before)
+
+pub returns-in_err-reserve-clause-does : goal.returns-in_err-reserve-clause-does
+returns-in_err-reserve-clause-does g c =
+    let p =
+    err_from_is_err_and c.from_residual-in_err-reserve.result c.from_residual-in_err-reserve.ensures.1 in
+    let l = c.args.tables.now.lists in
+    let old = g.V.Vstore.store c.args.store.now in
+    rw (p.1, p.2)
+    (telling-refused g.N.Notes.told (layout_of l old) (Resize c.args.segments) (layout_of l old)
+    (g.N.Notes.commits c.args.notes.now)
+    (g.N.Notes.commits c.reserve.new.self) c.requires.pen error.Memory
+    (does-not-resized l old old c.args.segments c.requires.pen c.requires.pen.sound.store (omega arith)
+    error.Memory (
+      subst (λ (s : Segments). resized_in s c.args.segments ≡ Ok answer.Done) c.table.ensures
+          c.in_ok-adds_segments.ensures.done,
+      record { numbers = refl; segments = refl; device = refl; payload = refl },
+    ))
+    c.reserve.ensures.same)
 
 pub add_segments-requires-clause-counts : goal.add_segments-requires-clause-counts
 add_segments-requires-clause-counts g c =
@@ -24,14 +81,18 @@ returns-in_err-add_segments-clause-does g c =
     let l = c.args.tables.now.lists in
     let old = g.V.Vstore.store c.args.store.now in
     let new = g.V.Vstore.store c.add_segments.new.store in
+    let e = c.in_err-add_segments.field-0.0 in
     rw (p.1, p.2)
+    (telling-refused g.N.Notes.told (layout_of l old) (Resize c.args.segments) (layout_of l new)
+    (g.N.Notes.commits c.args.notes.now)
+    (g.N.Notes.commits c.reserve.new.self) c.requires.pen e
     (does-not-resized l old new c.args.segments c.requires.pen
-    (g.met.V.Vstore.is_store c.add_segments.new.store) c.add_segments.ensures.counted
-    c.in_err-add_segments.field-0.0
-    (not-grown c.args.segments c.in_err-add_segments.field-0.0 old new
+    (g.met.V.Vstore.is_store c.add_segments.new.store) c.add_segments.ensures.counted e
+    (not-grown c.args.segments e old new
     (subst (λ (s : Segments). resized_in s c.args.segments ≡ Ok answer.Done) c.table.ensures
     c.in_ok-adds_segments.ensures.done)
     c.in_err-add_segments.ensures.refused))
+    c.reserve.ensures.same)
 
 pub returns-in_err-add_segments-clause-needed : goal.returns-in_err-add_segments-clause-needed
 returns-in_err-add_segments-clause-needed g c =
@@ -51,14 +112,24 @@ returns-clause-does g c =
     let old = g.V.Vstore.store c.args.store.now in
     let new = g.V.Vstore.store c.add_segments.new.store in
     let more =
-    is-more old.segments c.table.result.now c.args.segments c.in_ok-adds_segments.field-0 c.table.ensures
+    is-more old.segments c.table.result.now c.args.segments c.in_ok-adds_segments.field-0 true c.table.ensures
     c.in_ok-adds_segments.ensures.adds c.if-not-branch.false in
-    does-resized l old new c.args.segments c.requires.pen
+    let told = g.N.Notes.told in
+    let before = g.N.Notes.commits c.args.notes.now in
+    let blocks = c.blocks-blocks.result in
+    telling-resized told (layout_of l old) (layout_of l new) c.args.segments blocks true answer.Done before
+    (g.N.Notes.commits c.note.new.self) c.requires.pen
+    (does-resized l old new c.args.segments c.requires.pen
     (g.met.V.Vstore.is_store c.add_segments.new.store) c.add_segments.ensures.counted
     (has-resized c.args.segments old new more
     (subst (λ (s : Segments). resized_in s c.args.segments ≡ Ok answer.Done) c.table.ensures
     c.in_ok-adds_segments.ensures.done)
-    c.in_ok-add_segments.ensures.grown)
+    c.in_ok-add_segments.ensures.grown))
+    more
+    (c.blocks-blocks.ensures.blocks ∙ ap (λ (s : Segments). s.blocks) c.table-2.ensures)
+    (c.note.ensures
+    ∙ ap (λ (ns : List Commit). ns ++ told_where told (where_true true (Resized c.args.segments blocks)))
+    c.reserve.ensures.same)
 
 pub returns-clause-needed : goal.returns-clause-needed
 returns-clause-needed g c =
@@ -66,7 +137,7 @@ returns-clause-needed g c =
     let old = g.V.Vstore.store c.args.store.now in
     let new = g.V.Vstore.store c.add_segments.new.store in
     let more =
-    is-more old.segments c.table.result.now c.args.segments c.in_ok-adds_segments.field-0 c.table.ensures
+    is-more old.segments c.table.result.now c.args.segments c.in_ok-adds_segments.field-0 true c.table.ensures
     c.in_ok-adds_segments.ensures.adds c.if-not-branch.false in
     let low = ltb-true (length old.segments.each) c.args.segments more in
     subst (λ (counted : Counted). AreNeededCounts (layout_of l new) counted)
