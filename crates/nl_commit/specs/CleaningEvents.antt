@@ -59,17 +59,7 @@ abbrev pub cleaned_by : Lists → Store → Event → Reply
 cleaned_by l s (event.Move segment limit now) = moved_by l s segment limit
 cleaned_by l s (event.Retire segment) = retired_by l s segment
 cleaned_by l s (event.Resize segments) = resized_by s segments
-cleaned_by l s (event.Apply change) = Ok Done
-cleaned_by l s (event.Read ask) = Ok Done
-cleaned_by l s (event.Checkpoint mode moment) = Ok Done
-cleaned_by l s (event.ChangeMode n mode) = Ok Done
-cleaned_by l s (event.Remove n) = Ok Done
-cleaned_by l s (event.RemoveRange first last) = Ok Done
-cleaned_by l s (event.Expire now period) = Ok Done
-cleaned_by l s (event.Mount n) = Ok Done
-cleaned_by l s (event.Unmount m) = Ok Done
-cleaned_by l s (event.MountRead m ask) = Ok Done
-cleaned_by l s (event.Listing options) = Ok Done
+cleaned_by l s event = Ok Done
 
 -- ---- what they do
 

@@ -41,18 +41,7 @@ RunsLeadOn allowed =
 abbrev pub IsAsBefore : Event → Layout → Layout → Type 0
 IsAsBefore (Move segment limit moment) old new = (new.lists ≡ old.lists) × KeepsStored old.store new.store
 IsAsBefore (event.Resize segments) old new = (new.lists ≡ old.lists) × StaysStored old.store new.store
-IsAsBefore (event.Apply change) old new = new ≡ old
-IsAsBefore (event.Read ask) old new = new ≡ old
-IsAsBefore (Checkpoint mode moment) old new = new ≡ old
-IsAsBefore (event.ChangeMode n mode) old new = new ≡ old
-IsAsBefore (event.Remove n) old new = new ≡ old
-IsAsBefore (RemoveRange first last) old new = new ≡ old
-IsAsBefore (Expire now period) old new = new ≡ old
-IsAsBefore (event.Retire segment) old new = new ≡ old
-IsAsBefore (event.Mount n) old new = new ≡ old
-IsAsBefore (event.Unmount m) old new = new ≡ old
-IsAsBefore (event.MountRead m ask) old new = new ≡ old
-IsAsBefore (event.Listing options) old new = new ≡ old
+IsAsBefore event old new = new ≡ old
 
 -- a refusal but for a fault leaves the pen and its device as they were
 abbrev pub RefusalsKeepPens : AllowedBetween → Type 0

@@ -7,7 +7,7 @@ use Rattle.nl_types.specs.declared.event.Ask.{Ask}
 use Rattle.nl_types.specs.declared.event.Event.{Event}
 use Rattle.nl_types.specs.declared.event.Mode.{Mode}
 use Rattle.nl_types.specs.declared.event.Event.TheVariants as variant
-use Rattle.nl_types.specs.declared.event.Event.TheVariants.{Apply, ChangeMode, Checkpoint, Expire, Listing, Mount, MountRead, Move, Read, RemoveRange, Resize, Retire, Unmount}
+use Rattle.nl_types.specs.declared.event.Event.TheVariants.{Apply, ChangeMode, Checkpoint, Expire, Mount, Move, RemoveRange, Resize, Retire, Unmount}
 use Rattle.nl_types.specs.declared.geometry.Geometry.{Geometry}
 use Rattle.nl_types.specs.declared.reply.Answer.{Answer}
 use Rattle.nl_types.specs.Calls.{IsReadReply}
@@ -171,9 +171,7 @@ HasDone old (Resize segments) answer new =
     (new.lists ≡ old.lists) × HasResized segments answer old.store new.store
 HasDone old (Mount n) answer new = new ≡ layout_of (with_mount n old.lists) old.store
 HasDone old (Unmount m) answer new = new ≡ layout_of (without_mount m old.lists) old.store
-HasDone old (Read ask) answer new = new ≡ old
-HasDone old (MountRead m ask) answer new = new ≡ old
-HasDone old (Listing options) answer new = new ≡ old
+HasDone old event answer new = new ≡ old
 
 -- ---- and a refused one
 
@@ -212,16 +210,7 @@ HasRefused (Move segment limit moment) e old new =
 HasRefused (Retire segment) e old new = (new ≡ old) × IsRetirementRefusal old segment e
 HasRefused (Resize segments) e old new =
     (new.lists ≡ old.lists) × HasResizedNone segments old.store new.store e
-HasRefused (Apply change) e old new = new ≡ old
-HasRefused (Read ask) e old new = new ≡ old
-HasRefused (ChangeMode n mode) e old new = new ≡ old
-HasRefused (variant.Remove n) e old new = new ≡ old
-HasRefused (RemoveRange first last) e old new = new ≡ old
-HasRefused (Expire now period) e old new = new ≡ old
-HasRefused (Mount n) e old new = new ≡ old
-HasRefused (Unmount m) e old new = new ≡ old
-HasRefused (MountRead m ask) e old new = new ≡ old
-HasRefused (Listing options) e old new = new ≡ old
+HasRefused event e old new = new ≡ old
 
 abbrev pub Becomes : Layout → Event → Reply → Layout → Type 0
 Becomes old event reply new =
@@ -251,18 +240,7 @@ pub record IsFormatted (geometry : Geometry) (pages : DevicePages) (failures : F
 abbrev pub LacksSpaceFor : Layout → Event → Type 0
 LacksSpaceFor l (Checkpoint mode moment) = LacksSpaceToSettle l
 LacksSpaceFor l (Move segment limit moment) = LacksSpaceToMove l.lists l.store segment limit
-LacksSpaceFor l (Apply change) = ⊥
-LacksSpaceFor l (Read ask) = ⊥
-LacksSpaceFor l (ChangeMode n mode) = ⊥
-LacksSpaceFor l (variant.Remove n) = ⊥
-LacksSpaceFor l (RemoveRange first last) = ⊥
-LacksSpaceFor l (Expire now period) = ⊥
-LacksSpaceFor l (Retire segment) = ⊥
-LacksSpaceFor l (Resize segments) = ⊥
-LacksSpaceFor l (Mount n) = ⊥
-LacksSpaceFor l (Unmount m) = ⊥
-LacksSpaceFor l (MountRead m ask) = ⊥
-LacksSpaceFor l (Listing options) = ⊥
+LacksSpaceFor l event = ⊥
 
 -- The device failed during the event. A write of it failed though there was space. A move may be ended by a
 -- read as well: then no write failed, and nothing changed but that the read is counted. Where a write of it

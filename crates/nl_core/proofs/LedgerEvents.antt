@@ -5,7 +5,7 @@ use Rattle.std.proofs.lemmas.Bool.{cond-false, cond-true}
 use Rattle.nl_types.specs.declared.error.VolError.{VolError}
 use Rattle.nl_types.specs.declared.error.VolError.TheVariants as error
 use Rattle.nl_types.specs.declared.event.Event.{Event}
-use Rattle.nl_types.specs.declared.event.Event.TheVariants.{Apply, ChangeMode, Checkpoint, Expire, Listing, Mount, MountRead, Move, Read, RemoveRange, Resize, Retire, Unmount}
+use Rattle.nl_types.specs.declared.event.Event.TheVariants.{Apply, ChangeMode, Checkpoint, Expire, Mount, Move, RemoveRange, Resize, Retire, Unmount}
 use Rattle.nl_types.specs.declared.event.Event.TheVariants as event
 use Rattle.nl_types.specs.declared.event.Mode.{Mode}
 use Rattle.nl_types.specs.declared.reply.Answer.{Answer}
@@ -133,9 +133,7 @@ module _ (old new : Layout) (pen : IsPen old) where
   done-goes_on (Apply change) a done store = stays (ap ledger_of done.0)
   done-goes_on (Mount n) a done store = stays (ap ledger_of done)
   done-goes_on (Unmount m) a done store = stays (ap ledger_of done)
-  done-goes_on (Read ask) a done store = stays (same-layout done)
-  done-goes_on (MountRead m ask) a done store = stays (same-layout done)
-  done-goes_on (Listing options) a done store = stays (same-layout done)
+  done-goes_on event a done store = stays (same-layout done)
 
   -- a refusal changes nothing of the ledger
   refused-same : (event : Event) (e : VolError) → HasRefused event e old new → IsStore new.store
@@ -176,16 +174,7 @@ module _ (old new : Layout) (pen : IsPen old) where
       by (Err f) none = same none.1
   refused-same (Retire segment) e refused store = same-layout refused.0
   refused-same (Resize segments) e refused store = unresized-ledger old new segments e pen refused store
-  refused-same (Apply change) e refused store = same-layout refused
-  refused-same (Read ask) e refused store = same-layout refused
-  refused-same (ChangeMode n mode) e refused store = same-layout refused
-  refused-same (event.Remove n) e refused store = same-layout refused
-  refused-same (RemoveRange first last) e refused store = same-layout refused
-  refused-same (Expire now period) e refused store = same-layout refused
-  refused-same (Mount n) e refused store = same-layout refused
-  refused-same (Unmount m) e refused store = same-layout refused
-  refused-same (MountRead m ask) e refused store = same-layout refused
-  refused-same (Listing options) e refused store = same-layout refused
+  refused-same event e refused store = same-layout refused
 
 pub events_are_ledger_events : (allowed : AllowedBetween) → EventsAreLedgerEvents allowed
 events_are_ledger_events allowed old new event (Ok a) pen does =

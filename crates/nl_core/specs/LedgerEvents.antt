@@ -24,16 +24,9 @@ done_events old new (event.Remove n) answer done = Forgets n ∷ []
 done_events old new (event.RemoveRange first last) answer done = map Forgets (taken_out answer)
 done_events old new (event.Expire now period) answer done = map Forgets (taken_out answer)
 done_events old new (event.Retire segment) answer done = Frees (stood_in old.store segment) ∷ []
-done_events old new (event.Apply change) answer done = []
-done_events old new (event.Read ask) answer done = []
-done_events old new (event.ChangeMode n mode) answer done = []
 done_events old new (event.Move segment limit moment) answer done =
     if is_moving (Ok answer) then Makes [] [] ∷ [] else []
-done_events old new (event.Resize segments) answer done = []
-done_events old new (event.Mount n) answer done = []
-done_events old new (event.Unmount m) answer done = []
-done_events old new (event.MountRead m ask) answer done = []
-done_events old new (event.Listing options) answer done = []
+done_events old new event answer done = []
 
 -- a refused event is none
 abbrev pub ledger_events : (old new : Layout) (event : Event) (reply : Reply) → Becomes old event reply new

@@ -4,7 +4,7 @@ use Rattle.std.specs.Prelude.{true, length, List, ◌++◌, ◌∷◌, Result, O
 use Rattle.nl_types.specs.declared.error.VolError.{VolError}
 use Rattle.nl_types.specs.declared.error.VolError.TheVariants as error
 use Rattle.nl_types.specs.declared.event.Event.{Event}
-use Rattle.nl_types.specs.declared.event.Event.TheVariants.{Apply, Read, Checkpoint, ChangeMode, Expire, Move, Remove, RemoveRange, Resize, Retire, Mount, Unmount, MountRead, Listing}
+use Rattle.nl_types.specs.declared.event.Event.TheVariants.{Checkpoint, Move, Resize, Retire}
 use Rattle.nl_types.specs.declared.segment.Log.{Log}
 use Rattle.nl_types.specs.Laws.{IsJudged}
 use Rattle.nl_types.specs.Placing.{LogsFit}
@@ -52,19 +52,9 @@ refused_same : (event : Event) (e : VolError) (old new : Layout) → HasRefused 
     → (e ≢ error.Fault) → IsAsBefore event old new
 refused_same (Checkpoint mode moment) error.Fault old new refused other = absurd (other refl)
 refused_same (Checkpoint mode moment) _ old new refused other = refused.0
-refused_same (Apply change) e old new refused other = refused
-refused_same (Read ask) e old new refused other = refused
-refused_same (ChangeMode n mode) e old new refused other = refused
-refused_same (Remove n) e old new refused other = refused
-refused_same (RemoveRange first last) e old new refused other = refused
-refused_same (Expire now period) e old new refused other = refused
 refused_same (Retire segment) e old new refused other = refused.0
 refused_same (Resize segments) e old new refused other =
     (refused.0, resize-kept segments e old.store new.store refused.1 other)
-refused_same (Mount n) e old new refused other = refused
-refused_same (Unmount m) e old new refused other = refused
-refused_same (Listing options) e old new refused other = refused
-refused_same (MountRead m ask) e old new refused other = refused
 refused_same (Move segment limit moment) e old new refused other =
     (refused.0, by (judged_for old.store.segments segment limit) refused.1)
   where
@@ -87,6 +77,7 @@ refused_same (Move segment limit moment) e old new refused other =
         → KeepsStored old.store new.store
     by (Ok i) none = of e none other
     by (Err f) none = keeps-same old.store new.store none.1
+refused_same event e old new refused other = refused
 
 pub refusals_keep_pens : (allowed : AllowedBetween) → RefusalsKeepPens allowed
 refusals_keep_pens allowed old new event e does other = refused_same event e old new does.becomes other

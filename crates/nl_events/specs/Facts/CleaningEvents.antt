@@ -7,7 +7,7 @@ use Rattle.std.proofs.lemmas.List.{length-map, length-take}
 use Rattle.nl_types.specs.declared.error.VolError.{VolError}
 use Rattle.nl_types.specs.declared.error.VolError.TheVariants as error
 use Rattle.nl_types.specs.declared.event.Event.{Event}
-use Rattle.nl_types.specs.declared.event.Event.TheVariants.{Apply, ChangeMode, Checkpoint, Expire, Listing, Mount, MountRead, Move, Read, Remove, RemoveRange, Resize, Retire, Unmount}
+use Rattle.nl_types.specs.declared.event.Event.TheVariants.{Move, Resize, Retire}
 use Rattle.nl_types.specs.declared.reply.Answer.{Answer}
 use Rattle.nl_types.specs.declared.reply.Answer.TheVariants as answer
 use Rattle.nl_types.specs.declared.segment.SegmentInfo.{SegmentInfo}
@@ -96,17 +96,7 @@ pub cleaned_judges : (l : Lists) (s : Store) (event : Event) → IfErr (cleaned_
 cleaned_judges l s (Move segment limit moment) = move_judges l s segment limit
 cleaned_judges l s (Retire segment) = retirement_judges l s segment
 cleaned_judges l s (Resize segments) = resize_judges s segments
-cleaned_judges l s (Apply change) = tt
-cleaned_judges l s (Read ask) = tt
-cleaned_judges l s (Checkpoint mode moment) = tt
-cleaned_judges l s (ChangeMode n mode) = tt
-cleaned_judges l s (Remove n) = tt
-cleaned_judges l s (RemoveRange first last) = tt
-cleaned_judges l s (Expire now period) = tt
-cleaned_judges l s (Mount n) = tt
-cleaned_judges l s (Unmount m) = tt
-cleaned_judges l s (MountRead m ask) = tt
-cleaned_judges l s (Listing options) = tt
+cleaned_judges l s event = tt
 
 -- ---- a move
 

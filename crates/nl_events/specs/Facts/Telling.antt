@@ -99,19 +99,9 @@ refused-shown : (event : Event) (e : VolError) (old new : Layout) → HasRefused
 refused-shown (event.Checkpoint mode moment) error.Fault old new refused =
     same-store old new refused.lists refused.store.numbers
 refused-shown (event.Checkpoint mode moment) _ old new refused = ap shown_of refused.0
-refused-shown (event.Apply change) e old new refused = ap shown_of refused
-refused-shown (event.Read ask) e old new refused = ap shown_of refused
-refused-shown (event.ChangeMode n mode) e old new refused = ap shown_of refused
-refused-shown (event.Remove n) e old new refused = ap shown_of refused
-refused-shown (event.RemoveRange first last) e old new refused = ap shown_of refused
-refused-shown (event.Expire now period) e old new refused = ap shown_of refused
 refused-shown (event.Retire segment) e old new refused = ap shown_of refused.0
 refused-shown (event.Resize segments) e old new refused =
     same-store old new refused.0 (unresized-numbers segments e old.store new.store refused.1)
-refused-shown (event.Mount n) e old new refused = ap shown_of refused
-refused-shown (event.Unmount m) e old new refused = ap shown_of refused
-refused-shown (event.Listing options) e old new refused = ap shown_of refused
-refused-shown (event.MountRead m ask) e old new refused = ap shown_of refused
 refused-shown (event.Move segment limit moment) e old new refused =
     same-store old new refused.0 (by (judged_for old.store.segments segment limit) refused.1)
   where
@@ -133,6 +123,7 @@ refused-shown (event.Move segment limit moment) e old new refused =
         → new.store.numbers ≡ old.store.numbers
     by (Ok i) none = of e none
     by (Err f) none = ap (λ (s : Store). s.numbers) none.1
+refused-shown event e old new refused = ap shown_of refused
 
 -- ---- done ones
 
@@ -378,11 +369,7 @@ module _ (allowed : AllowedBetween) (old new : Layout) (pen : IsPen old) where
       (tells-moved old new segment limit moment a
       (leads-on (event.Move segment limit moment) (Ok a) does) does.becomes.0 does.becomes.1)
   tells-done (event.Apply change) a more does noted = tells-nothing-of more noted (ap shown_of does.becomes.0)
-  tells-done (event.Read ask) a more does noted = tells-nothing-of more noted (ap shown_of does.becomes)
-  tells-done (event.MountRead m ask) a more does noted =
-      tells-nothing-of more noted (ap shown_of does.becomes)
-  tells-done (event.Listing options) a more does noted =
-      tells-nothing-of more noted (ap shown_of does.becomes)
+  tells-done event a more does noted = tells-nothing-of more noted (ap shown_of does.becomes)
 
   tells : (event : Event) (reply : Reply) (more : List Commit) → Does allowed old event reply new
       → AreCommitsOf old event reply new more → TellsAll old new more
