@@ -1,9 +1,10 @@
-//! What the pen's definitions mean, as contracts of functions that do nothing.
+//! What the pen's definitions mean, as contracts of functions that do nothing. What is said of events holds
+//! for a pen alone and beside readers: `told` says which, and `allowed_where` what may be refused then.
+ghost use Rattle.std.specs.Prelude.{Bool};
 ghost use Rattle.nl_events.specs.CleanedPens.{MinorsKeepPens, MovesKeepPens, RefusedMovesKeepPens, RetirementsKeepPens};
 ghost use Rattle.nl_commit.specs.Commits.{MountsStillShow};
-ghost use Rattle.nl_commit.specs.Layout.{unshared};
 ghost use Rattle.nl_core.specs.LedgerEvents.{EventsAreLedgerEvents, RunsAreLedgerEvents, RunsKeepNumbers};
-ghost use Rattle.nl_commit.specs.Notes.{CommitsTellAll, PensAreImages, shared};
+ghost use Rattle.nl_commit.specs.Notes.{CommitsTellAll, PensAreImages, allowed_where};
 ghost use Rattle.nl_core.specs.PenImages.{ImagesMeanOneWorld, PenImagesAreImages, PensHaveOneImage};
 ghost use Rattle.nl_core.specs.Opened.{CheckedCheckpointsHaveInodes, OpenedImagesArePens};
 ghost use Rattle.nl_commit.specs.Laws.{MeansOneWorld, EventsLeadOn, RunsLeadOn, RefusalsKeepPens, RefusalsHaveReasons, NoSpaceIsSaid, NoSpaceIsTrue, MemoryIsTaken, RangesGoOneByOne, ExpiriesGoOneByOne, SettlingsAreAlike};
@@ -23,20 +24,20 @@ pub fn pens_mean_one_world()
 /// What events do to a pen, one or many, they do beside each world that the pen means: each reply is the one
 /// that the definitions give there, or an allowed refusal that keeps the world.
 pub fn worlds_follow_pens()
-    ensures event { EventsLeadOn unshared }
-    ensures events { RunsLeadOn unshared }
+    ensures event { (told : Bool) → EventsLeadOn (allowed_where told) }
+    ensures events { (told : Bool) → RunsLeadOn (allowed_where told) }
 {}
 
 /// A refusal leaves the pen and its device as they were, but for a fault. A move may have counted reads that
 /// failed.
 pub fn refusals_keep_pens()
-    ensures { RefusalsKeepPens unshared }
+    ensures { (told : Bool) → RefusalsKeepPens (allowed_where told) }
 {}
 
 /// A refusal is judged by the world or the segments, or it has its reason: space lacks for a checkpoint or a
 /// move, or the device failed during one, or the event takes memory.
 pub fn refusals_have_reasons()
-    ensures { RefusalsHaveReasons unshared }
+    ensures { (told : Bool) → RefusalsHaveReasons (allowed_where told) }
 {}
 
 /// Memory is refused only to events that take it: changes of modes, removals of one checkpoint, unmounts and
@@ -48,15 +49,15 @@ pub fn memory_is_refused_where_it_is_taken()
 /// A removal of a range leaves the same numbers in use, each with the same period, and the same checkpoints
 /// as removals of the answered ones, one after another. So does an expiry.
 pub fn ranges_go_one_by_one()
-    ensures ranges { RangesGoOneByOne unshared }
-    ensures expiries { ExpiriesGoOneByOne unshared }
+    ensures ranges { (told : Bool) → RangesGoOneByOne (allowed_where told) }
+    ensures expiries { (told : Bool) → ExpiriesGoOneByOne (allowed_where told) }
 {}
 
 /// A checkpoint is refused for space only where no list of logs fits what it writes. Where none fits, it is
 /// refused before anything is written.
 pub fn space_is_judged_exactly()
-    ensures only { NoSpaceIsTrue unshared }
-    ensures always { NoSpaceIsSaid unshared }
+    ensures only { (told : Bool) → NoSpaceIsTrue (allowed_where told) }
+    ensures always { (told : Bool) → NoSpaceIsSaid (allowed_where told) }
 {}
 
 /// Whatever a checkpoint of a pen could write has as many blocks, and gives one root. So whether space lacks
@@ -89,25 +90,18 @@ pub fn retirements_keep_pens()
 /// an expiry removes one checkpoint after another, a retirement takes out the numbers of its segment, and
 /// nothing else is one. So all laws about lists of ledger events hold of lists of a pen's events.
 pub fn events_are_ledger_events()
-    ensures event { EventsAreLedgerEvents unshared }
-    ensures events { RunsAreLedgerEvents unshared }
+    ensures event { (told : Bool) → EventsAreLedgerEvents (allowed_where told) }
+    ensures events { (told : Bool) → RunsAreLedgerEvents (allowed_where told) }
 {}
 
 /// However many events come, a number keeps its page, its place and its start while a kept checkpoint needs
 /// it, and its end changes once at most: from none to the number of a checkpoint that was made meanwhile.
 pub fn runs_keep_numbers()
-    ensures { RunsKeepNumbers unshared }
+    ensures { (told : Bool) → RunsKeepNumbers (allowed_where told) }
 {
     covered_numbers_stay();
     numbers_end_once();
 }
-
-/// What events do beside readers, one or many, they do beside each world that the pen means, as of a pen
-/// alone; but memory may be refused to any event.
-pub fn worlds_follow_shared_pens()
-    ensures event { EventsLeadOn shared }
-    ensures events { RunsLeadOn shared }
-{}
 
 /// What readers see of a pen is an image: every kept checkpoint stands for a tree, and every mount is one of
 /// a kept snapshot.
@@ -117,8 +111,7 @@ pub fn pens_are_images()
 
 /// The commits of an event lead from what readers saw of the pen to what they see then, and may follow.
 pub fn commits_tell_all()
-    ensures alone { CommitsTellAll unshared }
-    ensures beside_readers { CommitsTellAll shared }
+    ensures { (told : Bool) → CommitsTellAll (allowed_where told) }
 {}
 
 /// What a mount shows in an image it shows in each later one, until it is given back.
