@@ -5,4 +5,4 @@ mod many;
 mod reader;
 
 pub use many::{Gate, JobAnswer, ReadJob, read_many};
-pub use reader::FileReader;
+pub use reader::{FileReader, PlaceKey};

@@ -4,7 +4,7 @@ ghost use Rattle.std.specs.List.{AllZip};
 ghost use Rattle.nl_lanes.specs.Jobs.{AreAnswers, AreLanesOver, AreLaterReaders, ArePlaced, HasRunBy, HaveLearned, IsLaterReader, IsPlaced, ReaderLaws, all_back, idle, no_memory, with_back};
 ghost use Rattle.nl_lanes.specs.Reading.{IsLater};
 
-use crate::reader::FileReader;
+use crate::reader::{FileReader, PlaceKey};
 use nl_publish::{Mount, Volumes};
 use nl_types::{Items, VolError};
 use std::alloc::{AllocError, Global};
@@ -64,7 +64,7 @@ impl<J: Volumes, P: FileReader<J>> Lane<J, P> {
         ensures left { reader.new ≡ P.left reader.old }
     {
         Lane {
-            reader: reader.take(),
+            reader: reader.take(&PlaceKey::new()),
             answers: Vec::new(alloc),
             of: PhantomData,
         }
@@ -140,7 +140,8 @@ impl<J: Volumes, P: FileReader<J>> Lane<J, P> {
         ensures answers { result.items ≡ self.old.answers }
         ensures lane { self.new ≡ record { reader = P.left self.old.reader; answers = [] } }
     {
-        reader.put_back(self.reader.take());
+        let key = PlaceKey::new();
+        reader.put_back(self.reader.take(&key), &key);
         replace(&mut self.answers, Vec::new(alloc))
     }
 }

@@ -7,6 +7,17 @@ use nl_publish::{Mount, Volumes};
 use nl_types::{Items, VolError};
 use std::alloc::Global;
 
+/// The right to take readers out of their places, and to put them back. `read_many` alone has it, so nobody else
+/// leaves a place without its reader.
+#[derive(Clone, Copy)]
+pub struct PlaceKey(());
+
+impl PlaceKey {
+    pub(crate) fn new() -> PlaceKey {
+        PlaceKey(())
+    }
+}
+
 /// A reader's end of a shared volume, which reads files of mounts and never waits.
 pub trait FileReader<J: Volumes>: Drop {
     ghost use Rattle.nl_publish.specs.Histories.{Known};
@@ -30,12 +41,12 @@ pub trait FileReader<J: Volumes>: Drop {
     ghost joined: { Self → Self → Self };
 
     /// Takes the reader out of its place, where one stays that finds nothing. It takes no memory.
-    fn take(&mut self) -> Self
+    fn take(&mut self, key: &PlaceKey) -> Self
         ensures taken { result ≡ taken self.old }
         ensures left { self.new ≡ left self.old };
 
     /// Puts a reader back into the place that it was taken from. What it has seen meanwhile is seen.
-    fn put_back(&mut self, reader: Self)
+    fn put_back(&mut self, reader: Self, key: &PlaceKey)
         requires { IsLater (known self.old) (known reader) }
         ensures { self.new ≡ joined self.old reader };
 

@@ -8,3 +8,4 @@ pub mod Warming
 pub mod PortReaders
 pub mod FirstSeen
 pub mod MountStandings
+pub mod ToldCopies

@@ -3,3 +3,4 @@ pub mod Warming
 pub mod Ports
 pub mod Standings
 pub mod Sharing
+pub mod InOrder

@@ -6,6 +6,7 @@ mod cache;
 mod cached_reads;
 mod enters;
 mod file_read;
+pub mod laws;
 mod looks;
 mod many;
 mod port;

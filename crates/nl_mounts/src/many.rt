@@ -6,7 +6,7 @@ ghost use Rattle.nl_mounts.specs.Ports.{AreLater};
 
 use crate::enters::Enters;
 use crate::port::Port;
-use nl_lanes::{FileReader, Gate, JobAnswer, ReadJob};
+use nl_lanes::{FileReader, Gate, JobAnswer, PlaceKey, ReadJob};
 use nl_publish::{Mount, Volumes};
 use nl_types::{Items, VolError};
 use std::alloc::Global;
@@ -28,11 +28,11 @@ impl<J: Volumes, E: Enters> FileReader<J> for Port<J, E> {
 
     ghost joined = { joined };
 
-    fn take(&mut self) -> Self {
+    fn take(&mut self, _key: &PlaceKey) -> Self {
         Port::take(self)
     }
 
-    fn put_back(&mut self, reader: Self) {
+    fn put_back(&mut self, reader: Self, _key: &PlaceKey) {
         Port::put_back(self, reader);
     }
 

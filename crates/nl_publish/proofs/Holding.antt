@@ -1,5 +1,5 @@
 -- What the steps of the locked state keep.
-use Rattle.std.proofs.Common.{◌≡◌, ◌≢◌, ℕ, eqb, Bool, true, false, Option, None, Some, List, [], ◌∷◌, ◌++◌, length, fold, refl, ap, sym, ◌∙◌, subst, arith, append_assoc, length-append, ◌==◌, get_or, remove, MatchBool}
+use Rattle.std.proofs.Common.{◌≡◌, ◌≢◌, ◌<◌, ℕ, eqb, Bool, true, false, Option, List, [], ◌∷◌, ◌++◌, length, fold, refl, ap, sym, ◌∙◌, subst, arith, append_assoc, length-append, ◌==◌, get_or, remove, MatchBool}
 use Rattle.std.proofs.lemmas.List.{append-nil}
 use Rattle.std.proofs.lemmas.Bool.{eqb-false, eqb-true}
 use Rattle.std.proofs.lemmas.Bool.Decides.{nat_tests}
@@ -16,7 +16,7 @@ use Rattle.nl_publish.specs.declared.image.Image.{Image}
 use Rattle.nl_publish.specs.declared.image.Entry.{Entry}
 use Rattle.nl_publish.specs.Histories.{IsBegun, Known}
 use Rattle.nl_publish.specs.Images.{IsNextEntry, AreNext, absorbed}
-use Rattle.nl_publish.specs.Locks.{IsHeld, IsTold, NotedStep, listed}
+use Rattle.nl_publish.specs.Locks.{IsHeld, IsTold, NotedStep}
 use Rattle.nl_publish.proofs.Fronts.{prefix_self, prefix_length, prefix_trans, prefix_whole}
 use Rattle.nl_publish.specs.Facts.Growing.{begun_more, fold-grows, history_more, history_start}
 use Rattle.nl_publish.proofs.Keeping.{fold_whole, fold_book, fold_prefix}
@@ -164,16 +164,18 @@ module _ (book : ℕ → Book) (log : ℕ) where
         absurd (some none)
 
     -- a beginning of the history is published
-    pub told : (waiting : List Commit) (layout : Layout) (volume : ℕ) (lost : Option ℕ)
+    pub told : (waiting : List Commit) (layout : Layout) (volume unsent refusals : ℕ) (lost : Option ℕ)
         → IsHeld book log p es noted waiting (shown_of layout)
         → IsTold (record {
           volume = volume;
           published = p.seen.log;
           history = noted.commits ++ waiting;
+          unsent = unsent;
           lost = lost;
           layout = layout;
+          refusals = refusals;
         })
-    told waiting layout volume lost h = record {
+    told waiting layout volume unsent refusals lost h = record {
       history = h.history;
       shown = h.shown_is;
       published = prefix_trans p.seen.log noted.commits (noted.commits ++ waiting)
@@ -187,15 +189,14 @@ is_empty (x ∷ xs) is = absurd (grind (arith, nat_tests))
 pub empty_where : {A : Type 0} (xs : List A) (b : Bool) → b ≡ (length xs == 0) → b ≡ true → xs ≡ []
 empty_where xs b is so = is_empty xs (sym is ∙ so)
 
-pub headed : {A : Type 0} (xs : List A) (x : A) (b : Bool) → b ≡ (length xs == 0) → b ≡ false
-    → x ≡ get_or xs 0 x → xs ≡ x ∷ remove xs 0
-headed [] x b is so at = absurd (cc (is, so))
-headed (y ∷ ys) x b is so at = ap (λ z. z ∷ ys) (sym at)
+pub headed : {A : Type 0} (xs : List A) (x : A) → 0 < length xs → x ≡ get_or xs 0 x → xs ≡ x ∷ remove xs 0
+headed [] x some at = absurd (omega (arith, some))
+headed (y ∷ ys) x some at = ap (λ z. z ∷ ys) (sym at)
 
-pub same_head : {A : Type 0} (xs : List A) (x y : A) (b : Bool) → b ≡ (length xs == 0) → b ≡ false
-    → x ≡ get_or xs 0 x → y ≡ get_or xs 0 y → x ≡ y
-same_head [] x y b is so at bt = absurd (cc (is, so))
-same_head (z ∷ zs) x y b is so at bt = at ∙ sym bt
+pub same_head : {A : Type 0} (xs : List A) (x y : A) → 0 < length xs → x ≡ get_or xs 0 x → y ≡ get_or xs 0 y
+    → x ≡ y
+same_head [] x y some at bt = absurd (omega (arith, some))
+same_head (z ∷ zs) x y some at bt = at ∙ sym bt
 
 -- the same image and the same entries
 pub held_at : (book : ℕ → Book) (log : ℕ) (p p' : Image) (es es' : List Entry) (noted : Known)
@@ -205,32 +206,6 @@ pub held_at : (book : ℕ → Book) (log : ℕ) (p p' : Image) (es es' : List En
 held_at book log p p' es es' noted waiting pen image entries h =
     subst (λ (q : Image). IsHeld book log q es' noted waiting pen) (sym image)
     (subst (λ (l : List Entry). IsHeld book log p l noted waiting pen) (sym entries) h)
-
--- the entry that was left is behind those of the writer
-pub sent : (us us' : List Entry) (before after : Option Entry) (e : Entry) → us' ≡ us ++ e ∷ []
-    → before ≡ Some e → after ≡ None
-    → us' ++ listed after ≡ us ++ listed before
-sent us us' before after e pushed was gone =
-    ap (λ (l : List Entry). l ++ listed after) pushed
-    ∙ (ap (λ (o : Option Entry). (us ++ e ∷ []) ++ listed o) gone
-    ∙ (append-nil (us ++ e ∷ []) ∙ ap (λ (o : Option Entry). us ++ listed o) (sym was)))
-
--- or it is left still
-pub kept : (us us' : List Entry) (before after : Option Entry) (e f : Entry) → us' ≡ us → before ≡ Some e
-    → after ≡ Some f → f ≡ e
-    → us' ++ listed after ≡ us ++ listed before
-kept us us' before after e f same was is back =
-    ap (λ (l : List Entry). l ++ listed after) same
-    ∙ (ap (λ (o : Option Entry). us ++ listed o) is
-    ∙ (ap (λ (x : Entry). us ++ x ∷ []) back ∙ ap (λ (o : Option Entry). us ++ listed o) (sym was)))
-
--- the first that waits is noted
-pub moved_over : (noted more waiting left : List Commit) (c : Commit) → more ≡ noted ++ c ∷ []
-    → waiting ≡ c ∷ left
-    → more ++ left ≡ noted ++ waiting
-moved_over noted more waiting left c added waits =
-    ap (λ (l : List Commit). l ++ left) added
-    ∙ (append_assoc noted (c ∷ []) left ∙ ap (λ (l : List Commit). noted ++ l) (sym waits))
 
 -- a step that is noted behind what waits is noted behind the whole history
 pub noted_of : (before waiting waiting' : List Commit) (old new : Layout) (event : Event) (r : Reply)

@@ -1,7 +1,9 @@
 pub mod Fronts
 pub mod Adding
 pub mod Keeping
+pub mod Counting
 pub mod Holding
 pub mod Running
+pub mod Handing
 pub mod Copies
 pub mod Following

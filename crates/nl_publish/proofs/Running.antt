@@ -1,5 +1,5 @@
 -- Runs of the locked state, one after another.
-use Rattle.std.proofs.Common.{ℕ, ◌≡◌, ◌+◌, List, [], ◌∷◌, ◌++◌, refl, subst, ap, sym, ◌∙◌, MatchResult, None, Some, Result, Ok, Err}
+use Rattle.std.proofs.Common.{ℕ, ◌≡◌, ◌≢◌, ◌+◌, ◌≤◌, Bool, true, false, List, [], ◌∷◌, ◌++◌, refl, subst, ap, sym, ◌∙◌, arith, inl, inr, MatchBool, MatchResult, None, Some, Result, Ok, Err}
 use Rattle.nl_types.specs.declared.event.Event.{Event}
 use Rattle.nl_types.specs.declared.event.Event.TheVariants.{Mount, Unmount}
 use Rattle.nl_types.specs.declared.error.VolError.{VolError}
@@ -13,8 +13,10 @@ use Rattle.nl_commit.specs.declared.commit.Commit.TheVariants as commit
 use Rattle.nl_commit.specs.Facts.Leading.{runs_lead_on}
 use Rattle.nl_commit.specs.Facts.MountEvents.{answers-mount}
 use Rattle.nl_publish.specs.Histories.{EndsWith}
-use Rattle.nl_publish.specs.Locks.{Begins, Done, Finished, Goes, GoesBy, HeldPen, IsClear, IsMountReply, IsReady, IsStuck, Keeps, Lost, MountGoes, MountRan, MountReply, Mounted, NotedStep, Pending, Ran, Refused, State, Stuck, as_replies, given_back, mount_reply, state_of}
+use Rattle.nl_publish.specs.Refusals.{HasRefused}
+use Rattle.nl_publish.specs.Locks.{Begins, Done, Finished, Goes, GoesBy, HeldPen, IsClear, IsHeldBack, IsMountReply, IsPending, IsReady, IsTried, Keeps, Lost, LostComesBack, MountGoes, MountRan, MountReply, Mounted, NotedStep, Pending, Ran, Refused, State, Stuck, as_replies, given_back, mount_reply, state_of}
 use Rattle.nl_publish.specs.Told.{LockedRunsLeadOn}
+use Rattle.nl_publish.proofs.Counting.{refused_on}
 use Rattle.nl_publish.proofs.Fronts.{prefix_self, prefix_trans}
 
 run_on : (a b c : State) (es fs : List Event) (rs qs : List Reply) → Run NotedStep a es rs b
@@ -31,10 +33,11 @@ goes_on a b c es fs rs qs p q = record {
   volume = q.volume ∙ p.volume;
   runs = run_on (state_of a) (state_of b) (state_of c) es fs rs qs p.runs q.runs;
   later = prefix_trans a.published b.published c.published p.later q.later;
+  counts = omega (arith, p.counts, q.counts);
 }
 
 stays : (a : HeldPen) → Goes a [] [] a
-stays a = record { volume = refl; runs = refl; later = prefix_self a.published }
+stays a = record { volume = refl; runs = refl; later = prefix_self a.published; counts = omega arith }
 
 -- nothing more ran
 goes_still : (a b c : HeldPen) (es : List Event) (rs : List Reply) → Goes a es rs b → Goes b [] [] c
@@ -43,6 +46,7 @@ goes_still a b c es rs p q = record {
   volume = q.volume ∙ p.volume;
   runs = subst (λ s. Run NotedStep (state_of a) es rs s) (sym q.runs) p.runs;
   later = prefix_trans a.published b.published c.published p.later q.later;
+  counts = omega (arith, p.counts, q.counts);
 }
 
 -- nothing ran, twice
@@ -52,20 +56,24 @@ keeps_on a b c p q = (goes_still a b c [] [] p.0 q.0, q.1 ∙ p.1)
 pub keeps_same : (a b : HeldPen) → b ≡ a → Keeps a b
 keeps_same a b same = subst (λ (h : HeldPen). Keeps h b) same (stays b, refl)
 
--- commits that waited are noted
-pub keeps_noted : (a : HeldPen) (volume : ℕ) (history : List Commit) → volume ≡ a.volume → history ≡ a.history
+-- commits that waited are noted, or handed over
+pub keeps_noted : (a : HeldPen) (volume : ℕ) (history : List Commit) (unsent refusals : ℕ)
+    → volume ≡ a.volume → history ≡ a.history → a.refusals ≤ refusals
     → Keeps a (record {
       volume = volume;
       published = a.published;
       history = history;
+      unsent = unsent;
       lost = a.lost;
       layout = a.layout;
+      refusals = refusals;
     })
-keeps_noted a volume history same all = (
+keeps_noted a volume history unsent refusals same all less = (
   record {
     volume = same;
     runs = ap (λ (log : List Commit). (let s : State = (a.layout, log) in s)) all;
     later = prefix_self a.published;
+    counts = less;
   },
   refl,
 )
@@ -90,19 +98,23 @@ pub gave : (a b : HeldPen) (m : ℕ) (x : Answer) → a.lost ≡ Some m → Goes
       volume = b.volume;
       published = b.published;
       history = b.history;
+      unsent = b.unsent;
       lost = None;
       layout = b.layout;
+      refusals = b.refusals;
     })
 gave a b m x was g =
     let after : HeldPen = record {
       volume = b.volume;
       published = b.published;
       history = b.history;
+      unsent = b.unsent;
       lost = None;
       layout = b.layout;
+      refusals = b.refusals;
     } in
     let here : Goes a (Unmount m ∷ []) (Ok x ∷ []) after =
-    record { volume = g.0.volume; runs = g.0.runs; later = g.0.later } in
+    record { volume = g.0.volume; runs = g.0.runs; later = g.0.later; counts = g.0.counts } in
     record {
       backs = x ∷ [];
       goes = subst (λ o. Goes a (given_back o) (Ok x ∷ []) after) (sym was) here;
@@ -111,42 +123,78 @@ gave a b m x was g =
 
 -- it is still lost
 pub stuck : (a b : HeldPen) (m : ℕ) (e : VolError) → a.lost ≡ Some m → GoesBy a (Unmount m) (Err e) b
-    → IsStuck a b
+    → IsHeldBack a b
 stuck a b m e was g = record { number = m; error = e; was = was; goes = g }
 
--- behind what kept all
-pub begins_behind : (a b c : HeldPen) (r : Result (Unit {0}) VolError) → Keeps a b → Begins b r c
-    → Begins a r c
-begins_behind a b c (Ok u) keeps ready = record {
-  backs = ready.backs;
-  goes = goes_on a b c [] (given_back a.lost) [] (as_replies ready.backs) keeps.0
-      (subst (λ o. Goes b (given_back o) (as_replies ready.backs) c) keeps.1 ready.goes);
-  lost = ready.lost;
+-- ---- publication
+
+pub tried_on : (a b c : HeldPen) → a.refusals ≤ b.refusals → IsTried b c → IsTried a c
+tried_on a b c less (inl all) = inl all
+tried_on a b c less (inr refused) = inr (refused_on a.refusals b.refusals c.refusals less refused)
+
+-- all that was handed over is shown, or that was refused
+pub tried_shown : (a b c : HeldPen) (shown : Bool) → a.refusals ≤ b.refusals → b.unsent ≡ 0
+    → MatchBool shown (b.unsent ≡ 0 → c.published ≡ c.history) (HasRefused b.refusals c.refusals)
+    → IsTried a c
+tried_shown a b c true less none is = inl (is none)
+tried_shown a b c false less none is = inr (refused_on a.refusals b.refusals c.refusals less is)
+
+pub is_pending : (a b : HeldPen) → IsTried a b → b.published ≢ b.history → IsPending a b
+is_pending a b (inl all) apart = absurd (apart all)
+is_pending a b (inr refused) apart = record { apart = apart; refused = refused }
+
+pending_on : (a b c : HeldPen) → a.refusals ≤ b.refusals → IsPending b c → IsPending a c
+pending_on a b c less pending = record {
+  apart = pending.apart;
+  refused = refused_on a.refusals b.refusals c.refusals less pending.refused;
 }
-begins_behind a b c (Err e) keeps stuck = (
-  stuck.0,
+
+-- a lost mount is back, and then all is published, or not
+pub ready_still : (a b c : HeldPen) → IsReady a b → Keeps b c → IsReady a c
+ready_still a b c begun more = record {
+  backs = begun.backs;
+  goes = goes_still a b c (given_back a.lost) (as_replies begun.backs) begun.goes more.0;
+  lost = more.1 ∙ begun.lost;
+}
+
+pub begins_then : (a b c : HeldPen) (r : Result (Unit {0}) VolError) → LostComesBack a r b → Keeps b c
+    → IsTried b c → Begins a r c
+begins_then a b c (Ok u) back more tried = ready_still a b c back more
+begins_then a b c (Err e) back more tried = (
+  back.0,
   record {
-    number = stuck.1.number;
-    error = stuck.1.error;
-    was = sym keeps.1 ∙ stuck.1.was;
-    goes = (
-      goes_on a b c [] (Unmount stuck.1.number ∷ []) [] (Err stuck.1.error ∷ []) keeps.0 stuck.1.goes.0,
-      stuck.1.goes.1 ∙ keeps.1,
-    );
+    number = back.1.number;
+    error = back.1.error;
+    was = back.1.was;
+    goes = goes_by_still a b c (Unmount back.1.number) (Err back.1.error) back.1.goes more;
+    tried = tried_on a b c back.1.goes.0.counts tried;
   },
 )
 
+pub back_counts : (a b : HeldPen) (r : Result (Unit {0}) VolError) → LostComesBack a r b
+    → a.refusals ≤ b.refusals
+back_counts a b (Ok u) back = back.goes.counts
+back_counts a b (Err e) back = back.1.goes.0.counts
+
 -- ---- calls of the locked state
 
+pub stepped_tried : (a b c d : HeldPen) (event : Event) (r : Reply) → IsReady a b → GoesBy b event r c
+    → IsTried c d → IsTried a d
+stepped_tried a b c d event r begun here tried =
+    tried_on a c d (omega (arith, begun.goes.counts, here.0.counts)) tried
+
 pub ran : (a b c d : HeldPen) (event : Event) (r : Reply) → IsReady a b → GoesBy b event r c → Keeps c d
-    → Ran a event r d
-ran a b c d event r begun here more =
+    → IsTried c d → Ran a event r d
+ran a b c d event r begun here more tried =
     let back = given_back a.lost in
     let backs = as_replies begun.backs in
     Done begun.backs
     (goes_still a c d (back ++ event ∷ []) (backs ++ r ∷ [])
     (goes_on a b c back (event ∷ []) backs (r ∷ []) begun.goes here.0) more.0)
-    (more.1 ∙ (here.1 ∙ begun.lost))
+    (record {
+      lost = more.1 ∙ (here.1 ∙ begun.lost);
+      tried = stepped_tried a b c d event r begun here tried;
+    })
 
 -- an event was done, without its answer, or refused
 pub unmounted : (a b : HeldPen) (m : ℕ) (reply : Reply) (r : Result (Unit {0}) VolError)
@@ -166,13 +214,9 @@ ran_unmounted a b m reply (Err e) ran is = subst (λ (q : Reply). Ran a (Unmount
 
 -- ---- mounts
 
--- a lost mount is back, and then all is published, or not
-pub ready_still : (a b c : HeldPen) → IsReady a b → Keeps b c → IsReady a c
-ready_still a b c begun more = record {
-  backs = begun.backs;
-  goes = goes_still a b c (given_back a.lost) (as_replies begun.backs) begun.goes more.0;
-  lost = more.1 ∙ begun.lost;
-}
+pub pending_still : (a b c : HeldPen) → IsReady a b → IsTried b c → c.published ≢ c.history → IsPending a c
+pending_still a b c begun tried apart =
+    pending_on a b c begun.goes.counts (is_pending b c tried apart)
 
 pub clear : (a b c : HeldPen) → IsReady a b → Keeps b c → c.published ≡ c.history → IsClear a c
 clear a b c begun more all = record { ready = ready_still a b c begun more; settled = all }
@@ -190,7 +234,8 @@ mount_done a c d k all n (Ok m) f here end =
     (ap (λ (x : ℕ). Ok x) end.0) end.2 end.3
 mount_done a c d k all n (Err e) f here end =
     Lost c n all (goes_still c d f (Mount k ∷ []) (mount_reply n ∷ []) here.0 end.1)
-    (ap (λ (x : VolError). Err x) end.0) end.2 end.3
+    (ap (λ (x : VolError). Err x) end.0)
+    (pending_on a d f (omega (arith, all.ready.goes.counts, here.0.counts)) end.2) end.3
 
 -- a mount's step adds the commit of the mount that it answers
 mount_noted : (a b : State) (k m : ℕ) → NotedStep a (Mount k) (mount_reply m) b

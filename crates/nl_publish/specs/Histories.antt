@@ -17,5 +17,10 @@ pub record Known : Type 0 where
   pub volume : ℕ
   pub commits : List Commit
 
+-- what adds to a volume's history, and how often it has refused to
+pub record Adding : Type 0 where
+  pub volume : ℕ
+  pub refusals : ℕ
+
 abbrev pub EndsWith : List Commit → Commit → Type 0
 EndsWith log c = (before : List Commit) × (log ≡ before ++ c ∷ [])

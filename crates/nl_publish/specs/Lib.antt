@@ -1,7 +1,9 @@
 pub mod Histories
 pub mod Rules
+pub mod Refusals
 pub mod Images
 pub mod Seats
+pub mod Noting
 pub mod Locks
 pub mod Begun
 pub mod Cleaning

@@ -1,5 +1,5 @@
 -- What lies under the lock: a pen, the history of its commits, and how much of that is published.
-use Rattle.std.specs.Prelude.{ℕ, ◌≡◌, ◌≢◌, ◌++◌, List, [], ◌∷◌, fold, map, Option, Some, None, Result, Ok, Err}
+use Rattle.std.specs.Prelude.{ℕ, ◌≡◌, ◌≢◌, ◌≤◌, ◌⊎◌, ◌++◌, List, [], ◌∷◌, fold, map, Option, Some, None, Result, Ok, Err}
 use mathlib.Core.List.{IsPrefix}
 use Rattle.logbook.specs.Pages.{Book}
 use Rattle.nl_types.specs.declared.error.VolError.{VolError}
@@ -19,15 +19,18 @@ use Rattle.nl_publish.specs.declared.image.Image.{Image}
 use Rattle.nl_publish.specs.declared.image.Entry.{Entry}
 use Rattle.nl_publish.specs.Histories.{Known}
 use Rattle.nl_publish.specs.Images.{IsWhole, AreNext, absorbed}
+use Rattle.nl_publish.specs.Refusals.{HasRefused}
 
--- the history that is published, the whole history with what is pending, the mount whose commit could not
--- be published, and the pen
+-- the history that is published, the whole history with what is pending, how many commits at its end the press
+-- hasn't got, the mount whose commit could not be published, the pen, and how often a publication was refused
 pub record HeldPen : Type 0 where
   pub volume : ℕ
   pub published : List Commit
   pub history : List Commit
+  pub unsent : ℕ
   pub lost : Option ℕ
   pub layout : Layout
+  pub refusals : ℕ
 
 -- what is published of it
 abbrev pub told_by : HeldPen → Known
@@ -77,6 +80,7 @@ pub record Goes (old : HeldPen) (events : List Event) (replies : List Reply) (ne
   pub volume : new.volume ≡ old.volume
   pub runs : Run NotedStep (state_of old) events replies (state_of new)
   pub later : IsPrefix old.published new.published
+  pub counts : old.refusals ≤ new.refusals
 
 -- nothing ran, and the same mount is lost
 abbrev pub Keeps : HeldPen → HeldPen → Type 0
@@ -85,6 +89,17 @@ Keeps old new = Goes old [] [] new × (new.lost ≡ old.lost)
 -- one event ran
 abbrev pub GoesBy : HeldPen → Event → Reply → HeldPen → Type 0
 GoesBy old event reply new = Goes old (event ∷ []) (reply ∷ []) new × (new.lost ≡ old.lost)
+
+-- ---- publication
+
+-- all of the history is published, or a publication was refused
+abbrev pub IsTried : HeldPen → HeldPen → Type 0
+IsTried old new = (new.published ≡ new.history) ⊎ HasRefused old.refusals new.refusals
+
+-- not all of it is published, and a publication was refused
+pub record IsPending (old new : HeldPen) : Type 0 where
+  pub apart : new.published ≢ new.history
+  pub refused : HasRefused old.refusals new.refusals
 
 -- ---- a mount that was lost
 
@@ -105,12 +120,25 @@ pub record IsReady (old new : HeldPen) : Type 0 where
   pub goes : Goes old (given_back old.lost) (as_replies backs) new
   pub lost : new.lost ≡ None
 
--- the give-back was refused, and nothing else ran
+-- the give-back was refused, nothing else ran, and what is pending was tried
 pub record IsStuck (old new : HeldPen) : Type 0 where
   pub number : ℕ
   pub error : VolError
   pub was : old.lost ≡ Some number
   pub goes : GoesBy old (Unmount number) (Err error) new
+  pub tried : IsTried old new
+
+-- the give-back was refused in the pen, and nothing else was done
+pub record IsHeldBack (old new : HeldPen) : Type 0 where
+  pub number : ℕ
+  pub error : VolError
+  pub was : old.lost ≡ Some number
+  pub goes : GoesBy old (Unmount number) (Err error) new
+
+-- the lost mount was given back in the pen, or that was refused
+abbrev pub LostComesBack : HeldPen → Result (Unit {0}) VolError → HeldPen → Type 0
+LostComesBack old (Ok u) new = IsReady old new
+LostComesBack old (Err e) new = (e ≡ Memory) × IsHeldBack old new
 
 -- what comes before a call's own event
 abbrev pub Begins : HeldPen → Result (Unit {0}) VolError → HeldPen → Type 0
@@ -125,11 +153,16 @@ IsNoMountEvent (Mount n) = ⊥
 IsNoMountEvent (Unmount m) = ⊥
 IsNoMountEvent _ = Unit {0}
 
+-- no mount is lost, and all of the history is published, or that was refused
+pub record IsDone (old new : HeldPen) : Type 0 where
+  pub lost : new.lost ≡ None
+  pub tried : IsTried old new
+
 -- a lost mount is given back, and then the event runs; or the give-back is refused, and nothing else runs
 pub data Ran (old : HeldPen) (event : Event) (reply : Reply) (new : HeldPen) : Type 0 where
   Done : (backs : List Answer)
       → Goes old (given_back old.lost ++ event ∷ []) (as_replies backs ++ reply ∷ []) new
-      → new.lost ≡ None → Ran old event reply new
+      → IsDone old new → Ran old event reply new
   NotBegun : IsStuck old new → reply ≡ Err Memory → Ran old event reply new
 
 -- a mount's number, or why there is none
@@ -153,7 +186,7 @@ MountGoes old n (Err e) new = GoesBy old (Mount n) (Err e) new
 abbrev pub Finished : HeldPen → ℕ → MountReply → HeldPen → Type 0
 Finished old n (Ok m) new = (m ≡ n) × Goes old [] [] new × (new.published ≡ new.history) × (new.lost ≡ None)
 Finished old n (Err e) new =
-    (e ≡ Memory) × Goes old [] [] new × (new.published ≢ new.history) × (new.lost ≡ Some n)
+    (e ≡ Memory) × Goes old [] [] new × IsPending old new × (new.lost ≡ Some n)
 
 -- before a mount: a lost mount is back, and nothing is pending
 pub record IsClear (old new : HeldPen) : Type 0 where
@@ -161,16 +194,17 @@ pub record IsClear (old new : HeldPen) : Type 0 where
   pub settled : new.published ≡ new.history
 
 -- What `mount` does: all is published, with the mount's own commit; or the mount was made, and its commit
--- was not published; or the mount was refused; or something is pending still; or the give-back was refused
+-- was not published; or the mount was refused; or something is pending still; or the give-back was refused. So
+-- memory is refused by the pen, or by what publishes
 pub data MountRan (old : HeldPen) (checkpoint : ℕ) (reply : MountReply) (new : HeldPen) : Type 0 where
   Mounted : (clear : HeldPen) (n : ℕ) → IsClear old clear
       → Goes clear (Mount checkpoint ∷ []) (mount_reply n ∷ []) new → reply ≡ Ok n
       → new.published ≡ new.history → new.lost ≡ None → MountRan old checkpoint reply new
   Lost : (clear : HeldPen) (n : ℕ) → IsClear old clear
       → Goes clear (Mount checkpoint ∷ []) (mount_reply n ∷ []) new → reply ≡ Err Memory
-      → new.published ≢ new.history → new.lost ≡ Some n → MountRan old checkpoint reply new
+      → IsPending old new → new.lost ≡ Some n → MountRan old checkpoint reply new
   Refused : (clear : HeldPen) (e : VolError) → IsClear old clear → GoesBy clear (Mount checkpoint) (Err e) new
       → reply ≡ Err e → MountRan old checkpoint reply new
-  Pending : IsReady old new → new.published ≢ new.history → reply ≡ Err Memory
+  Pending : IsReady old new → IsPending old new → reply ≡ Err Memory
       → MountRan old checkpoint reply new
   Stuck : IsStuck old new → reply ≡ Err Memory → MountRan old checkpoint reply new

@@ -1,12 +1,14 @@
 //! The published history of a volume, which exists in proofs alone, and the beginnings of it that were seen.
 //! A book keeps it: in memory there is its length, one atomic word.
-ghost use Rattle.std.specs.Prelude.{◌≡◌, ◌≢◌, ◌<◌, ◌++◌, ◌∷◌, ◌⊎◌, [], length, IfSome, MatchBool};
+ghost use Rattle.std.specs.Prelude.{◌≡◌, ◌≢◌, ◌<◌, ◌++◌, ◌∷◌, ◌⊎◌, [], length, IfNone, IfSome, MatchBool, OnSome};
 ghost use mathlib.Core.List.{IsPrefix};
 ghost use Rattle.nl_publish.specs.Histories.{IsBegun, IsFull, Known};
+ghost use Rattle.nl_publish.specs.Refusals.{HasRefused};
 ghost use Rattle.nl_publish.specs.Rules.{head_of};
 ghost use Rattle.nl_publish.specs.Images.{IsWhole};
 
 use crate::image::Image;
+use crate::press::count_refusal;
 use logbook::{Gain, Offer, Plain, Play, Rule, Seen, Start, Word};
 use nl_commit::Commit;
 use std::marker::{Brand, Model, PhantomData};
@@ -99,12 +101,13 @@ impl Opened {
     /// The right to add to the history, and the beginning that has nothing.
     pub fn named<J: Volumes>(self) -> (Record<J>, Front<J>)
         requires { self.seen.book ≡ J.book self.id }
-        ensures volume { result.0.volume ≡ self.id }
+        ensures adding { result.0 ≡ record { volume = self.id; refusals = 0 } }
         ensures front { result.1 ≡ record { volume = self.id; commits = [] } }
     {
         let Opened { id, head, seen } = self;
         let record = Record {
             volume: id,
+            refusals: 0,
             head,
             of: PhantomData,
         };
@@ -118,13 +121,35 @@ impl Opened {
     }
 }
 
-/// What adds to a volume's history: the word with its length.
+/// What adds to a volume's history: the word with its length. It counts what it refuses.
 #[derive(Drop)]
 pub struct Record<J: Volumes> {
-    pub volume: u64,
+    volume: u64,
+    refusals: u64,
     head: Word<Commit, u64, Law>,
     of: PhantomData<J>,
-    ghost head_is: { head ≡ head_of (J.book volume) },
+}
+
+impl<J: Volumes> Model for Record<J> {
+    ghost use Rattle.std.specs.Prelude.{◌≡◌};
+    ghost use Rattle.nl_publish.specs.Histories.{Adding};
+    ghost use Rattle.nl_publish.specs.Rules.{head_of};
+
+    ghost Value = { Adding };
+
+    ghost view = { λ r. record { volume = r.volume; refusals = r.refusals } };
+
+    ghost invariant = { λ r. r.head ≡ head_of (J.book r.volume) };
+}
+
+impl<J: Volumes> Record<J> {
+    /// Counts that a commit wasn't added.
+    fn refuse(&mut self)
+        ensures volume { self.new.volume ≡ self.old.volume }
+        ensures refused { HasRefused self.old.refusals self.new.refusals }
+    {
+        self.refusals = count_refusal(self.refusals);
+    }
 }
 
 /// A beginning of a volume's history that was seen. It keeps its length alone.
@@ -211,9 +236,8 @@ impl<J: Volumes> Front<J> {
         other.count <= self.count
     }
 
-    /// Adds a commit to all that was seen, and says whether it did. It did not where the history is longer
-    /// than what was seen, or as long as one can be.
-    pub fn add(&mut self, log: &Record<J>, commit: &Commit) -> bool
+    /// Adds a commit to all that was seen, and says whether it did.
+    fn append(&mut self, log: &Record<J>, commit: &Commit) -> bool
         requires volume { log.now.volume ≡ self.old.volume }
         requires begun { IsBegun (self.old.commits ++ commit.now ∷ []) }
         ensures volume { self.new.volume ≡ self.old.volume }
@@ -241,12 +265,34 @@ impl<J: Volumes> Front<J> {
         found == count
     }
 
+    /// Adds a commit to all that was seen, and says whether it did. It did not where the history is longer
+    /// than what was seen, or as long as one can be, which is counted.
+    pub fn add(&mut self, log: &mut Record<J>, commit: &Commit) -> bool
+        requires volume { log.old.volume ≡ self.old.volume }
+        requires begun { IsBegun (self.old.commits ++ commit.now ∷ []) }
+        ensures volume { self.new.volume ≡ self.old.volume }
+        ensures added { MatchBool result (self.new.commits ≡ self.old.commits ++ commit.now ∷ [])
+            (IsFull self.old.commits ⊎ (length self.new.commits ≢ length self.old.commits)) }
+        ensures own { log.new.volume ≡ log.old.volume }
+        ensures counted { MatchBool result (log.new ≡ log.old)
+            (HasRefused log.old.refusals log.new.refusals) }
+    {
+        if self.append(log, commit) {
+            return true;
+        }
+        log.refuse();
+        false
+    }
+
     /// A copy with a commit added, where `add` adds it.
-    pub(crate) fn with_commit(&self, log: &Record<J>, commit: &Commit) -> Option<Front<J>>
-        requires volume { log.now.volume ≡ self.now.volume }
+    pub(crate) fn with_commit(&self, log: &mut Record<J>, commit: &Commit) -> Option<Front<J>>
+        requires volume { log.old.volume ≡ self.now.volume }
         requires begun { IsBegun (self.now.commits ++ commit.now ∷ []) }
         ensures volume { IfSome result (λ longer. longer.volume ≡ self.now.volume) }
         ensures added { IfSome result (λ longer. longer.commits ≡ self.now.commits ++ commit.now ∷ []) }
+        ensures own { log.new.volume ≡ log.old.volume }
+        ensures same { OnSome result (log.new ≡ log.old) }
+        ensures refused { IfNone result (HasRefused log.old.refusals log.new.refusals) }
     {
         let mut longer = self.again();
         if !longer.add(log, commit) {

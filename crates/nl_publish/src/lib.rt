@@ -3,6 +3,7 @@
 #![tactic(auto)]
 
 mod cleaning;
+mod entries;
 mod events;
 mod history;
 mod image;
@@ -20,5 +21,5 @@ pub use locked::Locked;
 pub use mount::{Gone, Mount, RefusedMount};
 pub use nl_commit::NotingPen;
 pub use opening::{Seat, publish};
-pub use press::{ImageReader, Press, Publisher};
+pub use press::{ImageReader, Press, Publisher, count_refusal};
 pub use tables::{ApplyError, Tables};

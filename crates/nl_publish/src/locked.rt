@@ -1,5 +1,5 @@
 //! What lies under the lock: the pen, and what is published of it.
-ghost use Rattle.std.specs.Prelude.{◌≡◌, ◌≢◌, ◌++◌, ◌∷◌, [], None, Some, Ok, Err, IfErr, IfOk, MatchBool, MatchResult};
+ghost use Rattle.std.specs.Prelude.{◌≡◌, ◌≢◌, ◌<◌, ◌+◌, ◌++◌, ◌∷◌, [], None, Some, Ok, Err, IfErr, IfOk, MatchBool, MatchResult, length};
 ghost use Rattle.nl_types.specs.declared.event.Event.TheVariants as event;
 ghost use Rattle.nl_types.specs.declared.reply.Answer.{Answer};
 ghost use Rattle.nl_types.specs.Worlds.{World};
@@ -7,12 +7,14 @@ ghost use Rattle.nl_commit.specs.Commits.{image_of};
 ghost use Rattle.nl_commit.specs.Layout.{IsPen, MeansWorld, ReadsCopy, layout_of};
 ghost use Rattle.nl_commit.specs.Notes.{shown_of};
 ghost use Rattle.nl_commit.specs.Volume.{without_mounts};
-ghost use Rattle.nl_publish.specs.Images.{IsPublished};
-ghost use Rattle.nl_publish.specs.Locks.{Begins, Finished, GoesBy, IsMountReply, IsNoMountEvent, IsSoundState, IsTold, Keeps, MountGoes, MountRan, Ran};
+ghost use Rattle.nl_publish.specs.Images.{IsPublished, IsWhole};
+ghost use Rattle.nl_publish.specs.Locks.{Begins, Finished, GoesBy, IsMountReply, IsNoMountEvent, IsSoundState, IsTold, IsTried, Keeps, LostComesBack, MountGoes, MountRan, Ran};
 ghost use Rattle.nl_publish.specs.Locks.{mount_reply, told_by};
+ghost use Rattle.nl_publish.specs.Refusals.{HasRefused};
 ghost use Rattle.nl_publish.specs.Returns.{IsGivenBack, UnmountRan};
 ghost use Rattle.nl_publish.specs.Told.{ShowsCopy};
 
+use crate::entries::next_entry;
 use crate::history::{Front, Record, Volumes};
 use crate::image::Entry;
 use crate::mount::{Gone, Mount, RefusedMount};
@@ -24,8 +26,8 @@ use std::marker::Model;
 use std::sync::Wait;
 
 /// The pen of a shared volume, and what of its commits is published. Contracts see the pen, the history of
-/// its commits, and how much of that is published; the type keeps that what readers see of the pen is what
-/// all of the history makes.
+/// its commits, how much of that is published, and how often memory was refused to that; the type keeps that what
+/// readers see of the pen is what all of the history makes.
 pub struct Locked<P: NotingPen, J: Volumes, W: Press> {
     pen: P,
     log: Record<J>,
@@ -41,7 +43,7 @@ pub struct Locked<P: NotingPen, J: Volumes, W: Press> {
 }
 
 impl<P: NotingPen, J: Volumes, W: Press> Model for Locked<P, J, W> {
-    ghost use Rattle.std.specs.Prelude.{◌++◌};
+    ghost use Rattle.std.specs.Prelude.{◌+◌, ◌++◌, length};
     ghost use Rattle.nl_commit.specs.Notes.{shown_of};
     ghost use Rattle.nl_publish.specs.Locks.{HeldPen, IsHeld, listed};
 
@@ -51,8 +53,10 @@ impl<P: NotingPen, J: Volumes, W: Press> Model for Locked<P, J, W> {
       volume = l.noted.volume;
       published = (W.shown l.writer).seen.log;
       history = l.noted.commits ++ l.waiting.items;
+      unsent = length (listed l.unsent) + length l.waiting.items;
       lost = l.lost;
       layout = P.layout l.pen;
+      refusals = W.refusals l.writer + l.log.refusals;
     } };
 
     ghost invariant = { λ l. IsHeld J.book l.log.volume (W.shown l.writer)
@@ -88,12 +92,30 @@ fn keep_entry(unsent: &mut Option<Entry>, entry: Entry)
 // ---- publication
 
 impl<P: NotingPen, J: Volumes, W: Press> Locked<P, J, W> {
-    /// Hands the entry that is left to the writer, and says whether none is left.
-    fn send(&mut self) -> bool
-        ensures { Keeps self.old self.new }
+    /// Whether the writer lacks a commit.
+    fn has_unsent(&self) -> bool
+        ensures { MatchBool result (0 < self.now.unsent) (self.now.unsent ≡ 0) }
     {
-        let Some(entry) = self.unsent.take() else {
-            return true;
+        match &self.unsent {
+            Some(_) => true,
+            None => !self.waiting.as_slice().is_empty(),
+        }
+    }
+
+    /// Hands the next commit to the writer, and says whether it did.
+    fn hand_one(&mut self) -> bool
+        requires { 0 < self.old.unsent }
+        ensures kept { Keeps self.old self.new }
+        ensures handed { MatchBool result (self.new.unsent < self.old.unsent)
+            (HasRefused self.old.refusals self.new.refusals) }
+    {
+        let Some(entry) = next_entry(
+            &mut self.unsent,
+            &mut self.noted,
+            &mut self.log,
+            &mut self.waiting,
+        ) else {
+            return false;
         };
         match self.writer.push(entry) {
             Ok(()) => true,
@@ -104,32 +126,14 @@ impl<P: NotingPen, J: Volumes, W: Press> Locked<P, J, W> {
         }
     }
 
-    /// Notes the first commit that waits, where no entry is left, and says whether it did.
-    fn note(&mut self) -> bool
-        ensures { Keeps self.old self.new }
+    /// Shows readers all that was handed to the writer, and says whether it did.
+    fn show<R: Wait>(&mut self, rt: &R) -> bool
+        ensures kept { Keeps self.old self.new }
+        ensures shown { MatchBool result
+            (self.old.unsent ≡ 0 → self.new.published ≡ self.new.history)
+            (HasRefused self.old.refusals self.new.refusals) }
     {
-        if self.unsent.is_some() || self.waiting.as_slice().is_empty() {
-            return false;
-        }
-        let Some(noted) = self.noted.with_commit(&self.log, &self.waiting[0]) else {
-            return false;
-        };
-        let commit = self.waiting.remove(0);
-        let entry = Entry {
-            commit,
-            count: noted.len(),
-            seen: noted.token(),
-        };
-        keep_entry(&mut self.unsent, entry);
-        self.noted = noted;
-        true
-    }
-
-    /// Shows readers all that was handed to the writer, where there is memory.
-    fn show<R: Wait>(&mut self, rt: &R)
-        ensures { Keeps self.old self.new }
-    {
-        self.writer.show(rt);
+        self.writer.show(rt)
     }
 
     /// Whether all of the history is published.
@@ -145,13 +149,12 @@ impl<P: NotingPen, J: Volumes, W: Press> Locked<P, J, W> {
 
     /// Hands all that waits to the writer, and says whether it did.
     fn hand_over(&mut self) -> bool
-        ensures { Keeps self.old self.new }
+        ensures kept { Keeps self.old self.new }
+        ensures handed { MatchBool result (self.new.unsent ≡ 0)
+            (HasRefused self.old.refusals self.new.refusals) }
     {
-        if !self.send() {
-            return false;
-        }
-        for _ in 0..self.waiting.len() {
-            if !self.note() || !self.send() {
+        while self.has_unsent() {
+            if !self.hand_one() {
                 return false;
             }
         }
@@ -161,7 +164,8 @@ impl<P: NotingPen, J: Volumes, W: Press> Locked<P, J, W> {
     /// Publishes what is pending, as far as there is memory. It waits for readers only where something is
     /// pending.
     fn publish<R: Wait>(&mut self, rt: &R)
-        ensures { Keeps self.old self.new }
+        ensures kept { Keeps self.old self.new }
+        ensures tried { IsTried self.old self.new }
     {
         if self.is_settled() {
             return;
@@ -174,6 +178,7 @@ impl<P: NotingPen, J: Volumes, W: Press> Locked<P, J, W> {
     /// Publishes what is pending, and says whether nothing is pending any more.
     pub(crate) fn settle<R: Wait>(&mut self, rt: &R) -> bool
         ensures sent { Keeps self.old self.new }
+        ensures tried { IsTried self.old self.new }
         ensures settled { MatchBool result (self.new.published ≡ self.new.history)
             (self.new.published ≢ self.new.history) }
     {
@@ -239,9 +244,9 @@ impl<P: NotingPen, J: Volumes, W: Press> Locked<P, J, W> {
         without_answer(self.run_own(Event::Unmount(number)))
     }
 
-    /// Gives back the mount whose commit could not be published. Refused by `Memory` alone.
+    /// Gives back the mount whose commit could not be published, in the pen alone. Refused by `Memory` alone.
     fn give_back(&mut self) -> Result<(), VolError>
-        ensures { Begins self.old result self.new }
+        ensures { LostComesBack self.old result self.new }
     {
         match self.lost {
             None => Ok(()),
@@ -255,13 +260,15 @@ impl<P: NotingPen, J: Volumes, W: Press> Locked<P, J, W> {
         }
     }
 
-    /// Publishes what is pending, and gives back a mount that was lost. Refused by `Memory` alone, where the
+    /// Gives back a mount that was lost, and publishes what is pending. Refused by `Memory` alone, where the
     /// give-back is.
     pub(crate) fn begin<R: Wait>(&mut self, rt: &R) -> Result<(), VolError>
-        ensures { Begins self.old result self.new }
+        ensures begun { Begins self.old result self.new }
+        ensures tried { IsTried self.old self.new }
     {
+        let begun = self.give_back();
         self.settle(rt);
-        self.give_back()
+        begun
     }
 
     /// Applies an event, behind what comes before it, and publishes its commit.
@@ -462,8 +469,10 @@ impl<P: NotingPen, J: Volumes, W: Press> Locked<P, J, W> {
           volume = front.volume;
           published = front.commits;
           history = front.commits;
+          unsent = 0;
           lost = None;
           layout = P.layout pen;
+          refusals = W.refusals writer + log.refusals;
         } }
     {
         Locked {
@@ -477,10 +486,13 @@ impl<P: NotingPen, J: Volumes, W: Press> Locked<P, J, W> {
         }
     }
 
-    /// The pen, from which all mounts are taken out, the writer, and that the volume has ended. It takes no
-    /// memory.
+    /// The pen, from which all mounts are taken out, the writer, which shows what was published, and that the
+    /// volume has ended. It takes no memory.
     pub fn take_apart(self) -> (P, W, Gone)
-        ensures { P.layout result.0 ≡ layout_of (without_mounts self.layout.lists) self.layout.store }
+        ensures pen { P.layout result.0 ≡ layout_of (without_mounts self.layout.lists) self.layout.store }
+        ensures whole { IsWhole (W.shown result.1) }
+        ensures shown { (W.shown result.1).seen.log ≡ self.published }
+        ensures book { (W.shown result.1).seen.book ≡ J.book self.volume }
     {
         let Locked {
             mut pen,

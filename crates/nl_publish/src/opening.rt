@@ -81,17 +81,18 @@ pub fn publish<J: Volumes, R: Wait>(
 fn publish_first<J: Volumes, R: Wait>(
     alloc: Global,
     rt: &R,
-    record: &Record<J>,
+    record: &mut Record<J>,
     front: &mut Front<J>,
     commit: &Commit,
     readers: usize,
 ) -> Result<(Publisher, Vec<Seat<J>>), AllocError>
-    requires volume { record.now.volume ≡ front.old.volume }
+    requires volume { record.old.volume ≡ front.old.volume }
     requires none { front.old.commits ≡ [] }
     requires first { IsHistory (commit.now ∷ []) }
     requires mounts { MountsRise (image_of (commit.now ∷ [])) }
     requires readers { (0 < readers) × (readers < 2 ^ 32) }
     ensures volume { front.new.volume ≡ front.old.volume }
+    ensures own { record.new.volume ≡ record.old.volume }
     ensures first { IfOk result (λ _. front.new.commits ≡ commit.now ∷ []) }
     ensures published { IfOk result (λ made. IsPublished front.new
         (⟦<Publisher as Press>⟧.shown made.0) (⟦<Publisher as Press>⟧.unseen made.0)) }
@@ -128,8 +129,8 @@ impl<P: NotingPen, J: Volumes> Locked<P, J, Publisher> {
         let Ok(commit) = pen.whole() else {
             return Err((VolError::Memory, pen));
         };
-        let (record, mut front) = opened.named::<J>();
-        let made = publish_first(alloc, rt, &record, &mut front, &commit, readers);
+        let (mut record, mut front) = opened.named::<J>();
+        let made = publish_first(alloc, rt, &mut record, &mut front, &commit, readers);
         drop(commit);
         let Ok((writer, seats)) = made else {
             return Err((VolError::Memory, pen));

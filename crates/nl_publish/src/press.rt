@@ -1,5 +1,6 @@
 //! What publishes: entries wait until all of them are shown at once.
 ghost use Rattle.std.specs.Prelude.{◌≡◌, ◌<◌, ◌^◌, ◌++◌, ◌∷◌, [], List, fold, drop, IfOk, MatchBool, MatchResult};
+ghost use Rattle.nl_publish.specs.Refusals.{HasRefused};
 ghost use Rattle.left_right.specs.Sides.{view};
 ghost use Rattle.nl_publish.specs.Images.{AreNext, HasShown, IsWhole, name_of};
 
@@ -10,9 +11,19 @@ use left_right::writer::Writer;
 use std::alloc::{AllocError, Global};
 use std::sync::Wait;
 
-/// What shows images to readers, one entry behind the other.
+/// Counts a refusal: so often, and once more.
+pub fn count_refusal(refusals: u64) -> u64
+    ensures { HasRefused refusals result }
+{
+    if refusals == u64::MAX {
+        return refusals;
+    }
+    refusals + 1
+}
+
+/// What shows images to readers, one entry behind the other. It counts what it refuses.
 pub trait Press {
-    ghost use Rattle.std.specs.Prelude.{List};
+    ghost use Rattle.std.specs.Prelude.{ℕ, List};
     ghost use Rattle.nl_publish.specs.declared.image.Image.{Image};
     ghost use Rattle.nl_publish.specs.declared.image.Entry.{Entry};
 
@@ -22,16 +33,24 @@ pub trait Press {
     /// What they do not see yet.
     ghost unseen: { Self → List Entry };
 
+    /// How often it has refused an entry, or to show any more.
+    ghost refusals: { Self → ℕ };
+
     /// Puts an entry behind the others. It comes back where there is no memory.
     fn push(&mut self, entry: Entry) -> Result<(), Entry>
         ensures shown { shown self.new ≡ shown self.old }
         ensures unseen { MatchResult result (λ _. unseen self.new ≡ unseen self.old ++ entry ∷ [])
-            (λ e. (e ≡ entry) × (unseen self.new ≡ unseen self.old)) };
+            (λ e. (e ≡ entry) × (unseen self.new ≡ unseen self.old)) }
+        ensures counted { MatchResult result (λ _. refusals self.new ≡ refusals self.old)
+            (λ _. HasRefused (refusals self.old) (refusals self.new)) };
 
     /// Shows all of it and answers true, or nothing more for want of memory. It waits for readers.
     fn show<R: Wait>(&mut self, rt: &R) -> bool
         requires { AreNext (shown self.old) (unseen self.old) }
-        ensures { HasShown result (shown self.old) (unseen self.old) (shown self.new) (unseen self.new) };
+        ensures shown { HasShown result
+            (shown self.old) (unseen self.old) (shown self.new) (unseen self.new) }
+        ensures counted { MatchBool result (refusals self.new ≡ refusals self.old)
+            (HasRefused (refusals self.old) (refusals self.new)) };
 
     /// The image that readers see.
     fn image(&self) -> &Image
@@ -54,6 +73,7 @@ fn show_all<R: Wait>(writer: ImageWriter, rt: &R) -> (ImageWriter, bool)
 /// The writer of two copies of the image, of which readers see one.
 pub struct Publisher {
     writer: ImageWriter,
+    refusals: u64,
 }
 
 impl Press for Publisher {
@@ -63,12 +83,24 @@ impl Press for Publisher {
 
     ghost unseen = { λ p. drop p.writer.behind p.writer.log.items };
 
+    ghost refusals = { λ p. p.refusals };
+
     fn push(&mut self, entry: Entry) -> Result<(), Entry> {
-        self.writer.append(entry)
+        match self.writer.append(entry) {
+            Ok(()) => Ok(()),
+            Err(entry) => {
+                self.refusals = count_refusal(self.refusals);
+                Err(entry)
+            }
+        }
     }
 
     fn show<R: Wait>(&mut self, rt: &R) -> bool {
-        replace_with(&mut self.writer, rt, |writer, rt| show_all(writer, rt))
+        if replace_with(&mut self.writer, rt, |writer, rt| show_all(writer, rt)) {
+            return true;
+        }
+        self.refusals = count_refusal(self.refusals);
+        false
     }
 
     fn image(&self) -> &Image {
@@ -79,7 +111,10 @@ impl Press for Publisher {
 impl Publisher {
     /// Readers find nothing from now on.
     pub fn end<R: Wait>(self, rt: &R) {
-        let Publisher { writer } = self;
+        let Publisher {
+            writer,
+            refusals: _,
+        } = self;
         writer.take(rt);
     }
 }
@@ -132,6 +167,9 @@ impl Named {
         ensures { result.writer ≡ self.writer }
     {
         let Named { writer } = self;
-        Publisher { writer }
+        Publisher {
+            writer,
+            refusals: 0,
+        }
     }
 }

@@ -94,7 +94,7 @@ module _ (laws : Laws) (w : World) (old new : Sharing) (reply : Reply) (before :
       → IsDoneBeside w old asked reply new
   ran_same asked (locks.Done backs goes none) same others =
       Came (comes_same laws w old new asked reply before
-      (behind_whole laws w old.held new.held asked reply backs before.means goes) none same others)
+      (behind_whole laws w old.held new.held asked reply backs before.means goes) none.lost same others)
   ran_same asked (locks.NotBegun stuck is) same others =
       Stayed is (stays_stuck laws w old new before same stuck)
 
@@ -134,7 +134,7 @@ module _ (laws : Laws) (w : World) (old new : Sharing) (reply : Reply) (before :
       → new.mounts ≡ mounts_left_by n reply old.mounts → IsDoneBeside w old (Unmount n) reply new
   ran_back n (locks.Done backs goes none) same =
       Came (back_comes n
-      (behind_whole laws w old.held new.held (Unmount n) reply backs before.means goes) none same)
+      (behind_whole laws w old.held new.held (Unmount n) reply backs before.means goes) none.lost same)
   ran_back n (locks.NotBegun stuck is) same =
       Stayed is (stays_stuck laws w old new before
       (same ∙ ap (λ (r : Reply). mounts_left_by n r old.mounts) is) stuck)
@@ -304,12 +304,12 @@ stepped : (laws : Laws) (w : World) (old new : Sharing) (job next : JobView) (re
     → IsBeside w old → CleanRan cleaning_habits old.held job reply new.held next
     → new.mounts ≡ old.mounts → IsSteppedBeside w old job reply new
 stepped laws w old new job next reply before
-    (cleaning.Stepped begun asked answer ready is goes replied now) same =
+    (cleaning.Stepped begun asked answer ready is goes replied now tried) same =
     let behind = behind_ready laws w old.held begun new.held asked answer before.means ready goes.0 in
     Next begun.layout asked answer is replied
     (comes_same laws w old new asked answer before behind (goes.1 ∙ ready.lost) same
     (each_given_none asked (next_gives_none job.stage job begun.layout asked is) old.mounts))
-stepped laws w old new job next reply before (cleaning.Over ready is replied now) same =
+stepped laws w old new job next reply before (cleaning.Over ready is replied now tried) same =
     NoNext (inl replied) (stays_ready laws w old new before same ready)
 stepped laws w old new job next reply before (cleaning.NotBegun stuck replied now) same =
     NoNext (inr replied) (stays_stuck laws w old new before same stuck)

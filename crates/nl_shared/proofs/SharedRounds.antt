@@ -48,7 +48,7 @@ module _ {J : Type 0} (rounds : RoundHabits J) (end : RoundsEnd rounds) where
       → IsPen old.layout → rounds.next round old.layout ≡ Some first
       → CleanRan rounds old round reply new next → IsFewer old round reply new next
   fewer_left old new round next first reply pen there
-      (Stepped begun event answer ready is_next goes replied noted_so) =
+      (Stepped begun event answer ready is_next goes replied noted_so tried) =
       let long = as_long round (state_of old) (state_of begun) old.lost ready.backs pen ready.goes.runs in
       let fewer : rounds.left (rounds.noted round answer) new.layout < rounds.left round begun.layout =
       end.steps begun.layout new.layout round event answer long.pen is_next
@@ -56,7 +56,7 @@ module _ {J : Type 0} (rounds : RoundHabits J) (end : RoundsEnd rounds) where
       subst (λ (r : Option Reply). IsFewer old round r new next) (sym replied)
       (subst (λ (n : ℕ). rounds.left next new.layout < n) long.same
       (subst (λ (j : J). rounds.left j new.layout < rounds.left round begun.layout) (sym noted_so) fewer))
-  fewer_left old new round next first reply pen there (Over ready none replied same) =
+  fewer_left old new round next first reply pen there (Over ready none replied same tried) =
       subst (λ (r : Option Reply). IsFewer old round r new next) (sym replied) tt
   fewer_left old new round next first reply pen there (NotBegun stuck replied noted_so) =
       let same = end.unmounts old.layout new.layout (rounds.noted round (Err Memory)) stuck.number

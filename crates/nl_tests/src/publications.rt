@@ -5,7 +5,9 @@ ghost use Rattle.std.specs.Prelude.{◌≡◌};
 use crate::logs::{NONE_FAILS, Shape};
 use crate::volumes::volume;
 use nl_core::{Commit, Cpstat};
-use nl_publish::{Entry, Gone, Image, Locked, Mount, NotingPen, Opened, Press, Volumes, publish};
+use nl_publish::{
+    Entry, Gone, Image, Locked, Mount, NotingPen, Opened, Press, Volumes, count_refusal, publish,
+};
 use nl_sufile::SegTable;
 use nl_types::{Answer, Ask, CheckpointNumber, Event, Mode, Reply, Segment, VolError};
 use std::alloc::Global;
@@ -45,15 +47,21 @@ impl Refusals {
 struct RefusingPress<W: Press> {
     press: W,
     refusals: Refusals,
+    refused: u64,
 }
 
 impl<W: Press> Press for RefusingPress<W> {
+    ghost use Rattle.std.specs.Prelude.{◌+◌};
+
     ghost shown = { λ p. W.shown p.press };
 
     ghost unseen = { λ p. W.unseen p.press };
 
+    ghost refusals = { λ p. W.refusals p.press + p.refused };
+
     fn push(&mut self, entry: Entry) -> Result<(), Entry> {
         if self.refusals.come_next() {
+            self.refused = count_refusal(self.refused);
             return Err(entry);
         }
         self.press.push(entry)
@@ -61,6 +69,7 @@ impl<W: Press> Press for RefusingPress<W> {
 
     fn show<R: Wait>(&mut self, rt: &R) -> bool {
         if self.refusals.come_next() {
+            self.refused = count_refusal(self.refused);
             return false;
         }
         self.press.show(rt)
@@ -337,20 +346,25 @@ fn unwanted<J: Volumes, R: Wait>(
         refusals: Refusals::new(give_backs),
     };
     let commit = pen.whole()?;
-    let (record, mut front) = opened.named::<J>();
-    if !front.add(&record, &commit) {
+    let (mut record, mut front) = opened.named::<J>();
+    if !front.add(&mut record, &commit) {
         return Err(VolError::Memory);
     }
     let (press, _seats) = publish(alloc, rt, &commit, &front, 1)?;
     let press = RefusingPress {
         press,
         refusals: Refusals::new(calls),
+        refused: 0,
     };
     let mut locked = Locked::begun(alloc, pen, record, front, press);
     let (unwanted, held) = first_unwanted(rt, &mut locked, steps);
     let (_pen, press, gone) = locked.take_apart();
     spend(held, &gone);
-    let RefusingPress { press, refusals: _ } = press;
+    let RefusingPress {
+        press,
+        refusals: _,
+        refused: _,
+    } = press;
     press.end(rt);
     Ok(unwanted)
 }

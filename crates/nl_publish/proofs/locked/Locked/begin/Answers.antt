@@ -1,7 +1,13 @@
-use Rattle.nl_publish.proofs.Running.{begins_behind}
+use Rattle.nl_publish.proofs.Running.{back_counts, begins_then, tried_on}
 use Rattle.nl_publish.proofs.locked.Locked.begin.Goals as goal
 
-pub returns : goal.returns
-returns g c =
-    begins_behind c.args.self.now c.settle.new.self c.give_back.new.self c.give_back.result
-    c.settle.ensures.sent c.give_back.ensures
+pub returns-clause-begun : goal.returns-clause-begun
+returns-clause-begun g c =
+    begins_then c.args.self.now c.give_back-begun.new.self c.settle.new.self c.give_back-begun.result
+    c.give_back-begun.ensures c.settle.ensures.sent c.settle.ensures.tried
+
+pub returns-clause-tried : goal.returns-clause-tried
+returns-clause-tried g c =
+    tried_on c.args.self.now c.give_back-begun.new.self c.settle.new.self
+    (back_counts c.args.self.now c.give_back-begun.new.self c.give_back-begun.result c.give_back-begun.ensures)
+    c.settle.ensures.tried

@@ -5,9 +5,10 @@ use Rattle.nl_publish.proofs.Running.{ran}
 use Rattle.nl_publish.proofs.locked.Locked.do_event.Goals as goal
 
 pub returns-in-Err : goal.returns-in-Err
-returns-in-Err g c = NotBegun c.in-Err.ensures.1 (ap (λ (e : VolError). Err e) c.in-Err.ensures.0)
+returns-in-Err g c = NotBegun c.in-Err.ensures.begun.1 (ap (λ (e : VolError). Err e) c.in-Err.ensures.begun.0)
 
 pub returns : goal.returns
 returns g c =
     ran c.args.self.now c.begin.new.self c.run-reply.new.self c.settle.new.self c.args.event.now
-    c.run-reply.result c.in_default.ensures c.run-reply.ensures c.settle.ensures.sent
+    c.run-reply.result c.in_default.ensures.begun c.run-reply.ensures c.settle.ensures.sent
+    c.settle.ensures.tried

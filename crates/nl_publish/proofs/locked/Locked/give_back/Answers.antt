@@ -18,8 +18,10 @@ returns-in-Ok g c =
       volume = h.volume;
       published = h.published;
       history = h.history;
+      unsent = h.unsent;
       lost = None;
       layout = h.layout;
+      refusals = h.refusals;
     }))
     (sym c.self-in-Some.view_is)
     (gave old c.run_unmount.new.self c.in-Some.number c.in-Ok.ensures.0 was c.in-Ok.ensures.1)

@@ -1,4 +1,4 @@
-use Rattle.std.proofs.Common.{subst, ◌++◌}
+use Rattle.std.proofs.Common.{◌+◌, ◌++◌, length, subst}
 use Rattle.nl_publish.specs.Locks.{IsTold, listed}
 use Rattle.nl_publish.proofs.Holding.{told}
 use Rattle.nl_publish.proofs.locked.Locked.is_told.Goals as goal
@@ -9,4 +9,5 @@ returns g c =
     subst IsTold c.self.view_is
     (told g.J.Volumes.book s.log.volume (w.shown s.writer)
     (w.unseen s.writer ++ listed s.unsent) s.noted s.waiting.items
-    (g.P.NotingPen.layout s.pen) s.noted.volume s.lost c.self.invariant)
+    (g.P.NotingPen.layout s.pen) s.noted.volume (length (listed s.unsent) + length s.waiting.items)
+    (w.refusals s.writer + s.log.refusals) s.lost c.self.invariant)

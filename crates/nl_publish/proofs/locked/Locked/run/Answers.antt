@@ -1,6 +1,7 @@
-use Rattle.std.proofs.Common.{refl, subst, ◌++◌}
+use Rattle.std.proofs.Common.{◌+◌, ◌++◌, arith, refl, subst}
 use Rattle.nl_publish.specs.Locks.{GoesBy, HeldPen, listed, state_of}
 use Rattle.nl_publish.proofs.Fronts.{prefix_self}
+use Rattle.nl_publish.proofs.Handing.{held_view}
 use Rattle.nl_publish.proofs.Holding.{runs, noted_of}
 use Rattle.nl_publish.proofs.locked.Locked.run.Goals as goal
 
@@ -15,13 +16,9 @@ invariant_of-self g c =
 pub returns : goal.returns
 returns g c =
     let s = c.self.inside in let w = g.W.Press in let layout = g.P.NotingPen.layout in
-    let new : HeldPen = record {
-      volume = s.noted.volume;
-      published = (w.shown s.writer).seen.log;
-      history = s.noted.commits ++ c.apply_noting.new.notes.items;
-      lost = s.lost;
-      layout = layout c.apply_noting.new.self;
-    } in
+    let new : HeldPen =
+    held_view (w.shown s.writer) s.noted s.unsent c.apply_noting.new.notes.items s.lost
+    (layout c.apply_noting.new.self) (w.refusals s.writer + s.log.refusals) in
     let step =
     noted_of s.noted.commits s.waiting.items c.apply_noting.new.notes.items (layout s.pen)
     (layout c.apply_noting.new.self) c.args.event.now c.apply_noting.result c.apply_noting.ensures in
@@ -30,6 +27,7 @@ returns g c =
         volume = refl;
         runs = (state_of new, step, refl);
         later = prefix_self (w.shown s.writer).seen.log;
+        counts = omega arith;
       },
       refl,
     )
