@@ -14,6 +14,8 @@ mod gates;
 #[cfg(test)]
 mod many_reads;
 #[cfg(test)]
+mod one_image;
+#[cfg(test)]
 mod ports;
 #[cfg(test)]
 mod seats;

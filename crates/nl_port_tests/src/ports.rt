@@ -1,6 +1,6 @@
 //! Calls of a port, each with what is due. They promise nothing, as those of `volume`.
 
-use nl_mounts::{Port, Standing};
+use nl_mounts::{Enters, Port, Standing};
 use nl_publish::{Mount, Volumes};
 use nl_types::{Stat, VolError};
 use std::alloc::Global;
@@ -33,8 +33,8 @@ pub(crate) fn warms<J: Volumes>(
     port.warm(mount, path, offset, len) == due
 }
 
-pub(crate) fn reads<J: Volumes>(
-    port: &mut Port<J>,
+pub(crate) fn reads<J: Volumes, E: Enters>(
+    port: &mut Port<J, E>,
     mount: &Mount<J>,
     path: &[u8],
     offset: u64,
@@ -44,8 +44,8 @@ pub(crate) fn reads<J: Volumes>(
     port.read_into(mount, path, offset, into) == due
 }
 
-pub(crate) fn has_stat<J: Volumes>(
-    port: &mut Port<J>,
+pub(crate) fn has_stat<J: Volumes, E: Enters>(
+    port: &mut Port<J, E>,
     mount: &Mount<J>,
     path: &[u8],
     due: Result<Stat, VolError>,
@@ -53,7 +53,11 @@ pub(crate) fn has_stat<J: Volumes>(
     port.stat(mount, path) == due
 }
 
-pub(crate) fn stands_as<J: Volumes>(port: &mut Port<J>, mount: &Mount<J>, due: Standing) -> bool {
+pub(crate) fn stands_as<J: Volumes, E: Enters>(
+    port: &mut Port<J, E>,
+    mount: &Mount<J>,
+    due: Standing,
+) -> bool {
     port.standing(mount) == due
 }
 

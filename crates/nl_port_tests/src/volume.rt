@@ -185,6 +185,31 @@ pub(crate) fn makes_checkpoint<J: Volumes, R: Wait>(
     number_made(&shared.apply(rt, &Event::Checkpoint { mode, moment }))
 }
 
+/// Writes a byte so many times into a file, and makes a snapshot behind that. The port is told of both.
+pub(crate) fn keeps_told<J: Volumes, R: Wait>(
+    rt: &R,
+    alloc: Global,
+    shared: &Volume<J>,
+    port: &mut Port<J>,
+    file: File,
+) -> Result<u64, VolError> {
+    let (path, byte, size) = file;
+    let event = put(alloc, path, 0, byte, size)?;
+    if is_mount_event(&event) {
+        return Err(VolError::BadMount);
+    }
+    outcome(&shared.apply_told(rt, port, &event).reply)?;
+    let snapshot = Event::Checkpoint {
+        mode: Mode::Snapshot,
+        moment: 0,
+    };
+    let told = shared.apply_told(rt, port, &snapshot);
+    if !told.is_told {
+        return Err(VolError::Memory);
+    }
+    Ok(number_made(&told.reply))
+}
+
 /// Mounts the checkpoint of a number.
 pub(crate) fn mounts<J: Volumes, R: Wait>(
     rt: &R,
