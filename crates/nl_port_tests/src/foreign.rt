@@ -1,26 +1,15 @@
 //! Volumes that know no mounts of one another, and numbers of ports that no volume has.
 ghost use Rattle.std.specs.Prelude.{◌≡◌};
 
-use crate::ports::{all_hold, has_stat, learns, stands_as};
+use crate::ports::has_stat;
 use crate::volume::{Volume, ends, mounts, new_pen, shared_among, unmounts};
-use nl_mounts::{Port, Standing, share};
+use nl_mounts::{Port, share};
 use nl_publish::{Mount, Opened, Volumes};
 use nl_types::{Stat, VolError};
 use std::alloc::Global;
 use std::marker::Brand;
 use std::sync::Wait;
 use std::test::Fail;
-
-/// Whether a volume refuses to mount for another one's port.
-fn refuses_port<J: Volumes, R: Wait>(rt: &R, other: &Volume<J>, port: &mut Port<J>) -> bool {
-    match mounts(rt, other, port, 2) {
-        Err(refusal) => refusal == VolError::BadMount,
-        Ok(mount) => {
-            let _given_back = unmounts(rt, other, mount);
-            false
-        }
-    }
-}
 
 /// Whether a volume refuses another one's mount, which goes back to its own.
 fn refuses_mount<J: Volumes, R: Wait>(
@@ -34,35 +23,6 @@ fn refuses_mount<J: Volumes, R: Wait>(
         Err((refusal, refused)) => {
             unmounts(rt, one, refused.again())?;
             Ok(refusal == VolError::BadMount)
-        }
-    }
-}
-
-/// Whether a port finds nothing in another volume's mount, in which that volume's own port finds the file.
-fn is_unread<J: Volumes>(port: &mut Port<J>, others: &mut Port<J>, mount: &Mount<J>) -> bool {
-    learns(others, mount);
-    let unread = has_stat(others, mount, b"/one", Err(VolError::BadMount));
-    let read = has_stat(port, mount, b"/one", Ok(Stat::File(1)));
-    let stands = stands_as(port, mount, Standing::Mounted);
-    let is_foreign = stands_as(others, mount, Standing::Foreign);
-    all_hold(&[unread, read, stands, is_foreign])
-}
-
-/// Whether a mount of one volume is refused by another one and its port.
-fn is_foreign<J: Volumes, R: Wait>(
-    rt: &R,
-    one: &Volume<J>,
-    port: &mut Port<J>,
-    other: &Volume<J>,
-    others: &mut Port<J>,
-) -> Result<bool, VolError> {
-    match mounts(rt, one, port, 2) {
-        Err(refusal) => Err(refusal),
-        Ok(mount) => {
-            let unread = is_unread(port, others, &mount);
-            let unmounted = refuses_port(rt, other, port);
-            let refused = refuses_mount(rt, one, other, mount)?;
-            Ok(unread && unmounted && refused)
         }
     }
 }
@@ -84,7 +44,8 @@ fn keeps_own<J: Volumes, R: Wait>(
     Ok(refused? && has_its_number && read)
 }
 
-/// Whether a mount of one volume, handed to another one, leaves that one's own mount of the same number.
+/// Whether a mount of one volume, handed to another one, leaves that one's own mount of the same number. Neither
+/// has given a number yet, so their first mounts have the same one.
 fn leaves_own<J: Volumes, R: Wait>(
     rt: &R,
     one: &Volume<J>,
@@ -105,18 +66,6 @@ fn leaves_own<J: Volumes, R: Wait>(
     }
 }
 
-/// Whether two volumes know no mounts of one another, whether one of them has mounts or both.
-fn keep_apart<J: Volumes, R: Wait>(
-    rt: &R,
-    one: &Volume<J>,
-    port: &mut Port<J>,
-    other: &Volume<J>,
-    others: &mut Port<J>,
-) -> Result<bool, VolError> {
-    // Neither has given a number yet, so their first mounts have the same one.
-    Ok(leaves_own(rt, one, port, other, others)? && is_foreign(rt, one, port, other, others)?)
-}
-
 fn are_foreign_with<J: Volumes, R: Wait>(
     rt: &R,
     alloc: Global,
@@ -128,7 +77,7 @@ fn are_foreign_with<J: Volumes, R: Wait>(
 {
     let (other, mut others) = shared_among::<J, _>(rt, alloc, 1, opened)?;
     let good = match others.first_mut() {
-        Some(others) => keep_apart(rt, one, port, &other, others),
+        Some(others) => leaves_own(rt, one, port, &other, others),
         None => Ok(false),
     };
     let ended = ends(rt, other);
