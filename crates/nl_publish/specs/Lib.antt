@@ -11,4 +11,5 @@ pub mod Mounts
 pub mod Returns
 pub mod Told
 pub mod Cached
+pub mod KeptHoldings
 pub mod Facts

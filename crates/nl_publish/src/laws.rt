@@ -1,5 +1,6 @@
 //! What published histories and runs under the lock mean, as contracts of functions that do nothing.
 ghost use Rattle.nl_publish.specs.Cached.{CachedPagesStay};
+ghost use Rattle.nl_publish.specs.KeptHoldings.{KeptHoldingsStay, MountsHold};
 ghost use Rattle.nl_publish.specs.Told.{HistoriesShowImages, KeptTreesStay, LockedRunsLeadOn, MountsBegin, MountsStay, PublishedWorldsAreShown};
 
 /// In each image every kept checkpoint means a tree, and each mount is of a kept snapshot.
@@ -20,6 +21,13 @@ pub fn mounts_begin()
 /// A checkpoint that is still kept in a history that goes on has the trees that it had.
 pub fn kept_trees_stay()
     ensures { KeptTreesStay }
+{}
+
+/// A checkpoint that is still kept in a history that goes on holds what it held, and a mount's checkpoint held
+/// something when the mount was told.
+pub fn kept_holdings_stay()
+    ensures stay { KeptHoldingsStay }
+    ensures mounts { MountsHold }
 {}
 
 /// Where all of the history is published, readers see each copy of each world that the pen means.

@@ -342,6 +342,13 @@ impl Tables {
         self.checkpoints.kept(number)
     }
 
+    /// The kept checkpoints.
+    pub fn checkpoints(&self) -> &Checkpoints
+        ensures { result.now.table ≡ self.now.table }
+    {
+        &self.checkpoints
+    }
+
     /// The checkpoint that a mount shows.
     pub fn mounted(&self, number: MountNumber) -> Option<CheckpointNumber>
         ensures { result ≡ mounted_on self.now number }

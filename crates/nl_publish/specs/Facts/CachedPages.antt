@@ -6,7 +6,6 @@ use Rattle.std.specs.Ordering.{nat_cmp, eq_by_cmp}
 use Rattle.std.proofs.lemmas.Bool.{cases_Bool, cond-false, cond-true, eqb-true, ne_eqb}
 use mathlib.Core.List.{IsPrefix}
 use Rattle.nl_types.specs.declared.event.Mode.{Mode}
-use Rattle.nl_types.specs.Roots.{Root}
 use Rattle.nl_types.specs.Trees.{Tree}
 use Rattle.nl_layout.specs.Root.{root_of}
 use Rattle.nl_layout.specs.declared.root.Root.{Root as RootBlock}
@@ -16,7 +15,7 @@ use Rattle.nl_files.specs.CheckpointTrees.{HoldsTree}
 use Rattle.nl_files.specs.Staying.{AgreeAtCheckpoint}
 use Rattle.nl_files.specs.Facts.Holdings.{roots-hold_one}
 use Rattle.nl_files.specs.Facts.Staying.{checkpoints-stay}
-use Rattle.nl_cpfile.specs.Tables.{IsRising, Precedes, Table, all, is_kept_without, kept_at, moded, range_in, checkpoint_root}
+use Rattle.nl_cpfile.specs.Tables.{IsRising, Precedes, all, is_kept_without, kept_at, moded, range_in, checkpoint_root}
 use Rattle.nl_cpfile.specs.declared.checkpoint.Checkpoint.{Checkpoint}
 use Rattle.nl_cpfile.specs.Facts.Found.{eq_by_cmp-nat_cmp, found, found-push}
 use Rattle.nl_cpfile.specs.Facts.Rising.{All-last}
@@ -127,26 +126,25 @@ behind x (Resized segments blocks) n given next = record { latest = omega arith;
 
 -- ---- one commit
 
-module _ (n inode index : ℕ) (page : List ℕ) where
-  -- an image has the page, where it keeps the checkpoint
-  record Shows (x : Shown) : Type 0 where
-    given : n ≤ x.table.latest.number
-    block : (c : Checkpoint) (held : Holding) → kept_at n x.table ≡ Some c
-        → HoldsTree (pages_shown x) (root_of (checkpoint_root c)) held
-        → held_block (held inode) index ≡ Some page
+module _ (n : ℕ) (P : Holding → Type 0) where
+  -- P is true of what the checkpoint holds in an image, where that keeps it
+  pub record Shows (x : Shown) : Type 0 where
+    pub given : n ≤ x.table.latest.number
+    pub held : (c : Checkpoint) (held : Holding) → kept_at n x.table ≡ Some c
+        → HoldsTree (pages_shown x) (root_of (checkpoint_root c)) held → P held
 
   step : (x : Shown) (c : Commit) → IsImage x → IsNext x c → Shows x → Shows (applied x c)
   step x c image next shows =
       let at = behind x c n shows.given next in
       record {
         given = let given = shows.given in let more = at.latest in omega (arith, given, more);
-        block = λ d held is holds. block d held is holds (at.kept d is);
+        held = λ d held is holds. held_on d held is holds (at.kept d is);
       }
     where
-      block : (d : Checkpoint) (held : Holding) → kept_at n (applied x c).table ≡ Some d
+      held_on : (d : Checkpoint) (held : Holding) → kept_at n (applied x c).table ≡ Some d
           → HoldsTree (pages_shown (applied x c)) (root_of (checkpoint_root d)) held
-          → WasFound n (all x.table) → held_block (held inode) index ≡ Some page
-      block d held is holds (e, was) =
+          → WasFound n (all x.table) → P held
+      held_on d held is holds (e, was) =
           let pages = pages_shown x in
           let more = pages_shown (applied x c) in
           let keeps = next.keeps n e d was is in
@@ -160,8 +158,7 @@ module _ (n inode index : ℕ) (page : List ℕ) where
           let one : held ≡ tree.means.held =
           roots-hold_one more root held tree.means.held stores
           (stay.stores tree.means.held tree.means.holds.stores) in
-          ap (λ (h : Holding). held_block (h inode) index) one
-          ∙ shows.block e tree.means.held was tree.means.holds
+          subst P (sym one) (shows.held e tree.means.held was tree.means.holds)
 
   -- ---- all that come
 
@@ -171,21 +168,29 @@ module _ (n inode index : ℕ) (page : List ℕ) where
   steps x (c ∷ more) image next shows =
       steps (applied x c) more next.0.image next.1 (step x c image next.0 shows)
 
+  pub shows_on : (log later : List Commit) → IsHistory log → IsHistory later → IsPrefix log later
+      → Shows (image_of log) → Shows (image_of later)
+  shows_on log later began history prefix shows =
+      let whole : IsHistory (log ++ prefix.0) = subst IsHistory (sym prefix.1) history in
+      let after =
+      steps (image_of log) prefix.0 (history_image log began) (rest_of log prefix.0 whole began) shows in
+      let at : fold applied (image_of log) prefix.0 ≡ image_of later =
+      sym (fold-grows nothing log prefix.0) ∙ ap image_of prefix.1 in
+      subst Shows at after
+
+module _ (n inode index : ℕ) (page : List ℕ) where
+  abbrev HasBlock : Holding → Type 0
+  HasBlock held = held_block (held inode) index ≡ Some page
+
   page_stays : (log later : List Commit) → IsHistory later → IsPrefix log later
       → IsCachedPage log n inode index page → IsCachedPage later n inode index page
   page_stays log later history prefix cached =
-      let whole : IsHistory (log ++ prefix.0) = subst IsHistory (sym prefix.1) history in
-      let shows : Shows (image_of log) = record { given = cached.given; block = cached.block } in
-      let after =
-      steps (image_of log) prefix.0 (history_image log cached.history)
-      (rest_of log prefix.0 whole cached.history) shows in
-      let at : fold applied (image_of log) prefix.0 ≡ image_of later =
-      sym (fold-grows nothing log prefix.0) ∙ ap image_of prefix.1 in
-      let now = subst Shows at after in
-      record { history = history; given = now.given; block = now.block }
+      let shows : Shows n HasBlock (image_of log) = record { given = cached.given; held = cached.block } in
+      let now = shows_on n HasBlock log later cached.history history prefix shows in
+      record { history = history; given = now.given; block = now.held }
 
 -- what goes on from a history is one
-begun_on : (log later : List Commit) → IsBegun later → IsPrefix log later → IsHistory log → IsHistory later
+pub begun_on : (log later : List Commit) → IsBegun later → IsPrefix log later → IsHistory log → IsHistory later
 begun_on [] later begun prefix history = absurd history
 begun_on (c ∷ log) [] begun prefix history = absurd (cc (prefix.1))
 begun_on (c ∷ log) (d ∷ later) begun prefix history = begun
