@@ -9,3 +9,4 @@ pub mod PortReaders
 pub mod FirstSeen
 pub mod MountStandings
 pub mod ToldCopies
+pub mod Visiting

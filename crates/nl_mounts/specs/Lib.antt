@@ -4,3 +4,4 @@ pub mod Ports
 pub mod Standings
 pub mod Sharing
 pub mod InOrder
+pub mod Visiting

@@ -12,6 +12,7 @@ mod many;
 mod port;
 mod shared;
 mod standing;
+mod visits;
 
 pub use enters::Enters;
 pub use many::read_many;

@@ -45,7 +45,7 @@ fn tree_from<J: Volumes>(image: &Image, front: &Front<J>, mount: &Mount<J>) -> O
 }
 
 /// The history that made an image, where the image is as new as what was seen.
-fn front_at<J: Volumes>(image: &Image, seen: &Front<J>) -> Option<Front<J>>
+pub(crate) fn front_at<J: Volumes>(image: &Image, seen: &Front<J>) -> Option<Front<J>>
     requires whole { IsWhole image.now }
     requires book { image.now.seen.book ≡ J.book seen.now.volume }
     ensures later { IfSome result (λ front. IsLater seen.now front) }

@@ -8,12 +8,13 @@ ghost use Rattle.nl_publish.specs.Images.{name_of};
 ghost use Rattle.nl_mounts.specs.Caching.{AreCachedPages, IsCacheRefused, IsCacheSize};
 ghost use Rattle.nl_lanes.specs.Reading.{HasLearned, IsBytesOf, IsLater, Looked, Told};
 ghost use Rattle.nl_mounts.specs.Ports.{Finds, IsCacheOf, IsListOf, IsNotRead, IsOfTree, IsReadOf, IsSeenOn, IsStatOf, IsUngiven, Learns, Misses, OfMountFile, OfTreeFile, PutsOfTree, TouchesIfAny, WarmsIfAny, fresh, joined, seeing, taken, vacant};
+ghost use Rattle.nl_mounts.specs.Visiting.{HasEntered};
 ghost use Rattle.nl_mounts.specs.Warming.{IsWarmingOf, Warms};
 
 use crate::cache::{Cache, new_cache};
 use crate::cached_reads::{read_cached, warm};
 use crate::enters::Enters;
-use crate::looks::{Look, MountedTree, find};
+use crate::looks::{Look, MountedTree, find, front_at};
 use nl_files::ReadTree;
 use nl_publish::{Front, Image, ImageReader, Mount, Seat, Volumes};
 use nl_tree::{list, read, read_into, stat};
@@ -305,6 +306,38 @@ impl<J: Volumes, E: Enters> Port<J, E> {
         }
     }
 
+    /// Enters the image that is published. Until the look comes back, the port has no reader. Refused by
+    /// `BadMount` where no image is given that is as new as what was seen.
+    pub(crate) fn visit(&mut self) -> Result<Look<J, E>, VolError>
+        ensures same { OnErr result (self.new ≡ self.old) }
+        ensures refused { IfErr result (λ e. e ≡ VolError.BadMount) }
+        ensures ungiven { OnErr result (IsUngiven E.gives self.old.known self.old.seated) }
+        ensures seated { OnOk result (self.old.seated ≡ true) }
+        ensures out { OnOk result (self.new ≡ vacant self.old) }
+        ensures enters { IfOk result (λ look. HasEntered self.old.known look.front look.shown) }
+    {
+        let Some(reader) = self.reader.take() else {
+            return Err(VolError::BadMount);
+        };
+        match reader.enter() {
+            Err(reader) => {
+                self.reader = Some(reader);
+                Err(VolError::BadMount)
+            }
+            Ok(inside) => match front_at(E::image(&inside), &self.front) {
+                None => {
+                    self.reader = Some(E::leave(inside));
+                    Err(VolError::BadMount)
+                }
+                Some(front) => Ok(Look {
+                    inside,
+                    front,
+                    tree: None,
+                }),
+            },
+        }
+    }
+
     /// The reader is back, and what it found is seen. Pages that are kept are right there too.
     pub(crate) fn come_back(&mut self, look: Look<J, E>)
         requires { IsSeenOn self.old.known look.front }
@@ -354,7 +387,9 @@ impl<J: Volumes, E: Enters> Port<J, E> {
 
     /// Reads the bytes of the file at a path of the mount's tree, as `nl_tree::read_into` does. Where the
     /// port keeps pages, it looks for the file's there, and brings those of the bytes that it answers to the
-    /// front, ascending; it puts none. It takes no memory, and never waits. Refused by `BadMount` where the
+    /// front, ascending; it puts none. It takes no memory, and never waits. All bytes are read in one state,
+    /// and no other one is published until they are: so a large read holds up publications, and with them
+    /// each call that changes the volume. `FileAt::read_parts` doesn't. Refused by `BadMount` where the
     /// state that it enters lacks the mount, where it is given none or one that is older than what it has
     /// seen, and where the mount is another volume's; the path isn't looked at then.
     pub fn read_into(
