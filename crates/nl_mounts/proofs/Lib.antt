@@ -10,3 +10,5 @@ pub mod FirstSeen
 pub mod MountStandings
 pub mod ToldCopies
 pub mod Visiting
+pub mod OpenFiles
+pub mod FileParts

@@ -103,6 +103,7 @@ module _ (m : Claim) (old new : Known) (i : Image) (images : HistoriesShowImages
       λ t tree. means_root i.tables n c t kept_was (subst (λ (x : Shown). TreeOn x n t) (sym shown) tree) in
       record {
         volume = volume;
+        made = made;
         shown = shown;
         mounted = mounted;
         is_own = (stay m new.commits n claim history made mounted).checkpoint;

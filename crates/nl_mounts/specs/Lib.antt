@@ -5,3 +5,4 @@ pub mod Standings
 pub mod Sharing
 pub mod InOrder
 pub mod Visiting
+pub mod OpenFiles

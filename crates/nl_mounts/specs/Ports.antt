@@ -131,6 +131,7 @@ mounted_tree x m = option_and_then (λ n. option_map (tree_of n) (kept_at n x.ta
 -- means the tree that this had when the mount was told.
 pub record IsMountTree (m : Claim) (old new : Known) (x : Shown) (tree : MountedTree) : Type 0 where
   pub volume : m.told.volume ≡ old.volume
+  pub made : IsPrefix m.told.commits new.commits
   pub shown : x ≡ image_of new.commits
   pub mounted : mounted_on (image_of new.commits) m.number ≡ Some tree.checkpoint
   pub is_own : tree.checkpoint ≡ m.checkpoint

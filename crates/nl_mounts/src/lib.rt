@@ -7,6 +7,7 @@ mod cached_reads;
 mod enters;
 mod file_read;
 pub mod laws;
+mod files;
 mod looks;
 mod many;
 mod port;
@@ -15,6 +16,7 @@ mod standing;
 mod visits;
 
 pub use enters::Enters;
+pub use files::{FileAt, PartsRead};
 pub use many::read_many;
 pub use nl_lanes::{Gate, JobAnswer, ReadJob};
 pub use nl_publish::is_mount_event;
