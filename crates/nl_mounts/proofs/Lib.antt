@@ -11,4 +11,5 @@ pub mod MountStandings
 pub mod ToldCopies
 pub mod Visiting
 pub mod OpenFiles
+pub mod Replies
 pub mod FileParts

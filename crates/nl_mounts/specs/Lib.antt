@@ -6,3 +6,4 @@ pub mod Sharing
 pub mod InOrder
 pub mod Visiting
 pub mod OpenFiles
+pub mod TypedCalls

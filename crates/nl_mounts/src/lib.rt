@@ -4,10 +4,11 @@
 
 mod cache;
 mod cached_reads;
+mod calls;
 mod enters;
 mod file_read;
-pub mod laws;
 mod files;
+pub mod laws;
 mod looks;
 mod many;
 mod port;
@@ -18,8 +19,15 @@ mod visits;
 pub use enters::Enters;
 pub use files::{FileAt, PartsRead};
 pub use many::read_many;
+pub use nl_cpfile::Cpstat;
 pub use nl_lanes::{Gate, JobAnswer, ReadJob};
-pub use nl_publish::is_mount_event;
+pub use nl_protect::{Amount, Config};
+pub use nl_publish::{Gone, Mount, Opened, RefusedMount, Volumes, is_mount_event};
+pub use nl_sufile::Sustat;
+pub use nl_types::{
+    Answer, Ask, Change, CheckpointNumber, Event, Geometry, Items, ListOptions, Mode, Named, Range,
+    Reply, Row, Segment, SegmentInfo, Stat, VolError,
+};
 pub use port::Port;
 pub use shared::{Shared, ToldReply, seat_all, share, spend_all};
 pub use standing::Standing;

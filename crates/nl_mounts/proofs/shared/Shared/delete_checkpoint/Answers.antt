@@ -1,0 +1,5 @@
+use Rattle.nl_mounts.proofs.Replies.{has_done}
+use Rattle.nl_mounts.proofs.shared.Shared.delete_checkpoint.Goals as goal
+
+pub returns : goal.returns
+returns g c = has_done _ c.apply.result c.done.result c.apply.ensures c.done.ensures

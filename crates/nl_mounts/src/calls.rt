@@ -1,0 +1,334 @@
+//! Calls of a shared volume, one for each event that a program asks for, with an answer of its own.
+ghost use Rattle.std.specs.Prelude.{◌≡◌, Ok, Err, IfOk, MatchResult};
+ghost use Rattle.nl_types.specs.declared.event.Change.TheVariants as change;
+ghost use Rattle.nl_types.specs.declared.event.Event.TheVariants.{Apply, ChangeMode, Checkpoint, Listing, Remove, RemoveRange, Resize};
+ghost use Rattle.nl_types.specs.declared.event.Mode.TheVariants.{Plain, Snapshot};
+ghost use Rattle.nl_types.specs.declared.reply.Answer.{Answer};
+ghost use Rattle.nl_types.specs.declared.reply.Answer.TheVariants as answer;
+ghost use Rattle.nl_mounts.specs.TypedCalls.{HasAnswered, HasDone, IsReplyWith, UnlessMemory, change_at};
+
+use crate::shared::Shared;
+use nl_publish::laws::locked_runs_lead_on;
+use nl_publish::{NotingPen, Press, Volumes};
+use nl_types::{
+    Answer, Change, CheckpointNumber, Event, Items, ListOptions, Mode, Range, Reply, Row, VolError,
+};
+use std::alloc::{AllocError, Global};
+use std::sync::Wait;
+
+/// A change of what stands at one path.
+#[derive(Clone, Copy)]
+pub enum PathCall {
+    Create,
+    Mkdir,
+    Truncate(u64),
+    Unlink,
+    Rmdir,
+}
+
+impl PathCall {
+    fn change(self, path: Items<u8>) -> Change
+        ensures { result ≡ change_at self path }
+    {
+        match self {
+            PathCall::Create => Change::Create { path },
+            PathCall::Mkdir => Change::Mkdir { path },
+            PathCall::Truncate(size) => Change::Truncate { path, size },
+            PathCall::Unlink => Change::Unlink { path },
+            PathCall::Rmdir => Change::Rmdir { path },
+        }
+    }
+}
+
+/// Copies of two lists of bytes.
+fn copies(alloc: Global, first: &[u8], second: &[u8]) -> Result<(Items<u8>, Items<u8>), AllocError>
+    ensures first { IfOk result (λ copied. copied.0 ≡ first.now) }
+    ensures second { IfOk result (λ copied. copied.1 ≡ second.now) }
+{
+    let first = Items::from_slice(alloc, first)?;
+    let second = Items::from_slice(alloc, second)?;
+    Ok((first, second))
+}
+
+// ---- answers, taken out of replies
+
+/// Whether an event was done, without its answer.
+fn done(reply: Reply) -> Result<(), VolError>
+    ensures { MatchResult result (λ _. (a : Answer) × (reply ≡ Ok a)) (λ e. reply ≡ Err e) }
+{
+    reply?;
+    Ok(())
+}
+
+fn written(reply: Reply) -> Result<u64, VolError>
+    requires { IsReplyWith answer.Written reply }
+    ensures { MatchResult result (λ count. reply ≡ Ok (answer.Written count)) (λ e. reply ≡ Err e) }
+{
+    match reply? {
+        Answer::Written(count) => Ok(count),
+        _ => unreachable!(),
+    }
+}
+
+fn checkpoint_made(reply: Reply) -> Result<CheckpointNumber, VolError>
+    requires { IsReplyWith answer.Checkpoint reply }
+    ensures { MatchResult result (λ number. reply ≡ Ok (answer.Checkpoint number)) (λ e. reply ≡ Err e) }
+{
+    match reply? {
+        Answer::Checkpoint(number) => Ok(number),
+        _ => unreachable!(),
+    }
+}
+
+fn range_removed(reply: Reply) -> Result<Range, VolError>
+    requires { IsReplyWith answer.Removed reply }
+    ensures { MatchResult result (λ range. reply ≡ Ok (answer.Removed range)) (λ e. reply ≡ Err e) }
+{
+    match reply? {
+        Answer::Removed(range) => Ok(range),
+        _ => unreachable!(),
+    }
+}
+
+fn rows_listed(reply: Reply) -> Result<Items<Row>, VolError>
+    requires { IsReplyWith answer.Rows reply }
+    ensures { MatchResult result (λ rows. reply ≡ Ok (answer.Rows rows)) (λ e. reply ≡ Err e) }
+{
+    match reply? {
+        Answer::Rows(rows) => Ok(rows),
+        _ => unreachable!(),
+    }
+}
+
+// ---- changes of files
+
+impl<P: NotingPen, J: Volumes, W: Press> Shared<P, J, W> {
+    /// Changes what stands at a path.
+    fn change_path<R: Wait>(
+        &self,
+        rt: &R,
+        alloc: Global,
+        call: PathCall,
+        path: &[u8],
+    ) -> Result<(), VolError>
+        ensures { UnlessMemory (HasDone (Apply (change_at call path.now)) result) result }
+    {
+        let Ok(path) = Items::from_slice(alloc, path) else {
+            return Err(VolError::Memory);
+        };
+        done(self.apply(rt, &Event::Apply(call.change(path))))
+    }
+
+    /// Makes an empty file.
+    ///
+    /// # Errors
+    /// Those of `Change::Create`, and `Memory`.
+    pub fn create<R: Wait>(&self, rt: &R, alloc: Global, path: &[u8]) -> Result<(), VolError>
+        ensures { UnlessMemory (HasDone (Apply (change.Create path.now)) result) result }
+    {
+        self.change_path(rt, alloc, PathCall::Create, path)
+    }
+
+    /// Makes an empty directory.
+    ///
+    /// # Errors
+    /// Those of `Change::Mkdir`, and `Memory`.
+    pub fn mkdir<R: Wait>(&self, rt: &R, alloc: Global, path: &[u8]) -> Result<(), VolError>
+        ensures { UnlessMemory (HasDone (Apply (change.Mkdir path.now)) result) result }
+    {
+        self.change_path(rt, alloc, PathCall::Mkdir, path)
+    }
+
+    /// Sets where a file ends, in bytes. Where that is past its end, zeros stand between.
+    ///
+    /// # Errors
+    /// Those of `Change::Truncate`, and `Memory`.
+    pub fn truncate<R: Wait>(
+        &self,
+        rt: &R,
+        alloc: Global,
+        path: &[u8],
+        size: u64,
+    ) -> Result<(), VolError>
+        ensures { UnlessMemory (HasDone (Apply (change.Truncate path.now size)) result) result }
+    {
+        self.change_path(rt, alloc, PathCall::Truncate(size), path)
+    }
+
+    /// Removes a file.
+    ///
+    /// # Errors
+    /// Those of `Change::Unlink`, and `Memory`.
+    pub fn remove<R: Wait>(&self, rt: &R, alloc: Global, path: &[u8]) -> Result<(), VolError>
+        ensures { UnlessMemory (HasDone (Apply (change.Unlink path.now)) result) result }
+    {
+        self.change_path(rt, alloc, PathCall::Unlink, path)
+    }
+
+    /// Removes an empty directory.
+    ///
+    /// # Errors
+    /// Those of `Change::Rmdir`, and `Memory`.
+    pub fn rmdir<R: Wait>(&self, rt: &R, alloc: Global, path: &[u8]) -> Result<(), VolError>
+        ensures { UnlessMemory (HasDone (Apply (change.Rmdir path.now)) result) result }
+    {
+        self.change_path(rt, alloc, PathCall::Rmdir, path)
+    }
+
+    /// Writes bytes over those of a file from an offset on, and answers how many. Where the offset is past the
+    /// end, zeros stand between.
+    ///
+    /// # Errors
+    /// Those of `Change::Write`, and `Memory`.
+    pub fn write<R: Wait>(
+        &self,
+        rt: &R,
+        alloc: Global,
+        path: &[u8],
+        offset: u64,
+        bytes: &[u8],
+    ) -> Result<u64, VolError>
+        ensures { UnlessMemory
+            (HasAnswered answer.Written (Apply (change.Write path.now offset bytes.now)) result) result }
+    {
+        let Ok((path, bytes)) = copies(alloc, path, bytes) else {
+            return Err(VolError::Memory);
+        };
+        locked_runs_lead_on();
+        let event = Event::Apply(Change::Write {
+            path,
+            offset,
+            bytes,
+        });
+        written(self.apply(rt, &event))
+    }
+
+    /// Gives what stands at a path another one, with all that lies below it.
+    ///
+    /// # Errors
+    /// Those of `Change::Rename`, and `Memory`.
+    pub fn rename<R: Wait>(
+        &self,
+        rt: &R,
+        alloc: Global,
+        from: &[u8],
+        to: &[u8],
+    ) -> Result<(), VolError>
+        ensures { UnlessMemory (HasDone (Apply (change.Rename from.now to.now)) result) result }
+    {
+        let Ok((from, to)) = copies(alloc, from, to) else {
+            return Err(VolError::Memory);
+        };
+        done(self.apply(rt, &Event::Apply(Change::Rename { from, to })))
+    }
+}
+
+// ---- checkpoints
+
+impl<P: NotingPen, J: Volumes, W: Press> Shared<P, J, W> {
+    /// Makes a checkpoint, and answers its number.
+    fn make_checkpoint<R: Wait>(
+        &self,
+        rt: &R,
+        mode: Mode,
+        moment: u64,
+    ) -> Result<CheckpointNumber, VolError>
+        ensures { HasAnswered answer.Checkpoint (Checkpoint mode moment) result }
+    {
+        locked_runs_lead_on();
+        checkpoint_made(self.apply(rt, &Event::Checkpoint { mode, moment }))
+    }
+
+    /// Keeps the current tree as a plain checkpoint, and answers its number. The moment is in whole seconds.
+    ///
+    /// # Errors
+    /// Those of a checkpoint.
+    pub fn checkpoint<R: Wait>(&self, rt: &R, moment: u64) -> Result<CheckpointNumber, VolError>
+        ensures { HasAnswered answer.Checkpoint (Checkpoint Plain moment) result }
+    {
+        self.make_checkpoint(rt, Mode::Plain, moment)
+    }
+
+    /// Keeps the current tree as a snapshot, which can be mounted, and answers its number. The moment is in
+    /// whole seconds.
+    ///
+    /// # Errors
+    /// Those of a checkpoint.
+    pub fn snapshot<R: Wait>(&self, rt: &R, moment: u64) -> Result<CheckpointNumber, VolError>
+        ensures { HasAnswered answer.Checkpoint (Checkpoint Snapshot moment) result }
+    {
+        self.make_checkpoint(rt, Mode::Snapshot, moment)
+    }
+
+    /// Makes a plain checkpoint a snapshot or a snapshot a plain checkpoint, as `nl_lib::change_cpmode` does.
+    ///
+    /// # Errors
+    /// `NoCheckpoint` where it isn't kept, `Mounted` where a snapshot that is mounted would become plain;
+    /// `Memory`.
+    pub fn change_cpmode<R: Wait>(
+        &self,
+        rt: &R,
+        number: CheckpointNumber,
+        mode: Mode,
+    ) -> Result<(), VolError>
+        ensures { HasDone (ChangeMode number mode) result }
+    {
+        done(self.apply(rt, &Event::ChangeMode(number, mode)))
+    }
+
+    /// Removes a plain checkpoint, as `nl_lib::delete_checkpoint` does.
+    ///
+    /// # Errors
+    /// `NoCheckpoint` where it isn't kept, `IsSnapshot` where it is a snapshot, `Latest` where it is the latest
+    /// one; `Memory`.
+    pub fn delete_checkpoint<R: Wait>(
+        &self,
+        rt: &R,
+        number: CheckpointNumber,
+    ) -> Result<(), VolError>
+        ensures { HasDone (Remove number) result }
+    {
+        done(self.apply(rt, &Event::Remove(number)))
+    }
+
+    /// Removes the plain checkpoints from a first number to a last one, but for the latest one, and answers
+    /// what became of each.
+    ///
+    /// # Errors
+    /// `BadRange` where the first number is 0 or above the last, `NoCheckpoint` where no kept number lies
+    /// between; `Memory`.
+    pub fn remove_checkpoints<R: Wait>(
+        &self,
+        rt: &R,
+        first: CheckpointNumber,
+        last: CheckpointNumber,
+    ) -> Result<Range, VolError>
+        ensures { HasAnswered answer.Removed (RemoveRange first last) result }
+    {
+        locked_runs_lead_on();
+        range_removed(self.apply(rt, &Event::RemoveRange { first, last }))
+    }
+
+    /// What is told of the kept checkpoints that a listing shows, in its order. `Port::checkpoints` takes no
+    /// lock.
+    ///
+    /// # Errors
+    /// `Memory`.
+    pub fn listing<R: Wait>(&self, rt: &R, options: &ListOptions) -> Result<Items<Row>, VolError>
+        ensures { HasAnswered answer.Rows (Listing options.now) result }
+    {
+        locked_runs_lead_on();
+        rows_listed(self.apply(rt, &Event::Listing(*options)))
+    }
+
+    /// Makes the volume one of so many segments, as `nl_lib::resize` does.
+    ///
+    /// # Errors
+    /// `BadRange` where it has more, `BadGeometry` where a volume can't have so many; `Fault` where the device
+    /// failed to grow; `Memory`.
+    pub fn resize<R: Wait>(&self, rt: &R, segments: u32) -> Result<(), VolError>
+        ensures { HasDone (Resize segments) result }
+    {
+        done(self.apply(rt, &Event::Resize(segments)))
+    }
+}
