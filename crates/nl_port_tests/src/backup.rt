@@ -1,69 +1,31 @@
 //! A backup of a snapshot, taken by a port on a thread of its own while the writer goes on.
-ghost use Rattle.std.specs.Prelude.{◌≡◌, IfOk};
-ghost use Rattle.nl_publish.specs.Locks.{IsNoMountEvent};
+ghost use Rattle.std.specs.Prelude.{◌≡◌};
 
 use nl_core::Pen;
 use nl_device::MemDevice;
-use nl_mounts::{Port, Shared, share};
-use nl_publish::{Mount, Opened, Volumes};
-use nl_types::{Change, CheckpointNumber, Event, Geometry, Items, Mode, VolError};
+use nl_mounts::{Geometry, Items, Mount, Opened, Port, Shared, VolError, Volumes, share};
 use std::alloc::Global;
 use std::marker::Brand;
 use std::sync::Wait;
 use std::test::Fail;
 use std::thread::{Threads, join};
 
-type Volume<J> = Shared<Pen<MemDevice>, J>;
+pub(crate) type Volume<J> = Shared<Pen<MemDevice>, J>;
 
-fn create_notes(alloc: Global, pen: &mut Pen<MemDevice>) -> Result<(), VolError> {
-    let path = Items::from_slice(alloc, b"/notes")?;
-    pen.apply(&Event::Apply(Change::Create { path }))?;
-    Ok(())
-}
-
-/// A volume with the file `/notes`.
-fn pen_with_notes(alloc: Global) -> Result<Pen<MemDevice>, VolError> {
+fn new_pen(alloc: Global) -> Result<Pen<MemDevice>, VolError> {
     let geometry = Geometry::new(64, 64)?;
-    let mut pen = Pen::format(alloc, MemDevice::new(alloc, geometry)?, geometry, 0)?;
-    create_notes(alloc, &mut pen)?;
-    Ok(pen)
+    Pen::format(alloc, MemDevice::new(alloc, geometry)?, geometry, 0)
 }
 
-/// A text for the file.
-fn writing(alloc: Global, text: &[u8]) -> Result<Event, VolError>
-    ensures { IfOk result IsNoMountEvent }
-{
-    let path = Items::from_slice(alloc, b"/notes")?;
-    let bytes = Items::from_slice(alloc, text)?;
-    Ok(Event::Apply(Change::Write {
-        path,
-        offset: 0,
-        bytes,
-    }))
-}
-
-/// Writes a text into the file, with a checkpoint behind it.
-fn write<J: Volumes, R: Wait>(
-    rt: &R,
-    alloc: Global,
-    volume: &Volume<J>,
-    text: &[u8],
-    mode: Mode,
-) -> Result<(), VolError> {
-    let event = writing(alloc, text)?;
-    // The reply is that of the event in one state of the volume. A refusal changes nothing.
-    volume.apply(rt, &event)?;
-    volume.apply(rt, &Event::Checkpoint { mode, moment: 0 })?;
-    Ok(())
-}
-
+/// Writes a text into the file again and again, with a checkpoint behind each.
 fn write_on<J: Volumes, R: Wait>(
     rt: &R,
     alloc: Global,
     volume: &Volume<J>,
 ) -> Result<(), VolError> {
-    for _ in 0..100 {
-        write(rt, alloc, volume, b"final", Mode::Plain)?;
+    for moment in 0..100 {
+        volume.write(rt, alloc, b"/notes", 0, b"final")?;
+        volume.checkpoint(rt, moment)?;
     }
     Ok(())
 }
@@ -114,7 +76,7 @@ fn back_up_beside<J: Volumes + Send + Sync, R: Threads + Wait + Sync>(
 }
 
 /// Gives a mount back. Refused, it is let go of: the end of the volume takes it out.
-fn give_back<J: Volumes, R: Wait>(rt: &R, volume: &Volume<J>, mount: Mount<J>) {
+pub(crate) fn give_back<J: Volumes, R: Wait>(rt: &R, volume: &Volume<J>, mount: Mount<J>) {
     match volume.unmount(rt, mount) {
         Ok(()) => {}
         Err((_refusal, refused)) => refused.spend(),
@@ -128,9 +90,11 @@ fn back_up_snapshot<J: Volumes + Send + Sync, R: Threads + Wait + Sync>(
     volume: &Volume<J>,
     port: &mut Port<J>,
 ) -> Result<Vec<Items<u8>>, VolError> {
-    write(rt, alloc, volume, b"draft", Mode::Snapshot)?;
+    volume.create(rt, alloc, b"/notes")?;
+    volume.write(rt, alloc, b"/notes", 0, b"draft")?;
+    let snapshot = volume.snapshot(rt, 0)?;
     // The mount is of the checkpoint that is asked for, and the port has been told of it.
-    match volume.mount(rt, port, CheckpointNumber::new(2)) {
+    match volume.mount(rt, port, snapshot) {
         Err(refusal) => Err(refusal),
         Ok(mount) => {
             let files = back_up_beside(rt, alloc, volume, port, &mount);
@@ -140,15 +104,16 @@ fn back_up_snapshot<J: Volumes + Send + Sync, R: Threads + Wait + Sync>(
     }
 }
 
-/// A volume for one port. Refused, its pen would come back.
-fn shared<J: Volumes, R: Wait>(
+/// A new volume for so many ports. Refused, its pen would come back.
+pub(crate) fn shared<J: Volumes, R: Wait>(
     rt: &R,
     alloc: Global,
+    ports: usize,
     opened: Opened,
 ) -> Result<(Volume<J>, Vec<Port<J>>), VolError>
     requires { opened.seen.book ≡ J.book opened.id }
 {
-    match share::<_, J, _>(alloc, rt, pen_with_notes(alloc)?, 1, opened) {
+    match share::<_, J, _>(alloc, rt, new_pen(alloc)?, ports, opened) {
         Ok(made) => Ok(made),
         Err((refusal, _pen)) => Err(refusal),
     }
@@ -161,7 +126,7 @@ fn backed_up<J: Volumes + Send + Sync, R: Threads + Wait + Sync>(
 ) -> Result<Vec<Items<u8>>, VolError>
     requires { opened.seen.book ≡ J.book opened.id }
 {
-    let (volume, mut ports) = shared::<J, _>(rt, alloc, opened)?;
+    let (volume, mut ports) = shared::<J, _>(rt, alloc, 1, opened)?;
     let files = match ports.first_mut() {
         Some(port) => back_up_snapshot(rt, alloc, &volume, port),
         None => Err(VolError::BadRange),

@@ -8,6 +8,10 @@ mod backup;
 #[cfg(test)]
 mod beside_a_writer;
 #[cfg(test)]
+mod calls;
+#[cfg(test)]
+mod cleaning;
+#[cfg(test)]
 mod foreign;
 #[cfg(test)]
 mod gates;
@@ -19,5 +23,7 @@ mod one_image;
 mod ports;
 #[cfg(test)]
 mod seats;
+#[cfg(test)]
+mod two_volumes;
 #[cfg(test)]
 mod volume;
