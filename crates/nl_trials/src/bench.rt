@@ -50,6 +50,7 @@ fn case_of(word: &str) -> Option<Case> {
         "read_kept_in_turn" => Some(Case::ReadsOfKeptInTurn),
         "write_beside_ports" => Some(Case::CallsBesidePorts),
         "checkpoint_beside_ports" => Some(Case::CheckpointsBesidePorts),
+        "checkpoint_beside_parts" => Some(Case::CheckpointsBesideParts),
         _ => None,
     }
 }
@@ -106,6 +107,7 @@ fn tell_usage(rt: &HostRuntime) -> u8 {
     let _ = eprintln!(rt;
         "       nl_trials bench write_beside_ports|checkpoint_beside_ports PORTS BYTES COUNT"
     );
+    let _ = eprintln!(rt; "       nl_trials bench checkpoint_beside_parts PORTS BYTES COUNT");
     2
 }
 

@@ -1,6 +1,6 @@
 //! Checkpoints of one changed block on a pen, by the call for events alone or by the one for events beside
 //! readers.
-use crate::bench::volume::{new_pen, plain_checkpoint, small_creation, small_write};
+use crate::bench::volume::{LENGTH, new_pen, plain_checkpoint, small_creation, small_write};
 use crate::events::done;
 use nl_core::{Commit, Pen};
 use nl_device::MemDevice;
@@ -87,6 +87,6 @@ fn change_often(
 /// Makes so many checkpoints.
 // Pen, events and commits are each lent for the work, so that one exit alone drops them.
 pub(crate) fn make_checkpoints(alloc: Global, call: Call, count: u64) -> Result<(), VolError> {
-    let mut pen = new_pen(alloc)?;
+    let mut pen = new_pen(alloc, LENGTH)?;
     change_often(alloc, &mut pen, call, count)
 }

@@ -24,7 +24,7 @@ fn do_all(pen: &mut Pen<MemDevice>, events: &[Event]) -> Result<(), VolError> {
 }
 
 fn prepare(alloc: Global, pen: &mut Pen<MemDevice>) -> Result<(), VolError> {
-    let events = preparation(alloc)?;
+    let events = preparation(alloc, LENGTH)?;
     do_all(pen, events.as_slice())
 }
 
@@ -74,7 +74,7 @@ fn time_on<R: Clock>(
 
 /// How long so many reads take, each into new memory.
 pub(crate) fn read_pen<R: Clock>(rt: &R, alloc: Global, count: u64) -> Result<Duration, VolError> {
-    let mut pen = new_pen(alloc)?;
+    let mut pen = new_pen(alloc, LENGTH)?;
     let took = time_on(rt, alloc, &mut pen, count);
     pen.give_all_back();
     took

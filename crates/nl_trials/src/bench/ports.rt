@@ -2,7 +2,9 @@
 ghost use Rattle.std.specs.Prelude.{◌≡◌};
 
 use crate::bench::clock::{now, since};
-use crate::bench::volume::{SEGMENTS, large, new_pen, plain_checkpoint, preparation, small_write};
+use crate::bench::volume::{
+    LENGTH, large, new_pen, plain_checkpoint, preparation, segments_for, small_write,
+};
 use nl_core::Pen;
 use nl_device::MemDevice;
 use nl_mounts::{Port, Shared, is_mount_event, share};
@@ -46,6 +48,8 @@ pub(crate) enum Case {
     CallsBesidePorts,
     /// File calls with a checkpoint behind each while ports read.
     CheckpointsBesidePorts,
+    /// The same while ports read an open file in parts.
+    CheckpointsBesideParts,
 }
 
 /// A case, how many ports read so many bytes at a time, and how many reads of each of them or file calls are
@@ -56,6 +60,13 @@ pub(crate) struct Task {
     pub ports: usize,
     pub bytes: usize,
     pub count: u64,
+}
+
+impl Task {
+    /// How many bytes the large file has.
+    fn length(&self) -> usize {
+        self.bytes.max(LENGTH)
+    }
 }
 
 /// The ports of a volume, whether all of them read or not.
@@ -128,7 +139,16 @@ impl<J: Volumes + Send + Sync, R: Threads + Wait + Clock + Sync> Bench<'_, J, R>
                 let bytes = port.read(self.alloc, self.mount, large(), 0, length as u64);
                 matches!(bytes, Ok(bytes) if bytes.as_slice().len() == length)
             }
+            Case::CheckpointsBesideParts => self.reads_parts(port, into),
             _ => port.read_into(self.mount, large(), self.offset(turn), into) == Ok(length),
+        }
+    }
+
+    /// Whether a read in parts comes out right.
+    fn reads_parts(&self, port: &mut Port<J>, into: &mut [u8]) -> bool {
+        match port.open(self.mount, large()) {
+            Ok(file) => file.read_parts(port, 0, into).count == into.len(),
+            Err(_) => false,
         }
     }
 
@@ -184,7 +204,7 @@ impl<J: Volumes + Send + Sync, R: Threads + Wait + Clock + Sync> Bench<'_, J, R>
     /// Removes all checkpoints but the latest one and the snapshot, and frees what they alone had.
     fn make_room(&self) -> Result<(), VolError> {
         done(self.rt, self.volume, &Event::Expire { now: 0, period: 0 })?;
-        for segment in 0..SEGMENTS {
+        for segment in 0..segments_for(self.task.length()) {
             // One that is needed is refused.
             let _ = done(self.rt, self.volume, &Event::Retire(Segment::new(segment)));
         }
@@ -244,7 +264,9 @@ impl<J: Volumes + Send + Sync, R: Threads + Wait + Clock + Sync> Bench<'_, J, R>
                 );
                 written.and(took)
             }
-            Case::CallsBesidePorts | Case::CheckpointsBesidePorts => {
+            Case::CallsBesidePorts
+            | Case::CheckpointsBesidePorts
+            | Case::CheckpointsBesideParts => {
                 let (took, ()) = join(
                     self.rt,
                     || self.time_writes(),
@@ -294,8 +316,13 @@ fn do_all<J: Volumes, R: Wait>(
     Ok(())
 }
 
-fn prepare<J: Volumes, R: Wait>(rt: &R, alloc: Global, volume: &Volume<J>) -> Result<(), VolError> {
-    let events = preparation(alloc)?;
+fn prepare<J: Volumes, R: Wait>(
+    rt: &R,
+    alloc: Global,
+    volume: &Volume<J>,
+    length: usize,
+) -> Result<(), VolError> {
+    let events = preparation(alloc, length)?;
     do_all(rt, volume, events.as_slice())
 }
 
@@ -322,7 +349,7 @@ fn mount_and_time<J: Volumes + Send + Sync, R: Threads + Wait + Clock + Sync>(
     ports: &mut [Port<J>],
     task: Task,
 ) -> Result<Duration, VolError> {
-    prepare(rt, alloc, volume)?;
+    prepare(rt, alloc, volume, task.length())?;
     let Some(first) = ports.first_mut() else {
         return Err(VolError::BadRange);
     };
@@ -339,11 +366,12 @@ fn mount_and_time<J: Volumes + Send + Sync, R: Threads + Wait + Clock + Sync>(
 fn shared<J: Volumes, R: Wait>(
     rt: &R,
     alloc: Global,
+    length: usize,
     opened: Opened,
 ) -> Result<(Volume<J>, Vec<Port<J>>), VolError>
     requires { opened.seen.book ≡ J.book opened.id }
 {
-    match share::<_, J, _>(alloc, rt, new_pen(alloc)?, PORTS, opened) {
+    match share::<_, J, _>(alloc, rt, new_pen(alloc, length)?, PORTS, opened) {
         Ok(made) => Ok(made),
         Err((refusal, _pen)) => Err(refusal),
     }
@@ -358,7 +386,7 @@ pub(crate) fn measure<J: Volumes + Send + Sync, R: Threads + Wait + Clock + Sync
 ) -> Result<Duration, VolError>
     requires { opened.seen.book ≡ J.book opened.id }
 {
-    let (volume, mut ports) = shared::<J, _>(rt, alloc, opened)?;
+    let (volume, mut ports) = shared::<J, _>(rt, alloc, task.length(), opened)?;
     let took = mount_and_time(rt, alloc, &volume, ports.as_mut_slice(), task);
     let _pen = volume.end(rt, Vec::new(alloc));
     took
