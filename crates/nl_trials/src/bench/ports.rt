@@ -264,16 +264,15 @@ impl<J: Volumes + Send + Sync, R: Threads + Wait + Clock + Sync> Bench<'_, J, R>
                 );
                 written.and(took)
             }
-            Case::CallsBesidePorts
-            | Case::CheckpointsBesidePorts
-            | Case::CheckpointsBesideParts => {
-                let (took, ()) = join(
-                    self.rt,
-                    || self.time_writes(),
-                    || self.read_by_all(ports, u64::MAX),
-                );
-                took
-            }
+            Case::CallsBesidePorts | Case::CheckpointsBesidePorts | Case::CheckpointsBesideParts =>
+                {
+                    let (took, ()) = join(
+                        self.rt,
+                        || self.time_writes(),
+                        || self.read_by_all(ports, u64::MAX),
+                    );
+                    took
+                }
         }
     }
 }
