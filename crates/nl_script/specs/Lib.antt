@@ -8,4 +8,6 @@ pub mod Habits
 pub mod Lines
 pub mod Scripts
 pub mod Configurations
+pub mod Simulations
+pub mod Facts
 pub mod Private

@@ -1,0 +1,2 @@
+-- Facts about the definitions, for proofs of other crates.
+pub mod Simulations
