@@ -4,3 +4,4 @@ pub mod SharedWorldsRuns
 pub mod SharedWorldsEvents
 pub mod SavedVolumes
 pub mod Starts
+pub mod SessionWorlds

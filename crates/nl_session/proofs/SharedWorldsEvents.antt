@@ -17,7 +17,7 @@ use Rattle.nl_types.specs.Laws.{GivesBack}
 use Rattle.nl_types.specs.Worlds.{Copy, Reply, World, copy_at, formatted, mount_read}
 use Rattle.nl_commit.specs.Layout.{DoesIn, Layout, MeansWorld}
 use Rattle.nl_commit.specs.Notes.{shared}
-use Rattle.nl_cleaner.specs.Job.{JobView, next_by, next_cleaning}
+use Rattle.nl_cleaner.specs.Job.{JobView, next_by, next_cleaning, next_event}
 use Rattle.nl_cleaner.specs.Rounds.{cleaning_habits}
 use Rattle.nl_cleaner.specs.declared.job.Stage.{Stage}
 use Rattle.nl_cleaner.specs.declared.job.Stage.TheVariants.{Cleaning, Ended, Expiring}
@@ -26,18 +26,19 @@ use Rattle.nl_commit.specs.CleaningEvents.{needed_by}
 use Rattle.nl_vstore.specs.Located.{needed_count}
 use Rattle.nl_publish.specs.Cleaning.{CleanRan}
 use Rattle.nl_publish.specs.Cleaning as cleaning
-use Rattle.nl_publish.specs.Locks.{MountRan, Ran, listed, mount_reply}
+use Rattle.nl_publish.specs.Locks.{HeldPen, MountRan, Ran, listed, mount_reply}
 use Rattle.nl_publish.specs.Locks as locks
 use Rattle.nl_publish.specs.Mounts.{Claim}
 use Rattle.nl_mounts.specs.Sharing.{MountsCopy}
-use Rattle.nl_session.specs.SharedLaws.{Came, ComesBeside, DifferAll, IsBeside, IsDoneBeside, IsMountIn, IsReadBeside, IsSteppedBeside, KeptVolumesAreBeside, MountLost, NewVolumesAreBeside, Next, NoNext, SharedEventsFollowWorlds, SharedStepsFollowWorlds, Stayed, number_of}
+use Rattle.nl_session.specs.SessionLaws.{Came, ComesTo, HeldBack, IsDoneTo, IsHeldBackTo, IsReadTo, IsSteppedTo, MountLost, Next, NoNext, NotBegun, Stayed, StaysTo, VolumeAndWorld, with_world}
+use Rattle.nl_session.specs.SharedLaws.{DifferAll, IsBeside, IsMountIn, KeptVolumesAreBeside, NewVolumesAreBeside, number_of}
 use Rattle.nl_session.specs.Sessions.{IsUnused}
-use Rattle.nl_shared.specs.SharedVolumes.{IsHeldTold, IsRoundOver, MountComes, ReadComes, Sharing, mounts_left_by, mount_of, without_mount}
+use Rattle.nl_shared.specs.SharedVolumes.{IsHeldTold, IsRoundOver, MountComes, ReadComes, Sharing, mounts_left_by, mount_of, shared_does, shared_steps, without_mount}
 use Rattle.nl_shared.specs.SharedVolumes as volume
 use Rattle.nl_script.specs.FileReads.{IsToldThrough}
 use Rattle.nl_session.proofs.SharedWorlds.{Beside, Laws, all_hold, back_refused, mount_found, mount_is_new}
 use Rattle.nl_session.proofs.SharedWorldsMounts.{all_and_one, differ_more, differ_none, differ_rest, differ_some, each_so, found_so, left_differ, left_others, left_so}
-use Rattle.nl_session.proofs.SharedWorldsRuns.{IsBehind, behind_ready, behind_whole, comes_behind, comes_clear, comes_same, held_before, stays_ready, stays_so, stays_stuck}
+use Rattle.nl_session.proofs.SharedWorldsRuns.{IsBehind, Reached, behind_ready, behind_whole, comes_behind, comes_clear, comes_same, held_back, held_before, stays_ready, stays_so, still_beside}
 
 -- ---- reads through mounts
 
@@ -85,18 +86,30 @@ module _ (laws : Laws) (w : World) (old new : Sharing) (reply : Reply) (before :
   differ : DifferAll (map number_of old.mounts)
   differ = differ_rest old.held.lost (map number_of old.mounts) before.numbers
 
-  abbrev IsAnswered : Event → Type 0
-  IsAnswered asked = IsReadBeside w asked reply new ⊎ IsDoneBeside w old asked reply new
+  abbrev from : VolumeAndWorld
+  from = with_world old w
+
+  abbrev IsDone : Event → Type 0
+  IsDone asked = Reached new (IsDoneTo from asked reply)
+
+  came : (asked : Event) → Reached new (ComesTo from asked reply) → IsDone asked
+  came asked so = (so.0, so.1, Came so.2)
+
+  stayed : (asked : Event) → reply ≡ Err Memory → Reached new (StaysTo from) → IsDone asked
+  stayed asked is so = (so.0, so.1, Stayed is so.2)
+
+  not_begun : (asked : Event) → reply ≡ Err Memory → Reached new (IsHeldBackTo from) → IsDone asked
+  not_begun asked is so = (so.0, so.1, HeldBack is so.2)
 
   -- an event that gives no mount back that is held
   ran_same : (asked : Event) → Ran old.held asked reply new.held → new.mounts ≡ old.mounts
       → AllByRecursion (λ (m : Claim). GivesBack asked m.number → ⊥) old.mounts
-      → IsDoneBeside w old asked reply new
+      → IsDone asked
   ran_same asked (locks.Done backs goes none) same others =
-      Came (comes_same laws w old new asked reply before
+      came asked (comes_same laws w old new asked reply before
       (behind_whole laws w old.held new.held asked reply backs before.means goes) none.lost same others)
   ran_same asked (locks.NotBegun stuck is) same others =
-      Stayed is (stays_stuck laws w old new before same stuck)
+      not_begun asked is (held_back laws w old new before same stuck)
 
   -- ---- unmounts
 
@@ -124,19 +137,19 @@ module _ (laws : Laws) (w : World) (old new : Sharing) (reply : Reply) (before :
     numbers_left (Err e) = differ
 
     back_comes : new.held.lost ≡ None → new.mounts ≡ mounts_left_by n reply old.mounts
-        → ComesBeside w old (Unmount n) reply new
+        → Reached new (ComesTo from (Unmount n) reply)
     back_comes none same =
         comes_clear laws w old new (Unmount n) reply before behind none
         (subst (AllByRecursion (IsMountIn behind.after)) (sym same) (mounts_left reply refl))
         (subst (λ (claims : List Claim). DifferAll (map number_of claims)) (sym same) (numbers_left reply))
 
   ran_back : (n : ℕ) → Ran old.held (Unmount n) reply new.held
-      → new.mounts ≡ mounts_left_by n reply old.mounts → IsDoneBeside w old (Unmount n) reply new
+      → new.mounts ≡ mounts_left_by n reply old.mounts → IsDone (Unmount n)
   ran_back n (locks.Done backs goes none) same =
-      Came (back_comes n
+      came (Unmount n) (back_comes n
       (behind_whole laws w old.held new.held (Unmount n) reply backs before.means goes) none.lost same)
   ran_back n (locks.NotBegun stuck is) same =
-      Stayed is (stays_stuck laws w old new before
+      not_begun (Unmount n) is (held_back laws w old new before
       (same ∙ ap (λ (r : Reply). mounts_left_by n r old.mounts) is) stuck)
 
   -- ---- mounts
@@ -162,7 +175,7 @@ module _ (laws : Laws) (w : World) (old new : Sharing) (reply : Reply) (before :
 
     -- the mount is held
     mount_held : (m : Claim) → m.number ≡ n → m.checkpoint ≡ k → MountsCopy new.held m → new.held.lost ≡ None
-        → new.mounts ≡ old.mounts ++ m ∷ [] → ComesBeside w old (Mount k) (mount_reply n) new
+        → new.mounts ≡ old.mounts ++ m ∷ [] → Reached new (ComesTo from (Mount k) (mount_reply n))
     mount_held m number checkpoint copy none same =
         let found = mount_found laws behind.middle b k n behind.does behind.means.world in
         let one : IsMountIn behind.after m = record {
@@ -181,7 +194,7 @@ module _ (laws : Laws) (w : World) (old new : Sharing) (reply : Reply) (before :
 
     -- or it is lost
     mount_lost : new.held.lost ≡ Some n → new.mounts ≡ old.mounts
-        → ComesBeside w old (Mount k) (mount_reply n) new
+        → Reached new (ComesTo from (Mount k) (mount_reply n))
     mount_lost lost same =
         comes_behind laws w old new (Mount k) (mount_reply n) before behind
         (subst (AllByRecursion (IsMountIn behind.after)) (sym same) are)
@@ -190,13 +203,12 @@ module _ (laws : Laws) (w : World) (old new : Sharing) (reply : Reply) (before :
 
   mount_made : (k : ℕ) (m : Claim) → reply ≡ mount_reply m.number → m.checkpoint ≡ k → MountsCopy new.held m
       → new.mounts ≡ old.mounts ++ m ∷ [] → MountRan old.held k (Ok m.number) new.held
-      → IsDoneBeside w old (Mount k) reply new
+      → IsDone (Mount k)
   mount_made k m is of copy same (locks.Mounted clear n begun goes result all none) =
       let number : m.number ≡ n = cc result in
-      let behind =
-      behind_ready laws w old.held clear new.held (Mount k)
-      (mount_reply n) before.means begun.ready goes in
-      Came (subst (λ (r : Reply). ComesBeside w old (Mount k) r new) (sym (is ∙ ap mount_reply number))
+      let behind = (behind_ready laws w old.held clear new.held (Mount k)
+      (mount_reply n) before.means begun.ready goes).0 in
+      came (Mount k) (subst (λ (r : Reply). Reached new (ComesTo from (Mount k) r)) (sym (is ∙ ap mount_reply number))
       (mount_held k n behind m number of copy none same))
   mount_made k m is of copy same (locks.Lost clear n begun goes result apart lost) = absurd (cc result)
   mount_made k m is of copy same (locks.Refused clear e begun goes result) = absurd (cc result)
@@ -205,56 +217,68 @@ module _ (laws : Laws) (w : World) (old new : Sharing) (reply : Reply) (before :
 
   mount_refused : (k : ℕ) (e : VolError) → reply ≡ Err e → new.mounts ≡ old.mounts
       → MountRan old.held k (Err e) new.held
-      → IsDoneBeside w old (Mount k) reply new
+      → IsDone (Mount k)
   mount_refused k e is same (locks.Mounted clear n begun goes result all none) = absurd (cc result)
   mount_refused k e is same (locks.Lost clear n begun goes result apart lost) =
       let memory : e ≡ Memory = cc result in
-      let behind =
-      behind_ready laws w old.held clear new.held (Mount k)
-      (mount_reply n) before.means begun.ready goes in
-      MountLost k n refl (is ∙ ap (λ (x : VolError). Err x) memory) lost (mount_lost k n behind lost same)
+      let behind = (behind_ready laws w old.held clear new.held (Mount k)
+      (mount_reply n) before.means begun.ready goes).0 in
+      let so = mount_lost k n behind lost same in
+      (so.0, so.1, MountLost k n refl (is ∙ ap (λ (x : VolError). Err x) memory) lost so.2)
   mount_refused k e is same (locks.Refused clear x begun goes result) =
       let error : e ≡ x = cc result in
       let behind =
-      behind_ready laws w old.held clear new.held (Mount k) (Err x) before.means begun.ready goes.0 in
-      Came (subst (λ (r : Reply). ComesBeside w old (Mount k) r new)
+      (behind_ready laws w old.held clear new.held (Mount k) (Err x) before.means begun.ready goes.0).0 in
+      came (Mount k) (subst (λ (r : Reply). Reached new (ComesTo from (Mount k) r))
       (sym (is ∙ ap (λ (y : VolError). Err y) error))
       (comes_same laws w old new (Mount k) (Err x) before behind (goes.1 ∙ begun.ready.lost) same
       (none_given old.mounts)))
   mount_refused k e is same (locks.Pending ready apart result) =
       let memory : e ≡ Memory = cc result in
-      Stayed (is ∙ ap (λ (x : VolError). Err x) memory) (stays_ready laws w old new before same ready)
+      stayed (Mount k) (is ∙ ap (λ (x : VolError). Err x) memory) (stays_ready laws w old new before same ready)
   mount_refused k e is same (locks.Stuck stuck result) =
       let memory : e ≡ Memory = cc result in
-      Stayed (is ∙ ap (λ (x : VolError). Err x) memory) (stays_stuck laws w old new before same stuck)
+      not_begun (Mount k) (is ∙ ap (λ (x : VolError). Err x) memory) (held_back laws w old new before same stuck)
 
-  mount_comes : (k : ℕ) → MountComes old k reply new → IsDoneBeside w old (Mount k) reply new
-  mount_comes k (volume.NoPlace is same) = Stayed is (stays_so w old new before same)
+  mount_comes : (k : ℕ) → MountComes old k reply new → IsDone (Mount k)
+  mount_comes k (volume.NoPlace is same) = stayed (Mount k) is (stays_so w old new before same)
   mount_comes k (volume.Mounted m is of told ran copy same) = mount_made k m is of copy same ran
   mount_comes k (volume.Refused e is ran same) = mount_refused k e is same ran
 
-  -- ---- reads through mounts
+  -- ---- answers
+
+  abbrev IsAnswered : Event → Type 0
+  IsAnswered asked = Reached new (λ u. IsReadTo from asked reply u ⊎ IsDoneTo from asked reply u)
+
+  answered : (asked : Event) → IsDone asked → IsAnswered asked
+  answered asked so = (so.0, so.1, inr so.2)
 
   read_comes : (n : ℕ) (ask : Ask) → ReadComes old n ask reply new → IsAnswered (event.MountRead n ask)
-  read_comes n ask (inl told) =
-      inl (
-        held_told w old n ask reply before (mount_of n old.mounts) refl told.1,
-        subst (IsBeside w) (sym told.0) before,
-      )
-  read_comes n ask (inr ran) = inr (ran_same (event.MountRead n ask) ran.0 ran.1 (none_given old.mounts))
-
-  -- ---- the others
+  read_comes n ask (inl told) = (
+    w,
+    subst (IsBeside w) (sym told.0) before,
+    inl (
+      held_told w old n ask reply before (mount_of n old.mounts) refl told.1,
+      ap (λ (s : Sharing). (s.held.layout, w)) told.0,
+    ),
+  )
+  read_comes n ask (inr ran) =
+      answered (event.MountRead n ask)
+      (ran_same (event.MountRead n ask) ran.0 ran.1 (none_given old.mounts))
 
   other_comes : (asked : Event) → GivesNone asked
       → Ran old.held asked reply new.held × (new.mounts ≡ old.mounts)
       → IsAnswered asked
-  other_comes asked none ran = inr (ran_same asked ran.0 ran.1 (each_given_none asked none old.mounts))
+  other_comes asked none ran =
+      answered asked (ran_same asked ran.0 ran.1 (each_given_none asked none old.mounts))
 
-pub events_follow : Laws → SharedEventsFollowWorlds
+pub events_follow : (laws : Laws) (w : World) (old new : Sharing) (asked : Event) (reply : Reply)
+    → IsBeside w old → shared_does old asked reply new
+    → Reached new (λ u. IsReadTo (with_world old w) asked reply u ⊎ IsDoneTo (with_world old w) asked reply u)
 events_follow laws w old new (Mount k) reply before does =
-    inr (mount_comes laws w old new reply before k does)
+    answered laws w old new reply before (Mount k) (mount_comes laws w old new reply before k does)
 events_follow laws w old new (Unmount n) reply before does =
-    inr (ran_back laws w old new reply before n does.0 does.1)
+    answered laws w old new reply before (Unmount n) (ran_back laws w old new reply before n does.0 does.1)
 events_follow laws w old new (event.MountRead n ask) reply before does =
     read_comes laws w old new reply before n ask does
 events_follow laws w old new (event.Apply change) reply before does =
@@ -300,36 +324,49 @@ next_gives_none Expiring job l asked is =
 next_gives_none Cleaning job l asked is = left_gives_none job.left job.moment l asked is
 next_gives_none Ended job l asked is = absurd (cc is)
 
-stepped : (laws : Laws) (w : World) (old new : Sharing) (job next : JobView) (reply : Option Reply)
-    → IsBeside w old → CleanRan cleaning_habits old.held job reply new.held next
-    → new.mounts ≡ old.mounts → IsSteppedBeside w old job reply new
-stepped laws w old new job next reply before
-    (cleaning.Stepped begun asked answer ready is goes replied now tried) same =
-    let behind = behind_ready laws w old.held begun new.held asked answer before.means ready goes.0 in
-    Next begun.layout asked answer is replied
-    (comes_same laws w old new asked answer before behind (goes.1 ∙ ready.lost) same
-    (each_given_none asked (next_gives_none job.stage job begun.layout asked is) old.mounts))
-stepped laws w old new job next reply before (cleaning.Over ready is replied now tried) same =
-    NoNext (inl replied) (stays_ready laws w old new before same ready)
-stepped laws w old new job next reply before (cleaning.NotBegun stuck replied now) same =
-    NoNext (inr replied) (stays_stuck laws w old new before same stuck)
+module _ (laws : Laws) (w : World) (old new : Sharing) (job next : JobView) (reply : Option Reply)
+    (before : IsBeside w old) (same : new.mounts ≡ old.mounts) where
+  abbrev IsStepped : Type 0
+  IsStepped = Reached new (λ u. IsSteppedTo (with_world old w) job reply u next)
 
-over : (w : World) (old new : Sharing) (job next : JobView) (reply : Option Reply) → IsBeside w old
-    → IsRoundOver cleaning_habits old.held job reply new.held next
-    → new.mounts ≡ old.mounts → IsSteppedBeside w old job reply new
-over w old new job next reply before round same =
-    let still : new ≡ old = λ i. record { held = round.2 i; mounts = same i } in
-    NoNext (inl round.1) (stays_so w old new before still)
+  ran_on : CleanRan cleaning_habits old.held job reply new.held next → IsStepped
+  ran_on (cleaning.Stepped begun asked answer ready is goes replied now tried) =
+      let run = behind_ready laws w old.held begun new.held asked answer before.means ready goes.0 in
+      let behind = run.0 in (
+        behind.after,
+        still_beside laws w old new asked answer before behind (goes.1 ∙ ready.lost) same
+            (each_given_none asked (next_gives_none job.stage job begun.layout asked is) old.mounts),
+        Next behind.middle asked answer (behind.backs, behind.begins)
+            (subst (λ (l : Layout). next_event job l ≡ Some asked) (sym run.1) is) behind.does replied now,
+      )
+  ran_on (cleaning.Over ready is replied now tried) =
+      let so = stays_ready laws w old new before same ready in
+      (so.0, so.1, NoNext so.2 is replied now)
+  ran_on (cleaning.NotBegun stuck replied now) =
+      let so = held_back laws w old new before same stuck in
+      (so.0, so.1, NotBegun so.2 replied now)
 
-pub steps_follow : Laws → SharedStepsFollowWorlds
+  is_over : IsRoundOver cleaning_habits old.held job reply new.held next → IsStepped
+  is_over round =
+      let still : new ≡ old = λ i. record { held = round.2 i; mounts = same i } in
+      let so = stays_so w old new before still in (
+        so.0,
+        so.1,
+        NoNext so.2 (subst (λ (h : HeldPen). next_event job h.layout ≡ None) (sym round.2) round.0) round.1
+            round.3,
+      )
+
+pub steps_follow : (laws : Laws) (w : World) (old new : Sharing) (job next : JobView) (reply : Option Reply)
+    → IsBeside w old → shared_steps cleaning_habits old job reply new next
+    → Reached new (λ u. IsSteppedTo (with_world old w) job reply u next)
 steps_follow laws w old new job next reply before (inl round, same) =
-    over w old new job next reply before round same
+    is_over laws w old new job next reply before same round
 steps_follow laws w old new job next reply before (inr ran, same) =
-    stepped laws w old new job next reply before ran same
+    ran_on laws w old new job next reply before same ran
 
 -- ---- volumes as sessions begin with them
 
-unused_beside : (w : World) (s : Sharing) → IsUnused s → MeansWorld s.held.layout w → IsBeside w s
+pub unused_beside : (w : World) (s : Sharing) → IsUnused s → MeansWorld s.held.layout w → IsBeside w s
 unused_beside w s unused means = record {
   means = means;
   mounts = subst (AllByRecursion (IsMountIn w)) (sym unused.mounts) tt;

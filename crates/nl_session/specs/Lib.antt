@@ -1,3 +1,4 @@
 pub mod Sessions
 pub mod Laws
 pub mod SharedLaws
+pub mod SessionLaws

@@ -1,4 +1,5 @@
-use Rattle.nl_session.proofs.SharedWorldsEvents.{events_follow, kept_beside, new_beside, steps_follow}
+use Rattle.nl_session.proofs.SessionWorlds.{volumes_follow}
+use Rattle.nl_session.proofs.SharedWorldsEvents.{kept_beside, new_beside}
 use Rattle.nl_session.proofs.laws.shared_volumes_follow_worlds.Goals as goal
 
 pub returns-clause-new : goal.returns-clause-new
@@ -7,16 +8,8 @@ returns-clause-new c = new_beside
 pub returns-clause-kept : goal.returns-clause-kept
 returns-clause-kept c = kept_beside
 
-pub returns-clause-events : goal.returns-clause-events
-returns-clause-events c = events_follow (record {
-  copies = c.copies_stay.ensures.same;
-  mounts = c.mounts_stay.ensures.stay;
-  numbers = c.mounts_stay.ensures.new;
-  leads = c.locked_runs_lead_on.ensures;
-})
-
-pub returns-clause-steps : goal.returns-clause-steps
-returns-clause-steps c = steps_follow (record {
+pub returns-clause-follow : goal.returns-clause-follow
+returns-clause-follow c = volumes_follow (record {
   copies = c.copies_stay.ensures.same;
   mounts = c.mounts_stay.ensures.stay;
   numbers = c.mounts_stay.ensures.new;
