@@ -1,3 +1,4 @@
 pub mod Replies
+pub mod Answered
 pub mod MovedAway
 pub mod CleanedLists

@@ -1,29 +1,23 @@
 //! Changes of a volume's checkpoints and of its size. Each call is one event of the pen, or none.
 ghost use Rattle.std.specs.Prelude.{◌≡◌, ◌≢◌, Ok, Err, IfErr, IfOk, MatchResult};
-ghost use Rattle.nl_types.specs.declared.event.Event.TheVariants.{ChangeMode, Checkpoint, Remove, Resize};
-ghost use Rattle.nl_types.specs.declared.event.Mode.TheVariants.{Plain};
+ghost use Rattle.nl_types.specs.declared.event.Event.TheVariants.{ChangeMode, Checkpoint, Remove, RemoveRange, Resize};
+ghost use Rattle.nl_types.specs.declared.event.Mode.TheVariants.{Plain, Snapshot};
 ghost use Rattle.nl_types.specs.declared.reply.Answer.{Answer};
+ghost use Rattle.nl_types.specs.declared.reply.Answer.TheVariants as answer;
 ghost use Rattle.nl_types.specs.Worlds as worlds;
 ghost use Rattle.nl_types.specs.Worlds.{World};
 ghost use Rattle.nl_commit.specs.Layout.{Does, MeansWorld, unshared};
-ghost use Rattle.nl_lib.specs.Calls.{Syncs, checkpoint_reply, done_reply};
+ghost use Rattle.nl_lib.specs.Calls.{Syncs, done_reply, reply_with};
 
+use crate::answers::{range_removed, without_answer};
 use nl_core::Pen;
 use nl_device::Device;
-use nl_types::{CheckpointNumber, Event, Mode, Reply, VolError};
-
-/// Whether an event was done, without its answer.
-fn without_answer(reply: Reply) -> Result<(), VolError>
-    ensures { MatchResult result (λ _. (answer : Answer) × (reply ≡ Ok answer)) (λ e. reply ≡ Err e) }
-{
-    reply?;
-    Ok(())
-}
+use nl_types::{CheckpointNumber, Event, Mode, Range, VolError};
 
 /// Applies an event whose answer isn't needed.
-fn apply<D: Device>(pen: &mut Pen<D>, event: Event) -> Result<(), VolError>
+pub(crate) fn apply<D: Device>(pen: &mut Pen<D>, event: Event) -> Result<(), VolError>
     ensures { MatchResult result
-        (λ _. (answer : Answer) × Does unshared pen.old event (Ok answer) pen.new)
+        (λ _. (found : Answer) × Does unshared pen.old event (Ok found) pen.new)
         (λ e. Does unshared pen.old event (Err e) pen.new) }
 {
     without_answer(pen.apply(&event))
@@ -58,21 +52,59 @@ pub fn delete_checkpoint<D: Device>(
     apply(pen, Event::Remove(number))
 }
 
-/// Makes a plain checkpoint, and answers its number.
-fn make_checkpoint<D: Device>(pen: &mut Pen<D>, now: u64) -> Result<CheckpointNumber, VolError>
-    ensures does { Does unshared pen.old (Checkpoint Plain now) (checkpoint_reply result) pen.new }
+/// Removes the plain checkpoints from a first number to a last one, but for the latest one, and answers what
+/// became of each. libnilfs has no such call. Refused by `BadRange` where the first number is 0 or above the
+/// last, by `NoCheckpoint` where no kept number lies between, and by `Memory` for the lists.
+pub fn remove_checkpoints<D: Device>(
+    pen: &mut Pen<D>,
+    first: CheckpointNumber,
+    last: CheckpointNumber,
+) -> Result<Range, VolError>
+    ensures { Does unshared pen.old (RemoveRange first last) (reply_with answer.Removed result) pen.new }
+{
+    pen.means_a_world();
+    range_removed(pen.apply(&Event::RemoveRange { first, last }))
+}
+
+/// Makes a checkpoint, and answers its number.
+fn make_checkpoint<D: Device>(
+    pen: &mut Pen<D>,
+    mode: Mode,
+    now: u64,
+) -> Result<CheckpointNumber, VolError>
+    ensures does { Does unshared pen.old (Checkpoint mode now)
+        (reply_with answer.Checkpoint result) pen.new }
     ensures latest { IfOk result (λ number. number ≡ pen.new.lists.table.latest.number) }
     ensures told { IfOk result (λ number. (w : World) → MeansWorld pen.new w → number ≡ worlds.latest w) }
 {
     pen.means_a_world();
-    apply(
-        pen,
-        Event::Checkpoint {
-            mode: Mode::Plain,
-            moment: now,
-        },
-    )?;
+    apply(pen, Event::Checkpoint { mode, moment: now })?;
     Ok(pen.latest())
+}
+
+/// Keeps the current tree as a plain checkpoint, be something dirty or not, and answers its number. The
+/// moment is in whole seconds.
+///
+/// Refused by `NumbersSpent` where no checkpoint number is left, by `NoSpace` where no list of logs fits what
+/// differs from the latest checkpoint, by `Fault` where the device failed, and by `Memory`.
+pub fn checkpoint<D: Device>(pen: &mut Pen<D>, now: u64) -> Result<CheckpointNumber, VolError>
+    ensures does { Does unshared pen.old (Checkpoint Plain now)
+        (reply_with answer.Checkpoint result) pen.new }
+    ensures latest { IfOk result (λ number. number ≡ pen.new.lists.table.latest.number) }
+    ensures told { IfOk result (λ number. (w : World) → MeansWorld pen.new w → number ≡ worlds.latest w) }
+{
+    make_checkpoint(pen, Mode::Plain, now)
+}
+
+/// Keeps the current tree as a snapshot, which can be mounted, and answers its number. The moment is in whole
+/// seconds. Refused as a checkpoint is.
+pub fn snapshot<D: Device>(pen: &mut Pen<D>, now: u64) -> Result<CheckpointNumber, VolError>
+    ensures does { Does unshared pen.old (Checkpoint Snapshot now)
+        (reply_with answer.Checkpoint result) pen.new }
+    ensures latest { IfOk result (λ number. number ≡ pen.new.lists.table.latest.number) }
+    ensures told { IfOk result (λ number. (w : World) → MeansWorld pen.new w → number ≡ worlds.latest w) }
+{
+    make_checkpoint(pen, Mode::Snapshot, now)
 }
 
 /// Makes a plain checkpoint where something is dirty, and answers the latest one's number, after
@@ -86,7 +118,7 @@ pub fn sync<D: Device>(pen: &mut Pen<D>, now: u64) -> Result<CheckpointNumber, V
     ensures told { IfOk result (λ number. (w : World) → MeansWorld pen.new w → number ≡ worlds.latest w) }
 {
     if pen.is_dirty() {
-        make_checkpoint(pen, now)
+        checkpoint(pen, now)
     } else {
         Ok(pen.latest())
     }

@@ -1,4 +1,4 @@
-use Rattle.nl_lib.proofs.changes.without_answer.Goals as goal
+use Rattle.nl_lib.proofs.answers.without_answer.Goals as goal
 
 pub returns : goal.returns
 returns c = (c.in_ok-reply.field-0, c.in_ok-reply.was)
