@@ -5,8 +5,11 @@ use crate::rows::rounds::config;
 use nl_cleaner::{Job, plan};
 use nl_core::Pen;
 use nl_device::FaultDevice;
-use nl_lib::{change_cpmode, delete_checkpoint, resize};
-use nl_types::{Answer, Event, Reply, VolError};
+use nl_lib::{
+    change_cpmode, checkpoint, create, delete_checkpoint, list, listing, mkdir, read, remove,
+    remove_checkpoints, rename, resize, rmdir, snapshot, stat, truncate, write,
+};
+use nl_types::{Answer, Ask, Change, CheckpointNumber, Event, Mode, Reply, VolError};
 use std::alloc::Global;
 use std::io;
 use std::io::Write;
@@ -103,6 +106,51 @@ fn has_looked(pen: &mut Pen<FaultDevice>, read: &Event, look: &mut Look) -> bool
     has_added(look, &reply)
 }
 
+/// Changes the current tree, by the call for it.
+fn change_by_call(alloc: Global, pen: &mut Pen<FaultDevice>, change: &Change) -> Reply {
+    let done = match change {
+        Change::Create { path } => create(alloc, pen, path.as_slice()),
+        Change::Mkdir { path } => mkdir(alloc, pen, path.as_slice()),
+        Change::Write {
+            path,
+            offset,
+            bytes,
+        } => {
+            return write(alloc, pen, path.as_slice(), *offset, bytes.as_slice()).map(
+                Answer::Written,
+            );
+        }
+        Change::Truncate { path, size } => truncate(alloc, pen, path.as_slice(), *size),
+        Change::Unlink { path } => remove(alloc, pen, path.as_slice()),
+        Change::Rmdir { path } => rmdir(alloc, pen, path.as_slice()),
+        Change::Rename { from, to } => rename(alloc, pen, from.as_slice(), to.as_slice()),
+    };
+    done.map(|()| Answer::Done)
+}
+
+/// Makes a checkpoint, by the call for its mode.
+fn checkpoint_by_call(
+    pen: &mut Pen<FaultDevice>,
+    mode: Mode,
+    moment: u64,
+) -> Result<CheckpointNumber, VolError> {
+    match mode {
+        Mode::Plain => checkpoint(pen, moment),
+        Mode::Snapshot => snapshot(pen, moment),
+    }
+}
+
+/// Asks the current tree, by the call for it.
+fn ask_by_call(alloc: Global, pen: &mut Pen<FaultDevice>, ask: &Ask) -> Reply {
+    match ask {
+        Ask::Bytes { path, offset, len } => {
+            read(alloc, pen, path.as_slice(), *offset, *len).map(Answer::Bytes)
+        }
+        Ask::List { path } => list(alloc, pen, path.as_slice()).map(Answer::Names),
+        Ask::Stat { path } => stat(alloc, pen, path.as_slice()).map(Answer::Stat),
+    }
+}
+
 impl Volume for Alone {
     /// All that is told without memory, and the bytes of the file. They take memory, and are read again where
     /// it is refused.
@@ -117,13 +165,23 @@ impl Volume for Alone {
         look.get()
     }
 
-    /// An event; by the call after libnilfs, where there is one.
-    fn apply(&mut self, _: Global, event: &Event) -> Reply {
+    /// An event; by the call of `nl_lib`, where there is one.
+    fn apply(&mut self, alloc: Global, event: &Event) -> Reply {
+        let pen = &mut self.pen;
         let done = match event {
-            Event::ChangeMode(number, mode) => change_cpmode(&mut self.pen, *number, *mode),
-            Event::Remove(number) => delete_checkpoint(&mut self.pen, *number),
-            Event::Resize(segments) => resize(&mut self.pen, *segments),
-            _ => return self.pen.apply(event),
+            Event::Apply(change) => return change_by_call(alloc, pen, change),
+            Event::Read(ask) => return ask_by_call(alloc, pen, ask),
+            Event::Checkpoint { mode, moment } => {
+                return checkpoint_by_call(pen, *mode, *moment).map(Answer::Checkpoint);
+            }
+            Event::RemoveRange { first, last } => {
+                return remove_checkpoints(pen, *first, *last).map(Answer::Removed);
+            }
+            Event::Listing(options) => return listing(pen, options).map(Answer::Rows),
+            Event::ChangeMode(number, mode) => change_cpmode(pen, *number, *mode),
+            Event::Remove(number) => delete_checkpoint(pen, *number),
+            Event::Resize(segments) => resize(pen, *segments),
+            _ => return pen.apply(event),
         };
         done.map(|()| Answer::Done)
     }
