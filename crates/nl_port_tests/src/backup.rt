@@ -3,7 +3,9 @@ ghost use Rattle.std.specs.Prelude.{◌≡◌};
 
 use nl_core::Pen;
 use nl_device::MemDevice;
-use nl_mounts::{Geometry, Items, Mount, Opened, Port, Shared, VolError, Volumes, share};
+use nl_mounts::{
+    CheckpointNumber, Geometry, Items, Mount, Opened, Port, Shared, VolError, Volumes, share,
+};
 use std::alloc::Global;
 use std::marker::Brand;
 use std::sync::Wait;
@@ -12,9 +14,22 @@ use std::thread::{Threads, join};
 
 pub(crate) type Volume<J> = Shared<Pen<MemDevice>, J>;
 
-fn new_pen(alloc: Global) -> Result<Pen<MemDevice>, VolError> {
+pub(crate) fn new_pen(alloc: Global) -> Result<Pen<MemDevice>, VolError> {
     let geometry = Geometry::new(64, 64)?;
     Pen::format(alloc, MemDevice::new(alloc, geometry)?, geometry, 0)
+}
+
+/// Makes a file, and keeps it in a snapshot, whose number is answered.
+pub(crate) fn keep_file<J: Volumes, R: Wait>(
+    rt: &R,
+    alloc: Global,
+    volume: &Volume<J>,
+    path: &[u8],
+    bytes: &[u8],
+) -> Result<CheckpointNumber, VolError> {
+    volume.create(rt, alloc, path)?;
+    volume.write(rt, alloc, path, 0, bytes)?;
+    volume.snapshot(rt, 0)
 }
 
 /// Writes a text into the file again and again, with a checkpoint behind each.
@@ -76,10 +91,17 @@ fn back_up_beside<J: Volumes + Send + Sync, R: Threads + Wait + Sync>(
 }
 
 /// Gives a mount back. Refused, it is let go of: the end of the volume takes it out.
-pub(crate) fn give_back<J: Volumes, R: Wait>(rt: &R, volume: &Volume<J>, mount: Mount<J>) {
+pub(crate) fn give_back<J: Volumes, R: Wait>(
+    rt: &R,
+    volume: &Volume<J>,
+    mount: Mount<J>,
+) -> Result<(), VolError> {
     match volume.unmount(rt, mount) {
-        Ok(()) => {}
-        Err((_refusal, refused)) => refused.spend(),
+        Ok(()) => Ok(()),
+        Err((refusal, refused)) => {
+            refused.spend();
+            Err(refusal)
+        }
     }
 }
 
@@ -90,16 +112,13 @@ fn back_up_snapshot<J: Volumes + Send + Sync, R: Threads + Wait + Sync>(
     volume: &Volume<J>,
     port: &mut Port<J>,
 ) -> Result<Vec<Items<u8>>, VolError> {
-    volume.create(rt, alloc, b"/notes")?;
-    volume.write(rt, alloc, b"/notes", 0, b"draft")?;
-    let snapshot = volume.snapshot(rt, 0)?;
+    let snapshot = keep_file(rt, alloc, volume, b"/notes", b"draft")?;
     // The mount is of the checkpoint that is asked for, and the port has been told of it.
     match volume.mount(rt, port, snapshot) {
         Err(refusal) => Err(refusal),
         Ok(mount) => {
             let files = back_up_beside(rt, alloc, volume, port, &mount);
-            give_back(rt, volume, mount);
-            files
+            give_back(rt, volume, mount).and(files)
         }
     }
 }

@@ -1,20 +1,20 @@
 //! Readers of a mount on threads of their own, beside a writer and a cleaner. The mount shows what its
-//! checkpoint had, whatever is written, removed and moved meanwhile.
+//! checkpoint had, whatever is written and moved meanwhile.
 ghost use Rattle.std.specs.Prelude.{◌≡◌};
 
-use crate::ports::{all_hold, caches, has_cached, has_stat, learns, reads, warms};
-use crate::volume::{
-    File, Volume, cleans, ends, files, fills, makes_checkpoint, mounts, shared_among, unmounts,
-};
-use nl_mounts::Port;
-use nl_protect::{Amount, Config};
-use nl_publish::{Mount, Opened, Volumes};
-use nl_types::{Mode, Stat, VolError};
+use crate::backup::{Volume, give_back, shared};
+use crate::cleaning::clean;
+use crate::files::{File, file, mount_files};
+use crate::ports::{all_hold, has_stat, reads};
+use nl_mounts::{Mount, Opened, Port, Stat, VolError, Volumes};
 use std::alloc::Global;
 use std::marker::Brand;
 use std::sync::Wait;
+use std::sync::atomic::{AtomicBool, Ordering};
 use std::test::Fail;
-use std::thread::{Threads, join};
+use std::thread::{Threads, for_each_mut, join};
+
+// ---- readers
 
 /// The file's byte all over, and behind it what stood there.
 fn is_all(bytes: &[u8], byte: u8, size: usize) -> bool {
@@ -40,256 +40,139 @@ fn reads_file<J: Volumes>(
     told && read && is_all(into, byte, size)
 }
 
-fn reads_each<J: Volumes>(port: &mut Port<J>, mount: &Mount<J>, into: &mut [u8]) -> bool {
-    for file in files() {
-        if !reads_file(port, mount, *file, into) {
+/// Reads each of the four files ten times.
+fn reads_often<J: Volumes>(port: &mut Port<J>, mount: &Mount<J>, into: &mut [u8]) -> bool {
+    for turn in 0..40 {
+        if !reads_file(port, mount, file(turn), into) {
             return false;
         }
     }
     true
-}
-
-fn reads_often<J: Volumes>(
-    port: &mut Port<J>,
-    mount: &Mount<J>,
-    into: &mut [u8],
-    times: usize,
-) -> bool {
-    for _ in 0..times {
-        if !reads_each(port, mount, into) {
-            return false;
-        }
-    }
-    true
-}
-
-/// Reads the files so many times.
-fn reads_files<J: Volumes>(
-    alloc: Global,
-    port: &mut Port<J>,
-    mount: &Mount<J>,
-    times: usize,
-) -> Result<bool, VolError> {
-    let mut into = vec![in alloc; b'?'; 300_100]?;
-    Ok(reads_often(port, mount, into.as_mut_slice(), times))
-}
-
-/// No checkpoint is protected, and a segment is cleaned where a block of it isn't needed.
-fn config() -> Config {
-    Config {
-        protection_period: 0,
-        max_clean_segments: Amount::Count(16),
-        min_reclaimable_blocks: Amount::Count(1),
-        ..Config::standard()
-    }
-}
-
-/// How many checkpoints the writer makes.
-const CHECKPOINTS: u64 = 2000;
-
-/// The three files of two blocks at most, in turn.
-fn small_file(turn: u64) -> File {
-    match turn % 3 {
-        0 => (b"/one", b'1', 1),
-        1 => (b"/block", b'2', 1024),
-        _ => (b"/more", b'3', 1025),
-    }
-}
-
-/// Writes a small file, and answers the number of the checkpoint behind it.
-fn writes_one<J: Volumes, R: Wait>(
-    rt: &R,
-    alloc: Global,
-    shared: &Volume<J>,
-    turn: u64,
-) -> Result<u64, VolError> {
-    let (path, _, size) = small_file(turn);
-    fills(rt, alloc, shared, path, (turn % 100) as u8, size)?;
-    Ok(makes_checkpoint(rt, shared, Mode::Plain, turn))
-}
-
-/// A round of cleaning behind ten turns.
-fn cleans_at<J: Volumes, R: Wait>(
-    rt: &R,
-    alloc: Global,
-    shared: &Volume<J>,
-    turn: u64,
-) -> Result<(), VolError> {
-    if turn % 10 != 9 {
-        return Ok(());
-    }
-    cleans(rt, alloc, shared, &config(), turn)
-}
-
-/// Writes the files again and again, with a checkpoint behind each write, and a round of cleaning behind
-/// ten of them. The numbers of these checkpoints ascend from 3 on, with those of minor ones between.
-fn writes<J: Volumes, R: Wait>(
-    rt: &R,
-    alloc: Global,
-    shared: &Volume<J>,
-) -> Result<bool, VolError> {
-    let mut last = 2;
-    for turn in 0..CHECKPOINTS {
-        let made = writes_one(rt, alloc, shared, turn)?;
-        if made <= last {
-            return Ok(false);
-        }
-        last = made;
-        cleans_at(rt, alloc, shared, turn)?;
-    }
-    Ok(true)
-}
-
-fn cleans_often<J: Volumes, R: Wait>(
-    rt: &R,
-    alloc: Global,
-    shared: &Volume<J>,
-) -> Result<bool, VolError> {
-    for now in 0..200 {
-        cleans(rt, alloc, shared, &config(), now)?;
-    }
-    Ok(true)
 }
 
 /// A port keeps some blocks of the files from now on.
 fn keeps_blocks<J: Volumes>(alloc: Global, port: &mut Port<J>, mount: &Mount<J>) -> bool {
     all_hold(&[
-        caches(alloc, port, 100, Ok(())),
-        warms(port, mount, b"/more", 0, 1025, Ok(2)),
-        warms(port, mount, b"/long", 50_000, 200_000, Ok(197)),
-        has_cached(port, 100),
+        port.set_cache(alloc, 100) == Ok(()),
+        port.warm(mount, b"/more", 0, 1025) == Ok(2),
+        port.warm(mount, b"/long", 50_000, 200_000) == Ok(197),
+        port.cached() == 100,
     ])
 }
 
-/// A port reads the files, through pages that it keeps or without.
-fn reads_on<J: Volumes>(
-    alloc: Global,
-    port: &mut Port<J>,
-    mount: &Mount<J>,
-    keeps: bool,
-) -> Result<bool, VolError> {
-    learns(port, mount);
+/// Whether a port reads the files, through pages that it keeps or without.
+fn reads_on<J: Volumes>(alloc: Global, port: &mut Port<J>, mount: &Mount<J>, keeps: bool) -> bool {
+    port.learn(mount);
     let kept = !keeps || keeps_blocks(alloc, port, mount);
-    let read = reads_files(alloc, port, mount, 50)?;
-    Ok(kept && read)
-}
-
-/// Whether the first of some ports reads what is due.
-fn first_reads<J: Volumes>(
-    alloc: Global,
-    ports: &mut [Port<J>],
-    mount: &Mount<J>,
-    keeps: bool,
-) -> bool {
-    match ports.first_mut() {
-        Some(port) => reads_on(alloc, port, mount, keeps) == Ok(true),
-        None => false,
+    match vec![in alloc; b'?'; 300_100] {
+        Ok(mut into) => reads_often(port, mount, into.as_mut_slice()) && kept,
+        Err(_) => false,
     }
 }
 
-/// Whether two ports read what is due, one of them through pages that it keeps.
-fn both_read<J: Volumes + Send + Sync, R: Threads + Sync>(
-    rt: &R,
-    alloc: Global,
-    ports: &mut [Port<J>],
-    mount: &Mount<J>,
-) -> bool {
-    if ports.len() != 2 {
-        return false;
-    }
-    let (one, other) = ports.split_at_mut(1);
-    let (a, b) = join(
-        rt,
-        || first_reads(alloc, one, mount, true),
-        || first_reads(alloc, other, mount, false),
-    );
-    a && b
-}
-
-/// Whether four ports read what is due.
+/// Whether each port reads what is due, on a thread of its own; the first one does through pages that it keeps.
+/// The ports end here, beside the writer.
 fn all_read<J: Volumes + Send + Sync, R: Threads + Sync>(
-    rt: &R,
-    alloc: Global,
-    ports: &mut [Port<J>],
-    mount: &Mount<J>,
-) -> bool {
-    if ports.len() != 4 {
-        return false;
-    }
-    let (front, back) = ports.split_at_mut(2);
-    let (a, b) = join(
-        rt,
-        || both_read(rt, alloc, front, mount),
-        || both_read(rt, alloc, back, mount),
-    );
-    a && b
-}
-
-/// Whether the ports read what is due. They end here, beside the writer.
-fn spent_reading<J: Volumes + Send + Sync, R: Threads + Sync>(
     rt: &R,
     alloc: Global,
     mut ports: Vec<Port<J>>,
     mount: &Mount<J>,
 ) -> bool {
-    all_read(rt, alloc, ports.as_mut_slice(), mount)
+    let failed = AtomicBool::new(false);
+    for_each_mut(
+        rt,
+        ports.as_mut_slice(),
+        4,
+        &|index: usize, port: &mut Port<J>| {
+            if !reads_on(alloc, port, mount, index == 0) {
+                failed.store(true, Ordering::SeqCst);
+            }
+        },
+    );
+    !failed.load(Ordering::SeqCst)
+}
+
+// ---- the writer and the cleaner
+
+/// Writes one of the small files, with a checkpoint behind it, and a round of cleaning behind ten of them.
+fn overwrite<J: Volumes, R: Wait>(
+    rt: &R,
+    alloc: Global,
+    volume: &Volume<J>,
+    turn: usize,
+) -> Result<(), VolError> {
+    let (path, _, size) = file(turn % 3);
+    let bytes = vec![in alloc; (turn % 100) as u8; size]?;
+    volume.write(rt, alloc, path, 0, bytes.as_slice())?;
+    volume.checkpoint(rt, turn as u64)?;
+    if turn % 10 != 9 {
+        return Ok(());
+    }
+    clean(rt, alloc, volume, turn as u64)
+}
+
+fn overwrite_often<J: Volumes, R: Wait>(rt: &R, alloc: Global, volume: &Volume<J>) -> bool {
+    for turn in 0..200 {
+        if overwrite(rt, alloc, volume, turn).is_err() {
+            return false;
+        }
+    }
+    true
+}
+
+fn clean_often<J: Volumes, R: Wait>(rt: &R, alloc: Global, volume: &Volume<J>) -> bool {
+    for moment in 0..20 {
+        if clean(rt, alloc, volume, moment).is_err() {
+            return false;
+        }
+    }
+    true
 }
 
 /// Whether a writer and a cleaner beside it get on.
 fn both_write<J: Volumes + Send + Sync, R: Threads + Wait + Sync>(
     rt: &R,
     alloc: Global,
-    shared: &Volume<J>,
+    volume: &Volume<J>,
 ) -> bool {
     let (written, cleaned) = join(
         rt,
-        || writes(rt, alloc, shared),
-        || cleans_often(rt, alloc, shared),
+        || overwrite_often(rt, alloc, volume),
+        || clean_often(rt, alloc, volume),
     );
-    written == Ok(true) && cleaned == Ok(true)
+    written && cleaned
 }
+
+// ---- all of them
 
 /// Whether readers of a mount see what is due beside a writer and a cleaner.
 fn stands_still<J: Volumes + Send + Sync, R: Threads + Wait + Sync>(
     rt: &R,
     alloc: Global,
-    shared: &Volume<J>,
+    volume: &Volume<J>,
     ports: Vec<Port<J>>,
     mount: &Mount<J>,
 ) -> bool {
     let (read, written) = join(
         rt,
-        || spent_reading(rt, alloc, ports, mount),
-        || both_write(rt, alloc, shared),
+        || all_read(rt, alloc, ports, mount),
+        || both_write(rt, alloc, volume),
     );
     read && written
 }
 
-/// Mounts the snapshot of the files.
-fn mounts_for_first<J: Volumes, R: Wait>(
-    rt: &R,
-    shared: &Volume<J>,
-    ports: &mut [Port<J>],
-) -> Result<Mount<J>, VolError> {
-    match ports.first_mut() {
-        Some(first) => mounts(rt, shared, first, 2),
-        None => Err(VolError::BadRange),
-    }
-}
-
 /// Mounts the snapshot of the files, reads it beside a writer and a cleaner, and gives it back.
-fn stands_still_on<J: Volumes + Send + Sync, R: Threads + Wait + Sync>(
+fn mount_stands_still<J: Volumes + Send + Sync, R: Threads + Wait + Sync>(
     rt: &R,
     alloc: Global,
-    shared: &Volume<J>,
+    volume: &Volume<J>,
     mut ports: Vec<Port<J>>,
 ) -> Result<bool, VolError> {
-    match mounts_for_first(rt, shared, ports.as_mut_slice()) {
+    match mount_files(rt, alloc, volume, ports.as_mut_slice()) {
         Err(refusal) => Err(refusal),
         Ok(mount) => {
-            let good = stands_still(rt, alloc, shared, ports, &mount);
-            unmounts(rt, shared, mount)?;
-            Ok(good)
+            let good = stands_still(rt, alloc, volume, ports, &mount);
+            Ok(give_back(rt, volume, mount).is_ok() && good)
         }
     }
 }
@@ -301,10 +184,10 @@ fn beside_a_writer<J: Volumes + Send + Sync, R: Threads + Wait + Sync>(
 ) -> Result<bool, VolError>
     requires { opened.seen.book ≡ J.book opened.id }
 {
-    let (shared, ports) = shared_among::<J, _>(rt, alloc, 4, opened)?;
-    let good = stands_still_on(rt, alloc, &shared, ports);
-    let ended = ends(rt, shared);
-    good.map(|good| good && ended)
+    let (volume, ports) = shared::<J, _>(rt, alloc, 4, opened)?;
+    let good = mount_stands_still(rt, alloc, &volume, ports);
+    let _pen = volume.end(rt, Vec::new(alloc));
+    good
 }
 
 #[test]

@@ -1,9 +1,11 @@
 //! A writer that cleans while two ports read the file of a snapshot, part by part.
 ghost use Rattle.std.specs.Prelude.{◌≡◌};
 
-use crate::backup::{Volume, give_back, shared};
+use crate::backup::{Volume, give_back, keep_file, shared};
 use nl_cleaner::Job;
-use nl_mounts::{Amount, Config, Mount, Opened, PartsRead, Port, VolError, Volumes};
+use nl_mounts::{
+    Amount, CheckpointNumber, Config, FileAt, Mount, Opened, PartsRead, Port, VolError, Volumes,
+};
 use std::alloc::Global;
 use std::marker::Brand;
 use std::sync::Wait;
@@ -23,19 +25,24 @@ fn config() -> Config {
     }
 }
 
-/// A round of cleaning, step by step: each takes the lock, and lets it go.
-fn clean<J: Volumes, R: Wait>(
+/// Does a round of cleaning step by step: each takes the lock, and lets it go.
+fn finish<J: Volumes, R: Wait>(rt: &R, volume: &Volume<J>, round: &mut Job) {
+    for _ in 0..1000 {
+        if volume.clean_step(rt, round).is_none() {
+            return;
+        }
+    }
+}
+
+/// A round of cleaning.
+pub(crate) fn clean<J: Volumes, R: Wait>(
     rt: &R,
     alloc: Global,
     volume: &Volume<J>,
     moment: u64,
 ) -> Result<(), VolError> {
     let mut round: Job = volume.plan(rt, alloc, &config(), moment)?;
-    for _ in 0..1000 {
-        if volume.clean_step(rt, &mut round).is_none() {
-            return Ok(());
-        }
-    }
+    finish(rt, volume, &mut round);
     Ok(())
 }
 
@@ -53,41 +60,52 @@ fn write_and_clean<J: Volumes, R: Wait>(
     Ok(())
 }
 
-fn are_all(bytes: &[u8], byte: u8) -> bool {
-    for found in bytes {
-        if *found != byte {
+/// Whether the file is read, part by part, again and again: the bytes are those of the snapshot.
+fn reads_often<J: Volumes>(file: &FileAt<'_, J>, port: &mut Port<J>, bytes: &mut [u8]) -> bool {
+    let whole = PartsRead {
+        count: SIZE,
+        refusal: None,
+    };
+    for _ in 0..10 {
+        // Between two parts the writer goes on.
+        if file.read_parts(port, 0, bytes) != whole || !bytes.iter().all(|byte| *byte == b'a') {
             return false;
         }
     }
     true
 }
 
-/// Whether a port reads the file of the snapshot, again and again.
+/// Whether a port reads the file of the snapshot so.
 fn read_log<J: Volumes>(
     alloc: Global,
     port: &mut Port<J>,
     mount: &Mount<J>,
 ) -> Result<bool, VolError> {
+    let mut bytes = vec![in alloc; 0; SIZE]?;
     // The mount was made for another port: this one learns of it.
     port.learn(mount);
     // The path is walked once.
     let file = port.open(mount, b"/log")?;
-    let whole = PartsRead {
-        count: SIZE,
-        refusal: None,
-    };
-    let mut bytes = vec![in alloc; 0; SIZE]?;
-    for _ in 0..10 {
-        // Between two parts the writer goes on. The bytes are those of the snapshot.
-        let read = file.read_parts(port, 0, bytes.as_mut_slice());
-        if read != whole || !are_all(bytes.as_slice(), b'a') {
-            return Ok(false);
-        }
-    }
-    Ok(true)
+    Ok(reads_often(&file, port, bytes.as_mut_slice()))
 }
 
-/// Whether both ports read the file while the writer writes and cleans.
+/// Whether both ports read the file.
+fn both_read<J: Volumes + Send + Sync, R: Threads + Sync>(
+    rt: &R,
+    alloc: Global,
+    port: &mut Port<J>,
+    other: &mut Port<J>,
+    mount: &Mount<J>,
+) -> Result<bool, VolError> {
+    let (read, other_read) = join(
+        rt,
+        || read_log(alloc, port, mount),
+        || read_log(alloc, other, mount),
+    );
+    Ok(read? && other_read?)
+}
+
+/// Whether they do while the writer writes and cleans.
 fn read_beside<J: Volumes + Send + Sync, R: Threads + Wait + Sync>(
     rt: &R,
     alloc: Global,
@@ -98,35 +116,38 @@ fn read_beside<J: Volumes + Send + Sync, R: Threads + Wait + Sync>(
 ) -> Result<bool, VolError> {
     let (read, written) = join(
         rt,
-        || join(
-            rt,
-            || read_log(alloc, port, mount),
-            || read_log(alloc, other, mount),
-        ),
+        || both_read(rt, alloc, port, other, mount),
         || write_and_clean(rt, alloc, volume),
     );
-    written?;
-    Ok(read.0? && read.1?)
+    written.and(read)
 }
 
-/// Makes the snapshot, and reads it so.
+/// Makes the file, and keeps it in a snapshot.
+fn keep_log<J: Volumes, R: Wait>(
+    rt: &R,
+    alloc: Global,
+    volume: &Volume<J>,
+) -> Result<CheckpointNumber, VolError> {
+    let text = vec![in alloc; b'a'; SIZE]?;
+    keep_file(rt, alloc, volume, b"/log", text.as_slice())
+}
+
+/// Makes the snapshot, and reads it so by two ports.
 fn read_snapshot<J: Volumes + Send + Sync, R: Threads + Wait + Sync>(
     rt: &R,
     alloc: Global,
     volume: &Volume<J>,
-    port: &mut Port<J>,
-    other: &mut Port<J>,
+    ports: &mut [Port<J>],
 ) -> Result<bool, VolError> {
-    let text = vec![in alloc; b'a'; SIZE]?;
-    volume.create(rt, alloc, b"/log")?;
-    volume.write(rt, alloc, b"/log", 0, text.as_slice())?;
-    let snapshot = volume.snapshot(rt, 0)?;
+    let [port, other] = ports else {
+        return Err(VolError::BadRange);
+    };
+    let snapshot = keep_log(rt, alloc, volume)?;
     match volume.mount(rt, port, snapshot) {
         Err(refusal) => Err(refusal),
         Ok(mount) => {
             let read = read_beside(rt, alloc, volume, port, other, &mount);
-            give_back(rt, volume, mount);
-            read
+            give_back(rt, volume, mount).and(read)
         }
     }
 }
@@ -139,10 +160,7 @@ fn cleaned_beside<J: Volumes + Send + Sync, R: Threads + Wait + Sync>(
     requires { opened.seen.book ≡ J.book opened.id }
 {
     let (volume, mut ports) = shared::<J, _>(rt, alloc, 2, opened)?;
-    let read = match ports.as_mut_slice() {
-        [port, other] => read_snapshot(rt, alloc, &volume, port, other),
-        _ => Err(VolError::BadRange),
-    };
+    let read = read_snapshot(rt, alloc, &volume, ports.as_mut_slice());
     let _pen = volume.end(rt, Vec::new(alloc));
     read
 }

@@ -12,9 +12,7 @@ mod calls;
 #[cfg(test)]
 mod cleaning;
 #[cfg(test)]
-mod foreign;
-#[cfg(test)]
-mod gates;
+mod files;
 #[cfg(test)]
 mod many_reads;
 #[cfg(test)]
@@ -22,8 +20,4 @@ mod one_image;
 #[cfg(test)]
 mod ports;
 #[cfg(test)]
-mod seats;
-#[cfg(test)]
 mod two_volumes;
-#[cfg(test)]
-mod volume;

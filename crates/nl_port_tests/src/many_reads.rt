@@ -1,105 +1,49 @@
-//! Many reads at once, each port on a thread of its own.
+//! Many reads at once, each port on a thread of its own; and mounts and ports of another volume.
 ghost use Rattle.std.specs.Prelude.{◌≡◌};
 
-use crate::ports::{all_hold, has_stat, reads, stands_as};
-use crate::volume::{Volume, applies, ends_with, mounts, shared_among};
-use nl_mounts::{Gate, JobAnswer, Port, ReadJob, Standing, read_many};
-use nl_publish::{Gone, Mount, Opened, Volumes};
-use nl_types::{Answer, Event, Items, Reply, Segment, VolError};
+use crate::backup::{Volume, give_back, shared};
+use crate::files::mount_files;
+use nl_mounts::{
+    Event, Gate, Items, JobAnswer, Mount, Opened, Port, ReadJob, Segment, VolError, Volumes,
+    read_many,
+};
 use std::alloc::Global;
 use std::marker::Brand;
+use std::mem::swap;
 use std::sync::Wait;
-use std::sync::atomic::{AtomicBool, Ordering};
+use std::sync::atomic::{AtomicBool, AtomicU64, Ordering};
 use std::test::Fail;
 use std::thread::{Threads, join};
 
-/// Each of two jobs waits, for some turns, until the other one has begun and the volume has grown. It grows
-/// once both have begun.
-#[derive(Drop)]
-struct Meeting {
-    begun: [AtomicBool; 2],
-    grown: AtomicBool,
-    met: [AtomicBool; 2],
-}
-
-impl Meeting {
-    fn new() -> Meeting {
-        Meeting {
-            begun: [AtomicBool::new(false), AtomicBool::new(false)],
-            grown: AtomicBool::new(false),
-            met: [AtomicBool::new(false), AtomicBool::new(false)],
-        }
-    }
-
-    fn have_both_begun(&self) -> bool {
-        self.begun[0].load(Ordering::SeqCst) && self.begun[1].load(Ordering::SeqCst)
-    }
-
-    fn waits_for_both(&self) -> bool {
-        for _ in 0..TURNS {
-            if self.have_both_begun() {
-                return true;
-            }
-        }
-        false
-    }
-
-    fn took_place(&self) -> bool {
-        self.met[0].load(Ordering::SeqCst) && self.met[1].load(Ordering::SeqCst)
-    }
-}
-
-const TURNS: u64 = 2_000_000_000;
-
-impl Gate for Meeting {
-    fn before(&self, job: usize) {
-        if job > 1 {
-            return;
-        }
-        self.begun[job].store(true, Ordering::SeqCst);
-        for _ in 0..TURNS {
-            if self.have_both_begun() && self.grown.load(Ordering::SeqCst) {
-                self.met[job].store(true, Ordering::SeqCst);
-                return;
-            }
-        }
-    }
-
-    fn after(&self, _job: usize) {}
-}
-
-/// Moves out of a segment, and frees it, where that can be done.
-fn moves_out<J: Volumes, R: Wait>(rt: &R, shared: &Volume<J>, segment: Segment) {
-    let moving = Event::Move {
-        segment,
-        limit: 30,
-        now: 0,
-    };
-    let _moved = applies(rt, shared, &moving);
-    let _freed = applies(rt, shared, &Event::Retire(segment));
-}
-
-fn moves_all<J: Volumes, R: Wait>(rt: &R, shared: &Volume<J>) {
-    for segment in 0..64 {
-        moves_out(rt, shared, Segment::new(segment));
-    }
-}
-
-fn has_grown(reply: &Reply) -> bool {
-    matches!(reply, Ok(Answer::Done))
-}
-
-/// Makes the volume larger once both jobs have begun, and then moves all its blocks.
-fn grows<J: Volumes, R: Wait>(rt: &R, shared: &Volume<J>, meeting: &Meeting) -> bool {
-    let both = meeting.waits_for_both();
-    let grown = has_grown(&shared.apply(rt, &Event::Resize(128)));
-    meeting.grown.store(true, Ordering::SeqCst);
-    moves_all(rt, shared);
-    both && grown
-}
+// ---- jobs
 
 /// A job, with what is due.
 type Due<'a> = (&'a [u8], u64, u64, Result<&'a [u8], VolError>);
+
+/// Refusals stand in their places, and a path may come twice.
+const ALL_KINDS: &[Due<'static>] = &[
+    (b"/one", 0, 9, Ok(b"1")),
+    (b"/nothing", 0, 9, Err(VolError::NotFound)),
+    (b"/block", 1020, 9, Ok(b"2222")),
+    (b"/", 0, 9, Err(VolError::IsDir)),
+    (b"/more", 1024, 9, Ok(b"3")),
+    (b"/one/x", 0, 9, Err(VolError::NotDir)),
+    (b"/long", 299_998, 9, Ok(b"44")),
+    (b"one", 0, 9, Err(VolError::BadPath)),
+    (b"/one", 1, 9, Ok(b"")),
+    (b"/one", 0, 9, Ok(b"1")),
+];
+
+fn all_kinds() -> &'static [Due<'static>] {
+    ALL_KINDS
+}
+
+/// Two jobs for two ports.
+const TWO: &[Due<'static>] = &[(b"/one", 0, 9, Ok(b"1")), (b"/long", 0, 2, Ok(b"44"))];
+
+fn two() -> &'static [Due<'static>] {
+    TWO
+}
 
 fn job_of(alloc: Global, due: &Due<'_>) -> Result<ReadJob, VolError> {
     Ok(ReadJob {
@@ -134,201 +78,335 @@ fn are_due(answers: &[JobAnswer], all: &[Due<'_>]) -> bool {
     answers.len() == all.len()
 }
 
-/// Whether the ports answer these jobs as is due.
-fn answer_jobs<J: Volumes + Send + Sync, G: Gate + Sync, R: Threads + Sync>(
+/// What the ports answer to the jobs.
+fn answers_to<J: Volumes + Send + Sync, G: Gate + Sync, R: Threads + Sync>(
     rt: &R,
     alloc: Global,
     ports: &mut [Port<J>],
     mount: &Mount<J>,
-    jobs: &[ReadJob],
     all: &[Due<'_>],
     gate: &G,
-) -> Result<bool, VolError> {
+) -> Result<Vec<JobAnswer>, VolError> {
     if ports.is_empty() {
-        return Ok(false);
+        return Err(VolError::BadRange);
     }
-    let answers = read_many(rt, alloc, ports, mount, jobs, gate)?;
-    Ok(are_due(answers.as_slice(), all))
+    let jobs = jobs_of(alloc, all)?;
+    read_many(rt, alloc, ports, mount, jobs.as_slice(), gate)
 }
 
 /// Whether the ports answer the jobs as is due.
-fn answer_all<J: Volumes + Send + Sync, G: Gate + Sync, R: Threads + Sync>(
+fn answer<J: Volumes + Send + Sync, G: Gate + Sync, R: Threads + Sync>(
     rt: &R,
     alloc: Global,
     ports: &mut [Port<J>],
     mount: &Mount<J>,
     all: &[Due<'_>],
     gate: &G,
-) -> Result<bool, VolError> {
-    let jobs = jobs_of(alloc, all)?;
-    answer_jobs(rt, alloc, ports, mount, jobs.as_slice(), all, gate)
+) -> bool {
+    match answers_to(rt, alloc, ports, mount, all, gate) {
+        Ok(answers) => are_due(answers.as_slice(), all),
+        Err(_) => false,
+    }
 }
 
-/// Refusals stand in their places, and a path may come twice.
-const ALL_KINDS: &[Due<'static>] = &[
-    (b"/one", 0, 9, Ok(b"1")),
-    (b"/nothing", 0, 9, Err(VolError::NotFound)),
-    (b"/block", 1020, 9, Ok(b"2222")),
-    (b"/", 0, 9, Err(VolError::IsDir)),
-    (b"/more", 1024, 9, Ok(b"3")),
-    (b"/one/x", 0, 9, Err(VolError::NotDir)),
-    (b"/long", 299_998, 9, Ok(b"44")),
-    (b"one", 0, 9, Err(VolError::BadPath)),
-    (b"/one", 1, 9, Ok(b"")),
-    (b"/one", 0, 9, Ok(b"1")),
-];
+// ---- what stands round each job, and which port does which
 
-fn all_kinds() -> &'static [Due<'static>] {
-    ALL_KINDS
-}
-
-/// Two jobs for two ports.
-const TWO: &[Due<'static>] = &[(b"/one", 0, 9, Ok(b"1")), (b"/long", 0, 2, Ok(b"44"))];
-
-fn two() -> &'static [Due<'static>] {
-    TWO
-}
-
-/// A gate that is open.
+/// How many calls stood round each job, and whether one of them came out of turn.
 #[derive(Drop)]
-struct Open;
+struct Counts {
+    calls: [AtomicU64; 10],
+    strayed: AtomicBool,
+}
 
-impl Gate for Open {
-    fn before(&self, _job: usize) {}
+impl Counts {
+    fn new() -> Counts {
+        Counts {
+            calls: [
+                AtomicU64::new(0),
+                AtomicU64::new(0),
+                AtomicU64::new(0),
+                AtomicU64::new(0),
+                AtomicU64::new(0),
+                AtomicU64::new(0),
+                AtomicU64::new(0),
+                AtomicU64::new(0),
+                AtomicU64::new(0),
+                AtomicU64::new(0),
+            ],
+            strayed: AtomicBool::new(false),
+        }
+    }
+
+    /// Counts a call, of which so many are due before it.
+    fn count(&self, job: usize, due: u64) {
+        if job >= 10 || self.calls[job].fetch_add(1, Ordering::SeqCst) != due {
+            self.strayed.store(true, Ordering::SeqCst);
+        }
+    }
+
+    /// Whether each job began once, and ended once behind that.
+    fn are_one_each(&self) -> bool {
+        for job in 0..10 {
+            if self.calls[job].load(Ordering::SeqCst) != 2 {
+                return false;
+            }
+        }
+        !self.strayed.load(Ordering::SeqCst)
+    }
+}
+
+impl Gate for Counts {
+    fn before(&self, job: usize) {
+        self.count(job, 0);
+    }
+
+    fn after(&self, job: usize) {
+        self.count(job, 1);
+    }
+}
+
+/// Whether just the jobs of one of three ports are refused for the mount.
+fn are_refused_at(answers: &[JobAnswer], place: usize) -> bool {
+    for (job, answer) in answers.iter().enumerate() {
+        let refused = matches!(answer, Err(VolError::BadMount));
+        if refused != (job % 3 == place) {
+            return false;
+        }
+    }
+    answers.len() == 10
+}
+
+/// Whether each job is done once, and those of the port at a place by that one, which is another volume's.
+fn go_round<J: Volumes + Send + Sync, R: Threads + Sync>(
+    rt: &R,
+    alloc: Global,
+    ports: &mut [Port<J>],
+    mount: &Mount<J>,
+    place: usize,
+) -> bool {
+    let counts = Counts::new();
+    match answers_to(rt, alloc, ports, mount, all_kinds(), &counts) {
+        Ok(answers) => are_refused_at(answers.as_slice(), place) && counts.are_one_each(),
+        Err(_) => false,
+    }
+}
+
+/// The same at each place in turn.
+fn go_in_turn<J: Volumes + Send + Sync, R: Threads + Sync>(
+    rt: &R,
+    alloc: Global,
+    ports: &mut [Port<J>],
+    other: &mut Port<J>,
+    mount: &Mount<J>,
+) -> bool {
+    for place in 0..ports.len() {
+        swap(&mut ports[place], other);
+        let done = go_round(rt, alloc, ports, mount, place);
+        swap(&mut ports[place], other);
+        if !done {
+            return false;
+        }
+    }
+    ports.len() == 3
+}
+
+// ---- two jobs that meet
+
+/// Each of two jobs waits, for some turns, until the other one has begun and the volume has grown. It grows
+/// once both have begun.
+#[derive(Drop)]
+struct Meeting {
+    begun: AtomicU64,
+    grown: AtomicBool,
+    met: AtomicU64,
+}
+
+const TURNS: u64 = 2_000_000_000;
+
+impl Meeting {
+    fn new() -> Meeting {
+        Meeting {
+            begun: AtomicU64::new(0),
+            grown: AtomicBool::new(false),
+            met: AtomicU64::new(0),
+        }
+    }
+
+    /// Whether, within some turns, both jobs have begun, and the volume has grown where that is awaited.
+    fn comes(&self, awaits_growth: bool) -> bool {
+        for _ in 0..TURNS {
+            let grown = !awaits_growth || self.grown.load(Ordering::SeqCst);
+            if grown && self.begun.load(Ordering::SeqCst) == 2 {
+                return true;
+            }
+        }
+        false
+    }
+}
+
+impl Gate for Meeting {
+    fn before(&self, _job: usize) {
+        self.begun.fetch_add(1, Ordering::SeqCst);
+        if self.comes(true) {
+            self.met.fetch_add(1, Ordering::SeqCst);
+        }
+    }
 
     fn after(&self, _job: usize) {}
 }
 
-/// Whether each number of ports answers as is due.
-fn any_number_answers<J: Volumes + Send + Sync, R: Threads + Sync>(
-    rt: &R,
-    alloc: Global,
-    ports: &mut [Port<J>],
-    mount: &Mount<J>,
-) -> Result<bool, VolError> {
-    for count in 1..=ports.len() {
-        if !answer_all(rt, alloc, &mut ports[..count], mount, all_kinds(), &Open)? {
-            return Ok(false);
-        }
+/// Moves the blocks out of each segment, and frees it, where that can be done.
+fn move_all<J: Volumes, R: Wait>(rt: &R, volume: &Volume<J>) {
+    for index in 0..64 {
+        let segment = Segment::new(index);
+        let moving = Event::Move {
+            segment,
+            limit: 30,
+            now: 0,
+        };
+        let _moved = volume.apply(rt, &moving);
+        let _freed = volume.apply(rt, &Event::Retire(segment));
     }
-    Ok(true)
+}
+
+/// Makes the volume larger once both jobs have begun, and then moves all its blocks.
+fn grow<J: Volumes, R: Wait>(rt: &R, volume: &Volume<J>, meeting: &Meeting) -> bool {
+    let both = meeting.comes(false);
+    let grown = volume.resize(rt, 128).is_ok();
+    meeting.grown.store(true, Ordering::SeqCst);
+    move_all(rt, volume);
+    both && grown
 }
 
 /// Whether two jobs run at once, on two ports, while the volume grows and their blocks are moved.
 fn meet<J: Volumes + Send + Sync, R: Threads + Wait + Sync>(
     rt: &R,
     alloc: Global,
-    shared: &Volume<J>,
+    volume: &Volume<J>,
     ports: &mut [Port<J>],
     mount: &Mount<J>,
 ) -> bool {
     let meeting = Meeting::new();
     let (grown, answered) = join(
         rt,
-        || grows(rt, shared, &meeting),
-        || answer_all(rt, alloc, ports, mount, two(), &meeting),
+        || grow(rt, volume, &meeting),
+        || answer(rt, alloc, ports, mount, two(), &meeting),
     );
-    answered == Ok(true) && grown && meeting.took_place()
+    answered && grown && meeting.met.load(Ordering::SeqCst) == 2
 }
 
-/// Whether many reads are answered in the order of their jobs, by any number of ports, and at once by two.
-fn answers_at_once<J: Volumes + Send + Sync, R: Threads + Wait + Sync>(
+// ---- two volumes
+
+/// Whether a volume refuses another one's mount, which then goes back to its own.
+fn refuses<J: Volumes, R: Wait>(
+    rt: &R,
+    volume: &Volume<J>,
+    other: &Volume<J>,
+    mount: Mount<J>,
+) -> bool {
+    match other.unmount(rt, mount) {
+        Ok(()) => false,
+        Err((refusal, refused)) => {
+            let given_back = give_back(rt, volume, refused.again());
+            given_back.is_ok() && refusal == VolError::BadMount
+        }
+    }
+}
+
+/// Whether it does so beside a mount of its own with the same number, which it still has then. Each has mounted
+/// once, so both mounts have the same number.
+fn keeps_own<J: Volumes, R: Wait>(
     rt: &R,
     alloc: Global,
-    shared: &Volume<J>,
+    volume: &Volume<J>,
+    mount: Mount<J>,
+    other: &Volume<J>,
+    others: &mut [Port<J>],
+) -> bool {
+    match mount_files(rt, alloc, other, others) {
+        Err(_) => {
+            let _given_back = give_back(rt, volume, mount);
+            false
+        }
+        Ok(own) => {
+            let has_its_number = mount.number() == own.number();
+            let refused = refuses(rt, volume, other, mount);
+            give_back(rt, other, own).is_ok() && refused && has_its_number
+        }
+    }
+}
+
+// ---- all of it
+
+/// Whether many reads of a mount come out as is due.
+fn read_all<J: Volumes + Send + Sync, R: Threads + Wait + Sync>(
+    rt: &R,
+    alloc: Global,
+    volume: &Volume<J>,
     ports: &mut [Port<J>],
+    others: &mut [Port<J>],
     mount: &Mount<J>,
 ) -> bool {
-    any_number_answers(rt, alloc, ports, mount) == Ok(true) && meet(rt, alloc, shared, ports, mount)
+    let Some(other) = others.first_mut() else {
+        return false;
+    };
+    answer(rt, alloc, ports, mount, all_kinds(), &Counts::new())
+        && go_in_turn(rt, alloc, ports, other, mount)
+        && meet(rt, alloc, volume, ports, mount)
 }
 
-fn reads_nothing<J: Volumes>(port: &mut Port<J>, mount: &Mount<J>) -> bool {
-    let mut into = [b'?'; 4];
-    let refused = reads(port, mount, b"/one", 0, &mut into, Err(VolError::BadMount));
-    refused && into == [b'?'; 4]
-}
-
-fn lists_nothing<J: Volumes>(alloc: Global, port: &mut Port<J>, mount: &Mount<J>) -> bool {
-    matches!(port.list(alloc, mount, b"/"), Err(VolError::BadMount))
-}
-
-fn gives_nothing<J: Volumes>(alloc: Global, port: &mut Port<J>, mount: &Mount<J>) -> bool {
-    let read = port.read(alloc, mount, b"/one", 0, 9);
-    matches!(read, Err(VolError::BadMount))
-}
-
-/// Whether a port finds nothing once its volume has ended.
-fn finds_nothing<J: Volumes>(alloc: Global, port: &mut Port<J>, mount: &Mount<J>) -> bool {
-    all_hold(&[
-        reads_nothing(port, mount),
-        has_stat(port, mount, b"/one", Err(VolError::BadMount)),
-        lists_nothing(alloc, port, mount),
-        gives_nothing(alloc, port, mount),
-        stands_as(port, mount, Standing::Ended),
-    ])
-}
-
-/// Mounts the snapshot, and says whether many reads of it come out as is due.
-fn read_all_at_once<J: Volumes + Send + Sync, R: Threads + Wait + Sync>(
+/// The same of a mount that is made for it, and whether another volume leaves its own mount where it is handed
+/// that one.
+fn read_mounted<J: Volumes + Send + Sync, R: Threads + Wait + Sync>(
     rt: &R,
     alloc: Global,
-    shared: &Volume<J>,
+    volume: &Volume<J>,
     ports: &mut [Port<J>],
-) -> Result<(bool, Mount<J>), VolError> {
-    let Some(first) = ports.first_mut() else {
-        return Err(VolError::BadRange);
-    };
-    match mounts(rt, shared, first, 2) {
+    other: &Volume<J>,
+    others: &mut [Port<J>],
+) -> Result<bool, VolError> {
+    match mount_files(rt, alloc, volume, ports) {
         Err(refusal) => Err(refusal),
         Ok(mount) => {
-            let good = answers_at_once(rt, alloc, shared, ports, &mount);
-            Ok((good, mount))
+            let good = read_all(rt, alloc, volume, ports, others, &mount);
+            Ok(keeps_own(rt, alloc, volume, mount, other, others) && good)
         }
     }
 }
 
-fn all_find_nothing<J: Volumes>(alloc: Global, ports: &mut [Port<J>], mount: &Mount<J>) -> bool {
-    for index in 0..ports.len() {
-        if !finds_nothing(alloc, &mut ports[index], mount) {
-            return false;
-        }
-    }
-    true
-}
-
-/// Whether the ports find nothing through a mount whose volume has ended.
-fn spent_unseen<J: Volumes>(
+/// The same of a volume and one that is made beside it.
+fn read_beside<J: Volumes + Send + Sync, R: Threads + Wait + Sync>(
+    rt: &R,
     alloc: Global,
+    volume: &Volume<J>,
     ports: &mut [Port<J>],
-    mount: Mount<J>,
-    gone: &Gone,
-) -> bool {
-    let nothing = all_find_nothing(alloc, ports, &mount);
-    mount.spend(gone);
-    nothing
+    opened: Opened,
+) -> Result<bool, VolError>
+    requires { opened.seen.book ≡ J.book opened.id }
+{
+    let (other, mut others) = shared::<J, _>(rt, alloc, 1, opened)?;
+    let good = read_mounted(rt, alloc, volume, ports, &other, others.as_mut_slice());
+    let _pen = other.end(rt, Vec::new(alloc));
+    good
 }
 
 fn many_reads<J: Volumes + Send + Sync, R: Threads + Wait + Sync>(
     rt: &R,
     alloc: Global,
-    opened: Opened,
+    first: Opened,
+    second: Opened,
 ) -> Result<bool, VolError>
-    requires { opened.seen.book ≡ J.book opened.id }
+    requires first { first.seen.book ≡ J.book first.id }
+    requires second { second.seen.book ≡ J.book second.id }
 {
-    let (shared, mut ports) = shared_among::<J, _>(rt, alloc, 3, opened)?;
-    let came = read_all_at_once(rt, alloc, &shared, ports.as_mut_slice());
-    let (ended, gone) = ends_with(rt, shared);
-    match came {
-        Err(refusal) => Err(refusal),
-        Ok((good, mount)) => {
-            let nothing = spent_unseen(alloc, ports.as_mut_slice(), mount, &gone);
-            Ok(good && nothing && ended)
-        }
-    }
+    let (volume, mut ports) = shared::<J, _>(rt, alloc, 3, first)?;
+    let good = read_beside(rt, alloc, &volume, ports.as_mut_slice(), second);
+    let _pen = volume.end(rt, Vec::new(alloc));
+    good
 }
 
 #[test]
 fn many_reads_are_made_at_once(rt: HostRuntime) -> Result<(), Fail> {
-    assert!(rt; many_reads::<Brand, _>(&rt, rt.alloc(), Opened::new(1))?);
+    assert!(rt; many_reads::<Brand, _>(&rt, rt.alloc(), Opened::new(1), Opened::new(2))?);
     Ok(())
 }

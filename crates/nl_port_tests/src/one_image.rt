@@ -2,15 +2,15 @@
 //! that the image shows.
 ghost use Rattle.std.specs.Prelude.{◌≡◌};
 
+use crate::backup::new_pen;
 use crate::ports::{all_hold, has_stat, reads, stands_as};
-use crate::volume::new_pen;
 use nl_core::Pen;
 use nl_device::MemDevice;
-use nl_mounts::{Enters, Port, Standing};
-use nl_publish::{
-    Entry, Gone, Image, Locked, Mount, NotingPen, Opened, Press, Volumes, count_refusal,
+use nl_mounts::{
+    Change, CheckpointNumber, Enters, Event, Gone, Items, Mode, Mount, Opened, Port, Standing,
+    Stat, VolError, Volumes,
 };
-use nl_types::{CheckpointNumber, Stat, VolError};
+use nl_publish::{Entry, Image, Locked, Press, count_refusal};
 use std::alloc::Global;
 use std::marker::{Brand, Model};
 use std::sync::Wait;
@@ -133,11 +133,50 @@ impl Enters for GivenOne {
 
 type Volume<J> = Locked<Pen<MemDevice>, J, OneImage>;
 
-/// The files, whose image is in memory.
+/// Makes a file of three bytes.
+fn changes(alloc: Global) -> Result<(Change, Change), VolError> {
+    let create = Change::Create {
+        path: Items::from_slice(alloc, b"/one")?,
+    };
+    let write = Change::Write {
+        path: Items::from_slice(alloc, b"/one")?,
+        offset: 0,
+        bytes: Items::from_slice(alloc, b"abc")?,
+    };
+    Ok((create, write))
+}
+
+fn apply(pen: &mut Pen<MemDevice>, event: &Event) -> Result<(), VolError> {
+    match pen.apply(event) {
+        Ok(_) => Ok(()),
+        Err(refusal) => Err(refusal),
+    }
+}
+
+/// Keeps the file in snapshot 2.
+fn keep_file(alloc: Global, pen: &mut Pen<MemDevice>) -> Result<(), VolError> {
+    let (create, write) = changes(alloc)?;
+    apply(pen, &Event::Apply(create))?;
+    apply(pen, &Event::Apply(write))?;
+    let snapshot = Event::Checkpoint {
+        mode: Mode::Snapshot,
+        moment: 0,
+    };
+    apply(pen, &snapshot)
+}
+
+/// A pen with the file.
+fn pen_with_file(alloc: Global) -> Result<Pen<MemDevice>, VolError> {
+    let mut pen = new_pen(alloc)?;
+    keep_file(alloc, &mut pen)?;
+    Ok(pen)
+}
+
+/// A volume with the file, whose image is in memory.
 fn begun<J: Volumes>(alloc: Global, opened: Opened) -> Result<Volume<J>, VolError>
     requires { opened.seen.book ≡ J.book opened.id }
 {
-    let pen = new_pen(alloc)?;
+    let pen = pen_with_file(alloc)?;
     let commit = pen.whole()?;
     let (mut record, mut front) = opened.named::<J>();
     if !front.add(&mut record, &commit) {
@@ -164,24 +203,34 @@ fn port_of<J: Volumes>(volume: Volume<J>) -> (Port<J, GivenOne>, Gone) {
     (Port::over(GivenOne::new(image), front), gone)
 }
 
-/// Whether a port finds the mount, and reads its files.
+/// Whether a port finds the mount, and reads its file.
 fn finds<J: Volumes>(port: &mut Port<J, GivenOne>, mount: &Mount<J>) -> bool {
     let mut into = [b'?'; 3];
-    let read = reads(port, mount, b"/long", 299_998, &mut into, Ok(2));
+    let read = reads(port, mount, b"/one", 1, &mut into, Ok(2));
     all_hold(&[
         stands_as(port, mount, Standing::Mounted),
-        read && into == [b'4', b'4', b'?'],
-        has_stat(port, mount, b"/more", Ok(Stat::File(1025))),
+        read && into == [b'b', b'c', b'?'],
+        has_stat(port, mount, b"/one", Ok(Stat::File(3))),
         has_stat(port, mount, b"/none", Err(VolError::NotFound)),
     ])
 }
 
 /// Whether it finds that the mount was given back.
 fn misses<J: Volumes>(port: &mut Port<J, GivenOne>, mount: &Mount<J>) -> bool {
-    all_hold(&[
-        stands_as(port, mount, Standing::GivenBack),
-        has_stat(port, mount, b"/more", Err(VolError::BadMount)),
-    ])
+    stands_as(port, mount, Standing::GivenBack)
+        && has_stat(port, mount, b"/one", Err(VolError::BadMount))
+}
+
+/// Whether a port of a volume finds a mount of it, or that it was given back.
+fn has_found<J: Volumes>(volume: Volume<J>, mount: Mount<J>, gives_back: bool) -> bool {
+    let (mut port, gone) = port_of(volume);
+    let found = if gives_back {
+        misses(&mut port, &mount)
+    } else {
+        finds(&mut port, &mount)
+    };
+    mount.spend(&gone);
+    found
 }
 
 /// Whether a mount is found as long as it isn't given back.
@@ -193,10 +242,7 @@ fn stands<J: Volumes, R: Wait>(
 ) -> Result<bool, VolError>
     requires { opened.seen.book ≡ J.book opened.id }
 {
-    let mut volume = match begun::<J>(alloc, opened) {
-        Err(refusal) => return Err(refusal),
-        Ok(volume) => volume,
-    };
+    let mut volume = begun::<J>(alloc, opened)?;
     match volume.mount(rt, CheckpointNumber::new(2)) {
         Err(refusal) => {
             let (_port, _gone) = port_of(volume);
@@ -204,14 +250,7 @@ fn stands<J: Volumes, R: Wait>(
         }
         Ok(mount) => {
             let done = !gives_back || volume.unmount_number(rt, mount.number()).is_ok();
-            let (mut port, gone) = port_of(volume);
-            let good = if gives_back {
-                misses(&mut port, &mount)
-            } else {
-                finds(&mut port, &mount)
-            };
-            mount.spend(&gone);
-            Ok(done && good)
+            Ok(has_found(volume, mount, gives_back) && done)
         }
     }
 }

@@ -1,37 +1,7 @@
-//! Calls of a port, each with what is due. They promise nothing, as those of `volume`.
+//! Calls of a port, each with what is due. They promise nothing: who calls them is proved without the promises
+//! of what they call.
 
-use nl_mounts::{Enters, Port, Standing};
-use nl_publish::{Mount, Volumes};
-use nl_types::{Stat, VolError};
-use std::alloc::Global;
-
-pub(crate) fn caches<J: Volumes>(
-    alloc: Global,
-    port: &mut Port<J>,
-    pages: usize,
-    due: Result<(), VolError>,
-) -> bool {
-    port.set_cache(alloc, pages) == due
-}
-
-pub(crate) fn has_cached<J: Volumes>(port: &Port<J>, due: usize) -> bool {
-    port.cached() == due
-}
-
-pub(crate) fn learns<J: Volumes>(port: &mut Port<J>, mount: &Mount<J>) {
-    port.learn(mount);
-}
-
-pub(crate) fn warms<J: Volumes>(
-    port: &mut Port<J>,
-    mount: &Mount<J>,
-    path: &[u8],
-    offset: u64,
-    len: u64,
-    due: Result<usize, VolError>,
-) -> bool {
-    port.warm(mount, path, offset, len) == due
-}
+use nl_mounts::{Enters, Mount, Port, Standing, Stat, VolError, Volumes};
 
 pub(crate) fn reads<J: Volumes, E: Enters>(
     port: &mut Port<J, E>,
@@ -62,10 +32,5 @@ pub(crate) fn stands_as<J: Volumes, E: Enters>(
 }
 
 pub(crate) fn all_hold(answers: &[bool]) -> bool {
-    for answer in answers {
-        if !*answer {
-            return false;
-        }
-    }
-    true
+    answers.iter().all(|answer| *answer)
 }

@@ -1,25 +1,14 @@
 //! A reader of two volumes, which compares a file of the latest snapshot of each.
 ghost use Rattle.std.specs.Prelude.{◌≡◌};
 
-use crate::backup::{Volume, give_back, shared};
-use nl_mounts::{CheckpointNumber, ListOptions, Mount, Opened, Port, VolError, Volumes};
+use crate::backup::{Volume, keep_file, shared};
+use nl_mounts::{
+    Answer, Ask, CheckpointNumber, Items, ListOptions, Opened, Port, Reply, VolError, Volumes,
+};
 use std::alloc::Global;
 use std::marker::Brand;
 use std::sync::Wait;
 use std::test::Fail;
-
-/// Keeps a text in a snapshot.
-fn keep_text<J: Volumes, R: Wait>(
-    rt: &R,
-    alloc: Global,
-    volume: &Volume<J>,
-    text: &[u8],
-) -> Result<(), VolError> {
-    volume.create(rt, alloc, b"/notes")?;
-    volume.write(rt, alloc, b"/notes", 0, text)?;
-    volume.snapshot(rt, 0)?;
-    Ok(())
-}
 
 /// The number of the latest snapshot, which the port sees without the lock.
 fn latest_snapshot<J: Volumes>(
@@ -40,60 +29,27 @@ fn latest_snapshot<J: Volumes>(
     }
 }
 
-/// Whether the file is the same in both mounts, each of which its own volume's port reads.
-fn is_same<J: Volumes>(
-    alloc: Global,
-    port: &mut Port<J>,
-    mount: &Mount<J>,
-    other: &mut Port<J>,
-    others: &Mount<J>,
-) -> Result<bool, VolError> {
-    let text = port.read(alloc, mount, b"/notes", 0, u64::MAX)?;
-    let other_text = other.read(alloc, others, b"/notes", 0, u64::MAX)?;
-    Ok(text.as_slice() == other_text.as_slice())
-}
-
-/// Mounts a snapshot of the other volume too, and compares.
-fn is_same_in_other<J: Volumes, R: Wait>(
-    rt: &R,
-    alloc: Global,
-    port: &mut Port<J>,
-    mount: &Mount<J>,
-    other_volume: &Volume<J>,
-    other: &mut Port<J>,
-) -> Result<bool, VolError> {
-    let snapshot = latest_snapshot(alloc, other)?;
-    match other_volume.mount(rt, other, snapshot) {
-        Err(refusal) => Err(refusal),
-        Ok(others) => {
-            let same = is_same(alloc, port, mount, other, &others);
-            give_back(rt, other_volume, others);
-            same
-        }
-    }
-}
-
-/// Whether the file is the same in the latest snapshots of two volumes.
-fn is_same_in_both<J: Volumes, R: Wait>(
-    rt: &R,
-    alloc: Global,
-    volume: &Volume<J>,
-    port: &mut Port<J>,
-    other_volume: &Volume<J>,
-    other: &mut Port<J>,
-) -> Result<bool, VolError> {
+/// The file of the latest snapshot. One read needs no mount.
+fn read_latest<J: Volumes>(alloc: Global, port: &mut Port<J>) -> Reply {
     let snapshot = latest_snapshot(alloc, port)?;
-    match volume.mount(rt, port, snapshot) {
-        Err(refusal) => Err(refusal),
-        Ok(mount) => {
-            let same = is_same_in_other(rt, alloc, port, &mount, other_volume, other);
-            give_back(rt, volume, mount);
-            same
-        }
+    let ask = Ask::Bytes {
+        path: Items::from_slice(alloc, b"/notes")?,
+        offset: 0,
+        len: u64::MAX,
+    };
+    port.read_at(alloc, snapshot, &ask)
+}
+
+/// Whether two reads answered the same bytes.
+fn are_same(text: &Reply, other: &Reply) -> bool {
+    match (text, other) {
+        (Ok(Answer::Bytes(text)), Ok(Answer::Bytes(other))) => text.as_slice() == other.as_slice(),
+        _ => false,
     }
 }
 
-/// The same, once each has a text.
+/// Whether the file is the same in the latest snapshots of two volumes, once each has a text. A port reads its
+/// own volume alone.
 fn is_same_text<J: Volumes, R: Wait>(
     rt: &R,
     alloc: Global,
@@ -102,9 +58,9 @@ fn is_same_text<J: Volumes, R: Wait>(
     other_volume: &Volume<J>,
     other: &mut Port<J>,
 ) -> Result<bool, VolError> {
-    keep_text(rt, alloc, volume, b"draft")?;
-    keep_text(rt, alloc, other_volume, b"draft")?;
-    is_same_in_both(rt, alloc, volume, port, other_volume, other)
+    keep_file(rt, alloc, volume, b"/notes", b"draft")?;
+    keep_file(rt, alloc, other_volume, b"/notes", b"draft")?;
+    Ok(are_same(&read_latest(alloc, port), &read_latest(alloc, other)))
 }
 
 /// The same of a volume and one that is made beside it.
