@@ -60,6 +60,15 @@ fn write_and_clean<J: Volumes, R: Wait>(
     Ok(())
 }
 
+fn are_all(bytes: &[u8], byte: u8) -> bool {
+    for found in bytes {
+        if *found != byte {
+            return false;
+        }
+    }
+    true
+}
+
 /// Whether the file is read, part by part, again and again: the bytes are those of the snapshot.
 fn reads_often<J: Volumes>(file: &FileAt<'_, J>, port: &mut Port<J>, bytes: &mut [u8]) -> bool {
     let whole = PartsRead {
@@ -68,7 +77,7 @@ fn reads_often<J: Volumes>(file: &FileAt<'_, J>, port: &mut Port<J>, bytes: &mut
     };
     for _ in 0..10 {
         // Between two parts the writer goes on.
-        if file.read_parts(port, 0, bytes) != whole || !bytes.iter().all(|byte| *byte == b'a') {
+        if file.read_parts(port, 0, bytes) != whole || !are_all(bytes, b'a') {
             return false;
         }
     }

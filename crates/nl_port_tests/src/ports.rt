@@ -32,5 +32,10 @@ pub(crate) fn stands_as<J: Volumes, E: Enters>(
 }
 
 pub(crate) fn all_hold(answers: &[bool]) -> bool {
-    answers.iter().all(|answer| *answer)
+    for answer in answers {
+        if !*answer {
+            return false;
+        }
+    }
+    true
 }
