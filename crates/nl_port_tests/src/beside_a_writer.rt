@@ -14,6 +14,15 @@ use std::sync::atomic::{AtomicBool, Ordering};
 use std::test::Fail;
 use std::thread::{Threads, for_each_mut, join};
 
+/// How many checkpoints the writer makes.
+const CHECKPOINTS: usize = 2000;
+
+/// How many rounds the cleaner does.
+const ROUNDS: u64 = 200;
+
+/// How many files each reader reads.
+const READS: usize = 200;
+
 // ---- readers
 
 /// The file's byte all over, and behind it what stood there.
@@ -40,9 +49,9 @@ fn reads_file<J: Volumes>(
     told && read && is_all(into, byte, size)
 }
 
-/// Reads each of the four files ten times.
+/// Reads the four files in turn.
 fn reads_often<J: Volumes>(port: &mut Port<J>, mount: &Mount<J>, into: &mut [u8]) -> bool {
-    for turn in 0..40 {
+    for turn in 0..READS {
         if !reads_file(port, mount, file(turn), into) {
             return false;
         }
@@ -94,34 +103,38 @@ fn all_read<J: Volumes + Send + Sync, R: Threads + Sync>(
 
 // ---- the writer and the cleaner
 
-/// Writes one of the small files, with a checkpoint behind it, and a round of cleaning behind ten of them.
+/// Writes one of the small files, with a checkpoint behind it, and a round of cleaning behind ten of them. It
+/// answers the checkpoint's number.
 fn overwrite<J: Volumes, R: Wait>(
     rt: &R,
     alloc: Global,
     volume: &Volume<J>,
     turn: usize,
-) -> Result<(), VolError> {
+) -> Result<u64, VolError> {
     let (path, _, size) = file(turn % 3);
     let bytes = vec![in alloc; (turn % 100) as u8; size]?;
     volume.write(rt, alloc, path, 0, bytes.as_slice())?;
-    volume.checkpoint(rt, turn as u64)?;
-    if turn % 10 != 9 {
-        return Ok(());
+    let number = volume.checkpoint(rt, turn as u64)?;
+    if turn % 10 == 9 {
+        clean(rt, alloc, volume, turn as u64)?;
     }
-    clean(rt, alloc, volume, turn as u64)
+    Ok(number.get())
 }
 
+/// Whether all is written. The numbers of the checkpoints ascend, with those of minor ones between.
 fn overwrite_often<J: Volumes, R: Wait>(rt: &R, alloc: Global, volume: &Volume<J>) -> bool {
-    for turn in 0..200 {
-        if overwrite(rt, alloc, volume, turn).is_err() {
-            return false;
+    let mut last = 0;
+    for turn in 0..CHECKPOINTS {
+        match overwrite(rt, alloc, volume, turn) {
+            Ok(number) if number > last => last = number,
+            _ => return false,
         }
     }
     true
 }
 
 fn clean_often<J: Volumes, R: Wait>(rt: &R, alloc: Global, volume: &Volume<J>) -> bool {
-    for moment in 0..20 {
+    for moment in 0..ROUNDS {
         if clean(rt, alloc, volume, moment).is_err() {
             return false;
         }
