@@ -1,0 +1,5 @@
+pub mod Digits
+pub mod LineOrder
+pub mod Loops
+pub mod Again
+pub mod Read

@@ -1,0 +1,3 @@
+pub mod Manifests
+pub mod Readings
+pub mod Private

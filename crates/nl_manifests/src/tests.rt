@@ -1,0 +1,97 @@
+use crate::attributes::{Attributes, Time};
+use crate::manifest::{Line, LineKind, Manifest};
+use crate::printing::printed;
+use crate::reading::read_manifest;
+use nl_types::Items;
+use std::alloc::{AllocError, Global};
+
+const TIME: Time = Time {
+    is_negative: false,
+    seconds: 1_795_808_658,
+    nanoseconds: 995_470_559,
+};
+
+const OWN: Attributes = Attributes {
+    mode: 0o755,
+    owner: 1000,
+    group: 100,
+    time: TIME,
+};
+
+const TEXT: &[u8] =
+    b"#mtree\n. type=dir mode=0755 uid=1000 gid=100 time=1795808658.995470559\n./a\\040b type=file mode=4644 uid=0 gid=0 time=-1.000000007\n./l type=link mode=0777 uid=1000 gid=100 time=1795808658.995470559 link=../x\\134\n";
+
+fn line(
+    alloc: Global,
+    name: &[u8],
+    kind: LineKind,
+    attributes: Attributes,
+) -> Result<Line, AllocError> {
+    let name = Items::from_slice(alloc, name)?;
+    Ok(Line {
+        name,
+        kind,
+        attributes,
+    })
+}
+
+fn manifest(alloc: Global) -> Result<Manifest, AllocError> {
+    let time = Time {
+        is_negative: true,
+        seconds: 1,
+        nanoseconds: 7,
+    };
+    let file = Attributes {
+        mode: 0o4644,
+        owner: 0,
+        group: 0,
+        time,
+    };
+    let link = Attributes { mode: 0o777, ..OWN };
+    let target = Items::from_slice(alloc, b"../x\\")?;
+    let mut lines = Items::new(alloc);
+    lines.push(line(alloc, b"a b", LineKind::File, file)?)?;
+    lines.push(line(alloc, b"l", LineKind::Link(target), link)?)?;
+    Ok(Manifest { own: OWN, lines })
+}
+
+fn reads(alloc: Global, bytes: &[u8]) -> Result<bool, AllocError> {
+    Ok(read_manifest(alloc, bytes)?.is_some())
+}
+
+fn is_printed_so(alloc: Global) -> Result<bool, AllocError> {
+    let text = printed(alloc, &manifest(alloc)?)?;
+    Ok(text.as_slice() == TEXT)
+}
+
+#[test]
+fn a_manifest_is_printed_as_mtree_has_it(rt: HostRuntime) -> Result<(), AllocError> {
+    assert!(rt; is_printed_so(rt.alloc())?);
+    assert!(rt; reads(rt.alloc(), TEXT)?);
+    Ok(())
+}
+
+const OF_ONE: &[u8] = b"#mtree\n. type=dir mode=0755 uid=0 gid=0 time=0.000000000\n";
+
+const LEADING_ZERO: &[u8] = b"#mtree\n. type=dir mode=0755 uid=00 gid=0 time=0.000000000\n";
+
+const NEGATIVE_ZERO: &[u8] = b"#mtree\n. type=dir mode=0755 uid=0 gid=0 time=-0.000000000\n";
+
+const MORE_BITS: &[u8] = b"#mtree\n. type=dir mode=10755 uid=0 gid=0 time=0.000000000\n";
+
+const NO_END: &[u8] = b"#mtree\n. type=dir mode=0755 uid=0 gid=0 time=0.000000000";
+
+#[test]
+fn other_spellings_are_no_manifest(rt: HostRuntime) -> Result<(), AllocError> {
+    assert!(rt; reads(rt.alloc(), OF_ONE)?);
+    for text in [
+        LEADING_ZERO,
+        NEGATIVE_ZERO,
+        MORE_BITS,
+        NO_END,
+        b"".as_slice(),
+    ] {
+        assert!(rt; !reads(rt.alloc(), text)?);
+    }
+    Ok(())
+}
