@@ -3,3 +3,10 @@ pub mod LineOrder
 pub mod Loops
 pub mod Again
 pub mod Read
+pub mod Sorted
+pub mod Putting
+pub mod Shown
+pub mod Kept
+pub mod OpenedTrees
+pub mod Refused
+pub mod EntryParts

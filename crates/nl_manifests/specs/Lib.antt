@@ -1,3 +1,4 @@
 pub mod Manifests
 pub mod Readings
+pub mod HostTrees
 pub mod Private

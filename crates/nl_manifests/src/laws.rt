@@ -1,8 +1,14 @@
 //! What the definitions mean, as contracts of functions that do nothing.
+ghost use Rattle.nl_manifests.specs.HostTrees.{TreesShowOne};
 ghost use Rattle.nl_manifests.specs.Readings.{ManifestsArePrinted};
 
 /// A file has a manifest exactly where its bytes are those that this manifest is printed as. So there is one
 /// at most.
 pub fn manifests_are_printed()
     ensures { ManifestsArePrinted }
+{}
+
+/// A tree shows one tree of the host. So where a tree was made to show one, that is what `open` answers.
+pub fn trees_show_one()
+    ensures { TreesShowOne }
 {}

@@ -1,17 +1,24 @@
 //! Manifests: the modes, times, owners and symbolic links of a directory, in a file of lines in the form of
-//! mtree(5); and trees of the host, which have these, as trees of a volume and back.
+//! mtree(5); and the trees of the host that trees of a volume show by them.
 #![tactic(auto)]
 
 mod attributes;
 mod fields;
+mod host_tree;
 pub mod laws;
+mod looking;
 mod manifest;
+mod opening;
+mod ordered;
 mod printing;
 mod reading;
+mod refusing;
 #[cfg(test)]
 mod tests;
 
 pub use attributes::{Attributes, Time};
+pub use host_tree::{HostEntry, HostNode, HostTree, LineFault, Opened};
 pub use manifest::{Line, LineKind, Manifest};
+pub use opening::open;
 pub use printing::printed;
 pub use reading::read_manifest;

@@ -1,0 +1,320 @@
+//! Trees of a volume, as the trees of the host that they show.
+ghost use Rattle.std.specs.Prelude.{◌≡◌, ◌++◌, [], ◌&&◌, IfOk, OnOk, Some, None, is_some, option_and_then};
+ghost use Rattle.std.specs.Option.{option_copied};
+ghost use Rattle.std.specs.List.{flat_map};
+ghost use Rattle.nl_types.specs.Paths.{same_name};
+ghost use Rattle.nl_types.specs.declared.reply.Node.TheVariants.{File};
+ghost use Rattle.nl_types.specs.Trees.{IsTree};
+ghost use Rattle.nl_manifests.specs.HostTrees.{Shows, line_in, manifest_at, last_name, manifest_for, manifest_name, parted, refused, shown_directory, shown_file, shown_in, shown_link, told_of_file};
+ghost use Rattle.nl_manifests.specs.Private.Opening.{Puts, PutsIfOrdered, above_in, entry_if, link_part, links_part, manifest_entry, manifests, node_part, parts};
+
+use crate::attributes::Attributes;
+use crate::host_tree::{HostEntry, HostNode, HostTree, Opened};
+use crate::looking::{found_in, line_named};
+use crate::manifest::{Line, LineKind, Manifest};
+use crate::ordered::put;
+use crate::reading::read_manifest;
+use crate::refusing::refused_lines;
+use nl_folders::{Name, Path, copied, with_name};
+use nl_types::{Items, Node, is_name};
+use std::alloc::{AllocError, Global};
+
+// ---- manifests
+
+/// The manifest of a directory.
+fn manifest_at(
+    alloc: Global,
+    tree: &[(Path, Node)],
+    directory: &[Name],
+) -> Result<Option<Manifest>, AllocError>
+    ensures { IfOk result (λ manifest. manifest ≡ manifest_at tree.now directory.now) }
+{
+    let path = with_name(alloc, directory, b".nlkeep".as_slice())?;
+    match found_in(tree, path.as_slice()) {
+        Some(Node::File(bytes)) => read_manifest(alloc, bytes.as_slice()),
+        Some(Node::Dir) => Ok(None),
+        None => Ok(None),
+    }
+}
+
+/// The manifest of what stands at a path, none of a file.
+fn manifest_for(
+    alloc: Global,
+    tree: &[(Path, Node)],
+    path: &[Name],
+    node: &Node,
+) -> Result<Option<Manifest>, AllocError>
+    ensures { IfOk result (λ manifest. manifest ≡ manifest_for tree.now path.now node.now) }
+{
+    match node {
+        Node::Dir => manifest_at(alloc, tree, path),
+        Node::File(_) => Ok(None),
+    }
+}
+
+fn add_manifest(
+    alloc: Global,
+    path: &[Name],
+    manifest: Option<Manifest>,
+    all: &mut Items<(Path, Manifest)>,
+) -> Result<(), AllocError>
+    ensures { OnOk result (all.new ≡ all.old ++ manifest_entry path.now manifest) }
+{
+    match manifest {
+        None => Ok(()),
+        Some(manifest) => {
+            let path = copied(alloc, path)?;
+            all.push((path, manifest))
+        }
+    }
+}
+
+/// The manifests of all directories.
+fn manifests(alloc: Global, tree: &[(Path, Node)]) -> Result<Items<(Path, Manifest)>, AllocError>
+    ensures { IfOk result (λ all. all ≡ manifests tree.now) }
+{
+    let mut all = Items::new(alloc);
+    for entry in tree {
+        let path = entry.0.as_slice();
+        let manifest = manifest_for(alloc, tree, path, &entry.1)?;
+        add_manifest(alloc, path, manifest, &mut all)?;
+    }
+    Ok(all)
+}
+
+// ---- entries
+
+/// A directory with the attributes that its own manifest tells.
+fn shown_directory(own: Option<&Manifest>) -> HostEntry
+    ensures { result ≡ shown_directory (option_copied own.entry) }
+{
+    let attributes = match own {
+        None => None,
+        Some(manifest) => Some(manifest.own),
+    };
+    HostEntry {
+        node: HostNode::Directory,
+        attributes,
+    }
+}
+
+/// The attributes that a line tells of a file.
+fn file_attributes(line: Option<&Line>) -> Option<Attributes>
+    ensures { result ≡ option_and_then (λ l. told_of_file l.kind l.attributes) (option_copied line.entry) }
+{
+    match line {
+        None => None,
+        Some(line) => match &line.kind {
+            LineKind::File => Some(line.attributes),
+            LineKind::Link(_) => None,
+        },
+    }
+}
+
+fn shown_file(alloc: Global, bytes: &[u8], line: Option<&Line>) -> Result<HostEntry, AllocError>
+    ensures { IfOk result (λ entry. entry ≡ shown_file bytes.now (option_copied line.entry)) }
+{
+    Ok(HostEntry {
+        node: HostNode::File(Items::from_slice(alloc, bytes)?),
+        attributes: file_attributes(line),
+    })
+}
+
+fn line_in<'a>(manifest: Option<&'a Manifest>, name: &[u8]) -> Option<&'a Line>
+    ensures { option_copied result ≡ line_in (option_copied manifest.entry) name.now }
+{
+    match manifest {
+        None => None,
+        Some(manifest) => line_named(manifest.lines.as_slice(), name),
+    }
+}
+
+fn is_manifest_name(name: &[u8]) -> bool
+    ensures { result ≡ same_name name.now manifest_name }
+{
+    name.cmp(&b".nlkeep".as_slice()).is_eq()
+}
+
+/// Whether a file under this name is its directory's manifest.
+fn is_hidden(above: Option<&Manifest>, name: &[u8]) -> bool
+    ensures { result ≡ (is_some (option_copied above.entry) && same_name name.now manifest_name) }
+{
+    above.is_some() && is_manifest_name(name)
+}
+
+/// A file under a name, of whose directory there may be a manifest. The file of a manifest isn't shown.
+fn file_under(
+    alloc: Global,
+    above: Option<&Manifest>,
+    name: &[u8],
+    bytes: &[u8],
+) -> Result<Option<HostEntry>, AllocError>
+    ensures { IfOk result (λ entry. entry
+        ≡ shown_in (option_copied above.entry) name.now None (Some (File bytes.now))) }
+{
+    if is_hidden(above, name) {
+        return Ok(None);
+    }
+    let entry = shown_file(alloc, bytes, line_in(above, name))?;
+    Ok(Some(entry))
+}
+
+/// A file at a path.
+fn file_at(
+    alloc: Global,
+    all: &[(Path, Manifest)],
+    path: &[Name],
+    bytes: &[u8],
+) -> Result<Option<HostEntry>, AllocError>
+    ensures { IfOk result (λ entry. entry
+        ≡ shown_in (above_in all.now (parted path.now)) (last_name (parted path.now)) None
+        (Some (File bytes.now))) }
+{
+    match path {
+        [] => file_under(alloc, None, b"".as_slice(), bytes),
+        [_, ..] => {
+            let last = path.len() - 1;
+            let above = found_in(all, &path[..last]);
+            file_under(alloc, above, path[last].as_slice(), bytes)
+        }
+    }
+}
+
+/// The link that a line tells of.
+fn shown_link(alloc: Global, line: &Line) -> Result<Option<HostEntry>, AllocError>
+    ensures { IfOk result (λ entry. entry ≡ shown_link line.now.name (Some line.now)) }
+{
+    if !is_name(line.name.as_slice()) {
+        return Ok(None);
+    }
+    match &line.kind {
+        LineKind::File => Ok(None),
+        LineKind::Link(target) => Ok(Some(HostEntry {
+            node: HostNode::Link(Items::from_slice(alloc, target.as_slice())?),
+            attributes: Some(line.attributes),
+        })),
+    }
+}
+
+// ---- in order
+
+type Shown = Vec<(Path, HostEntry)>;
+
+fn put_if(path: Path, entry: Option<HostEntry>, shown: &mut Shown) -> Result<(), AllocError>
+    ensures { OnOk result (PutsIfOrdered shown.old.items (entry_if path entry) shown.new.items) }
+{
+    match entry {
+        None => Ok(()),
+        Some(entry) => put(shown, path, entry),
+    }
+}
+
+/// Puts the link of a line, where nothing stands in its place.
+fn put_link(
+    alloc: Global,
+    tree: &[(Path, Node)],
+    directory: &[Name],
+    line: &Line,
+    shown: &mut Shown,
+) -> Result<(), AllocError>
+    ensures { OnOk result (PutsIfOrdered shown.old.items (link_part tree.now directory.now line.now)
+        shown.new.items) }
+{
+    let path = with_name(alloc, directory, line.name.as_slice())?;
+    match found_in(tree, path.as_slice()) {
+        Some(_) => Ok(()),
+        None => {
+            let entry = shown_link(alloc, line)?;
+            put_if(path, entry, shown)
+        }
+    }
+}
+
+fn put_links(
+    alloc: Global,
+    tree: &[(Path, Node)],
+    directory: &[Name],
+    lines: &[Line],
+    shown: &mut Shown,
+) -> Result<(), AllocError>
+    ensures { OnOk result (PutsIfOrdered shown.old.items
+        (flat_map (link_part tree.now directory.now) lines.now) shown.new.items) }
+{
+    for line in lines {
+        put_link(alloc, tree, directory, line, shown)?;
+    }
+    Ok(())
+}
+
+fn put_links_of(
+    alloc: Global,
+    tree: &[(Path, Node)],
+    directory: &[Name],
+    own: Option<&Manifest>,
+    shown: &mut Shown,
+) -> Result<(), AllocError>
+    ensures { OnOk result (PutsIfOrdered shown.old.items
+        (links_part tree.now directory.now (option_copied own.entry)) shown.new.items) }
+{
+    match own {
+        None => Ok(()),
+        Some(manifest) => put_links(alloc, tree, directory, manifest.lines.as_slice(), shown),
+    }
+}
+
+/// Puts a directory with the links in it, or a file.
+fn put_node(
+    alloc: Global,
+    tree: &[(Path, Node)],
+    all: &[(Path, Manifest)],
+    entry: &(Path, Node),
+    shown: &mut Shown,
+) -> Result<(), AllocError>
+    ensures { OnOk result (PutsIfOrdered shown.old.items
+        (node_part tree.now all.now entry.now.0 entry.now.1) shown.new.items) }
+{
+    let path = entry.0.as_slice();
+    match &entry.1 {
+        Node::Dir => {
+            let own = found_in(all, path);
+            put(shown, copied(alloc, path)?, shown_directory(own))?;
+            put_links_of(alloc, tree, path, own, shown)
+        }
+        Node::File(bytes) => {
+            let file = file_at(alloc, all, path, bytes.as_slice())?;
+            put_if(copied(alloc, path)?, file, shown)
+        }
+    }
+}
+
+fn put_nodes(
+    alloc: Global,
+    tree: &[(Path, Node)],
+    all: &[(Path, Manifest)],
+) -> Result<HostTree, AllocError>
+    ensures { IfOk result (λ shown. Puts [] (parts tree.now all.now tree.now) shown) }
+{
+    let mut shown = Vec::new(alloc);
+    for entry in tree {
+        put_node(alloc, tree, all, entry, &mut shown)?;
+    }
+    Ok(Items::from_vec(shown))
+}
+
+/// What a tree shows: its directories and files with the attributes that manifests tell, and the links that
+/// manifests tell of. A file that is no manifest is shown as it is, whatever its name.
+///
+/// # Errors
+/// Memory.
+pub fn open(alloc: Global, tree: &[(Path, Node)]) -> Result<Opened, AllocError>
+    ensures shows { IfOk result (λ opened. IsTree tree.now → Shows tree.now opened.tree) }
+    ensures refused { IfOk result (λ opened. opened.refused ≡ refused tree.now) }
+{
+    let all = manifests(alloc, tree)?;
+    let shown = put_nodes(alloc, tree, all.as_slice())?;
+    let refused = refused_lines(alloc, tree, all.as_slice())?;
+    Ok(Opened {
+        tree: shown,
+        refused,
+    })
+}

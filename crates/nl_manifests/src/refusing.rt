@@ -1,0 +1,95 @@
+//! Lines of manifests that show nothing.
+ghost use Rattle.std.specs.Prelude.{◌≡◌, ◌++◌, IfOk, OnOk};
+ghost use Rattle.std.specs.List.{flat_map};
+ghost use Rattle.std.specs.Option.{option_copied};
+ghost use Rattle.nl_types.specs.Trees.{lookup};
+ghost use Rattle.nl_manifests.specs.HostTrees.{fault_at, fault_of, one_if, refused_line};
+ghost use Rattle.nl_manifests.specs.Private.Opening.{refused_lines};
+
+use crate::host_tree::LineFault;
+use crate::looking::found_in;
+use crate::manifest::{Line, LineKind, Manifest};
+use nl_folders::{Name, Path, with_name};
+use nl_types::{Items, Node, is_name};
+use std::alloc::{AllocError, Global};
+
+type Refused = Items<(Path, LineFault)>;
+
+/// Why a line shows nothing, by what stands in its place.
+fn fault_at(kind: &LineKind, node: Option<&Node>) -> Option<LineFault>
+    ensures { result ≡ fault_at kind.now (option_copied node.entry) }
+{
+    match (kind, node) {
+        (LineKind::File, Some(Node::File(_))) => None,
+        (LineKind::File, Some(Node::Dir)) => Some(LineFault::NoFile),
+        (LineKind::File, None) => Some(LineFault::NoFile),
+        (LineKind::Link(_), None) => None,
+        (LineKind::Link(_), Some(_)) => Some(LineFault::Taken),
+    }
+}
+
+/// The same of a line, where its path is there.
+fn fault_of(tree: &[(Path, Node)], path: &[Name], line: &Line) -> Option<LineFault>
+    ensures { result ≡ fault_of line.now (lookup tree.now path.now) }
+{
+    if is_name(line.name.as_slice()) {
+        fault_at(&line.kind, found_in(tree, path))
+    } else {
+        Some(LineFault::BadName)
+    }
+}
+
+fn add_if(path: Path, fault: Option<LineFault>, refused: &mut Refused) -> Result<(), AllocError>
+    ensures { OnOk result (refused.new ≡ refused.old ++ one_if path fault) }
+{
+    match fault {
+        None => Ok(()),
+        Some(fault) => refused.push((path, fault)),
+    }
+}
+
+fn add_line(
+    alloc: Global,
+    tree: &[(Path, Node)],
+    directory: &[Name],
+    line: &Line,
+    refused: &mut Refused,
+) -> Result<(), AllocError>
+    ensures { OnOk result (refused.new ≡ refused.old ++ refused_line tree.now directory.now line.now) }
+{
+    let path = with_name(alloc, directory, line.name.as_slice())?;
+    let fault = fault_of(tree, path.as_slice(), line);
+    add_if(path, fault, refused)
+}
+
+fn add_lines(
+    alloc: Global,
+    tree: &[(Path, Node)],
+    directory: &[Name],
+    lines: &[Line],
+    refused: &mut Refused,
+) -> Result<(), AllocError>
+    ensures { OnOk result (refused.new
+        ≡ refused.old ++ flat_map (refused_line tree.now directory.now) lines.now) }
+{
+    for line in lines {
+        add_line(alloc, tree, directory, line, refused)?;
+    }
+    Ok(())
+}
+
+/// The lines of manifests that show nothing.
+pub(crate) fn refused_lines(
+    alloc: Global,
+    tree: &[(Path, Node)],
+    all: &[(Path, Manifest)],
+) -> Result<Refused, AllocError>
+    ensures { IfOk result (λ refused. refused ≡ refused_lines tree.now all.now) }
+{
+    let mut refused = Items::new(alloc);
+    for entry in all {
+        let (directory, lines) = (entry.0.as_slice(), entry.1.lines.as_slice());
+        add_lines(alloc, tree, directory, lines, &mut refused)?;
+    }
+    Ok(refused)
+}
