@@ -12,7 +12,7 @@ use nl_publish::{Mount, Opened, Volumes};
 use nl_types::{CheckpointNumber, Event, Segment, VolError};
 use std::alloc::Global;
 use std::sync::Wait;
-use std::sync::atomic::{AtomicBool, Ordering};
+use std::sync::atomic::{AtomicBool, AtomicUsize, Ordering};
 use std::thread::{Threads, for_each_mut, join};
 use std::time::{Clock, Duration};
 
@@ -83,6 +83,8 @@ struct Bench<'a, J: Volumes, R> {
     volume: &'a Volume<J>,
     mount: &'a Mount<J>,
     task: Task,
+    /// How many ports have read once.
+    reading: AtomicUsize,
     /// The thread that is measured is done.
     ended: AtomicBool,
     /// A read came out wrong.
@@ -160,6 +162,9 @@ impl<J: Volumes + Send + Sync, R: Threads + Wait + Clock + Sync> Bench<'_, J, R>
             }
             if !self.reads(port, turn, into) {
                 return false;
+            }
+            if turn == 0 {
+                self.reading.fetch_add(1, Ordering::SeqCst);
             }
         }
         true
@@ -239,7 +244,21 @@ impl<J: Volumes + Send + Sync, R: Threads + Wait + Clock + Sync> Bench<'_, J, R>
         Ok(())
     }
 
+    fn all_read(&self) -> bool {
+        self.reading.load(Ordering::SeqCst) >= self.task.ports.min(PORTS)
+    }
+
+    /// Waits until each port that reads has read once, or a read came out wrong.
+    fn wait_for_readers(&self) {
+        for _ in 0..u64::MAX {
+            if self.all_read() || self.failed.load(Ordering::SeqCst) {
+                return;
+            }
+        }
+    }
+
     fn time_writes(&self) -> Result<Duration, VolError> {
+        self.wait_for_readers();
         let begun = now(self.rt);
         let written = self.write_often(self.task.count);
         let took = begun.and_then(|begun| since(self.rt, begun));
@@ -292,6 +311,7 @@ fn time_on<J: Volumes + Send + Sync, R: Threads + Wait + Clock + Sync>(
         volume,
         mount,
         task,
+        reading: AtomicUsize::new(0),
         ended: AtomicBool::new(false),
         failed: AtomicBool::new(false),
     };
