@@ -22,7 +22,11 @@ use Rattle.nl_cpfile.specs.Facts.ImageEntries.{zip_push}
 use Rattle.nl_cpfile.specs.declared.checkpoint.Checkpoint.{Checkpoint}
 use Rattle.nl_core.specs.Private.Closed.{AreSized, HasSize, HaveSizes}
 use Rattle.nl_commit.specs.Layout.{IsPen, Layout, layout_of, layout_pages, reached_by}
+use Rattle.nl_commit.specs.CleaningEvents.{kept_numbers}
 use Rattle.nl_commit.specs.Volume.{Lists, kept_by}
+use Rattle.nl_counts.specs.Counted.{Counted}
+use Rattle.nl_counts.specs.Laws.{ReadsKeepCounts}
+use Rattle.nl_events.specs.NeededBlocks.{IsCountedPen}
 use Rattle.nl_events.specs.Facts.CleanedPens.{all-held, content-of, same-content}
 use Rattle.nl_events.specs.Facts.KeptNumbers.{found-own}
 
@@ -137,3 +141,12 @@ pub pen-read : (lists : Lists) (old new : Store) → IsPen (layout_of lists old)
 pen-read lists old new pen is_store same =
     (same-content (layout_of lists old) (layout_of lists new) pen refl is_store
     (content-of old new same.numbers)).pen
+
+-- and its counts are still those of the needed blocks
+pub counted-read : ReadsKeepCounts → (lists : Lists) (old new : Store) (counted : Counted)
+    → IsCountedPen (layout_of lists old) counted → IsStore new → KeepsStored old new
+    → IsCountedPen (layout_of lists new) counted
+counted-read keep lists old new counted is sound same = record {
+  pen = pen-read lists old new is.pen sound same;
+  counts = keep (kept_numbers lists) counted old new is.pen.sound.store sound same is.counts;
+}

@@ -5,7 +5,6 @@ pub mod BlankVolumes
 pub mod NextCleaning
 pub mod LedgerEvents
 pub mod Histories
-pub mod GivenBack
 pub mod CheckedCopies
 pub mod Opened
 pub mod Opening

@@ -7,13 +7,13 @@ ghost use Rattle.nl_vstore.specs.Stores.{KeepsStored, content_in};
 ghost use Rattle.nl_cpfile.specs.Tables as tables;
 ghost use Rattle.nl_image.specs.StoreImages.{IsSizedEntry};
 ghost use Rattle.nl_core.specs.Private.Closed.{AreSized, HasSize, HaveSizes};
-ghost use Rattle.nl_commit.specs.Layout.{IsPen, layout_of};
 ghost use Rattle.nl_core.specs.PenImages.{IsPenImage};
 
 use nl_check::size_of_blocks;
+use nl_counts::laws::counts_stay;
 use nl_cpfile::{Checkpoint, Checkpoints};
 use nl_dat::Dat;
-use nl_events::Tables;
+use nl_events::Parts;
 use nl_image::write_image;
 use nl_layout::CheckpointEntry;
 use nl_space::Space;
@@ -76,25 +76,20 @@ fn all_entries<V: Vstore>(
     Ok(entries)
 }
 
-/// The image of a store and of the checkpoints that are kept over it, as a pen holds them. Each used block is
-/// loaded once from the device, in order, and nothing else is. Refused by `Memory`, and by `Fault` where the
-/// device failed.
-pub fn image_of<S: Space>(
-    alloc: Global,
-    tables: &Tables,
-    store: &mut Dat<S>,
-) -> Result<Vec<u8>, VolError>
-    requires { IsPen (layout_of tables.now.lists store.old.store) }
-    ensures image { IfOk result (λ bytes.
-        IsPenImage (layout_of tables.now.lists store.old.store) bytes.items) }
-    ensures pen { IsPen (layout_of tables.now.lists store.new.store) }
-    ensures same { KeepsStored store.old.store store.new.store }
-    ensures counted { store.old.store.failures ≤ store.new.store.failures }
+/// The image of a pen's store and of the checkpoints that are kept over it. Each used block is loaded once
+/// from the device, in order, and nothing else is. Refused by `Memory`, and by `Fault` where the device
+/// failed.
+pub fn image_of<S: Space>(parts: &mut Parts<Dat<S>>) -> Result<Vec<u8>, VolError>
+    ensures image { IfOk result (λ bytes. IsPenImage parts.old bytes.items) }
+    ensures lists { parts.new.lists ≡ parts.old.lists }
+    ensures same { KeepsStored parts.old.store parts.new.store }
+    ensures counted { parts.old.store.failures ≤ parts.new.store.failures }
     ensures fault { IsErrOf result VolError.Fault
-        → store.old.store.failures < store.new.store.failures }
+        → parts.old.store.failures < parts.new.store.failures }
     ensures errors { IfErr result IsLoadError }
 {
-    let entries = all_entries(alloc, store, tables.checkpoints())?;
-    let image = write_image(alloc, store, entries.as_slice())?;
+    counts_stay();
+    let entries = all_entries(parts.alloc, &parts.store, parts.tables.checkpoints())?;
+    let image = write_image(parts.alloc, &mut parts.store, entries.as_slice())?;
     Ok(image)
 }

@@ -68,7 +68,13 @@ fn open_read<D: Device>(alloc: Global, read: ReadImage, device: D) -> Result<Pen
     let store = restore_store(device, segments, logs, numbers)?;
     let tables = Tables::opened(alloc, checkpoints);
     let needed = NeededCounts::of_store(alloc, &store, &tables)?;
-    Ok(Pen::opened(alloc, store, tables, needed))
+    let parts = nl_events::Parts {
+        alloc,
+        tables,
+        store,
+        needed,
+    };
+    Ok(Pen::of_parts(parts))
 }
 
 /// The store of an image, on a device of its geometry.

@@ -20,17 +20,11 @@ ghost use Rattle.nl_commit.specs.Notes.{DoesNoting, shown_of};
 ghost use Rattle.nl_commit.specs.Volume.{boundary_in, without_mounts};
 
 use crate::closing::image_of;
-use crate::laws::opened_images_are_pens;
 use nl_commit::Commit;
-use nl_counts::NeededCounts;
-use nl_counts::laws::counts_stay;
 use nl_cpfile::Cpstat;
 use nl_dat::{Bdesc, Dat, DatEntry};
 use nl_device::Device;
-use nl_events::{
-    Formatted, NoNotes, Tables, counts_after, format, is_same_file, is_same_tree, needed_in,
-    payload_count, step, whole,
-};
+use nl_events::{NoNotes, Parts, is_same_file, is_same_tree};
 use nl_protect::boundary;
 use nl_segwriter::LogSpace;
 use nl_sufile::{SegTable, SegmentCounts};
@@ -46,21 +40,15 @@ use std::marker::Model;
 /// to, and how many needed blocks each segment has.
 #[derive(Drop)]
 pub struct Pen<D: Device> {
-    alloc: Global,
-    store: Dat<LogSpace<D>>,
-    tables: Tables,
-    needed: NeededCounts,
+    parts: Parts<Dat<LogSpace<D>>>,
 }
 
 impl<D: Device> Model for Pen<D> {
-    ghost use Rattle.nl_commit.specs.Layout.{Layout, layout_of};
-    ghost use Rattle.nl_events.specs.NeededBlocks.{IsCountedPen};
+    ghost use Rattle.nl_commit.specs.Layout.{Layout};
 
     ghost Value = { Layout };
 
-    ghost view = { λ p. layout_of p.tables.lists p.store.store };
-
-    ghost invariant = { λ p. IsCountedPen (layout_of p.tables.lists p.store.store) p.needed };
+    ghost view = { λ p. p.parts };
 }
 
 ghost use Rattle.nl_commit.specs.Layout.{IsPen, Does, MeansWorld, ReadsCopy, Runs, blank_layout, layout_of, unshared};
@@ -68,8 +56,6 @@ ghost use Rattle.nl_commit.specs.Tables.{blank_lists};
 
 impl<D: Device> Pen<D> {
     ghost use Rattle.nl_commit.specs.Layout.{IsFormatted, Layout};
-    ghost use Rattle.nl_events.specs.NeededBlocks.{AreNeededCounts};
-    ghost use Rattle.nl_core.specs.Opened.{IsOpened};
     ghost use Rattle.nl_vstore.specs.Stores.{KeepsStored};
     ghost use Rattle.nl_core.specs.PenImages.{CanBeClosed, IsPenImage};
     ghost use Rattle.nl_core.specs.SameFiles.{HaveOneFile, HaveOneInode};
@@ -86,43 +72,25 @@ impl<D: Device> Pen<D> {
         ensures pen { IfOk result IsPen }
         ensures refused { IfErr result (λ e. (e ≡ VolError.Memory) ⊎ (e ≡ VolError.Fault)) }
     {
-        let mut store = blank_store(alloc, device, geometry)?;
-        let Formatted { tables, needed } = format(alloc, &mut store, now)?;
-        Ok(Pen {
-            alloc,
-            store,
-            tables,
-            needed,
-        })
+        let store = blank_store(alloc, device, geometry)?;
+        let parts = Parts::format(alloc, store, now)?;
+        Ok(Pen { parts })
     }
 
-    /// The volume of an image that meets all conditions: the store of its blocks, the tables over its
-    /// checkpoints, and the counts of its needed blocks.
-    pub(crate) fn opened(
-        alloc: Global,
-        store: Dat<LogSpace<D>>,
-        tables: Tables,
-        needed: NeededCounts,
-    ) -> Self
-        requires opened { IsOpened (layout_of tables.lists store.store) }
-        requires needed { AreNeededCounts (layout_of tables.lists store.store) needed }
-        ensures layout { result ≡ layout_of tables.lists store.store }
+    /// The pen of the parts of a volume.
+    pub(crate) fn of_parts(parts: Parts<Dat<LogSpace<D>>>) -> Self
+        ensures layout { result ≡ parts }
         ensures pen { IsPen result }
     {
-        opened_images_are_pens();
-        Pen {
-            alloc,
-            store,
-            tables,
-            needed,
-        }
+        parts.means_a_world();
+        Pen { parts }
     }
 
     /// Every pen means a world, and is sound. This says so to its callers, and does nothing.
     pub fn means_a_world(&self)
         ensures { IsPen self.now }
     {
-        let _ = &self.tables;
+        self.parts.means_a_world();
     }
 
     /// What a virtual block number stands for: its period and its block, where it is in use. Refused by
@@ -134,14 +102,14 @@ impl<D: Device> Pen<D> {
         ensures entry { IfOk result (λ entry.
             entry ≡ option_map dat_entry_of (numbered_in self.now.store number)) }
     {
-        self.store.entry(number)
+        self.parts.store.entry(number)
     }
 
     /// The states of the segments.
     pub fn segments(&self) -> &SegTable
         ensures { result.now ≡ self.now.store.segments }
     {
-        self.store.table()
+        self.parts.store.table()
     }
 
     /// A description of each payload block of the logs of a segment, in the order of the blocks, be their
@@ -154,7 +122,7 @@ impl<D: Device> Pen<D> {
         ensures descs { IfOk result (λ descs. descs.items
             ≡ descs_of self.now.store segment (payload_row self.now.store segment)) }
     {
-        self.store.bdescs(alloc, segment)
+        self.parts.store.bdescs(alloc, segment)
     }
 
     /// Whether the current tree may differ from the latest checkpoint's.
@@ -162,7 +130,7 @@ impl<D: Device> Pen<D> {
         ensures layout { result ≡ self.now.lists.dirty }
         ensures world { (w : World) → MeansWorld self.now w → result ≡ w.dirty }
     {
-        self.tables.is_dirty()
+        self.parts.tables.is_dirty()
     }
 
     /// The latest checkpoint's number.
@@ -170,7 +138,8 @@ impl<D: Device> Pen<D> {
         ensures layout { result ≡ self.now.lists.table.latest.number }
         ensures world { (w : World) → MeansWorld self.now w → result ≡ worlds.latest w }
     {
-        self.tables.latest()
+        let parts = &self.parts;
+        parts.tables.latest()
     }
 
     /// What is told of a kept checkpoint. It takes no memory. Refused by `NoCheckpoint` where it isn't kept.
@@ -179,7 +148,7 @@ impl<D: Device> Pen<D> {
         ensures world { (w : World) → MeansWorld self.now w
             → result ≡ kept_row number (worlds.rows w) }
     {
-        self.tables.cpinfo(number)
+        self.parts.tables.cpinfo(number)
     }
 
     /// How many checkpoints and snapshots are kept, and the latest one's number. It takes no memory.
@@ -187,7 +156,7 @@ impl<D: Device> Pen<D> {
         ensures layout { result ≡ cpfile.cpstat_of self.now.lists.table }
         ensures world { (w : World) → MeansWorld self.now w → result ≡ counted w }
     {
-        self.tables.cpstat()
+        self.parts.tables.cpstat()
     }
 
     /// What the tree of a kept checkpoint answers, without a mount: of a plain one too, and of a minor one.
@@ -196,7 +165,8 @@ impl<D: Device> Pen<D> {
     pub fn read_at(&self, number: CheckpointNumber, ask: &Ask) -> Reply
         ensures { ReadsCopy self.now number ask.now result }
     {
-        self.tables.read_at(self.alloc, &self.store, number, ask)
+        let parts = &self.parts;
+        parts.tables.read_at(parts.alloc, &parts.store, number, ask)
     }
 
     /// Whether a path leads to a file in the trees of two kept checkpoints, by one inode: kind, size and root
@@ -211,7 +181,8 @@ impl<D: Device> Pen<D> {
         ensures same { IsTrue result → HaveOneFile self.now old new path.now }
     {
         self.means_a_world();
-        is_same_file(&self.store, self.tables.checkpoints(), old, new, path)
+        let parts = &self.parts;
+        is_same_file(&parts.store, parts.tables.checkpoints(), old, new, path)
     }
 
     /// Whether two kept checkpoints have one root, so that their trees are the same. It reads no block, and takes
@@ -220,7 +191,8 @@ impl<D: Device> Pen<D> {
         ensures exact { IsTrue result ↔ HaveOneRoot self.now old new }
         ensures same { IsTrue result → HaveOneTree self.now old new }
     {
-        is_same_tree(self.tables.checkpoints(), old, new)
+        let parts = &self.parts;
+        is_same_tree(parts.tables.checkpoints(), old, new)
     }
 
     /// How many mounts there are.
@@ -228,7 +200,7 @@ impl<D: Device> Pen<D> {
         ensures layout { result ≡ length self.now.lists.mounts }
         ensures world { (w : World) → MeansWorld self.now w → result ≡ length w.mounts }
     {
-        self.tables.mount_count()
+        self.parts.tables.mount_count()
     }
 
     /// The boundary of protection: plain checkpoints below it may go.
@@ -237,7 +209,7 @@ impl<D: Device> Pen<D> {
         ensures low { result ≤ self.now.lists.table.latest.number }
         ensures world { (w : World) → MeansWorld self.now w → result ≡ worlds.boundary_of w now period }
     {
-        boundary(self.tables.checkpoints(), now, period)
+        boundary(self.parts.tables.checkpoints(), now, period)
     }
 
     /// How many numbers whose pages stand in a segment are needed once the plain checkpoints below one are
@@ -246,7 +218,7 @@ impl<D: Device> Pen<D> {
     pub fn needed_in(&self, segment: Segment, below: CheckpointNumber) -> u32
         ensures { result ≡ needed_after self.now below segment }
     {
-        needed_in(&self.store, self.tables.checkpoints(), segment, below)
+        self.parts.needed_in(segment, below)
     }
 
     /// How many needed blocks a segment has. Refused by `BadRange` where there is no such segment. It takes
@@ -254,7 +226,7 @@ impl<D: Device> Pen<D> {
     pub fn needed(&self, segment: Segment) -> Result<u32, VolError>
         ensures { result ≡ needed_told self.now segment }
     {
-        self.needed.get(segment)
+        self.parts.needed(segment)
     }
 
     /// How many needed blocks a segment has: 0 where there is no such segment.
@@ -279,13 +251,7 @@ impl<D: Device> Pen<D> {
         ensures counts { IfOk result (λ counts. counts ≡ counts_after self.now below) }
         ensures refused { IsOkUnless result VolError.Memory }
     {
-        counts_after(
-            alloc,
-            &self.store,
-            self.tables.checkpoints(),
-            &self.needed,
-            below,
-        )
+        self.parts.counts_after(alloc, below)
     }
 
     /// How many blocks of the logs of a segment have payload, be their numbers in use or not: 0 where there
@@ -293,7 +259,7 @@ impl<D: Device> Pen<D> {
     pub fn payload_count(&self, segment: Segment) -> u32
         ensures { result ≡ payload_count_in self.now.store segment }
     {
-        payload_count(&self.store, segment)
+        self.parts.payload_count(segment)
     }
 
     /// The event that cleans a segment next: its retirement, or a move where pages in it are needed.
@@ -317,14 +283,7 @@ impl<D: Device> Pen<D> {
     pub fn apply(&mut self, event: &Event) -> Reply
         ensures { Does unshared self.old event.now result self.new }
     {
-        step(
-            self.alloc,
-            &mut self.tables,
-            &mut self.store,
-            &mut self.needed,
-            event,
-            &mut NoNotes,
-        )
+        self.parts.step(event, &mut NoNotes)
     }
 
     /// One event beside readers, who are told of it by a commit behind the others in `notes`, where it
@@ -332,14 +291,7 @@ impl<D: Device> Pen<D> {
     pub fn apply_noting(&mut self, event: &Event, notes: &mut Vec<Commit>) -> Reply
         ensures { DoesNoting self.old event.now result self.new notes.old.items notes.new.items }
     {
-        step(
-            self.alloc,
-            &mut self.tables,
-            &mut self.store,
-            &mut self.needed,
-            event,
-            notes,
-        )
+        self.parts.step(event, notes)
     }
 
     /// The commit with which a history begins: it shows all that readers see of the pen. Refused by `Memory`
@@ -350,7 +302,8 @@ impl<D: Device> Pen<D> {
         ensures mounts { IfOk result (λ commit. MountsRise (image_of (commit ∷ []))) }
         ensures refused { IsOkUnless result VolError.Memory }
     {
-        let all = whole(self.alloc, &self.tables, &self.store)?;
+        self.parts.means_a_world();
+        let all = self.parts.whole()?;
         Ok(Commit::Whole(all))
     }
 
@@ -359,7 +312,7 @@ impl<D: Device> Pen<D> {
         ensures layout { self.new ≡ layout_of (without_mounts self.old.lists) self.old.store }
         ensures world { (w : World) → MeansWorld self.old w → MeansWorld self.new (record w { mounts = [] }) }
     {
-        self.tables.give_all_back();
+        self.parts.give_all_back();
     }
 
     /// The image of a volume of which nothing is dirty and nothing mounted. It reads each used block once
@@ -374,8 +327,7 @@ impl<D: Device> Pen<D> {
             → self.old.store.failures < self.new.store.failures }
         ensures refused { IfErr result (λ e. (e ≡ VolError.Fault) ⊎ (e ≡ VolError.Memory)) }
     {
-        counts_stay();
-        image_of(self.alloc, &self.tables, &mut self.store)
+        image_of(&mut self.parts)
     }
 }
 

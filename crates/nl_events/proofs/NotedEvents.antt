@@ -14,13 +14,16 @@ use Rattle.nl_types.specs.Worlds.{Reply, World}
 use Rattle.nl_vstore.specs.Batches.{Changes}
 use Rattle.nl_vstore.specs.Located.{numbers_in}
 use Rattle.nl_vstore.specs.Stores.{IsStore}
-use Rattle.nl_commit.specs.CleaningEvents.{needed_by}
+use Rattle.nl_cpfile.specs.declared.checkpoint.Checkpoint.{Checkpoint}
+use Rattle.nl_reclaim.specs.declared.moving.MoveCount.{MoveCount}
+use Rattle.nl_commit.specs.CleaningEvents.{moved_answer, needed_by}
 use Rattle.nl_commit.specs.Layout.{Becomes, Does, HasRefused, IsPen, Layout, LeavesStore, cleaned, unshared}
-use Rattle.nl_commit.specs.Notes.{AreCommitsOf, DoesTelling, HasNoted, allowed_where, freed_in, known_commit, made, made_where, new_checkpoint, noted_by, shared, told_where, where_any, where_true}
+use Rattle.nl_commit.specs.Notes.{AreCommitsOf, DoesTelling, HasNoted, allowed_where, freed_in, known_commit, made, made_where, new_checkpoint, noted_by, shared, told_where, where_any, where_true, without_changes}
 use Rattle.nl_commit.specs.declared.commit.Commit.{Commit}
 use Rattle.nl_commit.specs.declared.commit.Commit.TheVariants.{Freed, Resized, Written}
 use Rattle.nl_events.specs.NeededBlocks.{HasWrittenBatch}
 use Rattle.nl_events.specs.Facts.Checkpointing.{does-written}
+use Rattle.nl_events.specs.Facts.CleaningEvents.{some-moving}
 use Rattle.nl_events.specs.Facts.Ledgers.{same-numbers}
 use Rattle.nl_events.specs.Facts.Outside.{retired-inside}
 use Rattle.nl_events.specs.Facts.Telling.{commits_tell_all}
@@ -213,3 +216,17 @@ telling-resized told old new segments blocks adds a before after pen does adding
     (where_true adds (Resized segments blocks)) does behind
     (ap (λ (n : ℕ). where_true adds (Resized segments n)) size
     ∙ ap (λ (b : Bool). where_true b (Resized segments old.store.segments.blocks)) (sym adding))
+
+-- the checkpoint of a move that moved blocks
+pub telling-moved : (told : Bool) (old new : Layout) (segment limit moment : ℕ) (count : MoveCount)
+    (minor : Checkpoint) (before after : List Commit)
+    → IsPen old → Does unshared old (event.Move segment limit moment) (Ok (moved_answer count)) new
+    → 0 < count.moved → new.lists.table.latest ≡ minor
+    → after ≡ before ++ told_where told (without_changes minor ∷ [])
+    → DoesTelling told old (event.Move segment limit moment) (Ok (moved_answer count)) new before after
+telling-moved told old new segment limit moment count minor before after pen does some is behind =
+    telling told old (event.Move segment limit moment) new before after pen (Ok (moved_answer count))
+    (without_changes minor ∷ []) does behind
+    (sym (ap (λ (moving : Bool). where_true moving (without_changes new.lists.table.latest))
+    (some-moving count.moved some)
+    ∙ ap (λ (k : Checkpoint). without_changes k ∷ []) is))

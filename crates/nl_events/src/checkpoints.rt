@@ -1,4 +1,4 @@
-//! Checkpoints of a pen, each with the commit that tells readers of it.
+//! Checkpoints, each with the commit that tells readers of it.
 ghost use Rattle.std.specs.Prelude.{◌≡◌, ◌≤◌, ◌∷◌, ◌++◌, [], ℕ, List, length, map, IfOk, IfErr, OnErr, OnOk};
 ghost use Rattle.nl_types.specs.declared.event.Event.TheVariants.{Checkpoint};
 ghost use Rattle.nl_vstore.specs.Batches.{births_of};
@@ -7,10 +7,11 @@ ghost use Rattle.nl_counts.specs.Counted.{IsCounted};
 ghost use Rattle.nl_commit.specs.Draft.{CanBeDrafted, HasFewNames};
 ghost use Rattle.nl_commit.specs.Layout.{HasRefused, layout_of};
 ghost use Rattle.nl_commit.specs.Notes.{DoesTelling, made_where, new_checkpoint, new_page, told_where};
-ghost use Rattle.nl_events.specs.NeededBlocks.{AreNeededCounts, HasWrittenBatch, IsCountedPen};
+ghost use Rattle.nl_events.specs.NeededBlocks.{HasWrittenBatch};
 
 use crate::draft::{draft_next, write_draft};
 use crate::notes::Notes;
+use crate::parts::Parts;
 use crate::tables::Tables;
 use nl_commit::{Commit, Draft, NewPage, Written};
 use nl_counts::NeededCounts;
@@ -105,25 +106,26 @@ pub fn write_checkpoint<V: Vstore, N: Notes>(
     Ok(draft)
 }
 
-/// A checkpoint of a pen: the next one is written with what differs from the latest one, and kept. Refused by
-/// `NumbersSpent`, by `NoSpace` where no list of logs fits what is written, by `Memory`, and by `Fault` where
-/// the device failed.
-pub fn checkpoint<V: Vstore, N: Notes>(
-    alloc: Global,
-    tables: &mut Tables,
-    store: &mut V,
-    needed: &mut NeededCounts,
-    mode: Mode,
-    moment: u64,
-    notes: &mut N,
-) -> Reply
-    requires { IsCountedPen (layout_of tables.old.lists (V.store store.old)) needed.old }
-    ensures does { DoesTelling N.told (layout_of tables.old.lists (V.store store.old)) (Checkpoint mode moment)
-        result (layout_of tables.new.lists (V.store store.new)) (N.commits notes.old) (N.commits notes.new) }
-    ensures needed { AreNeededCounts (layout_of tables.new.lists (V.store store.new)) needed.new }
-{
-    refusals_keep_counts();
-    let draft = write_checkpoint(alloc, tables, store, needed, mode, moment, notes)?;
-    needed.written(&*store, &draft.batch, draft.checkpoint.number);
-    Ok(Answer::Checkpoint(draft.checkpoint.number))
+impl<V: Vstore> Parts<V> {
+    /// A checkpoint: the next one is written with what differs from the latest one, and kept. Refused by
+    /// `NumbersSpent`, by `NoSpace` where no list of logs fits what is written, by `Memory`, and by `Fault`
+    /// where the device failed.
+    pub(crate) fn checkpoint<N: Notes>(&mut self, mode: Mode, moment: u64, notes: &mut N) -> Reply
+        ensures { DoesTelling N.told self.old (Checkpoint mode moment) result self.new
+            (N.commits notes.old) (N.commits notes.new) }
+    {
+        refusals_keep_counts();
+        let draft = write_checkpoint(
+            self.alloc,
+            &mut self.tables,
+            &mut self.store,
+            &mut self.needed,
+            mode,
+            moment,
+            notes,
+        )?;
+        self.needed
+            .written(&self.store, &draft.batch, draft.checkpoint.number);
+        Ok(Answer::Checkpoint(draft.checkpoint.number))
+    }
 }

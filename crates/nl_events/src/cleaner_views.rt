@@ -3,13 +3,11 @@ ghost use Rattle.std.specs.Prelude.{◌≡◌, ◌≤◌, IfOk, IsOkUnless};
 ghost use Rattle.std.specs.List.{AllByRecursion};
 ghost use Rattle.std.proofs.Props.{props};
 ghost use Rattle.nl_types.specs.Protection.{staying_numbers};
-ghost use Rattle.nl_vstore.specs.Counts.{needed_counts};
-ghost use Rattle.nl_vstore.specs.Located.{needed_count, payload_count_in};
-ghost use Rattle.nl_counts.specs.Counted.{IsCounted};
-ghost use Rattle.nl_cpfile.specs.Tables.{all, kept_numbers, rows};
-ghost use Rattle.nl_commit.specs.CleanerViews.{needed_from};
+ghost use Rattle.nl_vstore.specs.Located.{payload_count_in};
+ghost use Rattle.nl_cpfile.specs.Tables.{rows};
+ghost use Rattle.nl_commit.specs.CleanerViews.{counts_after, needed_after, needed_told};
 
-use nl_counts::NeededCounts;
+use crate::parts::Parts;
 use nl_cpfile::Checkpoints;
 use nl_protect::{expiring_run, first_staying, needed_from};
 use nl_reclaim::{Keeping, count_needed};
@@ -40,51 +38,60 @@ impl<'a> Keeping for Staying<'a> {
     }
 }
 
-/// How many numbers whose pages stand in a segment are needed once the plain checkpoints below one are gone:
-/// 0 where there is no such segment.
-pub fn needed_in<V: Vstore>(
-    store: &V,
-    kept: &Checkpoints,
-    segment: Segment,
-    below: CheckpointNumber,
-) -> u32
-    ensures { result ≡ needed_count (V.store store.now) (needed_from below kept.now.table) segment }
-{
-    match store.table().suinfo(segment) {
-        Ok(_) => {
-            let first = first_staying(kept, below);
-            count_needed(store, &Staying { kept, below, first }, segment)
-        }
-        Err(_) => 0,
+impl<V: Vstore> Parts<V> {
+    /// How many needed blocks a segment has. Refused by `BadRange` where there is no such segment. It takes
+    /// no memory.
+    pub fn needed(&self, segment: Segment) -> Result<u32, VolError>
+        ensures { result ≡ needed_told self.now segment }
+    {
+        self.needed.get(segment)
     }
-}
 
-/// How many needed blocks each segment has once the plain checkpoints below one are gone. Refused by `Memory`
-/// alone.
-pub fn counts_after<V: Vstore>(
-    alloc: Global,
-    store: &V,
-    kept: &Checkpoints,
-    needed: &NeededCounts,
-    below: CheckpointNumber,
-) -> Result<SegmentCounts, VolError>
-    requires below { below ≤ kept.now.table.latest.number }
-    requires needed { IsCounted (V.store store.now) (kept_numbers (all kept.now.table)) needed.now }
-    ensures counts { IfOk result (λ counts.
-        counts ≡ needed_counts (V.store store.now) (needed_from below kept.now.table)) }
-    ensures refused { IsOkUnless result VolError.Memory }
-{
-    let first = first_staying(kept, below);
-    let (gone, next) = expiring_run(kept, below);
-    needed.after(alloc, store, &Staying { kept, below, first }, gone, next)
-}
+    /// How many numbers whose pages stand in a segment are needed once the plain checkpoints below one are
+    /// gone: 0 where there is no such segment.
+    pub fn needed_in(&self, segment: Segment, below: CheckpointNumber) -> u32
+        ensures { result ≡ needed_after self.now below segment }
+    {
+        let kept = self.tables.checkpoints();
+        match self.store.table().suinfo(segment) {
+            Ok(_) => {
+                let first = first_staying(kept, below);
+                count_needed(&self.store, &Staying { kept, below, first }, segment)
+            }
+            Err(_) => 0,
+        }
+    }
 
-/// How many blocks of the logs of a segment have payload: 0 where there is no such segment.
-pub fn payload_count<V: Vstore>(store: &V, segment: Segment) -> u32
-    ensures { result ≡ payload_count_in (V.store store.now) segment }
-{
-    match store.table().suinfo(segment) {
-        Ok(_) => store.payload_count(segment),
-        Err(_) => 0,
+    /// How many needed blocks each segment has once the plain checkpoints below one are gone. Refused by
+    /// `Memory` alone.
+    pub fn counts_after(
+        &self,
+        alloc: Global,
+        below: CheckpointNumber,
+    ) -> Result<SegmentCounts, VolError>
+        requires { below ≤ self.now.lists.table.latest.number }
+        ensures counts { IfOk result (λ counts. counts ≡ counts_after self.now below) }
+        ensures refused { IsOkUnless result VolError.Memory }
+    {
+        let kept = self.tables.checkpoints();
+        let first = first_staying(kept, below);
+        let (gone, next) = expiring_run(kept, below);
+        self.needed.after(
+            alloc,
+            &self.store,
+            &Staying { kept, below, first },
+            gone,
+            next,
+        )
+    }
+
+    /// How many blocks of the logs of a segment have payload: 0 where there is no such segment.
+    pub fn payload_count(&self, segment: Segment) -> u32
+        ensures { result ≡ payload_count_in self.now.store segment }
+    {
+        match self.store.table().suinfo(segment) {
+            Ok(_) => self.store.payload_count(segment),
+            Err(_) => 0,
+        }
     }
 }

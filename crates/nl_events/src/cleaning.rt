@@ -1,70 +1,23 @@
 //! Moves out of segments and retirements of segments, by what the kept checkpoints need, each with the commit
 //! that tells readers of it.
-ghost use Rattle.std.specs.Prelude.{◌≡◌, ◌<◌, ◌∷◌, ◌++◌, [], length, true, IfOk, OnErr, OnOk};
+ghost use Rattle.std.specs.Prelude.{◌≡◌, ◌<◌, ◌++◌, [], length, true, IfOk, OnErr, OnOk};
 ghost use Rattle.nl_types.specs.declared.event.Event.TheVariants.{Move, Retire};
 ghost use Rattle.nl_vstore.specs.Located.{numbers_in, onto};
-ghost use Rattle.nl_reclaim.specs.Cleaning.{CanBeMoved, HasListedFirst};
-ghost use Rattle.nl_commit.specs.CleaningEvents.{needed_by};
-ghost use Rattle.nl_commit.specs.Draft.{HasNextNumber};
-ghost use Rattle.nl_commit.specs.Layout.{Does, layout_of, unshared};
-ghost use Rattle.nl_events.specs.NeededBlocks.{AreNeededCounts, IsCountedPen};
-ghost use Rattle.nl_commit.specs.Notes.{DoesTelling, made, moved_as, where_any, without_changes};
-ghost use Rattle.nl_commit.specs.Volume.{minor_checkpoint};
+ghost use Rattle.nl_commit.specs.Layout.{Does, unshared};
+ghost use Rattle.nl_commit.specs.Notes.{DoesTelling, made, where_any, without_changes};
 
 use crate::notes::Notes;
-use crate::tables::Tables;
+use crate::parts::Parts;
 use nl_commit::{Commit, Written};
-use nl_counts::NeededCounts;
 use nl_counts::laws::{counts_stay, first_needed_stand_there, refusals_keep_counts};
 use nl_cpfile::Checkpoint;
 use nl_reclaim::laws::listed_moves_are_moves;
-use nl_reclaim::{Needed, list_needed, move_listed, retire};
+use nl_reclaim::{list_needed, move_listed, retire};
 use nl_types::{Answer, Items, Reply, Segment, VirtualNumber};
 use nl_vstore::Vstore;
 use std::alloc::{AllocError, Global};
 
 // ---- a move
-
-/// Moves the listed numbers of a segment, of which there are some, into logs of the next checkpoint, which is
-/// the latest one once more, counts them where they stand then, and keeps that checkpoint. Refused by
-/// `NoSpace`, `Fault` and `Memory`.
-fn move_with_minor<V: Vstore>(
-    alloc: Global,
-    tables: &mut Tables,
-    store: &mut V,
-    needed: &mut NeededCounts,
-    listed: &Needed,
-    minor: &Checkpoint,
-    segment: Segment,
-    limit: u32,
-    now: u64,
-) -> Reply
-    requires pen { IsCountedPen (layout_of tables.old.lists (V.store store.old)) needed.old }
-    requires listed { HasListedFirst (needed_by tables.old.lists) segment limit
-        (V.store store.old) listed.now.first.items listed.now.count }
-    requires movable { CanBeMoved segment listed.now.first.items (V.store store.old) }
-    requires some { 0 < length listed.now.first.items }
-    requires minor { minor.now ≡ minor_checkpoint now tables.old.lists }
-    requires left { HasNextNumber tables.old.lists }
-    requires room { 0 < tables.old.room }
-    ensures does { Does unshared (layout_of tables.old.lists (V.store store.old))
-        (Move segment limit now) result (layout_of tables.new.lists (V.store store.new)) }
-    ensures needed { AreNeededCounts (layout_of tables.new.lists (V.store store.new)) needed.new }
-    ensures noted { IfOk result (λ answer.
-        moved_as answer tables.new.lists.table.latest ≡ without_changes minor.now ∷ []) }
-{
-    listed_moves_are_moves();
-    first_needed_stand_there();
-    refusals_keep_counts();
-    counts_stay();
-    let count = move_listed(alloc, store, listed, segment, minor.number, now)?;
-    needed.moved(&*store, segment, listed.first.as_slice());
-    tables.publish_minor(*minor);
-    Ok(Answer::Moved {
-        moved: count.moved,
-        left: count.left,
-    })
-}
 
 /// The commit of a checkpoint without births and ends. It takes no memory.
 fn written_minor(alloc: Global, minor: &Checkpoint) -> Commit
@@ -77,36 +30,48 @@ fn written_minor(alloc: Global, minor: &Checkpoint) -> Commit
     })
 }
 
-/// Moves the first needed blocks of a segment elsewhere, at the moment `now` in whole seconds. Where there
-/// are some, the latest checkpoint is kept once more, and noted: its number, and room for it and its commit,
-/// are taken before a block is read. Refused as `list_needed` is, by `NumbersSpent`, by `Memory`, and as
-/// `move_listed` is.
-pub fn move_out<V: Vstore, N: Notes>(
-    alloc: Global,
-    tables: &mut Tables,
-    store: &mut V,
-    needed: &mut NeededCounts,
-    segment: Segment,
-    limit: u32,
-    now: u64,
-    notes: &mut N,
-) -> Reply
-    requires { IsCountedPen (layout_of tables.old.lists (V.store store.old)) needed.old }
-    ensures does { DoesTelling N.told (layout_of tables.old.lists (V.store store.old)) (Move segment limit now)
-        result (layout_of tables.new.lists (V.store store.new)) (N.commits notes.old) (N.commits notes.new) }
-    ensures needed { AreNeededCounts (layout_of tables.new.lists (V.store store.new)) needed.new }
-{
-    let listed = list_needed(alloc, &*store, &*tables, segment, limit)?;
-    if listed.first.as_slice().is_empty() {
-        return Ok(Answer::Moved { moved: 0, left: 0 });
+impl<V: Vstore> Parts<V> {
+    /// Moves the first needed blocks of a segment elsewhere, at the moment `now` in whole seconds. Where there
+    /// are some, the latest checkpoint is kept once more, and noted: its number, and room for it and its
+    /// commit, are taken before a block is read. Refused as `list_needed` is, by `NumbersSpent`, by `Memory`,
+    /// and as `move_listed` is.
+    pub(crate) fn move_out<N: Notes>(
+        &mut self,
+        segment: Segment,
+        limit: u32,
+        now: u64,
+        notes: &mut N,
+    ) -> Reply
+        ensures { DoesTelling N.told self.old (Move segment limit now) result self.new
+            (N.commits notes.old) (N.commits notes.new) }
+    {
+        listed_moves_are_moves();
+        first_needed_stand_there();
+        refusals_keep_counts();
+        counts_stay();
+        let listed = list_needed(self.alloc, &self.store, &self.tables, segment, limit)?;
+        if listed.first.as_slice().is_empty() {
+            return Ok(Answer::Moved { moved: 0, left: 0 });
+        }
+        let minor = self.tables.draft_minor(now)?;
+        notes.reserve()?;
+        let count = move_listed(
+            self.alloc,
+            &mut self.store,
+            &listed,
+            segment,
+            minor.number,
+            now,
+        )?;
+        self.needed
+            .moved(&self.store, segment, listed.first.as_slice());
+        self.tables.publish_minor(minor);
+        notes.note(Some(written_minor(self.alloc, &minor)));
+        Ok(Answer::Moved {
+            moved: count.moved,
+            left: count.left,
+        })
     }
-    let minor = tables.draft_minor(now)?;
-    notes.reserve()?;
-    let answer = move_with_minor(
-        alloc, tables, store, needed, &listed, &minor, segment, limit, now,
-    )?;
-    notes.note(Some(written_minor(alloc, &minor)));
-    Ok(answer)
 }
 
 // ---- a retirement
@@ -189,42 +154,27 @@ fn freed_commit(gone: Vec<VirtualNumber>) -> Option<Commit>
     }
 }
 
-/// Empties a segment in which no block is needed, as the counts tell. It takes no memory. Refused as `retire`
-/// of `nl_reclaim` is.
-fn empty<V: Vstore>(
-    tables: &Tables,
-    store: &mut V,
-    needed: &NeededCounts,
-    segment: Segment,
-) -> Reply
-    requires { IsCountedPen (layout_of tables.now.lists (V.store store.old)) needed.now }
-    ensures does { Does unshared (layout_of tables.now.lists (V.store store.old))
-        (Retire segment) result (layout_of tables.now.lists (V.store store.new)) }
-    ensures needed { AreNeededCounts (layout_of tables.now.lists (V.store store.new)) needed.now }
-{
-    counts_stay();
-    let count = needed.get(segment)?;
-    let freed = retire(store, count, segment)?;
-    Ok(Answer::Freed(freed))
-}
+impl<V: Vstore> Parts<V> {
+    /// Empties a segment in which no block is needed, as the counts tell. It takes no memory. Refused as
+    /// `retire` of `nl_reclaim` is.
+    fn empty(&mut self, segment: Segment) -> Reply
+        ensures { Does unshared self.old (Retire segment) result self.new }
+    {
+        counts_stay();
+        let count = self.needed.get(segment)?;
+        let freed = retire(&mut self.store, count, segment)?;
+        Ok(Answer::Freed(freed))
+    }
 
-/// Empties a segment in which no block is needed, and notes which numbers are out of use. Refused as `retire`
-/// of `nl_reclaim` is, and by `Memory` where readers are told, before anything changes.
-pub fn retire_segment<V: Vstore, N: Notes>(
-    alloc: Global,
-    tables: &Tables,
-    store: &mut V,
-    needed: &NeededCounts,
-    segment: Segment,
-    notes: &mut N,
-) -> Reply
-    requires { IsCountedPen (layout_of tables.now.lists (V.store store.old)) needed.now }
-    ensures does { DoesTelling N.told (layout_of tables.now.lists (V.store store.old)) (Retire segment) result
-        (layout_of tables.now.lists (V.store store.new)) (N.commits notes.old) (N.commits notes.new) }
-    ensures needed { AreNeededCounts (layout_of tables.now.lists (V.store store.new)) needed.now }
-{
-    let gone = gone_from(alloc, &*store, segment, notes)?;
-    let answer = empty(tables, store, needed, segment)?;
-    notes.note(freed_commit(gone));
-    Ok(answer)
+    /// Empties a segment in which no block is needed, and notes which numbers are out of use. Refused as
+    /// `retire` of `nl_reclaim` is, and by `Memory` where readers are told, before anything changes.
+    pub(crate) fn retire<N: Notes>(&mut self, segment: Segment, notes: &mut N) -> Reply
+        ensures { DoesTelling N.told self.old (Retire segment) result self.new
+            (N.commits notes.old) (N.commits notes.new) }
+    {
+        let gone = gone_from(self.alloc, &self.store, segment, notes)?;
+        let answer = self.empty(segment)?;
+        notes.note(freed_commit(gone));
+        Ok(answer)
+    }
 }

@@ -4,12 +4,13 @@ ghost use Rattle.nl_types.specs.declared.geometry.Geometry.{Geometry};
 ghost use Rattle.nl_types.specs.Worlds.{formatted};
 ghost use Rattle.nl_device.specs.Failures.{Failures};
 ghost use Rattle.nl_device.specs.Pages.{DevicePages};
-ghost use Rattle.nl_commit.specs.Layout.{IsFormatted, MeansWorld, blank_layout, layout_of};
+ghost use Rattle.nl_commit.specs.Layout.{IsFormatted, IsPen, MeansWorld, blank_layout, layout_of};
 ghost use Rattle.nl_commit.specs.Tables.{blank_lists};
 ghost use Rattle.nl_events.specs.NeededBlocks.{IsBlank, IsCountedPen};
 
 use crate::checkpoints::write_checkpoint;
 use crate::notes::NoNotes;
+use crate::parts::Parts;
 use crate::tables::Tables;
 use nl_counts::NeededCounts;
 use nl_counts::laws::unused_stores_are_counted;
@@ -51,30 +52,27 @@ fn first_checkpoint<V: Vstore>(
     Ok(())
 }
 
-/// What a pen has beside its store: its tables, and how many needed blocks each segment has.
-#[derive(Drop)]
-pub struct Formatted {
-    pub tables: Tables,
-    pub needed: NeededCounts,
-}
-
-/// Writes checkpoint 1, of the root alone, to a store without a number in use, and gives the tables and the
-/// counts of the volume that this makes. Refused by `Memory`, and by `Fault` where the device fails.
-pub fn format<V: Vstore>(alloc: Global, store: &mut V, now: u64) -> Result<Formatted, VolError>
-    requires { IsBlank (layout_of blank_lists (V.store store.old)) }
-    ensures formatted { (geometry : Geometry) (pages : DevicePages) (failures : Failures)
-        → layout_of blank_lists (V.store store.old) ≡ blank_layout geometry pages failures
-        → IfOk result (λ it. IsFormatted geometry pages failures now
-        (layout_of it.tables.lists (V.store store.new))) }
-    ensures means { IfOk result
-        (λ it. MeansWorld (layout_of it.tables.lists (V.store store.new)) (formatted now)) }
-    ensures pen { IfOk result
-        (λ it. IsCountedPen (layout_of it.tables.lists (V.store store.new)) it.needed) }
-    ensures refused { IfErr result (λ e. (e ≡ VolError.Memory) ⊎ (e ≡ VolError.Fault)) }
-{
-    let segments = store.table().sustat().segments as u32;
-    let mut tables = Tables::blank(alloc)?;
-    let mut needed = NeededCounts::new(alloc, segments)?;
-    first_checkpoint(alloc, &mut tables, store, &mut needed, now)?;
-    Ok(Formatted { tables, needed })
+impl<V: Vstore + Drop> Parts<V> {
+    /// A new volume over a store without a number in use, to which it writes checkpoint 1, of the root alone.
+    /// Refused by `Memory`, and by `Fault` where the device fails; the store is dropped then.
+    pub fn format(alloc: Global, mut store: V, now: u64) -> Result<Parts<V>, VolError>
+        requires { IsBlank (layout_of blank_lists (V.store store)) }
+        ensures formatted { (geometry : Geometry) (pages : DevicePages) (failures : Failures)
+            → layout_of blank_lists (V.store store) ≡ blank_layout geometry pages failures
+            → IfOk result (IsFormatted geometry pages failures now) }
+        ensures means { IfOk result (λ parts. MeansWorld parts (formatted now)) }
+        ensures pen { IfOk result IsPen }
+        ensures refused { IfErr result (λ e. (e ≡ VolError.Memory) ⊎ (e ≡ VolError.Fault)) }
+    {
+        let segments = store.table().sustat().segments as u32;
+        let mut tables = Tables::blank(alloc)?;
+        let mut needed = NeededCounts::new(alloc, segments)?;
+        first_checkpoint(alloc, &mut tables, &mut store, &mut needed, now)?;
+        Ok(Parts {
+            alloc,
+            tables,
+            store,
+            needed,
+        })
+    }
 }

@@ -1,19 +1,16 @@
 //! Events that leave the store: they ask, or change lists alone, each with the commit that tells readers of it.
 ghost use Rattle.std.specs.Prelude.{◌≡◌, ◌∷◌, [], ◌-◌, if◌then◌else◌, Some};
-ghost use Rattle.nl_commit.specs.Layout.{Does, LeavesStore, layout_of, unshared};
+ghost use Rattle.nl_commit.specs.Layout.{Does, LeavesStore, unshared};
 ghost use Rattle.nl_commit.specs.Notes.{DoesTelling, known_commit, made, mounted_as, noted_of, where_gone};
 ghost use Rattle.nl_commit.specs.Volume.{boundary_in};
-ghost use Rattle.nl_events.specs.NeededBlocks.{AreNeededCounts, IsCountedPen};
 
 use crate::notes::Notes;
-use crate::removing::{expire, remove, remove_range};
+use crate::parts::Parts;
 use crate::tables::Tables;
 use nl_commit::{Commit, Mounted};
-use nl_counts::NeededCounts;
 use nl_protect::boundary;
 use nl_types::{Answer, CheckpointNumber, Event, Mode, MountNumber, Reply};
 use nl_vstore::Vstore;
-use std::alloc::Global;
 
 // ---- commits
 
@@ -104,80 +101,55 @@ fn commit_after(answer: &Answer, known: Commit) -> Option<Commit>
 
 // ---- events
 
-/// Does an event on the lists, each by its body.
-fn change_lists<V: Vstore>(
-    alloc: Global,
-    tables: &mut Tables,
-    store: &V,
-    needed: &mut NeededCounts,
-    event: &Event,
-) -> Reply
-    requires pen { IsCountedPen (layout_of tables.old.lists (V.store store.now)) needed.old }
-    requires leaves { LeavesStore event.now }
-    ensures does { Does unshared (layout_of tables.old.lists (V.store store.now)) event.now result
-        (layout_of tables.new.lists (V.store store.now)) }
-    ensures needed { AreNeededCounts (layout_of tables.new.lists (V.store store.now)) needed.new }
-{
-    match event {
-        Event::Apply(change) => tables.change(alloc, store, change),
-        Event::Read(ask) => tables.read(alloc, store, ask),
-        Event::ChangeMode(number, mode) => tables.change_mode(*number, *mode),
-        Event::Remove(number) => remove(tables, store, needed, *number),
-        Event::RemoveRange { first, last } => {
-            remove_range(alloc, tables, store, needed, *first, *last)
-        }
-        Event::Expire { now, period } => expire(alloc, tables, store, needed, *now, *period),
-        Event::Mount(number) => tables.mount(*number),
-        Event::Unmount(mount) => tables.unmount(*mount),
-        Event::MountRead(mount, ask) => tables.read_mounted(alloc, store, *mount, ask),
-        Event::Listing(options) => tables.listing(alloc, options),
-        Event::Checkpoint { .. } | Event::Move { .. } | Event::Retire(_) | Event::Resize(_) => {
-            unreachable!()
+impl<V: Vstore> Parts<V> {
+    /// Does an event on the lists, each by its body.
+    fn change_lists(&mut self, event: &Event) -> Reply
+        requires { LeavesStore event.now }
+        ensures { Does unshared self.old event.now result self.new }
+    {
+        match event {
+            Event::Apply(change) => self.tables.change(self.alloc, &self.store, change),
+            Event::Read(ask) => self.tables.read(self.alloc, &self.store, ask),
+            Event::ChangeMode(number, mode) => self.tables.change_mode(*number, *mode),
+            Event::Remove(number) => self.remove(*number),
+            Event::RemoveRange { first, last } => self.remove_range(*first, *last),
+            Event::Expire { now, period } => self.expire(*now, *period),
+            Event::Mount(number) => self.tables.mount(*number),
+            Event::Unmount(mount) => self.tables.unmount(*mount),
+            Event::MountRead(mount, ask) => {
+                self.tables
+                    .read_mounted(self.alloc, &self.store, *mount, ask)
+            }
+            Event::Listing(options) => self.tables.listing(self.alloc, options),
+            Event::Checkpoint { .. } | Event::Move { .. } | Event::Retire(_) | Event::Resize(_) =>
+                unreachable!(),
         }
     }
-}
 
-/// Does an event on the lists whose commit is known before it: room for that comes first.
-fn change_noting<V: Vstore, N: Notes>(
-    alloc: Global,
-    tables: &mut Tables,
-    store: &V,
-    needed: &mut NeededCounts,
-    event: &Event,
-    commit: Commit,
-    notes: &mut N,
-) -> Reply
-    requires pen { IsCountedPen (layout_of tables.old.lists (V.store store.now)) needed.old }
-    requires leaves { LeavesStore event.now }
-    requires commit { known_commit tables.old.lists event.now ≡ Some commit }
-    ensures does { DoesTelling N.told (layout_of tables.old.lists (V.store store.now)) event.now result
-        (layout_of tables.new.lists (V.store store.now)) (N.commits notes.old) (N.commits notes.new) }
-    ensures needed { AreNeededCounts (layout_of tables.new.lists (V.store store.now)) needed.new }
-{
-    notes.reserve()?;
-    let answer = change_lists(alloc, tables, store, needed, event)?;
-    notes.note(commit_after(&answer, commit));
-    Ok(answer)
-}
+    /// Does an event on the lists whose commit is known before it: room for that comes first.
+    fn change_noting<N: Notes>(&mut self, event: &Event, commit: Commit, notes: &mut N) -> Reply
+        requires leaves { LeavesStore event.now }
+        requires commit { known_commit self.old.lists event.now ≡ Some commit }
+        ensures { DoesTelling N.told self.old event.now result self.new
+            (N.commits notes.old) (N.commits notes.new) }
+    {
+        self.means_a_world();
+        notes.reserve()?;
+        let answer = self.change_lists(event)?;
+        notes.note(commit_after(&answer, commit));
+        Ok(answer)
+    }
 
-/// An event that leaves the store. Refused by `Memory` before anything changes, where its commit takes some,
-/// and as the lists refuse it.
-pub fn step_in_lists<V: Vstore, N: Notes>(
-    alloc: Global,
-    tables: &mut Tables,
-    store: &V,
-    needed: &mut NeededCounts,
-    event: &Event,
-    notes: &mut N,
-) -> Reply
-    requires pen { IsCountedPen (layout_of tables.old.lists (V.store store.now)) needed.old }
-    requires leaves { LeavesStore event.now }
-    ensures does { DoesTelling N.told (layout_of tables.old.lists (V.store store.now)) event.now result
-        (layout_of tables.new.lists (V.store store.now)) (N.commits notes.old) (N.commits notes.new) }
-    ensures needed { AreNeededCounts (layout_of tables.new.lists (V.store store.now)) needed.new }
-{
-    match commit_before(&*tables, event) {
-        Some(commit) => change_noting(alloc, tables, store, needed, event, commit, notes),
-        None => change_lists(alloc, tables, store, needed, event),
+    /// An event that leaves the store. Refused by `Memory` before anything changes, where its commit takes
+    /// some, and as the lists refuse it.
+    pub(crate) fn step_in_lists<N: Notes>(&mut self, event: &Event, notes: &mut N) -> Reply
+        requires { LeavesStore event.now }
+        ensures { DoesTelling N.told self.old event.now result self.new
+            (N.commits notes.old) (N.commits notes.new) }
+    {
+        match commit_before(&self.tables, event) {
+            Some(commit) => self.change_noting(event, commit, notes),
+            None => self.change_lists(event),
+        }
     }
 }

@@ -2,14 +2,14 @@
 ghost use Rattle.std.specs.Prelude.{◌≡◌, [], ◌<◌, ◌≤◌, MatchOption};
 ghost use Rattle.nl_types.specs.declared.event.Event.TheVariants.{Expire, Remove, RemoveRange};
 ghost use Rattle.nl_commit.specs.Layout.{Does, layout_of, unshared};
-ghost use Rattle.nl_events.specs.NeededBlocks.{AreEarlier, AreNeededCounts, HasLostBetween, IsCountedPen, IsSpanOf, taken_out};
+ghost use Rattle.nl_events.specs.NeededBlocks.{AreEarlier, AreNeededCounts, HasLostBetween, IsSpanOf, taken_out};
 ghost use Rattle.nl_commit.specs.Volume.{IsTakenOut, Lists};
 
+use crate::parts::Parts;
 use crate::tables::Tables;
 use nl_counts::NeededCounts;
 use nl_types::{Answer, CheckpointNumber, Reply};
 use nl_vstore::Vstore;
-use std::alloc::Global;
 
 /// The numbers that an answer tells to be gone.
 fn gone_by(answer: &Answer) -> &[CheckpointNumber]
@@ -71,57 +71,41 @@ fn let_go<V: Vstore>(
     }
 }
 
-/// Removes a checkpoint, without memory. It is refused as `Tables::remove` is.
-pub fn remove<V: Vstore>(
-    tables: &mut Tables,
-    store: &V,
-    needed: &mut NeededCounts,
-    number: CheckpointNumber,
-) -> Reply
-    requires { IsCountedPen (layout_of tables.old.lists (V.store store.now)) needed.old }
-    ensures does { Does unshared (layout_of tables.old.lists (V.store store.now))
-        (Remove number) result (layout_of tables.new.lists (V.store store.now)) }
-    ensures needed { AreNeededCounts (layout_of tables.new.lists (V.store store.now)) needed.new }
-{
-    let answer = tables.remove(number)?;
-    let_go_between(tables, store, needed, number, number);
-    Ok(answer)
-}
+impl<V: Vstore> Parts<V> {
+    /// Removes a checkpoint, without memory. It is refused as `Tables::remove` is.
+    pub(crate) fn remove(&mut self, number: CheckpointNumber) -> Reply
+        ensures { Does unshared self.old (Remove number) result self.new }
+    {
+        let answer = self.tables.remove(number)?;
+        let_go_between(&self.tables, &self.store, &mut self.needed, number, number);
+        Ok(answer)
+    }
 
-/// Removes the checkpoints of a range that may go. It is refused as `Tables::remove_range` is.
-pub fn remove_range<V: Vstore>(
-    alloc: Global,
-    tables: &mut Tables,
-    store: &V,
-    needed: &mut NeededCounts,
-    first: CheckpointNumber,
-    last: CheckpointNumber,
-) -> Reply
-    requires { IsCountedPen (layout_of tables.old.lists (V.store store.now)) needed.old }
-    ensures does { Does unshared (layout_of tables.old.lists (V.store store.now))
-        (RemoveRange first last) result (layout_of tables.new.lists (V.store store.now)) }
-    ensures needed { AreNeededCounts (layout_of tables.new.lists (V.store store.now)) needed.new }
-{
-    let answer = tables.remove_range(alloc, first, last)?;
-    let_go(tables, store, needed, gone_by(&answer));
-    Ok(answer)
-}
+    /// Removes the checkpoints of a range that may go. It is refused as `Tables::remove_range` is.
+    pub(crate) fn remove_range(&mut self, first: CheckpointNumber, last: CheckpointNumber) -> Reply
+        ensures { Does unshared self.old (RemoveRange first last) result self.new }
+    {
+        let answer = self.tables.remove_range(self.alloc, first, last)?;
+        let_go(
+            &self.tables,
+            &self.store,
+            &mut self.needed,
+            gone_by(&answer),
+        );
+        Ok(answer)
+    }
 
-/// Removes the plain checkpoints that a period no longer protects. Refused by `Memory` alone.
-pub fn expire<V: Vstore>(
-    alloc: Global,
-    tables: &mut Tables,
-    store: &V,
-    needed: &mut NeededCounts,
-    now: u64,
-    period: u64,
-) -> Reply
-    requires { IsCountedPen (layout_of tables.old.lists (V.store store.now)) needed.old }
-    ensures does { Does unshared (layout_of tables.old.lists (V.store store.now))
-        (Expire now period) result (layout_of tables.new.lists (V.store store.now)) }
-    ensures needed { AreNeededCounts (layout_of tables.new.lists (V.store store.now)) needed.new }
-{
-    let answer = tables.expire(alloc, now, period)?;
-    let_go(tables, store, needed, gone_by(&answer));
-    Ok(answer)
+    /// Removes the plain checkpoints that a period no longer protects. Refused by `Memory` alone.
+    pub(crate) fn expire(&mut self, now: u64, period: u64) -> Reply
+        ensures { Does unshared self.old (Expire now period) result self.new }
+    {
+        let answer = self.tables.expire(self.alloc, now, period)?;
+        let_go(
+            &self.tables,
+            &self.store,
+            &mut self.needed,
+            gone_by(&answer),
+        );
+        Ok(answer)
+    }
 }

@@ -6,12 +6,10 @@ ghost use Rattle.nl_types.specs.Limits.{IsGeometry};
 ghost use Rattle.nl_counts.specs.Counted.{with_segments};
 ghost use Rattle.nl_vstore.specs.Stores.{HasGrown, IsGrowthRefused};
 ghost use Rattle.nl_commit.specs.CleaningEvents.{resized_in};
-ghost use Rattle.nl_commit.specs.Layout.{layout_of};
 ghost use Rattle.nl_commit.specs.Notes.{DoesTelling};
-ghost use Rattle.nl_events.specs.NeededBlocks.{AreNeededCounts, IsCountedPen};
 
 use crate::notes::Notes;
-use crate::tables::Tables;
+use crate::parts::Parts;
 use nl_commit::Commit;
 use nl_counts::NeededCounts;
 use nl_counts::laws::growth_keeps_counts;
@@ -62,28 +60,22 @@ fn add_segments<V: Vstore>(
     grown
 }
 
-/// Makes the volume one of so many segments, the new ones clean, where it has fewer, with a count of needed
-/// blocks for each. Refused as `adds_segments` is, by `Memory`, and by `Fault` where the device failed.
-pub fn resize<V: Vstore, N: Notes>(
-    alloc: Global,
-    tables: &Tables,
-    store: &mut V,
-    needed: &mut NeededCounts,
-    segments: u32,
-    notes: &mut N,
-) -> Reply
-    requires { IsCountedPen (layout_of tables.now.lists (V.store store.old)) needed.old }
-    ensures does { DoesTelling N.told (layout_of tables.now.lists (V.store store.old)) (Resize segments) result
-        (layout_of tables.now.lists (V.store store.new)) (N.commits notes.old) (N.commits notes.new) }
-    ensures needed { AreNeededCounts (layout_of tables.now.lists (V.store store.new)) needed.new }
-{
-    growth_keeps_counts();
-    if !adds_segments(store.table(), segments)? {
-        return Ok(Answer::Done);
+impl<V: Vstore> Parts<V> {
+    /// Makes the volume one of so many segments, the new ones clean, where it has fewer, with a count of
+    /// needed blocks for each. Refused as `adds_segments` is, by `Memory`, and by `Fault` where the device
+    /// failed.
+    pub(crate) fn resize<N: Notes>(&mut self, segments: u32, notes: &mut N) -> Reply
+        ensures { DoesTelling N.told self.old (Resize segments) result self.new
+            (N.commits notes.old) (N.commits notes.new) }
+    {
+        growth_keeps_counts();
+        if !adds_segments(self.store.table(), segments)? {
+            return Ok(Answer::Done);
+        }
+        let blocks = self.store.table().blocks();
+        notes.reserve()?;
+        add_segments(self.alloc, &mut self.store, &mut self.needed, segments)?;
+        notes.note(Some(Commit::Resized { segments, blocks }));
+        Ok(Answer::Done)
     }
-    let blocks = store.table().blocks();
-    notes.reserve()?;
-    add_segments(alloc, store, needed, segments)?;
-    notes.note(Some(Commit::Resized { segments, blocks }));
-    Ok(Answer::Done)
 }

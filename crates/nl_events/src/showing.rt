@@ -2,11 +2,10 @@
 ghost use Rattle.std.specs.Prelude.{◌≡◌, map, IfOk};
 ghost use Rattle.std.specs.Option.{option_map};
 ghost use Rattle.nl_vstore.specs.Stores.{numbered_in};
-ghost use Rattle.nl_commit.specs.Layout.{layout_of};
 ghost use Rattle.nl_commit.specs.Notes.{shown_of, shown_page};
 ghost use Rattle.nl_commit.specs.Shown.{MountsRise, whole_of};
 
-use crate::tables::Tables;
+use crate::parts::Parts;
 use nl_commit::{ShownPage, Whole};
 use nl_types::{Items, VirtualNumber};
 use nl_vstore::Vstore;
@@ -42,12 +41,13 @@ fn shown_numbers<V: Vstore>(
     Ok(Items::from_vec(numbers))
 }
 
-/// All that readers see.
-pub fn whole<V: Vstore>(alloc: Global, tables: &Tables, store: &V) -> Result<Whole, AllocError>
-    ensures image { IfOk result
-        (λ w. whole_of w ≡ shown_of (layout_of tables.now.lists (V.store store.now))) }
-    ensures mounts { IfOk result (λ w. MountsRise (whole_of w)) }
-{
-    let numbers = shown_numbers(alloc, store)?;
-    tables.whole(alloc, numbers)
+impl<V: Vstore> Parts<V> {
+    /// All that readers see. Refused by `Memory` alone.
+    pub fn whole(&self) -> Result<Whole, AllocError>
+        ensures image { IfOk result (λ w. whole_of w ≡ shown_of self.now) }
+        ensures mounts { IfOk result (λ w. MountsRise (whole_of w)) }
+    {
+        let numbers = shown_numbers(self.alloc, &self.store)?;
+        self.tables.whole(self.alloc, numbers)
+    }
 }

@@ -100,7 +100,7 @@ cleaned_judges l s event = tt
 
 -- ---- a move
 
-some-moving : (n : ℕ) → 0 < n → not (n == 0) ≡ true
+pub some-moving : (n : ℕ) → 0 < n → not (n == 0) ≡ true
 some-moving n some = ap not (ne_eqb n 0 (λ none. omega (arith, none, some)))
 
 -- a limit that is judged is some

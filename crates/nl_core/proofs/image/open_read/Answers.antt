@@ -30,26 +30,28 @@ opened-tables-requires g c =
     (subst (AllZip IsEntryOf (all c.in_ok-checkpoints.checkpoints.table)) c.as_slice.ensures
     c.in_ok-checkpoints.ensures))
 
-pub opened-requires-clause-opened : goal.opened-requires-clause-opened
-opened-requires-clause-opened g c =
-    is-opened c.requires.image.0 c.args.read c.requires.image.1
+pub invariant_of-parts : goal.invariant_of-parts
+invariant_of-parts g c =
+    let l = layout_of c.opened-tables.result.lists c.in_ok-store.store.store in
+    let pen =
+    c.opened_images_are_pens.ensures l
+    (is-opened c.requires.image.0 c.args.read c.requires.image.1
     c.in_ok-store.store.store c.in_ok-store.ensures.restored c.in_ok-store.store.sound
     c.in_ok-checkpoints.checkpoints.table
     (subst (AllZip IsEntryOf (all c.in_ok-checkpoints.checkpoints.table)) c.as_slice.ensures
     c.in_ok-checkpoints.ensures)
     c.checked_checkpoints_have_inodes.ensures
-    c.opened-tables.result.lists c.opened-tables.ensures.lists c.opened-tables.ensures.table
-
-pub opened-requires-clause-needed : goal.opened-requires-clause-needed
-opened-requires-clause-needed g c =
-    let l = layout_of c.opened-tables.result.lists c.in_ok-store.store.store in
-    let pen = c.opened_images_are_pens.ensures l (opened-requires-clause-opened g c) in
-    c.in_ok-needed.ensures.counted l.lists.table.latest.number (kept_numbers l.lists) (tells-needs l.lists)
-    (latest-of l pen.sound)
+    c.opened-tables.result.lists c.opened-tables.ensures.lists c.opened-tables.ensures.table) in
+    record {
+      pen = pen;
+      counts =
+          c.in_ok-needed.ensures.counted l.lists.table.latest.number (kept_numbers l.lists)
+          (tells-needs l.lists) (latest-of l pen.sound);
+    }
 
 pub returns-clause-rest : goal.returns-clause-rest
 returns-clause-rest g c =
-    subst (λ (l : Layout). IsAtRest l.lists) (sym c.opened.ensures.layout)
+    subst (λ (l : Layout). IsAtRest l.lists) (sym c.of_parts.ensures.layout)
     (opened-rest c.requires.image.0 c.args.read c.requires.image.1
     c.in_ok-store.store.store c.in_ok-store.ensures.restored c.in_ok-store.store.sound
     c.in_ok-checkpoints.checkpoints.table
@@ -65,4 +67,4 @@ returns-clause-image g c bytes is =
     c.in_ok-checkpoints.checkpoints.table
     (subst (AllZip IsEntryOf (all c.in_ok-checkpoints.checkpoints.table)) c.as_slice.ensures
     c.in_ok-checkpoints.ensures)
-    c.opened-tables.result.lists c.opened-tables.ensures.lists c.opened.result c.opened.ensures.layout
+    c.opened-tables.result.lists c.opened-tables.ensures.lists c.of_parts.result c.of_parts.ensures.layout

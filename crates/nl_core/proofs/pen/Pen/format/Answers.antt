@@ -10,5 +10,5 @@ format-requires g c = (
 
 pub returns-clause-formatted : goal.returns-clause-formatted
 returns-clause-formatted g c =
-    c.in_ok-tables.ensures.formatted c.args.geometry (g.D.Device.pages c.args.device)
+    c.in_ok-parts.ensures.formatted c.args.geometry (g.D.Device.pages c.args.device)
     (g.D.Device.failed c.args.device) c.in_ok-store.ensures.blank

@@ -1,8 +1,7 @@
-use Rattle.nl_commit.specs.Layout.{Layout}
-use Rattle.std.proofs.Common.{ap, sym, ◌∙◌}
+use Rattle.std.proofs.Common.{◌≡◌, ◌∙◌, sym, rules}
 use Rattle.nl_core.proofs.pen.Pen.is_dirty.Goals as goal
 
 pub returns-clause-world : goal.returns-clause-world
 returns-clause-world g c = λ w m.
-    c.is_dirty.ensures ∙ (ap (λ (l : Layout). l.lists.dirty) c.self.view_is
-    ∙ sym m.dirty)
+    let told : c.is_dirty.result ≡ c.args.self.now.lists.dirty = search rules in
+    told ∙ sym m.dirty

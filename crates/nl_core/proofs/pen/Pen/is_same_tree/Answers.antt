@@ -1,4 +1,4 @@
-use Rattle.std.proofs.Common.{subst}
+use Rattle.std.proofs.Common.{subst, ◌∙◌}
 use Rattle.std.specs.Prelude.{◌↔◌, IsTrue}
 use Rattle.nl_cpfile.specs.Tables.{Table}
 use Rattle.nl_commit.specs.Layout.{Layout, layout_of}
@@ -9,9 +9,9 @@ use Rattle.nl_core.proofs.pen.Pen.is_same_tree.Goals as goal
 
 pub returns-clause-exact : goal.returns-clause-exact
 returns-clause-exact g c =
-    let inside = layout_of c.self.inside.tables.lists c.self.inside.store.store in
+    let inside = layout_of c.parts.inside.tables.lists c.parts.inside.store.store in
     subst (λ (l : Layout). IsTrue c.is_same_tree.result ↔ HaveOneRoot l c.args.old c.args.new)
-    c.self.view_is
+    (c.parts.view_is ∙ c.self.view_is)
     (subst (λ (t : Table). IsTrue c.is_same_tree.result ↔ IsOneRoot t c.args.old c.args.new)
     c.checkpoints.ensures c.is_same_tree.ensures)
 
