@@ -13,3 +13,4 @@ pub mod Visiting
 pub mod OpenFiles
 pub mod Replies
 pub mod FileParts
+pub mod TakenFiles

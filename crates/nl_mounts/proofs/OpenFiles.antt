@@ -1,8 +1,7 @@
 -- What the file of an open mount's path is, in each image that has the mount.
-use Rattle.std.proofs.Common.{◌≡◌, ◌≢◌, ◌↔◌, inl, inr, ℕ, zero, suc, ◌+◌, ◌-◌, ◌<◌, ◌≤◌, min, List, [], ◌∷◌, ◌++◌, length, take, drop, Option, None, Some, Result, Ok, Err, refl, ap, sym, ◌∙◌, subst, arith}
+use Rattle.std.proofs.Common.{◌≡◌, ℕ, zero, suc, ◌-◌, ◌≤◌, min, List, [], ◌∷◌, ◌++◌, length, take, drop, Option, None, Some, Result, Ok, Err, refl, ap, sym, ◌∙◌, subst, arith}
 use Rattle.std.specs.Prelude.{IfErr, IsOk, MatchResult, OnErr}
-use Rattle.std.proofs.lemmas.List.{length-take, length-drop, take_at, drop_at, drop-drop, take-append-drop}
-use mathlib.Core.List.{IsPrefix}
+use Rattle.std.proofs.lemmas.List.{length-take, length-drop, take-append-drop}
 use Rattle.nl_types.specs.declared.error.VolError.{VolError}
 use Rattle.nl_types.specs.declared.error.VolError.TheVariants.{BadMount}
 use Rattle.nl_types.specs.declared.reply.Answer.{Answer}
@@ -18,7 +17,6 @@ use Rattle.nl_tree.specs.Reading.{ArePartOf, HoldingMeans, as_file, link_at}
 use Rattle.nl_tree.specs.Facts.ReadingCalls.{read_bytes, read_file, read_refused}
 use Rattle.nl_files.specs.CheckpointTrees.{HoldsTree}
 use Rattle.nl_cpfile.specs.Tables.{kept_at, checkpoint_root}
-use Rattle.nl_cpfile.specs.declared.checkpoint.Checkpoint.{Checkpoint}
 use Rattle.nl_commit.specs.Commits.{IsHistory, image_of}
 use Rattle.nl_commit.specs.Shown.{Shown, pages_shown}
 use Rattle.nl_publish.specs.Histories.{IsBegun, Known}
@@ -30,7 +28,7 @@ use Rattle.nl_publish.specs.Facts.Staying.{history_image}
 use Rattle.nl_lanes.specs.Facts.Later.{later_self}
 use Rattle.nl_publish.specs.declared.image.Image.{Image}
 use Rattle.nl_mounts.specs.declared.looks.MountedTree.{MountedTree}
-use Rattle.nl_mounts.specs.OpenFiles.{FileView, HasReadMore, HoldsAsTold, IsFileOf, IsFileRead, IsOpenOf, IsPartRefused, bytes_at}
+use Rattle.nl_mounts.specs.OpenFiles.{HoldsAsTold, IsFileOf, IsFileRead, IsOpenOf, IsPartRefused, bytes_at}
 use Rattle.nl_mounts.specs.declared.standing.Standing.TheVariants as standing
 use Rattle.nl_mounts.specs.Ports as ports
 use Rattle.nl_mounts.specs.Ports.{Finds, IsMountTree, IsNotRead, IsOfTree, IsUngiven, Lacks, Misses, PortView, Shows}
@@ -105,7 +103,7 @@ holds_as_told m old new x tree claim told_begun (Shows s seen at shows) t held i
 -- ---- what a tree has at a path
 
 -- bytes that are read are some of the file's
-read_is : (t : Tree) (path : List ℕ) (offset len : ℕ) (part : List ℕ)
+pub read_is : (t : Tree) (path : List ℕ) (offset len : ℕ) (part : List ℕ)
     → and_then (path_of path) (read t offset len) ≡ Ok (answer.Bytes part)
     → (bytes : List ℕ) × (bytes_at t path ≡ Ok bytes) × (part ≡ take len (drop offset bytes))
 read_is t path offset len part is = by (path_of path) is
@@ -120,6 +118,16 @@ read_is t path offset len part is = by (path_of path) is
         → (bytes : List ℕ) × (and_then p (file_at t) ≡ Ok bytes) × (part ≡ take len (drop offset bytes))
     by (Ok p) is = found (file_at t p) is
     by (Err e) is = absurd (cc is)
+
+pub take_less : (n : ℕ) (xs : List ℕ) (c : ℕ) → c ≡ min n (length xs) → take n xs ≡ take c xs
+take_less zero xs zero is = refl
+take_less zero xs (suc c) is = absurd (omega (arith, is))
+take_less (suc n) [] zero is = refl
+take_less (suc n) [] (suc c) is = refl
+take_less (suc n) (y ∷ xs) zero is = absurd (omega (arith, is))
+take_less (suc n) (y ∷ xs) (suc c) is =
+    let less : c ≡ min n (length xs) = omega (arith, is) in
+    ap (λ (l : List ℕ). y ∷ l) (take_less n xs c less)
 
 pub file_read : (held : Holding) (t : Tree) → HoldingMeans held t
     → (path : List ℕ) (i offset count : ℕ) (was now : List ℕ) → Ok i ≡ and_then (link_at held path) as_file
@@ -154,16 +162,6 @@ file_read held t means path i offset count was now link part within rest =
           (omega (arith, all, length-drop offset bytes)))
           ∙ ap (λ (l : List ℕ). take count (drop offset bytes) ++ l) rest);
     }
-  where
-    take_less : (n : ℕ) (xs : List ℕ) (c : ℕ) → c ≡ min n (length xs) → take n xs ≡ take c xs
-    take_less zero xs zero is = refl
-    take_less zero xs (suc c) is = absurd (omega (arith, is))
-    take_less (suc n) [] zero is = refl
-    take_less (suc n) [] (suc c) is = refl
-    take_less (suc n) (y ∷ xs) zero is = absurd (omega (arith, is))
-    take_less (suc n) (y ∷ xs) (suc c) is =
-        let less : c ≡ min n (length xs) = omega (arith, is) in
-        ap (λ (l : List ℕ). y ∷ l) (take_less n xs c less)
 
 -- ---- opening
 
@@ -228,8 +226,8 @@ part_missed gives m p new e (ports.NotGiven volume why) same is = record {
   why = standings.NotGiven volume why same refl;
 }
 
-pub part_lacks : (m : Claim) (old new front : Known) (x : Shown) (tree : Option MountedTree)
-    (Ungiven : Known → Type 0) (result : Result ℕ VolError)
+pub part_lacks : {A : Type 0} (m : Claim) (old new front : Known) (x : Shown) (tree : Option MountedTree)
+    (Ungiven : Known → Type 0) (result : Result A VolError)
     → Finds m old front x tree → new ≡ front → OnErr result (tree ≡ None)
     → IfErr result (λ e. e ≡ BadMount)
     → IfErr result (IsPartRefused m old new Ungiven)

@@ -1,7 +1,5 @@
 -- Pages that a port keeps, while it sees more.
-use Rattle.std.proofs.Common.{◌≡◌, inl, inr, ℕ, ◌≤◌, Bool, true, false, cond, List, [], ◌∷◌, ◌++◌, Contains, Option, None, Some, Result, Ok, Err, refl, sym, ap, ◌∙◌, subst, arith}
-use Rattle.std.specs.Ordering.{nat_cmp, eq_by_cmp}
-use Rattle.std.proofs.lemmas.Bool.{eqb-true}
+use Rattle.std.proofs.Common.{◌≡◌, inl, inr, ℕ, List, [], ◌∷◌, Contains, Option, None, Some, Result, Ok, Err, refl, sym, ap, ◌∙◌, subst}
 use mathlib.Core.List.{IsPrefix}
 use Rattle.lru.specs.LruCache.{lru_cache}
 use Rattle.lru.proofs.Splits.{Contains-nil}
@@ -13,10 +11,7 @@ use Rattle.nl_layout.specs.Root.{root_of}
 use Rattle.nl_layout.specs.declared.root.Root.{Root}
 use Rattle.nl_tree.specs.Held.{Holding}
 use Rattle.nl_files.specs.CheckpointTrees.{HoldsTree}
-use Rattle.nl_cpfile.specs.Tables.{IsRising, Precedes, kept_at, checkpoint_root}
-use Rattle.nl_cpfile.specs.declared.checkpoint.Checkpoint.{Checkpoint}
-use Rattle.nl_cpfile.specs.Facts.Found.{eq_by_cmp-nat_cmp, found}
-use Rattle.nl_cpfile.specs.Facts.Rising.{All-last}
+use Rattle.nl_cpfile.specs.Tables.{kept_at, checkpoint_root}
 use Rattle.nl_commit.specs.Commits.{IsHistory, image_of}
 use Rattle.nl_commit.specs.Shown.{Shown, pages_shown}
 use Rattle.nl_commit.specs.declared.commit.Commit.{Commit}

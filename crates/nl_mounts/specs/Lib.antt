@@ -5,5 +5,6 @@ pub mod Standings
 pub mod Sharing
 pub mod InOrder
 pub mod Visiting
+pub mod Taking
 pub mod OpenFiles
 pub mod TypedCalls

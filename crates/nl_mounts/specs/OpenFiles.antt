@@ -1,5 +1,5 @@
 -- Files of mounts that are open.
-use Rattle.std.specs.Prelude.{◌≡◌, ◌≢◌, ◌↔◌, ◌-◌, ◌+◌, ◌≤◌, ℕ, min, List, ◌++◌, length, take, drop, IsOk, IfSome, IfNone, MatchResult, Option, Some, Result, Ok, Err}
+use Rattle.std.specs.Prelude.{◌≡◌, ◌≢◌, ◌↔◌, ◌-◌, ◌+◌, ◌≤◌, ℕ, min, List, ◌++◌, length, take, drop, IsOk, IfOk, IfSome, IfNone, MatchResult, Option, Some, Result, Ok, Err}
 use Rattle.nl_types.specs.declared.error.VolError.{VolError}
 use Rattle.nl_types.specs.declared.error.VolError.TheVariants.{BadMount}
 use Rattle.nl_types.specs.Calls.{and_then, file_at, read}
@@ -8,7 +8,7 @@ use Rattle.nl_types.specs.Roots.{Pages}
 use Rattle.nl_types.specs.Trees.{Tree}
 use Rattle.nl_layout.specs.Root.{root_of}
 use Rattle.nl_tree.specs.Held.{Holding}
-use Rattle.nl_tree.specs.Reading.{as_file, link_at}
+use Rattle.nl_tree.specs.Reading.{AreBytesFrom, as_file, link_at}
 use Rattle.nl_files.specs.CheckpointTrees.{HoldsTree}
 use Rattle.nl_commit.specs.Commits.{image_of}
 use Rattle.nl_publish.specs.Histories.{Known}
@@ -20,6 +20,7 @@ use Rattle.nl_mounts.specs.declared.looks.MountedTree.{MountedTree}
 use Rattle.nl_mounts.specs.declared.standing.Standing.{Standing}
 use Rattle.nl_mounts.specs.declared.standing.Standing.TheVariants as standing
 use Rattle.nl_mounts.specs.Standings.{StandsAs}
+use Rattle.nl_mounts.specs.Taking.{TakenView, blocks_of}
 
 -- a file that is open: its mount, its path, and the inode to which that leads
 pub record FileView : Type 0 where
@@ -55,6 +56,18 @@ pub record IsFileRead (t : Tree) (path : List ℕ) (offset : ℕ) (was : List �
   pub answer : result ≡ Ok count
   pub all : count ≡ min (length was) (length bytes - offset)
   pub front : now ≡ take count (drop offset bytes) ++ drop count was
+
+-- what is copied of the pages are the bytes of the file from an offset on, as many as there are up to a length
+pub record HasTaken (t : Tree) (path : List ℕ) (offset len : ℕ) (taken : TakenView) : Type 0 where
+  pub bytes : List ℕ
+  pub file : bytes_at t path ≡ Ok bytes
+  pub all : taken.count ≡ min len (length bytes - offset)
+  pub copied : (part : List ℕ) → length part ≡ taken.count
+      → AreBytesFrom (blocks_of taken.pages) taken.start part → part ≡ take taken.count (drop offset bytes)
+
+-- or a page couldn't be shared
+abbrev pub IsTakenOf : Tree → List ℕ → (offset len : ℕ) → Result (Option TakenView) VolError → Type 0
+IsTakenOf t path offset len result = IfOk result (λ found. IfSome found (HasTaken t path offset len))
 
 -- so many bytes of the file from an offset on stand in the front of the slice, and the rest of it is as it was
 pub record IsReadUpTo (t : Tree) (path : List ℕ) (offset : ℕ) (was : List ℕ) (read : ℕ) (now : List ℕ)

@@ -5,20 +5,18 @@ ghost use Rattle.nl_commit.specs.Commits.{image_of};
 ghost use Rattle.nl_commit.specs.Shown.{pages_shown};
 ghost use Rattle.nl_publish.specs.Told.{TreeOn};
 ghost use Rattle.nl_lanes.specs.Reading.{IsLater, Looked, Told};
-ghost use Rattle.nl_mounts.specs.OpenFiles.{ArePartsRead, HasReadMore, HoldsAsTold, IsFileRead, IsOpenOf, IsPartRefused, IsReadUpTo};
+ghost use Rattle.nl_mounts.specs.OpenFiles.{ArePartsRead, HasReadMore, HoldsAsTold, IsFileRead, IsOpenOf, IsPartRefused, IsReadUpTo, IsTakenOf};
 ghost use Rattle.nl_mounts.specs.Ports.{IsNotRead, IsOfTree, IsUngiven, seeing};
 
 use crate::enters::Enters;
 use crate::looks::MountedTree;
 use crate::port::Port;
+use crate::taken::{MOST_TAKEN, TakenBytes};
 use nl_files::ReadTree;
 use nl_publish::{Image, Mount, Volumes};
 use nl_tree::{find_file, read_file_into};
 use nl_types::{InodeNumber, VolError};
 use std::marker::Model;
-
-/// How many bytes a part has: 1 MiB.
-const PART: usize = 1 << 20;
 
 /// A file of a mount whose path was walked. Any port of the volume reads it, as long as the mount isn't given
 /// back: that needs the mount, which is lent to the file.
@@ -165,6 +163,90 @@ impl<J: Volumes> FileAt<'_, J> {
         }
     }
 
+    /// Takes bytes of the file in the tree that the mount has, as many as there are up to a length; None where
+    /// a page has too many owners.
+    fn take_in(
+        &self,
+        image: &Image,
+        tree: Option<MountedTree>,
+        offset: u64,
+        len: usize,
+    ) -> Result<Option<TakenBytes>, VolError>
+        requires holds { HoldsAsTold self.now.mount (pages_shown image.now.tables) tree }
+        requires most { len ≤ 65536 }
+        ensures taken { IsOfTree (pages_shown image.now.tables) tree (result ≡ Err VolError.BadMount)
+            (λ t. IsTakenOf t self.now.path offset len result) }
+        ensures refused { OnErr result (tree ≡ None) }
+        ensures within { IfOk result (λ found. IfSome found (λ taken. taken.count ≤ len)) }
+        ensures end { IfOk result (λ found. IfSome found (λ taken. offset + taken.count < 2 ^ 64)) }
+    {
+        match tree {
+            None => Err(VolError::BadMount),
+            Some(found) => {
+                let tree = ReadTree::new(&image.tables, found.root);
+                Ok(TakenBytes::of_file(&tree, self.inode, offset, len).ok())
+            }
+        }
+    }
+
+    /// Takes bytes of the file as `take_in` does, in the state that the port enters. Refused as `read_into` is.
+    fn take<E: Enters>(
+        &self,
+        port: &mut Port<J, E>,
+        offset: u64,
+        len: usize,
+    ) -> Result<Option<TakenBytes>, VolError>
+        requires { len ≤ 65536 }
+        ensures later { IsLater port.old.known port.new.known }
+        ensures told { Told self.now.mount (result ≡ Err VolError.BadMount)
+            (λ t. IsTakenOf t self.now.path offset len result) }
+        ensures refused { IfErr result (IsPartRefused self.now.mount port.old.known port.new.known
+            (λ k. IsUngiven E.gives k port.old.seated)) }
+        ensures within { IfOk result (λ found. IfSome found (λ taken. taken.count ≤ len)) }
+        ensures end { IfOk result (λ found. IfSome found (λ taken. offset + taken.count < 2 ^ 64)) }
+        ensures kept { port.new ≡ seeing port.old port.new.known }
+    {
+        self.mount.told().volume();
+        match port.look(self.mount) {
+            Err(refusal) => Err(refusal),
+            Ok(look) => {
+                let result = self.take_in(look.image(), look.tree(), offset, len);
+                port.come_back(look);
+                result
+            }
+        }
+    }
+
+    /// Reads bytes as `read_into` does, but copies them once the port has left the state: a publication waits
+    /// for no copy, also where the system stops this thread amid one.
+    fn read_apart<E: Enters>(
+        &self,
+        port: &mut Port<J, E>,
+        offset: u64,
+        into: &mut [u8],
+    ) -> Result<usize, VolError>
+        requires { length into.old ≤ 65536 }
+        ensures later { IsLater port.old.known port.new.known }
+        ensures told { Told self.now.mount (IsNotRead result into.old into.new)
+            (λ t. IsFileRead t self.now.path offset into.old result into.new) }
+        ensures refused { IfErr result (IsPartRefused self.now.mount port.old.known port.new.known
+            (λ k. IsUngiven E.gives k port.old.seated)) }
+        ensures same { OnErr result (into.new ≡ into.old) }
+        ensures within { IfOk result (λ count. count ≤ length into.new) }
+        ensures end { IfOk result (λ count. offset + count < 2 ^ 64) }
+        ensures kept { port.new ≡ seeing port.old port.new.known }
+    {
+        match self.take(port, offset, into.len()) {
+            Err(refusal) => Err(refusal),
+            Ok(None) => self.read_into(port, offset, into),
+            Ok(Some(taken)) => {
+                let count = taken.count();
+                taken.copy_into(&mut into[..count]);
+                Ok(count)
+            }
+        }
+    }
+
     /// Reads so many bytes more behind those that were read. Refused as `read_into` is.
     fn read_part<E: Enters>(
         &self,
@@ -176,6 +258,7 @@ impl<J: Volumes> FileAt<'_, J> {
     ) -> Result<usize, VolError>
         requires room { count + len ≤ length into.old }
         requires fits { offset + count < 2 ^ 64 }
+        requires most { len ≤ 65536 }
         ensures later { IsLater port.old.known port.new.known }
         ensures more { IfOk result (λ more. (t : Tree) (was : List ℕ)
             → TreeOn (image_of self.now.mount.told.commits) self.now.mount.checkpoint t
@@ -189,11 +272,11 @@ impl<J: Volumes> FileAt<'_, J> {
         ensures end { IfOk result (λ more. offset + (count + more) < 2 ^ 64) }
         ensures kept { port.new ≡ seeing port.old port.new.known }
     {
-        self.read_into(port, offset + count as u64, &mut into[count..count + len])
+        self.read_apart(port, offset + count as u64, &mut into[count..count + len])
     }
 
-    /// Reads bytes of the file as `read_into` does, but part by part, of 1 MiB at most: each is an entry of its
-    /// own, between which publications go on. All bytes are of the one tree that the mount's checkpoint had when
+    /// Reads bytes of the file as `read_into` does, but part by part, of 64 KiB at most: each is an entry of its
+    /// own, in which it shares the part's pages, whose bytes it copies outside. So publications go on meanwhile. All bytes are of the one tree that the mount's checkpoint had when
     /// it was mounted. It takes no memory, and never waits. Where a part is refused, it answers how many bytes
     /// were read before, and the refusal, which is `BadMount`.
     pub fn read_parts<E: Enters>(
@@ -212,7 +295,7 @@ impl<J: Volumes> FileAt<'_, J> {
         let _ = &self.inode;
         let mut count = 0;
         while count < into.len() {
-            let len = (into.len() - count).min(PART);
+            let len = (into.len() - count).min(MOST_TAKEN);
             match self.read_part(port, offset, count, len, into) {
                 Err(refusal) => return PartsRead {
                     count,

@@ -14,6 +14,7 @@ mod many;
 mod port;
 mod shared;
 mod standing;
+mod taken;
 mod visits;
 
 pub use enters::Enters;

@@ -12,7 +12,7 @@ use std::sync::Wait;
 use std::test::Fail;
 use std::thread::{Threads, join};
 
-/// The size of the file: a part of 1 MiB, and some bytes.
+/// The size of the file: many parts, and some bytes.
 const SIZE: usize = 1_048_600;
 
 /// No checkpoint is protected, and a segment is cleaned where a block of it isn't needed.

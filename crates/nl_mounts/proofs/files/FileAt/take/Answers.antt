@@ -1,0 +1,66 @@
+use Rattle.std.proofs.Common.{ap, sym, subst}
+use Rattle.nl_commit.specs.Shown.{pages_shown}
+use Rattle.nl_publish.specs.Histories.{IsBegun, Known}
+use Rattle.nl_mounts.specs.OpenFiles.{FileView, HoldsAsTold}
+use Rattle.nl_mounts.specs.Ports.{Finds, IsSeenOn, IsUngiven, Misses, PortView}
+use Rattle.nl_mounts.proofs.Looking.{back_at, comes}
+use Rattle.nl_mounts.proofs.OpenFiles.{holds_as_told, part_lacks, part_missed}
+use Rattle.nl_mounts.proofs.PortPages.{finds_seen, found_in}
+use Rattle.nl_mounts.proofs.TakenFiles.{not_taken}
+use Rattle.nl_mounts.proofs.files.FileAt.take.Goals as goal
+
+pub take_in-result-requires : goal.take_in-result-requires
+take_in-result-requires g c =
+    let m = c.self.inside.mount.now in let old = c.args.port.now.known in let look = c.in-Ok.look in
+    record {
+      holds =
+          subst (λ (f : FileView). HoldsAsTold f.mount (pages_shown c.image.result.now.tables) c.tree.result)
+          c.self.view_is
+          (holds_as_told m old look.front c.image.result.now.tables c.tree.result c.told.ensures.claim
+          (subst (λ (k : Known). IsBegun k.commits) c.told.ensures.told c.volume.ensures.begun)
+          (found_in m old look.front look.shown c.image.result.now.tables look.tree c.tree.result c.image.ensures
+          c.tree.ensures c.in-Ok.ensures.finds));
+      most = c.requires;
+    }
+
+pub come_back-requires : goal.come_back-requires
+come_back-requires g c =
+    subst (λ (p : PortView). IsSeenOn p.known c.in-Ok.look.front) (sym c.in-Ok.ensures.out)
+    (finds_seen c.self.inside.mount.now c.args.port.now.known c.in-Ok.look.front c.in-Ok.look.shown
+    c.in-Ok.look.tree c.in-Ok.ensures.finds)
+
+pub returns-in-Err-clause-refused : goal.returns-in-Err-clause-refused
+returns-in-Err-clause-refused g c =
+    part_missed g.E.Enters.gives c.args.self.now.mount c.args.port.now c.look.new.self.known c.in-Err.refusal
+    (subst (λ (f : FileView). Misses g.E.Enters.gives f.mount c.args.port.now) c.self.view_is
+    c.in-Err.ensures.missed)
+    (ap (λ (p : PortView). p.known) c.in-Err.ensures.same) c.in-Err.ensures.refused
+
+pub returns-in-Ok : goal.returns-in-Ok
+returns-in-Ok g c =
+    let old = c.args.port.now in let look = c.in-Ok.look in
+    let m = c.args.self.now.mount in
+    let image = c.image.result.now.tables in let tree = c.tree.result in
+    let taken = c.take_in-result in
+    let finds = subst (λ (f : FileView). Finds f.mount old.known look.front look.shown look.tree) c.self.view_is
+    c.in-Ok.ensures.finds in
+    let back =
+    back_at old c.look.new.self c.come_back.new.self look.front c.in-Ok.ensures.seated c.in-Ok.ensures.out
+    c.come_back.ensures in
+    let all =
+    comes m old.known c.come_back.new.self.known look image tree
+    (IsUngiven g.E.Enters.gives old.known old.seated) _ _ finds
+    back.known c.image.ensures c.tree.ensures taken.ensures.taken in
+    record {
+      later = all.later;
+      told = all.told;
+      refused =
+          part_lacks m old.known c.come_back.new.self.known look.front image tree
+          (λ k. IsUngiven g.E.Enters.gives k old.seated) taken.result
+          (found_in m old.known look.front look.shown image look.tree tree c.image.ensures c.tree.ensures finds)
+          back.known taken.ensures.refused
+          (not_taken (pages_shown image) tree taken.result _ taken.ensures.taken taken.ensures.refused);
+      within = taken.ensures.within;
+      end = taken.ensures.end;
+      kept = back.kept;
+    }
