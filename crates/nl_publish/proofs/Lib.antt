@@ -7,3 +7,4 @@ pub mod Running
 pub mod Handing
 pub mod Copies
 pub mod Following
+pub mod FreedBlocks

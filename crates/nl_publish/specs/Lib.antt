@@ -12,4 +12,5 @@ pub mod Returns
 pub mod Told
 pub mod Cached
 pub mod KeptHoldings
+pub mod ReadPages
 pub mod Facts

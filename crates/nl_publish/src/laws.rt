@@ -1,6 +1,7 @@
 //! What published histories and runs under the lock mean, as contracts of functions that do nothing.
 ghost use Rattle.nl_publish.specs.Cached.{CachedPagesStay};
 ghost use Rattle.nl_publish.specs.KeptHoldings.{KeptHoldingsStay, MountsHold};
+ghost use Rattle.nl_publish.specs.ReadPages.{ReadPagesStand, ReadPagesStay, RetirementsSpareReadPages};
 ghost use Rattle.nl_publish.specs.Told.{HistoriesShowImages, KeptTreesStay, LockedRunsLeadOn, MountsBegin, MountsStay, PublishedWorldsAreShown};
 
 /// In each image every kept checkpoint means a tree, and each mount is of a kept snapshot.
@@ -45,4 +46,14 @@ pub fn cached_pages_stay()
 /// alone but for want of memory.
 pub fn locked_runs_lead_on()
     ensures { LockedRunsLeadOn }
+{}
+
+/// No block of a freed segment is reached by what a reader may read. Whatever image of the history a reader is
+/// in, that has the pages of its checkpoints itself. While the pen keeps such a checkpoint, or a mount of it
+/// isn't given back, they also stand at blocks of their own, in segments that aren't clean; no retirement frees
+/// one of these; and each later image has the same pages.
+pub fn readers_reach_no_freed_block()
+    ensures stand { ReadPagesStand }
+    ensures spared { RetirementsSpareReadPages }
+    ensures stay { ReadPagesStay }
 {}

@@ -31,7 +31,7 @@ use Rattle.nl_publish.specs.Facts.Staying.{history_image, rest_of, tree_on}
 
 -- ---- what is kept behind a commit under a number that was given was kept before it
 
-abbrev WasFound : ℕ → List Checkpoint → Type 0
+abbrev pub WasFound : ℕ → List Checkpoint → Type 0
 WasFound k kept = (c : Checkpoint) × (found k kept ≡ Some c)
 
 found_more : (k : ℕ) (x : Checkpoint) (kept : List Checkpoint) → WasFound k kept → WasFound k (x ∷ kept)
@@ -78,11 +78,11 @@ map_push : {A B : Type 0} (f : A → B) (xs : List A) (x : A) → map f (xs ++ x
 map_push f [] x = refl
 map_push f (y ∷ xs) x = ap (λ ys. f y ∷ ys) (map_push f xs x)
 
-record IsBehind (x : Shown) (c : Commit) (n : ℕ) : Type 0 where
-  latest : x.table.latest.number ≤ (applied x c).table.latest.number
-  kept : (d : Checkpoint) → kept_at n (applied x c).table ≡ Some d → WasFound n (all x.table)
+pub record IsBehind (x : Shown) (c : Commit) (n : ℕ) : Type 0 where
+  pub latest : x.table.latest.number ≤ (applied x c).table.latest.number
+  pub kept : (d : Checkpoint) → kept_at n (applied x c).table ≡ Some d → WasFound n (all x.table)
 
-behind : (x : Shown) (c : Commit) (n : ℕ) → n ≤ x.table.latest.number → IsNext x c → IsBehind x c n
+pub behind : (x : Shown) (c : Commit) (n : ℕ) → n ≤ x.table.latest.number → IsNext x c → IsBehind x c n
 behind x (Whole w) n given next = absurd next.new
 behind x (Written w) n given next =
     let above : x.table.latest.number < w.checkpoint.number = next.new in

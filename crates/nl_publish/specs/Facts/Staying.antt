@@ -215,6 +215,17 @@ shows_all first m k x [] next still = still
 shows_all first m k x (c ∷ log) next still =
     shows_all first m k (applied x c) log next.1 (shows_on first m k x c next.0 still)
 
+-- a mount that is found later too shows the checkpoint that it showed
+pub mount_is_same : (x : Shown) (log : List Commit) (m n k : ℕ) → IsImage x → AllNext x log
+    → mounted_on x m ≡ Some n → mounted_on (fold applied x log) m ≡ Some k → k ≡ n
+mount_is_same x log m n k image next was is =
+    let first : ShowsStill x m n x = record {
+      given = image.given m n was;
+      shows = λ j found. let same : j ≡ n = cc (found, was) in
+          (same, λ t tree. subst (λ (i : ℕ). TreeOn x i t) (sym same) tree);
+    } in
+    ((shows_all x m n x log next first).shows k is).0
+
 -- ---- parts of a history
 
 all_rest : (x : Shown) (xs ys : List Commit) → AllNext x (xs ++ ys) → AllNext (fold applied x xs) ys
