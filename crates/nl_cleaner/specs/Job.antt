@@ -9,7 +9,7 @@ use Rattle.nl_protect.specs.Rounds.{ends_round}
 use Rattle.nl_vstore.specs.Located.{needed_count}
 use Rattle.nl_commit.specs.CleanerViews.{cleaning_event}
 use Rattle.nl_commit.specs.CleaningEvents.{needed_by}
-use Rattle.nl_commit.specs.Layout.{Does, Layout, unshared}
+use Rattle.nl_commit.specs.Layout.{AllowedBetween, Does, Layout, unshared}
 use Rattle.nl_cleaner.specs.declared.job.Stage.{Stage}
 pub use Rattle.nl_cleaner.specs.declared.job.Stage.TheVariants.{Cleaning, Ended, Expiring}
 
@@ -65,11 +65,15 @@ job_after_reply job reply = noted_by job.stage job reply
 -- ---- steps
 
 -- the next event was done or refused, and noted
-pub record Stepped (old : JobView × Layout) (event : Event) (reply : Reply)
+pub record SteppedBy (allowed : AllowedBetween) (old : JobView × Layout) (event : Event) (reply : Reply)
     (new : JobView × Layout) : Type 0 where
   pub next : next_event old.0 old.1 ≡ Some event
-  pub does : Does unshared old.1 event reply new.1
+  pub does : Does allowed old.1 event reply new.1
   pub job : new.0 ≡ job_after_reply old.0 reply
+
+-- so on a pen alone
+abbrev pub Stepped : JobView × Layout → Event → Reply → JobView × Layout → Type 0
+Stepped old event reply new = SteppedBy unshared old event reply new
 
 -- nothing is left of the round
 pub record IsOver (old new : JobView × Layout) : Type 0 where

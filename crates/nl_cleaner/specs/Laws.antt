@@ -1,5 +1,6 @@
 -- What moves, retirements and rounds come to.
-use Rattle.std.specs.Prelude.{◌≡◌, ◌⊎◌, ◌<◌, ◌≤◌, ◌*◌, ℕ, All, Contains, IfSome, IsOk, List, length, None, Some, Ok}
+use Rattle.std.specs.Prelude.{◌≡◌, ◌⊎◌, ◌<◌, ◌≤◌, ◌*◌, ℕ, All, Bool, Contains, IfSome, IsOk, List, MatchResult, length, map, None, Some, true}
+use Rattle.nl_types.specs.declared.error.VolError.TheVariants.{Memory}
 use Rattle.nl_types.specs.declared.event.Event.{Event}
 use Rattle.nl_types.specs.declared.event.Event.TheVariants.{Move, Retire, Unmount}
 use Rattle.nl_types.specs.declared.reply.Answer.TheVariants.{Freed}
@@ -12,9 +13,9 @@ use Rattle.nl_vstore.specs.Stores.{address_in}
 use Rattle.nl_reclaim.specs.Rounds.{IsLeftOut, IsNeeded}
 use Rattle.nl_events.specs.CleanedPens.{kept_store}
 use Rattle.nl_commit.specs.CleaningEvents.{needed_by}
-use Rattle.nl_commit.specs.Layout.{Does, IsPen, Layout, unshared}
-use Rattle.nl_commit.specs.Notes.{shared}
-use Rattle.nl_cleaner.specs.Job.{Expiring, JobView, Stepped, next_event, job_after_reply, steps_left}
+use Rattle.nl_commit.specs.Layout.{AllowedBetween, Does, IsPen, Layout}
+use Rattle.nl_commit.specs.Notes.{allowed_where}
+use Rattle.nl_cleaner.specs.Job.{Expiring, JobView, SteppedBy, next_event, steps_left}
 use Rattle.nl_cleaner.specs.Plan.{IsPlanned, TakesOldest}
 
 -- ---- the oldest comes next
@@ -26,52 +27,84 @@ TheOldestComesNext =
     (planned now : Layout) (job : JobView) → IsPlanned planned job
     → IfSome (next_event job now) (TakesOldest planned job)
 
+-- ---- give-backs
+
+abbrev pub unmount_of : ℕ → Event
+unmount_of m = Unmount m
+
+-- Some mounts are given back, or that is refused. Beside readers that is done with one that was lost.
+pub record GivesBack (allowed : AllowedBetween) (old new : Layout) : Type 0 where
+  pub mounts : List ℕ
+  pub replies : List Reply
+  pub ran : Run (Does allowed) old (map unmount_of mounts) replies new
+
+-- an event, before which mounts may be given back
+pub record DoesWithGiveBacks (allowed : AllowedBetween) (old : Layout) (event : Event) (reply : Reply)
+    (new : Layout) : Type 0 where
+  pub begun : Layout
+  pub backs : GivesBack allowed old begun
+  pub does : Does allowed begun event reply new
+
+-- and such a step of a round
+pub record SteppedWithGiveBacks (allowed : AllowedBetween) (old : JobView × Layout) (event : Event)
+    (reply : Reply) (new : JobView × Layout) : Type 0 where
+  pub begun : Layout
+  pub backs : GivesBack allowed old.1 begun
+  pub step : SteppedBy allowed (old.0, begun) event reply new
+
 -- ---- a segment comes clean
 
 -- each moves up to so many pages out of the segment
 abbrev pub AreMoves : (segment limit : ℕ) → List Event → Type 0
 AreMoves segment limit events = All (λ e. (now : ℕ) × (e ≡ Move segment limit now)) events
 
+-- the answer is how many numbers had their pages in the segment, and it is clean; or memory was refused,
+-- beside readers
+abbrev pub ComesClean : (told : Bool) (segment : ℕ) → Layout → Reply → Layout → Type 0
+ComesClean told segment old reply new =
+    MatchResult reply
+    (λ answer. (answer ≡ Freed (length (numbers_in old.store segment)))
+    × (info_of new.store.segments.each segment ≡ clean_info))
+    (λ e. (e ≡ Memory) × (told ≡ true))
+
 -- Where that many moves are done as the needed numbers of a dirty segment ask for, the segment can be
 -- retired, and is clean.
-abbrev pub SegmentsComeClean : Type 0
-SegmentsComeClean =
+abbrev pub SegmentsComeClean : (told : Bool) → Type 0
+SegmentsComeClean told =
     (segment limit : ℕ) (old mid new : Layout) (events : List Event) (replies : List Reply) (reply : Reply)
     → IsPen old → (info_of old.store.segments.each segment).state ≡ Dirty
     → AreMoves segment limit events
     → needed_count old.store (needed_by old.lists) segment ≤ length events * limit
-    → Run (Does unshared) old events replies mid → All IsOk replies
-    → Does unshared mid (Retire segment) reply new
-    → (reply ≡ Ok (Freed (length (numbers_in mid.store segment))))
-    × (info_of new.store.segments.each segment ≡ clean_info)
+    → Run (DoesWithGiveBacks (allowed_where told)) old events replies mid → All IsOk replies
+    → DoesWithGiveBacks (allowed_where told) mid (Retire segment) reply new
+    → ComesClean told segment mid reply new
 
 -- ---- nothing dead is left
 
 -- A round that takes every dirty segment and is refused nothing leaves no number in use that isn't needed,
 -- but where its page stands in a segment that was active or in error when the round began.
-abbrev pub RoundsLeaveNothingDead : Type 0
-RoundsLeaveNothingDead =
+abbrev pub RoundsLeaveNothingDead : (told : Bool) → Type 0
+RoundsLeaveNothingDead told =
     (job end : JobView) (old new : Layout) (events : List Event) (replies : List Reply)
     → IsPen old → job.stage ≡ Expiring
     → ((segment : ℕ) → (info_of old.store.segments.each segment).state ≡ Dirty → Contains job.left segment)
-    → Run Stepped (job, old) events replies (end, new) → All IsOk replies → next_event end new ≡ None
+    → Run (SteppedWithGiveBacks (allowed_where told)) (job, old) events replies (end, new)
+    → All IsOk replies → next_event end new ≡ None
     → (v b : ℕ) → address_in new.store v ≡ Some b
     → IsNeeded (kept_store new) v ⊎ IsLeftOut (kept_store old) b
 
--- ---- rounds end beside readers
+-- ---- rounds end
 
--- Beside readers too, where memory may be refused to any event, each step of a round lowers the number of
--- those that are left.
-abbrev pub StepsEndRounds : Type 0
-StepsEndRounds =
+-- Each step of a round lowers the number of those that are left.
+abbrev pub StepsEndRounds : (told : Bool) → Type 0
+StepsEndRounds told =
     (old new : JobView × Layout) (event : Event) (reply : Reply)
-    → IsPen old.1 → next_event old.0 old.1 ≡ Some event
-    → Does shared old.1 event reply new.1 → new.0 ≡ job_after_reply old.0 reply
+    → IsPen old.1 → SteppedBy (allowed_where told) old event reply new
     → steps_left new.0 new.1 < steps_left old.0 old.1
 
 -- A mount that is given back between two steps, or whose give-back is refused, leaves as many.
-abbrev pub UnmountsLeaveRounds : Type 0
-UnmountsLeaveRounds =
+abbrev pub UnmountsLeaveRounds : (told : Bool) → Type 0
+UnmountsLeaveRounds told =
     (old new : Layout) (job : JobView) (m : ℕ) (reply : Reply)
-    → IsPen old → Does shared old (Unmount m) reply new
+    → IsPen old → Does (allowed_where told) old (Unmount m) reply new
     → steps_left job new ≡ steps_left job old

@@ -24,7 +24,7 @@ use Rattle.nl_commit.specs.Layout.{AllowedBetween, Does, IsPen, Layout, layout_o
 use Rattle.nl_commit.specs.Rounds.{RoundsEnd}
 use Rattle.nl_commit.specs.Volume.{without_mount}
 use Rattle.nl_protect.specs.Rounds.{ends_round}
-use Rattle.nl_cleaner.specs.Job.{Cleaning, Ended, Expiring, JobView, Stepped, job_after_answer, at_stage, cleaning_left, first_done, left_by, next_by, next_cleaning, next_event, job_after_reply, noted_by, steps_left}
+use Rattle.nl_cleaner.specs.Job.{Cleaning, Ended, Expiring, JobView, SteppedBy, job_after_answer, at_stage, cleaning_left, first_done, left_by, next_by, next_cleaning, next_event, job_after_reply, noted_by, steps_left}
 use Rattle.nl_cleaner.specs.declared.job.Stage.{Stage}
 use Rattle.nl_cleaner.specs.Laws.{StepsEndRounds, UnmountsLeaveRounds}
 use Rattle.nl_cleaner.specs.Rounds.{cleaning_habits}
@@ -194,15 +194,15 @@ pub each-fewer : {allowed : AllowedBetween} (old new : JobView × Layout) (event
 each-fewer old new event reply held next does is =
     by-stage old.0.stage old.0 new.0 old.1 new.1 event reply refl held next does is
 
-pub fewer-left : (old new : JobView × Layout) (event : Event) (reply : Reply) → IsPen old.1
-    → Stepped old event reply new
+pub fewer-left : {allowed : AllowedBetween} (old new : JobView × Layout) (event : Event) (reply : Reply)
+    → IsPen old.1 → SteppedBy allowed old event reply new
     → steps_left new.0 new.1 < steps_left old.0 old.1
 fewer-left old new event reply held step = each-fewer old new event reply held step.next step.does step.job
 
--- ---- beside readers
+pub steps-end-rounds : (told : Bool) → StepsEndRounds told
+steps-end-rounds told old new event reply held step = fewer-left old new event reply held step
 
-pub steps-end-rounds : StepsEndRounds
-steps-end-rounds old new event reply held next does is = each-fewer old new event reply held next does is
+-- ---- mounts that are given back
 
 -- mounts need no number
 given-back : (stage : Stage) (job : JobView) (m : ℕ) (l : Layout)
@@ -216,10 +216,10 @@ given-back Cleaning job m l = by job.left
     by (segment ∷ rest) = refl
 given-back Ended job m l = refl
 
-pub unmounts-leave-rounds : UnmountsLeaveRounds
-unmounts-leave-rounds old new job m (Ok answer) held does =
+pub unmounts-leave-rounds : (told : Bool) → UnmountsLeaveRounds told
+unmounts-leave-rounds told old new job m (Ok answer) held does =
     ap (λ (l : Layout). steps_left job l) does.becomes ∙ given-back job.stage job m old
-unmounts-leave-rounds old new job m (Err e) held does = ap (λ (l : Layout). steps_left job l) does.becomes
+unmounts-leave-rounds told old new job m (Err e) held does = ap (λ (l : Layout). steps_left job l) does.becomes
 
 -- ---- rounds as a shared volume knows them
 
@@ -239,5 +239,5 @@ rounds-end = record {
   steps = λ old new job event reply pen next does.
       each-fewer (job, old) (job_after_reply job reply, new) event reply pen next does refl;
   refusals = λ pen job event next. memory-ends job.stage job pen event next;
-  unmounts = λ old new job m reply pen does. unmounts-leave-rounds old new job m reply pen does;
+  unmounts = λ old new job m reply pen does. unmounts-leave-rounds true old new job m reply pen does;
 }
