@@ -41,24 +41,35 @@ pub record StaysKept (old new : Layout) : Type 0 where
   pub pen : IsPen new
 
 module _ (allowed : AllowedBetween) where
-  given-back : (old new : Layout) (m : ℕ) (reply : Reply) → Does allowed old (unmount_of m) reply new
-      → StaysKept old new
-  given-back old new m (Ok answer) does = record { same = ap kept_store does.becomes; pen = does.pen }
-  given-back old new m (Err e) does = record { same = ap kept_store does.becomes; pen = does.pen }
+  one-back : (old new : Layout) (m : ℕ) (reply : Reply) → Does allowed old (unmount_of m) reply new
+      → kept_store new ≡ kept_store old
+  one-back old new m (Ok answer) does = ap kept_store does.becomes
+  one-back old new m (Err e) does = ap kept_store does.becomes
 
-  all-back : (old new : Layout) (mounts : List ℕ) (replies : List Reply) → IsPen old
-      → Run (Does allowed) old (map unmount_of mounts) replies new → StaysKept old new
-  all-back old new [] [] held run =
-      record { same = ap kept_store run; pen = subst IsPen (sym run) held }
-  all-back old new (m ∷ mounts) (reply ∷ replies) held run =
-      let first = given-back old run.0 m reply run.1 in
-      let rest = all-back run.0 new mounts replies first.pen run.2 in
-      record { same = rest.same ∙ first.same; pen = rest.pen }
-  all-back old new [] (reply ∷ replies) held run = absurd run
-  all-back old new (m ∷ mounts) [] held run = absurd run
+  all-back : (old new : Layout) (mounts : List ℕ) (replies : List Reply)
+      → Run (Does allowed) old (map unmount_of mounts) replies new → kept_store new ≡ kept_store old
+  all-back old new [] [] run = ap kept_store run
+  all-back old new (m ∷ mounts) (reply ∷ replies) run =
+      all-back run.0 new mounts replies run.2 ∙ one-back old run.0 m reply run.1
+  all-back old new [] (reply ∷ replies) run = absurd run
+  all-back old new (m ∷ mounts) [] run = absurd run
+
+  pub same-kept : (old new : Layout) → GivesBack allowed old new → kept_store new ≡ kept_store old
+  same-kept old new backs = all-back old new backs.mounts backs.replies backs.ran
+
+  pen-back : (old new : Layout) (mounts : List ℕ) (replies : List Reply) → IsPen old
+      → Run (Does allowed) old (map unmount_of mounts) replies new → IsPen new
+  pen-back old new [] [] held run = subst IsPen (sym run) held
+  pen-back old new (m ∷ mounts) (reply ∷ replies) held run =
+      pen-back run.0 new mounts replies run.1.pen run.2
+  pen-back old new [] (reply ∷ replies) held run = absurd run
+  pen-back old new (m ∷ mounts) [] held run = absurd run
 
   pub stays-kept : (old new : Layout) → IsPen old → GivesBack allowed old new → StaysKept old new
-  stays-kept old new held backs = all-back old new backs.mounts backs.replies held backs.ran
+  stays-kept old new held backs = record {
+    same = same-kept old new backs;
+    pen = pen-back old new backs.mounts backs.replies held backs.ran;
+  }
 
 -- ---- a run of moves
 

@@ -23,7 +23,7 @@ use Rattle.nl_cleaner.specs.Job.{Expiring, JobView, SteppedBy, job_after_answer,
 use Rattle.nl_cleaner.specs.declared.job.Stage.{Stage}
 use Rattle.nl_cleaner.specs.Laws.{RoundsLeaveNothingDead, SteppedWithGiveBacks}
 use Rattle.nl_cleaner.specs.Facts.RoundEvents.{cleaning, move-is, none-some, some-is}
-use Rattle.nl_cleaner.proofs.CleanRuns.{IsDone, same-needs, stays-kept}
+use Rattle.nl_cleaner.proofs.CleanRuns.{IsDone, same-kept, same-needs, stays-kept}
 
 -- ---- one event
 
@@ -124,32 +124,33 @@ none-left : (now period : ℕ) (left : List ℕ) (l : Layout) → next_event (cl
 none-left now period [] l h = refl
 none-left now period (segment ∷ rest) l h = absurd (none-some (cleaning_event l segment now) (sym h))
 
-all-events : (allowed : AllowedBetween) (now period : ℕ) (left : List ℕ) (old new : Layout)
+-- whatever pen is asked then, nothing is left
+all-events : (allowed : AllowedBetween) (now period : ℕ) (left : List ℕ) (old new asked : Layout)
     (job end : JobView) (events : List Event) (replies : List Reply)
     → IsPen old → job ≡ cleaning now period left
     → Run (SteppedWithGiveBacks allowed) (job, old) events replies (end, new)
-    → All IsOk replies → next_event end new ≡ None
+    → All IsOk replies → next_event end asked ≡ None
     → (n : ℕ) × AreRoundEvents n left (kept_store old) [] (kept_store new)
-all-events allowed now period left old new job end [] [] held is run oks over =
+all-events allowed now period left old new asked job end [] [] held is run oks over =
     let same : end ≡ cleaning now period left = ap (λ (s : JobView × Layout). s.0) run ∙ is in (
       0,
       (
-        none-left now period left new (ap (λ (j : JobView). next_event j new) (sym same) ∙ over),
+        none-left now period left asked (ap (λ (j : JobView). next_event j asked) (sym same) ∙ over),
         ap (λ (s : JobView × Layout). kept_store s.1) run,
       ),
     )
-all-events allowed now period left old new job end (e ∷ es) (Ok answer ∷ rs) held is run oks over =
+all-events allowed now period left old new asked job end (e ∷ es) (Ok answer ∷ rs) held is run oks over =
     let first =
     one-step allowed now period left old run.0 e answer held
     (subst (λ (j : JobView). SteppedWithGiveBacks allowed (j, old) e (Ok answer) run.0) is run.1) in
     let rest =
-    all-events allowed now period first.left run.0.1 new run.0.0 end es rs run.1.step.does.pen first.job run.2
-    (All-tail IsDone (Ok answer) rs oks) over in
+    all-events allowed now period first.left run.0.1 new asked run.0.0 end es rs run.1.step.does.pen first.job
+    run.2 (All-tail IsDone (Ok answer) rs oks) over in
     (suc rest.0, (first.left, kept_store run.0.1, first.cleans, rest.1))
-all-events allowed now period left old new job end (e ∷ es) (Err x ∷ rs) held is run oks over =
+all-events allowed now period left old new asked job end (e ∷ es) (Err x ∷ rs) held is run oks over =
     absurd (true≢false (sym (oks 0 (Err x) (omega arith))))
-all-events allowed now period left old new job end [] (r ∷ rs) held is run oks over = absurd run
-all-events allowed now period left old new job end (e ∷ es) [] held is run oks over = absurd run
+all-events allowed now period left old new asked job end [] (r ∷ rs) held is run oks over = absurd run
+all-events allowed now period left old new asked job end (e ∷ es) [] held is run oks over = absurd run
 
 among : (left : List ℕ) (i : ℕ) → Contains left i → is_one_of left i ≡ true
 among left i (k, within, is) =
@@ -166,11 +167,11 @@ expired-job : (job : JobView) (answer : Answer) → job.stage ≡ Expiring
 expired-job job answer is = ap (λ (s : Stage). noted_by s job (Ok answer)) is
 
 pub rounds-leave-nothing : (told : Bool) → RoundsLeaveNothingDead told
-rounds-leave-nothing told job end old new [] [] held stage dirty run oks over =
+rounds-leave-nothing told job end old mid new [] [] held stage dirty run oks backs over =
     let same : end ≡ job = ap (λ (s : JobView × Layout). s.0) run in
     absurd (none-some (Expire job.moment job.period)
     (sym over ∙ ap (λ (j : JobView). next_event j new) same ∙ expiring-next job new stage))
-rounds-leave-nothing told job end old new (e ∷ es) (Ok answer ∷ rs) held stage dirty run oks over =
+rounds-leave-nothing told job end old mid new (e ∷ es) (Ok answer ∷ rs) held stage dirty run oks backs over =
     let begun = run.1.begun in
     let kept = stays-kept (allowed_where told) old begun held run.1.backs in
     let step = run.1.step in
@@ -179,12 +180,14 @@ rounds-leave-nothing told job end old new (e ∷ es) (Ok answer ∷ rs) held sta
     let does : Does (allowed_where told) begun (Expire job.moment job.period) (Ok answer) run.0.1 =
     subst (λ (x : Event). Does (allowed_where told) begun x (Ok answer) run.0.1) expire step.does in
     let all =
-    all-events (allowed_where told) job.moment job.period job.left run.0.1 new run.0.0 end es rs does.pen
+    all-events (allowed_where told) job.moment job.period job.left run.0.1 mid new run.0.0 end es rs does.pen
     (step.job ∙ expired-job job answer stage) run.2 (All-tail IsDone (Ok answer) rs oks) over in
     rounds-leave-nothing-dead all.0 (kept_store old) (kept_store run.0.1)
     (kept_store new) job.left held.sound.store
-    (λ i is. among job.left i (dirty i is)) (does.becomes.1 ∙ ap (λ (s : KeptStore). s.store) kept.same) all.1
-rounds-leave-nothing told job end old new (e ∷ es) (Err x ∷ rs) held stage dirty run oks over =
+    (λ i is. among job.left i (dirty i is)) (does.becomes.1 ∙ ap (λ (s : KeptStore). s.store) kept.same)
+    (subst (λ (s : KeptStore). AreRoundEvents all.0 job.left (kept_store run.0.1) [] s)
+    (sym (same-kept (allowed_where told) mid new backs)) all.1)
+rounds-leave-nothing told job end old mid new (e ∷ es) (Err x ∷ rs) held stage dirty run oks backs over =
     absurd (true≢false (sym (oks 0 (Err x) (omega arith))))
-rounds-leave-nothing told job end old new [] (r ∷ rs) held stage dirty run oks over = absurd run
-rounds-leave-nothing told job end old new (e ∷ es) [] held stage dirty run oks over = absurd run
+rounds-leave-nothing told job end old mid new [] (r ∷ rs) held stage dirty run oks backs over = absurd run
+rounds-leave-nothing told job end old mid new (e ∷ es) [] held stage dirty run oks backs over = absurd run

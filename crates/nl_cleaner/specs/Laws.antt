@@ -81,17 +81,24 @@ SegmentsComeClean told =
 
 -- ---- nothing dead is left
 
--- A round that takes every dirty segment and is refused nothing leaves no number in use that isn't needed,
--- but where its page stands in a segment that was active or in error when the round began.
+-- the round takes each segment that may be cleaned
+abbrev pub TakesEachDirty : JobView → Layout → Type 0
+TakesEachDirty job l =
+    (segment : ℕ) → (info_of l.store.segments.each segment).state ≡ Dirty → Contains job.left segment
+
+-- each number in use is needed, or its page stands in a segment that was active or in error
+abbrev pub LeavesNothingDead : Layout → Layout → Type 0
+LeavesNothingDead old new =
+    (v b : ℕ) → address_in new.store v ≡ Some b → IsNeeded (kept_store new) v ⊎ IsLeftOut (kept_store old) b
+
+-- So is it where a round that takes each dirty segment, and is refused nothing, is over.
 abbrev pub RoundsLeaveNothingDead : (told : Bool) → Type 0
 RoundsLeaveNothingDead told =
-    (job end : JobView) (old new : Layout) (events : List Event) (replies : List Reply)
-    → IsPen old → job.stage ≡ Expiring
-    → ((segment : ℕ) → (info_of old.store.segments.each segment).state ≡ Dirty → Contains job.left segment)
-    → Run (SteppedWithGiveBacks (allowed_where told)) (job, old) events replies (end, new)
-    → All IsOk replies → next_event end new ≡ None
-    → (v b : ℕ) → address_in new.store v ≡ Some b
-    → IsNeeded (kept_store new) v ⊎ IsLeftOut (kept_store old) b
+    (job end : JobView) (old mid new : Layout) (events : List Event) (replies : List Reply)
+    → IsPen old → job.stage ≡ Expiring → TakesEachDirty job old
+    → Run (SteppedWithGiveBacks (allowed_where told)) (job, old) events replies (end, mid)
+    → All IsOk replies → GivesBack (allowed_where told) mid new → next_event end new ≡ None
+    → LeavesNothingDead old new
 
 -- ---- rounds end
 

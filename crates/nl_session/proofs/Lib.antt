@@ -5,3 +5,4 @@ pub mod SharedWorldsEvents
 pub mod SavedVolumes
 pub mod Starts
 pub mod SessionWorlds
+pub mod CleanedVolumes

@@ -1,8 +1,10 @@
 //! What sessions know of their volumes, as contracts of functions that do nothing.
+ghost use Rattle.nl_session.specs.Cleanings.{CleaningsLeaveNothingDead};
 ghost use Rattle.nl_session.specs.Laws.{SavedRunsComeBack, SavedVolumesComeBack};
 ghost use Rattle.nl_session.specs.SessionLaws.{RunsFollowWorlds, SessionsFollowWorlds, SharedVolumesFollowWorlds};
 ghost use Rattle.nl_session.specs.SharedLaws.{KeptVolumesAreBeside, NewVolumesAreBeside};
 
+use nl_cleaner::laws::rounds_leave_nothing_dead;
 use nl_core::laws::pens_of_one_image_mean_one_world;
 use nl_image::laws::store_images_have_the_present_mark;
 use nl_publish::laws::locked_runs_lead_on;
@@ -36,6 +38,14 @@ pub fn runs_follow_worlds<O: Write>()
     ensures { RunsFollowWorlds O }
 {
     sessions_follow_worlds();
+}
+
+/// A line that cleans each dirty segment, and is refused nothing, leaves no number in use that isn't needed,
+/// but in segments that were active or in error.
+pub fn cleanings_leave_nothing_dead()
+    ensures { CleaningsLeaveNothingDead }
+{
+    rounds_leave_nothing_dead();
 }
 
 /// A volume that was saved comes back as it was, but that no mount number was given yet.
