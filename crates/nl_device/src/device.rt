@@ -21,7 +21,8 @@ pub enum DeviceError {
 }
 
 /// Blocks by number. A device gives back what was put, and counts its failures, those of gets apart from
-/// those of puts and clears.
+/// those of puts and clears. It tells a put or a growth that failed by its answer, and a clear by the count
+/// alone.
 pub trait Device: Drop {
     /// The page at each block number, if there is one.
     ghost pages: { Self → DevicePages };
@@ -32,12 +33,13 @@ pub trait Device: Drop {
     /// How it is divided. Only more segments change it.
     ghost shape: { Self → Geometry };
 
-    /// Puts a page at a number. Refused, that block alone may differ.
+    /// Puts a page at a number. Refused exactly where it failed; that block alone may differ then.
     fn put(&mut self, number: BlockNumber, page: Page) -> Result<(), Fault>
         requires { number < (shape self.old).segments * (shape self.old).blocks }
         ensures there { OnOk result (pages self.new number ≡ Some page) }
         ensures others { KeepsOthers number (pages self.old) (pages self.new) }
         ensures failed { OnErr result (FailsToWrite (failed self.old) (failed self.new)) }
+        ensures unfailed { OnOk result (failed self.new ≡ failed self.old) }
         ensures counted { CountsWrites (failed self.old) (failed self.new) }
         ensures shape { shape self.new ≡ shape self.old };
 
@@ -59,7 +61,7 @@ pub trait Device: Drop {
         ensures shape { shape self.new ≡ shape self.old };
 
     /// Makes it a device of so many segments of the same size, and keeps its pages. Of the new blocks nothing
-    /// is promised. Refused, it stays as it is.
+    /// is promised. Refused, by `Fault` exactly where it failed, it stays as it is.
     fn grow(&mut self, segments: u32) -> Result<(), DeviceError>
         requires more { (shape self.old).segments ≤ segments }
         requires limits { IsGeometry segments (shape self.old).blocks }
@@ -70,6 +72,8 @@ pub trait Device: Drop {
         ensures pages { KeepsBelow ((shape self.old).segments * (shape self.old).blocks)
             (pages self.old) (pages self.new) }
         ensures failed { IsErrOf result DeviceError.Fault → FailsToWrite (failed self.old) (failed self.new) }
+        ensures unfailed { OnOk result (failed self.new ≡ failed self.old) }
+        ensures untried { IsErrOf result DeviceError.Memory → failed self.new ≡ failed self.old }
         ensures counted { CountsWrites (failed self.old) (failed self.new) };
 
     /// How often the device has failed.

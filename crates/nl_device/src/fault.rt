@@ -83,6 +83,7 @@ impl FaultDevice {
         ensures others { KeepsOthers number (memory_pages self.old.memory) (memory_pages self.new.memory) }
         ensures turned { HasTurned self.old.put (is_err result) self.new.put }
         ensures failed { OnErr result (turned self.old.put < turned self.new.put) }
+        ensures unfailed { OnOk result (turned self.new.put ≡ turned self.old.put) }
         ensures counted { turned self.old.put ≤ turned self.new.put }
         ensures gets { self.new.get ≡ self.old.get }
         ensures growths { self.new.grow ≡ self.old.grow }

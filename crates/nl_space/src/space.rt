@@ -29,9 +29,9 @@ pub trait Space: Drop {
     /// into the summaries, and `now`, a moment in whole seconds, into them and the segments' stamps. With
     /// `reserve`, for a checkpoint, two clean segments stay where any is taken.
     ///
-    /// Refused by `NoSpace` where no list of logs fits, by `Memory`, and by `Fault` where the device failed.
-    /// All memory is taken before the first block is put. So only a fault leaves a change: logs that were
-    /// written before it stay, and the segment of the log that was not is in error.
+    /// Refused by `NoSpace` where no list of logs fits, by `Memory`, and by `Fault` exactly where the device
+    /// failed. All memory is taken before the first block is put. So only a fault leaves a change: logs that
+    /// were written before it stay, and the segment of the log that was not is in error.
     fn append(
         &mut self,
         alloc: Global,
@@ -48,6 +48,7 @@ pub trait Space: Drop {
         ensures stays { StaysUsed (content self.old).segments (content self.new).segments }
         ensures counted { CountsWrites (failed self.old) (failed self.new) }
 
+        ensures unfailed { OnOk result (failed self.new ≡ failed self.old) }
         ensures fault { IsErrOf result VolError.Fault → FailsToWrite (failed self.old) (failed self.new) }
         ensures broken_off { IsErrOf result VolError.Fault
             → IsBrokenOff (content self.old) (content self.new) reserve now checkpoint items.now }
@@ -89,14 +90,16 @@ pub trait Space: Drop {
         ensures freed { IsFreed segment (content self.old) (content self.new) }
         ensures counted { CountsWrites (failed self.old) (failed self.new) };
 
-    /// Makes it a space of so many segments, the new ones clean. Refused by `Fault` where the device failed,
-    /// and by `Memory`; it stays as it is then.
+    /// Makes it a space of so many segments, the new ones clean. Refused by `Fault` exactly where the device
+    /// failed, and by `Memory`; it stays as it is then.
     fn grow(&mut self, alloc: Global, segments: u32) -> Result<(), VolError>
         requires more { length (content self.old).segments.each ≤ segments }
         requires limits { IsGeometry segments (content self.old).segments.blocks }
         ensures grown { OnOk result (IsGrown segments (content self.old) (content self.new)) }
         ensures same { OnErr result (content self.new ≡ content self.old) }
         ensures counted { CountsWrites (failed self.old) (failed self.new) }
+        ensures unfailed { OnOk result (failed self.new ≡ failed self.old) }
+        ensures untried { IsErrOf result VolError.Memory → failed self.new ≡ failed self.old }
         ensures fault { IsErrOf result VolError.Fault → FailsToWrite (failed self.old) (failed self.new) }
         ensures errors { IfErr result IsLoadError };
 
