@@ -68,8 +68,7 @@ impl<D: Device> LogSpace<D> {
         requires have_logs { HaveLogs table }
         ensures content { IfOk result (λ s. IsSpaceOf table restored
             (⟦<LogSpace<D> as Space>⟧.content s)) }
-        ensures failures { IfOk result (λ s.
-            CountsWrites (D.failed device) (⟦<LogSpace<D> as Space>⟧.failed s)) }
+        ensures failures { IfOk result (λ s. ⟦<LogSpace<D> as Space>⟧.failed s ≡ D.failed device) }
         ensures refused { IfErr result (λ d. FailsToWrite (D.failed device) (D.failed d)) }
     {
         let Restored { pages, payload } = restored;
@@ -95,6 +94,7 @@ impl<D: Device> LogSpace<D> {
             (⟦<Self as Space>⟧.content self.new)) }
         ensures broken { OnErr result (self.new.table ≡ with_error self.old.table staged.log.segment) }
         ensures failed { OnErr result (FailsToWrite (D.failed self.old.device) (D.failed self.new.device)) }
+        ensures unfailed { OnOk result (D.failed self.new.device ≡ D.failed self.old.device) }
         ensures counted { CountsWrites (D.failed self.old.device) (D.failed self.new.device) }
         ensures others { SameOutsideLog self.old.table.blocks staged.log
             (⟦<Self as Space>⟧.content self.old) (⟦<Self as Space>⟧.content self.new) }
@@ -136,6 +136,7 @@ impl<D: Device> LogSpace<D> {
         ensures broken { OnErr result (BreaksOff now all.items
             (⟦<Self as Space>⟧.content self.old) (⟦<Self as Space>⟧.content self.new)) }
         ensures failed { OnErr result (FailsToWrite (D.failed self.old.device) (D.failed self.new.device)) }
+        ensures unfailed { OnOk result (D.failed self.new.device ≡ D.failed self.old.device) }
         ensures counted { CountsWrites (D.failed self.old.device) (D.failed self.new.device) }
         ensures others { KeepsOtherBlocks self.old.table.blocks (logs_of all.items)
             (⟦<Self as Space>⟧.content self.old) (⟦<Self as Space>⟧.content self.new) }

@@ -23,6 +23,7 @@ pub fn put_row<D: Device>(device: &mut D, first: u32, pages: Items<Page>) -> Res
     ensures tried { IfErr result
         (λ e. HasTried first e.tried pages (D.pages device.old) (D.pages device.new)) }
     ensures failed { OnErr result (FailsToWrite (D.failed device.old) (D.failed device.new)) }
+    ensures unfailed { OnOk result (D.failed device.new ≡ D.failed device.old) }
     ensures counted { CountsWrites (D.failed device.old) (D.failed device.new) }
     ensures shape { D.shape device.new ≡ D.shape device.old }
 {
@@ -44,6 +45,7 @@ pub fn put_pages<D: Device>(device: &mut D, pages: Items<Option<Page>>) -> Resul
     ensures put { OnOk result ((b : ℕ) (page : List ℕ) → page_in pages b ≡ Some page
         → D.pages device.new b ≡ Some page) }
     ensures failed { OnErr result (FailsToWrite (D.failed device.old) (D.failed device.new)) }
+    ensures unfailed { OnOk result (D.failed device.new ≡ D.failed device.old) }
     ensures counted { CountsWrites (D.failed device.old) (D.failed device.new) }
     ensures shape { D.shape device.new ≡ D.shape device.old }
 {
@@ -60,6 +62,7 @@ fn put_page<D: Device>(device: &mut D, number: BlockNumber, page: Option<Page>) 
     ensures put { OnOk result ((put : List ℕ) → page ≡ Some put → D.pages device.new number ≡ Some put) }
     ensures others { KeepsOthers number (D.pages device.old) (D.pages device.new) }
     ensures failed { OnErr result (FailsToWrite (D.failed device.old) (D.failed device.new)) }
+    ensures unfailed { OnOk result (D.failed device.new ≡ D.failed device.old) }
     ensures counted { CountsWrites (D.failed device.old) (D.failed device.new) }
     ensures shape { D.shape device.new ≡ D.shape device.old }
 {

@@ -1,6 +1,5 @@
 use Rattle.std.proofs.Common.{◌≡◌, ◌∷◌, length, ap, ◌∙◌, sym, arith}
 use Rattle.std.specs.Vec.Iter.{into_iter_items}
-use Rattle.nl_device.specs.Facts.Counting.{counts-writes}
 use Rattle.nl_segwriter.proofs.PutPages.{all_put, more_put}
 use Rattle.nl_segwriter.proofs.Rows.{rest_behind, value_next}
 use Rattle.nl_segwriter.proofs.put.put_pages.Goals as goal
@@ -17,9 +16,7 @@ loop-page-preserved g c =
       ends = tt;
       long = omega (arith, inv.long, ap length first, c.in-Some.ensures.steps.1);
       count = omega (arith, inv.count, ap length first);
-      counted =
-          counts-writes (g.D.Device.failed c.args.device.now) (g.D.Device.failed c.loop-page.device)
-          (g.D.Device.failed c.put_page.new.device) inv.counted done.counted;
+      unfailed = done.unfailed ∙ inv.unfailed;
       shape = done.shape ∙ inv.shape;
       put =
           more_put c.args.pages (g.D.Device.pages c.loop-page.device)

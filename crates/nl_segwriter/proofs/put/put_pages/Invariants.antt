@@ -1,7 +1,6 @@
 use Rattle.std.proofs.Common.{◌≡◌, ℕ, ◌+◌, ◌<◌, List, Some, length}
 use Rattle.std.specs.Prelude.{slice_get}
 use Rattle.std.specs.Vec.Iter.{into_iter_items, into_iter_len}
-use Rattle.nl_device.specs.Failures.{CountsWrites}
 use Rattle.nl_segwriter.specs.Images.{page_in}
 use Rattle.nl_segwriter.proofs.put.put_pages.Given as goal
 
@@ -12,7 +11,7 @@ invariant-loop-page g l = record {
   ends : (goal.iterator-loop-page g).is_finite l.page-iterator;
   long : into_iter_len l.page-iterator ≡ length (into_iter_items l.page-iterator);
   count : l.number + length (into_iter_items l.page-iterator) ≡ length l.fn.pages;
-  counted : CountsWrites (g.D.Device.failed l.fn.device) (g.D.Device.failed l.device);
+  unfailed : g.D.Device.failed l.device ≡ g.D.Device.failed l.fn.device;
   shape : g.D.Device.shape l.device ≡ g.D.Device.shape l.fn.device;
   put : (b : ℕ) (page : List ℕ) → b < l.number → page_in l.fn.pages b ≡ Some page
       → g.D.Device.pages l.device b ≡ Some page;

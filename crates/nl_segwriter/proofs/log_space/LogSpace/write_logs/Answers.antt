@@ -6,7 +6,7 @@ use Rattle.nl_types.specs.Segments.{Segments, StaysUsed, AreTidy}
 use Rattle.nl_types.specs.Placing.{AreNextLogs, IsNextLog, first_block, with_log, with_logs}
 use Rattle.nl_types.specs.Facts.NextLogs.{tidy_with_log}
 use Rattle.nl_types.specs.Facts.UsedParts.{stays_with_log, stays_with_error}
-use Rattle.nl_device.specs.Facts.Counting.{counts-writes, fails-to-write}
+use Rattle.nl_device.specs.Failures.{CountsWrites, FailsToWrite, Failures}
 use Rattle.nl_space.specs.Content.{SpaceContent, KeepsUsed, IsSameAt}
 use Rattle.nl_space.specs.Logs.{StandsFrom}
 use Rattle.nl_space.specs.Appended.{IsOutside}
@@ -87,15 +87,15 @@ returns-clause-stand g c =
 pub returns-in_err-write_log-clause-failed : goal.returns-in_err-write_log-clause-failed
 returns-in_err-write_log-clause-failed g c =
     let p = err_from_is_err_and c.from_residual.result c.from_residual.ensures.1 in
-    rw p.1 (fails-to-write (g.D.Device.failed c.args.self.now.device)
-    (g.D.Device.failed c.loop-staged.self.device) (g.D.Device.failed c.write_log.new.self.device)
-    c.loop-staged.invariant.counted c.in_err-write_log.ensures.failed)
+    let after : Failures = g.D.Device.failed c.write_log.new.self.device in
+    rw p.1 (subst (λ (before : Failures). FailsToWrite before after) c.loop-staged.invariant.unfailed
+    c.in_err-write_log.ensures.failed)
 
 pub returns-in_err-write_log-clause-counted : goal.returns-in_err-write_log-clause-counted
 returns-in_err-write_log-clause-counted g c =
-    counts-writes (g.D.Device.failed c.args.self.now.device) (g.D.Device.failed c.loop-staged.self.device)
-    (g.D.Device.failed c.write_log.new.self.device)
-    c.loop-staged.invariant.counted c.in_err-write_log.ensures.counted
+    let after : Failures = g.D.Device.failed c.write_log.new.self.device in
+    subst (λ (before : Failures). CountsWrites before after) c.loop-staged.invariant.unfailed
+    c.in_err-write_log.ensures.counted
 
 pub returns-in_err-write_log-clause-others : goal.returns-in_err-write_log-clause-others
 returns-in_err-write_log-clause-others g c =
@@ -131,9 +131,6 @@ returns-clause-table g c =
     with_logs c.loop-staged.self.table (logs_of r) c.args.now
     ≡ with_logs start (logs_of c.args.all.items) c.args.now)
     none inv.table
-
-pub returns-clause-counted : goal.returns-clause-counted
-returns-clause-counted g c = c.loop-staged.invariant.counted
 
 pub returns-clause-others : goal.returns-clause-others
 returns-clause-others g c = λ b outside. (c.loop-staged.invariant.others b outside).1
@@ -194,9 +191,7 @@ loop-staged-preserved g c =
           (breaks_on stamp x rest
           then now later next.0 table ready.0.count c.in_ok-write_log.ensures.stands
           c.in_ok-write_log.ensures.others keeps h));
-      counted =
-          counts-writes (device.failed c.args.self.now.device) (device.failed c.loop-staged.self.device)
-          (device.failed c.write_log.new.self.device) inv.counted c.in_ok-write_log.ensures.counted;
+      unfailed = c.in_ok-write_log.ensures.unfailed ∙ inv.unfailed;
       used_stay = keeps_on start s before then now inv.used_stay inv.stays kept;
       stays = stays_on start s t inv.stays stays;
       others = λ b outside.

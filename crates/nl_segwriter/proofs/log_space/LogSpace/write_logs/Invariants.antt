@@ -3,7 +3,6 @@ use Rattle.std.specs.List.{AllByRecursion}
 use Rattle.std.specs.Vec.Iter.{into_iter_items, into_iter_len}
 use Rattle.nl_types.specs.Segments.{StaysUsed, AreTidy}
 use Rattle.nl_types.specs.Placing.{AreNextLogs, with_logs}
-use Rattle.nl_device.specs.Failures.{CountsWrites}
 use Rattle.nl_space.specs.Content.{SpaceContent, KeepsUsed, IsSameAt}
 use Rattle.nl_space.specs.Appended.{IsOutside}
 use Rattle.nl_segwriter.specs.Private.Staging.{IsReady, logs_of}
@@ -32,7 +31,7 @@ invariant-loop-staged g l =
       table : with_logs l.self.table (logs_of rest) l.now ≡ with_logs start.table (logs_of all) l.now;
       broken : (later : SpaceContent) → KeepsUsed l.self.table now later → BreaksOff l.now rest now later
           → BreaksOff l.now all before later;
-      counted : CountsWrites (device.failed start.device) (device.failed l.self.device);
+      unfailed : device.failed l.self.device ≡ device.failed start.device;
       used_stay : KeepsUsed start.table before now;
       stays : StaysUsed start.table l.self.table;
       others : (b : ℕ) → AllByRecursion (IsOutside start.table.blocks b) (logs_of all)
