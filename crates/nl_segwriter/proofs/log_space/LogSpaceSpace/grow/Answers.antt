@@ -1,11 +1,10 @@
-use Rattle.std.proofs.Common.{◌≡◌, ℕ, ◌+◌, ◌-◌, ◌*◌, ◌≤◌, ◌++◌, length, take, List, Option, None, ap, sym, subst, ◌∙◌, refl, arith}
-use Rattle.std.proofs.Math.ListN.{replicate}
+use Rattle.std.proofs.Common.{◌≡◌, ℕ, ◌+◌, ◌-◌, ◌*◌, ◌≤◌, length, List, Option, ap, sym, subst, ◌∙◌, arith}
 use Rattle.std.proofs.Math.Nat.{mul-le-mul_right}
 use Rattle.std.proofs.lemmas.List.{length-append, length-replicate}
 use Rattle.nl_types.specs.declared.geometry.Geometry.{Geometry}
 use Rattle.nl_types.specs.Segments.{HaveLogs, Segments, grown_to, total_blocks}
 use Rattle.nl_device.specs.Pages.{DevicePages, KeepsBelow}
-use Rattle.nl_space.specs.Content.{HoldsOnlyUsed, IsGrown, Payload, SpaceContent}
+use Rattle.nl_space.specs.Content.{HoldsOnlyUsed, Payload, SpaceContent}
 use Rattle.nl_space.specs.Logs.{AreWholeLogs}
 use Rattle.nl_segwriter.specs.Writing.{held_in, space_content}
 use Rattle.nl_segwriter.proofs.GrownSpace.{front, held-behind, held-grown, kept-grown, length-grown, logs-grown, whole-grown}
