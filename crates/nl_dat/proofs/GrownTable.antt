@@ -101,8 +101,8 @@ module _ (table : List (Option DatEntry)) (lowest segments : ℕ) (old later : S
     ]) ∙ sym (none-payload table old before b high)
   ]
 
-  pub has-grown : HasGrown segments (store_of table old before) (store_of new later after)
-  has-grown = record {
+  pub has-grown : after ≡ before → HasGrown segments (store_of table old before) (store_of new later after)
+  has-grown unfailed = record {
     segments = grown.segments;
     numbers = λ v.
         numbered_in-store_of new later after v
@@ -113,4 +113,5 @@ module _ (table : List (Option DatEntry)) (lowest segments : ℕ) (old later : S
         let low = used_inside old.segments b tidy is in
         (shown new later after b (omega (arith, low, total, most))).1 ∙ (grown.used_stay b is).1
         ∙ sym (shown table old before b low).1;
+    unfailed = unfailed;
   }

@@ -110,13 +110,16 @@ both-counted old mid new reads writes = omega (arith, reads.0, reads.1, writes.0
 pub growth-refused : (table now : List (Option DatEntry)) (old later : SpaceContent) (before after : Failures)
     (e : VolError)
     → IsLoadError e → now ≡ table → later ≡ old → (e ≡ Fault → FailsToWrite before after)
+    → (e ≡ Memory → after ≡ before)
     → IsGrowthRefused (store_of table old before) (store_of now later after) e
-growth-refused table now old later before after e why is same fault = elim why [
+growth-refused table now old later before after e why is same fault untried = elim why [
   | inl at ↦
       let risen = fault at in
       subst (IsGrowthRefused (store_of table old before) (store_of now later after)) (sym at)
       (omega (arith, risen.0, risen.1), risen.1, stays)
-  | inr at ↦ subst (IsGrowthRefused (store_of table old before) (store_of now later after)) (sym at) stays
+  | inr at ↦
+      subst (IsGrowthRefused (store_of table old before) (store_of now later after)) (sym at)
+      (λ i. store_of (is i) (same i) (untried at i))
 ]
   where
     stays : StaysStored (store_of table old before) (store_of now later after)

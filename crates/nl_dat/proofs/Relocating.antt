@@ -199,8 +199,9 @@ module _ (table new : List (Option DatEntry)) (lowest : ℕ) (old later : SpaceC
 
   pub is_moved : AreTidy old.segments → IsClosed old.segments segment
       → All (λ v. is_inside old.segments segment (address_in (store_of table old before) v) ≡ true) numbers
+      → after.writes ≡ before.writes
       → IsMoved segment c now numbers (store_of table old before) (store_of new later after)
-  is_moved tidy closed inside = record {
+  is_moved tidy closed inside writes = record {
     content =
         content_in-store_of new later after ∙ ap (λ m. content_of m (births_in later)) is_new
         ∙ content_of-moves numbers at (births_of items) (entry_in table) (births_in later) stands loaded-later
@@ -226,6 +227,7 @@ module _ (table new : List (Option DatEntry)) (lowest : ℕ) (old later : SpaceC
         ap (λ (m : Partial ℕ). is_inside old.segments segment (m v))
         (address_in-store_of new later after sound-now ∙ addresses-moved)
         ∙ ap (is_inside old.segments segment) there.1 ∙ there.2;
+    writes = writes;
   }
     where
       outside : AllByRecursion (λ b. is_inside old.segments segment (Some b) ≡ false) at

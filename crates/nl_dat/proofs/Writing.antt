@@ -261,9 +261,9 @@ module _ (table new : List (Option DatEntry)) (lowest : ℕ) (old later : SpaceC
     below_lowest = in_use_now;
   }
 
-  pub is_written : AreTidy old.segments
+  pub is_written : AreTidy old.segments → after ≡ before
       → IsWritten c now changes (store_of table old before) (store_of new later after)
-  is_written tidy = record {
+  is_written tidy unfailed = record {
     content =
         content_in-store_of new later after ∙ content_of-written
         ∙ ap (written changes.births changes.ends c) (sym (content_in-store_of table old before));
@@ -278,6 +278,7 @@ module _ (table new : List (Option DatEntry)) (lowest : ℕ) (old later : SpaceC
         address_in-store_of new later after sound_now ∙ addresses_of-written
         ∙ ap (put_each number_of (λ b. b) changes.births at)
         (sym (address_in-store_of table old before is_table.sound));
+    unfailed = unfailed;
   }
 
 -- ---- what a write asks of its batch

@@ -143,12 +143,13 @@ left_outside s segment address m v = if is_inside s segment (address v) then Non
 -- ---- what the calls do
 
 -- The births are written in logs of this moment and checkpoint number, and stand at the blocks that placing
--- gives, in their order. Numbers end, and all else stays where it was.
+-- gives, in their order. Numbers end, and all else stays where it was. The device did not fail.
 pub record IsWritten (checkpoint stamp : ℕ) (changes : Changes) (old new : Store) : Type 0 where
   pub content : content_in new ≡ written changes.births changes.ends checkpoint (content_in old)
   pub at : List ℕ
   pub appended : IsAppended (space_in old) (space_in new) true stamp checkpoint (items_of changes.births) at
   pub address : address_in new ≡ put_each number_of (λ b. b) changes.births at (address_in old)
+  pub unfailed : new.failed ≡ old.failed
 
 -- the block that a number is moved to, in place of its old one
 abbrev pub moved_to : ℕ → ℕ → ℕ
@@ -179,7 +180,7 @@ IsPayloadOf s numbers payload = map (payload_under s) numbers ≡ map Some paylo
 
 -- The payload of numbers is written anew in logs of this moment and checkpoint number, at the blocks that
 -- placing gives, in their order, outside of the segment. All else stays where it was, and what numbers stand
--- for stays.
+-- for stays. Only the failed reads of the device may be more.
 pub record IsMoved (segment checkpoint stamp : ℕ) (numbers : List ℕ) (old new : Store) : Type 0 where
   pub content : content_in new ≡ content_in old
   pub payload : List Payload
@@ -188,6 +189,7 @@ pub record IsMoved (segment checkpoint stamp : ℕ) (numbers : List ℕ) (old ne
   pub appended : IsAppended (space_in old) (space_in new) false stamp checkpoint payload at
   pub address : address_in new ≡ adjust_each moved_to numbers at (address_in old)
   pub out : All (λ v. is_inside old.segments segment (address_in new v) ≡ false) numbers
+  pub writes : new.failed.writes ≡ old.failed.writes
 
 -- all that is stored is as before; only the failed reads of the device may be more
 pub record KeepsStored (old new : Store) : Type 0 where
@@ -234,12 +236,13 @@ pub record IsReclaimed (segment count : ℕ) (old new : Store) : Type 0 where
   pub count_is : count ≡ length gone
 
 -- The segments are grown, and there are as many numbers as blocks. Each number stands for what it stood for,
--- at its block; memory and the used blocks of the device have what they had.
+-- at its block; memory and the used blocks of the device have what they had. The device did not fail.
 pub record HasGrown (count : ℕ) (old new : Store) : Type 0 where
   pub segments : new.segments ≡ grown_to count old.segments
   pub numbers : (v : ℕ) → numbered_in new v ≡ numbered_in old v
   pub payload : (b : ℕ) → payload_in new b ≡ payload_in old b
   pub device : (b : ℕ) → IsUsed old.segments b → device_in new b ≡ device_in old b
+  pub unfailed : new.failed ≡ old.failed
 
 -- all that is stored is as before; only the failures of the device may be more
 pub record StaysStored (old new : Store) : Type 0 where
@@ -252,5 +255,5 @@ pub record StaysStored (old new : Store) : Type 0 where
 abbrev pub IsGrowthRefused : Store → Store → VolError → Type 0
 IsGrowthRefused old new Fault =
     (old.failures < new.failures) × (old.failed.writes < new.failed.writes) × StaysStored old new
-IsGrowthRefused old new Memory = StaysStored old new
+IsGrowthRefused old new Memory = new ≡ old
 IsGrowthRefused old new e = ⊥

@@ -64,7 +64,8 @@ pub trait Vstore: VRead {
     /// number. `now` is the moment in whole seconds that the segments get as their stamp. It goes into the
     /// logs' summaries with the checkpoint's number.
     ///
-    /// Refused by `NoSpace` where no list of logs fits, by `Memory`, and by `Fault` where the device failed.
+    /// Refused by `NoSpace` where no list of logs fits, by `Memory`, and by `Fault` exactly where the device
+    /// failed.
     fn write(
         &mut self,
         alloc: Global,
@@ -113,7 +114,8 @@ pub trait Vstore: VRead {
     /// the device and written elsewhere. The checkpoint is the latest one, and `now` the moment in whole
     /// seconds: both go into the logs' summaries.
     ///
-    /// Refused by `NoSpace` where no list of logs fits, by `Memory`, and by `Fault` where the device failed.
+    /// Refused by `NoSpace` where no list of logs fits, by `Memory`, and by `Fault` where the device failed,
+    /// as it always is where a write did.
     fn relocate(
         &mut self,
         alloc: Global,
@@ -141,7 +143,7 @@ pub trait Vstore: VRead {
     /// Makes it a store of so many segments, the new ones clean, and of as many numbers as there are blocks
     /// then.
     ///
-    /// Refused by `Fault` where the device failed to grow, and by `Memory`. What is stored stays then.
+    /// Refused by `Fault` exactly where the device failed to grow, and by `Memory`. What is stored stays then.
     fn grow(&mut self, alloc: Global, segments: u32) -> Result<(), VolError>
         requires more { length (store self.old).segments.each ≤ segments }
         requires limits { IsGeometry segments (store self.old).segments.blocks }

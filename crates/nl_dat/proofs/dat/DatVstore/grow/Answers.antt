@@ -84,7 +84,7 @@ returns-in-Ok-clause-grown g c =
     (sym is)
     (has-grown table (c.self.inside.filled + 1) c.args.segments old later before after c.self.inside.tabled
     (g.met.S.Space.limits c.self.inside.space).tidy c.growing_keeps_segments.ensures.used
-    (g.met.S.Space.holds_only_used c.self.inside.space) more c.in-Ok.ensures.grown))
+    (g.met.S.Space.holds_only_used c.self.inside.space) more c.in-Ok.ensures.grown c.in-Ok.ensures.unfailed))
 
 pub invariant_of-self-inside : goal.invariant_of-self-inside
 invariant_of-self-inside g c =
@@ -134,4 +134,5 @@ returns-in-Err-clause-refused g c =
     (growth-refused table c.truncate.new.self (g.S.Space.content c.self.inside.space) later
     (g.S.Space.failed c.self.inside.space) after c.in-Err.refusal c.in-Err.ensures.errors
     (c.truncate.ensures ∙ rw (c.in_ok-add_places.ensures.added, c.len-count.ensures) (front table _))
-    c.in-Err.ensures.same (λ is. c.in-Err.ensures.fault (ap Err is)))
+    c.in-Err.ensures.same (λ is. c.in-Err.ensures.fault (ap Err is))
+    (λ is. c.in-Err.ensures.untried (ap Err is)))

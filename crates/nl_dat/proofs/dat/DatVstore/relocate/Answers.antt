@@ -5,7 +5,7 @@ use Rattle.std.proofs.lemmas.Result.{err_from_is_err_and}
 use Rattle.std.proofs.lemmas.List.{length-map}
 use Rattle.nl_types.specs.Segments.{IsClosed, StaysUsed}
 use Rattle.nl_types.specs.PartialMaps.{Partial, adjust_each}
-use Rattle.nl_device.specs.Failures.{failure_count}
+use Rattle.nl_device.specs.Failures.{Failures, failure_count}
 use Rattle.nl_space.specs.Content.{Payload, SpaceContent, KeepsUsed}
 use Rattle.nl_space.specs.Appended.{IsAppended}
 use Rattle.nl_dat.specs.declared.entries.DatEntry.{DatEntry}
@@ -190,7 +190,8 @@ returns-clause-moved g c =
     (sym (same_store c.self.view_is)) c.requires.closed)
     (subst (λ (s : Store).
     All (λ v. is_inside s.segments c.args.segment (address_in s v) ≡ true) c.args.numbers.now)
-    (sym (same_store c.self.view_is)) c.requires.inside))
+    (sym (same_store c.self.view_is)) c.requires.inside)
+    (ap (λ (failures : Failures). failures.writes) e.unfailed ∙ c.load_all.ensures.counted.1))
 
 pub returns-in_err-payload-clause-refused : goal.returns-in_err-payload-clause-refused
 returns-in_err-payload-clause-refused g c =

@@ -199,7 +199,7 @@ returns-clause-written g c =
     c.in_ok-numbers.numbers.items
     c.self.inside.tabled fits c.births.ensures e.appended e.used_stay e.stays is_new
     (c.enter_births.ensures.length ∙ c.end_entries.ensures.length) low
-    (g.met.S.Space.limits c.self.inside.space).tidy)
+    (g.met.S.Space.limits c.self.inside.space).tidy e.unfailed)
 
 pub returns-in_err-numbers-clause-counted : goal.returns-in_err-numbers-clause-counted
 returns-in_err-numbers-clause-counted g c =
