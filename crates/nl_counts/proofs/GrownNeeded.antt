@@ -126,5 +126,5 @@ pub growth-refused : NeededAreStanding → RefusedGrowthKeepsCounts
 growth-refused standing error.Fault kept c old new old-store new-store refused counted =
     stays standing kept c old new old-store new-store refused.2 counted
 growth-refused standing error.Memory kept c old new old-store new-store refused counted =
-    stays standing kept c old new old-store new-store refused counted
+    subst (λ (s : Store). IsCounted s kept c) (sym refused) counted
 growth-refused standing e kept c old new old-store new-store refused counted = absurd refused
