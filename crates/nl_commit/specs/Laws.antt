@@ -3,8 +3,7 @@ use Rattle.std.specs.Prelude.{◌≡◌, ◌≢◌, ◌⊎◌, ℕ, List, Ok, Er
 use Rattle.nl_types.specs.declared.error.VolError.{VolError}
 use Rattle.nl_types.specs.declared.error.VolError.TheVariants.{NoSpace, Fault, Memory}
 use Rattle.nl_types.specs.declared.event.Event.{Event}
-use Rattle.nl_types.specs.declared.event.Event.TheVariants as event
-use Rattle.nl_types.specs.declared.event.Event.TheVariants.{Checkpoint, Expire, Move, RemoveRange}
+use Rattle.nl_types.specs.declared.event.Event.TheVariants.{Checkpoint, Expire, Move, RemoveRange, Retire}
 use Rattle.nl_types.specs.declared.event.Mode.{Mode}
 use Rattle.nl_types.specs.declared.reply.Answer.TheVariants.{Expired, Removed}
 use Rattle.nl_types.specs.declared.row.Range.{Range}
@@ -15,7 +14,7 @@ use Rattle.nl_types.specs.Worlds.{World, Reply}
 use Rattle.nl_types.specs.Runs.{Run, TakesMemory}
 use Rattle.nl_commit.specs.Volume.{Lists}
 use Rattle.nl_layout.specs.declared.root.Root.{Root}
-use Rattle.nl_vstore.specs.Stores.{KeepsStored, StaysStored}
+use Rattle.nl_vstore.specs.Stores.{KeepsStored}
 use Rattle.nl_commit.specs.Means.{Means}
 use Rattle.nl_commit.specs.Layout.{AllowedBetween, IsPen, Layout, Does, DoesIn, LacksSpaceFor, MeansWorld, Runs, Settled, ledger_of, unshared}
 
@@ -37,10 +36,9 @@ RunsLeadOn allowed =
     (old new : Layout) (events : List Event) (replies : List Reply)
     → Run (Does allowed) old events replies new → Runs allowed old events replies new
 
--- all is as it was; failures of a device that a move has read, or that was to grow, may have been counted
+-- all is as it was; reads that failed in a move may have been counted
 abbrev pub IsAsBefore : Event → Layout → Layout → Type 0
 IsAsBefore (Move segment limit moment) old new = (new.lists ≡ old.lists) × KeepsStored old.store new.store
-IsAsBefore (event.Resize segments) old new = (new.lists ≡ old.lists) × StaysStored old.store new.store
 IsAsBefore event old new = new ≡ old
 
 -- a refusal but for a fault leaves the pen and its device as they were
@@ -48,6 +46,18 @@ abbrev pub RefusalsKeepPens : AllowedBetween → Type 0
 RefusalsKeepPens allowed =
     (old new : Layout) (event : Event) (e : VolError)
     → Does allowed old event (Err e) new → (e ≢ Fault) → IsAsBefore event old new
+
+-- the writes that fail during these are told: a retirement empties a segment, and nobody hears how that went
+abbrev pub TellsOfWrites : Event → Type 0
+TellsOfWrites (Retire segment) = ⊥
+TellsOfWrites event = Unit {0}
+
+-- their answer is a fault, or no write of the device failed
+abbrev pub FailedWritesAreTold : AllowedBetween → Type 0
+FailedWritesAreTold allowed =
+    (old new : Layout) (event : Event) (reply : Reply)
+    → TellsOfWrites event → Does allowed old event reply new
+    → (reply ≡ Err Fault) ⊎ (new.store.failed.writes ≡ old.store.failed.writes)
 
 -- a refusal is judged by the world, or it has the reason for which it is allowed
 abbrev pub RefusalsHaveReasons : AllowedBetween → Type 0
