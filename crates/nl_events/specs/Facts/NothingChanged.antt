@@ -41,6 +41,7 @@ nothing-moved segment checkpoint stamp s = record {
   appended = nothing-appended s false stamp checkpoint;
   address = refl;
   out = All-nil (λ v. is_inside s.segments segment (address_in s v) ≡ false);
+  writes = refl;
 }
 
 pub nothing-written : (checkpoint stamp : ℕ) (s : Store) → IsWritten checkpoint stamp no_changes s s
@@ -49,6 +50,7 @@ nothing-written checkpoint stamp s = record {
   at = [];
   appended = nothing-appended s true stamp checkpoint;
   address = refl;
+  unfailed = refl;
 }
 
 pub nothing-fits : (capacity : ℕ) (content : Content) → CanBeTaken capacity content no_changes

@@ -39,7 +39,7 @@ content-grown segments old new grown = λ i v. option_map entry_now (grown.numbe
 pub unresized-numbers : (segments : ℕ) (e : VolError) (old new : Store) → HasResizedNone segments old new e
     → new.numbers ≡ old.numbers
 unresized-numbers segments error.Fault old new refused = refused.1.2.numbers
-unresized-numbers segments error.Memory old new refused = refused.1.numbers
+unresized-numbers segments error.Memory old new refused = ap (λ (s : Store). s.numbers) refused.1
 unresized-numbers segments _ old new refused = ap (λ (s : Store). s.numbers) refused.0
 
 module _ (old new : Layout) (pen : IsPen old) (lists : new.lists ≡ old.lists)
@@ -215,6 +215,7 @@ has-as-many segments s judged fewer = record {
     numbers = λ v. refl;
     payload = λ b. refl;
     device = λ b used. refl;
+    unfailed = refl;
   };
   same = λ as-many. refl;
 }

@@ -65,7 +65,7 @@ returns-in_err-reserve g c =
     error.Memory (
       subst (λ (s : Segments). resized_in s c.args.segments ≡ Ok answer.Done) c.table.ensures
           c.in_ok-adds_segments.ensures.done,
-      record { numbers = refl; segments = refl; device = refl; payload = refl },
+      refl,
     ))
     c.reserve.ensures.same)
 
