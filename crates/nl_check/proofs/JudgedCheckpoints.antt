@@ -29,7 +29,7 @@ use Rattle.nl_check.specs.Periods.{AreOfPeriods}
 use Rattle.nl_check.specs.Shapes.{HasShape, Itself}
 use Rattle.nl_check.specs.Private.SoundInodes.{TellsAll, kind_for, kind_in, kind_told}
 use Rattle.nl_check.specs.Trees.{IsSizeOf, IsTreeOf}
-use Rattle.nl_check.specs.Private.Walks.{AreSoundAt, IsMetWholeAt, IsWalk}
+use Rattle.nl_check.specs.Private.Walks.{AreSoundAt, IsGood, IsMetWholeAt, IsWalk}
 use Rattle.nl_check.specs.declared.checks.Judged.{Judged}
 use Rattle.nl_check.specs.declared.shape.Walk.{Walk}
 use Rattle.nl_check.specs.Facts.Below.{both, not-none, some-by}
@@ -258,7 +258,10 @@ module _ (pages : Pages) (periods : Periods) (entry : CheckpointEntry) (numbers 
   pub last-judged : (kinds : List (Option Kind)) → (now.trees ≡ true → AreSoundAt pages (told entry) kinds)
       → IsLast pages periods numbers kinds now (record { entry = entry })
   last-judged kinds sound =
-      record { known = known; sound = sound; tree = λ e. (holds e).1; exact = λ e. (are e).1 }
+      record {
+        good = record { known = known; sound = sound; tree = λ e. (holds e).1 };
+        exact = λ e. (are e).1;
+      }
 
 -- ---- a checkpoint with the file of inodes of the last one
 
@@ -266,21 +269,21 @@ module _ (pages : Pages) (one other : CheckpointEntry) (alike : IsAlike one othe
   one-root : (told one).root ≡ (told other).root
   one-root = ap (λ (fields : RootFields). option_map root_of (root_told fields)) alike.root
 
-  pub known-alike : (numbers : List Bool) → IsMetWholeAt pages (told one) numbers
-      → IsMetWholeAt pages (told other) numbers
-  known-alike numbers (root, is, known) = (root, sym one-root ∙ is, known)
-
-  pub sound-alike : (kinds : List (Option Kind)) → AreSoundAt pages (told one) kinds
-      → AreSoundAt pages (told other) kinds
-  sound-alike kinds (root, is, sound) = (root, sym one-root ∙ is, sound)
-
-  pub tree-alike : IsSoundTree pages (told one) → IsSoundTree pages (told other)
-  tree-alike (root, is, t) = (
-    root,
-    sym one-root ∙ is,
-    subst (λ (n : ℕ). IsTreeOf pages root other.size n) alike.inodes
-        (subst (λ (n : ℕ). IsTreeOf pages root n one.inodes) alike.size t),
-  )
+  pub good-alike : (numbers : List Bool) (kinds : List (Option Kind)) (asked : Bool)
+      → IsGood pages (told one) numbers kinds asked → IsGood pages (told other) numbers kinds asked
+  good-alike numbers kinds asked g = record {
+    known = (g.known.0, sym one-root ∙ g.known.1, g.known.2);
+    sound = λ is. let s = g.sound is in (s.0, sym one-root ∙ s.1, s.2);
+    tree = λ is. tree-alike (g.tree is);
+  }
+    where
+      tree-alike : IsSoundTree pages (told one) → IsSoundTree pages (told other)
+      tree-alike (root, is, t) = (
+        root,
+        sym one-root ∙ is,
+        subst (λ (n : ℕ). IsTreeOf pages root other.size n) alike.inodes
+            (subst (λ (n : ℕ). IsTreeOf pages root n one.inodes) alike.size t),
+      )
 
 -- ---- all of them
 

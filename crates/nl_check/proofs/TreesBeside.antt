@@ -20,8 +20,8 @@ use Rattle.nl_check.specs.Trees.{IsSizeOf, IsTreeOf}
 use Rattle.nl_check.specs.Private.AlikeNames.{AreAlike, AreFiles, NamesAlike}
 use Rattle.nl_check.specs.Private.BesideTrees.{HasLeft}
 use Rattle.nl_check.specs.Private.SoundInodes.{IsSoundInode, TellsAll, kind_in, kind_told}
-use Rattle.nl_check.specs.Private.ChangedFiles.{AreAllListed, AreAllMet, AreFilesStill, AreNoted, HaveLater, IsGoodBeside, IsLost, IsSameOrListed, IsSoundNow, IsToldStill, IsWalkedBeside}
-use Rattle.nl_check.specs.Private.Walks.{AreSoundAt, IsMetWhole, IsMetWholeAt, IsWalk}
+use Rattle.nl_check.specs.Private.ChangedFiles.{AreAllListed, AreAllMet, AreFilesStill, AreNoted, HaveLater, IsLost, IsSameOrListed, IsSoundNow, IsToldStill, IsWalkedBeside}
+use Rattle.nl_check.specs.Private.Walks.{AreSoundAt, IsGood, IsMetWhole, IsMetWholeAt, IsWalk}
 use Rattle.nl_check.specs.declared.differing.ChangedFile.{ChangedFile}
 use Rattle.nl_check.proofs.NamesStay.{forms-stay, names-stay}
 use Rattle.nl_check.proofs.StepPlaces.{inode-case, turn-of}
@@ -155,9 +155,9 @@ module _ (pages : Pages) (old new : Root) (files : List ChangedFile)
         subst (λ (n : ℕ). IsSoundInode pages n (inode_at pages new n)) number
         (subst (IsSoundInode pages f.number) (sym changed.is) s.sound)
 
-    pub told-later : length kinds_new ≡ 524288 → TellsAll pages new kinds_new true
-    told-later count = record {
-      count = count;
+    pub told-later : length kinds_new ≡ length kinds → TellsAll pages new kinds_new true
+    told-later same = record {
+      count = same ∙ t.count;
       told = λ i low. kind-by i low (inode-case pages old new files listed i);
       all = λ _ i. sound-by i (inode-case pages old new files listed i);
       some_not = λ e. cc;
@@ -169,7 +169,7 @@ pub walked-beside : (pages : Pages) (old new : Root) (before now after : List Bo
     (kinds kinds_new : List (Option Kind)) (files : List ChangedFile) (count : ℕ)
     → IsMetWhole pages old before → AreAllListed pages old new files
     → HasLeft At (IsLost pages old new) before now → AreAllMet pages old new files now after count
-    → length kinds_new ≡ 524288
+    → length kinds_new ≡ length kinds
     → ((now : ℕ → Option Inode) → HaveLater files now → AreNoted now files (length files) kinds kinds_new)
     → IsWalkedBeside pages old new after kinds kinds_new files count
 walked-beside pages old new before now after kinds kinds_new files count m listed l all long noted = record {
@@ -220,7 +220,7 @@ module _ (pages : Pages) (last entry : CheckpointEntry) (before now : CodeRoot)
         (subst (λ (x : Root). IsTreeOf pages x last.size last.inodes) (own-root r is) t)))
 
     pub good-beside : (asked ≡ true → IsTreeOf pages (root_of now) entry.size entry.inodes)
-        → IsGoodBeside pages (told entry) after kinds_new asked
+        → IsGood pages (told entry) after kinds_new asked
     good-beside holds = record {
       known = (root_of now, told-now, w.known);
       sound = λ is. (root_of now, told-now, told-sound is);

@@ -51,10 +51,11 @@ AreTrees pages kept = All (IsSoundTree pages) kept
 abbrev pub AreExact : Pages → Periods → List Told → Type 0
 AreExact pages periods kept = All (HasExactPeriods pages periods) kept
 
--- which condition is the first that fails, by its number in an image; none where all are met
+-- which condition is the first that fails, by its number; none where all are met
 pub data FirstFault (pages : Pages) (periods : Periods) (kept : List Told) : Option ℕ → Type 0 where
   shapes_fail : (AreShaped pages kept → ⊥) → FirstFault pages periods kept (Some 8)
-  trees_fail : AreShaped pages kept → (AreTrees pages kept → ⊥) → FirstFault pages periods kept (Some 9)
+  trees_fail : AreShaped pages kept → (AreTrees pages kept → ⊥)
+      → FirstFault pages periods kept (Some 9)
   periods_fail : AreShaped pages kept → AreTrees pages kept → (AreExact pages periods kept → ⊥)
       → FirstFault pages periods kept (Some 10)
   all_met : AreShaped pages kept → AreTrees pages kept → AreExact pages periods kept

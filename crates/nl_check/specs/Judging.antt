@@ -1,6 +1,6 @@
 -- What is judged of each kept checkpoint.
-use Rattle.std.specs.Prelude.{◌≡◌, ℕ, ◌*◌, Bool, true, false, cond, List, Option, None, Some, IfSome}
-use Rattle.std.specs.Option.{option_map}
+use Rattle.std.specs.Prelude.{◌≡◌, ℕ, ◌*◌, ◌<◌, Bool, true, false, cond, List, length, Option, None, Some, IfSome}
+use Rattle.std.specs.Option.{IsSome, is_some, option_map}
 use Rattle.nl_types.specs.declared.kind.Kind.{Kind}
 use Rattle.nl_types.specs.Roots.{Pages}
 use Rattle.nl_layout.specs.Root.{root_of, root_told}
@@ -9,7 +9,7 @@ use Rattle.nl_vstore.specs.Periods.{Periods}
 use Rattle.nl_check.specs.Conditions.{HasExactPeriods, IsSoundShape, IsSoundTree, Told}
 use Rattle.nl_check.specs.Periods.{AreOfPeriods}
 use Rattle.nl_check.specs.Private.Naming.{awaited_count}
-use Rattle.nl_check.specs.Private.Walks.{AreSoundAt, IsMetWholeAt}
+use Rattle.nl_check.specs.Private.Walks.{IsGood}
 use Rattle.nl_check.specs.declared.checks.Judged.{Judged}
 use Rattle.nl_check.specs.declared.checks.Last.{Last}
 use Rattle.nl_check.specs.declared.shape.Walk.{Walk}
@@ -42,13 +42,22 @@ pub record IsJudged (pages : Pages) (periods : Periods) (c : Told) (before now :
 -- it, and the kinds of its inodes are told.
 pub record IsLast (pages : Pages) (periods : Periods) (numbers : List Bool) (kinds : List (Option Kind))
     (judged : Judged) (last : Last) : Type 0 where
-  pub known : IsMetWholeAt pages (told last.entry) numbers
-  pub sound : judged.trees ≡ true → AreSoundAt pages (told last.entry) kinds
-  pub tree : judged.trees ≡ true → IsSoundTree pages (told last.entry)
+  pub good : IsGood pages (told last.entry) numbers kinds judged.trees
   pub exact : judged.periods ≡ true → AreOfPeriods periods last.entry.number numbers
 
 abbrev pub KnowsLast : Pages → Periods → List Bool → List (Option Kind) → Judged → Type 0
 KnowsLast pages periods numbers kinds judged = IfSome judged.last (IsLast pages periods numbers kinds judged)
+
+-- a checkpoint is judged, and is the last one now
+pub record IsJudgedLast (pages : Pages) (periods : Periods) (entry : CheckpointEntry) (before : Judged)
+    (numbers : List Bool) (kinds : List (Option Kind)) (now : Judged) : Type 0 where
+  pub judged : IsJudged pages periods (told entry) before now
+  pub last : KnowsLast pages periods numbers kinds now
+
+-- a number in use has both a page and a period, and a place in a table
+pub record HasRoom (pages : Pages) (periods : Periods) (numbers : List Bool) : Type 0 where
+  pub within : (v : ℕ) → IsSome (pages v) → v < length numbers
+  pub each : (v : ℕ) → is_some (pages v) ≡ is_some (periods v)
 
 -- two checkpoints have one file of inodes, and one size and count are told of it
 pub record IsAlike (one other : CheckpointEntry) : Type 0 where

@@ -1,25 +1,26 @@
 //! A checkpoint beside the one before it: what differs is judged, and all else is known.
 ghost use Rattle.std.specs.Prelude.{◌≡◌, ◌<◌, ◌^◌, ℕ, length, IsTrue, IsSome, IfOk, IfErr, IfSome, OnOk};
-ghost use Rattle.nl_types.specs.Limits as limits;
 ghost use Rattle.nl_types.specs.declared.error.VolError;
 ghost use Rattle.nl_layout.specs.Root.{root_of};
-ghost use Rattle.nl_check.specs.Conditions.{IsSoundTree};
 ghost use Rattle.nl_check.specs.Judging.{told};
 ghost use Rattle.nl_check.specs.Shapes.{At, Owner, root_for};
 ghost use Rattle.nl_check.specs.Private.BesideTrees.{HasLeft, TellsOn};
-ghost use Rattle.nl_check.specs.Private.ChangedFiles.{AreAllListed, AreAllMet, IsGoodBeside, IsLost, IsToldStill, IsWalkedBeside, IsWholeFile};
+ghost use Rattle.nl_check.specs.Private.ChangedFiles.{AreAllListed, AreAllMet, IsLost, IsToldStill, IsWalkedBeside, IsWholeFile};
 ghost use Rattle.nl_check.specs.Private.Turns.{TellsChanges};
-ghost use Rattle.nl_check.specs.Private.Walks.{AreSoundAt, IsMetWhole, IsMetWholeAt};
-ghost use Rattle.nl_check.specs.declared.beside.Beside.TheVariants.{Good};
+ghost use Rattle.nl_check.specs.Private.Walks.{IsGood, IsMetWhole};
+ghost use Rattle.nl_check.specs.declared.beside.Beside.TheVariants.{KnownGood};
 
 use crate::differing::{ChangedFile, list_changed};
+use crate::found::Found;
 use crate::holding::{has_size, hold_trees};
+use crate::image::Image;
 use crate::kinds::{are_files_still, note_kinds};
 use crate::leaving::{leave_file, leave_files};
+use crate::meeting::Met;
 use crate::meeting_anew::{meet_file, meet_files};
 use crate::shape::Walk;
 use nl_layout::{CheckpointEntry, Root};
-use nl_types::{Kind, VirtualNumber, VolError};
+use nl_types::{VirtualNumber, VolError};
 use nl_vstore::VRead;
 use std::alloc::Global;
 
@@ -27,7 +28,7 @@ use std::alloc::Global;
 #[derive(Clone, Copy, Debug)]
 pub(crate) enum Beside {
     /// It has its shape, and holds a tree, if the ones before it do.
-    Good,
+    KnownGood,
     /// It has to be judged by itself.
     CanNotTell,
 }
@@ -52,7 +53,7 @@ impl Changes {
 /// Leaves the numbers that a checkpoint has no more at their places. Refused by `Memory` alone.
 fn leave_all<V: VRead>(
     store: &V,
-    met: &mut [bool],
+    met: &mut Met,
     changed: &mut Vec<VirtualNumber>,
     files: &[ChangedFile],
     before: Root,
@@ -77,7 +78,7 @@ fn leave_all<V: VRead>(
 fn meet_all<V: VRead>(
     alloc: Global,
     store: &V,
-    met: &mut [bool],
+    met: &mut Met,
     changed: &mut Vec<VirtualNumber>,
     files: &[ChangedFile],
     before: Root,
@@ -112,33 +113,45 @@ fn meet_all<V: VRead>(
 fn walk_beside<V: VRead>(
     alloc: Global,
     store: &V,
-    met: &mut [bool],
-    kinds: &mut [Option<Kind>],
+    found: &mut Found,
     changes: &mut Changes,
     before: Root,
     now: Root,
 ) -> Result<Option<u64>, VolError>
-    requires within { (v : ℕ) → IsSome (V.pages store.now v) → v < length met.old }
-    requires kinds { length kinds.old ≡ limits.inode_limit }
-    requires known { IsMetWhole (V.pages store.now) (root_of before) met.old }
-    ensures yes { IfOk result (λ found. IfSome found
-        (IsWalkedBeside (V.pages store.now) (root_of before) (root_of now) met.new kinds.old kinds.new
-        changes.new.files.items)) }
-    ensures told { IfOk result (λ found. IsSome found
-        → TellsOn met.old changes.old.numbers.items met.new changes.new.numbers.items) }
-    ensures small { IfOk result (λ found. IfSome found (λ count. count < 2 ^ 50)) }
+    requires within { (v : ℕ) → IsSome (V.pages store.now v) → v < length found.old.met }
+    requires known { IsMetWhole (V.pages store.now) (root_of before) found.old.met }
+    ensures yes { IfOk result (λ count. IfSome count
+        (IsWalkedBeside (V.pages store.now) (root_of before) (root_of now) found.new.met
+        found.old.kinds found.new.kinds changes.new.files.items)) }
+    ensures told { IfOk result (λ count. IsSome count → TellsOn found.old.met changes.old.numbers.items
+        found.new.met changes.new.numbers.items) }
+    ensures small { IfOk result (λ count. IfSome count (λ n. n < 2 ^ 50)) }
     ensures refused { IfErr result (λ e. e ≡ VolError.Memory) }
-    ensures count { length met.new ≡ length met.old }
-    ensures kinds { length kinds.new ≡ limits.inode_limit }
+    ensures count { length found.new.met ≡ length found.old.met }
 {
     if !list_changed(store, &mut changes.files, before, now)? {
         return Ok(None);
     }
     let files = changes.files.as_slice();
-    leave_all(store, met, &mut changes.numbers, files, before, now)?;
-    let found = meet_all(alloc, store, met, &mut changes.numbers, files, before, now)?;
-    note_kinds(kinds, files);
-    Ok(found)
+    leave_all(
+        store,
+        &mut found.met,
+        &mut changes.numbers,
+        files,
+        before,
+        now,
+    )?;
+    let count = meet_all(
+        alloc,
+        store,
+        &mut found.met,
+        &mut changes.numbers,
+        files,
+        before,
+        now,
+    )?;
+    note_kinds(&mut found.kinds, files);
+    Ok(count)
 }
 
 /// Whether the tree of a checkpoint is told as that of the one before it was: no directory changed, no inode
@@ -155,48 +168,43 @@ fn is_told_still(
     has_size(entry.size, count) && entry.inodes == last.inodes && are_files_still(files)
 }
 
-/// Judges a checkpoint by the one before it, whose numbers are those that are met, and the kinds of whose
-/// inodes are given. Whether it holds a tree is judged if it is asked. Where it is good, its numbers are met,
-/// and the kinds are those of its inodes; where it can't tell, both are any. Refused by `Memory` alone.
+/// Judges a checkpoint by the one before it, whose numbers and kinds of inodes are those that were found.
+/// Whether it holds a tree is judged if it is asked. Where it is good, its numbers are met, and the kinds are
+/// those of its inodes; where it can't tell, both are any. Refused by `Memory` alone.
 pub(crate) fn judge_beside<V: VRead>(
-    alloc: Global,
-    store: &V,
-    met: &mut [bool],
-    kinds: &mut [Option<Kind>],
+    image: &Image<'_, V>,
+    found: &mut Found,
     changes: &mut Changes,
     asked: bool,
     last: &CheckpointEntry,
     entry: &CheckpointEntry,
 ) -> Result<Beside, VolError>
-    requires within { (v : ℕ) → IsSome (V.pages store.now v) → v < length met.old }
-    requires kinds { length kinds.old ≡ limits.inode_limit }
-    requires known { IsMetWholeAt (V.pages store.now) (told last.now) met.old }
-    requires sound { IsTrue asked → AreSoundAt (V.pages store.now) (told last.now) kinds.old }
-    requires tree { IsTrue asked → IsSoundTree (V.pages store.now) (told last.now) }
-    ensures good { IfOk result (λ found. found ≡ Good
-        → IsGoodBeside (V.pages store.now) (told entry.now) met.new kinds.new asked) }
-    ensures changed { IfOk result (λ found. found ≡ Good
-        → TellsChanges met.old met.new changes.new.numbers.items) }
+    requires within { (v : ℕ) → IsSome (V.pages image.now.store.now v) → v < length found.old.met }
+    requires last { IsGood (V.pages image.now.store.now) (told last.now) found.old.met found.old.kinds asked }
+    ensures good { IfOk result (λ beside. beside ≡ KnownGood → IsGood (V.pages image.now.store.now)
+        (told entry.now) found.new.met found.new.kinds asked) }
+    ensures changed { IfOk result (λ beside. beside ≡ KnownGood
+        → TellsChanges found.old.met found.new.met changes.new.numbers.items) }
     ensures refused { IfErr result (λ e. e ≡ VolError.Memory) }
-    ensures count { length met.new ≡ length met.old }
-    ensures kinds { length kinds.new ≡ limits.inode_limit }
+    ensures count { length found.new.met ≡ length found.old.met }
 {
     changes.numbers.clear();
     let (Some(before), Some(now)) = (last.root.root(), entry.root.root()) else {
         return Ok(Beside::CanNotTell);
     };
-    let Some(count) = walk_beside(alloc, store, met, kinds, changes, before, now)? else {
+    let (alloc, store) = (image.alloc, image.store);
+    let Some(count) = walk_beside(alloc, store, found, changes, before, now)? else {
         return Ok(Beside::CanNotTell);
     };
     if !asked {
-        return Ok(Beside::Good);
+        return Ok(Beside::KnownGood);
     }
     if is_told_still(changes.files.as_slice(), count, last, entry) {
-        return Ok(Beside::Good);
+        return Ok(Beside::KnownGood);
     }
     let walk = Walk { count, sound: true };
-    if hold_trees(alloc, store, kinds, &now, &walk, entry, asked)? {
-        Ok(Beside::Good)
+    if hold_trees(alloc, store, &found.kinds, &now, &walk, entry, asked)? {
+        Ok(Beside::KnownGood)
     } else {
         Ok(Beside::CanNotTell)
     }

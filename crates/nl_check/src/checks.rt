@@ -1,23 +1,20 @@
 //! The first of the conditions of checkpoints that fails.
-ghost use Rattle.std.specs.Prelude.{◌≡◌, ◌↔◌, ◌<◌, ◌≤◌, ◌*◌, ◌^◌, ℕ, length, map, is_some, false, true, IsTrue, IsSome, IfOk, IfErr, IfSome, IsOkUnless, None, Ok};
-ghost use Rattle.nl_types.specs.Limits as limits;
+ghost use Rattle.std.specs.Prelude.{◌≡◌, ◌↔◌, ◌<◌, ◌≤◌, ◌*◌, ℕ, length, map, is_some, IsTrue, IsSome, IfOk, IfErr, IfSome, IsOkUnless, None, Ok};
 ghost use Rattle.nl_types.specs.declared.error.VolError;
-ghost use Rattle.nl_types.specs.Roots.{Pages, Root as AnyRoot};
-ghost use Rattle.nl_check.specs.Conditions.{FirstFault, IsSoundShape, IsSoundTree};
-ghost use Rattle.nl_check.specs.Judging.{IsAlike, IsJudged, IsLast, KnowsLast, fault_told, told};
-ghost use Rattle.nl_check.specs.MetFiles.{is_met};
-ghost use Rattle.nl_check.specs.Private.SoundInodes.{TellsInodes};
+ghost use Rattle.nl_check.specs.Conditions.{FirstFault, IsSoundShape};
+ghost use Rattle.nl_check.specs.Judging.{HasRoom, IsAlike, IsJudgedLast, IsLast, KnowsLast, fault_told, told};
 ghost use Rattle.nl_check.specs.Private.Turns.{AreTurns, WereOfPeriods};
-ghost use Rattle.nl_check.specs.Private.Walks.{AreSoundAt, IsMetWholeAt};
+ghost use Rattle.nl_check.specs.Private.Walks.{IsGood};
 
 use crate::beside::{Beside, Changes, judge_beside};
+use crate::found::Found;
 use crate::holding::hold_trees;
-use crate::inodes::INODE_LIMIT;
+use crate::image::Image;
 use crate::periods::{are_still_of_periods, are_still_of_periods_since};
 use crate::shape::walk_checkpoint;
-use crate::turns::{Turn, all_turns};
+use crate::turns::all_turns;
 use nl_layout::CheckpointEntry;
-use nl_types::{CheckpointNumber, Geometry, Kind, VirtualNumber, VolError};
+use nl_types::{CheckpointNumber, Geometry, VirtualNumber, VolError};
 use nl_vstore::VRead;
 use std::alloc::Global;
 
@@ -39,56 +36,40 @@ pub(crate) struct Last {
     pub(crate) entry: CheckpointEntry,
 }
 
-/// Forgets which numbers were met.
-fn clear_met(met: &mut [bool])
-    ensures none { (v : ℕ) → is_met met.new v ≡ false }
-    ensures count { length met.new ≡ length met.old }
-{
-    met.fill(false);
-}
-
-/// Forgets the kinds of all inodes.
-fn clear_kinds(kinds: &mut [Option<Kind>])
-    requires { length kinds.old ≡ limits.inode_limit }
-    ensures count { length kinds.new ≡ limits.inode_limit }
-    ensures none { (pages : Pages) (root : AnyRoot) → TellsInodes pages root 0 kinds.new true }
-{
-    kinds.fill(None);
-}
-
 /// Judges one checkpoint, whatever those before it are. None where it has not its shape. Refused by `Memory`
 /// alone.
 fn judge<V: VRead>(
-    alloc: Global,
-    store: &V,
-    met: &mut [bool],
-    kinds: &mut [Option<Kind>],
+    image: &Image<'_, V>,
+    found: &mut Found,
     before: &Judged,
     entry: &CheckpointEntry,
 ) -> Result<Option<Judged>, VolError>
-    requires within { (v : ℕ) → IsSome (V.pages store.now v) → v < length met.old }
-    requires each { (v : ℕ) → is_some (V.pages store.now v) ≡ is_some (V.periods store.now v) }
-    requires few { length met.old < 2 ^ 40 }
-    requires kinds { length kinds.old ≡ limits.inode_limit }
-    ensures yes { IfOk result (λ found. IfSome found
-        (IsJudged (V.pages store.now) (V.periods store.now) (told entry.now) before.now)) }
-    ensures no { result ≡ Ok None → IsSoundShape (V.pages store.now) (told entry.now) → ⊥ }
-    ensures last { IfOk result (λ found. IfSome found
-        (KnowsLast (V.pages store.now) (V.periods store.now) met.new kinds.new)) }
+    requires room { HasRoom (V.pages image.now.store.now) (V.periods image.now.store.now) found.old.met }
+    ensures yes { IfOk result (λ judged. IfSome judged
+        (IsJudgedLast (V.pages image.now.store.now) (V.periods image.now.store.now) entry.now before.now
+        found.new.met found.new.kinds)) }
+    ensures no { result ≡ Ok None → IsSoundShape (V.pages image.now.store.now) (told entry.now) → ⊥ }
     ensures refused { IfErr result (λ e. e ≡ VolError.Memory) }
-    ensures count { length met.new ≡ length met.old }
-    ensures kinds { length kinds.new ≡ limits.inode_limit }
+    ensures count { length found.new.met ≡ length found.old.met }
 {
     let Some(root) = entry.root.root() else {
         return Ok(None);
     };
-    clear_met(met);
-    clear_kinds(kinds);
-    let Some(walk) = walk_checkpoint(alloc, store, met, kinds, &root)? else {
+    let (alloc, store) = (image.alloc, image.store);
+    found.clear();
+    let Some(walk) = walk_checkpoint(alloc, store, found, &root)? else {
         return Ok(None);
     };
-    let periods = are_still_of_periods(store, met, entry.number, before.periods);
-    let trees = hold_trees(alloc, store, kinds, &root, &walk, entry, before.trees)?;
+    let periods = are_still_of_periods(store, &found.met, entry.number, before.periods);
+    let trees = hold_trees(
+        alloc,
+        store,
+        &found.kinds,
+        &root,
+        &walk,
+        entry,
+        before.trees,
+    )?;
     let last = Some(Last { entry: *entry });
     Ok(Some(Judged {
         trees,
@@ -116,39 +97,29 @@ fn alike_last(last: Option<Last>, entry: &CheckpointEntry) -> Option<Last>
     }
 }
 
-/// Judges a checkpoint by the last one. It is met, and holds a tree if all before it do, with these kinds of
-/// inodes. The numbers that changed since the last one are given, others may be among them. So nothing is
-/// judged of it but its periods.
+/// Judges the periods of a checkpoint by those of the last one. The checkpoint is known to be good: what was
+/// found is its own, and it holds a tree if all before it do. The numbers that changed since the last one are
+/// given, and others may be among them.
 fn judge_by_last<V: VRead>(
-    store: &V,
-    met: &[bool],
-    kinds: &[Option<Kind>],
-    turns: &[Turn],
+    image: &Image<'_, V>,
+    found: &Found,
     changed: &[VirtualNumber],
     before: &Judged,
     last: CheckpointNumber,
     entry: &CheckpointEntry,
 ) -> Judged
-    requires within { (v : ℕ) → IsSome (V.periods store.now v) → v < length met.now }
-    requires turns { AreTurns (V.periods store.now) turns.now }
-    requires known { IsMetWholeAt (V.pages store.now) (told entry.now) met.now }
-    requires sound { IsTrue before.now.trees → AreSoundAt (V.pages store.now) (told entry.now) kinds.now }
-    requires tree { IsTrue before.now.trees → IsSoundTree (V.pages store.now) (told entry.now) }
+    requires within { (v : ℕ) → IsSome (V.periods image.now.store.now v) → v < length found.now.met }
+    requires turns { AreTurns (V.periods image.now.store.now) image.now.turns.now }
+    requires good { IsGood (V.pages image.now.store.now) (told entry.now) found.now.met found.now.kinds
+        before.now.trees }
     requires last { IsTrue before.now.periods
-        → WereOfPeriods (V.periods store.now) last met.now changed.now }
-    ensures judged { IsJudged (V.pages store.now) (V.periods store.now) (told entry.now) before.now result }
-    ensures last { KnowsLast (V.pages store.now) (V.periods store.now) met.now kinds.now result }
+        → WereOfPeriods (V.periods image.now.store.now) last found.now.met changed.now }
+    ensures { IsJudgedLast (V.pages image.now.store.now) (V.periods image.now.store.now)
+        entry.now before.now found.now.met found.now.kinds result }
 {
-    let next = entry.number;
-    let periods = are_still_of_periods_since(
-        store,
-        met,
-        turns,
-        changed,
-        last,
-        next,
-        before.periods,
-    );
+    let (store, met, turns) = (image.store, &found.met, image.turns);
+    let (next, were) = (entry.number, before.periods);
+    let periods = are_still_of_periods_since(store, met, turns, changed, last, next, were);
     let last = Some(Last { entry: *entry });
     Judged {
         trees: before.trees,
@@ -160,75 +131,50 @@ fn judge_by_last<V: VRead>(
 /// Judges a checkpoint that has the file of inodes of the last one. It meets the same numbers, and holds a
 /// tree where that one does.
 fn judge_alike<V: VRead>(
-    store: &V,
-    met: &[bool],
-    kinds: &[Option<Kind>],
-    turns: &[Turn],
+    image: &Image<'_, V>,
+    found: &Found,
     before: &Judged,
     last: Last,
     entry: &CheckpointEntry,
 ) -> Judged
-    requires within { (v : ℕ) → IsSome (V.periods store.now v) → v < length met.now }
-    requires turns { AreTurns (V.periods store.now) turns.now }
-    requires last { IsLast (V.pages store.now) (V.periods store.now) met.now kinds.now before.now last }
+    requires within { (v : ℕ) → IsSome (V.periods image.now.store.now v) → v < length found.now.met }
+    requires turns { AreTurns (V.periods image.now.store.now) image.now.turns.now }
+    requires last { IsLast (V.pages image.now.store.now) (V.periods image.now.store.now)
+        found.now.met found.now.kinds before.now last }
     requires alike { IsAlike last.entry entry.now }
-    ensures judged { IsJudged (V.pages store.now) (V.periods store.now) (told entry.now) before.now result }
-    ensures last { KnowsLast (V.pages store.now) (V.periods store.now) met.now kinds.now result }
+    ensures { IsJudgedLast (V.pages image.now.store.now) (V.periods image.now.store.now)
+        entry.now before.now found.now.met found.now.kinds result }
 {
-    judge_by_last(
-        store,
-        met,
-        kinds,
-        turns,
-        &[],
-        before,
-        last.entry.number,
-        entry,
-    )
+    judge_by_last(image, found, &[], before, last.entry.number, entry)
 }
 
-/// Judges a checkpoint by the last one, and by what differs from it. None where that can't be told; then the
-/// numbers that are met are any, and so are the kinds. Refused by `Memory` alone.
+/// Judges a checkpoint by the last one, and by what differs from it. None where that can't be told; then what
+/// was found is any. Refused by `Memory` alone.
 fn judge_differing<V: VRead>(
-    alloc: Global,
-    store: &V,
-    met: &mut [bool],
-    kinds: &mut [Option<Kind>],
-    turns: &[Turn],
+    image: &Image<'_, V>,
+    found: &mut Found,
     changes: &mut Changes,
     before: &Judged,
     entry: &CheckpointEntry,
 ) -> Result<Option<Judged>, VolError>
-    requires within { (v : ℕ) → IsSome (V.pages store.now v) → v < length met.old }
-    requires each { (v : ℕ) → is_some (V.pages store.now v) ≡ is_some (V.periods store.now v) }
-    requires kinds { length kinds.old ≡ limits.inode_limit }
-    requires turns { AreTurns (V.periods store.now) turns.now }
-    requires last { KnowsLast (V.pages store.now) (V.periods store.now) met.old kinds.old before.now }
-    ensures yes { IfOk result (λ found. IfSome found
-        (IsJudged (V.pages store.now) (V.periods store.now) (told entry.now) before.now)) }
-    ensures last { IfOk result (λ found. IfSome found
-        (KnowsLast (V.pages store.now) (V.periods store.now) met.new kinds.new)) }
+    requires room { HasRoom (V.pages image.now.store.now) (V.periods image.now.store.now) found.old.met }
+    requires turns { AreTurns (V.periods image.now.store.now) image.now.turns.now }
+    requires last { KnowsLast (V.pages image.now.store.now) (V.periods image.now.store.now)
+        found.old.met found.old.kinds before.now }
+    ensures yes { IfOk result (λ judged. IfSome judged
+        (IsJudgedLast (V.pages image.now.store.now) (V.periods image.now.store.now) entry.now before.now
+        found.new.met found.new.kinds)) }
     ensures refused { IfErr result (λ e. e ≡ VolError.Memory) }
-    ensures count { length met.new ≡ length met.old }
-    ensures kinds { length kinds.new ≡ limits.inode_limit }
+    ensures count { length found.new.met ≡ length found.old.met }
 {
     let Some(last) = &before.last else {
         return Ok(None);
     };
-    match judge_beside(
-        alloc,
-        store,
-        met,
-        kinds,
-        changes,
-        before.trees,
-        &last.entry,
-        entry,
-    )? {
-        Beside::Good => {
+    match judge_beside(image, found, changes, before.trees, &last.entry, entry)? {
+        Beside::KnownGood => {
             let changed = changes.numbers.as_slice();
             let last = last.entry.number;
-            Ok(Some(judge_by_last(store, met, kinds, turns, changed, before, last, entry)))
+            Ok(Some(judge_by_last(image, found, changed, before, last, entry)))
         }
         Beside::CanNotTell => Ok(None),
     }
@@ -236,36 +182,29 @@ fn judge_differing<V: VRead>(
 
 /// Judges the next checkpoint, as `judge` does, by what is known of the last one where that tells of it.
 fn judge_next<V: VRead>(
-    alloc: Global,
-    store: &V,
-    met: &mut [bool],
-    kinds: &mut [Option<Kind>],
-    turns: &[Turn],
+    image: &Image<'_, V>,
+    found: &mut Found,
     changes: &mut Changes,
     before: &Judged,
     entry: &CheckpointEntry,
 ) -> Result<Option<Judged>, VolError>
-    requires within { (v : ℕ) → IsSome (V.pages store.now v) → v < length met.old }
-    requires each { (v : ℕ) → is_some (V.pages store.now v) ≡ is_some (V.periods store.now v) }
-    requires few { length met.old < 2 ^ 40 }
-    requires kinds { length kinds.old ≡ limits.inode_limit }
-    requires turns { AreTurns (V.periods store.now) turns.now }
-    requires last { KnowsLast (V.pages store.now) (V.periods store.now) met.old kinds.old before.now }
-    ensures yes { IfOk result (λ found. IfSome found
-        (IsJudged (V.pages store.now) (V.periods store.now) (told entry.now) before.now)) }
-    ensures no { result ≡ Ok None → IsSoundShape (V.pages store.now) (told entry.now) → ⊥ }
-    ensures last { IfOk result (λ found. IfSome found
-        (KnowsLast (V.pages store.now) (V.periods store.now) met.new kinds.new)) }
+    requires room { HasRoom (V.pages image.now.store.now) (V.periods image.now.store.now) found.old.met }
+    requires turns { AreTurns (V.periods image.now.store.now) image.now.turns.now }
+    requires last { KnowsLast (V.pages image.now.store.now) (V.periods image.now.store.now)
+        found.old.met found.old.kinds before.now }
+    ensures yes { IfOk result (λ judged. IfSome judged
+        (IsJudgedLast (V.pages image.now.store.now) (V.periods image.now.store.now) entry.now before.now
+        found.new.met found.new.kinds)) }
+    ensures no { result ≡ Ok None → IsSoundShape (V.pages image.now.store.now) (told entry.now) → ⊥ }
     ensures refused { IfErr result (λ e. e ≡ VolError.Memory) }
-    ensures count { length met.new ≡ length met.old }
-    ensures kinds { length kinds.new ≡ limits.inode_limit }
+    ensures count { length found.new.met ≡ length found.old.met }
 {
     if let Some(last) = alike_last(before.last, entry) {
-        return Ok(Some(judge_alike(store, met, kinds, turns, before, last, entry)));
+        return Ok(Some(judge_alike(image, found, before, last, entry)));
     }
-    match judge_differing(alloc, store, met, kinds, turns, changes, before, entry)? {
+    match judge_differing(image, found, changes, before, entry)? {
         Some(judged) => Ok(Some(judged)),
-        None => judge(alloc, store, met, kinds, before, entry),
+        None => judge(image, found, before, entry),
     }
 }
 
@@ -282,33 +221,27 @@ fn fault_of(judged: Judged) -> Option<u8>
     }
 }
 
-/// Judges checkpoints one after another, as `first_fault` does. The tables have a place for each number of a
-/// block, and for each of an inode.
+/// Judges checkpoints one after another, as `first_fault` does. Nothing is found yet.
 fn judge_all<V: VRead>(
-    alloc: Global,
-    store: &V,
-    met: &mut [bool],
-    kinds: &mut [Option<Kind>],
-    turns: &[Turn],
-    changes: &mut Changes,
+    image: &Image<'_, V>,
+    found: &mut Found,
     kept: &[CheckpointEntry],
 ) -> Result<Option<u8>, VolError>
-    requires within { (v : ℕ) → IsSome (V.pages store.now v) → v < length met.old }
-    requires each { (v : ℕ) → is_some (V.pages store.now v) ≡ is_some (V.periods store.now v) }
-    requires few { length met.old < 2 ^ 40 }
-    requires kinds { length kinds.old ≡ limits.inode_limit }
-    requires turns { AreTurns (V.periods store.now) turns.now }
-    ensures fault { IfOk result (λ fault. FirstFault (V.pages store.now) (V.periods store.now)
+    requires room { HasRoom (V.pages image.now.store.now) (V.periods image.now.store.now) found.old.met }
+    requires turns { AreTurns (V.periods image.now.store.now) image.now.turns.now }
+    ensures fault { IfOk result (λ fault.
+        FirstFault (V.pages image.now.store.now) (V.periods image.now.store.now)
         (map told kept.now) fault) }
     ensures refused { IfErr result (λ e. e ≡ VolError.Memory) }
 {
+    let mut changes = Changes::new(image.alloc);
     let mut judged = Judged {
         trees: true,
         periods: true,
         last: None,
     };
     for entry in kept {
-        let Some(now) = judge_next(alloc, store, met, kinds, turns, changes, &judged, entry)? else {
+        let Some(now) = judge_next(image, found, &mut changes, &judged, entry)? else {
             return Ok(Some(8));
         };
         judged = now;
@@ -335,17 +268,12 @@ pub fn first_fault<V: VRead>(
         (map told kept.now) fault) }
     ensures refused { IsOkUnless result VolError.Memory }
 {
-    let mut met = vec![in alloc; false; geometry.total() as usize + 1]?;
-    let mut kinds = vec![in alloc; None; INODE_LIMIT]?;
-    let turns = all_turns(alloc, store, met.len())?;
-    let mut changes = Changes::new(alloc);
-    judge_all(
+    let mut found = Found::nothing(alloc, u64::from(geometry.total()))?;
+    let turns = all_turns(alloc, store, found.met.len())?;
+    let image = Image {
         alloc,
         store,
-        met.as_mut_slice(),
-        kinds.as_mut_slice(),
-        turns.as_slice(),
-        &mut changes,
-        kept,
-    )
+        turns: turns.as_slice(),
+    };
+    judge_all(&image, &mut found, kept)
 }

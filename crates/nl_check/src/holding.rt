@@ -9,6 +9,7 @@ ghost use Rattle.nl_check.specs.Private.Walks.{IsWalk};
 ghost use Rattle.nl_check.specs.Trees.{IsTreeOf};
 
 use crate::inodes::{count_of, kinds_of_blocks};
+use crate::kinds::Kinds;
 use crate::shape::Walk;
 use crate::trees::forms_tree;
 use nl_files::ReadTree;
@@ -63,7 +64,7 @@ fn holds_tree<V: VRead>(
 pub(crate) fn hold_trees<V: VRead>(
     alloc: Global,
     store: &V,
-    kinds: &[Option<Kind>],
+    kinds: &Kinds,
     root: &Root,
     walk: &Walk,
     entry: &CheckpointEntry,
@@ -80,6 +81,6 @@ pub(crate) fn hold_trees<V: VRead>(
     if !before {
         return Ok(false);
     }
-    let mut awaited = kinds_of_blocks(alloc, kinds, walk.count)?;
+    let mut awaited = kinds_of_blocks(alloc, kinds.as_slice(), walk.count)?;
     holds_tree(alloc, store, awaited.as_mut_slice(), root, walk, entry)
 }

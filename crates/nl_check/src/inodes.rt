@@ -5,7 +5,7 @@ ghost use Rattle.nl_types.specs.declared.error.VolError;
 ghost use Rattle.nl_types.specs.declared.kind.Kind.{Kind};
 ghost use Rattle.nl_layout.specs.Root.{root_of};
 ghost use Rattle.nl_tree.specs.Held.{IsInodeNumber};
-ghost use Rattle.nl_check.specs.Private.SoundInodes.{IsMeasured, IsSoundInode, kind_for, kind_in};
+ghost use Rattle.nl_check.specs.Private.SoundInodes.{IsMeasured, IsSoundInode, kind_for};
 ghost use Rattle.nl_check.specs.Private.Naming.{HasKindsOf, awaited_count};
 
 use crate::directories::is_sound_directory;
@@ -66,18 +66,6 @@ pub(crate) fn is_sound_inode<V: VRead>(
         InodeKind::File => Ok(is_sound_file(store, inode, count)),
         InodeKind::Directory => is_sound_directory(alloc, store, inode, count),
         InodeKind::InodeFile => Ok(false),
-    }
-}
-
-/// Notes the kind of an inode, where its number may be one.
-pub(crate) fn note_kind(kinds: &mut [Option<Kind>], number: u64, kind: Option<Kind>)
-    requires { length kinds.old ≡ limits.inode_limit }
-    ensures count { length kinds.new ≡ limits.inode_limit }
-    ensures here { number < limits.inode_limit → kind_in kinds.new number ≡ kind }
-    ensures others { (i : ℕ) → (i ≡ number → ⊥) → kind_in kinds.new i ≡ kind_in kinds.old i }
-{
-    if number < INODE_LIMIT as u64 {
-        kinds[number as usize] = kind;
     }
 }
 

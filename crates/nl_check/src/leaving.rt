@@ -11,6 +11,7 @@ ghost use Rattle.nl_check.specs.Private.BesideTrees.{HasLeft, Leaves, StandAt, S
 ghost use Rattle.nl_check.specs.Private.ChangedFiles.{IsLostIn, StandsOf};
 
 use crate::differing::{ChangedFile, root_of_file};
+use crate::meeting::Met;
 use crate::subtrees::{is_named, page_under, slot_of, top_beside};
 use nl_layout::{Root, SLOTS};
 use nl_types::{VirtualNumber, VolError};
@@ -18,7 +19,7 @@ use nl_vstore::VRead;
 
 /// Leaves a number: it is met no more, and told among those that changed. Refused by `Memory` alone.
 fn leave(
-    met: &mut [bool],
+    met: &mut Met,
     changed: &mut Vec<VirtualNumber>,
     number: VirtualNumber,
 ) -> Result<(), VolError>
@@ -28,7 +29,7 @@ fn leave(
     ensures count { length met.new ≡ length met.old }
 {
     if number.get() < met.len() as u64 {
-        met[number.get() as usize] = false;
+        met.set(number, false);
     }
     changed.push(number)?;
     Ok(())
@@ -38,7 +39,7 @@ fn leave(
 /// Refused by `Memory` alone.
 fn leave_below<V: VRead>(
     store: &V,
-    met: &mut [bool],
+    met: &mut Met,
     changed: &mut Vec<VirtualNumber>,
     level: u8,
     number: VirtualNumber,
@@ -74,7 +75,7 @@ fn leave_below<V: VRead>(
 /// those of a tree that stand at their places in another one of its height. Refused by `Memory` alone.
 pub(crate) fn leave_file<V: VRead>(
     store: &V,
-    met: &mut [bool],
+    met: &mut Met,
     changed: &mut Vec<VirtualNumber>,
     before: Root,
     now: Root,
@@ -106,7 +107,7 @@ pub(crate) fn leave_file<V: VRead>(
 /// Leaves the numbers that each file has no more at their places. Refused by `Memory` alone.
 pub(crate) fn leave_files<V: VRead>(
     store: &V,
-    met: &mut [bool],
+    met: &mut Met,
     changed: &mut Vec<VirtualNumber>,
     files: &[ChangedFile],
 ) -> Result<(), VolError>

@@ -15,7 +15,7 @@ ghost use Rattle.nl_check.specs.Private.SoundInodes.{IsMeasured, IsSoundInode};
 use crate::differing::{ChangedFile, root_of_file};
 use crate::ends::end_of_tree;
 use crate::inodes::is_sound_inode;
-use crate::meeting::meet;
+use crate::meeting::{Met, meet};
 use crate::subtrees::{is_named, page_under, slot_of, top_beside};
 use nl_layout::{Level, Root, SLOTS};
 use nl_types::{VirtualNumber, VolError};
@@ -26,7 +26,7 @@ use std::alloc::Global;
 /// `Memory` alone.
 fn meet_anew<V: VRead>(
     store: &V,
-    met: &mut [bool],
+    met: &mut Met,
     changed: &mut Vec<VirtualNumber>,
     number: VirtualNumber,
 ) -> Result<bool, VolError>
@@ -49,7 +49,7 @@ fn meet_anew<V: VRead>(
 /// alone.
 fn meet_below<V: VRead>(
     store: &V,
-    met: &mut [bool],
+    met: &mut Met,
     changed: &mut Vec<VirtualNumber>,
     level: u8,
     number: VirtualNumber,
@@ -94,7 +94,7 @@ fn meet_below<V: VRead>(
 /// to its last data, or none where it may not have its shape. Refused by `Memory` alone.
 fn meet_tree<V: VRead>(
     store: &V,
-    met: &mut [bool],
+    met: &mut Met,
     changed: &mut Vec<VirtualNumber>,
     before: Root,
     height: Level,
@@ -131,7 +131,7 @@ fn meet_tree<V: VRead>(
 /// indices lead up to its last block, or none where it may not have its shape. Refused by `Memory` alone.
 pub(crate) fn meet_file<V: VRead>(
     store: &V,
-    met: &mut [bool],
+    met: &mut Met,
     changed: &mut Vec<VirtualNumber>,
     before: Root,
     now: Root,
@@ -177,7 +177,7 @@ fn is_sound_later<V: VRead>(
 fn meet_changed<V: VRead>(
     alloc: Global,
     store: &V,
-    met: &mut [bool],
+    met: &mut Met,
     changed: &mut Vec<VirtualNumber>,
     file: &ChangedFile,
 ) -> Result<bool, VolError>
@@ -206,7 +206,7 @@ fn meet_changed<V: VRead>(
 pub(crate) fn meet_files<V: VRead>(
     alloc: Global,
     store: &V,
-    met: &mut [bool],
+    met: &mut Met,
     changed: &mut Vec<VirtualNumber>,
     files: &[ChangedFile],
 ) -> Result<bool, VolError>

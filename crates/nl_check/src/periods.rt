@@ -2,10 +2,10 @@
 ghost use Rattle.std.specs.Prelude.{◌≡◌, ◌↔◌, ◌<◌, ◌≤◌, ℕ, false, length, All, IsTrue, IsSome};
 ghost use Rattle.std.specs.List.{AllWithin};
 ghost use Rattle.nl_check.specs.Conditions.{has};
-ghost use Rattle.nl_check.specs.MetFiles.{is_met};
 ghost use Rattle.nl_check.specs.Periods.{AreOfPeriods, has_in};
 ghost use Rattle.nl_check.specs.Private.Turns.{AreTurnedOfPeriods, AreTurns, IsOfPeriod, IsTurnOfPeriod, WereOfPeriods};
 
+use crate::meeting::Met;
 use crate::turns::{Turn, reach};
 use nl_types::{CheckpointNumber, Period, VirtualNumber};
 use nl_vstore::VRead;
@@ -30,36 +30,25 @@ fn is_in_period(number: CheckpointNumber, period: Option<Period>) -> bool
     }
 }
 
-/// Whether a number was met.
-fn is_met(met: &[bool], number: VirtualNumber) -> bool
-    ensures { result ≡ is_met met.now number }
-{
-    match met.get(number.get() as usize) {
-        Some(met) => *met,
-        None => false,
-    }
-}
-
 /// Whether a number was met exactly where its period has the checkpoint.
 fn is_of_period<V: VRead>(
     store: &V,
-    met: &[bool],
+    met: &Met,
     number: CheckpointNumber,
     name: VirtualNumber,
 ) -> bool
     ensures { IsTrue result ↔ IsOfPeriod (V.periods store.now) number met.now name }
 {
-    is_met(met, name) == is_in_period(number, store.period(name))
+    met.has(name) == is_in_period(number, store.period(name))
 }
 
 /// Whether a number was met exactly where its period has the checkpoint, for all numbers.
-fn are_of_periods<V: VRead>(store: &V, met: &[bool], number: CheckpointNumber) -> bool
+fn are_of_periods<V: VRead>(store: &V, met: &Met, number: CheckpointNumber) -> bool
     requires { (v : ℕ) → IsSome (V.periods store.now v) → v < length met.now }
     ensures { IsTrue result ↔ AreOfPeriods (V.periods store.now) number met.now }
 {
     for at in 0..met.len() {
-        let period = store.period(VirtualNumber::new(at as u64));
-        if met[at] != is_in_period(number, period) {
+        if !is_of_period(store, met, number, VirtualNumber::new(at as u64)) {
             return false;
         }
     }
@@ -69,7 +58,7 @@ fn are_of_periods<V: VRead>(store: &V, met: &[bool], number: CheckpointNumber) -
 /// Whether each number of a run of turns was met exactly where its period has the checkpoint.
 fn is_run_of_periods<V: VRead>(
     store: &V,
-    met: &[bool],
+    met: &Met,
     turns: &[Turn],
     first: usize,
     end: usize,
@@ -91,7 +80,7 @@ fn is_run_of_periods<V: VRead>(
 /// exactly where its period has the next one.
 fn are_turned_of_periods<V: VRead>(
     store: &V,
-    met: &[bool],
+    met: &Met,
     turns: &[Turn],
     last: CheckpointNumber,
     next: CheckpointNumber,
@@ -108,7 +97,7 @@ fn are_turned_of_periods<V: VRead>(
 /// Whether each of these numbers was met exactly where its period has the checkpoint.
 fn are_these_of_periods<V: VRead>(
     store: &V,
-    met: &[bool],
+    met: &Met,
     number: CheckpointNumber,
     names: &[VirtualNumber],
 ) -> bool
@@ -127,7 +116,7 @@ fn are_these_of_periods<V: VRead>(
 /// those whose periods turn between the two.
 fn are_of_periods_since<V: VRead>(
     store: &V,
-    met: &[bool],
+    met: &Met,
     turns: &[Turn],
     changed: &[VirtualNumber],
     last: CheckpointNumber,
@@ -152,7 +141,7 @@ fn are_of_periods_since<V: VRead>(
 /// before. Where it wasn't, no number is looked at.
 pub(crate) fn are_still_of_periods<V: VRead>(
     store: &V,
-    met: &[bool],
+    met: &Met,
     number: CheckpointNumber,
     before: bool,
 ) -> bool
@@ -166,7 +155,7 @@ pub(crate) fn are_still_of_periods<V: VRead>(
 /// changed since.
 pub(crate) fn are_still_of_periods_since<V: VRead>(
     store: &V,
-    met: &[bool],
+    met: &Met,
     turns: &[Turn],
     changed: &[VirtualNumber],
     last: CheckpointNumber,

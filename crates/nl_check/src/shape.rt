@@ -1,6 +1,5 @@
 //! The walk over all blocks of a checkpoint.
 ghost use Rattle.std.specs.Prelude.{◌≡◌, ◌↔◌, ◌<◌, ◌+◌, ◌*◌, ◌^◌, ℕ, length, false, true, IsTrue, IsSome, IfOk, IfErr, IfSome, Some, None, Ok, option_copied};
-ghost use Rattle.nl_types.specs.Limits as limits;
 ghost use Rattle.nl_types.specs.declared.error.VolError;
 ghost use Rattle.nl_types.specs.Roots.{Root as AnyRoot, page_at};
 ghost use Rattle.nl_layout.specs.Root.{root_of};
@@ -11,11 +10,12 @@ ghost use Rattle.nl_check.specs.Shapes.{IsShaped};
 ghost use Rattle.nl_check.specs.Private.SoundInodes.{TellsInodes};
 ghost use Rattle.nl_check.specs.Private.Walks.{AreKnown, IsBlockOf, IsWalk};
 
-use crate::inodes::{is_sound_inode, kind_of, note_kind};
+use crate::found::Found;
+use crate::inodes::{is_sound_inode, kind_of};
 use crate::walking::walk_file;
 use nl_blocktree::Cursor;
 use nl_layout::{INODE_SIZE, Inode, InodeEntry, Root};
-use nl_types::{BLOCK_SIZE, Kind, Page, VolError};
+use nl_types::{BLOCK_SIZE, Page, VolError};
 use nl_vstore::VRead;
 use std::alloc::Global;
 
@@ -90,35 +90,31 @@ pub(crate) fn is_inode_block(page: &Page) -> bool
 fn walk_inode<V: VRead>(
     alloc: Global,
     store: &V,
-    met: &mut [bool],
-    kinds: &mut [Option<Kind>],
+    found: &mut Found,
     number: u64,
     inode: Option<Inode>,
     sound: bool,
 ) -> Result<Option<bool>, VolError>
-    requires within { (v : ℕ) → IsSome (V.pages store.now v) → v < length met.old }
-    requires few { length met.old < 2 ^ 40 }
-    requires kinds { length kinds.old ≡ limits.inode_limit }
-    ensures yes { IfOk result (λ found. IfSome found (λ now. (root : AnyRoot)
+    requires within { (v : ℕ) → IsSome (V.pages store.now v) → v < length found.old.met }
+    ensures yes { IfOk result (λ walk. IfSome walk (λ now. (root : AnyRoot)
         → inode_at (V.pages store.now) root number ≡ inode
-        → AreKnown (V.pages store.now) root number met.old kinds.old sound
-        → AreKnown (V.pages store.now) root (number + 1) met.new kinds.new now)) }
+        → AreKnown (V.pages store.now) root number found.old.met found.old.kinds sound
+        → AreKnown (V.pages store.now) root (number + 1) found.new.met found.new.kinds now)) }
     ensures no { result ≡ Ok None → (root : AnyRoot)
         → inode_at (V.pages store.now) root number ≡ inode
-        → AreKnown (V.pages store.now) root number met.old kinds.old sound
+        → AreKnown (V.pages store.now) root number found.old.met found.old.kinds sound
         → IsShaped (V.pages store.now) root → ⊥ }
     ensures refused { IfErr result (λ e. e ≡ VolError.Memory) }
-    ensures count { length met.new ≡ length met.old }
-    ensures kinds { length kinds.new ≡ limits.inode_limit }
+    ensures count { length found.new.met ≡ length found.old.met }
 {
     let Some(inode) = inode else {
         return Ok(Some(sound));
     };
-    let Some(count) = walk_file(store, met, inode.root) else {
+    let Some(count) = walk_file(store, &mut found.met, inode.root) else {
         return Ok(None);
     };
     let is_sound = is_sound_inode(alloc, store, number, &inode, count)?;
-    note_kind(kinds, number, kind_of(inode.kind));
+    found.kinds.note(number, kind_of(inode.kind));
     Ok(Some(sound && is_sound))
 }
 
@@ -126,29 +122,25 @@ fn walk_inode<V: VRead>(
 fn walk_block<V: VRead>(
     alloc: Global,
     store: &V,
-    met: &mut [bool],
-    kinds: &mut [Option<Kind>],
+    found: &mut Found,
     index: u64,
     page: &Page,
     sound: bool,
 ) -> Result<Option<bool>, VolError>
-    requires within { (v : ℕ) → IsSome (V.pages store.now v) → v < length met.old }
-    requires few { length met.old < 2 ^ 40 }
-    requires kinds { length kinds.old ≡ limits.inode_limit }
+    requires within { (v : ℕ) → IsSome (V.pages store.now v) → v < length found.old.met }
     requires index { index < 2 ^ 60 }
-    ensures block { IfOk result (λ found. IfSome found
+    ensures block { IfOk result (λ walk. IfSome walk
         (λ now. Some page.now ≡ block_for (inode_in page.now))) }
-    ensures yes { IfOk result (λ found. IfSome found (λ now. (root : AnyRoot)
+    ensures yes { IfOk result (λ walk. IfSome walk (λ now. (root : AnyRoot)
         → page_at (V.pages store.now) root index ≡ Some page.now
-        → AreKnown (V.pages store.now) root (8 * index) met.old kinds.old sound
-        → AreKnown (V.pages store.now) root (8 * (index + 1)) met.new kinds.new now)) }
+        → AreKnown (V.pages store.now) root (8 * index) found.old.met found.old.kinds sound
+        → AreKnown (V.pages store.now) root (8 * (index + 1)) found.new.met found.new.kinds now)) }
     ensures no { result ≡ Ok None → (root : AnyRoot)
         → page_at (V.pages store.now) root index ≡ Some page.now
-        → AreKnown (V.pages store.now) root (8 * index) met.old kinds.old sound
+        → AreKnown (V.pages store.now) root (8 * index) found.old.met found.old.kinds sound
         → IsShaped (V.pages store.now) root → ⊥ }
     ensures refused { IfErr result (λ e. e ≡ VolError.Memory) }
-    ensures count { length met.new ≡ length met.old }
-    ensures kinds { length kinds.new ≡ limits.inode_limit }
+    ensures count { length found.new.met ≡ length found.old.met }
 {
     if !is_inode_block(page) {
         return Ok(None);
@@ -157,7 +149,7 @@ fn walk_block<V: VRead>(
     for place in 0..INODES_PER_BLOCK {
         let number = INODES_PER_BLOCK as u64 * index + place as u64;
         let inode = inode_at_place(page, place);
-        let Some(now) = walk_inode(alloc, store, met, kinds, number, inode, are_sound)? else {
+        let Some(now) = walk_inode(alloc, store, found, number, inode, are_sound)? else {
             return Ok(None);
         };
         are_sound = now;
@@ -169,33 +161,29 @@ fn walk_block<V: VRead>(
 fn walk_index<V: VRead>(
     alloc: Global,
     store: &V,
-    met: &mut [bool],
-    kinds: &mut [Option<Kind>],
+    found: &mut Found,
     index: u64,
     page: Option<&Page>,
     sound: bool,
 ) -> Result<Option<bool>, VolError>
-    requires within { (v : ℕ) → IsSome (V.pages store.now v) → v < length met.old }
-    requires few { length met.old < 2 ^ 40 }
-    requires kinds { length kinds.old ≡ limits.inode_limit }
+    requires within { (v : ℕ) → IsSome (V.pages store.now v) → v < length found.old.met }
     requires index { index < 2 ^ 60 }
-    ensures yes { IfOk result (λ found. IfSome found (λ now. (root : AnyRoot)
+    ensures yes { IfOk result (λ walk. IfSome walk (λ now. (root : AnyRoot)
         → option_copied page.entry ≡ page_at (V.pages store.now) root index
-        → AreKnown (V.pages store.now) root (8 * index) met.old kinds.old sound
-        → AreKnown (V.pages store.now) root (8 * (index + 1)) met.new kinds.new now
+        → AreKnown (V.pages store.now) root (8 * index) found.old.met found.old.kinds sound
+        → AreKnown (V.pages store.now) root (8 * (index + 1)) found.new.met found.new.kinds now
         × IsBlockOf (V.pages store.now) root index)) }
     ensures no { result ≡ Ok None → (root : AnyRoot)
         → option_copied page.entry ≡ page_at (V.pages store.now) root index
-        → AreKnown (V.pages store.now) root (8 * index) met.old kinds.old sound
+        → AreKnown (V.pages store.now) root (8 * index) found.old.met found.old.kinds sound
         → IsShaped (V.pages store.now) root → ⊥ }
     ensures refused { IfErr result (λ e. e ≡ VolError.Memory) }
-    ensures count { length met.new ≡ length met.old }
-    ensures kinds { length kinds.new ≡ limits.inode_limit }
+    ensures count { length found.new.met ≡ length found.old.met }
 {
     match page {
         Some(page) => {
-            let found = walk_block(alloc, store, met, kinds, index, page, sound)?;
-            Ok(found)
+            let now = walk_block(alloc, store, found, index, page, sound)?;
+            Ok(now)
         }
         None => Ok(Some(sound)),
     }
@@ -207,28 +195,25 @@ fn walk_index<V: VRead>(
 fn walk_inodes<V: VRead>(
     alloc: Global,
     store: &V,
-    met: &mut [bool],
-    kinds: &mut [Option<Kind>],
+    found: &mut Found,
     root: &Root,
     count: u64,
 ) -> Result<Option<bool>, VolError>
-    requires within { (v : ℕ) → IsSome (V.pages store.now v) → v < length met.old }
-    requires few { length met.old < 2 ^ 40 }
+    requires within { (v : ℕ) → IsSome (V.pages store.now v) → v < length found.old.met }
     requires count { count < 2 ^ 60 }
-    requires known { AreKnown (V.pages store.now) (root_of root.now) 0 met.old kinds.old true }
-    ensures yes { IfOk result (λ found. IfSome found (λ sound.
-        AreKnown (V.pages store.now) (root_of root.now) (8 * count) met.new kinds.new sound
+    requires known { AreKnown (V.pages store.now) (root_of root.now) 0 found.old.met found.old.kinds true }
+    ensures yes { IfOk result (λ walk. IfSome walk (λ sound.
+        AreKnown (V.pages store.now) (root_of root.now) (8 * count) found.new.met found.new.kinds sound
         × ((i : ℕ) → i < count → IsBlockOf (V.pages store.now) (root_of root.now) i))) }
     ensures no { result ≡ Ok None → IsShaped (V.pages store.now) (root_of root.now) → ⊥ }
     ensures refused { IfErr result (λ e. e ≡ VolError.Memory) }
-    ensures count { length met.new ≡ length met.old }
-    ensures kinds { length kinds.new ≡ limits.inode_limit }
+    ensures count { length found.new.met ≡ length found.old.met }
 {
     let mut cursor = Cursor::new(store, *root);
     let mut sound = true;
     for index in 0..count {
         let page = cursor.page_at(index);
-        let Some(now) = walk_index(alloc, store, met, kinds, index, page, sound)? else {
+        let Some(now) = walk_index(alloc, store, found, index, page, sound)? else {
             return Ok(None);
         };
         sound = now;
@@ -241,25 +226,22 @@ fn walk_inodes<V: VRead>(
 pub(crate) fn walk_checkpoint<V: VRead>(
     alloc: Global,
     store: &V,
-    met: &mut [bool],
-    kinds: &mut [Option<Kind>],
+    found: &mut Found,
     root: &Root,
 ) -> Result<Option<Walk>, VolError>
-    requires within { (v : ℕ) → IsSome (V.pages store.now v) → v < length met.old }
-    requires few { length met.old < 2 ^ 40 }
-    requires none_met { (v : ℕ) → is_met met.old v ≡ false }
-    requires none_told { TellsInodes (V.pages store.now) (root_of root.now) 0 kinds.old true }
-    ensures yes { IfOk result (λ found. IfSome found
-        (IsWalk (V.pages store.now) (root_of root.now) met.new kinds.new)) }
+    requires within { (v : ℕ) → IsSome (V.pages store.now v) → v < length found.old.met }
+    requires none_met { (v : ℕ) → is_met found.old.met v ≡ false }
+    requires none_told { TellsInodes (V.pages store.now) (root_of root.now) 0 found.old.kinds true }
+    ensures yes { IfOk result (λ walk. IfSome walk
+        (IsWalk (V.pages store.now) (root_of root.now) found.new.met found.new.kinds)) }
     ensures no { result ≡ Ok None → IsShaped (V.pages store.now) (root_of root.now) → ⊥ }
     ensures refused { IfErr result (λ e. e ≡ VolError.Memory) }
-    ensures count { length met.new ≡ length met.old }
-    ensures kinds { length kinds.new ≡ limits.inode_limit }
+    ensures count { length found.new.met ≡ length found.old.met }
 {
-    let Some(count) = walk_file(store, met, *root) else {
+    let Some(count) = walk_file(store, &mut found.met, *root) else {
         return Ok(None);
     };
-    match walk_inodes(alloc, store, met, kinds, root, count)? {
+    match walk_inodes(alloc, store, found, root, count)? {
         Some(sound) => Ok(Some(Walk { count, sound })),
         None => Ok(None),
     }

@@ -6,6 +6,7 @@ ghost use Rattle.nl_check.specs.MetFiles.{is_met};
 ghost use Rattle.nl_check.specs.Shapes.{StandsAlone};
 ghost use Rattle.nl_check.specs.Trees.{IsSizeOf};
 
+use crate::meeting::Met;
 use crate::walking::walk_file;
 use nl_layout::Root;
 use nl_types::{BLOCK_SIZE, VolError};
@@ -14,7 +15,7 @@ use std::alloc::Global;
 
 /// The size of a file, where no number was met. None where the file has not its shape, or a number stands at
 /// two places of it.
-fn size_met<V: VRead>(store: &V, met: &mut [bool], root: Root) -> Option<u64>
+fn size_met<V: VRead>(store: &V, met: &mut Met, root: Root) -> Option<u64>
     requires within { (v : ℕ) → IsSome (V.pages store.now v) → v < length met.old }
     requires few { length met.old < 2 ^ 40 }
     requires none_met { (v : ℕ) → is_met met.old v ≡ false }
@@ -23,17 +24,6 @@ fn size_met<V: VRead>(store: &V, met: &mut [bool], root: Root) -> Option<u64>
 {
     let count = walk_file(store, met, root)?;
     Some(BLOCK_SIZE as u64 * count)
-}
-
-/// A table in which no number up to this one is met.
-fn none_met(alloc: Global, last: u64) -> Result<Vec<bool>, VolError>
-    requires { last < 2 ^ 39 }
-    ensures count { IfOk result (λ met. length met.items ≡ last + 1) }
-    ensures none { IfOk result (λ met. (v : ℕ) → is_met met.items v ≡ false) }
-    ensures refused { IfErr result (λ e. e ≡ VolError.Memory) }
-{
-    let met = vec![in alloc; false; last as usize + 1]?;
-    Ok(met)
 }
 
 /// The size that the blocks of a file have: 1,024 bytes for each index up to the last one. None where the
@@ -52,6 +42,6 @@ pub fn size_of_blocks<V: VRead>(
     ensures none { result ≡ Ok None → StandsAlone (V.pages store.now) (root_of root.now) → ⊥ }
     ensures refused { IfErr result (λ e. e ≡ VolError.Memory) }
 {
-    let mut met = none_met(alloc, last)?;
-    Ok(size_met(store, met.as_mut_slice(), *root))
+    let mut met = Met::none(alloc, last)?;
+    Ok(size_met(store, &mut met, *root))
 }

@@ -4,7 +4,7 @@ ghost use Rattle.nl_types.specs.Roots.{Tree as AnyTree, place_at};
 ghost use Rattle.nl_check.specs.MetFiles.{CanBeMet, IsWalked};
 ghost use Rattle.nl_check.specs.Private.TreePlaces.{CanMeet, IsMetUnder, IsUnder};
 
-use crate::meeting::meet;
+use crate::meeting::{Met, meet};
 use nl_layout::{Level, Node, SLOTS};
 use nl_types::VirtualNumber;
 use nl_vstore::VRead;
@@ -13,7 +13,7 @@ use nl_vstore::VRead;
 /// data there, or none where a node names nothing, or a number has no page or was met.
 fn walk_below<V: VRead>(
     store: &V,
-    met: &mut [bool],
+    met: &mut Met,
     level: u8,
     offset: u64,
     number: VirtualNumber,
@@ -65,7 +65,7 @@ pub(crate) fn indexes_below(height: u8) -> u64
 /// where it has not its shape, or has a number that was met, or one at two places.
 pub(crate) fn walk_tree<V: VRead>(
     store: &V,
-    met: &mut [bool],
+    met: &mut Met,
     height: Level,
     top: VirtualNumber,
 ) -> Option<u64>

@@ -4,7 +4,7 @@ ghost use Rattle.nl_types.specs.Roots.{OfTree, Root as AnyRoot, Chain as AnyChai
 ghost use Rattle.nl_layout.specs.Root.{root_of};
 ghost use Rattle.nl_check.specs.MetFiles.{CanBeMet, HasMet, IsLastNamed, IsNode, IsVisited, IsWalked, unmet};
 
-use crate::meeting::{meet, meet_slot};
+use crate::meeting::{Met, meet, meet_slot};
 use crate::tree_nodes::walk_tree;
 use nl_layout::{NEXT, Node, Root};
 use nl_types::{Page, VirtualNumber};
@@ -14,7 +14,7 @@ use nl_vstore::VRead;
 const DATA_SLOTS: usize = 127;
 
 /// Meets what the data slots of a chain's node name, one after another.
-fn meet_data<V: VRead>(store: &V, met: &mut [bool], page: &Page) -> bool
+fn meet_data<V: VRead>(store: &V, met: &mut Met, page: &Page) -> bool
     requires { (v : ℕ) → IsSome (V.pages store.now v) → v < length met.old }
     ensures yes { IsTrue result → (root : AnyRoot) (p : ℕ) (old : List Bool) → kind_of root ≢ OfTree
         → IsNode (V.pages store.now) root p page.now
@@ -49,11 +49,7 @@ fn last_named(page: &Page) -> usize
 }
 
 /// Meets a node of a chain, and all data that it names.
-fn meet_node<'a, V: VRead>(
-    store: &'a V,
-    met: &mut [bool],
-    number: VirtualNumber,
-) -> Option<&'a Page>
+fn meet_node<'a, V: VRead>(store: &'a V, met: &mut Met, number: VirtualNumber) -> Option<&'a Page>
     requires { (v : ℕ) → IsSome (V.pages store.now v) → v < length met.old }
     ensures page { IfSome result (λ page. V.pages store.now number ≡ Some page.now) }
     ensures yes { IsSome result → (root : AnyRoot) (p : ℕ) (old : List Bool) → kind_of root ≢ OfTree
@@ -98,7 +94,7 @@ fn end_of(page: &Page, position: u64) -> Option<u64>
 
 /// Walks a chain from its first node on. It answers how many indices lead up to its last data, or none where
 /// it has not its shape, or has a number that was met, or one at two places.
-fn walk_chain<V: VRead>(store: &V, met: &mut [bool], first: VirtualNumber) -> Option<u64>
+fn walk_chain<V: VRead>(store: &V, met: &mut Met, first: VirtualNumber) -> Option<u64>
     requires within { (v : ℕ) → IsSome (V.pages store.now v) → v < length met.old }
     requires few { length met.old < 2 ^ 40 }
     ensures yes { IfSome result (IsWalked (V.pages store.now) (AnyChain first) met.old met.new) }
@@ -125,7 +121,7 @@ fn walk_chain<V: VRead>(store: &V, met: &mut [bool], first: VirtualNumber) -> Op
 
 /// Walks the blocks of a file. It answers how many indices lead up to its last block, or none where it has
 /// not its shape, or has a number that was met, or one at two places.
-pub(crate) fn walk_file<V: VRead>(store: &V, met: &mut [bool], root: Root) -> Option<u64>
+pub(crate) fn walk_file<V: VRead>(store: &V, met: &mut Met, root: Root) -> Option<u64>
     requires within { (v : ℕ) → IsSome (V.pages store.now v) → v < length met.old }
     requires few { length met.old < 2 ^ 40 }
     ensures yes { IfSome result (IsWalked (V.pages store.now) (root_of root) met.old met.new) }

@@ -9,14 +9,13 @@ use Rattle.nl_layout.specs.declared.checkpoint_entry.CheckpointEntry.{Checkpoint
 use Rattle.nl_layout.specs.declared.inode.Inode.{Inode}
 use Rattle.nl_files.specs.CheckpointRoots.{inode_root}
 use Rattle.nl_ifile.specs.Inodes.{block_for, inode_at, inode_in}
-use Rattle.nl_check.specs.Conditions.{IsSoundTree, Told}
 use Rattle.nl_check.specs.MetFiles.{is_met}
 use Rattle.nl_check.specs.Shapes.{At, HasShape, Of, Owner, root_for}
 use Rattle.nl_check.specs.Trees.{IsSizeOf, IsTreeOf}
 use Rattle.nl_check.specs.Private.AlikeNames.{AreFiles}
 use Rattle.nl_check.specs.Private.SoundInodes.{IsSoundInode, TellsAll, kind_in, kind_told}
 use Rattle.nl_check.specs.Private.TreePlaces.{IsUnder}
-use Rattle.nl_check.specs.Private.Walks.{AreSoundAt, IsBlockOf, IsMetWhole, IsMetWholeAt}
+use Rattle.nl_check.specs.Private.Walks.{IsBlockOf, IsMetWhole}
 use Rattle.nl_check.specs.declared.differing.ChangedFile.{ChangedFile}
 
 -- ---- places of one file
@@ -233,11 +232,3 @@ pub record IsToldStill (files : List ChangedFile) (count : ℕ) (last entry : Ch
   pub size : entry.size ≡ 1024 * count
   pub inodes : entry.inodes ≡ last.inodes
   pub files_still : AreFilesStill files (length files)
-
--- The checkpoint that an entry tells of is good: it has its shape, and its numbers are met. If it is asked, its
--- inodes are sound and of these kinds, and hold a tree.
-pub record IsGoodBeside (pages : Pages) (entry : Told) (numbers : List Bool) (kinds : List (Option Kind))
-    (asked : Bool) : Type 0 where
-  pub known : IsMetWholeAt pages entry numbers
-  pub sound : asked ≡ true → AreSoundAt pages entry kinds
-  pub tree : asked ≡ true → IsSoundTree pages entry

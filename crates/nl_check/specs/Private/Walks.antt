@@ -3,7 +3,7 @@ use Rattle.std.specs.Prelude.{◌≡◌, ℕ, ◌*◌, ◌<◌, Bool, true, List
 use Rattle.nl_types.specs.declared.kind.Kind.{Kind}
 use Rattle.nl_types.specs.Roots.{Pages, Root, page_at}
 use Rattle.nl_ifile.specs.Inodes.{block_for, in_block, inode_at}
-use Rattle.nl_check.specs.Conditions.{Told}
+use Rattle.nl_check.specs.Conditions.{IsSoundTree, Told}
 use Rattle.nl_check.specs.MetFiles.{is_met}
 use Rattle.nl_check.specs.Periods.{AreMetIn}
 use Rattle.nl_check.specs.Shapes.{At, HasShape, IsShaped, Itself, Of, Owner, met, root_for}
@@ -56,6 +56,14 @@ IsMetWholeAt pages c numbers = (root : Root) × (c.root ≡ Some root) × IsMetW
 -- a table has the kinds of its inodes, and each of these is sound
 abbrev pub AreSoundAt : Pages → Told → List (Option Kind) → Type 0
 AreSoundAt pages c kinds = (root : Root) × (c.root ≡ Some root) × TellsAll pages root kinds true
+
+-- The checkpoint that an entry tells of is good: it has its shape, and its numbers are met. If it is asked,
+-- its inodes are sound and of these kinds, and hold a tree.
+pub record IsGood (pages : Pages) (c : Told) (numbers : List Bool) (kinds : List (Option Kind))
+    (asked : Bool) : Type 0 where
+  pub known : IsMetWholeAt pages c numbers
+  pub sound : asked ≡ true → AreSoundAt pages c kinds
+  pub tree : asked ≡ true → IsSoundTree pages c
 
 -- a checkpoint is met, and its inodes are told
 pub record IsWalk (pages : Pages) (root : Root) (numbers : List Bool) (kinds : List (Option Kind))

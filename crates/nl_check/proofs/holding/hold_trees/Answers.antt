@@ -1,5 +1,6 @@
-use Rattle.std.proofs.Common.{◌≡◌, Bool, false, subst, sym}
+use Rattle.std.proofs.Common.{◌≡◌, Bool, false, List, Option, subst, sym}
 use Rattle.std.specs.Prelude.{IsTrue}
+use Rattle.nl_types.specs.declared.kind.Kind.{Kind}
 use Rattle.nl_layout.specs.Root.{root_of}
 use Rattle.nl_check.specs.Private.Naming.{HasKindsOf}
 use Rattle.nl_check.specs.Trees.{IsTreeOf}
@@ -12,7 +13,9 @@ holds_tree-requires g c = (
   c.args.kinds.now,
   c.requires.1,
   subst (HasKindsOf c.args.walk.now.count c.args.kinds.now) (sym c.as_mut_slice.ensures.value)
-      c.in_ok-awaited.ensures.kinds,
+      (subst (λ (kinds : List (Option Kind)).
+      HasKindsOf c.args.walk.now.count kinds c.in_ok-awaited.awaited.items)
+      c.as_slice.ensures.kinds c.in_ok-awaited.ensures.kinds),
 )
 
 pub returns-clause-yes : goal.returns-clause-yes

@@ -5,7 +5,7 @@ use Rattle.nl_check.proofs.kinds.note_kinds.Given as goal
 
 abbrev pub invariant-loop-file : goal.invariant-loop-file
 invariant-loop-file l = record {
-  count : length l.kinds ≡ 524288;
+  count : length l.kinds ≡ length l.initial.kinds;
   noted : (now : ℕ → Option Inode) → HaveLater l.files now
       → AreNoted now l.files l.file-index l.initial.kinds l.kinds;
 }

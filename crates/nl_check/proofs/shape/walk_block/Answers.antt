@@ -19,11 +19,10 @@ pub loop-place-init : goal.loop-place-init
 loop-place-init g c = record {
   count = refl;
   within = c.requires.within;
-  kinds = c.requires.kinds;
   known = λ root at k.
       let e : 8 * c.args.index ≡ 8 * c.args.index + 0 = omega arith in
       subst (λ (n : ℕ).
-      AreKnown (g.V.VRead.pages c.args.store.now) root n c.args.met.now c.args.kinds.now c.args.sound)
+      AreKnown (g.V.VRead.pages c.args.store.now) root n c.args.found.now.met c.args.found.now.kinds c.args.sound)
       e k;
 }
 
@@ -46,11 +45,10 @@ loop-place-preserved g c =
           let low = c.loop-place.invariant.within v s in
           let same = c.walk_inode.ensures.count in
           omega (arith, low, same);
-      kinds = c.walk_inode.ensures.kinds;
       known = λ root at k.
           let e : 8 * c.args.index + c.loop-place.place + 1 ≡ 8 * c.args.index + (c.loop-place.place + 1) =
           omega arith in
-          subst (λ (n : ℕ). AreKnown pages root n c.walk_inode.new.met c.walk_inode.new.kinds c.in-Some.now) e
+          subst (λ (n : ℕ). AreKnown pages root n c.walk_inode.new.found.met c.walk_inode.new.found.kinds c.in-Some.now) e
           (known root
           (inode-at-place pages root c.args.index c.loop-place.place
           (8 * c.args.index + c.loop-place.place) c.args.page.now c.inode_at_place-inode.result refl
@@ -64,6 +62,6 @@ returns-clause-yes g c = λ root at k.
     omega (arith, c.loop-place-test.false, c.loop-place.auto.place-end) in
     subst (λ (n : ℕ).
     AreKnown
-    (g.V.VRead.pages c.args.store.now) root n c.loop-place.met c.loop-place.kinds c.loop-place.are_sound)
+    (g.V.VRead.pages c.args.store.now) root n c.loop-place.found.met c.loop-place.found.kinds c.loop-place.are_sound)
     e
     (c.loop-place.invariant.known root at k)

@@ -8,10 +8,9 @@ abbrev pub invariant-loop-place : goal.invariant-loop-place
 invariant-loop-place g l =
     let pages = g.V.VRead.pages l.store in
     record {
-      count : length l.met ≡ length l.initial.met;
-      within : (v : ℕ) → IsSome (pages v) → v < length l.met;
-      kinds : length l.kinds ≡ 524288;
+      count : length l.found.met ≡ length l.initial.found.met;
+      within : (v : ℕ) → IsSome (pages v) → v < length l.found.met;
       known : (root : Root) → page_at pages root l.index ≡ Some l.page
-          → AreKnown pages root (8 * l.index) l.initial.met l.initial.kinds l.fn.sound
-          → AreKnown pages root (8 * l.index + l.place) l.met l.kinds l.are_sound;
+          → AreKnown pages root (8 * l.index) l.initial.found.met l.initial.found.kinds l.fn.sound
+          → AreKnown pages root (8 * l.index + l.place) l.found.met l.found.kinds l.are_sound;
     }

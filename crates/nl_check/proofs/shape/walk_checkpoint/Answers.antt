@@ -11,13 +11,13 @@ returns-in_default-clause-no g c = λ _ s.
     let pages : Pages = g.V.VRead.pages c.args.store.now in
     missing-at _ c.walk_file.result c.walk_file.ensures.no
     (none-from c.walk_file.result c.in_default.not-Some)
-    (first-can pages (root_of c.args.root.now) c.args.met.now c.requires.none_met s)
+    (first-can pages (root_of c.args.root.now) c.args.found.now.met c.requires.none_met s)
 
 pub walk_inodes-requires-clause-known : goal.walk_inodes-requires-clause-known
 walk_inodes-requires-clause-known g c =
     let pages : Pages = g.V.VRead.pages c.args.store.now in
     known-first pages
-    (root_of c.args.root.now) c.args.met.now c.walk_file.new.met c.in-Some.count c.args.kinds.now
+    (root_of c.args.root.now) c.args.found.now.met c.walk_file.new.met c.in-Some.count c.args.found.now.kinds
     c.requires.none_met
     c.in-Some.ensures.yes c.requires.none_told
 
@@ -26,6 +26,6 @@ returns-in-Some-2-clause-yes g c =
     let walk : Walk = record { count = c.in-Some.count; sound = c.in-Some-2.sound } in
     let found = found-at _ c.in_ok-sound.field-0 c.in-Some-2.sound c.in_ok-sound.ensures.yes c.in-Some-2.is in
     walk-of (g.V.VRead.pages c.args.store.now)
-    (root_of c.args.root.now) walk c.args.met.now c.walk_file.new.met c.walk_inodes.new.met
-    c.walk_inodes.new.kinds
+    (root_of c.args.root.now) walk c.args.found.now.met c.walk_file.new.met c.walk_inodes.new.found.met
+    c.walk_inodes.new.found.kinds
     c.in-Some.ensures.yes found.1 found.0

@@ -11,7 +11,6 @@ loop-index-init g c = record {
   root = c.new-cursor.ensures.root;
   count = refl;
   within = c.requires.within;
-  kinds = c.requires.known.told.count;
   known = c.requires.known;
   blocks = λ i low. absurd (omega (arith, low));
 }
@@ -39,7 +38,6 @@ loop-index-preserved g c =
           let low = c.loop-index.invariant.within v s in
           let same = c.walk_index.ensures.count in
           omega (arith, low, same);
-      kinds = c.walk_index.ensures.kinds;
       known = step.0;
       blocks =
           below-more (IsBlockOf pages (root_of c.args.root.now)) c.loop-index.index

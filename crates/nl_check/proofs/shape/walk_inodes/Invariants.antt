@@ -10,9 +10,8 @@ invariant-loop-index g l =
     record {
       store : l.cursor.store.now ≡ l.store;
       root : l.cursor.root ≡ l.root;
-      count : length l.met ≡ length l.initial.met;
-      within : (v : ℕ) → IsSome (pages v) → v < length l.met;
-      kinds : length l.kinds ≡ 524288;
-      known : AreKnown pages (root_of l.root) (8 * l.index) l.met l.kinds l.sound;
+      count : length l.found.met ≡ length l.initial.found.met;
+      within : (v : ℕ) → IsSome (pages v) → v < length l.found.met;
+      known : AreKnown pages (root_of l.root) (8 * l.index) l.found.met l.found.kinds l.sound;
       blocks : (i : ℕ) → i < l.index → IsBlockOf pages (root_of l.root) i;
     }

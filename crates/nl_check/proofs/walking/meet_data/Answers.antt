@@ -1,4 +1,4 @@
-use Rattle.std.proofs.Common.{◌≡◌, ◌+◌, ◌*◌, ℕ, suc, arith, subst}
+use Rattle.std.proofs.Common.{◌≡◌, ◌∙◌, ◌+◌, ◌*◌, ℕ, suc, arith, subst}
 use Rattle.nl_check.specs.MetFiles.{HasMet, IsVisited}
 use Rattle.nl_check.proofs.MetPlaces.{met-data, no-data, slot-fewer}
 use Rattle.nl_check.proofs.walking.meet_data.Goals as goal
@@ -17,6 +17,7 @@ loop-slot-preserved g c =
     record {
       within = λ v s.
           let low = c.loop-slot.invariant.within v s in omega (arith, low, c.meet_slot.ensures.count);
+      same_count = c.meet_slot.ensures.count ∙ c.loop-slot.invariant.same_count;
       fewer =
           let less =
           slot-fewer pages c.loop-slot.slot c.args.page.now c.loop-slot.met c.meet_slot.new.met meets in

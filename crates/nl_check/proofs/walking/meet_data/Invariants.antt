@@ -1,4 +1,4 @@
-use Rattle.std.proofs.Common.{◌≢◌, ◌+◌, ◌*◌, ◌<◌, ◌≤◌, ℕ, suc, Bool, List, length}
+use Rattle.std.proofs.Common.{◌≡◌, ◌≢◌, ◌+◌, ◌*◌, ◌<◌, ◌≤◌, ℕ, suc, Bool, List, length}
 use Rattle.std.specs.Option.{IsSome}
 use Rattle.nl_types.specs.Roots.{OfTree, Root, kind_of}
 use Rattle.nl_check.specs.MetFiles.{HasMet, IsNode, IsVisited, unmet}
@@ -7,6 +7,7 @@ use Rattle.nl_check.proofs.walking.meet_data.Given as goal
 abbrev pub invariant-loop-slot : goal.invariant-loop-slot
 invariant-loop-slot g l = record {
   within : (v : ℕ) → IsSome (g.V.VRead.pages l.store v) → v < length l.met;
+  same_count : length l.met ≡ length l.initial.met;
   fewer : unmet l.met ≤ unmet l.initial.met;
   walked : (root : Root) (p : ℕ) (old : List Bool) → kind_of root ≢ OfTree
       → IsNode (g.V.VRead.pages l.store) root p l.page

@@ -20,6 +20,7 @@ nodes-init g c =
     let there = top-there pages c.args.first (λ e. c.if-get-eq0.false (c.get.ensures ∙ e)) in
     record {
       within = c.requires.within;
+      same_count = refl;
       left = let most = unmet-most c.args.met.now in omega (arith, most);
       top = ap is_some there;
       at = there;
@@ -43,6 +44,7 @@ nodes-preserved g c =
     record {
       within = λ v s.
           let low = c.nodes.invariant.within v s in omega (arith, low, c.in_ok-page.ensures.count);
+      same_count = c.in_ok-page.ensures.count ∙ c.nodes.invariant.same_count;
       left =
           let less = c.in_ok-page.ensures.fewer refl in
           let before = c.nodes.invariant.left in

@@ -7,6 +7,7 @@ use Rattle.nl_check.proofs.walking.walk_chain.Given as goal
 abbrev pub invariant-nodes : goal.invariant-nodes
 invariant-nodes g l = record {
   within : (v : ℕ) → IsSome (g.V.VRead.pages l.store v) → v < length l.met;
+  same_count : length l.met ≡ length l.initial.met;
   left : l.position + unmet l.met ≤ length l.initial.met;
   top : IsSome (place_at (g.V.VRead.pages l.store) (Chain l.fn.first) 1 0);
   at : place_at (g.V.VRead.pages l.store) (Chain l.fn.first) 1 l.position ≡ Some l.number;
