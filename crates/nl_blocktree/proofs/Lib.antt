@@ -1,7 +1,6 @@
 pub mod Places
 pub mod Kept
 pub mod Renewal
-pub mod WalkedBlocks
 pub mod TreeEdits
 pub mod TreeAbove
 mod TreeClimbs
@@ -20,5 +19,4 @@ pub mod TreeClimbing
 pub mod TreeHeights
 pub mod TreeRoots
 pub mod TreeReading
-pub mod WalkedTrees
 pub mod UnchangedNodes

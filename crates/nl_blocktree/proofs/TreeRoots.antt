@@ -20,7 +20,7 @@ use Rattle.nl_blocktree.specs.Private.Edits.{IsToldFrom, TellsAll}
 use Rattle.nl_blocktree.specs.Private.Renewing.{AreOfData, HasBegun, IsChainRenewed, IsClimbed, IsFileRenewed, IsLowered, IsNewTree, IsRenewed, IsRootRenewed}
 use Rattle.nl_blocktree.specs.Private.TreeLevels.{HasKept, data_alone, kept_levels}
 use Rattle.nl_blocktree.specs.Private.Writing.{PutsData}
-use Rattle.nl_blocktree.specs.Facts.Frames.{births-keep, cases-Option, keeps-file, more-keep, raw-numbered}
+use Rattle.nl_blocktree.specs.Facts.Frames.{births-keep, keeps-file, more-keep, raw-numbered}
 use Rattle.nl_blocktree.specs.Facts.Numbers.{born-append, unused_of_fits}
 use Rattle.nl_blocktree.proofs.Places.{above}
 use Rattle.nl_blocktree.specs.Facts.Staying.{unwritten}
@@ -199,13 +199,6 @@ chain_named pages (Chain top) k i v e z =
     child_named (option_and_then pages (chain_node pages top (i / 127))) (i % 127) v e z
 
 -- what stands in a slot of a chain stands in the file
-pub slot_near : (pages : Pages) (root : Root) (nodes slots : List ℕ) → IsSound pages root
-    → ChainAsLists pages root nodes slots → (i : ℕ) → get_or slots i 0 ≢ 0 → i < 262144
-slot_near pages root nodes slots sound lists i n = elim (cases-Option (place_at pages root 0 i)) [
-  | inl e ↦ absurd (n (sym (lists.slots_at i) ∙ ap raw e))
-  | inr e ↦ sound.in_range 0 i e.0 e.1
-]
-
 pub told_from : (pages : Pages) (root : Root) (nodes slots : List ℕ) (edits told : List Edit)
     → ChainAsLists pages root nodes slots → TellsAll slots edits told → kind_of root ≡ OfChain
     → IsToldFrom pages root told

@@ -101,12 +101,3 @@ full_of pages height top shape l offset v e =
     below_top_level (inl far) =
         let no : None ≡ Some v = sym (tree_above pages height top (suc l) offset far) ∙ e in cc
     below_top_level (inr low) = omega arith
-
--- a tree whose blocks stand below index 262,144 has at most three levels of nodes
-pub at_most_3 : (pages : Pages) (height top : ℕ) → HasTreeShape pages (Tree height top)
-    → ((i v : ℕ) → place_at pages (Tree height top) 0 i ≡ Some v → i < 262144) → height ≤ 3
-at_most_3 pages height top shape range =
-    let w = shape.least in
-    let x = some-of (place_at pages (Tree height top) 0 w.0) w.1 in
-    let b = range w.0 x.0 x.1 in
-    w.2 3 (omega arith) (omega arith)

@@ -13,10 +13,8 @@ mod put;
 mod read;
 mod slots;
 mod tree;
-mod walking;
 
 pub use change::BlockChange;
 pub use cursor::Cursor;
 pub use put::put_all;
 pub use read::get;
-pub use walking::{PlacedBlock, WalkError, walk};

@@ -68,7 +68,7 @@ fn make_room(slots: &mut Vec<VirtualNumber>, room: usize) -> Result<(), VolError
 }
 
 /// Takes the holes off the end of the slots.
-pub(crate) fn trim(slots: &mut Vec<VirtualNumber>)
+fn trim(slots: &mut Vec<VirtualNumber>)
     ensures same { (i : ℕ) → slice_index slots.new.items i ≡ slice_index slots.old.items i }
     ensures shorter { length slots.new.items ≤ length slots.old.items }
     ensures tight { (n : ℕ) → length slots.new.items ≡ n + 1 → slice_index slots.new.items n ≢ 0 }

@@ -39,7 +39,7 @@ pub(crate) fn edit_alone(alloc: Global, offset: u64, number: VirtualNumber) -> E
 }
 
 /// The slots of a node that there may be: where there is none, they name nothing.
-pub(crate) fn old_slots<V: VRead>(store: &V, old: Option<VirtualNumber>) -> [VirtualNumber; SLOTS]
+fn old_slots<V: VRead>(store: &V, old: Option<VirtualNumber>) -> [VirtualNumber; SLOTS]
     ensures slots { (s : ℕ) → s < 128 → numbered (slice_index result s) ≡ child (V.pages store.now) s old }
     ensures count { length result ≡ 128 }
 {
@@ -67,7 +67,7 @@ fn put_edits(slots: &mut [VirtualNumber], offset: u64, group: &[Edit])
 }
 
 /// Whether no slot names anything.
-pub(crate) fn names_none(slots: &[VirtualNumber]) -> bool
+fn names_none(slots: &[VirtualNumber]) -> bool
     ensures none { IsTrue result → (s : ℕ) → s < length slots.now → slice_index slots.now s ≡ 0 }
     ensures some { result ≡ false → (s : ℕ) × (s < length slots.now) × (slice_index slots.now s ≢ 0) }
 {

@@ -38,3 +38,4 @@ pub mod NamesStay
 pub mod StepPlaces
 pub mod StepsBeside
 pub mod TreesBeside
+pub mod SoundRoots

@@ -38,10 +38,14 @@ pub record HasMet (pages : Pages) (root : Root) (Visited : ℕ × ℕ → Type 0
   pub only : (v : ℕ) → is_met new v ≡ true
       → (is_met old v ≡ true) ⊎ ((at : ℕ × ℕ) × Visited at × (places pages root at ≡ Some v))
 
+-- no number of the file was met
+abbrev pub IsUnmet : Pages → Root → List Bool → Type 0
+IsUnmet pages root old = (at : ℕ × ℕ) (v : ℕ) → places pages root at ≡ Some v → is_met old v ≡ false
+
 -- the file has its shape, and no number of it was met before or has two places
 pub record CanBeMet (pages : Pages) (root : Root) (old : List Bool) : Type 0 where
   pub shape : HasShape pages root
-  pub fresh : (at : ℕ × ℕ) (v : ℕ) → places pages root at ≡ Some v → is_met old v ≡ false
+  pub fresh : IsUnmet pages root old
   pub once : (a b : ℕ × ℕ) (v : ℕ) → places pages root a ≡ Some v → places pages root b ≡ Some v → a ≡ b
 
 -- the node at a position, and its page

@@ -1,5 +1,5 @@
-//! Checks of the checkpoints of an image: the shape of their blocks, the trees that their inodes hold, and
-//! the periods of their numbers.
+//! The walk of a file's blocks, and checks of the checkpoints of an image: the shape of their blocks, the trees
+//! that their inodes hold, and the periods of their numbers.
 #![tactic(auto)]
 
 mod beside;
@@ -27,4 +27,6 @@ mod turns;
 mod walking;
 
 pub use checks::first_fault;
+pub use meeting::Met;
 pub use sizes::size_of_blocks;
+pub use walking::walk_file;

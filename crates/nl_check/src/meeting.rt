@@ -11,7 +11,7 @@ use std::marker::Model;
 
 /// Which numbers were met. Contracts see for each number that has a place whether it was.
 #[derive(Drop)]
-pub(crate) struct Met {
+pub struct Met {
     places: Vec<bool>,
 }
 
@@ -25,7 +25,7 @@ impl Model for Met {
 
 impl Met {
     /// A table with a place for each number up to the last one. None is met. Refused by `Memory` alone.
-    pub(crate) fn none(alloc: Global, last: u64) -> Result<Met, VolError>
+    pub fn none(alloc: Global, last: u64) -> Result<Met, VolError>
         requires { last < 2 ^ 39 }
         ensures count { IfOk result (λ met. length met ≡ last + 1) }
         ensures none { IfOk result (λ met. (v : ℕ) → is_met met v ≡ false) }
@@ -43,7 +43,7 @@ impl Met {
     }
 
     /// Whether a number was met.
-    pub(crate) fn has(&self, number: VirtualNumber) -> bool
+    pub fn has(&self, number: VirtualNumber) -> bool
         ensures { result ≡ is_met self.now number }
     {
         match self.places.get(number.get() as usize) {

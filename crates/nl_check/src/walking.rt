@@ -1,8 +1,10 @@
 //! The blocks of a file, met one after another.
 ghost use Rattle.std.specs.Prelude.{◌≡◌, ◌≢◌, ◌<◌, ◌≤◌, ◌+◌, ◌*◌, ◌^◌, ℕ, suc, List, Bool, length, IsTrue, IsSome, IfSome, IfNone, Some, false};
+ghost use Rattle.nl_types.specs.Limits as limits;
+ghost use Rattle.nl_types.specs.RootChanges.{IsSound};
 ghost use Rattle.nl_types.specs.Roots.{OfTree, Root as AnyRoot, Chain as AnyChain, kind_of, place_at, slot};
 ghost use Rattle.nl_layout.specs.Root.{root_of};
-ghost use Rattle.nl_check.specs.MetFiles.{CanBeMet, HasMet, IsLastNamed, IsNode, IsVisited, IsWalked, unmet};
+ghost use Rattle.nl_check.specs.MetFiles.{CanBeMet, HasMet, IsLastNamed, IsNode, IsUnmet, IsVisited, IsWalked, unmet};
 
 use crate::meeting::{Met, meet, meet_slot};
 use crate::tree_nodes::walk_tree;
@@ -119,13 +121,20 @@ fn walk_chain<V: VRead>(store: &V, met: &mut Met, first: VirtualNumber) -> Optio
     }
 }
 
-/// Walks the blocks of a file. It answers how many indices lead up to its last block, or none where it has
-/// not its shape, or has a number that was met, or one at two places.
-pub(crate) fn walk_file<V: VRead>(store: &V, met: &mut Met, root: Root) -> Option<u64>
+/// Walks the blocks of a file, data and nodes, on any pages: each number is met, in a table that has a place
+/// for each number in use. It answers how many indices lead up to the last block.
+///
+/// None where the file has not its shape, or a number that was met before, or one at two places. Then any
+/// numbers may be met. It takes no memory.
+pub fn walk_file<V: VRead>(store: &V, met: &mut Met, root: Root) -> Option<u64>
     requires within { (v : ℕ) → IsSome (V.pages store.now v) → v < length met.old }
     requires few { length met.old < 2 ^ 40 }
     ensures yes { IfSome result (IsWalked (V.pages store.now) (root_of root) met.old met.new) }
     ensures no { IfNone result (CanBeMet (V.pages store.now) (root_of root) met.old → ⊥) }
+    ensures sound { IfSome result (λ count. count ≤ limits.index_limit
+        → IsSound (V.pages store.now) (root_of root)) }
+    ensures in_use { IsSound (V.pages store.now) (root_of root)
+        → IsUnmet (V.pages store.now) (root_of root) met.old → IsSome result }
     ensures small { IfSome result (λ count. count < 2 ^ 50) }
     ensures count { length met.new ≡ length met.old }
 {

@@ -1,16 +1,15 @@
-//! A walk of the blocks of a root, which no layer above asks for. Rows of `tests/data/events` show what
-//! checkpoints of trees write.
+//! A walk of the blocks of a root over a store. Rows of `tests/data/events` show what checkpoints of trees write.
 ghost use Rattle.std.specs.Prelude.{◌≡◌, [], IfOk, OnOk};
 
 use crate::logs::{NONE_FAILS, space};
-use nl_blocktree::{WalkError, walk};
+use nl_check::{Met, walk_file};
 use nl_dat::Dat;
 use nl_device::FaultDevice;
 use nl_files::settle;
 use nl_layout::Root;
 use nl_segwriter::LogSpace;
 use nl_tree::CurrentTree;
-use nl_types::{CheckpointNumber, VolError};
+use nl_types::{CheckpointNumber, VirtualNumber, VolError};
 use nl_vstore::{Batch, Vstore};
 use std::alloc::Global;
 use std::marker::Model;
@@ -75,21 +74,33 @@ impl Trees {
         Ok(batch)
     }
 
-    /// Whether the file of inodes has so many blocks. Refused by `BadImage` where it can't be in use.
-    fn has_blocks(&self, alloc: Global, due: usize) -> Result<bool, VolError> {
-        match walk(alloc, &self.store, self.root) {
-            Ok(blocks) => Ok(blocks.len() == due),
-            Err(WalkError::Memory) => Err(VolError::Memory),
-            Err(_) => Err(VolError::BadImage(8)),
+    /// How many blocks the file of inodes has, data and nodes, or none where it has not its shape.
+    fn block_count(&self, alloc: Global) -> Result<Option<u64>, VolError> {
+        let last = self.store.capacity();
+        let mut met = Met::none(alloc, last)?;
+        match walk_file(&self.store, &mut met, self.root) {
+            Some(_) => Ok(Some(met_count(&met, last))),
+            None => Ok(None),
         }
     }
+}
+
+/// How many numbers were met, from 1 to the last one.
+fn met_count(met: &Met, last: u64) -> u64 {
+    let mut count: u64 = 0;
+    for below in 0..last {
+        if met.has(VirtualNumber::new(below + 1)) {
+            count = count.saturating_add(1);
+        }
+    }
+    count
 }
 
 /// Whether the first checkpoint has a block of inodes and its node, and nothing else.
 fn has_two_blocks(alloc: Global) -> Result<bool, VolError> {
     let mut trees = Trees::new(alloc)?;
     match trees.checkpoint(alloc) {
-        Ok(_written) => trees.has_blocks(alloc, 2),
+        Ok(_written) => Ok(trees.block_count(alloc)? == Some(2)),
         Err(refusal) => Err(refusal),
     }
 }

@@ -82,43 +82,6 @@ pub raw-slot : (s : ℕ) (o : Option (List ℕ))
 raw-slot s None = refl
 raw-slot s (Some page) = raw-numbered _
 
--- what a listed chain has at its places
-pub listed-data : (pages : Pages) (root : Root) (nodes : List ℕ) (slots : List ℕ) → kind_of root ≢ OfTree
-    → ChainAsLists pages root nodes slots →
-    (i : ℕ) → place_at pages root 0 i ≡ names slots i
-listed-data pages root nodes slots t l i =
-    let e = data-place pages root i t in
-    e
-    ∙ (sym (raw-slot (i % 127) (option_and_then pages (place_at pages root 1 (i / 127))))
-    ∙ ap numbered (sym (ap raw e) ∙ l.slots_at i))
-
-pub chain-of : (pages : Pages) (root : Root) (p v : ℕ) → kind_of root ≢ OfTree
-    → place_at pages root 1 p ≡ Some v → kind_of root ≡ OfChain
-unfolding place_at
-chain-of pages Empty p v t e = cc
-chain-of pages (Chain top) p v t e = refl
-chain-of pages (Tree height top) p v t e = absurd (t refl)
-
--- the same changes of the same map
-pub blocks_with-same : (changes : List BlockChange) (f g : Pages) (i : ℕ) → f i ≡ g i
-    → blocks_with changes f i ≡ blocks_with changes g i
-blocks_with-same [] f g i e = e
-blocks_with-same (c ∷ cs) f g i e = step (cases_eq i c.index) (blocks_with-same cs f g i e)
-  where
-    step : (i ≡ c.index) ⊎ (i ≡ c.index → ⊥) → blocks_with cs f i ≡ blocks_with cs g i
-        → blocks_with (c ∷ cs) f i ≡ blocks_with (c ∷ cs) g i
-    step (inl k) h = rw (eq-eqb i c.index k) refl
-    step (inr k) h = rw (ne_eqb i c.index k) h
-
--- and after more room was made for its slots
-pub data-places : {pages : Pages} {root : Root} {nodes : List ℕ} {slots : List ℕ} (more given : List ℕ)
-    → kind_of root ≢ OfTree → ChainAsLists pages root nodes slots →
-    ((i : ℕ) → get_or more i 0 ≡ get_or slots i 0) → given ≡ more → (i : ℕ)
-    → place_at pages root 0 i ≡ names given i
-data-places {pages} {root} {nodes} {slots} more given t l same e i =
-    listed-data pages root nodes slots t l i
-    ∙ (ap numbered (sym (same i)) ∙ ap (λ (xs : List ℕ). names xs i) (sym e))
-
 pub nothing-sound : (pages : Pages) → IsSound pages Empty
 unfolding place_at
 nothing-sound pages = record {

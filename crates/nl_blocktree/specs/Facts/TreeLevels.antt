@@ -35,12 +35,6 @@ tree_child pages height top level offset l =
     ∙ ap (child pages (offset % 128))
     (sym (tree_place pages height top (suc level) (offset / 128) (omega arith))))
 
--- a tree has these levels
-pub levels_of : (pages : Pages) (height top : ℕ)
-    → AreLevels pages height top (place_at pages (Tree height top))
-levels_of pages height top =
-    record { tops = tree_top pages height top; children = tree_child pages height top }
-
 levels_down : (pages : Pages) (height top : ℕ) (levels : Levels) → AreLevels pages height top levels →
     (d level offset : ℕ) → level + d ≡ height
     → place_at pages (Tree height top) level offset ≡ levels level offset

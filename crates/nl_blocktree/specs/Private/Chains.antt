@@ -1,8 +1,7 @@
 -- A chain as lists: its nodes' numbers, and the numbers in all its slots, one node after the other.
 use Rattle.std.specs.Prelude.{◌≡◌, ℕ, List, slice_index, slice_get, Option, None}
-use Rattle.std.specs.Option.{option_and_then, unwrap_or}
-use Rattle.nl_types.specs.Entries.{Content}
-use Rattle.nl_types.specs.Roots.{Blocks, Pages, Root, Empty, Chain, Tree, numbered, pages_of, place_at}
+use Rattle.std.specs.Option.{unwrap_or}
+use Rattle.nl_types.specs.Roots.{Pages, Root, Empty, Chain, Tree, numbered, place_at}
 
 -- the number of a slot, 0 for none
 abbrev pub raw : Option ℕ → ℕ
@@ -11,10 +10,6 @@ raw o = unwrap_or o 0
 -- what a slot names
 abbrev pub names : List ℕ → ℕ → Option ℕ
 names slots i = numbered (slice_index slots i)
-
--- the page under the number in a slot
-abbrev pub slot_page : Content → List ℕ → Blocks
-slot_page content slots i = option_and_then (pages_of content) (names slots i)
 
 -- the first node of a chain
 abbrev pub top_of : Root → Option ℕ

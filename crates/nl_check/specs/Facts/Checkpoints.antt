@@ -62,7 +62,7 @@ unfolding place_at
 chain-nowhere pages top level offset v h = cc
 
 -- where the data of a file has low indices, so has every block of it
-low-offsets : (pages : Pages) (root : Root) → HasShape pages root
+pub low-offsets : (pages : Pages) (root : Root) → HasShape pages root
     → ((i v : ℕ) → place_at pages root 0 i ≡ Some v → i < 262144)
     → (level offset v : ℕ) → place_at pages root level offset ≡ Some v → offset < 262144
 low-offsets pages root shape low zero offset v at = low offset v at
