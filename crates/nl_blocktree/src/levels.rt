@@ -5,56 +5,44 @@ ghost use Rattle.nl_types.specs.Limits as limits;
 ghost use Rattle.nl_types.specs.Roots.{numbered, pages_of};
 ghost use Rattle.nl_layout.specs.Root.{root_of};
 ghost use Rattle.nl_vstore.specs.Stores.{content_in};
-ghost use Rattle.nl_blocktree.specs.Private.Edits.{Above, ComesBefore, IsEdited, IsTold, KnowAbove, begins_low, edit_of, top_edits, with_front};
+ghost use Rattle.nl_blocktree.specs.Private.Edits.{Above, IsEdited, KnowAbove, begins_low, edit_of, top_edits, with_front};
 ghost use Rattle.nl_blocktree.specs.Numbering.{CanTake};
 ghost use Rattle.nl_blocktree.specs.Putting.{GoesOn};
-ghost use Rattle.nl_blocktree.specs.Private.Renewing.{IsClimbed};
-ghost use Rattle.nl_blocktree.specs.Private.TreeLevels.{HasKept, kept_in, tree_height};
+ghost use Rattle.nl_blocktree.specs.Private.Renewing.{CanClimb, CanWriteAbove, IsClimbed};
+ghost use Rattle.nl_blocktree.specs.Private.TreeLevels.{kept_in, tree_height};
 ghost use Rattle.nl_blocktree.specs.Private.Writing.{PutsUp};
 
 use crate::read::named;
-use crate::tree::{Edit, edit_alone, put_node};
+use crate::tree::{Edit, OldFile, edit_alone, put_node};
 use nl_layout::{Level, Root, SLOTS};
-use nl_types::{InodeNumber, VirtualNumber, VolError};
+use nl_types::{VirtualNumber, VolError};
 use nl_vstore::{Batch, Vstore};
 use smallvec::SmallVec;
 use std::alloc::{AllocError, Global};
 
 /// Writes the nodes above some edits, level by level up to a height. Answers the number at the top.
 pub(crate) fn climb<V: Vstore>(
-    alloc: Global,
-    store: &V,
+    file: &OldFile<'_, V>,
     batch: &mut Batch,
-    inode: InodeNumber,
-    root: &Root,
     below: u8,
     height: u8,
     edits: &[Edit],
 ) -> Result<VirtualNumber, VolError>
-    requires fits { CanTake (V.store store.now) batch.old }
-    requires kept { HasKept (content_in (V.store store.now)) (root_of root.now) }
-    requires low { below ≤ height }
-    requires one { 1 ≤ height }
-    requires high { height ≤ 3 }
-    requires whole { tree_height (root_of root.now) ≤ height }
-    requires some { 0 < length edits.now }
-    requires ascending { AllPairs ComesBefore edits.now }
-    requires narrow { All (λ e. e.offset < 128 ^ (height - below)) edits.now }
-    requires above { KnowAbove (kept_in (V.store store.now) (root_of root.now)) below edits.now }
-    requires told { IsTold (pages_of (content_in (V.store store.now))) (root_of root.now)
-        below height edits.now }
-    ensures ok { IfOk result (λ top.
-        IsClimbed (content_in (V.store store.now)) inode (root_of root.now) below edits.now height top
+    requires edits { CanWriteAbove (V.store file.now.store.now) (root_of file.now.root) batch.old
+        below edits.now }
+    requires climb { CanClimb (V.store file.now.store.now) (root_of file.now.root) below height edits.now }
+    ensures ok { IfOk result (λ top. IsClimbed (content_in (V.store file.now.store.now)) file.now.inode
+        (root_of file.now.root) below edits.now height top
         batch.old.births batch.new.births batch.old.ends batch.new.ends) }
-    ensures fits { IfOk result (λ _. CanTake (V.store store.now) batch.new) }
+    ensures fits { IfOk result (λ _. CanTake (V.store file.now.store.now) batch.new) }
     ensures errors { IfErr result (λ e. e ≡ VolError.Memory) }
     ensures kept { GoesOn batch.old batch.new }
 {
     if below == height {
         return Ok(edits[0].number);
     }
-    let told = put_level(alloc, store, batch, inode, root, below, height, edits)?;
-    climb(alloc, store, batch, inode, root, below + 1, height, &told)
+    let told = put_level(file, batch, below, height, edits)?;
+    climb(file, batch, below + 1, height, &told)
 }
 
 /// The edits of a level, with the top of a tree that grows in front of them, if it stands there: its number
@@ -92,34 +80,29 @@ fn with_front(alloc: Global, top: VirtualNumber, ups: Vec<Edit>) -> Result<Vec<E
 /// Writes the nodes above some edits of a level: one for each group of 128, in the place of the old one.
 /// Answers the edits of the next level.
 fn put_level<V: Vstore>(
-    alloc: Global,
-    store: &V,
+    file: &OldFile<'_, V>,
     batch: &mut Batch,
-    inode: InodeNumber,
-    root: &Root,
     below: u8,
     height: u8,
     edits: &[Edit],
 ) -> Result<Vec<Edit>, VolError>
-    requires fits { CanTake (V.store store.now) batch.old }
-    requires kept { HasKept (content_in (V.store store.now)) (root_of root.now) }
+    requires edits { CanWriteAbove (V.store file.now.store.now) (root_of file.now.root) batch.old
+        below edits.now }
     requires low { below ≤ 2 }
-    requires some { 0 < length edits.now }
-    requires ascending { AllPairs ComesBefore edits.now }
     requires small { All (λ e. e.offset < limits.tree_limit) edits.now }
-    requires above { KnowAbove (kept_in (V.store store.now) (root_of root.now)) below edits.now }
-    requires told { tree_height (root_of root.now) ≤ below → (i v : ℕ) →
-        kept_in (V.store store.now) (root_of root.now) below i ≡ Some v → IsEdited edits.now i }
-    ensures ok { IfOk result (λ told.
-        PutsUp (content_in (V.store store.now)) inode (root_of root.now) below height edits.now told.items
+    requires told { tree_height (root_of file.now.root) ≤ below → (i v : ℕ) →
+        kept_in (V.store file.now.store.now) (root_of file.now.root) below i ≡ Some v →
+        IsEdited edits.now i }
+    ensures ok { IfOk result (λ told. PutsUp (content_in (V.store file.now.store.now)) file.now.inode
+        (root_of file.now.root) below height edits.now told.items
         batch.old.births batch.new.births batch.old.ends batch.new.ends) }
-    ensures above { IfOk result (λ told.
-        KnowAbove (kept_in (V.store store.now) (root_of root.now)) (below + 1) told.items) }
-    ensures fits { IfOk result (λ _. CanTake (V.store store.now) batch.new) }
+    ensures above { IfOk result (λ told. KnowAbove
+        (kept_in (V.store file.now.store.now) (root_of file.now.root)) (below + 1) told.items) }
+    ensures fits { IfOk result (λ _. CanTake (V.store file.now.store.now) batch.new) }
     ensures errors { IfErr result (λ e. e ≡ VolError.Memory) }
     ensures kept { GoesOn batch.old batch.new }
 {
-    let mut ups = Vec::new(alloc);
+    let mut ups = Vec::new(file.alloc);
     let mut at = 0;
     while at < edits.len() {
         let end = group_end(edits, at);
@@ -128,11 +111,11 @@ fn put_level<V: Vstore>(
         let old = node_above(first, below);
         let level = Level::new(below + 1);
         let group = &edits[at..end];
-        let number = put_node(alloc, store, batch, inode, level, offset, old, group)?;
-        add_up(alloc, &mut ups, offset, number, first)?;
+        let number = put_node(file, batch, level, offset, old, group)?;
+        add_up(file.alloc, &mut ups, offset, number, first)?;
         at = end;
     }
-    let told = with_top(alloc, root, below + 1, height, ups)?;
+    let told = with_top(file.alloc, &file.root, below + 1, height, ups)?;
     Ok(told)
 }
 

@@ -8,14 +8,24 @@ ghost use Rattle.nl_vstore.specs.Batches.{CanBeTaken, is_live};
 ghost use Rattle.nl_vstore.specs.Stores.{content_in};
 ghost use Rattle.nl_blocktree.specs.Private.Edits.{ComesBefore, edit_alone, edited};
 ghost use Rattle.nl_blocktree.specs.Numbering.{CanTake};
+ghost use Rattle.nl_blocktree.specs.Putting.{GoesOn};
 ghost use Rattle.nl_blocktree.specs.Private.Writing.{BearsNode, PutsNode, ended_of, slots_with};
 
 use crate::read::{number_in, page_under, slot_of};
-use nl_layout::{Level, Node, SLOTS, Tag};
+use nl_layout::{Level, Node, Root, SLOTS, Tag};
 use nl_types::{BLOCK_SIZE, Block, InodeNumber, Page, VirtualNumber, VolError};
 use nl_vstore::{Batch, VRead, Vstore, next_number};
 use smallvec::SmallVec;
 use std::alloc::{AllocError, Global};
+
+/// A file that is to be changed: the store under it, whose it is, and its root before.
+#[derive(Drop)]
+pub(crate) struct OldFile<'a, V: Vstore> {
+    pub alloc: Global,
+    pub store: &'a V,
+    pub inode: InodeNumber,
+    pub root: Root,
+}
 
 /// What is to stand at an offset of a level: a number, or the one that names nothing.
 #[derive(Debug, Drop)]
@@ -81,24 +91,23 @@ fn names_none(slots: &[VirtualNumber]) -> bool
 
 /// Adds the birth of a node with some slots.
 fn bear_node<V: Vstore>(
-    alloc: Global,
-    store: &V,
+    file: &OldFile<'_, V>,
     batch: &mut Batch,
-    inode: InodeNumber,
     level: Level,
     offset: u64,
     node: &Node,
 ) -> Result<VirtualNumber, VolError>
-    requires { CanTake (V.store store.now) batch.old }
-    ensures ok { IfOk result (λ n. BearsNode (content_in (V.store store.now)) inode level offset node.now n
-        batch.old.births batch.new.births) }
-    ensures fits { IfOk result (λ _. CanTake (V.store store.now) batch.new) }
+    requires { CanTake (V.store file.now.store.now) batch.old }
+    ensures ok { IfOk result (λ n. BearsNode (content_in (V.store file.now.store.now)) file.now.inode
+        level offset node.now n batch.old.births batch.new.births) }
+    ensures fits { IfOk result (λ _. CanTake (V.store file.now.store.now) batch.new) }
     ensures ends { batch.new.ends ≡ batch.old.ends }
     ensures births_kept { take (length batch.old.births) batch.new.births ≡ batch.old.births }
     ensures errors { IfErr result (λ e. e ≡ VolError.Memory) }
 {
-    let page = node_page(alloc, node)?;
-    let number = next_number(store, batch);
+    let page = node_page(file.alloc, node)?;
+    let number = next_number(file.store, batch);
+    let inode = file.inode;
     batch.add_birth(
         Tag {
             number,
@@ -142,34 +151,33 @@ pub(crate) fn end_old(batch: &mut Batch, old: Option<VirtualNumber>) -> Result<(
 /// gone where no slot names anything. Answers the node's number, and the one that names nothing where it is
 /// gone.
 pub(crate) fn put_node<V: Vstore>(
-    alloc: Global,
-    store: &V,
+    file: &OldFile<'_, V>,
     batch: &mut Batch,
-    inode: InodeNumber,
     level: Level,
     offset: u64,
     old: Option<VirtualNumber>,
     group: &[Edit],
 ) -> Result<VirtualNumber, VolError>
-    requires fits { CanTake (V.store store.now) batch.old }
-    requires live { (v : ℕ) → old ≡ Some v → is_live (content_in (V.store store.now) v) ≡ true }
+    requires fits { CanTake (V.store file.now.store.now) batch.old }
+    requires live { (v : ℕ) → old ≡ Some v →
+        is_live (content_in (V.store file.now.store.now) v) ≡ true }
     requires small { offset < limits.tree_limit }
     requires ascending { AllPairs ComesBefore group.now }
     requires grouped { All (λ e. e.offset / 128 ≡ offset) group.now }
-    ensures ok { IfOk result (λ n. PutsNode (content_in (V.store store.now)) inode level offset old
-        (slots_with group.now (pages_of (content_in (V.store store.now))) old offset) n
+    ensures ok { IfOk result (λ n. PutsNode (content_in (V.store file.now.store.now)) file.now.inode
+        level offset old
+        (slots_with group.now (pages_of (content_in (V.store file.now.store.now))) old offset) n
         batch.old.births batch.new.births batch.old.ends batch.new.ends) }
-    ensures fits { IfOk result (λ _. CanTake (V.store store.now) batch.new) }
-    ensures births_kept { take (length batch.old.births) batch.new.births ≡ batch.old.births }
-    ensures ends_kept { take (length batch.old.ends) batch.new.ends ≡ batch.old.ends }
+    ensures fits { IfOk result (λ _. CanTake (V.store file.now.store.now) batch.new) }
+    ensures kept { GoesOn batch.old batch.new }
     ensures errors { IfErr result (λ e. e ≡ VolError.Memory) }
 {
-    let node = edited_node(store, &old, offset, group);
+    let node = edited_node(file.store, &old, offset, group);
     end_old(batch, old)?;
     if is_blank(&node) {
         return Ok(VirtualNumber::new(0));
     }
-    bear_node(alloc, store, batch, inode, level, offset, &node)
+    bear_node(file, batch, level, offset, &node)
 }
 
 /// Whether no slot of a node names anything.

@@ -1,15 +1,38 @@
 -- A root that is written anew: from the lowest level up, and then as low as can be.
 use Rattle.std.specs.Prelude.{◌≡◌, ◌≢◌, ◌⊎◌, ◌<◌, ◌≤◌, ◌+◌, ◌*◌, ◌-◌, ◌/◌, ◌%◌, ◌^◌, ◌++◌, ℕ, suc, List, [], ◌∷◌, length, take, IsSome, None, Some, true}
-use Rattle.std.specs.List.{AllPairs, Contains}
+use Rattle.std.specs.List.{All, AllPairs, Contains}
 use Rattle.nl_types.specs.Entries.{Birth, Content}
 use Rattle.nl_types.specs.Roots.{Pages, Root, Tree, NoBlocks, OfChain, OfTree, child, height_of, kind_of, pages_of, place_at}
 use Rattle.nl_types.specs.RootChanges.{HasTreeShape, InPayloadOrder, IsAt, with_births}
 use Rattle.nl_vstore.specs.Batches.{Changes, CanBeTaken, TakeLowestFree, is_live, last_number}
-use Rattle.nl_blocktree.specs.Private.Edits.{IsEdited, edited}
-use Rattle.nl_blocktree.specs.Numbering.{IsUnused}
-use Rattle.nl_blocktree.specs.Private.TreeLevels.{IsFull, Levels, kept_levels}
+use Rattle.nl_vstore.specs.Stores.{Store, content_in}
+use Rattle.nl_blocktree.specs.Private.Edits.{ComesBefore, IsEdited, IsTold, KnowAbove, edited}
+use Rattle.nl_blocktree.specs.Numbering.{CanTake, IsUnused}
+use Rattle.nl_blocktree.specs.Private.TreeLevels.{HasKept, IsFull, Levels, kept_in, kept_levels, tree_height}
 use Rattle.nl_blocktree.specs.Private.Writing.{PlaceBecomes}
 use Rattle.nl_blocktree.specs.declared.tree.Edit.{Edit}
+
+-- ---- what may be written
+
+-- The nodes above some edits of a level may be written: the store can take the batch so far, and of the old
+-- root all is in use. The edits ascend, one at least, and each knows the old nodes above it.
+pub record CanWriteAbove (store : Store) (root : Root) (batch : Changes) (level : ℕ) (edits : List Edit)
+    : Type 0 where
+  pub fits : CanTake store batch
+  pub kept : HasKept (content_in store) root
+  pub some : 0 < length edits
+  pub ascending : AllPairs ComesBefore edits
+  pub above : KnowAbove (kept_in store root) level edits
+
+-- They lead up to one node at a height that the old tree doesn't pass, and tell all that stood at their level
+-- without a node above it.
+pub record CanClimb (store : Store) (root : Root) (below height : ℕ) (edits : List Edit) : Type 0 where
+  pub low : below ≤ height
+  pub one : 1 ≤ height
+  pub high : height ≤ 3
+  pub whole : tree_height root ≤ height
+  pub narrow : All (λ (e : Edit). e.offset < 128 ^ (height - below)) edits
+  pub told : IsTold (pages_of (content_in store)) root below height edits
 
 -- ---- level by level
 

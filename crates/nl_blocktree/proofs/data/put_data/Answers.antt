@@ -18,23 +18,23 @@ pub loop-change-init : goal.loop-change-init
 loop-change-init g c = record {
   puts =
       subst (λ (es : List Edit).
-      PutsData (content_in (g.V.Vstore.store c.args.store.now)) c.args.inode []
-      (place_at (pages_of (content_in (g.V.Vstore.store c.args.store.now))) (root_of c.args.root.now) 0)
+      PutsData (content_in (g.V.Vstore.store c.args.file.now.store.now)) c.args.file.now.inode []
+      (place_at (pages_of (content_in (g.V.Vstore.store c.args.file.now.store.now))) (root_of c.args.file.now.root) 0)
       es
       c.args.batch.now.births c.args.batch.now.births c.args.batch.now.ends c.args.batch.now.ends)
       (sym c.new-edits.ensures.items)
-      (puts_none (content_in (g.V.Vstore.store c.args.store.now)) c.args.inode
-      (place_at (pages_of (content_in (g.V.Vstore.store c.args.store.now))) (root_of c.args.root.now) 0)
+      (puts_none (content_in (g.V.Vstore.store c.args.file.now.store.now)) c.args.file.now.inode
+      (place_at (pages_of (content_in (g.V.Vstore.store c.args.file.now.store.now))) (root_of c.args.file.now.root) 0)
       c.args.batch.now.births c.args.batch.now.ends);
   above =
       know_same
-      (kept_levels (pages_of (content_in (g.V.Vstore.store c.args.store.now))) (root_of c.args.root.now))
+      (kept_levels (pages_of (content_in (g.V.Vstore.store c.args.file.now.store.now))) (root_of c.args.file.now.root))
       0 c.new-edits.ensures.items
       (know_none
-      (kept_levels (pages_of (content_in (g.V.Vstore.store c.args.store.now))) (root_of c.args.root.now))
+      (kept_levels (pages_of (content_in (g.V.Vstore.store c.args.file.now.store.now))) (root_of c.args.file.now.root))
       0);
   fits = c.requires.file.fits;
-  node = chain_begins (g.V.VRead.pages c.args.store.now) (root_of c.args.root.now) c.first_node-node.ensures;
+  node = chain_begins (g.V.VRead.pages c.args.file.now.store.now) (root_of c.args.file.now.root) c.first_node-node.ensures;
 }
 
 pub loop-change-preserved : goal.loop-change-preserved
@@ -47,11 +47,11 @@ loop-change-preserved g c =
     let more : take (k + 1) cs ≡ take k cs ++ x ∷ [] =
     take_more cs k x within ∙ ap (λ (y : BlockChange). take k cs ++ y ∷ []) here in
     let stands : c.path_to-path.result.number
-    ≡ place_at (pages_of (content_in (g.V.Vstore.store c.args.store.now)))
-    (root_of c.args.root.now) 0 x.index =
+    ≡ place_at (pages_of (content_in (g.V.Vstore.store c.args.file.now.store.now)))
+    (root_of c.args.file.now.root) 0 x.index =
     c.path_to-path.ensures.number
-    ∙ ap (λ (pages : Pages). place_at pages (root_of c.args.root.now) 0 x.index)
-    (g.met.V.Vstore.reads_pages c.args.store.now) in
+    ∙ ap (λ (pages : Pages). place_at pages (root_of c.args.file.now.root) 0 x.index)
+    (g.met.V.Vstore.reads_pages c.args.file.now.store.now) in
     record {
       puts =
           rw (more, c.in_ok-add_edit.ensures)
@@ -63,23 +63,23 @@ loop-change-preserved g c =
           (λ o i.
           subst (λ (y : BlockChange). o < y.index) here (below-here cs k x c.requires.ascending within o i))
           (subst (λ (old : Option ℕ).
-          PutsOne (content_in (g.V.Vstore.store c.args.store.now)) c.args.inode x.index x.page old
+          PutsOne (content_in (g.V.Vstore.store c.args.file.now.store.now)) c.args.file.now.inode x.index x.page old
           c.in_ok-number.number
           c.loop-change.batch.births c.put_block.new.batch.births c.loop-change.batch.ends
           c.put_block.new.batch.ends)
           stands c.in_ok-number.ensures.ok));
       above =
-          know_same (kept_levels (pages_of (content_in (g.V.Vstore.store c.args.store.now)))
-          (root_of c.args.root.now))
+          know_same (kept_levels (pages_of (content_in (g.V.Vstore.store c.args.file.now.store.now)))
+          (root_of c.args.file.now.root))
           0 c.in_ok-add_edit.ensures
-          (know_edit (kept_levels (pages_of (content_in (g.V.Vstore.store c.args.store.now)))
-          (root_of c.args.root.now))
+          (know_edit (kept_levels (pages_of (content_in (g.V.Vstore.store c.args.file.now.store.now)))
+          (root_of c.args.file.now.root))
           c.loop-change.edits.items x.index c.in_ok-number.number c.path_to-path.result.above
           c.loop-change.invariant.above
           (subst (λ (pages : Pages).
           TellsAbove
-          (kept_levels pages (root_of c.args.root.now)) 0 x.index c.path_to-path.result.above.items)
-          (g.met.V.Vstore.reads_pages c.args.store.now) c.path_to-path.ensures.above));
+          (kept_levels pages (root_of c.args.file.now.root)) 0 x.index c.path_to-path.result.above.items)
+          (g.met.V.Vstore.reads_pages c.args.file.now.store.now) c.path_to-path.ensures.above));
       fits = c.in_ok-number.ensures.fits;
       node = c.path_to-path.ensures.node;
     }
@@ -88,8 +88,8 @@ pub put_block-requires-clause-live : goal.put_block-requires-clause-live
 put_block-requires-clause-live g c =
     λ v e. c.requires.file.live 0 c.change-item.result.index v
     (sym (c.path_to-path.ensures.number
-    ∙ ap (λ (pages : Pages). place_at pages (root_of c.args.root.now) 0 c.change-item.result.index)
-    (g.met.V.Vstore.reads_pages c.args.store.now))
+    ∙ ap (λ (pages : Pages). place_at pages (root_of c.args.file.now.root) 0 c.change-item.result.index)
+    (g.met.V.Vstore.reads_pages c.args.file.now.store.now))
     ∙ e)
 
 pub returns-clause-kept : goal.returns-clause-kept
@@ -137,9 +137,9 @@ returns-in_err-add_edit-clause-fits g c =
 
 pub returns-clause-ok : goal.returns-clause-ok
 returns-clause-ok g c =
-    let content = content_in (g.V.Vstore.store c.args.store.now) in
+    let content = content_in (g.V.Vstore.store c.args.file.now.store.now) in
     subst (λ (changes : List BlockChange).
-    PutsData content c.args.inode changes (place_at (pages_of content) (root_of c.args.root.now) 0)
+    PutsData content c.args.file.now.inode changes (place_at (pages_of content) (root_of c.args.file.now.root) 0)
     c.loop-change.edits.items c.args.batch.now.births c.loop-change.batch.births c.args.batch.now.ends
     c.loop-change.batch.ends)
     (take_all c.loop-change.change-index c.args.changes.now (omega arith)) c.loop-change.invariant.puts

@@ -10,11 +10,11 @@ use Rattle.nl_blocktree.proofs.data.put_data.Given as goal
 
 abbrev pub invariant-loop-change : goal.invariant-loop-change
 invariant-loop-change g l = record {
-  puts : PutsData (content_in (g.V.Vstore.store l.store)) l.inode (take l.change-index l.changes)
-      (place_at (pages_of (content_in (g.V.Vstore.store l.store))) (root_of l.root) 0) l.edits.items
+  puts : PutsData (content_in (g.V.Vstore.store l.file.store.now)) l.file.inode (take l.change-index l.changes)
+      (place_at (pages_of (content_in (g.V.Vstore.store l.file.store.now))) (root_of l.file.root) 0) l.edits.items
       l.fn.batch.births l.batch.births l.fn.batch.ends l.batch.ends;
   above : KnowAbove
-      (kept_levels (pages_of (content_in (g.V.Vstore.store l.store))) (root_of l.root)) 0 l.edits.items;
-  fits : CanBeTaken (capacity (g.V.Vstore.store l.store)) (content_in (g.V.Vstore.store l.store)) l.batch;
-  node : IsNodeOf (g.V.VRead.pages l.store) (root_of l.root) l.known l.node;
+      (kept_levels (pages_of (content_in (g.V.Vstore.store l.file.store.now))) (root_of l.file.root)) 0 l.edits.items;
+  fits : CanBeTaken (capacity (g.V.Vstore.store l.file.store.now)) (content_in (g.V.Vstore.store l.file.store.now)) l.batch;
+  node : IsNodeOf (g.V.VRead.pages l.file.store.now) (root_of l.file.root) l.known l.node;
 }

@@ -11,12 +11,12 @@ use Rattle.nl_blocktree.proofs.levels.put_level.Given as goal
 
 abbrev pub invariant-loop-at : goal.invariant-loop-at
 invariant-loop-at g l = record {
-  puts : PutsLevel (content_in (g.V.Vstore.store l.store)) l.inode (suc l.below)
-      (kept_levels (pages_of (content_in (g.V.Vstore.store l.store))) (root_of l.root) (suc l.below))
-      (kept_levels (pages_of (content_in (g.V.Vstore.store l.store))) (root_of l.root) l.below)
+  puts : PutsLevel (content_in (g.V.Vstore.store l.file.store.now)) l.file.inode (suc l.below)
+      (kept_levels (pages_of (content_in (g.V.Vstore.store l.file.store.now))) (root_of l.file.root) (suc l.below))
+      (kept_levels (pages_of (content_in (g.V.Vstore.store l.file.store.now))) (root_of l.file.root) l.below)
       (take l.at l.edits) l.ups.items l.fn.batch.births l.batch.births l.fn.batch.ends l.batch.ends;
-  fits : CanBeTaken (capacity (g.V.Vstore.store l.store)) (content_in (g.V.Vstore.store l.store)) l.batch;
-  above : KnowAbove (kept_levels (pages_of (content_in (g.V.Vstore.store l.store))) (root_of l.root))
+  fits : CanBeTaken (capacity (g.V.Vstore.store l.file.store.now)) (content_in (g.V.Vstore.store l.file.store.now)) l.batch;
+  above : KnowAbove (kept_levels (pages_of (content_in (g.V.Vstore.store l.file.store.now))) (root_of l.file.root))
       (l.below + 1) l.ups.items;
   within : l.at ≤ length l.edits;
   edge : (i j : ℕ) (d e : Edit) → i < l.at → l.at ≤ j → j < length l.edits →

@@ -38,42 +38,35 @@ slots_near pages root slots in_range slots_at i some = by_place (place_at pages 
 pub renew_tree-requires-clause-told : goal.renew_tree-requires-clause-told
 renew_tree-requires-clause-told g c =
     subst (λ (es : List Edit).
-    IsToldFrom (pages_of (content_in (g.V.Vstore.store c.args.store.now))) (root_of c.args.root.now) es)
+    IsToldFrom (pages_of (content_in (g.V.Vstore.store c.args.file.now.store.now))) (root_of c.args.file.now.root) es)
     (sym c.deref.ensures.value)
-    (told_from (pages_of (content_in (g.V.Vstore.store c.args.store.now)))
-    (root_of c.args.root.now) c.in_ok-chain.chain.nodes.items c.in_ok-chain.chain.slots.items
+    (told_from (pages_of (content_in (g.V.Vstore.store c.args.file.now.store.now)))
+    (root_of c.args.file.now.root) c.in_ok-chain.chain.nodes.items c.in_ok-chain.chain.slots.items
     c.args.edits.now c.in_ok-told.told.items
-    (stored_lists (g.met.V.Vstore.reads_pages c.args.store.now) c.in_ok-chain.ensures.lists)
+    (stored_lists (g.met.V.Vstore.reads_pages c.args.file.now.store.now) c.in_ok-chain.ensures.lists)
     c.in_ok-told.ensures.ok c.requires.chain)
-
-pub renew_tree-requires-clause-above : goal.renew_tree-requires-clause-above
-renew_tree-requires-clause-above g c =
-    let pages = pages_of (content_in (g.V.Vstore.store c.args.store.now)) in
-    know_same (kept_levels pages (root_of c.args.root.now)) 0 c.deref.ensures.value
-    (chain_knows pages
-    (root_of c.args.root.now) c.in_ok-told.told.items c.requires.chain c.in_ok-told.ensures.ok.alone)
 
 pub returns-clause-ok : goal.returns-clause-ok
 returns-clause-ok g c =
-    let content = content_in (g.V.Vstore.store c.args.store.now) in
-    let lists = stored_lists (g.met.V.Vstore.reads_pages c.args.store.now) c.in_ok-chain.ensures.lists in
+    let content = content_in (g.V.Vstore.store c.args.file.now.store.now) in
+    let lists = stored_lists (g.met.V.Vstore.reads_pages c.args.file.now.store.now) c.in_ok-chain.ensures.lists in
     let nodes = c.in_ok-chain.chain.nodes.items in
     let ended = c.in_ok-end_all.ensures.ok in
-    chain_root {room = capacity (g.V.Vstore.store c.args.store.now)} {content = content}
-    {inode = c.args.inode} (root_of c.args.root.now) {edits = c.args.edits.now}
+    chain_root {room = capacity (g.V.Vstore.store c.args.file.now.store.now)} {content = content}
+    {inode = c.args.file.now.inode} (root_of c.args.file.now.root) {edits = c.args.edits.now}
     {told = c.in_ok-told.told.items} {new = root_of c.in_ok-new.new}
     c.in_ok-chain.chain.slots.items nodes c.args.batch.now c.renew_tree.new.batch c.end_all.new.batch
-    c.requires.chain c.requires.kept lists c.in_ok-told.ensures.ok
+    c.requires.chain c.requires.edits.kept lists c.in_ok-told.ensures.ok
     (subst (λ (es : List Edit).
-    IsRootRenewed (capacity (g.V.Vstore.store c.args.store.now)) content c.args.inode
-    (root_of c.args.root.now) es (root_of c.in_ok-new.new) c.args.batch.now c.renew_tree.new.batch)
+    IsRootRenewed (capacity (g.V.Vstore.store c.args.file.now.store.now)) content c.args.file.now.inode
+    (root_of c.args.file.now.root) es (root_of c.in_ok-new.new) c.args.batch.now c.renew_tree.new.batch)
     c.deref.ensures.value c.in_ok-new.ensures.ok)
     (ap (λ (x : Changes). x.births) ended)
     (ap (λ (x : Changes). x.ends) ended
     ∙ ap (λ (xs : List ℕ). c.renew_tree.new.batch.ends ++ xs) c.deref-2.ensures.value)
     (λ f. c.in_ok-end_all.ensures.fits _ _ f
     (subst (λ (ns : List ℕ). All (λ v. is_live (content v) ≡ true) ns) (sym c.deref-2.ensures.value)
-    (λ k d l. c.requires.kept.live 1 k (get_or nodes k d) (lists.nodes_at k ∙ slice_get-get_or nodes k d l))))
+    (λ k d l. c.requires.edits.kept.live 1 k (get_or nodes k d) (lists.nodes_at k ∙ slice_get-get_or nodes k d l))))
 
 pub returns-in_err-chain-clause-ok : goal.returns-in_err-chain-clause-ok
 returns-in_err-chain-clause-ok g c = IfOk-from_err c.from_residual.result _ c.from_residual.ensures.0
@@ -113,27 +106,36 @@ returns-clause-kept g c =
 
 pub read_chain-requires-clause-near : goal.read_chain-requires-clause-near
 read_chain-requires-clause-near g c =
-    λ p v at. c.requires.kept.sound.in_range 1 p v
-    (subst (λ (pages : Pages). place_at pages (root_of c.args.root.now) 1 p ≡ Some v)
-    (g.met.V.Vstore.reads_pages c.args.store.now) at)
+    λ p v at. c.requires.edits.kept.sound.in_range 1 p v
+    (subst (λ (pages : Pages). place_at pages (root_of c.args.file.now.root) 1 p ≡ Some v)
+    (g.met.V.Vstore.reads_pages c.args.file.now.store.now) at)
 
 pub told_edits-requires-clause-near : goal.told_edits-requires-clause-near
 told_edits-requires-clause-near g c =
-    let lists = stored_lists (g.met.V.Vstore.reads_pages c.args.store.now) c.in_ok-chain.ensures.lists in
-    slots_near (pages_of (content_in (g.V.Vstore.store c.args.store.now)))
-    (root_of c.args.root.now) c.in_ok-chain.chain.slots.items c.requires.kept.sound.in_range lists.slots_at
-
-pub renew_tree-requires-clause-some : goal.renew_tree-requires-clause-some
-renew_tree-requires-clause-some g c =
-    subst (λ (es : List Edit). 0 < length es) (sym c.deref.ensures.value) c.in_ok-told.ensures.ok.some
-
-pub renew_tree-requires-clause-ascending : goal.renew_tree-requires-clause-ascending
-renew_tree-requires-clause-ascending g c =
-    subst (λ (es : List Edit). AllPairs ComesBefore es) (sym c.deref.ensures.value)
-    c.in_ok-told.ensures.ok.ascending
+    let lists = stored_lists (g.met.V.Vstore.reads_pages c.args.file.now.store.now) c.in_ok-chain.ensures.lists in
+    slots_near (pages_of (content_in (g.V.Vstore.store c.args.file.now.store.now)))
+    (root_of c.args.file.now.root) c.in_ok-chain.chain.slots.items c.requires.edits.kept.sound.in_range lists.slots_at
 
 pub renew_tree-requires-clause-small : goal.renew_tree-requires-clause-small
 renew_tree-requires-clause-small g c =
     subst (λ (es : List Edit). All (λ (e : Edit). e.offset < 2097152) es) (sym c.deref.ensures.value)
     (All-weaker (λ (e : Edit). e.offset < 262144) (λ (e : Edit). e.offset < 2097152)
     (λ e l. omega (arith, l)) c.in_ok-told.told.items c.in_ok-told.ensures.ok.small)
+
+pub renew_tree-requires-clause-edits : goal.renew_tree-requires-clause-edits
+renew_tree-requires-clause-edits g c =
+    let pages = pages_of (content_in (g.V.Vstore.store c.args.file.now.store.now)) in
+    record {
+      fits = c.requires.edits.fits;
+      kept = c.requires.edits.kept;
+      some =
+          subst (λ (es : List Edit). 0 < length es) (sym c.deref.ensures.value)
+          c.in_ok-told.ensures.ok.some;
+      ascending =
+          subst (λ (es : List Edit). AllPairs ComesBefore es) (sym c.deref.ensures.value)
+          c.in_ok-told.ensures.ok.ascending;
+      above =
+          know_same (kept_levels pages (root_of c.args.file.now.root)) 0 c.deref.ensures.value
+          (chain_knows pages (root_of c.args.file.now.root) c.in_ok-told.told.items c.requires.chain
+          c.in_ok-told.ensures.ok.alone);
+    }

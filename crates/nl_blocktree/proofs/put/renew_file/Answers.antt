@@ -10,9 +10,9 @@ use Rattle.nl_blocktree.proofs.put.renew_file.Goals as goal
 
 pub renew_tree-requires-clause-told : goal.renew_tree-requires-clause-told
 renew_tree-requires-clause-told g c =
-    told_tree (pages_of (content_in (g.V.Vstore.store c.args.store.now)))
-    (root_of c.args.root.now) c.args.edits.now
-    (c.is_chain.ensures.no c.if-is_chain.false) c.requires.kept.sound
+    told_tree (pages_of (content_in (g.V.Vstore.store c.args.file.now.store.now)))
+    (root_of c.args.file.now.root) c.args.edits.now
+    (c.is_chain.ensures.no c.if-is_chain.false) c.requires.edits.kept.sound
 
 pub returns-then-is_chain-clause-ok : goal.returns-then-is_chain-clause-ok
 returns-then-is_chain-clause-ok g c =
