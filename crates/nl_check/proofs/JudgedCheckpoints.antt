@@ -23,6 +23,8 @@ use Rattle.nl_ifile.specs.Inodes.{inode_at}
 use Rattle.nl_tree.specs.Held.{Held, Holding, IsHolding, inode_content, inodes_of_holding}
 use Rattle.nl_check.specs.Conditions.{AreExact, AreShaped, AreTrees, FirstFault, HasExactPeriods, IsSoundShape, IsSoundTree, MeetsItsNumbers, all_met, periods_fail, shapes_fail, trees_fail}
 use Rattle.nl_check.specs.InodeTrees.{FormTree, used_below}
+use Rattle.nl_check.specs.ImageConditions.{number_of}
+use Rattle.nl_check.specs.declared.conditions.ImageCondition.TheVariants as condition
 use Rattle.nl_check.specs.Judging.{IsAlike, IsJudged, IsLast, IsTold, fault_told, told}
 use Rattle.nl_check.specs.Private.Naming.{HasKindsOf, TellsKinds, awaited_count, kind_held}
 use Rattle.nl_check.specs.Periods.{AreOfPeriods}
@@ -363,13 +365,13 @@ module _ (pages : Pages) (periods : Periods) (kept : List CheckpointEntry) where
 
   -- a shape that fails
   pub shape-fails : (n : ℕ) (entry : CheckpointEntry) → slice_get kept n ≡ Some entry
-      → (IsSoundShape pages (told entry) → ⊥) → FirstFault pages periods (map told kept) (Some 8)
+      → (IsSoundShape pages (told entry) → ⊥) → FirstFault pages periods (map told kept) (Some (number_of condition.Shapes))
   shape-fails n entry here never =
       shapes_fail (λ all. never (all-at (IsSoundShape pages) told kept n entry all here))
 
   -- all are judged
   pub judged-all : (n : ℕ) (trees exact : Bool) → length kept ≤ n → AreJudged pages periods kept n trees exact
-      → FirstFault pages periods (map told kept) (fault_told trees exact)
+      → FirstFault pages periods (map told kept) (option_map number_of (fault_told trees exact))
   judged-all n trees exact past j = by trees exact refl refl
     where
       inside : (k : ℕ) (e : CheckpointEntry) → slice_get kept k ≡ Some e → k < n
@@ -391,7 +393,8 @@ module _ (pages : Pages) (periods : Periods) (kept : List CheckpointEntry) where
       are_exact t =
           all-from (HasExactPeriods pages periods) told kept (λ k e at. j.all_exact t k e (inside k e at) at)
 
-      by : (a b : Bool) → trees ≡ a → exact ≡ b → FirstFault pages periods (map told kept) (fault_told a b)
+      by : (a b : Bool) → trees ≡ a → exact ≡ b
+          → FirstFault pages periods (map told kept) (option_map number_of (fault_told a b))
       by false b p q = trees_fail shaped (j.no_tree p)
       by true false p q = periods_fail shaped (are_trees p) (j.not_exact q)
       by true true p q = all_met shaped (are_trees p) (are_exact q)

@@ -5,6 +5,8 @@ use Rattle.nl_types.specs.declared.period.Period.{Period}
 use Rattle.nl_types.specs.Entries.{is_before_end}
 use Rattle.nl_types.specs.Roots.{Pages, Root}
 use Rattle.nl_vstore.specs.Periods.{Periods}
+use Rattle.nl_check.specs.ImageConditions.{number_of}
+use Rattle.nl_check.specs.declared.conditions.ImageCondition.TheVariants as condition
 use Rattle.nl_check.specs.Shapes.{At, IsShaped, met}
 use Rattle.nl_check.specs.Trees.{IsTreeOf}
 
@@ -53,10 +55,10 @@ AreExact pages periods kept = All (HasExactPeriods pages periods) kept
 
 -- which condition is the first that fails, by its number; none where all are met
 pub data FirstFault (pages : Pages) (periods : Periods) (kept : List Told) : Option ℕ → Type 0 where
-  shapes_fail : (AreShaped pages kept → ⊥) → FirstFault pages periods kept (Some 8)
+  shapes_fail : (AreShaped pages kept → ⊥) → FirstFault pages periods kept (Some (number_of condition.Shapes))
   trees_fail : AreShaped pages kept → (AreTrees pages kept → ⊥)
-      → FirstFault pages periods kept (Some 9)
+      → FirstFault pages periods kept (Some (number_of condition.Trees))
   periods_fail : AreShaped pages kept → AreTrees pages kept → (AreExact pages periods kept → ⊥)
-      → FirstFault pages periods kept (Some 10)
+      → FirstFault pages periods kept (Some (number_of condition.Periods))
   all_met : AreShaped pages kept → AreTrees pages kept → AreExact pages periods kept
       → FirstFault pages periods kept None

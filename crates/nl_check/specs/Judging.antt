@@ -10,6 +10,8 @@ use Rattle.nl_check.specs.Conditions.{HasExactPeriods, IsSoundShape, IsSoundTree
 use Rattle.nl_check.specs.Periods.{AreOfPeriods}
 use Rattle.nl_check.specs.Private.Naming.{awaited_count}
 use Rattle.nl_check.specs.Private.Walks.{IsGood}
+use Rattle.nl_check.specs.declared.conditions.ImageCondition.{ImageCondition}
+use Rattle.nl_check.specs.declared.conditions.ImageCondition.TheVariants as condition
 use Rattle.nl_check.specs.declared.checks.Judged.{Judged}
 use Rattle.nl_check.specs.declared.checks.Last.{Last}
 use Rattle.nl_check.specs.declared.shape.Walk.{Walk}
@@ -66,5 +68,5 @@ pub record IsAlike (one other : CheckpointEntry) : Type 0 where
   pub inodes : one.inodes ≡ other.inodes
 
 -- the first condition that fails, where it is known of the last two whether they hold
-abbrev pub fault_told : Bool → Bool → Option ℕ
-fault_told trees periods = cond trees (cond periods None (Some 10)) (Some 9)
+abbrev pub fault_told : Bool → Bool → Option ImageCondition
+fault_told trees periods = cond trees (cond periods None (Some condition.Periods)) (Some condition.Trees)

@@ -1,3 +1,4 @@
+pub mod ImageConditions
 pub mod InodeTrees
 pub mod Shapes
 pub mod Trees

@@ -1,12 +1,15 @@
 //! The first of the conditions of checkpoints that fails.
 ghost use Rattle.std.specs.Prelude.{◌≡◌, ◌↔◌, ◌<◌, ◌≤◌, ◌*◌, ℕ, length, map, is_some, IsTrue, IsSome, IfOk, IfErr, IfSome, IsOkUnless, None, Ok};
+ghost use Rattle.std.specs.Option.{option_map};
 ghost use Rattle.nl_types.specs.declared.error.VolError;
 ghost use Rattle.nl_check.specs.Conditions.{FirstFault, IsSoundShape};
+ghost use Rattle.nl_check.specs.ImageConditions.{number_of};
 ghost use Rattle.nl_check.specs.Judging.{HasRoom, IsAlike, IsJudgedLast, IsLast, KnowsLast, fault_told, told};
 ghost use Rattle.nl_check.specs.Private.Turns.{AreTurns, WereOfPeriods};
 ghost use Rattle.nl_check.specs.Private.Walks.{IsGood};
 
 use crate::beside::{Beside, Changes, judge_beside};
+use crate::conditions::ImageCondition;
 use crate::found::Found;
 use crate::holding::hold_trees;
 use crate::image::Image;
@@ -209,13 +212,13 @@ fn judge_next<V: VRead>(
 }
 
 /// The first condition that fails of checkpoints that have their shape.
-fn fault_of(judged: Judged) -> Option<u8>
+fn fault_of(judged: Judged) -> Option<ImageCondition>
     ensures { result ≡ fault_told judged.trees judged.periods }
 {
     if !judged.trees {
-        Some(9)
+        Some(ImageCondition::Trees)
     } else if !judged.periods {
-        Some(10)
+        Some(ImageCondition::Periods)
     } else {
         None
     }
@@ -226,12 +229,12 @@ fn judge_all<V: VRead>(
     image: &Image<'_, V>,
     found: &mut Found,
     kept: &[CheckpointEntry],
-) -> Result<Option<u8>, VolError>
+) -> Result<Option<ImageCondition>, VolError>
     requires room { HasRoom (V.pages image.now.store.now) (V.periods image.now.store.now) found.old.met }
     requires turns { AreTurns (V.periods image.now.store.now) image.now.turns.now }
     ensures fault { IfOk result (λ fault.
         FirstFault (V.pages image.now.store.now) (V.periods image.now.store.now)
-        (map told kept.now) fault) }
+        (map told kept.now) (option_map number_of fault)) }
     ensures refused { IfErr result (λ e. e ≡ VolError.Memory) }
 {
     let mut changes = Changes::new(image.alloc);
@@ -242,7 +245,7 @@ fn judge_all<V: VRead>(
     };
     for entry in kept {
         let Some(now) = judge_next(image, found, &mut changes, &judged, entry)? else {
-            return Ok(Some(8));
+            return Ok(Some(ImageCondition::Shapes));
         };
         judged = now;
     }
@@ -275,5 +278,8 @@ pub fn first_fault<V: VRead>(
         store,
         turns: turns.as_slice(),
     };
-    judge_all(&image, &mut found, kept)
+    match judge_all(&image, &mut found, kept)? {
+        Some(condition) => Ok(Some(condition.number())),
+        None => Ok(None),
+    }
 }

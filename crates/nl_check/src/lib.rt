@@ -4,6 +4,7 @@
 
 mod beside;
 mod checks;
+mod conditions;
 mod differing;
 mod directories;
 mod ends;
@@ -27,6 +28,7 @@ mod turns;
 mod walking;
 
 pub use checks::first_fault;
+pub use conditions::ImageCondition;
 pub use meeting::Met;
 pub use sizes::size_of_blocks;
 pub use walking::walk_file;

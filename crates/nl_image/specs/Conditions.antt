@@ -20,7 +20,10 @@ use Rattle.nl_dat.specs.Images.{IsDatOf, entry_told}
 use Rattle.nl_dat.specs.Table.{period_of_entry}
 use Rattle.nl_cpfile.specs.Images.{IsCpfileOf}
 use Rattle.nl_check.specs.Conditions.{AreExact, AreShaped, AreTrees}
+use Rattle.nl_check.specs.ImageConditions.{number_of}
 use Rattle.nl_check.specs.Judging.{told}
+use Rattle.nl_check.specs.declared.conditions.ImageCondition.{ImageCondition}
+use Rattle.nl_check.specs.declared.conditions.ImageCondition.TheVariants as condition
 use Rattle.nl_image.specs.Parts.{Parts, blocks_in, cpfile_in, dat_in, image_length, padding_in, padding_of, sufile_in}
 
 -- ---- what an image tells
@@ -47,7 +50,7 @@ periods_told p v = option_map period_of_entry (entry_told p.numbers v)
 
 -- ---- the conditions, of bytes and the parts that they spell
 
--- 1: there are as many bytes as a superblock has, and the first ones are a mark
+-- `Mark`: there are as many bytes as a superblock has, and the first ones are a mark
 abbrev pub IsMarked : List ℕ → Parts → Type 0
 IsMarked bytes p = HasMark bytes
 
@@ -57,11 +60,11 @@ pub record IsDividedBy (bytes : List ℕ) (s : Superblock) : Type 0 where
   pub geometry : IsGeometry s.segments s.blocks
   pub some : 1 ≤ s.checkpoints
 
--- 2
+-- `Division`: the superblock is such bytes
 abbrev pub IsDivided : List ℕ → Parts → Type 0
 IsDivided bytes p = IsDividedBy (take 1024 bytes) p.shape
 
--- 3
+-- `Length`: there are as many bytes as it tells
 abbrev pub HasItsLength : List ℕ → Parts → Type 0
 HasItsLength bytes p = length bytes ≡ image_length p.shape
 
@@ -70,17 +73,17 @@ pub record IsShapeOf (g : Geometry) (s : Superblock) : Type 0 where
   pub segments : g.segments ≡ s.segments
   pub blocks : g.blocks ≡ s.blocks
 
--- 4: the segments are tidy, and all that are neither clean nor in error have logs
+-- `Segments`: the segments are tidy, and all that are neither clean nor in error have logs
 pub record HasSegments (bytes : List ℕ) (p : Parts) : Type 0 where
   pub geometry : Geometry
   pub shape : IsShapeOf geometry p.shape
   pub told : IsSufileOf geometry (sufile_in p.shape bytes) p.segments
 
--- 5: checkpoints rise, and under the first mark none is minor
+-- `Checkpoints`: checkpoints rise, and under the first mark none is minor
 abbrev pub HasCheckpoints : List ℕ → Parts → Type 0
 HasCheckpoints bytes p = IsCpfileOf p.shape.mark (cpfile_in p.shape bytes) p.kept
 
--- 6: each number in use has a period up to the latest checkpoint, and a used block of its own
+-- `Numbers`: each number in use has a period up to the latest checkpoint, and a used block of its own
 abbrev pub HasNumbers : List ℕ → Parts → Type 0
 HasNumbers bytes p = IsDatOf p.segments (latest_told p) (dat_in p.shape bytes) p.numbers
 
@@ -88,25 +91,26 @@ HasNumbers bytes p = IsDatOf p.segments (latest_told p) (dat_in p.shape bytes) p
 abbrev pub IsOwn : (ℕ → Option Payload) → ℕ → DatEntry → Type 0
 IsOwn payload v e = option_map number_of_payload (payload e.block) ≡ Some v
 
--- 7: the used part of each segment is whole logs, and each number has its own block of them
+-- `Logs`: the used part of each segment is whole logs, and each number has its own block of them
 pub record HasLogs (bytes : List ℕ) (p : Parts) : Type 0 where
   pub payload : List (Option Payload)
   pub whole : HoldLogs p.segments (blocks_told bytes p) payload
   pub own : (v : ℕ) (e : DatEntry) → entry_told p.numbers v ≡ Some e → IsOwn (held_in payload) v e
 
--- 8: in each checkpoint all roots, nodes and blocks of inodes have their shape, and no number is met twice
+-- `Shapes`: in each checkpoint all roots, nodes and blocks of inodes have their shape, and no number is met
+-- twice
 abbrev pub HasShapes : List ℕ → Parts → Type 0
 HasShapes bytes p = AreShaped (pages_told bytes p) (map told p.kept)
 
--- 9: the inodes of each checkpoint hold a tree
+-- `Trees`: the inodes of each checkpoint hold a tree
 abbrev pub HasTrees : List ℕ → Parts → Type 0
 HasTrees bytes p = AreTrees (pages_told bytes p) (map told p.kept)
 
--- 10: each checkpoint meets exactly the numbers whose period has it
+-- `Periods`: each checkpoint meets exactly the numbers whose period has it
 abbrev pub HasPeriods : List ℕ → Parts → Type 0
 HasPeriods bytes p = AreExact (pages_told bytes p) (periods_told p) (map told p.kept)
 
--- 11: the padding, and all blocks outside used parts, are zero
+-- `Zeros`: the padding, and all blocks outside used parts, are zero
 pub record HasZeros (bytes : List ℕ) (p : Parts) : Type 0 where
   pub padding : padding_in p.shape bytes ≡ replicate (padding_of p.shape) 0
   pub blocks : IsRestZero p.segments (blocks_told bytes p)
@@ -124,7 +128,7 @@ conditions =
     ∷ HasPeriods ∷ HasZeros ∷ []
 
 abbrev pub condition_count : ℕ
-condition_count = 11
+condition_count = number_of condition.Zeros
 
 -- the first n of them hold
 abbrev pub HoldFirst : ℕ → List Condition → List ℕ → Parts → Type 0
@@ -134,6 +138,10 @@ HoldFirst (suc n) (c ∷ cs) bytes p = c bytes p × HoldFirst n cs bytes p
 
 abbrev pub MeetsFirst : ℕ → List ℕ → Parts → Type 0
 MeetsFirst n bytes p = HoldFirst n conditions bytes p
+
+-- this one holds, and those before it
+abbrev pub MeetsUpTo : ImageCondition → List ℕ → Parts → Type 0
+MeetsUpTo c bytes p = MeetsFirst (number_of c) bytes p
 
 -- the bytes are an image with these parts
 abbrev pub IsImage : List ℕ → Parts → Type 0

@@ -17,10 +17,11 @@ use Rattle.nl_dat.specs.EntryBytes.{HasSpelling}
 use Rattle.nl_dat.specs.Images.{IsTableOver, table_of}
 use Rattle.nl_dat.specs.Table.{entry_in}
 use Rattle.nl_cpfile.specs.Images.{AreRising}
+use Rattle.nl_check.specs.declared.conditions.ImageCondition.TheVariants as condition
 use Rattle.nl_image.specs.declared.reading.ReadImage.{ReadImage}
 use Rattle.nl_image.specs.declared.sections.Sections.{Sections}
 use Rattle.nl_image.specs.declared.tables.Tables.{Tables}
-use Rattle.nl_image.specs.Conditions.{FirstFails, HasPeriods, HasShapes, HasTrees, IsImage, IsOwn, IsShapeOf, MeetsFirst, blocks_told}
+use Rattle.nl_image.specs.Conditions.{FirstFails, HasPeriods, HasShapes, HasTrees, IsImage, IsOwn, IsShapeOf, MeetsUpTo, blocks_told}
 use Rattle.nl_image.specs.Parts.{Parts, blocks_in, cpfile_in, dat_in, image_length, padding_in, sufile_in}
 
 -- the bytes are refused by the first condition that they fail, or for want of memory
@@ -35,8 +36,8 @@ FailsWithin most bytes e = (n : ℕ) × (n ≤ most) × (e ≡ BadImage n) × Fi
 
 -- the bytes begin with this superblock, which divides a volume, and with no other
 pub record BeginsWith (bytes : List ℕ) (s : Superblock) : Type 0 where
-  pub meets : (p : Parts) → p.shape ≡ s → MeetsFirst 2 bytes p
-  pub only : (p : Parts) → MeetsFirst 2 bytes p → p.shape ≡ s
+  pub meets : (p : Parts) → p.shape ≡ s → MeetsUpTo condition.Division bytes p
+  pub only : (p : Parts) → MeetsUpTo condition.Division bytes p → p.shape ≡ s
 
 -- the bytes have their length, and these are their parts
 pub record IsSectioned (x : Sections) : Type 0 where
@@ -51,10 +52,12 @@ pub record IsSectioned (x : Sections) : Type 0 where
 
 -- ---- the tables, one after another
 
--- the first four conditions hold of these segments, and of no others
+-- the conditions up to that on segments hold of these segments, and of no others
 pub record HaveSegments (x : Sections) (segments : Segments) : Type 0 where
-  pub meets : (p : Parts) → p.shape ≡ x.superblock → p.segments ≡ segments → MeetsFirst 4 x.image.now p
-  pub only : (p : Parts) → MeetsFirst 4 x.image.now p → (p.shape ≡ x.superblock) × (p.segments ≡ segments)
+  pub meets : (p : Parts) → p.shape ≡ x.superblock → p.segments ≡ segments
+      → MeetsUpTo condition.Segments x.image.now p
+  pub only : (p : Parts) → MeetsUpTo condition.Segments x.image.now p
+      → (p.shape ≡ x.superblock) × (p.segments ≡ segments)
 
 -- parts that have these segments and checkpoints
 pub record AreTold (x : Sections) (segments : Segments) (kept : List CheckpointEntry)
@@ -63,10 +66,10 @@ pub record AreTold (x : Sections) (segments : Segments) (kept : List CheckpointE
   pub segments_are : p.segments ≡ segments
   pub kept_are : p.kept ≡ kept
 
--- the first five hold of them, and of no others
+-- those up to that on checkpoints hold of them, and of no others
 pub record HaveCheckpoints (x : Sections) (segments : Segments) (kept : List CheckpointEntry) : Type 0 where
-  pub meets : (p : Parts) → AreTold x segments kept p → MeetsFirst 5 x.image.now p
-  pub only : (p : Parts) → MeetsFirst 5 x.image.now p → AreTold x segments kept p
+  pub meets : (p : Parts) → AreTold x segments kept p → MeetsUpTo condition.Checkpoints x.image.now p
+  pub only : (p : Parts) → MeetsUpTo condition.Checkpoints x.image.now p → AreTold x segments kept p
 
 -- with what a table has for each number, 0 too
 abbrev pub parts_with : Sections → Segments → List CheckpointEntry → List (Option DatEntry) → Parts
@@ -76,10 +79,10 @@ parts_with x segments kept table =
 abbrev pub parts_read : Sections → Tables → Parts
 parts_read x t = parts_with x t.segments t.kept t.numbers
 
--- the first six hold of these parts, and of no others
+-- those up to that on numbers hold of these parts, and of no others
 pub record HaveTables (bytes : List ℕ) (p : Parts) : Type 0 where
-  pub meets : MeetsFirst 6 bytes p
-  pub only : (q : Parts) → MeetsFirst 6 bytes q → q ≡ p
+  pub meets : MeetsUpTo condition.Numbers bytes p
+  pub only : (q : Parts) → MeetsUpTo condition.Numbers bytes q → q ≡ p
 
 -- number 0 is never used, and all others have a place and used blocks
 pub record AreNumbered (table : List (Option DatEntry)) (segments : Segments) (p : Parts) : Type 0 where
@@ -101,7 +104,7 @@ pub record HaveReadLogs (x : Sections) (t : Tables) (logs : Restored) : Type 0 w
   pub restored : IsRestored t.segments (pages_of_bytes x.blocks.now) logs
   pub own : HaveOwn t.numbers logs.payload
 
--- conditions 8 to 10
+-- the conditions on checkpoints
 pub record HasCheckedTrees (bytes : List ℕ) (p : Parts) : Type 0 where
   pub shapes : HasShapes bytes p
   pub trees : HasTrees bytes p

@@ -4,6 +4,7 @@ ghost use Rattle.nl_image.specs.Conditions.{IsDividedBy, IsShapeOf, MeetsFirst};
 ghost use Rattle.nl_image.specs.Parts.{Parts};
 ghost use Rattle.nl_image.specs.Reading.{BeginsWith, FailsWithin};
 
+use nl_check::ImageCondition;
 use nl_layout::Superblock;
 use nl_types::{BLOCK_SIZE, Geometry, VolError};
 
@@ -33,11 +34,11 @@ pub(crate) fn division_of(bytes: &[u8]) -> Result<Division, VolError>
     ensures refused { IfErr result (FailsWithin 2 bytes.now) }
 {
     if !Superblock::has_mark(bytes) {
-        return Err(VolError::BadImage(1));
+        return Err(VolError::BadImage(ImageCondition::Mark.number()));
     }
     match divided(&bytes[..BLOCK_SIZE]) {
         Some(division) => Ok(division),
-        None => Err(VolError::BadImage(2)),
+        None => Err(VolError::BadImage(ImageCondition::Division.number())),
     }
 }
 

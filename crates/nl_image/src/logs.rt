@@ -8,6 +8,7 @@ ghost use Rattle.nl_image.specs.Reading.{AreNumbered, HaveReadLogs, HaveOwn, Hav
 
 use crate::sections::Sections;
 use crate::tables::Tables;
+use nl_check::ImageCondition;
 use nl_dat::DatEntry;
 use nl_segwriter::Restored;
 use nl_space::Payload;
@@ -37,7 +38,7 @@ pub(crate) fn read_logs(
     if have_own(tables.numbers.as_slice(), logs.payload.as_slice()) {
         Ok(logs)
     } else {
-        Err(VolError::BadImage(7))
+        Err(VolError::BadImage(ImageCondition::Logs.number()))
     }
 }
 

@@ -8,7 +8,7 @@ use crate::logs::read_logs;
 use crate::pages::ImagePages;
 use crate::sections::{Sections, sections_of};
 use crate::tables::{Tables, read_tables};
-use nl_check::first_fault;
+use nl_check::{ImageCondition, first_fault};
 use nl_dat::DatEntry;
 use nl_layout::CheckpointEntry;
 use nl_segwriter::Restored;
@@ -72,7 +72,7 @@ fn read_checked(
     if has_zeros(sections, &tables.segments) {
         Ok(logs)
     } else {
-        Err(VolError::BadImage(11))
+        Err(VolError::BadImage(ImageCondition::Zeros.number()))
     }
 }
 

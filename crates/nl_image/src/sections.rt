@@ -6,6 +6,7 @@ ghost use Rattle.nl_image.specs.Parts.{image_length};
 ghost use Rattle.nl_image.specs.Reading.{BeginsWith, IsSectioned};
 
 use crate::geometry::{Division, division_of};
+use nl_check::ImageCondition;
 use nl_layout::Superblock;
 use nl_types::{BLOCK_SIZE, Geometry, VolError};
 
@@ -40,7 +41,7 @@ pub(crate) fn sections_of<'a>(image: &'a [u8]) -> Result<Sections<'a>, VolError>
     let division = division_of(image)?;
     match split(image, division) {
         Some(sections) => Ok(sections),
-        None => Err(VolError::BadImage(3)),
+        None => Err(VolError::BadImage(ImageCondition::Length.number())),
     }
 }
 

@@ -1,7 +1,10 @@
-use Rattle.std.proofs.Common.{Ok, length, ap, arith, refl, subst, sym}
+use Rattle.std.proofs.Common.{Ok, Option, length, ap, arith, refl, subst, sym}
+use Rattle.std.specs.Option.{option_map}
 use Rattle.std.specs.Prelude.{map}
 use Rattle.std.proofs.lemmas.Option.{slice_get_read}
 use Rattle.nl_check.specs.Conditions.{FirstFault}
+use Rattle.nl_check.specs.ImageConditions.{number_of}
+use Rattle.nl_check.specs.declared.conditions.ImageCondition.{ImageCondition}
 use Rattle.nl_check.specs.Judging.{IsJudgedLast, told}
 use Rattle.nl_check.specs.Facts.Below.{found-at, none-from}
 use Rattle.nl_check.proofs.JudgedCheckpoints.{judged-all, judged-more, judged-none, shape-fails}
@@ -56,7 +59,8 @@ pub returns-clause-fault : goal.returns-clause-fault
 returns-clause-fault g c =
     let pages = g.V.VRead.pages c.args.image.now.store.now in
     let periods = g.V.VRead.periods c.args.image.now.store.now in
-    subst (FirstFault pages periods (map told c.args.kept.now)) (sym c.fault_of.ensures)
+    subst (λ (o : Option ImageCondition).
+    FirstFault pages periods (map told c.args.kept.now) (option_map number_of o)) (sym c.fault_of.ensures)
     (judged-all pages periods c.args.kept.now c.loop-entry.entry-index c.loop-entry.judged.trees
     c.loop-entry.judged.periods
     c.loop-entry-test.false c.loop-entry.invariant.judged)

@@ -1,14 +1,17 @@
-use Rattle.std.proofs.Common.{◌≡◌, Bool, true, false, arith, refl, sym}
+use Rattle.std.proofs.Common.{ap, ◌≡◌, Bool, true, false, arith, sym}
 use Rattle.std.proofs.lemmas.Bool.{false≢true}
 use Rattle.std.proofs.lemmas.List.{length-take-le}
+use Rattle.nl_check.specs.ImageConditions.{number_of}
+use Rattle.nl_check.specs.declared.conditions.ImageCondition.TheVariants as condition
+use Rattle.nl_types.specs.declared.error.VolError.TheVariants.{BadImage}
 use Rattle.nl_image.proofs.FirstConditions.{no-mark, not-divided}
 use Rattle.nl_image.proofs.geometry.division_of.Goals as goal
 
 pub returns-then-not-has_mark-clause-refused : goal.returns-then-not-has_mark-clause-refused
 returns-then-not-has_mark-clause-refused c = (
-  1,
+  number_of condition.Mark,
   omega arith,
-  refl,
+  ap BadImage c.number.ensures,
   no-mark c.args.bytes.now
       (λ mark. both c.has_mark.result (c.has_mark.ensures.1 mark) c.if-not-has_mark.true),
 )
@@ -22,9 +25,9 @@ slice_bounds-divided-end c =
 
 pub returns-in-None-clause-refused : goal.returns-in-None-clause-refused
 returns-in-None-clause-refused c = (
-  2,
+  number_of condition.Division,
   omega arith,
-  refl,
+  ap BadImage c.number-in-None.ensures,
   not-divided c.args.bytes.now (c.has_mark.ensures.0 c.if-not-has_mark.false)
       (λ s is. false≢true (c.in-None.ensures.some s is)),
 )

@@ -1,4 +1,7 @@
-use Rattle.std.proofs.Common.{◌≡◌, false, inr, refl, sym, true}
+use Rattle.std.proofs.Common.{ap, ◌≡◌, false, inr, refl, sym, true}
+use Rattle.nl_check.specs.ImageConditions.{number_of}
+use Rattle.nl_check.specs.declared.conditions.ImageCondition.TheVariants as condition
+use Rattle.nl_types.specs.declared.error.VolError.TheVariants.{BadImage}
 use Rattle.nl_image.specs.Facts.ReadParts.{has-logs, own-fails, own-same}
 use Rattle.nl_image.proofs.logs.read_logs.Goals as goal
 
@@ -12,8 +15,8 @@ returns-then-have_own-clause-meets c =
 
 pub returns-else-have_own-clause-refused : goal.returns-else-have_own-clause-refused
 returns-else-have_own-clause-refused c = inr (
-  7,
-  refl,
+  number_of condition.Logs,
+  ap BadImage c.number.ensures,
   own-fails c.args.sections.now c.args.tables.now c.requires.sectioned c.requires.tables c.requires.numbered
       c.in_ok-logs.logs c.in_ok-logs.ensures.found c.summaries_are_one.ensures.one
       (λ own. let lie : false ≡ true = c.if-have_own.ensures.1

@@ -1,4 +1,7 @@
-use Rattle.std.proofs.Common.{◌≡◌, false, inr, refl, true}
+use Rattle.std.proofs.Common.{ap, ◌≡◌, false, inr, refl, true}
+use Rattle.nl_check.specs.ImageConditions.{number_of}
+use Rattle.nl_check.specs.declared.conditions.ImageCondition.TheVariants as condition
+use Rattle.nl_types.specs.declared.error.VolError.TheVariants.{BadImage}
 use Rattle.nl_image.specs.Reading.{parts_read}
 use Rattle.nl_image.specs.Facts.LaterConditions.{meets-all, zeros-fail}
 use Rattle.nl_image.specs.Facts.ReadParts.{are-zeros, has-zeros}
@@ -14,8 +17,8 @@ returns-then-has_zeros-clause-image c =
 
 pub returns-else-has_zeros-clause-refused : goal.returns-else-has_zeros-clause-refused
 returns-else-has_zeros-clause-refused c = inr (
-  11,
-  refl,
+  number_of condition.Zeros,
+  ap BadImage c.number.ensures,
   zeros-fail c.args.sections.now.image.now
       (parts_read c.args.sections.now c.args.tables.now) c.requires.tables c.in_ok-logs.ensures.meets
       c.in_ok-check_trees.ensures.holds
