@@ -22,7 +22,7 @@ use Rattle.nl_blocktree.specs.Private.TreeLevels.{HasKept, data_alone, kept_leve
 use Rattle.nl_blocktree.specs.Private.Writing.{PutsData}
 use Rattle.nl_blocktree.specs.Facts.Frames.{births-keep, keeps-file, more-keep, raw-numbered}
 use Rattle.nl_blocktree.specs.Facts.Numbers.{born-append, unused_of_fits}
-use Rattle.nl_blocktree.proofs.Places.{above}
+use Rattle.nl_blocktree.specs.Facts.Reading.{above}
 use Rattle.nl_blocktree.specs.Facts.Staying.{unwritten}
 use Rattle.nl_blocktree.proofs.TreeClimbs.{climbs_told}
 use Rattle.nl_blocktree.proofs.TreeEnds.{renewed_empty}

@@ -9,7 +9,8 @@ use Rattle.nl_check.specs.Private.BesideTrees.{IsAnew, StandAt, StandsBeside}
 use Rattle.nl_check.proofs.MetPlaces.{empty-place, pair}
 use Rattle.nl_check.proofs.MetRanges.{range-left, range-none, range-right, range-step, slots-whole, whole-step}
 use Rattle.nl_check.proofs.SamePlaces.{same-under}
-use Rattle.nl_check.proofs.TreePlaces.{above-same, none-under, tree-child}
+use Rattle.nl_check.proofs.TreePlaces.{above-same, none-under}
+use Rattle.nl_blocktree.specs.Facts.TreeLevels.{tree_child}
 
 -- what a slot of a node names stands below it
 pub tree-slot : (pages : Pages) (height top level below offset s : ℕ) → level ≡ suc below → level ≤ height
@@ -18,7 +19,7 @@ pub tree-slot : (pages : Pages) (height top level below offset s : ℕ) → leve
 tree-slot pages height top level below offset s e low within =
     let up : (128 * offset + s) / 128 ≡ offset = omega (arith, within) in
     let in_slot : (128 * offset + s) % 128 ≡ s = omega (arith, within) in
-    tree-child pages height top below (128 * offset + s) (omega (arith, e, low))
+    tree_child pages height top below (128 * offset + s) (omega (arith, e, low))
     ∙ (ap (λ (k : ℕ). child pages k (place_at pages (Tree height top) (suc below) ((128 * offset + s) / 128)))
     in_slot
     ∙ (ap (λ (q : ℕ). child pages s (place_at pages (Tree height top) (suc below) q)) up

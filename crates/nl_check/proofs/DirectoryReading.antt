@@ -18,7 +18,7 @@ use Rattle.nl_dirs.specs.Listings.{HoldsRecords}
 use Rattle.nl_check.specs.Private.DirectoryBlocks.{BeginsNextBlock, IsAdded}
 use Rattle.nl_check.proofs.Ascending.{IsBehind, behind_last}
 use Rattle.nl_check.proofs.PackedBlocks.{all_of, all_of-packed, pages_of_packed}
-use Rattle.nl_check.proofs.RecordOrder.{ascending-head, ascending-tail, before_first}
+use Rattle.nl_dirs.specs.Facts.RecordOrder.{ascending-head, ascending-tail, before_first}
 
 abbrev pub Block : Type 0
 Block = List Record
@@ -270,11 +270,6 @@ module _ (blocks : Blocks) (count : ℕ) where
         sym (h.stored n ∙ ap (option_map packed_block) e),
         pages_of_packed records h.packed h.is_packed h.fit h.ascending n b e,
       )
-
-  pub not-missing : (n : ℕ) → n < count → None ≡ blocks n → (records : List Record)
-      → HoldsRecords blocks (1024 * count) records → ⊥
-  not-missing n low none records h =
-      let b = block-at records h n low in let e : None ≡ Some (packed_block b.0) = none ∙ sym b.2 in cc
 
   -- the page there is that of a block which follows what is read
   pub next-block : (n used : ℕ) (all : List Record) (page : List ℕ) → n < count

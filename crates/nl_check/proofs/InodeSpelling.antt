@@ -19,7 +19,7 @@ use Rattle.nl_layout.specs.declared.inode.InodeEntry.TheVariants.{Free, InUse}
 use Rattle.nl_layout.specs.Inode.{Spells, InodeHasSpelling, EntryHasSpelling, entry_bytes, entry_at, entry_with, inode_bytes}
 use Rattle.nl_layout.specs.Root.{fields_of, root_told_by}
 use Rattle.nl_layout.specs.Inode as layout
-use Rattle.nl_check.proofs.EntryFields.{entry_at-Spells}
+use Rattle.nl_layout.specs.Facts.Inodes.{entry_at-Spells}
 use borrow.Rule.Slice.PartMut.{mid_of}
 use Rattle.nl_ifile.specs.Inodes.{in_use, inode_in, inode_spelled}
 

@@ -1,16 +1,13 @@
-pub mod ChainPlaces
 pub mod MetPlaces
 pub mod TreePlaces
 pub mod MetRanges
 pub mod MetTrees
 pub mod MetNumbers
 pub mod PeriodsBetween
-pub mod EntryFields
 pub mod InodeSpelling
 pub mod InodeBlocks
 pub mod WalkedFiles
 pub mod SoundFiles
-pub mod RecordOrder
 pub mod Ascending
 pub mod PackedBlocks
 pub mod DirectoryReading

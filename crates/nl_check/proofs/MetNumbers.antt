@@ -1,8 +1,6 @@
 -- What was met tells whether periods are exact.
-use Rattle.std.proofs.Common.{◌≡◌, ◌<◌, ◌≤◌, ℕ, Bool, true, false, List, [], ◌∷◌, length, Option, Some, None, refl, ap, sym, ◌∙◌, arith, zero, suc}
-use Rattle.std.specs.Option.{IsSome, is_some}
+use Rattle.std.proofs.Common.{◌≡◌, ℕ, Bool, true, false, Option, Some, None, refl, ap, sym, ◌∙◌}
 use Rattle.nl_types.specs.declared.period.Period.{Period}
-use Rattle.nl_vstore.specs.Periods.{Periods}
 use Rattle.nl_check.specs.Conditions.{has}
 use Rattle.nl_check.specs.MetFiles.{is_met}
 use Rattle.nl_check.specs.Periods.{TellPeriods, has_in}
@@ -28,18 +26,3 @@ tell-periods = record {
       (λ is. let at = m.only v is in let p = meets.covering at.0 v at.1 in ap (has_in c) p.1 ∙ p.2)
       (λ is. let p = in-period c (periods v) is in let at = meets.met_all v p.0 p.1 p.2 in m.all at.0 v at.1);
 }
-
--- past the table nothing is met
-pub past-met : (numbers : List Bool) (v : ℕ) → length numbers ≤ v → is_met numbers v ≡ false
-past-met [] v high = refl
-past-met (b ∷ numbers) zero high = absurd (omega (arith, high))
-past-met (b ∷ numbers) (suc v) high = past-met numbers v (omega (arith, high))
-
--- and no number is in use
-pub past-used : (periods : Periods) (c v count : ℕ) → ((w : ℕ) → IsSome (periods w) → w < count) → count ≤ v
-    → has_in c (periods v) ≡ false
-past-used periods c v count within high = by (periods v) refl
-  where
-    by : (o : Option Period) → periods v ≡ o → has_in c o ≡ false
-    by None e = refl
-    by (Some p) e = absurd (let low = within v (ap is_some e) in omega (arith, low, high))

@@ -6,7 +6,7 @@ use Rattle.std.proofs.lemmas.Bool.{cases_eq, cases_lt}
 use Rattle.std.proofs.Math.ListN.{length-set, set}
 use Rattle.nl_types.specs.RootChanges.{HasData, places}
 use Rattle.nl_types.specs.Roots.{Chain, Empty, OfTree, Pages, Root, child, kind_of, numbered, page_at, place_at, slot}
-use Rattle.nl_check.proofs.ChainPlaces.{above, data-place, ended-place, first-place, next-place}
+use Rattle.nl_blocktree.specs.Facts.Reading.{above, data-place, ended-place, first-place, next-place}
 use Rattle.nl_check.specs.Shapes.{HasShape}
 use Rattle.nl_check.specs.MetFiles.{CanBeMet, CanNotMeet, HasMet, IsAny, IsLastNamed, IsNode, IsVisited, IsWalked, Meets, MeetsSlot, is_met, unmet}
 

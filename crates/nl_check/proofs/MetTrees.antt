@@ -9,7 +9,8 @@ use Rattle.nl_check.specs.MetFiles.{CanBeMet, CanNotMeet, HasMet, IsAny, IsWalke
 use Rattle.nl_check.specs.Shapes.{HasShape}
 use Rattle.nl_check.specs.Private.TreePlaces.{CanMeet, IsMetUnder, IsUnder}
 use Rattle.nl_check.proofs.MetPlaces.{all-met, can-met, no-block, no-some, numbered-some, pair}
-use Rattle.nl_check.proofs.TreePlaces.{above-next, above-rises, above-same, beyond-lower, none-beside, slot-child, tree-above, tree-top}
+use Rattle.nl_check.proofs.TreePlaces.{above-next, above-rises, above-same, beyond-lower, none-beside, slot-child, tree-top}
+use Rattle.nl_blocktree.specs.Facts.TreeLevels.{tree_above}
 use Rattle.nl_check.proofs.MetRanges.{Slots, Whole, can-not-meet, ends-none, ends-past, joined, met-nowhere, met-one, narrowed, node-apart, node-whole, one-under, range-apart, range-left, range-none, range-right, range-step, slots-whole, whole-step}
 
 -- ---- the walk of a tree
@@ -303,7 +304,7 @@ no-block-there pages height top level offset number old stands why can =
 pub under-top : (pages : Pages) (height top : ℕ) (b : ℕ × ℕ)
     → IsUnder height 0 1 b ⊎ (places pages (Tree height top) b ≡ None)
 under-top pages height top b = elim (cases_lt height b.0) [
-  | inl high ↦ inr (tree-above pages height top b.0 b.1 high)
+  | inl high ↦ inr (tree_above pages height top b.0 b.1 high)
   | inr low ↦ elim (cases_eq (b.1 / 128 ^ (height - b.0)) 0) [
     | inl here ↦ inl (record { low = low; from = omega arith; below = omega (arith, here) })
     | inr other ↦ inr (none-beside pages height top b.0 b.1 low other)

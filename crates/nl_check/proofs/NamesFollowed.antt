@@ -16,12 +16,10 @@ use Rattle.nl_tree.specs.Held.{Held, Holding, IsHolding, Listed, Stored, inode_c
 use Rattle.nl_check.specs.InodeTrees.{FormTree}
 use Rattle.nl_check.specs.Private.Naming.{IsFollowed, IsNamed, IsNaming, IsQueued, IsTaken, TellsKinds, awaited_count, kind_held, record_at, records_in}
 use Rattle.nl_check.specs.Private.SoundInodes.{kind_in}
+use Rattle.nl_check.specs.Facts.Below.{not-none}
 use Rattle.nl_check.proofs.RecordNames.{at-root, kind-there, kind-used, last-step, listed-there, names-record, one-position, record-names, used-as, used-below, walk-on}
 
 -- ---- the table
-
-clash : {A : Type 0} (o : Option A) (x : A) → o ≡ None → o ≡ Some x → ⊥
-clash o x p q = cc
 
 in-table : (awaited : List (Option Kind)) (i : ℕ) (k : Kind) → kind_in awaited i ≡ Some k → i < length awaited
 in-table [] i k is = cc
@@ -153,12 +151,12 @@ module _ (held : Holding) (limits : IsHolding held) where
     kind-here : kind_held (held r.inode) ≡ Some r.kind
     kind-here = elim (n.awaits r.inode inside) [
       | inl same ↦ sym same ∙ t.was
-      | inr none ↦ absurd (clash (kind_in old r.inode) r.kind none t.was)
+      | inr none ↦ absurd (not-none (kind_in old r.inode) r.kind none t.was)
     ]
 
     -- what was named isn't the number
     apart : (i : ℕ) → kind_in old i ≡ None → i ≡ r.inode → ⊥
-    apart i none e = clash (kind_in old i) r.kind none (awaited-here i e)
+    apart i none e = not-none (kind_in old i) r.kind none (awaited-here i e)
 
     still : (i : ℕ) → kind_in old i ≡ None → kind_in new i ≡ None
     still = taken-still r.inode r.kind old new t
@@ -443,7 +441,7 @@ module _ (held : Holding) (limits : IsHolding held) where
       is-root i m = elim (cases_eq i 2) [
         | inl e ↦ e
         | inr other ↦
-            absurd (clash (kind_in new i) m.kind m.taken
+            absurd (not-none (kind_in new i) m.kind m.taken
             (taken-other 2 kind.Directory old new t i other
             ∙ (told.told i (used-below held limits i m.kind m.used) ∙ m.used)))
       ]
@@ -535,8 +533,8 @@ module _ (held : Holding) (limits : IsHolding held) where
             (elim (n.awaits i (let low = in-table now i k e in let c = n.few in omega (arith, low, c))) [
               | inl same ↦ (let u = used-as held limits i k (sym same ∙ e) in
                   let p = f.found i u.content u.used in
-                  clash (kind_in now i) k (reached-named p.0 i p.1) e)
-              | inr none ↦ clash (kind_in now i) k none e
+                  not-none (kind_in now i) k (reached-named p.0 i p.1) e)
+              | inr none ↦ not-none (kind_in now i) k none e
             ])
 
 -- a tree's root is awaited as a directory

@@ -6,7 +6,7 @@ use Rattle.std.proofs.lemmas.List.Elements.{All-cons, All-head, All-nil, All-tai
 use Rattle.nl_dirs.specs.declared.record.Record.{Record}
 use Rattle.nl_dirs.specs.Records.{AllHaveSpelling, IsPageOf, NamesAscend, RecordHasSpelling, packed_block, sizes}
 use Rattle.nl_dirs.specs.Packing.{IsPacked, no_blocks, last_block, full_block}
-use Rattle.nl_check.proofs.RecordOrder.{all-right, ascending-right}
+use Rattle.nl_dirs.specs.Facts.RecordOrder.{all-right, ascending-right}
 
 -- ---- each block's records
 

@@ -19,7 +19,7 @@ use Rattle.nl_dirs.specs.Records.{NamesAscend, entry_of}
 use Rattle.nl_tree.specs.Held.{Held, Holding, IsHolding, Listed, Stored, inode_content, inodes_of_holding}
 use Rattle.nl_check.specs.InodeTrees.{IsUsedAs, Names}
 use Rattle.nl_check.specs.Private.Naming.{kind_held, record_at, records_in}
-use Rattle.nl_check.proofs.RecordOrder.{ascending-head, ascending-tail, entry_of-first, not_before_itself}
+use Rattle.nl_dirs.specs.Facts.RecordOrder.{ascending-head, ascending-tail, entry_of-first, not_before_itself}
 
 -- ---- in one list
 

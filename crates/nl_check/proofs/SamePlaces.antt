@@ -4,7 +4,8 @@ use Rattle.std.proofs.Math.Nat.{div-one}
 use Rattle.std.specs.Option.{option_and_then}
 use Rattle.nl_types.specs.Roots.{Pages, Root, Tree, child, place_at}
 use Rattle.nl_ifile.specs.Inodes.{inode_at, inode_in}
-use Rattle.nl_check.proofs.TreePlaces.{div-pow-in, tree-child}
+use Rattle.nl_check.proofs.TreePlaces.{div-pow-in}
+use Rattle.nl_blocktree.specs.Facts.TreeLevels.{tree_child}
 
 -- ---- trees, be they of one height or not
 
@@ -21,11 +22,11 @@ same-down pages height top height_b top_b level offset zero at q low low_b e ove
     k)
     same one)
 same-down pages height top height_b top_b level offset (suc d) at q low low_b e over one =
-    tree-child pages height top at q (omega (arith, e, low))
+    tree_child pages height top at q (omega (arith, e, low))
     ∙ (ap (child pages (q % 128))
     (same-down pages height top height_b top_b level offset d (suc at) (q / 128) low low_b (omega (arith, e))
     (sym (div-pow-in q d) ∙ over) one)
-    ∙ sym (tree-child pages height_b top_b at q (omega (arith, e, low_b))))
+    ∙ sym (tree_child pages height_b top_b at q (omega (arith, e, low_b))))
 
 -- one number at a place of two trees, and one at each place under it
 pub same-under : (pages : Pages) (height top height_b top_b level offset at q : ℕ)

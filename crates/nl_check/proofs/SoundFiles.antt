@@ -6,7 +6,6 @@ use Rattle.nl_tree.specs.Contents.{byte_in}
 use Rattle.nl_tree.specs.Held.{byte_stored}
 use Rattle.nl_check.specs.Private.SoundFiles.{IsSoundFile}
 use Rattle.nl_check.specs.Private.SoundInodes.{IsMeasured}
-use Rattle.nl_check.specs.Facts.Below.{not-none}
 
 -- the bytes behind the end are zero, in the block of the end
 abbrev pub HasZerosBehind : Blocks → ℕ → Type 0
@@ -32,22 +31,8 @@ zeros-here blocks size page is h k low small =
     ∙ ap (slice_index page) place))
     ∙ here
 
-pub no-block-behind : (blocks : Blocks) (size : ℕ) → None ≡ blocks (size / 1024) → HasZerosBehind blocks size
-no-block-behind blocks size is k low same =
-    ap (λ (q : ℕ). byte_in (blocks q) (k % 1024)) same
-    ∙ ap (λ (o : Option (List ℕ)). byte_in o (k % 1024)) (sym is)
-
 module _ (pages : Pages) (root : Root) (count size : ℕ) (m : IsMeasured pages root count)
     (blocks : ℕ) (enough : size ≤ 1024 * blocks) (least : 1024 * blocks < size + 1024) where
-  -- a file of many blocks has one past its end
-  pub block-past : blocks < count → IsSoundFile (page_at pages root) size → ⊥
-  block-past more s = elim m.sized.last [
-    | inl none ↦ (let same = m.sized.is in omega (arith, none, same, more))
-    | inr (i, is, has) ↦ (let same = m.sized.is in
-        let page = m.stored i has in
-        not-none (page_at pages root i) page.0 (s.none_past i (omega (arith, enough, more, same, is))) page.1)
-  ]
-
   pub sound-file : size ≤ 67108864 → count ≤ blocks → HasZerosBehind (page_at pages root) size
       → IsSoundFile (page_at pages root) size
   sound-file most few zeros = record { most = most; none_past = past; zeros = behind }

@@ -2,27 +2,18 @@
 use Rattle.std.proofs.Common.{◌≡◌, ℕ, zero, suc, ◌+◌, ◌*◌, ◌-◌, ◌/◌, ◌%◌, ◌^◌, ◌<◌, ◌≤◌, List, Some, None, refl, ap, sym, ◌∙◌, arith, inl, inr}
 use Rattle.std.specs.Option.{option_and_then}
 use Rattle.std.proofs.Math.Nat.{div-div-eq-div-mul, div-mul-le_self, div-one, mul_comm, one-le-pow, pow-suc}
-use Rattle.std.proofs.lemmas.Bool.{cases_eq, cases_lt, le-leb, lt-leb, ne_eqb}
+use Rattle.std.proofs.lemmas.Bool.{cases_eq, cases_lt, ne_eqb}
 use Rattle.std.proofs.lemmas.Nat.{le-div}
 use Rattle.nl_types.specs.Roots.{Pages, Tree, below_top, child, numbered, place_at, slot}
+use Rattle.nl_blocktree.specs.Facts.TreeLevels.{div-pow-suc, tree_child, tree_place}
 
 -- ---- levels
-
-pub tree-place : (pages : Pages) (height top level offset : ℕ) → level ≤ height
-    → place_at pages (Tree height top) level offset ≡ below_top pages top (height - level) offset
-unfolding place_at
-tree-place pages height top level offset l = rw (le-leb level height l) refl
-
-pub tree-above : (pages : Pages) (height top level offset : ℕ) → height < level
-    → place_at pages (Tree height top) level offset ≡ None
-unfolding place_at
-tree-above pages height top level offset l = rw (lt-leb level height l) refl
 
 pub tree-top : (pages : Pages) (height top : ℕ) → place_at pages (Tree height top) height 0 ≡ numbered top
 unfolding below_top
 tree-top pages height top =
     let e : height - height ≡ 0 = omega arith in
-    tree-place pages height top height 0 (omega arith) ∙ ap (λ (k : ℕ). below_top pages top k 0) e
+    tree_place pages height top height 0 (omega arith) ∙ ap (λ (k : ℕ). below_top pages top k 0) e
 
 -- there is one block alone on the level of the top
 pub tree-beside : (pages : Pages) (height top offset : ℕ) → (offset ≡ 0 → ⊥)
@@ -30,27 +21,12 @@ pub tree-beside : (pages : Pages) (height top offset : ℕ) → (offset ≡ 0 �
 unfolding below_top
 tree-beside pages height top offset other =
     let e : height - height ≡ 0 = omega arith in
-    tree-place pages height top height offset (omega arith)
+    tree_place pages height top height offset (omega arith)
     ∙ (ap (λ (k : ℕ). below_top pages top k offset) e ∙ rw (ne_eqb offset 0 other) refl)
-
-pub tree-child : (pages : Pages) (height top level offset : ℕ) → level < height →
-    place_at pages (Tree height top) level offset
-    ≡ child pages (offset % 128) (place_at pages (Tree height top)
-    (suc level) (offset / 128))
-unfolding below_top
-tree-child pages height top level offset l =
-    let e : height - level ≡ suc (height - suc level) = omega arith in
-    tree-place pages height top level offset (omega arith)
-    ∙ (ap (λ (k : ℕ). below_top pages top k offset) e
-    ∙ ap (child pages (offset % 128))
-    (sym (tree-place pages height top (suc level) (offset / 128) (omega arith))))
 
 -- ---- what stands above a place
 
 -- the offset one level higher, by the one above the place
-div-pow-out : (q d : ℕ) → q / 128 ^ suc d ≡ q / 128 ^ d / 128
-div-pow-out q d = ap (λ (k : ℕ). q / k) (pow-suc 128 d) ∙ sym (div-div-eq-div-mul q (128 ^ d) 128)
-
 pub div-pow-in : (q d : ℕ) → q / 128 ^ suc d ≡ q / 128 / 128 ^ d
 div-pow-in q d =
     ap (λ (k : ℕ). q / k) (pow-suc 128 d ∙ mul_comm (128 ^ d) 128) ∙ sym (div-div-eq-div-mul q 128 (128 ^ d))
@@ -59,7 +35,7 @@ pub above-next : (level below at offset : ℕ) → level ≡ suc below → at �
     → offset / 128 ^ (level - at) ≡ offset / 128 ^ (below - at) / 128
 above-next level below at offset e low =
     let one : level - at ≡ suc (below - at) = omega (arith, e, low) in
-    ap (λ (d : ℕ). offset / 128 ^ d) one ∙ div-pow-out offset (below - at)
+    ap (λ (d : ℕ). offset / 128 ^ d) one ∙ div-pow-suc offset (below - at)
 
 pub above-same : (level at offset : ℕ) → at ≡ level → offset / 128 ^ (level - at) ≡ offset
 above-same level at offset e =
@@ -83,7 +59,7 @@ none-down pages height top level offset zero at q low e over none =
     ap (λ (k : ℕ). place_at pages (Tree height top) k q) same_level
     ∙ (ap (place_at pages (Tree height top) level) same ∙ none)
 none-down pages height top level offset (suc d) at q low e over none =
-    tree-child pages height top at q (omega (arith, e, low))
+    tree_child pages height top at q (omega (arith, e, low))
     ∙ ap (child pages (q % 128))
     (none-down pages height top level offset d (suc at) (q / 128) low (omega (arith, e)) (sym
     (div-pow-in q d) ∙ over) none)
@@ -113,7 +89,7 @@ pub slot-child : (pages : Pages) (height top level below offset number s : ℕ) 
 slot-child pages height top level below offset number s page e low node stored within =
     let up : (128 * offset + s) / 128 ≡ offset = omega (arith, within) in
     let in_slot : (128 * offset + s) % 128 ≡ s = omega (arith, within) in
-    tree-child pages height top below (128 * offset + s) (omega (arith, e, low))
+    tree_child pages height top below (128 * offset + s) (omega (arith, e, low))
     ∙ (ap (λ (k : ℕ). child pages k (place_at pages (Tree height top) (suc below) ((128 * offset + s) / 128)))
     in_slot
     ∙ (ap (λ (q : ℕ). child pages s (place_at pages (Tree height top) (suc below) q)) up

@@ -38,9 +38,6 @@ below-more : (n m : ℕ) (o : Owner) → n ≤ m → IsBelow n o → IsBelow m o
 below-more n m Itself le low = low
 below-more n m (Of i) le low = omega (arith, le, low)
 
-here-below : (n : ℕ) (o : Owner) → o ≡ Of n → IsBelow (n + 1) o
-here-below n o is = subst (IsBelow (n + 1)) (sym is) (omega arith)
-
 -- where the places of an owner end
 end-of : Owner → ℕ
 end-of Itself = 0

@@ -1,18 +1,15 @@
 -- A file over more pages.
-use Rattle.std.proofs.Common.{◌≡◌, ◌≢◌, ℕ, zero, suc, ◌/◌, ◌%◌, ◌<◌, List, [], ◌∷◌, ◌++◌, length, get_or, Option, Some, None, refl, ap, sym, ◌∙◌, arith, inl, inr, ◌⊎◌}
+use Rattle.std.proofs.Common.{◌≡◌, ℕ, zero, suc, ◌<◌, List, [], ◌∷◌, ◌++◌, length, get_or, Option, Some, None, refl, sym, ◌∙◌, arith, inl, inr, ◌⊎◌}
 use Rattle.std.specs.List.{Contains}
 use Rattle.std.specs.Option.{option_and_then, IsSome}
 use Rattle.std.proofs.lemmas.Bool.{cases_eq, eq-eqb, ne_eqb}
 use Rattle.nl_types.specs.Entries.{Birth, Content}
 use Rattle.nl_types.specs.RootChanges.{Includes, IsSound, KeepsFile, born, with_births}
-use Rattle.nl_types.specs.Roots.{Chain, Empty, OfChain, OfTree, Pages, Root, Tree, kind_of, numbered, pages_of, place_at, slot}
-use Rattle.nl_blocktree.specs.Private.Chains.{ChainAsLists, names, raw}
+use Rattle.nl_types.specs.Roots.{Empty, Pages, Root, numbered, pages_of, place_at, slot}
+use Rattle.nl_blocktree.specs.Private.Chains.{raw}
 use Rattle.nl_blocktree.specs.Checkpoints.{AgreeWhere}
-use Rattle.nl_blocktree.specs.Changed.{blocks_with}
 use Rattle.nl_blocktree.specs.Numbering.{IsUnused}
-use Rattle.nl_blocktree.specs.declared.change.BlockChange.{BlockChange}
 use Rattle.nl_blocktree.specs.Facts.HeldPages.{unused_page, with-more, with-old}
-use Rattle.nl_blocktree.specs.Facts.Reading.{data-place}
 use Rattle.nl_blocktree.specs.Facts.Staying.{block-agrees, file-stays, places-agree, some-of}
 
 pub cases-Option : {X : Type 0} (o : Option X) → (o ≡ None) ⊎ ((x : X) × (o ≡ Some x))

@@ -8,6 +8,13 @@ use Rattle.nl_types.specs.Roots.{Chain, Empty, OfTree, Pages, Root, Tree, chain_
 use Rattle.nl_blocktree.specs.Private.Chains.{ChainAsLists, raw, top_of}
 use Rattle.nl_blocktree.specs.Facts.Chains.{chain_node-ended, chain_node-more}
 
+pub above : (pages : Pages) (root : Root) (level offset : ℕ) → kind_of root ≢ OfTree
+    → place_at pages root (suc (suc level)) offset ≡ None
+unfolding place_at
+above pages Empty level offset h = refl
+above pages (Chain top) level offset h = refl
+above pages (Tree height top) level offset h = absurd (h refl)
+
 pub first-place : (pages : Pages) (root : Root) → kind_of root ≢ OfTree
     → top_of root ≡ place_at pages root 1 0
 unfolding place_at chain_node

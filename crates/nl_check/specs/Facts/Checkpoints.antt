@@ -2,7 +2,7 @@
 use Rattle.std.proofs.Common.{◌≡◌, ℕ, zero, suc, ◌+◌, ◌*◌, ◌/◌, ◌^◌, ◌<◌, ◌≤◌, Bool, true, false, cond, List, [], ◌∷◌, length, Option, Some, None, refl, ap, sym, subst, ◌∙◌, inl, inr, arith}
 use Rattle.std.specs.Prelude.{◌||◌, ◌==◌}
 use Rattle.std.specs.List.{list_any, slice_get}
-use Rattle.std.specs.Option.{IsSome, is_some, option_and_then, option_map}
+use Rattle.std.specs.Option.{is_some, option_and_then, option_map}
 use Rattle.std.proofs.lemmas.Bool.{cases_lt, eqb-true, ne_eqb}
 use Rattle.nl_types.specs.declared.period.Period.{Period}
 use Rattle.nl_types.specs.Entries.{Content, Entry, Place, covers, period_of}
@@ -27,17 +27,12 @@ use Rattle.nl_check.specs.Facts.Packed.{packed-few}
 use Rattle.nl_files.specs.CheckpointTrees.{HoldsTree}
 use Rattle.nl_tree.specs.Held.{Held, Holding, IsInodeNumber, Listed, Stored, inode_content, inodes_of_holding}
 use Rattle.nl_files.specs.CheckpointRoots.{IsTreeSound, StandsAs, StandsFor, inode_root, roots_at}
+use Rattle.nl_blocktree.specs.Facts.Staying.{some-of}
 use Rattle.nl_check.specs.Conditions.{has}
+use Rattle.nl_check.specs.Facts.Below.{not-none}
 use Rattle.nl_check.specs.Laws.{ExactPeriodsAreExact, SoundCheckpointsAreShaped, SoundCheckpointsMeetAll, SoundTreesAreMeant, StandsForTree}
 use Rattle.nl_check.specs.Shapes.{At, HasShape, IsShaped, Itself, Of, Owner, met, root_for}
 use Rattle.nl_check.specs.Trees.{IsTreeOf}
-
-some-of : {A : Type 0} (o : Option A) → IsSome o → (x : A) × (o ≡ Some x)
-some-of None h = cc
-some-of (Some x) h = (x, refl)
-
-no-clash : {A : Type 0} (o : Option A) (x : A) → o ≡ None → o ≡ Some x → ⊥
-no-clash o x p q = cc
 
 any-has : (P : ℕ → Bool) (xs : List ℕ) → list_any P xs ≡ true → (k : ℕ) × (P k ≡ true)
 any-has P [] h = cc
@@ -181,7 +176,7 @@ module _ (pages : Pages) (root : Root) (size inodes : ℕ) (shape : IsShaped pag
         | inr high ↦
             let page = page-there (root_of inode.root) s j v at in
             let file = tree.limits.each i (Stored inode.size (page_at pages (root_of inode.root))) (is ∙ e) in
-            absurd (no-clash (page_at pages (root_of inode.root) j) page.0
+            absurd (not-none (page_at pages (root_of inode.root) j) page.0
             (file.none_past j (omega (arith, file.small, high))) page.1)
       ]
       by Directory (records, h, e) =

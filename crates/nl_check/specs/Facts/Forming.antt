@@ -91,10 +91,6 @@ meant_trees_are_formed = forms
 
 -- ---- inodes that form a tree stand for one
 
-some_value : {A : Type 0} (o : Option A) → is_some o ≡ true → (x : A) × (o ≡ Some x)
-some_value None h = cc
-some_value (Some x) h = (x, refl)
-
 module _ (inodes : Inodes) (f : FormTree inodes) where
   record Step (n : Name) (p : Path) (i : ℕ) : Type 0 where
     pub directory : ℕ
