@@ -25,7 +25,7 @@ use nl_vstore::VRead;
 use std::alloc::Global;
 
 /// What is known of a checkpoint by the one before it.
-#[derive(Clone, Copy, Debug)]
+#[derive(Clone, Copy)]
 pub(crate) enum Beside {
     /// It has its shape, and holds a tree, if the ones before it do.
     KnownGood,

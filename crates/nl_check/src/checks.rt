@@ -22,7 +22,7 @@ use nl_vstore::VRead;
 use std::alloc::Global;
 
 /// What is known of the checkpoints judged so far.
-#[derive(Clone, Copy, Debug)]
+#[derive(Clone, Copy)]
 pub(crate) struct Judged {
     /// Whether the inodes of each hold a tree.
     pub(crate) trees: bool,
@@ -34,7 +34,7 @@ pub(crate) struct Judged {
 
 /// The checkpoint that was judged last. Its numbers are those that are met. Where all so far hold trees, the
 /// kinds are those of its inodes.
-#[derive(Clone, Copy, Debug)]
+#[derive(Clone, Copy)]
 pub(crate) struct Last {
     pub(crate) entry: CheckpointEntry,
 }

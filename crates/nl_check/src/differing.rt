@@ -16,7 +16,7 @@ use nl_types::{Page, VirtualNumber, VolError};
 use nl_vstore::VRead;
 
 /// A file or a directory whose inode isn't what it was.
-#[derive(Clone, Copy, Debug)]
+#[derive(Clone, Copy)]
 pub(crate) struct ChangedFile {
     /// The number of its inode.
     pub(crate) number: u64,

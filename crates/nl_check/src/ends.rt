@@ -10,7 +10,7 @@ use nl_types::{Page, VirtualNumber};
 use nl_vstore::VRead;
 
 /// The last slot of a node's page that names something.
-#[derive(Clone, Copy, Debug)]
+#[derive(Clone, Copy)]
 struct LastSlot {
     slot: usize,
     /// What it names.

@@ -23,7 +23,7 @@ use std::alloc::Global;
 pub(crate) const INODES_PER_BLOCK: usize = 8;
 
 /// What the walk over a checkpoint of the right shape found.
-#[derive(Clone, Copy, Debug)]
+#[derive(Clone, Copy)]
 pub(crate) struct Walk {
     /// How many indices lead up to the last block of the file of inodes.
     pub(crate) count: u64,

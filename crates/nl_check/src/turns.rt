@@ -10,7 +10,7 @@ use nl_vstore::VRead;
 use std::alloc::Global;
 
 /// A checkpoint at which the period of a number begins or ends.
-#[derive(Clone, Copy, Debug)]
+#[derive(Clone, Copy)]
 pub(crate) struct Turn {
     pub(crate) checkpoint: CheckpointNumber,
     pub(crate) number: VirtualNumber,
