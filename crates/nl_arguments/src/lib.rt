@@ -8,9 +8,8 @@ mod asked;
 pub mod laws;
 mod numbers;
 mod options;
-mod script_commands;
+mod script_help;
 
 pub use arguments::Arguments;
 pub use asked::{ArgumentsFault, Asked};
 pub use options::read;
-pub use script_commands::SCRIPT_COMMANDS;

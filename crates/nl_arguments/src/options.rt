@@ -3,12 +3,12 @@ ghost use Rattle.std.specs.Prelude.{◌≡◌, IfOk, Some, false, map};
 ghost use Rattle.clap.specs.Words.{FailsBy, app_of, fault_of, first_of, found_of, kind_of, matches_of, rows_of, rule_of};
 ghost use Rattle.nl_arguments.specs.NumberWords.{number_in};
 ghost use Rattle.nl_arguments.specs.Options.{arguments_given, bare, geometry_given, number_given, program, value_rule};
-ghost use Rattle.nl_arguments.specs.Meanings.{Asks, IsRead, MeansUnlessMemory, error_meaning, fault_meaning, given, misread};
+ghost use Rattle.nl_arguments.specs.Meanings.{Asks, IsRead, MeansUnlessMemory, error_meaning, fault_meaning, given, help, misread, request_of};
 
 use crate::arguments::Arguments;
 use crate::asked::{ArgumentsFault, Asked};
 use crate::numbers::number;
-use crate::script_commands::SCRIPT_COMMANDS;
+use crate::script_help::script_help;
 use clap::error::ErrorKind;
 use clap::{Arg, ArgAction, ArgMatches, Command};
 use nl_types::Items;
@@ -80,7 +80,6 @@ fn bare<'a>(alloc: Global) -> Command<'a>
         .about("Runs a script on a volume with continuous snapshots, kept in memory")
         .version("0.1.0")
         .override_usage(USAGE)
-        .after_help(SCRIPT_COMMANDS)
         .no_binary_name(true)
 }
 
@@ -206,6 +205,14 @@ fn run(alloc: Global, matches: &ArgMatches<'_>) -> Result<Asked, ArgumentsFault>
     Ok(Asked::Run(arguments_given(alloc, matches)?))
 }
 
+/// What is told of the program's options, and then of scripts.
+fn help(alloc: Global, options: &str) -> Result<Asked, AllocError>
+    ensures { IfOk result (λ asked. request_of asked ≡ help) }
+{
+    let script = script_help(alloc)?;
+    Ok(Asked::Help(format!(in alloc; "{options}\n{script}")?))
+}
+
 /// What an error of the library means, with its text.
 fn told(alloc: Global, error: &clap::Error) -> Result<Asked, ArgumentsFault>
     ensures { MeansUnlessMemory result (error_meaning (kind_of error.now)) }
@@ -213,7 +220,7 @@ fn told(alloc: Global, error: &clap::Error) -> Result<Asked, ArgumentsFault>
     let text = format!(in alloc; "{error}")?;
     match error.kind() {
         ErrorKind::OutOfMemory => Err(ArgumentsFault::Memory),
-        ErrorKind::DisplayHelp => Ok(Asked::Help(text)),
+        ErrorKind::DisplayHelp => Ok(help(alloc, text.as_str())?),
         ErrorKind::DisplayVersion => Ok(Asked::Version(text)),
         _ => Err(ArgumentsFault::Misread(text)),
     }
@@ -221,7 +228,7 @@ fn told(alloc: Global, error: &clap::Error) -> Result<Asked, ArgumentsFault>
 
 /// What the words behind the program's name ask for. A number that is not given is 64. A request
 /// for help or the version is answered where no fault stands before it. The texts are not stated;
-/// that of help ends with `SCRIPT_COMMANDS`.
+/// that of help ends with what it says of scripts.
 ///
 /// # Errors
 /// `Misread` where a word is no option of the program, an option comes twice or lacks its value, or

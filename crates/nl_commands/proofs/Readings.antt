@@ -1,46 +1,46 @@
 -- What is read by the grammars of the commands.
-use Rattle.std.proofs.Common.{◌≡◌, ◌∙◌, ap, refl, subst, true, List, Result, Ok, Err}
-use Rattle.clap.specs.Words.{Row, Rule, Text}
+use Rattle.std.proofs.Common.{◌≡◌, ◌∙◌, ◌⊎◌, ap, inl, inr, refl, subst, Bool, true, false, List, [], ◌∷◌, Some, Result, Ok, Err}
+use Rattle.std.specs.Prelude.{◌&&◌}
+use Rattle.std.specs.Str.{bytes_eq}
+use Rattle.clap.proofs.OnLiterals.{clap_on_literals}
+use Rattle.clap.proofs.WalkLemmas.{both}
+use Rattle.clap.specs.Words.{Row, Text}
 use Rattle.nl_types.specs.Calls.{and_then, IsUnless}
 use Rattle.nl_commands.specs.declared.error.LineError.{LineError}
 use Rattle.nl_commands.specs.declared.error.LineError.TheVariants.{Memory}
-use Rattle.nl_commands.specs.declared.names.CommandName.{CommandName}
-use Rattle.nl_commands.specs.declared.names.CommandName.TheVariants as name
-use Rattle.nl_commands.specs.CommandNames.{rules_of}
-use Rattle.nl_commands.specs.Grammars.{Reads, grammar, is_readable, parsed}
+use Rattle.nl_commands.specs.CommandNames.{CommandEntry, commands, entry_in}
+use Rattle.nl_commands.specs.Grammars.{grammar, is_readable}
 
-readable : (n : CommandName) (word : Text) → is_readable (grammar word (rules_of n)) ≡ true
-readable name.At word = refl
-readable name.Mkcp word = refl
-readable name.Chcp word = refl
-readable name.Lscp word = refl
-readable name.Rmcp word = refl
-readable name.Lssu word = refl
-readable name.Clean word = refl
-readable name.Mount word = refl
-readable name.Umount word = refl
-readable name.Resize word = refl
-readable name.Create word = refl
-readable name.Mkdir word = refl
-readable name.Rm word = refl
-readable name.Rmdir word = refl
-readable name.Mv word = refl
-readable name.Write word = refl
-readable name.Fill word = refl
-readable name.Truncate word = refl
-readable name.Cat word = refl
-readable name.Catm word = refl
-readable name.Ls word = refl
-readable name.Stat word = refl
+are_readable : List CommandEntry → Bool
+are_readable [] = true
+are_readable (e ∷ entries) = is_readable (grammar e.word e.rules) && are_readable entries
 
--- what is read by a command's rules
-pub read-by-rules : (n : CommandName) (word : Text) (words : List Text) (rules : List Rule)
-    (result : Result (List Row) LineError)
-    → rules ≡ rules_of n
-    → Reads word rules words result → IsUnless Memory result (parsed (grammar word (rules_of n)) words)
-read-by-rules n word words rules result is reads =
-    let own = subst (λ (rs : List Rule). Reads word rs words result) is reads in
-    own (readable n word)
+all_readable : are_readable commands ≡ true
+unfolding clap_on_literals are_readable commands
+all_readable = refl
+
+-- the first that is named is the first of the list, or is among the others
+named_first : (word : Text) (x e : CommandEntry) (entries : List CommandEntry) (b : Bool)
+    → bytes_eq x.word word ≡ b → entry_in word (x ∷ entries) ≡ Some e
+    → (x ≡ e) ⊎ (entry_in word entries ≡ Some e)
+named_first word x e entries true is found = inl (cc)
+named_first word x e entries false is found = inr (cc)
+
+found_readable : (word : Text) (entries : List CommandEntry) (e : CommandEntry) → are_readable entries ≡ true
+    → entry_in word entries ≡ Some e → is_readable (grammar e.word e.rules) ≡ true
+unfolding are_readable
+found_readable word [] e readable found = cc
+found_readable word (x ∷ entries) e readable found =
+    let parts = both _ _ readable in
+    elim (named_first word x e entries (bytes_eq x.word word) refl found) [
+      | inl is ↦ subst (λ (y : CommandEntry). is_readable (grammar y.word y.rules) ≡ true) is parts.0
+      | inr later ↦ found_readable word entries e parts.1 later
+    ]
+
+-- the grammar of a command that is named is readable
+pub named_readable : (word : Text) (e : CommandEntry) → entry_in word commands ≡ Some e
+    → is_readable (grammar e.word e.rules) ≡ true
+named_readable word e found = found_readable word commands e all_readable found
 
 -- what the rows mean is refused where reading them is, with the same error
 pub refused-read : {B : Type 0} (expected : Result (List Row) LineError)

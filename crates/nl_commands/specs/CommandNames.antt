@@ -1,6 +1,5 @@
 -- The names of the commands, and what each asks for with the words behind it.
-use Rattle.std.specs.Prelude.{if◌then◌else◌, List, [], ◌∷◌, codes, Option, None, Some, Result, Ok, Err}
-use Rattle.std.specs.Option.{option_or}
+use Rattle.std.specs.Prelude.{if◌then◌else◌, List, [], ◌∷◌, codes, map, Option, None, Some, Result, Ok, Err}
 use Rattle.std.specs.Str.{bytes_eq}
 use Rattle.clap.specs.Words.{Row, Rule, Text}
 use Rattle.nl_types.specs.Calls.{and_then}
@@ -9,81 +8,59 @@ use Rattle.nl_commands.specs.declared.command.Command.TheVariants.{Clean}
 use Rattle.nl_commands.specs.declared.command.Shown.TheVariants.{Content, Names, Kind}
 use Rattle.nl_commands.specs.declared.error.LineError.{LineError}
 use Rattle.nl_commands.specs.declared.error.LineError.TheVariants.{Usage}
+use Rattle.nl_commands.specs.declared.names.CommandForm.{CommandForm}
 use Rattle.nl_commands.specs.declared.names.CommandName.{CommandName}
 use Rattle.nl_commands.specs.declared.names.CommandName.TheVariants as name
 use Rattle.nl_commands.specs.AskingCommands.{catm_given, catm_rules, show_given, show_rules}
 use Rattle.nl_commands.specs.CheckpointCommands.{at_given, at_rules, chcp_given, chcp_rules, lscp_given, lscp_rules, mkcp_given, mkcp_rules, rmcp_given, rmcp_rules}
 use Rattle.nl_commands.specs.FileCommands.{create_given, fill_given, mkdir_given, mv_given, operands_rules, path_rules}
 use Rattle.nl_commands.specs.FileCommands.{rm_given, rmdir_given, truncate_given, write_given}
-use Rattle.nl_commands.specs.Grammars.{grammar, parsed}
+use Rattle.nl_commands.specs.Grammars.{argument_rule, grammar, parsed}
 use Rattle.nl_commands.specs.SegmentCommands.{lssu_given, lssu_rules, mount_given, mount_rules, resize_given, resize_rules, umount_given, umount_rules}
 
--- ---- names, by what the commands are on
+-- a command, as a line names it: its word, and what it may be given
+pub record CommandEntry : Type 0 where
+  pub name : CommandName
+  pub word : Text
+  pub rules : List Rule
 
-abbrev pub checkpoint_name : Text → Option CommandName
-checkpoint_name word =
-    if bytes_eq word (codes "at") then Some name.At else (
-    if bytes_eq word (codes "mkcp") then Some name.Mkcp else (
-    if bytes_eq word (codes "chcp") then Some name.Chcp else (
-    if bytes_eq word (codes "lscp") then Some name.Lscp else (
-    if bytes_eq word (codes "rmcp") then Some name.Rmcp else None))))
+abbrev pub entry : CommandName → (word : Text) → List Rule → CommandEntry
+entry name word rules = record { name = name; word = word; rules = rules }
 
-abbrev pub segment_name : Text → Option CommandName
-segment_name word =
-    if bytes_eq word (codes "lssu") then Some name.Lssu else (
-    if bytes_eq word (codes "clean") then Some name.Clean else (
-    if bytes_eq word (codes "mount") then Some name.Mount else (
-    if bytes_eq word (codes "umount") then Some name.Umount else (
-    if bytes_eq word (codes "resize") then Some name.Resize else None))))
+-- what code takes for a command
+abbrev pub entry_of : CommandForm → CommandEntry
+entry_of form = entry form.name form.word.now (map argument_rule form.arguments.now)
 
-abbrev pub file_name : Text → Option CommandName
-file_name word =
-    if bytes_eq word (codes "create") then Some name.Create else (
-    if bytes_eq word (codes "mkdir") then Some name.Mkdir else (
-    if bytes_eq word (codes "rm") then Some name.Rm else (
-    if bytes_eq word (codes "rmdir") then Some name.Rmdir else (
-    if bytes_eq word (codes "mv") then Some name.Mv else (
-    if bytes_eq word (codes "write") then Some name.Write else (
-    if bytes_eq word (codes "fill") then Some name.Fill else (
-    if bytes_eq word (codes "truncate") then Some name.Truncate else None)))))))
+unfoldable pub commands : List CommandEntry
+commands =
+    entry name.At (codes "at") at_rules
+    ∷ entry name.Mkcp (codes "mkcp") mkcp_rules
+    ∷ entry name.Chcp (codes "chcp") chcp_rules
+    ∷ entry name.Lscp (codes "lscp") lscp_rules
+    ∷ entry name.Rmcp (codes "rmcp") rmcp_rules
+    ∷ entry name.Lssu (codes "lssu") lssu_rules
+    ∷ entry name.Clean (codes "clean") []
+    ∷ entry name.Mount (codes "mount") mount_rules
+    ∷ entry name.Umount (codes "umount") umount_rules
+    ∷ entry name.Resize (codes "resize") resize_rules
+    ∷ entry name.Create (codes "create") path_rules
+    ∷ entry name.Mkdir (codes "mkdir") path_rules
+    ∷ entry name.Rm (codes "rm") path_rules
+    ∷ entry name.Rmdir (codes "rmdir") path_rules
+    ∷ entry name.Mv (codes "mv") operands_rules
+    ∷ entry name.Write (codes "write") operands_rules
+    ∷ entry name.Fill (codes "fill") operands_rules
+    ∷ entry name.Truncate (codes "truncate") operands_rules
+    ∷ entry name.Cat (codes "cat") show_rules
+    ∷ entry name.Catm (codes "catm") catm_rules
+    ∷ entry name.Ls (codes "ls") show_rules
+    ∷ entry name.Stat (codes "stat") show_rules
+    ∷ []
 
-abbrev pub asking_name : Text → Option CommandName
-asking_name word =
-    if bytes_eq word (codes "cat") then Some name.Cat else (
-    if bytes_eq word (codes "catm") then Some name.Catm else (
-    if bytes_eq word (codes "ls") then Some name.Ls else (
-    if bytes_eq word (codes "stat") then Some name.Stat else None)))
-
--- the command that a word names
-abbrev pub command_name : Text → Option CommandName
-command_name word =
-    option_or (checkpoint_name word)
-    (option_or (segment_name word) (option_or (file_name word) (asking_name word)))
-
--- what a command may be given
-abbrev pub rules_of : CommandName → List Rule
-rules_of name.At = at_rules
-rules_of name.Mkcp = mkcp_rules
-rules_of name.Chcp = chcp_rules
-rules_of name.Lscp = lscp_rules
-rules_of name.Rmcp = rmcp_rules
-rules_of name.Lssu = lssu_rules
-rules_of name.Clean = []
-rules_of name.Mount = mount_rules
-rules_of name.Umount = umount_rules
-rules_of name.Resize = resize_rules
-rules_of name.Create = path_rules
-rules_of name.Mkdir = path_rules
-rules_of name.Rm = path_rules
-rules_of name.Rmdir = path_rules
-rules_of name.Mv = operands_rules
-rules_of name.Write = operands_rules
-rules_of name.Fill = operands_rules
-rules_of name.Truncate = operands_rules
-rules_of name.Cat = show_rules
-rules_of name.Catm = catm_rules
-rules_of name.Ls = show_rules
-rules_of name.Stat = show_rules
+-- the first of the commands that a word names
+abbrev pub entry_in : Text → List CommandEntry → Option CommandEntry
+entry_in word [] = None
+entry_in word (e ∷ entries) = if bytes_eq e.word word then Some e else entry_in word entries
 
 -- what it asks for by what it is given
 abbrev pub command_given : CommandName → List Row → Result Command LineError
@@ -110,15 +87,15 @@ command_given name.Catm rows = catm_given rows
 command_given name.Ls rows = show_given Names rows
 command_given name.Stat rows = show_given Kind rows
 
--- what it asks for with the words behind the one that names it
-abbrev pub named_meant : CommandName → Text → List Text → Result Command LineError
-named_meant name word words = and_then (parsed (grammar word (rules_of name)) words) (command_given name)
+-- what a command asks for with the words behind its own
+abbrev pub entry_meant : CommandEntry → List Text → Result Command LineError
+entry_meant e words = and_then (parsed (grammar e.word e.rules) words) (command_given e.name)
 
-abbrev pub meant_if_named : Option CommandName → Text → List Text → Result Command LineError
-meant_if_named None word words = Err Usage
-meant_if_named (Some name) word words = named_meant name word words
+abbrev pub meant_if_named : Option CommandEntry → List Text → Result Command LineError
+meant_if_named None words = Err Usage
+meant_if_named (Some e) words = entry_meant e words
 
 -- what the words of a line ask for
 abbrev pub command_meant : List Text → Result Command LineError
 command_meant [] = Err Usage
-command_meant (word ∷ words) = meant_if_named (command_name word) word words
+command_meant (word ∷ words) = meant_if_named (entry_in word commands) words

@@ -4,6 +4,7 @@ pub mod CommandNames
 pub mod FileCommands
 pub mod GivenOperands
 pub mod Grammars
+pub mod HelpTexts
 pub mod Kinds
 pub mod LineMeanings
 pub mod NumberWords

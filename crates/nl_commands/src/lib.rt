@@ -11,6 +11,7 @@ mod command;
 mod error;
 mod files;
 mod grammar;
+mod help;
 pub mod laws;
 mod lines;
 mod mounts;
@@ -22,4 +23,6 @@ mod words;
 
 pub use command::{CheckpointRange, Command, Shown};
 pub use error::LineError;
+pub use help::help_of;
 pub use lines::{read_line, read_words};
+pub use names::{COMMANDS, CommandForm, CommandName};

@@ -6,7 +6,7 @@ ghost use Rattle.nl_commands.specs.LineMeanings.{MeansLine, MeansText, words_mea
 
 use crate::command::Command;
 use crate::error::LineError;
-use crate::names::{command_name, read_named};
+use crate::names::read_named;
 use crate::words::words_of;
 use std::alloc::Global;
 use std::str;
@@ -21,8 +21,7 @@ pub fn read_words(alloc: Global, words: &[&str]) -> Result<Command, LineError>
     let [word, rest @ ..] = words else {
         return Err(LineError::Usage);
     };
-    let name = command_name(word).ok_or(LineError::Usage)?;
-    read_named(alloc, name, word, rest)
+    read_named(alloc, word, rest)
 }
 
 fn read_if_any(alloc: Global, words: &[&str]) -> Result<Option<Command>, LineError>

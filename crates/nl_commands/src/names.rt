@@ -1,8 +1,8 @@
-//! The names of the commands.
-ghost use Rattle.std.specs.Prelude.{◌≡◌, map};
+//! The commands: the word that names each, and what it may be given.
+ghost use Rattle.std.specs.Prelude.{◌≡◌, map, option_map, true};
 ghost use Rattle.nl_types.specs.Calls.{IsUnless};
-ghost use Rattle.nl_commands.specs.CommandNames.{asking_name, checkpoint_name, command_given, command_name, file_name, named_meant, rules_of, segment_name};
-ghost use Rattle.nl_commands.specs.Grammars.{argument_rule};
+ghost use Rattle.nl_commands.specs.CommandNames.{command_given, commands, entry_in, entry_meant, entry_of, meant_if_named};
+ghost use Rattle.nl_commands.specs.Grammars.{argument_rule, grammar, is_readable};
 
 use crate::command::{Command, Shown};
 use crate::error::LineError;
@@ -37,91 +37,206 @@ pub enum CommandName {
     Stat,
 }
 
-fn checkpoint_name(word: &str) -> Option<CommandName>
-    ensures { result ≡ checkpoint_name word.now }
-{
-    match word {
-        "at" => Some(CommandName::At),
-        "mkcp" => Some(CommandName::Mkcp),
-        "chcp" => Some(CommandName::Chcp),
-        "lscp" => Some(CommandName::Lscp),
-        "rmcp" => Some(CommandName::Rmcp),
-        _ => None,
-    }
+/// A command, as it is written and as help tells of it.
+#[derive(Clone, Copy)]
+pub struct CommandForm {
+    pub name: CommandName,
+    /// The word that names it.
+    pub word: &'static str,
+    /// The words behind that one, as help shows them.
+    pub form: &'static str,
+    /// What help says of it, in lines.
+    pub help: &'static [&'static str],
+    /// What it may be given.
+    pub arguments: &'static [Argument<'static>],
 }
 
-fn segment_name(word: &str) -> Option<CommandName>
-    ensures { result ≡ segment_name word.now }
-{
-    match word {
-        "lssu" => Some(CommandName::Lssu),
-        "clean" => Some(CommandName::Clean),
-        "mount" => Some(CommandName::Mount),
-        "umount" => Some(CommandName::Umount),
-        "resize" => Some(CommandName::Resize),
-        _ => None,
-    }
-}
+/// All commands, in the order in which help tells of them.
+pub const COMMANDS: &[CommandForm] = &[
+    CommandForm {
+        word: "at",
+        form: "MOMENT",
+        help: &["set the moment of later commands, in seconds"],
+        arguments: checkpoints::AT_ARGUMENTS,
+        name: CommandName::At,
+    },
+    CommandForm {
+        word: "mkcp",
+        form: "[-s]",
+        help: &["make a checkpoint, or a snapshot with -s, and print its number"],
+        arguments: checkpoints::MKCP_ARGUMENTS,
+        name: CommandName::Mkcp,
+    },
+    CommandForm {
+        word: "chcp",
+        form: "cp|ss N..",
+        help: &["make checkpoints plain, or snapshots"],
+        arguments: checkpoints::CHCP_ARGUMENTS,
+        name: CommandName::Chcp,
+    },
+    CommandForm {
+        word: "lscp",
+        form: "[-rsa] [-i N] [-n K]",
+        help: &[
+            "list checkpoints: -r descending, -s snapshots alone, -a those too",
+            "that the volume made itself, -i N from N on, -n K the first K",
+        ],
+        arguments: checkpoints::LSCP_ARGUMENTS,
+        name: CommandName::Lscp,
+    },
+    CommandForm {
+        word: "rmcp",
+        form: "[-f] R..",
+        help: &[
+            "remove checkpoints: N, A..B, A.. or ..B; with -f not a word of",
+            "snapshots, or of numbers that aren't kept",
+        ],
+        arguments: checkpoints::RMCP_ARGUMENTS,
+        name: CommandName::Rmcp,
+    },
+    CommandForm {
+        word: "lssu",
+        form: "[-a] [-l]",
+        help: &["list segments: -a clean ones too, -l how many needed blocks each has"],
+        arguments: mounts::LSSU_ARGUMENTS,
+        name: CommandName::Lssu,
+    },
+    CommandForm {
+        word: "clean",
+        form: "",
+        help: &["do one round of cleaning, by the configuration of --conf"],
+        arguments: &[],
+        name: CommandName::Clean,
+    },
+    CommandForm {
+        word: "mount",
+        form: "N",
+        help: &["mount a snapshot, and print the mount"],
+        arguments: mounts::MOUNT_ARGUMENTS,
+        name: CommandName::Mount,
+    },
+    CommandForm {
+        word: "umount",
+        form: "M",
+        help: &["give a mount back"],
+        arguments: mounts::UMOUNT_ARGUMENTS,
+        name: CommandName::Umount,
+    },
+    CommandForm {
+        word: "resize",
+        form: "S",
+        help: &["make the volume one of S segments, no fewer than it has"],
+        arguments: mounts::RESIZE_ARGUMENTS,
+        name: CommandName::Resize,
+    },
+    CommandForm {
+        word: "create",
+        form: "PATH",
+        help: &["make an empty file"],
+        arguments: files::PATH_ARGUMENTS,
+        name: CommandName::Create,
+    },
+    CommandForm {
+        word: "mkdir",
+        form: "PATH",
+        help: &["make an empty directory"],
+        arguments: files::PATH_ARGUMENTS,
+        name: CommandName::Mkdir,
+    },
+    CommandForm {
+        word: "rm",
+        form: "PATH",
+        help: &["remove a file"],
+        arguments: files::PATH_ARGUMENTS,
+        name: CommandName::Rm,
+    },
+    CommandForm {
+        word: "rmdir",
+        form: "PATH",
+        help: &["remove an empty directory"],
+        arguments: files::PATH_ARGUMENTS,
+        name: CommandName::Rmdir,
+    },
+    CommandForm {
+        word: "mv",
+        form: "FROM TO",
+        help: &["rename a file or a directory"],
+        arguments: files::OPERANDS_ARGUMENTS,
+        name: CommandName::Mv,
+    },
+    CommandForm {
+        word: "write",
+        form: "PATH OFFSET TEXT",
+        help: &["write the bytes of a text"],
+        arguments: files::OPERANDS_ARGUMENTS,
+        name: CommandName::Write,
+    },
+    CommandForm {
+        word: "fill",
+        form: "PATH OFFSET BYTE COUNT",
+        help: &["write COUNT bytes of one value, 0 to 255"],
+        arguments: files::OPERANDS_ARGUMENTS,
+        name: CommandName::Fill,
+    },
+    CommandForm {
+        word: "truncate",
+        form: "PATH SIZE",
+        help: &["give a file another size"],
+        arguments: files::OPERANDS_ARGUMENTS,
+        name: CommandName::Truncate,
+    },
+    CommandForm {
+        word: "cat",
+        form: "[-m M] PATH",
+        help: &["print a file"],
+        arguments: asking::SHOW_ARGUMENTS,
+        name: CommandName::Cat,
+    },
+    CommandForm {
+        word: "catm",
+        form: "M PATH..",
+        help: &["print files of a mount's snapshot"],
+        arguments: asking::CATM_ARGUMENTS,
+        name: CommandName::Catm,
+    },
+    CommandForm {
+        word: "ls",
+        form: "[-m M] PATH",
+        help: &["print the names in a directory"],
+        arguments: asking::SHOW_ARGUMENTS,
+        name: CommandName::Ls,
+    },
+    CommandForm {
+        word: "stat",
+        form: "[-m M] PATH",
+        help: &["print \"file SIZE\" or \"dir COUNT\""],
+        arguments: asking::SHOW_ARGUMENTS,
+        name: CommandName::Stat,
+    },
+];
 
-fn file_name(word: &str) -> Option<CommandName>
-    ensures { result ≡ file_name word.now }
+/// The first of the commands that a word names.
+fn form_in(commands: &[CommandForm], word: &str) -> Option<CommandForm>
+    ensures { option_map entry_of result ≡ entry_in word.now (map entry_of commands.now) }
 {
-    match word {
-        "create" => Some(CommandName::Create),
-        "mkdir" => Some(CommandName::Mkdir),
-        "rm" => Some(CommandName::Rm),
-        "rmdir" => Some(CommandName::Rmdir),
-        "mv" => Some(CommandName::Mv),
-        "write" => Some(CommandName::Write),
-        "fill" => Some(CommandName::Fill),
-        "truncate" => Some(CommandName::Truncate),
-        _ => None,
-    }
-}
-
-fn asking_name(word: &str) -> Option<CommandName>
-    ensures { result ≡ asking_name word.now }
-{
-    match word {
-        "cat" => Some(CommandName::Cat),
-        "catm" => Some(CommandName::Catm),
-        "ls" => Some(CommandName::Ls),
-        "stat" => Some(CommandName::Stat),
-        _ => None,
+    match commands {
+        [] => None,
+        [command, rest @ ..] => {
+            if command.word == word {
+                Some(*command)
+            } else {
+                form_in(rest, word)
+            }
+        }
     }
 }
 
 /// The command that a word names.
-pub fn command_name(word: &str) -> Option<CommandName>
-    ensures { result ≡ command_name word.now }
+#[tactic(auto, unfolding(crate::specs::CommandNames::commands))]
+fn form_for(word: &str) -> Option<CommandForm>
+    ensures { option_map entry_of result ≡ entry_in word.now commands }
 {
-    checkpoint_name(word)
-        .or_else(|| segment_name(word))
-        .or_else(|| file_name(word))
-        .or_else(|| asking_name(word))
-}
-
-fn arguments_of(name: CommandName) -> &'static [Argument<'static>]
-    ensures { map argument_rule result.now ≡ rules_of name }
-{
-    match name {
-        CommandName::At => checkpoints::AT_ARGUMENTS,
-        CommandName::Mkcp => checkpoints::MKCP_ARGUMENTS,
-        CommandName::Chcp => checkpoints::CHCP_ARGUMENTS,
-        CommandName::Lscp => checkpoints::LSCP_ARGUMENTS,
-        CommandName::Rmcp => checkpoints::RMCP_ARGUMENTS,
-        CommandName::Lssu => mounts::LSSU_ARGUMENTS,
-        CommandName::Clean => &[],
-        CommandName::Mount => mounts::MOUNT_ARGUMENTS,
-        CommandName::Umount => mounts::UMOUNT_ARGUMENTS,
-        CommandName::Resize => mounts::RESIZE_ARGUMENTS,
-        CommandName::Create | CommandName::Mkdir | CommandName::Rm | CommandName::Rmdir =>
-            files::PATH_ARGUMENTS,
-        CommandName::Mv | CommandName::Write | CommandName::Fill | CommandName::Truncate =>
-            files::OPERANDS_ARGUMENTS,
-        CommandName::Catm => asking::CATM_ARGUMENTS,
-        CommandName::Cat | CommandName::Ls | CommandName::Stat => asking::SHOW_ARGUMENTS,
-    }
+    form_in(COMMANDS, word)
 }
 
 fn command_given(alloc: Global, name: CommandName, given: &Given<'_>) -> Result<Command, LineError>
@@ -153,19 +268,26 @@ fn command_given(alloc: Global, name: CommandName, given: &Given<'_>) -> Result<
     }
 }
 
-/// What a command asks for with the words behind its name, which is the word given here.
+/// What a command asks for with the words behind its own.
 ///
 /// # Errors
 /// `Usage` where the words are not of the command's form; `Memory`.
-pub fn read_named(
-    alloc: Global,
-    name: CommandName,
-    word: &str,
-    words: &[&str],
-) -> Result<Command, LineError>
-    ensures { IsUnless LineError.Memory result (named_meant name word.now (map (λ w. w.now) words.now)) }
+fn read_by_form(alloc: Global, form: CommandForm, words: &[&str]) -> Result<Command, LineError>
+    requires { is_readable (grammar form.word.now (map argument_rule form.arguments.now)) ≡ true }
+    ensures { IsUnless LineError.Memory result (entry_meant (entry_of form) (map (λ w. w.now) words.now)) }
 {
-    let arguments = arguments_of(name);
-    let given = read(alloc, word, arguments, words)?;
-    command_given(alloc, name, &given)
+    let given = read(alloc, form.word, form.arguments, words)?;
+    command_given(alloc, form.name, &given)
+}
+
+/// What a command asks for, by the word that names it and the words behind that.
+///
+/// # Errors
+/// `Usage` where the first word names no command, or the others are not of its form; `Memory`.
+pub fn read_named(alloc: Global, word: &str, words: &[&str]) -> Result<Command, LineError>
+    ensures { IsUnless LineError.Memory result
+        (meant_if_named (entry_in word.now commands) (map (λ w. w.now) words.now)) }
+{
+    let form = form_for(word).ok_or(LineError::Usage)?;
+    read_by_form(alloc, form, words)
 }
