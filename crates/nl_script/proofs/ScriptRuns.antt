@@ -234,18 +234,26 @@ module _ {S J O : Type 0} (habits : Habits S J) (config : Config) (moment : ℕ)
               read = begun input behind lines-now after_done.failed stream.Output failed read-more;
             }
 
-      -- what one turn of the script came to
-      abbrev IsTurn : Type 0
-      IsTurn =
-          HasDoneLine habits config number mid new done after_done goes_on left behind (contents written)
+      -- what one turn of the script came to, by a configuration
+      abbrev IsTurn : Config → Type 0
+      IsTurn by =
+          HasDoneLine habits by number mid new done after_done goes_on left behind (contents written)
           (contents after)
           ⊎ HasStopped mid new done after_done goes_on left (contents written) (contents after)
 
-      pub turn-ends : IsTurn → number < 2 ^ 64 - 1 → goes_on ≡ false → Ends new after_done after
-      turn-ends (inl done_line) small off = ends-untold done_line small off
-      turn-ends (inr stopped) small off = ends-stopped stopped
+      own-turn-ends : IsTurn config → number < 2 ^ 64 - 1 → goes_on ≡ false → Ends new after_done after
+      own-turn-ends (inl done_line) small off = ends-untold done_line small off
+      own-turn-ends (inr stopped) small off = ends-stopped stopped
 
-      pub turn-goes-on : IsTurn → number < 2 ^ 64 - 1 → goes_on ≡ true
+      pub turn-ends : (by : Config) → by ≡ config → IsTurn by → number < 2 ^ 64 - 1 → goes_on ≡ false
+          → Ends new after_done after
+      turn-ends by same turn small off = own-turn-ends (subst IsTurn same turn) small off
+
+      own-turn-goes-on : IsTurn config → number < 2 ^ 64 - 1 → goes_on ≡ true
           → SoFar new after_done (number + 1) behind after × (after_done.failed ≡ None)
-      turn-goes-on (inl done_line) small on = run-more done_line small on
-      turn-goes-on (inr stopped) small on = absurd (true≢false (sym on ∙ stopped.stops))
+      own-turn-goes-on (inl done_line) small on = run-more done_line small on
+      own-turn-goes-on (inr stopped) small on = absurd (true≢false (sym on ∙ stopped.stops))
+
+      pub turn-goes-on : (by : Config) → by ≡ config → IsTurn by → number < 2 ^ 64 - 1 → goes_on ≡ true
+          → SoFar new after_done (number + 1) behind after × (after_done.failed ≡ None)
+      turn-goes-on by same turn small on = own-turn-goes-on (subst IsTurn same turn) small on

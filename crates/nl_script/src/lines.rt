@@ -16,6 +16,7 @@ ghost use Rattle.nl_script.specs.declared.rounds.RoundSum.{RoundSum};
 use crate::events::{events_of, is_quiet, readings};
 use crate::readers::{Readers, is_bad_mount};
 use crate::rounds::{RoundSum, run_steps, tell_round};
+use crate::runner::Runner;
 use crate::running::{run_events, run_rest};
 use crate::status::{LineResult, Status};
 use crate::telling::tell_all;
@@ -342,60 +343,75 @@ fn show_files<V: Volume, P: FileReader<V::Book> + Send, R: Threads + Sync, W: Wr
     }
 }
 
-fn run_command<V: Volume, P: FileReader<V::Book> + Send, R: Threads + Sync, W: Write>(
-    alloc: Global,
-    volume: &mut V,
-    readers: &mut Readers<'_, P, R>,
-    config: &Config,
-    moment: &mut u64,
-    number: u64,
-    command: Command,
-    out: &mut W,
-) -> LineResult
-    ensures { ComesTo (λ end.
-        IsCommandDone V.habits config.now
-        number moment.old command volume.old volume.new end
-        ⊎ LacksMemory number moment.old volume.old volume.new end)
-        moment.new result (W.contents out.old) (W.contents out.new) }
-{
-    match command {
-        Command::At(later) => {
-            *moment = later;
-            (Status::Fine, Ok(()))
+impl<V: Volume, P: FileReader<V::Book> + Send, R: Threads + Sync> Runner<'_, V, P, R> {
+    fn run_command<W: Write>(
+        &mut self,
+        moment: &mut u64,
+        number: u64,
+        command: Command,
+        out: &mut W,
+    ) -> LineResult
+        ensures done { ComesTo (λ end.
+            IsCommandDone V.habits self.old.config
+            number moment.old command self.old.volume self.new.volume end
+            ⊎ LacksMemory number moment.old self.old.volume self.new.volume end)
+            moment.new result (W.contents out.old) (W.contents out.new) }
+        ensures config { self.new.config ≡ self.old.config }
+    {
+        match command {
+            Command::At(later) => {
+                *moment = later;
+                (Status::Fine, Ok(()))
+            }
+            Command::Lssu { all, long } => {
+                list_segments(self.alloc, &self.volume, number, all, long, out)
+            }
+            Command::Catm { mount, paths } => {
+                let (volume, readers) = (&mut self.volume, &mut self.readers);
+                show_files(
+                    self.alloc,
+                    volume,
+                    readers,
+                    number,
+                    mount,
+                    paths.as_slice(),
+                    out,
+                )
+            }
+            Command::Clean => {
+                clean(
+                    self.alloc,
+                    &mut self.volume,
+                    &self.config,
+                    *moment,
+                    number,
+                    out,
+                )
+            }
+            command => run_all(self.alloc, &mut self.volume, *moment, number, command, out),
         }
-        Command::Lssu { all, long } => list_segments(alloc, volume, number, all, long, out),
-        Command::Catm { mount, paths } => {
-            let paths = paths.as_slice();
-            show_files(alloc, volume, readers, number, mount, paths, out)
-        }
-        Command::Clean => clean(alloc, volume, config, *moment, number, out),
-        command => run_all(alloc, volume, *moment, number, command, out),
     }
-}
 
-/// Runs a line, without its line break, and writes what is told of it. Rounds of cleaning go by the
-/// configuration, and files of a mount are read by the readers.
-pub fn run_line<V: Volume, P: FileReader<V::Book> + Send, R: Threads + Sync, W: Write>(
-    alloc: Global,
-    volume: &mut V,
-    readers: &mut Readers<'_, P, R>,
-    config: &Config,
-    moment: &mut u64,
-    number: u64,
-    line: &[u8],
-    out: &mut W,
-) -> LineResult
-    ensures { ComesTo (λ end.
-        IsLineDone V.habits config.now
-        number moment.old line.now volume.old volume.new end)
-        moment.new result (W.contents out.old) (W.contents out.new) }
-{
-    match read_line(alloc, line) {
-        Ok(None) => (Status::Fine, Ok(())),
-        Ok(Some(command)) => {
-            run_command(alloc, volume, readers, config, moment, number, command, out)
+    /// Runs a line, without its line break, and writes what is told of it. Rounds of cleaning go by the
+    /// configuration, and files of a mount are read by the readers.
+    pub fn run_line<W: Write>(
+        &mut self,
+        moment: &mut u64,
+        number: u64,
+        line: &[u8],
+        out: &mut W,
+    ) -> LineResult
+        ensures done { ComesTo (λ end.
+            IsLineDone V.habits self.old.config
+            number moment.old line.now self.old.volume self.new.volume end)
+            moment.new result (W.contents out.old) (W.contents out.new) }
+        ensures config { self.new.config ≡ self.old.config }
+    {
+        match read_line(self.alloc, line) {
+            Ok(None) => (Status::Fine, Ok(())),
+            Ok(Some(command)) => self.run_command(moment, number, command, out),
+            Err(LineError::Usage) => (Status::Misread, texts::usage_text(number, out)),
+            Err(LineError::Memory) => refused(number, VolError::Memory, out),
         }
-        Err(LineError::Usage) => (Status::Misread, texts::usage_text(number, out)),
-        Err(LineError::Memory) => refused(number, VolError::Memory, out),
     }
 }

@@ -17,7 +17,7 @@ use nl_mounts::Port;
 use nl_protect::Config;
 use nl_publish::{Opened, Volumes};
 use nl_saving::SavePlace;
-use nl_script::{Readers, configuration, script};
+use nl_script::{Readers, Runner, configuration};
 use nl_shared::SharedVolume;
 use nl_texts::{Done, StandardStream, StartStep};
 use nl_types::{Items, VolError};
@@ -32,21 +32,18 @@ use std::thread::Threads;
 
 /// Makes the input's buffer, and runs the script. Refused by `Memory`, no line was run.
 fn run_on<J: Volumes + Send + Sync, R: Threads + Wait + Sync, I: Read + Drop, O: Write>(
-    alloc: Global,
-    volume: &mut SharedVolume<'_, Pen<MemDevice>, Job, J, R>,
-    readers: &mut Readers<'_, Port<J>, R>,
-    config: &Config,
+    runner: &mut Runner<'_, SharedVolume<'_, Pen<MemDevice>, Job, J, R>, Port<J>, R>,
     input: I,
     output: &mut O,
 ) -> Result<Done, VolError>
     ensures run { IfOk result (λ done.
-        IsScriptRun config.now (printing_of (I.remaining input) O.contents output.old output.new)
-        volume.old volume.new done) }
+        IsScriptRun runner.old.config (printing_of (I.remaining input) O.contents output.old output.new)
+        runner.old.volume runner.new.volume done) }
     ensures refused { IsOkUnless result VolError.Memory }
     ensures unprinted { OnErr result (output.new ≡ output.old) }
 {
-    let input = buffered(alloc, input)?;
-    Ok(script(alloc, volume, readers, config, MOMENT, input, output))
+    let input = buffered(runner.alloc, input)?;
+    Ok(runner.script(MOMENT, input, output))
 }
 
 /// Runs the script on a volume, and gives its pen back, without mounts. Refused, no line was run.
@@ -66,11 +63,16 @@ fn run_script<J: Volumes + Send + Sync, R: Threads + Wait + Sync, I: Read + Drop
     ensures refused { IsOkUnless result VolError.Memory }
     ensures unprinted { OnErr result (output.new ≡ output.old) }
 {
-    let (mut volume, ports) = SharedVolume::<_, Job, J, _>::new(rt, alloc, pen, opened)?;
-    let mut readers = Readers { rt, ports };
-    let done = run_on(alloc, &mut volume, &mut readers, config, input, output);
+    let (volume, ports) = SharedVolume::<_, Job, J, _>::new(rt, alloc, pen, opened)?;
+    let mut runner = Runner {
+        alloc,
+        volume,
+        readers: Readers { rt, ports },
+        config: *config,
+    };
+    let done = run_on(&mut runner, input, output);
     // The mounts that the script left are taken out.
-    let pen = volume.end();
+    let pen = runner.volume.end();
     match done {
         Ok(done) => Ok((done, pen)),
         Err(refusal) => {
