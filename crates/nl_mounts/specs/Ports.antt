@@ -5,13 +5,15 @@ use Rattle.std.specs.Option.{option_and_then, option_map}
 use mathlib.Core.List.{IsPrefix}
 use Rattle.nl_types.specs.declared.error.VolError.{VolError}
 use Rattle.nl_types.specs.declared.error.VolError.TheVariants.{BadMount}
+use Rattle.nl_types.specs.declared.event.Ask.{Ask}
 use Rattle.nl_types.specs.declared.reply.Answer.TheVariants.{Bytes}
 use Rattle.nl_types.specs.declared.reply.Named.{Named}
 use Rattle.nl_types.specs.declared.reply.Stat.{Stat}
-use Rattle.nl_types.specs.Calls.{ShowsUnlessMemory, and_then, list, read, stat}
+use Rattle.nl_types.specs.Calls.{IsReadReply, ShowsUnlessMemory, and_then, list, read, reply_to, stat}
 use Rattle.nl_types.specs.Paths.{path_of}
 use Rattle.nl_types.specs.Roots.{Pages}
 use Rattle.nl_types.specs.Trees.{Tree}
+use Rattle.nl_types.specs.Worlds.{Reply}
 use Rattle.nl_layout.specs.Root.{root_of}
 use Rattle.nl_cpfile.specs.Tables.{kept_at, checkpoint_root}
 use Rattle.nl_cpfile.specs.declared.checkpoint.Checkpoint.{Checkpoint}
@@ -116,6 +118,10 @@ IsStatOf t path result = result ≡ and_then (path_of path) (stat t)
 -- the names, or a refusal as the tree says, or one for memory
 abbrev pub IsListOf : Tree → List ℕ → Result (List Named) VolError → Type 0
 IsListOf t path result = ShowsUnlessMemory (λ names. names) result (and_then (path_of path) (list t))
+
+-- what the tree says, or a refusal for memory where the question takes some
+abbrev pub IsReplyOf : Tree → Ask → Reply → Type 0
+IsReplyOf t ask reply = IsReadReply ask reply (reply_to t ask)
 
 -- ---- looks
 

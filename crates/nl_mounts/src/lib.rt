@@ -2,6 +2,7 @@
 //! they share.
 #![tactic(auto)]
 
+mod asks;
 mod cache;
 mod cached_reads;
 mod calls;
