@@ -6,13 +6,13 @@ use Rattle.nl_types.specs.declared.error.VolError.TheVariants as error
 use Rattle.nl_types.specs.declared.event.Event.{Event}
 use Rattle.nl_commands.specs.declared.command.Command.{Command}
 use Rattle.nl_commands.specs.declared.command.Command.TheVariants.{Catm, Lssu}
-use Rattle.nl_cpfile.specs.declared.table.Cpstat.{Cpstat}
+use Rattle.nl_commit.specs.Layout.{Layout}
 use Rattle.nl_texts.specs.Facts.Appending.{OnOk-same}
 use Rattle.nl_texts.specs.Texts.{Text}
 use Rattle.nl_script.specs.ExitStatus.{status_of}
 use Rattle.nl_protect.specs.declared.config.Config.{Config}
 use Rattle.nl_script.specs.Habits.{Habits}
-use Rattle.nl_script.specs.Lines.{AreEventsDone, AreListed, AreOutcomesTold, AreFilesTold, ComesTo, IsCommandDone, IsListingRefused, LacksMemory, LineEnd, line_end, refused}
+use Rattle.nl_script.specs.Lines.{AreEventsDone, AreOutcomesTold, AreFilesTold, ComesTo, IsCommandDone, LacksMemory, LineEnd, line_end, listed, refused}
 use Rattle.nl_script.specs.OutcomeTexts.{text_of}
 use Rattle.nl_script.specs.Outcomes.{is_quiet}
 use Rattle.nl_script.specs.declared.status.Status.{Status}
@@ -25,17 +25,17 @@ same f b c es events rs replies first second third =
     ∙ (ap (λ (xs : List Event). f c xs rs) second ∙ ap (λ (ys : List Reply). f c events ys) third)
 
 -- the events of a command are done and told
-pub told_end : {S X E : Type 0} (does : S → Event → Reply → S → Type 0) (counts : S → Cpstat → Type 0)
+pub told_end : {S X E : Type 0} (does : S → Event → Reply → S → Type 0) (shown : Layout)
     (number moment : ℕ) (command : Command)
     (old new : S) (events es : List Event) (replies rs : List Reply) (quiet : Bool)
     (result : Status × Result X E) (before after : Option Text)
     → quiet ≡ is_quiet command → es ≡ events → rs ≡ replies
-    → AreEventsDone does counts moment command events replies old new
+    → AreEventsDone does shown moment command events replies old new
     → result.0 ≡ status_of quiet es rs → OnOk result.1 (Appends before after (text_of number quiet es rs))
     → ComesTo (λ end.
-    AreOutcomesTold does counts number moment command old new end ⊎ LacksMemory number moment old new end)
+    AreOutcomesTold does shown number moment command old new end ⊎ LacksMemory number moment old new end)
     moment result before after
-told_end does counts number moment command old new events es replies rs quiet result before after quiet_is
+told_end does shown number moment command old new events es replies rs quiet result before after quiet_is
     events_are replies_are done status_is written =
     let text : Text = text_of number (is_quiet command) events replies in
     let status =
@@ -55,8 +55,7 @@ told_end does counts number moment command old new events es replies rs quiet re
 
 listing_cases : {S J : Type 0} (habits : Habits S J) (config : Config) (number moment : ℕ) (all long : Bool)
     (old : S) (end : LineEnd)
-    → (AreListed habits moment all long old end ⊎ IsListingRefused habits number moment long old end)
-    ⊎ (end ≡ refused number moment error.Memory)
+    → (end ≡ listed moment all long (habits.view old)) ⊎ (end ≡ refused number moment error.Memory)
     → IsCommandDone habits config number moment (Lssu all long) old old end
     ⊎ LacksMemory number moment old old end
 listing_cases habits config number moment all long old end (inl told) = inl (refl, told)
@@ -64,23 +63,29 @@ listing_cases habits config number moment all long old end (inr lacks) = inr (re
 
 -- segments are listed
 pub listing_end : {S J X E : Type 0} (habits : Habits S J) (config : Config) (number moment : ℕ)
-    (all long : Bool) (command : Command) (old : S)
+    (all long : Bool) (command : Command) (old : S) (shown : Layout)
     (result : Status × Result X E) (before after : Option Text) → command ≡ Lssu all long
+    → shown ≡ habits.view old
     → ComesTo
-    (λ end. (AreListed habits moment all long old end ⊎ IsListingRefused habits number moment long old end)
-    ⊎ (end ≡ refused number moment error.Memory)) moment result before after
+    (λ end. (end ≡ listed moment all long shown) ⊎ (end ≡ refused number moment error.Memory))
+    moment result before after
     → ComesTo (λ end.
     IsCommandDone habits config number moment command old old end ⊎ LacksMemory number moment old old end)
     moment result before after
-listing_end habits config number moment all long command old result before after is told = record {
-  text = told.text;
-  does =
-      subst (λ (c : Command).
-      IsCommandDone habits config number moment c old old (line_end moment result.0 told.text)
-      ⊎ LacksMemory number moment old old (line_end moment result.0 told.text)) (sym is)
-      (listing_cases habits config number moment all long old (line_end moment result.0 told.text) told.does);
-  written = told.written;
-}
+listing_end habits config number moment all long command old shown result before after is view told =
+    let end = line_end moment result.0 told.text in
+    let does =
+    subst
+    (λ (l : Layout). (end ≡ listed moment all long l) ⊎ (end ≡ refused number moment error.Memory)) view
+    told.does in
+    record {
+      text = told.text;
+      does =
+          subst (λ (c : Command).
+          IsCommandDone habits config number moment c old old end ⊎ LacksMemory number moment old old end)
+          (sym is) (listing_cases habits config number moment all long old end does);
+      written = told.written;
+    }
 
 -- files are told of
 pub files_told_end : {S J X E : Type 0} (habits : Habits S J) (config : Config) (number moment mount : ℕ)

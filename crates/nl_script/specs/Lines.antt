@@ -1,5 +1,5 @@
 -- What the lines of a script do, one after another.
-use Rattle.std.specs.Prelude.{◌≡◌, ◌⊎◌, ◌+◌, ◌<◌, ℕ, Bool, true, false, List, [], ◌∷◌, ◌++◌, if◌then◌else◌, length, map, Option, None, Some, is_some, Result, Ok, Err, OnOk}
+use Rattle.std.specs.Prelude.{◌≡◌, ◌⊎◌, ◌+◌, ℕ, Bool, true, false, List, [], ◌∷◌, ◌++◌, if◌then◌else◌, map, Option, None, Some, is_some, Result, Ok, Err, OnOk}
 use Rattle.std.specs.Io.KnownBytes.{Appends}
 use Rattle.std.specs.List.{list_all, list_any}
 use Rattle.nl_types.specs.Runs.{Run}
@@ -7,14 +7,17 @@ use Rattle.nl_types.specs.Worlds.{Reply}
 use Rattle.nl_types.specs.declared.error.VolError.{VolError}
 use Rattle.nl_types.specs.declared.error.VolError.TheVariants as error
 use Rattle.nl_types.specs.declared.event.Event.{Event}
+use Rattle.nl_types.specs.declared.segment.SegmentInfo.{SegmentInfo}
 use Rattle.nl_commands.specs.LineMeanings.{LineRead, MeansLine}
 use Rattle.nl_commands.specs.declared.command.CheckpointRange.{CheckpointRange}
 use Rattle.nl_commands.specs.declared.command.CheckpointRange.TheVariants.{Since}
 use Rattle.nl_commands.specs.declared.command.Command.{Command}
 use Rattle.nl_commands.specs.declared.command.Command.TheVariants.{At, Catm, Clean, Lssu, Rmcp}
 use Rattle.nl_commands.specs.declared.error.LineError.TheVariants.{Usage, Memory}
-use Rattle.nl_cpfile.specs.declared.table.Cpstat.{Cpstat}
-use Rattle.nl_sufile.specs.declared.table.Sustat.{Sustat}
+use Rattle.nl_cpfile.specs.Tables.{cpstat_of}
+use Rattle.nl_vstore.specs.Located.{needed_count}
+use Rattle.nl_commit.specs.CleaningEvents.{needed_by}
+use Rattle.nl_commit.specs.Layout.{Layout}
 use Rattle.nl_texts.specs.RefusalTexts.{refusal_text, usage_text}
 use Rattle.nl_texts.specs.SegmentLines.{seg_header, seg_texts}
 use Rattle.nl_texts.specs.Texts.{Text}
@@ -54,92 +57,58 @@ abbrev pub is_open : Command → Bool
 is_open (Rmcp quiet ranges) = list_any is_since ranges
 is_open _ = false
 
--- the latest checkpoint is what the volume told, where the command's events depend on it
-abbrev pub IsLatestFor : {S : Type 0} → (S → Cpstat → Type 0) → S → Command → ℕ → Type 0
-IsLatestFor counts old command latest =
-    is_open command ≡ true → (stat : Cpstat) × counts old stat × (stat.latest ≡ latest)
+-- the latest checkpoint, where the command's events depend on it
+abbrev pub IsLatestFor : Layout → Command → ℕ → Type 0
+IsLatestFor l command latest = is_open command ≡ true → latest ≡ (cpstat_of l.lists.table).latest
 
--- these are the events of a command, and they came to these replies
-pub record AreEventsDone {S : Type 0} (does : S → Event → Reply → S → Type 0) (counts : S → Cpstat → Type 0)
+-- these are the events of a command on a volume that shows this, and they came to these replies
+pub record AreEventsDone {S : Type 0} (does : S → Event → Reply → S → Type 0) (shown : Layout)
     (moment : ℕ) (command : Command) (events : List Event) (replies : List Reply) (old new : S) : Type 0 where
   pub latest : ℕ
-  pub latest_told : IsLatestFor counts old command latest
+  pub latest_is : IsLatestFor shown command latest
   pub events_are : events ≡ events_of moment latest command
   pub run : Run does old events replies new
 
 -- the events of a command are done, and all of their outcomes told
-pub record AreOutcomesTold {S : Type 0} (does : S → Event → Reply → S → Type 0) (counts : S → Cpstat → Type 0)
+pub record AreOutcomesTold {S : Type 0} (does : S → Event → Reply → S → Type 0) (shown : Layout)
     (number moment : ℕ) (command : Command) (old new : S) (end : LineEnd) : Type 0 where
   pub events : List Event
   pub replies : List Reply
-  pub done : AreEventsDone does counts moment command events replies old new
+  pub done : AreEventsDone does shown moment command events replies old new
   pub end_is : end
       ≡ line_end moment (status_of (is_quiet command) events replies)
       (text_of number (is_quiet command) events replies)
 
--- how many needed blocks a segment has is told where the listing is long, and not asked elsewhere
-abbrev pub IsNeededTold : {S J : Type 0} → Habits S J → (long : Bool) → S → (segment : ℕ) → Option ℕ → Type 0
-IsNeededTold habits long old segment None = long ≡ false
-IsNeededTold habits long old segment (Some count) = (long ≡ true) × habits.needs old segment (Ok count)
+-- ---- segments
 
--- a segment is told to be this
-abbrev pub IsRowTold : {S J : Type 0} → Habits S J → (long : Bool) → S → (segment : ℕ) → SegmentRow → Type 0
-IsRowTold habits long old segment row =
-    habits.tells old segment (Ok row.info) × IsNeededTold habits long old segment row.needed
+-- how many needed blocks a segment has is told where the listing is long
+abbrev pub needed_of : (long : Bool) → Layout → (segment : ℕ) → Option ℕ
+needed_of true l segment = Some (needed_count l.store (needed_by l.lists) segment)
+needed_of false l segment = None
 
--- the segments from a number on are told to be these
-abbrev pub AreTold : {S J : Type 0} → Habits S J → (long : Bool) → S → (segment : ℕ) → List SegmentRow
-    → Type 0
-AreTold habits long old segment [] = Unit {0}
-AreTold habits long old segment (row ∷ rows) =
-    IsRowTold habits long old segment row × AreTold habits long old (segment + 1) rows
+-- what is told of a segment
+abbrev pub row_of : (long : Bool) → Layout → (segment : ℕ) → SegmentInfo → SegmentRow
+row_of long l segment info = record { info = info; needed = needed_of long l segment }
 
--- these are all segments, as many as the volume says that there are
-pub record AreAllTold {S J : Type 0} (habits : Habits S J) (long : Bool) (old : S)
-    (rows : List SegmentRow) : Type 0 where
-  pub stat : Sustat
-  pub measured : habits.measures old stat
-  pub count : length rows ≡ stat.segments
-  pub told : AreTold habits long old 0 rows
+-- what is told of these segments, which are those from a number on
+abbrev pub rows_from : (long : Bool) → Layout → (segment : ℕ) → List SegmentInfo → List SegmentRow
+rows_from long l segment [] = []
+rows_from long l segment (info ∷ infos) =
+    row_of long l segment info ∷ rows_from long l (segment + 1) infos
+
+abbrev pub segment_rows : (long : Bool) → Layout → List SegmentRow
+segment_rows long l = rows_from long l 0 l.store.segments.each
 
 -- all segments are listed
-abbrev pub AreListed : {S J : Type 0} → Habits S J → (moment : ℕ) → (all long : Bool) → S → LineEnd → Type 0
-AreListed habits moment all long old end =
-    (rows : List SegmentRow) × AreAllTold habits long old rows
-    × (end ≡ line_end moment Fine (seg_header long ++ seg_texts all rows))
-
--- the listing is long, and the volume refuses so to tell of the needed blocks of a segment
-abbrev pub IsNeededRefused : {S J : Type 0} → Habits S J → (long : Bool) → S → (segment : ℕ) → VolError
-    → Type 0
-IsNeededRefused habits long old segment error = (long ≡ true) × habits.needs old segment (Err error)
-
--- the volume refuses so to tell of a segment, or of its needed blocks
-abbrev pub IsRowRefused : {S J : Type 0} → Habits S J → (long : Bool) → S → (segment : ℕ) → VolError → Type 0
-IsRowRefused habits long old segment error =
-    habits.tells old segment (Err error) ⊎ IsNeededRefused habits long old segment error
-
--- the volume refuses so to tell of one of the first so many segments
-abbrev pub IsUntoldBelow : {S J : Type 0} → Habits S J → (long : Bool) → (count : ℕ) → S → VolError → Type 0
-IsUntoldBelow habits long count old error =
-    (segment : ℕ) × (segment < count) × IsRowRefused habits long old segment error
-
--- the volume refuses so to tell of a segment that there is
-abbrev pub IsUntold : {S J : Type 0} → Habits S J → (long : Bool) → S → VolError → Type 0
-IsUntold habits long old error =
-    (stat : Sustat) × habits.measures old stat × IsUntoldBelow habits long stat.segments old error
-
--- the listing is refused, since the volume refuses to tell of one
-abbrev pub IsListingRefused : {S J : Type 0} → Habits S J → (number moment : ℕ) → (long : Bool) → S → LineEnd
-    → Type 0
-IsListingRefused habits number moment long old end =
-    (error : VolError) × IsUntold habits long old error × (end ≡ refused number moment error)
+abbrev pub listed : (moment : ℕ) → (all long : Bool) → Layout → LineEnd
+listed moment all long l = line_end moment Fine (seg_header long ++ seg_texts all (segment_rows long l))
 
 -- a round is planned and done, and all that it came to is told
 pub record IsRoundDone {S J : Type 0} (habits : Habits S J) (config : Config) (number moment : ℕ)
     (old new : S)
     (end : LineEnd) : Type 0 where
   pub job : J
-  pub planned : habits.plans old config moment job
+  pub planned : habits.rounds.plans (habits.view old) config moment job
   pub sum : RoundSum
   pub over : IsRoundOver habits.steps job old new sum
   pub end_is : end ≡ line_end moment (status_if_refused (is_some sum.refusal)) (round_text number sum)
@@ -165,14 +134,13 @@ abbrev pub IsCommandDone : {S J : Type 0} → Habits S J → Config → (number 
 IsCommandDone habits config number moment (At later) old new end =
     (new ≡ old) × (end ≡ line_end later Fine [])
 IsCommandDone habits config number moment (Lssu all long) old new end =
-    (new ≡ old) ×
-    (AreListed habits moment all long old end ⊎ IsListingRefused habits number moment long old end)
+    (new ≡ old) × (end ≡ listed moment all long (habits.view old))
 IsCommandDone habits config number moment (Catm mount paths) old new end =
     AreFilesTold habits.does number moment mount paths old new end
 IsCommandDone habits config number moment Clean old new end =
     IsRoundDone habits config number moment old new end
 IsCommandDone habits config number moment command old new end =
-    AreOutcomesTold habits.does habits.counts number moment command old new end
+    AreOutcomesTold habits.does (habits.view old) number moment command old new end
 
 -- memory was refused before anything was asked of the volume
 abbrev pub LacksMemory : {S : Type 0} → (number moment : ℕ) → S → S → LineEnd → Type 0

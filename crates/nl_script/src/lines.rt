@@ -7,9 +7,10 @@ ghost use Rattle.nl_texts.specs.SegmentLines.{seg_header, seg_texts};
 ghost use Rattle.nl_types.specs.Worlds.{Reply};
 ghost use Rattle.nl_script.specs.ExitStatus.{status_if_refused};
 ghost use Rattle.nl_types.specs.Runs.{Run};
+ghost use Rattle.nl_types.specs.Segments.{info_of};
 ghost use Rattle.nl_script.specs.Events.{reading};
 ghost use Rattle.nl_script.specs.FileReads.{is_bad_mount};
-ghost use Rattle.nl_script.specs.Lines.{AreAllTold, AreEventsDone, AreFilesTold, AreListed, AreOutcomesTold, AreTold, ComesTo, IsCommandDone, IsLatestFor, IsLineDone, IsListingRefused, IsNeededRefused, IsNeededTold, IsRoundDone, IsRowRefused, IsRowTold, IsUntold, IsUntoldBelow, LacksMemory, line_end, files_end, is_open, is_since, refused};
+ghost use Rattle.nl_script.specs.Lines.{AreEventsDone, AreFilesTold, AreOutcomesTold, ComesTo, IsCommandDone, IsLatestFor, IsLineDone, IsRoundDone, LacksMemory, line_end, listed, files_end, is_open, is_since, needed_of, refused, row_of, segment_rows};
 ghost use Rattle.nl_script.specs.Rounds.{IsRoundOver, round_text};
 ghost use Rattle.nl_script.specs.declared.rounds.RoundSum.{RoundSum};
 
@@ -22,6 +23,7 @@ use crate::status::{LineResult, Status};
 use crate::telling::tell_all;
 use crate::volume::Volume;
 use nl_commands::{CheckpointRange, Command, LineError, read_line};
+use nl_commit::{NotingPen, Round};
 use nl_lanes::FileReader;
 use nl_protect::Config;
 use nl_texts as texts;
@@ -71,11 +73,11 @@ fn is_open(command: &Command) -> bool
 }
 
 /// The latest checkpoint, if the command's events depend on it.
-fn latest_for<V: Volume>(volume: &V, command: &Command) -> CheckpointNumber
-    ensures { IsLatestFor V.habits.counts volume.now command.now result }
+fn latest_for<P: NotingPen>(pen: &P, command: &Command) -> CheckpointNumber
+    ensures { IsLatestFor (P.layout pen.now) command.now result }
 {
     if is_open(command) {
-        volume.cpstat().latest
+        pen.cpstat().latest
     } else {
         CheckpointNumber::new(0)
     }
@@ -88,12 +90,12 @@ fn do_events<V: Volume>(
     moment: u64,
     command: Command,
 ) -> Result<(Vec<Event>, Vec<Reply>), AllocError>
-    ensures done { IfOk result (λ done. AreEventsDone V.habits.does V.habits.counts moment command
+    ensures done { IfOk result (λ done. AreEventsDone V.habits.does (V.habits.view volume.old) moment command
         done.0.items done.1.items volume.old volume.new) }
     ensures count { IfOk result (λ done. length done.0.items ≡ length done.1.items) }
     ensures err { OnErr result (volume.new ≡ volume.old) }
 {
-    let latest = latest_for(volume, &command);
+    let latest = latest_for(volume.pen(), &command);
     let events = events_of(alloc, moment, latest, command)?;
     let replies = run_events(alloc, volume, events.as_slice())?;
     Ok((events, replies))
@@ -108,7 +110,8 @@ fn run_all<V: Volume, W: Write>(
     out: &mut W,
 ) -> LineResult
     ensures { ComesTo (λ end.
-        AreOutcomesTold V.habits.does V.habits.counts number moment command volume.old volume.new end
+        AreOutcomesTold V.habits.does (V.habits.view volume.old) number moment command
+        volume.old volume.new end
         ⊎ LacksMemory number moment volume.old volume.new end)
         moment result (W.contents out.old) (W.contents out.new) }
 {
@@ -122,85 +125,85 @@ fn run_all<V: Volume, W: Write>(
 }
 
 /// How many needed blocks a segment has, where the listing is long.
-fn told_needed<V: Volume>(volume: &V, segment: Segment, long: bool) -> Result<Option<u32>, VolError>
-    ensures told { IfOk result (IsNeededTold V.habits long volume.now segment) }
-    ensures refused { IfErr result (IsNeededRefused V.habits long volume.now segment) }
+fn told_needed<P: NotingPen>(pen: &P, segment: Segment, long: bool) -> Result<Option<u32>, VolError>
+    ensures told { IfOk result (λ needed. needed ≡ needed_of long (P.layout pen.now) segment) }
+    ensures refused { OnErr result (length (P.layout pen.now).store.segments.each ≤ segment) }
 {
     if long {
-        volume.needed(segment).map(Some)
+        let count = pen.needed(segment)?;
+        Ok(Some(count))
     } else {
         Ok(None)
     }
 }
 
-/// What the volume tells of a segment.
-fn told_row<V: Volume>(volume: &V, segment: Segment, long: bool) -> Result<SegmentRow, VolError>
-    ensures told { IfOk result (IsRowTold V.habits long volume.now segment) }
-    ensures refused { IfErr result (IsRowRefused V.habits long volume.now segment) }
+/// What is told of a segment.
+fn told_row<P: NotingPen>(pen: &P, segment: Segment, long: bool) -> Result<SegmentRow, VolError>
+    ensures told { IfOk result (λ row. row ≡ row_of long (P.layout pen.now) segment
+        (info_of (P.layout pen.now).store.segments.each segment)) }
+    ensures refused { OnErr result (length (P.layout pen.now).store.segments.each ≤ segment) }
 {
-    let info = volume.suinfo(segment)?;
-    let needed = told_needed(volume, segment, long)?;
+    let info = pen.segments().suinfo(segment)?;
+    let needed = told_needed(pen, segment, long)?;
     Ok(SegmentRow { info, needed })
 }
 
-/// What the volume tells of so many segments, in a vector with room for them.
-fn told_rows<V: Volume>(
-    volume: &V,
+/// What is told of all segments, in a vector with room for them.
+fn told_rows<P: NotingPen>(
+    pen: &P,
     count: usize,
     long: bool,
     mut rows: Vec<SegmentRow>,
-) -> Result<Vec<SegmentRow>, VolError>
+) -> Vec<SegmentRow>
     requires empty { rows.items ≡ [] }
     requires room { count ≤ vec_capacity rows }
     requires small { count < 2 ^ 32 }
-    ensures told { IfOk result (λ rows. AreTold V.habits long volume.now 0 rows.items) }
-    ensures count { IfOk result (λ rows. length rows.items ≡ count) }
-    ensures refused { IfErr result (IsUntoldBelow V.habits long count volume.now) }
+    requires all { count ≡ length (P.layout pen.now).store.segments.each }
+    ensures told { result.items ≡ segment_rows long (P.layout pen.now) }
+    ensures count { length result.items ≡ count }
 {
     for segment in 0..count {
-        let row = told_row(volume, Segment::new(segment as u32), long)?;
+        let Ok(row) = told_row(pen, Segment::new(segment as u32), long) else {
+            unreachable!();
+        };
         if rows.push(row).is_err() {
             unreachable!();
         }
     }
-    Ok(rows)
+    rows
 }
 
-/// What the volume tells of all segments.
-fn segment_rows<V: Volume>(
+/// What is told of all segments.
+fn segment_rows<P: NotingPen>(
     alloc: Global,
-    volume: &V,
+    pen: &P,
     long: bool,
-) -> Result<Vec<SegmentRow>, VolError>
-    ensures told { IfOk result (λ rows. AreAllTold V.habits long volume.now rows.items) }
+) -> Result<Vec<SegmentRow>, AllocError>
+    ensures told { IfOk result (λ rows. rows.items ≡ segment_rows long (P.layout pen.now)) }
     ensures small { IfOk result (λ rows. length rows.items ≤ 2 ^ 32) }
-    ensures refused { IfErr result (λ error.
-        (error ≡ VolError.Memory) ⊎ IsUntold V.habits long volume.now error) }
 {
-    let count = volume.sustat().segments;
-    match Vec::with_capacity(alloc, count) {
-        Ok(rows) => told_rows(volume, count, long, rows),
-        Err(_) => Err(VolError::Memory),
-    }
+    pen.means_a_world();
+    let count = pen.segments().sustat().segments;
+    let rows = Vec::with_capacity(alloc, count)?;
+    Ok(told_rows(pen, count, long, rows))
 }
 
-fn list_segments<V: Volume, W: Write>(
+fn list_segments<P: NotingPen, W: Write>(
     alloc: Global,
-    volume: &V,
+    pen: &P,
     number: u64,
     all: bool,
     long: bool,
     out: &mut W,
 ) -> LineResult
     ensures { (moment : ℕ) → ComesTo (λ end.
-        (AreListed V.habits moment all long volume.now end
-        ⊎ IsListingRefused V.habits number moment long volume.now end)
+        (end ≡ listed moment all long (P.layout pen.now))
         ⊎ (end ≡ refused number moment VolError.Memory))
         moment result (W.contents out.old) (W.contents out.new) }
 {
-    match segment_rows(alloc, volume, long) {
+    match segment_rows(alloc, pen, long) {
         Ok(rows) => (Status::Fine, tell_segments(rows.as_slice(), all, long, out)),
-        Err(error) => refused(number, error, out),
+        Err(_) => refused(number, VolError::Memory, out),
     }
 }
 
@@ -258,7 +261,7 @@ fn clean<V: Volume, W: Write>(
         ⊎ LacksMemory number moment volume.old volume.new end)
         moment result (W.contents out.old) (W.contents out.new) }
 {
-    match volume.plan(alloc, config, moment) {
+    match V::Job::plan(alloc, volume.pen(), config, moment) {
         Ok(job) => run_round(volume, job, number, out),
         Err(_) => refused(number, VolError::Memory, out),
     }
@@ -364,7 +367,7 @@ impl<V: Volume, P: FileReader<V::Book> + Send, R: Threads + Sync> Runner<'_, V, 
                 (Status::Fine, Ok(()))
             }
             Command::Lssu { all, long } => {
-                list_segments(self.alloc, &self.volume, number, all, long, out)
+                list_segments(self.alloc, self.volume.pen(), number, all, long, out)
             }
             Command::Catm { mount, paths } => {
                 let (volume, readers) = (&mut self.volume, &mut self.readers);

@@ -1,59 +1,47 @@
 //! What scripts know of a volume.
-ghost use Rattle.std.specs.Prelude.{◌<◌, ◌^◌, IfOk, IfSome, IsOkUnless, OnSome};
-ghost use Rattle.nl_types.specs.declared.error.VolError.{VolError};
+ghost use Rattle.std.specs.Prelude.{◌≡◌, ◌<◌, ℕ, IfSome, OnSome};
+ghost use Rattle.nl_protect.specs.declared.config.Config.{Config};
+ghost use Rattle.nl_commit.specs.Layout.{Layout};
 ghost use Rattle.nl_script.specs.FileReads.{AnswersReads};
 ghost use Rattle.nl_script.specs.Habits.{Habits};
 
-use nl_cpfile::Cpstat;
-use nl_protect::Config;
+use nl_commit::{NotingPen, Round};
 use nl_publish::{Mount, Volumes};
-use nl_sufile::Sustat;
-use nl_types::{Event, MountNumber, Reply, Segment, SegmentInfo, VolError};
-use std::alloc::Global;
+use nl_types::{Event, MountNumber, Reply};
 
 /// What a script runs on.
 pub trait Volume {
+    /// What does its events.
+    type Pen: NotingPen;
+
     /// A round of cleaning that was planned, and how far it is.
-    type Job: Drop;
+    type Job: Round<Self::Pen>;
 
     /// What keeps the histories of volumes apart, by which its mounts are known.
     type Book: Volumes + Send + Sync;
 
-    /// What it does, and what it tells of itself.
+    /// What it does, and what it shows of itself.
     ghost habits: { Habits Self Self.Job };
 
-    /// Does one event.
-    fn apply(&mut self, event: &Event) -> Reply
-        ensures { habits.does self.old event.now result self.new };
+    /// Its pen, to be asked.
+    fn pen(&self) -> &Self::Pen
+        ensures { Self.Pen.layout result.now ≡ habits.view self.now };
 
     /// The mount of a number, where it is held: what its tree says is what the volume answers to reads of it.
     fn mount_of(&self, mount: MountNumber) -> Option<&Mount<Self::Book>>
         ensures { IfSome result (λ m. AnswersReads habits.does self.now mount m.now) };
 
-    /// What is known of a segment.
-    fn suinfo(&self, segment: Segment) -> Result<SegmentInfo, VolError>
-        ensures { habits.tells self.now segment result };
-
-    /// Counts the needed blocks of a segment.
-    fn needed(&self, segment: Segment) -> Result<u32, VolError>
-        ensures { habits.needs self.now segment result };
-
-    /// Counts the segments.
-    fn sustat(&self) -> Sustat
-        ensures told { habits.measures self.now result }
-        ensures small { result.segments < 2 ^ 32 };
-
-    /// Counts the checkpoints, and tells which is the latest.
-    fn cpstat(&self) -> Cpstat
-        ensures { habits.counts self.now result };
-
-    /// Plans a round of cleaning at a moment, in whole seconds. Refused by want of memory alone.
-    fn plan(&self, alloc: Global, config: &Config, now: u64) -> Result<Self::Job, VolError>
-        ensures planned { IfOk result (habits.plans self.now config.now now) }
-        ensures refused { IsOkUnless result VolError.Memory };
+    /// Does one event.
+    fn apply(&mut self, event: &Event) -> Reply
+        ensures { habits.does self.old event.now result self.new };
 
     /// Does the next step of a round, if there is one.
     fn clean_step(&mut self, job: &mut Self::Job) -> Option<Reply>
         ensures steps { habits.steps self.old job.old result self.new job.new }
-        ensures fewer { OnSome result (habits.left self.new job.new < habits.left self.old job.old) };
+        ensures fewer { OnSome result (habits.rounds.left job.new (habits.view self.new)
+            < habits.rounds.left job.old (habits.view self.old)) };
+
+    /// Its rounds are planned as they say.
+    ghost plans: { (shown : Layout) (config : Config) (moment : ℕ) (job : Self.Job)
+        → Self.Job.habits.plans shown config moment job → habits.rounds.plans shown config moment job };
 }

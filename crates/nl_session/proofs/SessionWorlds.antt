@@ -1,5 +1,5 @@
 -- Sessions beside worlds.
-use Rattle.std.proofs.Common.{[], Option, refl, sym, subst}
+use Rattle.std.proofs.Common.{[], Option, ap, refl, sym, subst}
 use Rattle.nl_types.specs.declared.event.Event.{Event}
 use Rattle.nl_types.specs.Worlds.{Reply, World}
 use Rattle.nl_commit.specs.Layout.{Layout, MeansWorld, layout_of}
@@ -8,7 +8,7 @@ use Rattle.nl_cleaner.specs.Job.{JobView}
 use Rattle.nl_cleaner.specs.Rounds.{cleaning_habits}
 use Rattle.nl_script.specs.Scripts.{AreLinesDone}
 use Rattle.nl_script.specs.Facts.Simulations.{lines_simulated}
-use Rattle.nl_shared.specs.SharedVolumes.{Sharing, shared_counts, shared_does, shared_habits, shared_measures, shared_needs, shared_plans, shared_steps, shared_tells}
+use Rattle.nl_shared.specs.SharedVolumes.{Sharing, shared_does, shared_habits, shared_steps}
 use Rattle.nl_session.specs.SessionLaws.{DoesBeside, IsVolumeBeside, RunsFollowWorlds, SessionsFollowWorlds, SharedVolumesFollowWorlds, StepsBeside, VolumeAndWorld, with_world, world_habits}
 use Rattle.nl_session.proofs.SharedWorlds.{Laws}
 use Rattle.nl_session.proofs.SharedWorldsEvents.{events_follow, steps_follow, unused_beside}
@@ -45,14 +45,8 @@ pub volumes_follow : Laws → SharedVolumesFollowWorlds
 volumes_follow laws = record {
   does = λ old new s event reply is does. does_so laws old new s is event reply does;
   steps = λ old new s job next reply is steps. steps_so laws old new s is job next reply steps;
-  tells = λ v s segment result is told.
-      subst (λ (x : Sharing). shared_tells x segment result) (sym is.volume_is) told;
-  needs = λ v s segment result is told.
-      subst (λ (x : Sharing). shared_needs x segment result) (sym is.volume_is) told;
-  counts = λ v s stat is told. subst (λ (x : Sharing). shared_counts x stat) (sym is.volume_is) told;
-  measures = λ v s stat is told. subst (λ (x : Sharing). shared_measures x stat) (sym is.volume_is) told;
-  plans = λ v s config moment job is told.
-      subst (λ (x : Sharing). shared_plans cleaning_habits x config moment job) (sym is.volume_is) told;
+  views = λ v s is. ap (λ (x : Sharing). x.held.layout) (sym is.volume_is);
+  plans = λ l config moment job planned. planned;
 }
 
 -- ---- lines

@@ -19,7 +19,7 @@ use Rattle.nl_script.specs.Habits.{Habits}
 use Rattle.nl_script.specs.Lines.{LineEnd}
 use Rattle.nl_script.specs.Scripts.{AreLinesDone, IsScriptDone}
 use Rattle.nl_script.specs.Simulations.{IsSimulation}
-use Rattle.nl_shared.specs.SharedVolumes.{Sharing, shared_counts, shared_does, shared_habits, shared_left, shared_measures, shared_needs, shared_plans, shared_steps, shared_tells}
+use Rattle.nl_shared.specs.SharedVolumes.{Sharing, shared_does, shared_habits, shared_steps}
 use Rattle.nl_session.specs.Sessions.{Printing, RunsOn}
 use Rattle.nl_session.specs.SharedLaws.{IsBeside}
 
@@ -113,17 +113,13 @@ pub record StepsBeside (old : VolumeAndWorld) (job : JobView) (reply : Option Re
 
 -- ---- sessions
 
--- what a shared volume does and tells, each event and each step beside a world
+-- what a shared volume does and shows, each event and each step beside a world
 abbrev pub world_habits : Habits VolumeAndWorld JobView
 world_habits = record {
   does = DoesBeside;
-  tells = λ s. shared_tells s.volume;
-  needs = λ s. shared_needs s.volume;
-  counts = λ s. shared_counts s.volume;
-  measures = λ s. shared_measures s.volume;
-  plans = λ s. shared_plans cleaning_habits s.volume;
   steps = StepsBeside;
-  left = λ s. shared_left cleaning_habits s.volume;
+  view = λ s. s.volume.held.layout;
+  rounds = cleaning_habits;
 }
 
 -- it is this volume, beside its world

@@ -18,7 +18,7 @@ use nl_protect::Config;
 use nl_publish::{Opened, Volumes};
 use nl_saving::SavePlace;
 use nl_script::{Readers, Runner, configuration};
-use nl_shared::SharedVolume;
+use nl_shared::ScriptVolume;
 use nl_texts::{Done, StandardStream, StartStep};
 use nl_types::{Items, VolError};
 use std::alloc::Global;
@@ -32,7 +32,7 @@ use std::thread::Threads;
 
 /// Makes the input's buffer, and runs the script. Refused by `Memory`, no line was run.
 fn run_on<J: Volumes + Send + Sync, R: Threads + Wait + Sync, I: Read + Drop, O: Write>(
-    runner: &mut Runner<'_, SharedVolume<'_, Pen<MemDevice>, Job, J, R>, Port<J>, R>,
+    runner: &mut Runner<'_, ScriptVolume<'_, Pen<MemDevice>, Job, J, R>, Port<J>, R>,
     input: I,
     output: &mut O,
 ) -> Result<Done, VolError>
@@ -63,7 +63,7 @@ fn run_script<J: Volumes + Send + Sync, R: Threads + Wait + Sync, I: Read + Drop
     ensures refused { IsOkUnless result VolError.Memory }
     ensures unprinted { OnErr result (output.new ≡ output.old) }
 {
-    let (volume, ports) = SharedVolume::<_, Job, J, _>::new(rt, alloc, pen, opened)?;
+    let (volume, ports) = ScriptVolume::<_, Job, J, _>::new(rt, alloc, pen, opened)?;
     let mut runner = Runner {
         alloc,
         volume,
@@ -71,8 +71,14 @@ fn run_script<J: Volumes + Send + Sync, R: Threads + Wait + Sync, I: Read + Drop
         config: *config,
     };
     let done = run_on(&mut runner, input, output);
+    let Runner {
+        alloc: _,
+        volume,
+        readers: _readers,
+        config: _,
+    } = runner;
     // The mounts that the script left are taken out.
-    let pen = runner.volume.end();
+    let pen = volume.end();
     match done {
         Ok(done) => Ok((done, pen)),
         Err(refusal) => {

@@ -1,4 +1,3 @@
-pub mod ToldSegments
 pub mod SharedReads
 pub mod SharedRounds
 pub mod SharedEvents

@@ -1,2 +1,1 @@
 pub mod SharedVolumes
-pub mod Laws

@@ -1,23 +1,12 @@
 -- A shared volume as the volume of a script.
-use Rattle.std.specs.Prelude.{◌≡◌, ◌⊎◌, ◌==◌, ◌+◌, ◌∷◌, ◌++◌, ℕ, Bool, List, [], length, position, remove, slice_get, Option, None, Some, Result, Ok, Err}
-use Rattle.std.specs.Option.{ok_or, option_and_then}
+use Rattle.std.specs.Prelude.{◌≡◌, ◌⊎◌, ◌==◌, ◌∷◌, ◌++◌, ℕ, Bool, List, [], position, remove, slice_get, Option, None, Some, Ok, Err}
+use Rattle.std.specs.Option.{option_and_then}
 use Rattle.nl_types.specs.declared.error.VolError.{VolError}
-use Rattle.nl_types.specs.declared.error.VolError.TheVariants.{BadRange, Memory}
-use Rattle.nl_types.specs.declared.reply.Answer.TheVariants.{Names}
-use Rattle.nl_types.specs.declared.reply.Answer.TheVariants as answer
-use Rattle.nl_types.specs.declared.reply.Named.{Named}
-use Rattle.nl_types.specs.declared.reply.Stat.{Stat}
+use Rattle.nl_types.specs.declared.error.VolError.TheVariants.{Memory}
 use Rattle.nl_types.specs.declared.event.Ask.{Ask}
 use Rattle.nl_types.specs.declared.event.Event.{Event}
 use Rattle.nl_types.specs.declared.event.Event.TheVariants.{Mount, MountRead, Unmount}
-use Rattle.nl_types.specs.declared.segment.SegmentInfo.{SegmentInfo}
-use Rattle.nl_types.specs.Segments.{clean_segments}
 use Rattle.nl_types.specs.Worlds.{Reply}
-use Rattle.nl_cpfile.specs.Tables.{cpstat_of}
-use Rattle.nl_cpfile.specs.declared.table.Cpstat.{Cpstat}
-use Rattle.nl_sufile.specs.declared.table.Sustat.{Sustat}
-use Rattle.nl_protect.specs.declared.config.Config.{Config}
-use Rattle.nl_commit.specs.CleanerViews.{needed_told}
 use Rattle.nl_commit.specs.Layout.{Layout}
 use Rattle.nl_commit.specs.Rounds.{RoundHabits}
 use Rattle.nl_publish.specs.Begun.{HasBegun}
@@ -101,15 +90,6 @@ shared_does old (Unmount m) reply new =
 shared_does old (MountRead m ask) reply new = ReadComes old m ask reply new
 shared_does old event reply new = Ran old.held event reply new.held × (new.mounts ≡ old.mounts)
 
--- what is answered to a listing, and to a question what there is
-abbrev pub names_reply : Result (List Named) VolError → Reply
-names_reply (Ok names) = Ok (Names names)
-names_reply (Err e) = Err e
-
-abbrev pub stat_reply : Result Stat VolError → Reply
-stat_reply (Ok stat) = Ok (answer.Stat stat)
-stat_reply (Err e) = Err e
-
 -- ---- rounds of cleaning
 
 -- nothing is left of the round, and nothing is done
@@ -126,39 +106,13 @@ abbrev pub shared_steps : {J : Type 0} → RoundHabits J → Steps Sharing J
 shared_steps rounds old round reply new next =
     IsRoundStep rounds old.held round reply new.held next × (new.mounts ≡ old.mounts)
 
--- ---- what it tells
+-- ---- as the volume of a script
 
-abbrev pub shared_tells : Sharing → ℕ → Result SegmentInfo VolError → Type 0
-shared_tells s segment result = result ≡ ok_or (slice_get s.held.layout.store.segments.each segment) BadRange
-
-abbrev pub shared_needs : Sharing → ℕ → Result ℕ VolError → Type 0
-shared_needs s segment result = result ≡ needed_told s.held.layout segment
-
-abbrev pub shared_counts : Sharing → Cpstat → Type 0
-shared_counts s stat = stat ≡ cpstat_of s.held.layout.lists.table
-
--- all segments, the clean ones, and the rest
-abbrev pub shared_measures : Sharing → Sustat → Type 0
-shared_measures s stat = (stat.segments ≡ length s.held.layout.store.segments.each)
-    × (stat.clean ≡ length (clean_segments s.held.layout.store.segments))
-    × (stat.dirty + stat.clean ≡ stat.segments)
-
--- a round is planned as its own contract says
-abbrev pub shared_plans : {J : Type 0} → RoundHabits J → Sharing → Config → (moment : ℕ) → J → Type 0
-shared_plans rounds s config moment round = rounds.plans s.held.layout config moment round
-
-abbrev pub shared_left : {J : Type 0} → RoundHabits J → Sharing → J → ℕ
-shared_left rounds s round = rounds.left round s.held.layout
-
--- what a shared volume does and tells, whose rounds go on so
+-- what a shared volume does and shows, whose rounds go on so
 abbrev pub shared_habits : {J : Type 0} → RoundHabits J → Habits Sharing J
 shared_habits rounds = record {
   does = shared_does;
-  tells = shared_tells;
-  needs = shared_needs;
-  counts = shared_counts;
-  measures = shared_measures;
-  plans = shared_plans rounds;
   steps = shared_steps rounds;
-  left = shared_left rounds;
+  view = λ s. s.held.layout;
+  rounds = rounds;
 }

@@ -2,7 +2,6 @@
 //! its mounts.
 #![tactic(auto)]
 
-pub mod laws;
-mod shared;
+mod script_volume;
 
-pub use shared::SharedVolume;
+pub use script_volume::ScriptVolume;

@@ -1,24 +1,17 @@
-//! A shared volume as the volume of a script. One thread has its writer and its ports.
+//! The volume of a script: one thread has the writer of a shared volume, and one of its ports.
 ghost use Rattle.std.specs.Prelude.{◌≡◌, ◌<◌, IfOk, IfSome, IsOkUnless, OnSome, length, option_map};
 ghost use Rattle.nl_commit.specs.Layout.{layout_of};
 ghost use Rattle.nl_commit.specs.Volume.{without_mounts};
 ghost use Rattle.nl_publish.specs.Locks.{Ran};
-ghost use Rattle.nl_shared.specs.SharedVolumes.{HasBegunShared, IsHeldTold, IsRoundStep, MountComes, ReadComes, mounts_left_by, mount_of, names_reply, place_of, reader_count, shared_habits, stat_reply, without_mount};
+ghost use Rattle.nl_shared.specs.SharedVolumes.{HasBegunShared, IsHeldTold, IsRoundStep, MountComes, ReadComes, mounts_left_by, mount_of, place_of, reader_count, shared_habits, without_mount};
 ghost use Rattle.nl_script.specs.FileReads.{IsPortReply};
-ghost use Rattle.nl_types.specs.declared.event.Ask.TheVariants as question;
 ghost use Rattle.nl_types.specs.declared.event.Event.TheVariants as event;
 
 use nl_commit::{NotingPen, Round};
-use nl_cpfile::Cpstat;
 use nl_mounts::{Port, seat_all, spend_all};
-use nl_protect::Config;
 use nl_publish::{Gone, Locked, Mount, Opened, Publisher, Volumes};
-use nl_script::{Volume, is_bad_mount, reply_of};
-use nl_sufile::Sustat;
-use nl_types::{
-    Answer, Ask, CheckpointNumber, Event, Items, MountNumber, Named, Reply, Segment, SegmentInfo,
-    Stat, VolError,
-};
+use nl_script::{Volume, is_bad_mount};
+use nl_types::{Answer, Ask, CheckpointNumber, Event, MountNumber, Reply, VolError};
 use std::alloc::Global;
 use std::marker::{Model, PhantomData};
 use std::sync::Wait;
@@ -28,7 +21,7 @@ const READERS: usize = 4;
 
 /// A volume whose commits are published, a port of its own, and the mounts that are held. Its rounds of
 /// cleaning are values of `G`. A contract sees what lies under the lock, and the mounts.
-pub struct SharedVolume<'a, P: NotingPen, G: Round<P>, J: Volumes, R: Wait> {
+pub struct ScriptVolume<'a, P: NotingPen, G: Round<P>, J: Volumes, R: Wait> {
     rt: &'a R,
     alloc: Global,
     locked: Locked<P, J, Publisher>,
@@ -37,7 +30,7 @@ pub struct SharedVolume<'a, P: NotingPen, G: Round<P>, J: Volumes, R: Wait> {
     rounds: PhantomData<G>,
 }
 
-impl<'a, P: NotingPen, G: Round<P>, J: Volumes, R: Wait> Model for SharedVolume<'a, P, G, J, R> {
+impl<'a, P: NotingPen, G: Round<P>, J: Volumes, R: Wait> Model for ScriptVolume<'a, P, G, J, R> {
     ghost use Rattle.nl_shared.specs.SharedVolumes.{Sharing};
 
     ghost Value = { Sharing };
@@ -70,67 +63,17 @@ fn forget<J: Volumes>(mounts: &mut Vec<Mount<J>>, number: MountNumber, gone: &Go
 
 // ---- reads
 
-fn names_reply(names: Result<Items<Named>, VolError>) -> Reply
-    ensures { result ≡ names_reply names }
-{
-    Ok(Answer::Names(names?))
-}
-
-fn stat_reply(stat: Result<Stat, VolError>) -> Reply
-    ensures { result ≡ stat_reply stat }
-{
-    Ok(Answer::Stat(stat?))
-}
-
-fn bytes_through<J: Volumes>(
-    alloc: Global,
-    port: &mut Port<J>,
-    mount: &Mount<J>,
-    path: &[u8],
-    offset: u64,
-    len: u64,
-) -> Reply
-    ensures { IsPortReply mount.now (question.Bytes path.now offset len) result }
-{
-    port.learn(mount);
-    reply_of(port.read(alloc, mount, path, offset, len))
-}
-
-fn names_through<J: Volumes>(
-    alloc: Global,
-    port: &mut Port<J>,
-    mount: &Mount<J>,
-    path: &[u8],
-) -> Reply
-    ensures { IsPortReply mount.now (question.List path.now) result }
-{
-    port.learn(mount);
-    names_reply(port.list(alloc, mount, path))
-}
-
-fn stat_through<J: Volumes>(port: &mut Port<J>, mount: &Mount<J>, path: &[u8]) -> Reply
-    ensures { IsPortReply mount.now (question.Stat path.now) result }
-{
-    port.learn(mount);
-    stat_reply(port.stat(mount, path))
-}
-
 /// What the port replies to a question about a mount.
 fn told<J: Volumes>(alloc: Global, port: &mut Port<J>, mount: &Mount<J>, ask: &Ask) -> Reply
     ensures { IsPortReply mount.now ask.now result }
 {
-    match ask {
-        Ask::Bytes { path, offset, len } => {
-            bytes_through(alloc, port, mount, path.as_slice(), *offset, *len)
-        }
-        Ask::List { path } => names_through(alloc, port, mount, path.as_slice()),
-        Ask::Stat { path } => stat_through(port, mount, path.as_slice()),
-    }
+    port.learn(mount);
+    port.ask(alloc, mount, ask)
 }
 
 // ---- beginning and end
 
-impl<'a, P: NotingPen, G: Round<P>, J: Volumes, R: Wait> SharedVolume<'a, P, G, J, R> {
+impl<'a, P: NotingPen, G: Round<P>, J: Volumes, R: Wait> ScriptVolume<'a, P, G, J, R> {
     /// Shares a volume with four ports beside its own, which are handed out. `opened` has its id, and an
     /// empty history.
     ///
@@ -155,7 +98,7 @@ impl<'a, P: NotingPen, G: Round<P>, J: Volumes, R: Wait> SharedVolume<'a, P, G, 
             Ok((locked, mut seats)) => {
                 let seat = seats.remove(0);
                 seat_all(&mut ports, seats);
-                let volume = SharedVolume {
+                let volume = ScriptVolume {
                     rt,
                     alloc,
                     locked,
@@ -173,7 +116,7 @@ impl<'a, P: NotingPen, G: Round<P>, J: Volumes, R: Wait> SharedVolume<'a, P, G, 
         ensures { P.layout result ≡ layout_of
             (without_mounts self.entry.held.layout.lists) self.entry.held.layout.store }
     {
-        let SharedVolume {
+        let ScriptVolume {
             rt,
             alloc: _,
             locked,
@@ -207,7 +150,7 @@ fn step_round<P: NotingPen, G: Round<P>, J: Volumes, R: Wait>(
 
 // ---- events
 
-impl<P: NotingPen, G: Round<P>, J: Volumes, R: Wait> SharedVolume<'_, P, G, J, R> {
+impl<P: NotingPen, G: Round<P>, J: Volumes, R: Wait> ScriptVolume<'_, P, G, J, R> {
     /// Mounts a checkpoint, and holds the mount. Its place is there before it is made.
     fn mount(&mut self, checkpoint: CheckpointNumber) -> Reply
         ensures { MountComes self.old checkpoint result self.new }
@@ -268,12 +211,20 @@ impl<P: NotingPen, G: Round<P>, J: Volumes, R: Wait> SharedVolume<'_, P, G, J, R
 }
 
 impl<P: NotingPen, G: Round<P>, J: Volumes + Send + Sync, R: Wait> Volume
-    for SharedVolume<'_, P, G, J, R> {
+    for ScriptVolume<'_, P, G, J, R> {
+    type Pen = P;
+
     type Job = G;
 
     type Book = J;
 
     ghost habits = { shared_habits G.habits };
+
+    ghost plans = { λ shown config moment job planned. planned };
+
+    fn pen(&self) -> &P {
+        self.locked.pen()
+    }
 
     fn apply(&mut self, event: &Event) -> Reply {
         match event {
@@ -286,27 +237,6 @@ impl<P: NotingPen, G: Round<P>, J: Volumes + Send + Sync, R: Wait> Volume
 
     fn mount_of(&self, mount: MountNumber) -> Option<&Mount<J>> {
         mount_of(self.mounts.as_slice(), mount)
-    }
-
-    fn suinfo(&self, segment: Segment) -> Result<SegmentInfo, VolError> {
-        self.locked.suinfo(segment)
-    }
-
-    fn needed(&self, segment: Segment) -> Result<u32, VolError> {
-        self.locked.needed(segment)
-    }
-
-    fn sustat(&self) -> Sustat {
-        self.locked.means_a_world();
-        self.locked.sustat()
-    }
-
-    fn cpstat(&self) -> Cpstat {
-        self.locked.cpstat()
-    }
-
-    fn plan(&self, alloc: Global, config: &Config, now: u64) -> Result<G, VolError> {
-        self.locked.plan(alloc, config, now)
     }
 
     fn clean_step(&mut self, job: &mut G) -> Option<Reply> {

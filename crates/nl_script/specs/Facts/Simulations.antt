@@ -1,21 +1,19 @@
 -- Lines on a volume, and on one that simulates it.
-use Rattle.std.proofs.Common.{◌≡◌, ◌⊎◌, ℕ, ◌+◌, Bool, List, [], ◌∷◌, Option, Some, None, Result, Ok, Err, refl, sym, subst, inl, inr}
+use Rattle.std.proofs.Common.{◌≡◌, ◌∙◌, ℕ, ◌+◌, List, [], ◌∷◌, Some, None, Ok, Err, ap, refl, sym, subst, inl, inr}
 use Rattle.nl_types.specs.Runs.{Run}
 use Rattle.nl_types.specs.Worlds.{Reply}
-use Rattle.nl_types.specs.declared.error.VolError.{VolError}
 use Rattle.nl_types.specs.declared.event.Event.{Event}
 use Rattle.nl_commands.specs.LineMeanings.{LineRead}
 use Rattle.nl_commands.specs.declared.command.Command.{Command}
 use Rattle.nl_commands.specs.declared.command.Command.TheVariants.{At, Catm, Clean, Lssu}
 use Rattle.nl_commands.specs.declared.error.LineError.TheVariants.{Usage, Memory}
-use Rattle.nl_texts.specs.declared.segments.SegmentRow.{SegmentRow}
 use Rattle.nl_protect.specs.declared.config.Config.{Config}
+use Rattle.nl_commit.specs.Layout.{Layout}
 use Rattle.nl_script.specs.Simulations.{IsSimulation, LinesAreSimulated}
 use Rattle.nl_script.specs.Habits.{Habits}
-use Rattle.nl_script.specs.Lines.{AreFilesTold, AreListed, AreOutcomesTold, AreTold, IsCommandDone, IsLineAnswered, IsListingRefused, IsNeededTold, IsReadDone, IsRoundDone, IsRowRefused, LacksMemory, LineEnd}
-use Rattle.nl_script.specs.Rounds.{AreSteps, IsRoundOver}
-use Rattle.nl_script.specs.Scripts.{AreLinesDone, number_behind}
-use Rattle.nl_script.specs.declared.rounds.RoundSum.{RoundSum}
+use Rattle.nl_script.specs.Lines.{AreFilesTold, AreOutcomesTold, IsCommandDone, IsLatestFor, IsLineAnswered, IsReadDone, IsRoundDone, LacksMemory, LineEnd, listed}
+use Rattle.nl_script.specs.Rounds.{AreSteps}
+use Rattle.nl_script.specs.Scripts.{number_behind}
 
 module _ {S T J : Type 0} (one : Habits S J) (other : Habits T J) (IsBeside : S → T → Type 0)
     (simulation : IsSimulation one other IsBeside) where
@@ -51,12 +49,15 @@ module _ {S T J : Type 0} (one : Habits S J) (other : Habits T J) (IsBeside : S 
   round_simulated config number moment old new end t beside done =
       let over = done.over in
       let steps = steps_simulated over.replies done.job over.later old over.mid t beside over.done in
-      let last = simulation.steps over.mid new steps.0 over.later over.last None steps.1 over.over in (
+      let last = simulation.steps over.mid new steps.0 over.later over.last None steps.1 over.over in
+      let planned =
+      subst (λ (l : Layout). one.rounds.plans l config moment done.job) (simulation.views old t beside)
+      done.planned in (
         last.0,
         last.1,
         record {
           job = done.job;
-          planned = simulation.plans old t config moment done.job beside done.planned;
+          planned = simulation.plans (other.view t) config moment done.job planned;
           sum = done.sum;
           over = record {
             replies = over.replies;
@@ -79,8 +80,8 @@ module _ {S T J : Type 0} (one : Habits S J) (other : Habits T J) (IsBeside : S 
       (run.0, run.1, record { replies = told.replies; run = run.2; end_is = told.end_is })
 
   outcomes_simulated : (number moment : ℕ) (command : Command) (old new : S) (end : LineEnd) (t : T)
-      → IsBeside old t → AreOutcomesTold one.does one.counts number moment command old new end
-      → Reached new (λ u. AreOutcomesTold other.does other.counts number moment command t u end)
+      → IsBeside old t → AreOutcomesTold one.does (one.view old) number moment command old new end
+      → Reached new (λ u. AreOutcomesTold other.does (other.view t) number moment command t u end)
   outcomes_simulated number moment command old new end t beside told =
       let done = told.done in
       let run = run_simulated told.events told.replies old new t beside done.run in (
@@ -91,66 +92,13 @@ module _ {S T J : Type 0} (one : Habits S J) (other : Habits T J) (IsBeside : S 
           replies = told.replies;
           done = record {
             latest = done.latest;
-            latest_told = λ yes. let is = done.latest_told yes in
-                (is.0, simulation.counts old t is.0 beside is.1, is.2);
+            latest_is = subst (λ (l : Layout). IsLatestFor l command done.latest)
+                (simulation.views old t beside) done.latest_is;
             events_are = done.events_are;
             run = run.2;
           };
           end_is = told.end_is;
         },
-      )
-
-  -- ---- listings
-
-  needed_simulated : (long : Bool) (s : S) (t : T) (segment : ℕ) (needed : Option ℕ) → IsBeside s t
-      → IsNeededTold one long s segment needed → IsNeededTold other long t segment needed
-  needed_simulated long s t segment None beside told = told
-  needed_simulated long s t segment (Some count) beside told =
-      (told.0, simulation.needs s t segment (Ok count) beside told.1)
-
-  told_simulated : (long : Bool) (s : S) (t : T) (segment : ℕ) (rows : List SegmentRow) → IsBeside s t
-      → AreTold one long s segment rows → AreTold other long t segment rows
-  told_simulated long s t segment [] beside told = tt
-  told_simulated long s t segment (row ∷ rows) beside told = (
-    (
-      simulation.tells s t segment (Ok row.info) beside told.0.0,
-      needed_simulated long s t segment row.needed beside told.0.1,
-    ),
-    told_simulated long s t (segment + 1) rows beside told.1,
-  )
-
-  listed_simulated : (moment : ℕ) (all long : Bool) (s : S) (end : LineEnd) (t : T) → IsBeside s t
-      → AreListed one moment all long s end → AreListed other moment all long t end
-  listed_simulated moment all long s end t beside listed = (
-    listed.0,
-    record {
-      stat = listed.1.stat;
-      measured = simulation.measures s t listed.1.stat beside listed.1.measured;
-      count = listed.1.count;
-      told = told_simulated long s t 0 listed.0 beside listed.1.told;
-    },
-    listed.2,
-  )
-
-  row_simulated : (long : Bool) (s : S) (t : T) (segment : ℕ) (e : VolError) → IsBeside s t
-      → IsRowRefused one long s segment e → IsRowRefused other long t segment e
-  row_simulated long s t segment e beside refused = elim refused [
-    | inl tells ↦ inl (simulation.tells s t segment (Err e) beside tells)
-    | inr needs ↦ inr (needs.0, simulation.needs s t segment (Err e) beside needs.1)
-  ]
-
-  unlisted_simulated : (number moment : ℕ) (long : Bool) (s : S) (end : LineEnd) (t : T) → IsBeside s t
-      → IsListingRefused one number moment long s end → IsListingRefused other number moment long t end
-  unlisted_simulated number moment long s end t beside refused =
-      let (stat, measured, below) = refused.1 in
-      let (segment, low, row) = below in (
-        refused.0,
-        (
-          stat,
-          simulation.measures s t stat beside measured,
-          (segment, low, row_simulated long s t segment refused.0 beside row),
-        ),
-        refused.2,
       )
 
   -- ---- lines
@@ -166,13 +114,8 @@ module _ {S T J : Type 0} (one : Habits S J) (other : Habits T J) (IsBeside : S 
   command_simulated config number moment (At later) old new end t beside done =
       same_simulated old new t beside done.0 _ (refl, done.1)
   command_simulated config number moment (Lssu all long) old new end t beside done =
-      same_simulated old new t beside done.0 _ (
-        refl,
-        elim done.1 [
-          | inl listed ↦ inl (listed_simulated moment all long old end t beside listed)
-          | inr refused ↦ inr (unlisted_simulated number moment long old end t beside refused)
-        ],
-      )
+      same_simulated old new t beside done.0 _
+      (refl, done.1 ∙ ap (listed moment all long) (simulation.views old t beside))
   command_simulated config number moment (Catm mount paths) old new end t beside done =
       files_simulated number moment mount paths old new end t beside done
   command_simulated config number moment Clean old new end t beside done =

@@ -1,4 +1,5 @@
-use Rattle.std.proofs.Common.{inl}
+use Rattle.std.proofs.Common.{inl, subst}
+use Rattle.nl_commit.specs.Layout.{Layout}
 use Rattle.nl_script.proofs.lines.clean.Goals as goal
 
 pub returns-in-Ok : goal.returns-in-Ok
@@ -8,7 +9,11 @@ returns-in-Ok g c =
       text = told.text;
       does = inl (record {
         job = c.in-Ok.job;
-        planned = c.in-Ok.ensures.planned;
+        planned =
+            g.met.V.Volume.plans (g.V.Volume.habits.view c.args.volume.now) c.args.config.now c.args.moment
+            c.in-Ok.job
+            (subst (λ (l : Layout). g.V.Job.Round.habits.plans l c.args.config.now c.args.moment c.in-Ok.job)
+            c.pen.ensures c.in-Ok.ensures.planned);
         sum = told.does.0;
         over = told.does.1;
         end_is = told.does.2;

@@ -6,4 +6,4 @@ abbrev pub invariant-loop-reply : goal.invariant-loop-reply
 invariant-loop-reply g l = IsRoundSoFar g.V.Volume.habits.steps l.fn.job l.job l.fn.volume l.volume l.sum
 
 abbrev pub decreases-loop-reply : goal.decreases-loop-reply
-decreases-loop-reply g l = g.V.Volume.habits.left l.volume l.job
+decreases-loop-reply g l = g.V.Volume.habits.rounds.left l.job (g.V.Volume.habits.view l.volume)

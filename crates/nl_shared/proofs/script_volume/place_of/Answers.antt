@@ -2,7 +2,7 @@ use Rattle.std.proofs.Common.{rules, tests}
 use Rattle.std.proofs.lemmas.Iterator.{YieldsList-from_slice}
 use Rattle.std.proofs.lemmas.Iterator.Search.{position_from_yields_List}
 use Rattle.nl_shared.specs.SharedVolumes.{is_numbered}
-use Rattle.nl_shared.proofs.shared.place_of.Goals as goal
+use Rattle.nl_shared.proofs.script_volume.place_of.Goals as goal
 
 pub returns : goal.returns
 returns g c =

@@ -1,7 +1,7 @@
 use Rattle.std.proofs.Common.{◌∙◌, ap, sym, inr}
 use Rattle.nl_commit.specs.Layout.{Layout}
 use Rattle.nl_shared.proofs.SharedRounds.{fewer_left}
-use Rattle.nl_shared.proofs.shared.step_round.Goals as goal
+use Rattle.nl_shared.proofs.script_volume.step_round.Goals as goal
 
 pub returns-clause-stepped : goal.returns-clause-stepped
 returns-clause-stepped g c = inr c.clean_step.ensures

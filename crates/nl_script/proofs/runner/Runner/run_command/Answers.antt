@@ -5,7 +5,7 @@ pub returns-in-Lssu-clause-done : goal.returns-in-Lssu-clause-done
 returns-in-Lssu-clause-done g c =
     listing_end g.V.Volume.habits c.args.self.now.config c.args.number c.args.moment.now c.in-Lssu.all
     c.in-Lssu.long
-    c.args.command c.args.self.now.volume c.list_segments.result _ _ c.in-Lssu.is
+    c.args.command c.args.self.now.volume _ c.list_segments.result _ _ c.in-Lssu.is c.pen.ensures
     (c.list_segments.ensures c.args.moment.now)
 
 pub returns-in-Catm-clause-done : goal.returns-in-Catm-clause-done

@@ -2,7 +2,7 @@ use Rattle.std.proofs.Common.{◌∙◌, ◌++◌, ◌∷◌, [], List, ℕ, ap,
 use Rattle.nl_types.specs.declared.reply.Answer.TheVariants as answer
 use Rattle.nl_publish.specs.Mounts.{Claim}
 use Rattle.nl_shared.specs.SharedVolumes.{MountComes, Mounted, Refused, Sharing}
-use Rattle.nl_shared.proofs.shared.SharedVolume.mount.Goals as goal
+use Rattle.nl_shared.proofs.script_volume.ScriptVolume.mount.Goals as goal
 
 pub returns-in-Err : goal.returns-in-Err
 returns-in-Err g c =

@@ -2,7 +2,7 @@ use Rattle.std.proofs.Common.{◌∙◌, inr, refl, subst, sym}
 use Rattle.nl_types.specs.declared.event.Event.{Event}
 use Rattle.nl_publish.specs.Locks.{IsNoMountEvent, Ran}
 use Rattle.nl_shared.specs.SharedVolumes.{ReadComes, Sharing}
-use Rattle.nl_shared.proofs.shared.SharedVolume.read.Goals as goal
+use Rattle.nl_shared.proofs.script_volume.ScriptVolume.read.Goals as goal
 
 pub returns-in-None : goal.returns-in-None
 returns-in-None g c =

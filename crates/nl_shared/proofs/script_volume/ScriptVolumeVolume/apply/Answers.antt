@@ -3,7 +3,7 @@ use Rattle.nl_types.specs.declared.event.Event.{Event}
 use Rattle.nl_publish.specs.Facts.MountEvents.{no_mount}
 use Rattle.nl_shared.specs.SharedVolumes.{Sharing, shared_does}
 use Rattle.nl_shared.proofs.SharedEvents.{others_do}
-use Rattle.nl_shared.proofs.shared.SharedVolumeVolume.apply.Goals as goal
+use Rattle.nl_shared.proofs.script_volume.ScriptVolumeVolume.apply.Goals as goal
 
 pub returns-in-Mount : goal.returns-in-Mount
 returns-in-Mount g c =

@@ -1,6 +1,6 @@
 use Rattle.std.proofs.Common.{refl, subst}
 use Rattle.nl_shared.specs.SharedVolumes.{Sharing, shared_steps}
-use Rattle.nl_shared.proofs.shared.SharedVolumeVolume.clean_step.Goals as goal
+use Rattle.nl_shared.proofs.script_volume.ScriptVolumeVolume.clean_step.Goals as goal
 
 pub returns-clause-steps : goal.returns-clause-steps
 returns-clause-steps g c =
