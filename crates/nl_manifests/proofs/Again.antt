@@ -1,7 +1,7 @@
 -- What was printed is read again.
-use Rattle.std.proofs.Common.{◌≡◌, ℕ, zero, suc, ◌+◌, ◌-◌, ◌*◌, ◌/◌, ◌%◌, ◌^◌, ◌<◌, ◌≤◌, Bool, true, false, ◌&&◌, not, cond, eqb, ltb, leb, List, [], ◌∷◌, ◌++◌, length, codes, Option, Some, None, refl, sym, ap, ◌∙◌, subst, true≢false, append_assoc, append-nil, length-append, arith}
+use Rattle.std.proofs.Common.{◌≡◌, ℕ, zero, suc, ◌+◌, ◌-◌, ◌*◌, ◌/◌, ◌%◌, ◌^◌, ◌<◌, ◌≤◌, Bool, true, false, cond, eqb, ltb, leb, List, [], ◌∷◌, ◌++◌, length, codes, Option, Some, None, refl, sym, ap, ◌∙◌, append_assoc, append-nil, length-append, arith}
 use Rattle.std.proofs.Math.Nat.{div-lt_iff_lt-mul, pow-zero, pow-suc}
-use Rattle.std.proofs.lemmas.Bool.{and_parts, cases_Bool, le-leb, lt-ltb, ltb-true}
+use Rattle.std.proofs.lemmas.Bool.{and_parts, le-leb, lt-ltb, ltb-true}
 use Rattle.std.proofs.lemmas.Fmt.{decimal_by_steps}
 use Rattle.std.proofs.lemmas.Bool.Decides.{nat_tests}
 use Rattle.std.specs.Fmt.{decimal}
@@ -13,8 +13,8 @@ use Rattle.nl_manifests.specs.declared.manifest.LineKind.{LineKind}
 use Rattle.nl_manifests.specs.declared.manifest.LineKind.TheVariants.{File, Link}
 use Rattle.nl_manifests.specs.declared.manifest.Line.{Line}
 use Rattle.nl_manifests.specs.declared.manifest.Manifest.{Manifest}
-use Rattle.nl_manifests.specs.Manifests.{are_attributes, are_bytes, ascend, attributes_text, backslash, escaped, escaped_byte, in_digits, is_kind, is_line, is_manifest, are_lines, is_plain, is_text, is_time, kind_text, line_text, printed, sign_text, time_text}
-use Rattle.nl_manifests.specs.Private.Reading.{◌>>=◌, all_at, and_more, attributes_at, behind, byte_at, decimal_from, digit_at, digits_at, file_at, head, kind_at, kind_behind, line_at, lines_at, link_at, many, name_at, next_line_at, octal_byte_at, owner_at, pushed, sign_at, time_at}
+use Rattle.nl_manifests.specs.Manifests.{are_attributes, are_bytes, ascend, attributes_text, backslash, escaped, escaped_byte, in_digits, is_line, is_manifest, are_lines, is_plain, is_text, is_time, line_text, printed, sign_text, time_text}
+use Rattle.nl_manifests.specs.Private.Reading.{◌>>=◌, all_at, attributes_at, behind, byte_at, decimal_from, digit_at, digits_at, file_at, kind_at, line_at, lines_at, link_at, many, name_at, next_line_at, octal_byte_at, owner_at, sign_at, time_at}
 
 -- ---- digits
 

@@ -1,9 +1,8 @@
 -- Numbers of so many digits, and bytes.
-use Rattle.std.proofs.Common.{◌≡◌, ◌≢◌, ℕ, zero, suc, ◌+◌, ◌-◌, ◌*◌, ◌/◌, ◌%◌, ◌^◌, ◌<◌, ◌≤◌, true, List, [], ◌∷◌, ◌++◌, get_or, refl, sym, ap, ◌∙◌, arith}
+use Rattle.std.proofs.Common.{◌≡◌, ◌≢◌, ℕ, zero, suc, ◌+◌, ◌-◌, ◌*◌, ◌/◌, ◌%◌, ◌^◌, ◌<◌, ◌≤◌, true, List, [], ◌∷◌, ◌++◌, get_or, refl, sym, ap, arith}
 use Rattle.std.proofs.Math.Nat.{mul-le-mul_left, pow-le-pow_right, pow-suc}
 use Rattle.std.proofs.lemmas.Bool.{and_from, lt-ltb}
 use Rattle.nl_manifests.specs.Manifests.{are_bytes, in_digits}
-use Rattle.nl_manifests.specs.Private.Reading.{digit_at, digits_at, ◌>>=◌}
 
 pub digits_more : (base width number : ℕ) → width ≢ 0
     → in_digits base width number ≡ in_digits base (width - 1) (number / base) ++ (48 + number % base) ∷ []

@@ -1,5 +1,5 @@
 -- The manifests of a tree, and lines by their names.
-use Rattle.std.proofs.Common.{◌≡◌, ℕ, Bool, true, false, cond, ◌&&◌, List, [], ◌∷◌, ◌++◌, map, Option, Some, None, refl, sym, ap, ◌∙◌, subst, true≢false, is_some}
+use Rattle.std.proofs.Common.{◌≡◌, ℕ, Bool, true, false, cond, List, [], ◌∷◌, ◌++◌, map, Option, Some, None, refl, sym, ap, ◌∙◌, true≢false, is_some}
 use Rattle.std.specs.List.{AllByRecursion, flat_map, list_all}
 use Rattle.std.specs.Ordering.{is_lt, is_eq}
 use Rattle.std.specs.Prelude.{option_and_then}
@@ -12,11 +12,10 @@ use Rattle.nl_types.specs.declared.reply.Node.TheVariants.{Dir, File}
 use Rattle.nl_types.specs.Paths.{Name, Path, name_cmp, path_cmp, same_name, same_path}
 use Rattle.nl_types.specs.Trees.{Tree, IsTree, lookup}
 use Rattle.nl_types.specs.Facts.Lookups.{same_name-equal, same_name-itself, same_path-itself}
-use Rattle.nl_types.specs.Facts.TreeLaws.{path_total, same_path-equal}
+use Rattle.nl_types.specs.Facts.TreeLaws.{same_path-equal}
 use Rattle.nl_manifests.specs.declared.manifest.Line.{Line}
 use Rattle.nl_manifests.specs.declared.manifest.Manifest.{Manifest}
 use Rattle.nl_manifests.specs.Manifests.{IsManifest, ascend, are_attributes, are_lines, is_line, is_manifest}
-use Rattle.nl_manifests.specs.Readings.{manifest_in}
 use Rattle.nl_manifests.specs.HostTrees.{line_named, manifest_at, manifest_for, manifest_in_node, manifest_name}
 use Rattle.nl_manifests.specs.Private.Opening.{Manifests, manifest_entry, manifests}
 use Rattle.nl_manifests.proofs.Read.{read_found}

@@ -10,3 +10,4 @@ pub mod Kept
 pub mod OpenedTrees
 pub mod Refused
 pub mod EntryParts
+pub mod Sameness

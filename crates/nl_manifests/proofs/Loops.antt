@@ -2,7 +2,7 @@
 use Rattle.std.proofs.Common.{◌≡◌, ℕ, suc, ◌+◌, ◌-◌, ◌<◌, ◌≤◌, Bool, true, false, ◌&&◌, cond, leb, List, [], ◌∷◌, ◌++◌, length, Option, Some, None, refl, sym, ap, ◌∙◌, append_assoc, append-nil, true≢false, arith}
 use Rattle.nl_manifests.specs.declared.fields.ReadError.{ReadError}
 use Rattle.nl_manifests.specs.declared.fields.ReadError.TheVariants as errors
-use Rattle.nl_manifests.specs.Private.Reading.{◌>>=◌, Fails, and_more, decimal_digit_at, decimal_from, lines_at, many, next_line_at, pushed}
+use Rattle.nl_manifests.specs.Private.Reading.{◌>>=◌, Fails, decimal_digit_at, decimal_from, lines_at, many, next_line_at, pushed}
 
 -- ---- items
 

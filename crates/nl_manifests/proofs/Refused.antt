@@ -2,9 +2,8 @@
 use Rattle.std.proofs.Common.{◌≡◌, [], ◌∷◌, ◌++◌, Option, Some, None, refl, ap, ◌∙◌}
 use Rattle.std.specs.List.{flat_map}
 use Rattle.nl_types.specs.Trees.{Tree}
-use Rattle.nl_types.specs.Paths.{Path}
 use Rattle.nl_manifests.specs.declared.manifest.Manifest.{Manifest}
-use Rattle.nl_manifests.specs.HostTrees.{Refused, manifest_for, refused, refused_in, refused_line}
+use Rattle.nl_manifests.specs.HostTrees.{Refused, manifest_for, refused, refused_in}
 use Rattle.nl_manifests.specs.Private.Opening.{Manifests, manifest_entry, manifests, refused_lines}
 
 entries_are : (tree es : Tree)

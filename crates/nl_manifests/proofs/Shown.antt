@@ -1,28 +1,14 @@
 -- What is put together entry by entry is what a tree shows.
-use Rattle.std.proofs.Common.{◌≡◌, ◌⊎◌, ℕ, Bool, true, false, cond, ◌&&◌, List, [], ◌∷◌, ◌++◌, map, Option, Some, None, refl, sym, ap, ◌∙◌, subst, true≢false, is_some, inl, inr}
+use Rattle.std.proofs.Common.{◌≡◌, ◌⊎◌, true, false, cond, List, [], ◌∷◌, ◌++◌, Option, Some, None, refl, sym, ap, ◌∙◌, subst, true≢false, is_some, inl, inr}
 use Rattle.std.specs.List.{AllByRecursion, flat_map}
 use Rattle.std.specs.Option.{option_map}
-use Rattle.std.specs.Ordering.{is_lt, is_eq}
-use Rattle.std.specs.Prelude.{option_and_then, MatchOption}
-use Rattle.std.specs.Cmp.Lexicographic.{nat_list_cmp_total}
-use Rattle.std.specs.FinMap.{find, put, is_sorted}
-use Rattle.std.specs.FinMap.Entries.{below_all, find-put, is_sorted-put}
-use Rattle.std.proofs.lemmas.Bool.{and_parts, and_from, cases_Bool}
-use Rattle.nl_types.specs.declared.reply.Node.{Node}
-use Rattle.nl_types.specs.declared.reply.Node.TheVariants.{Dir, File}
-use Rattle.nl_types.specs.Paths.{Name, Path, name_cmp, path_cmp, same_name, same_path}
-use Rattle.nl_types.specs.Trees.{Tree, IsTree, lookup}
-use Rattle.nl_types.specs.Facts.Lookups.{same_name-equal, same_name-itself, same_path-itself}
+use Rattle.std.specs.FinMap.{find, put}
+use Rattle.std.specs.FinMap.Entries.{find-put}
+use Rattle.nl_types.specs.Paths.{Name, Path, path_cmp, same_path}
 use Rattle.nl_types.specs.Facts.TreeLaws.{path_total, same_path-equal}
-use Rattle.nl_manifests.specs.declared.manifest.Line.{Line}
-use Rattle.nl_manifests.specs.declared.manifest.Manifest.{Manifest}
 use Rattle.nl_manifests.specs.declared.host_tree.HostEntry.{HostEntry}
-use Rattle.nl_manifests.specs.Manifests.{IsManifest, ascend, are_attributes, are_lines, is_line, is_manifest}
-use Rattle.nl_manifests.specs.Readings.{manifest_in}
-use Rattle.nl_manifests.specs.HostTrees.{HostTree, last_name, line_in, line_named, manifest_above, manifest_at, manifest_for, manifest_in_node, manifest_name, parted, shown_at, shown_directory, shown_in, shown_link}
-use Rattle.nl_manifests.specs.Private.Opening.{Manifests, above_in, entry_if, file_part, link_part, link_where, links_part, manifest_entry, manifests, node_part, parts, puts}
-use Rattle.nl_manifests.proofs.Read.{read_found}
-use Rattle.nl_manifests.proofs.Sorted.{absent, less_is}
+use Rattle.nl_manifests.specs.HostTrees.{HostTree, parted}
+use Rattle.nl_manifests.specs.Private.Opening.{puts}
 
 -- ---- lists one after another
 

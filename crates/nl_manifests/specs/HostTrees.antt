@@ -12,7 +12,6 @@ use Rattle.nl_manifests.specs.declared.manifest.LineKind.{LineKind}
 use Rattle.nl_manifests.specs.declared.manifest.LineKind.TheVariants as kind
 use Rattle.nl_manifests.specs.declared.manifest.Line.{Line}
 use Rattle.nl_manifests.specs.declared.manifest.Manifest.{Manifest}
-use Rattle.nl_manifests.specs.declared.host_tree.HostNode.{HostNode}
 use Rattle.nl_manifests.specs.declared.host_tree.HostNode.TheVariants as host
 use Rattle.nl_manifests.specs.declared.host_tree.HostEntry.{HostEntry}
 use Rattle.nl_manifests.specs.declared.host_tree.LineFault.{LineFault}

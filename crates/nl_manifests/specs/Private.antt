@@ -2,3 +2,4 @@
 pub mod Reading
 pub mod Opening
 pub mod Places
+pub mod Sameness

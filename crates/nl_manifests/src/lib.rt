@@ -13,6 +13,7 @@ mod ordered;
 mod printing;
 mod reading;
 mod refusing;
+mod sealing;
 #[cfg(test)]
 mod tests;
 
@@ -22,3 +23,4 @@ pub use manifest::{Line, LineKind, Manifest};
 pub use opening::open;
 pub use printing::printed;
 pub use reading::read_manifest;
+pub use sealing::{SealError, seal};

@@ -1,7 +1,11 @@
 use crate::attributes::{Attributes, Time};
+use crate::host_tree::{HostEntry, HostNode, HostTree};
 use crate::manifest::{Line, LineKind, Manifest};
+use crate::opening::open;
 use crate::printing::printed;
 use crate::reading::read_manifest;
+use crate::sealing::{SealError, seal};
+use nl_folders::Path;
 use nl_types::Items;
 use std::alloc::{AllocError, Global};
 
@@ -93,5 +97,52 @@ fn other_spellings_are_no_manifest(rt: HostRuntime) -> Result<(), AllocError> {
     ] {
         assert!(rt; !reads(rt.alloc(), text)?);
     }
+    Ok(())
+}
+
+fn path(alloc: Global, names: &[&[u8]]) -> Result<Path, AllocError> {
+    let mut path = Items::new(alloc);
+    for name in names {
+        path.push(Items::from_slice(alloc, *name)?)?;
+    }
+    Ok(path)
+}
+
+fn entry(node: HostNode, attributes: Attributes) -> HostEntry {
+    HostEntry {
+        node,
+        attributes: Some(attributes),
+    }
+}
+
+/// A folder with a file, a link behind it and a folder before both, whose name is below that of a manifest.
+fn host(alloc: Global) -> Result<HostTree, AllocError> {
+    let mut host = Items::new(alloc);
+    host.push((path(alloc, &[])?, entry(HostNode::Directory, OWN)))?;
+    let directory = Attributes { mode: 0o700, ..OWN };
+    host.push((path(alloc, &[b"+"])?, entry(HostNode::Directory, directory)))?;
+    let target = Items::from_slice(alloc, b"../b")?;
+    let link = Attributes { mode: 0o777, ..OWN };
+    host.push((
+        path(alloc, &[b"+", b"l"])?,
+        entry(HostNode::Link(target), link),
+    ))?;
+    let bytes = Items::from_slice(alloc, b"bytes")?;
+    let file = Attributes { mode: 0o644, ..OWN };
+    host.push((path(alloc, &[b"b"])?, entry(HostNode::File(bytes), file)))?;
+    Ok(host)
+}
+
+/// How many entries the sealed tree has, and how many of the host it shows.
+fn counts(alloc: Global) -> Result<(usize, usize), SealError> {
+    let tree = seal(alloc, host(alloc)?.as_slice())?;
+    let opened = open(alloc, tree.as_slice())?;
+    Ok((tree.len(), opened.tree.len()))
+}
+
+#[test]
+fn a_host_tree_is_sealed(rt: HostRuntime) -> Result<(), AllocError> {
+    // Two folders and a file, and two manifests; the link is in one of these.
+    assert!(rt; matches!(counts(rt.alloc()), Ok((5, 4))));
     Ok(())
 }

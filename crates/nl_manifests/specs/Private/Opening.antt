@@ -1,5 +1,5 @@
 -- What is shown of a tree, put together entry by entry.
-use Rattle.std.specs.Prelude.{◌≡◌, IsTrue, Bool, true, List, [], ◌∷◌, ◌++◌, ℕ, Option, None, Some, take, drop, length}
+use Rattle.std.specs.Prelude.{◌≡◌, true, List, [], ◌∷◌, ◌++◌, ℕ, Option, None, Some}
 use Rattle.std.specs.FinMap.{find, put, is_sorted}
 use Rattle.std.specs.List.{flat_map}
 use Rattle.nl_types.specs.declared.reply.Node.{Node}

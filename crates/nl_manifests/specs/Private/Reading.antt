@@ -9,7 +9,7 @@ use Rattle.nl_manifests.specs.declared.manifest.Line.{Line}
 use Rattle.nl_manifests.specs.declared.manifest.Manifest.{Manifest}
 use Rattle.nl_manifests.specs.declared.fields.ReadError.{ReadError}
 use Rattle.nl_manifests.specs.declared.fields.ReadError.TheVariants as errors
-use Rattle.nl_manifests.specs.Manifests.{backslash, is_plain, is_manifest}
+use Rattle.nl_manifests.specs.Manifests.{backslash, is_plain}
 
 infixl 10 ◌>>=◌
 abbrev pub ◌>>=◌ : {A B : Type 0} → Option A → (A → Option B) → Option B

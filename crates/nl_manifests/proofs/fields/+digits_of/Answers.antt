@@ -1,4 +1,4 @@
-use Rattle.std.proofs.Common.{◌*◌, ◌+◌, ◌<◌, ◌^◌, arith}
+use Rattle.std.proofs.Common.{◌*◌, ◌+◌, arith}
 use Rattle.nl_manifests.proofs.Digits.{digit_fits, digits_fit}
 use Rattle.nl_manifests.proofs.fields.+digits_of.Goals as goal
 

@@ -1,4 +1,4 @@
-use Rattle.std.proofs.Common.{◌≡◌, ◌-◌, IfOk, None, Option, Some, ap, length, subst, sym, ◌∙◌}
+use Rattle.std.proofs.Common.{◌≡◌, IfOk, None, Option, Some, ap, subst, sym, ◌∙◌}
 use Rattle.std.specs.Option.{option_copied}
 use Rattle.nl_types.specs.declared.reply.Node.TheVariants.{File}
 use Rattle.nl_manifests.specs.declared.host_tree.HostEntry.{HostEntry}

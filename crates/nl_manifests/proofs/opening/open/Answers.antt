@@ -1,8 +1,6 @@
-use Rattle.std.proofs.Common.{◌≡◌, ◌∙◌, [], ap, sym}
+use Rattle.std.proofs.Common.{◌≡◌, ◌∙◌, [], ap}
 use Rattle.std.specs.FinMap.{find}
 use Rattle.nl_types.specs.Paths.{path_cmp}
-use Rattle.nl_types.specs.Facts.Booleans.{is_true}
-use Rattle.nl_manifests.specs.HostTrees.{HostTree}
 use Rattle.nl_manifests.specs.Private.Opening.{Manifests, manifests, parts, puts, refused_lines}
 use Rattle.nl_manifests.proofs.OpenedTrees.{opened_is}
 use Rattle.nl_manifests.proofs.Refused.{refused_is}

@@ -1,4 +1,4 @@
-use Rattle.std.proofs.Common.{◌≡◌, ◌∙◌, sym, IfOk, Result, Ok, Err, Option, Some, List, ℕ}
+use Rattle.std.proofs.Common.{◌≡◌, ◌∙◌, IfOk, Result, Ok, Err, Option, Some, List, ℕ}
 use Rattle.std.specs.Prelude.{IfSome}
 use Rattle.nl_manifests.specs.declared.manifest.Manifest.{Manifest}
 use Rattle.nl_manifests.specs.Manifests.{IsManifest, printed}
