@@ -37,8 +37,17 @@ digits_again base (suc width) n rest low below =
     let whole : n / base * base + n % base ≡ n = omega arith in
     let last : n % base < base = omega arith in
     let regrouped = append_assoc (in_digits base width (n / base)) ((48 + n % base) ∷ []) rest in
-    ap (λ (bytes : List ℕ). digits_at base width bytes >>= λ f. digit_at base f.1 >>= λ l. Some (f.0 * base + l.0, l.1)) regrouped
-    ∙ rw (digits_again base width (n / base) ((48 + n % base) ∷ rest) low front, digit_again base (n % base) rest last, whole) refl
+    ap (λ (bytes : List ℕ). digits_at base width bytes >>= λ f. digit_at base f.1 >>= λ l. Some (
+      f.0 *
+          base + l.0,
+      l.1,
+    )) regrouped
+    ∙ rw (
+      digits_again base width (n / base) ((48 + n % base) ∷ rest) low front,
+      digit_again base (n %
+          base) rest last,
+      whole,
+    ) refl
 
 -- ---- decimal numbers
 
@@ -61,7 +70,8 @@ pub decimal_behind : (n : ℕ) → n < 2 ^ 64 → (rest : List ℕ)
 decimal_behind n fits rest = decimal_by_steps GoesOn one more n fits rest fits
   where
     one : (n : ℕ) → n < 10 → GoesOn n ((48 + n) ∷ [])
-    one n below rest fits = decimal_step 0 n rest below (omega arith) ∙ ap (λ (k : ℕ). decimal_from k rest) (omega arith)
+    one n below rest fits = decimal_step 0 n rest below (omega arith) ∙ ap (λ (k : ℕ). decimal_from k
+        rest) (omega arith)
 
     more : (n : ℕ) (digits : List ℕ) → 10 ≤ n → GoesOn (n / 10) digits
         → GoesOn n (digits ++ (48 + n % 10) ∷ [])
@@ -81,7 +91,8 @@ owner_again n rest fits =
 
 -- ---- items one after another
 
-pub many_again : {X : Type 0} (next : List ℕ → Option (Option (X × List ℕ))) (text : X → List ℕ) (ok : X → Bool)
+pub many_again : {X : Type 0} (next : List ℕ → Option (Option (X × List ℕ))) (text : X → List ℕ) (ok : X →
+    Bool)
     → ((x : X) (rest : List ℕ) → ok x ≡ true → next (text x ++ rest) ≡ Some (Some (x, rest)))
     → (xs : List X) (rest : List ℕ) (limit : ℕ) → list_all ok xs ≡ true → next rest ≡ Some None
     → length xs < limit → many next limit (flat_map text xs ++ rest) ≡ Some (xs, rest)
@@ -92,7 +103,11 @@ many_again next text ok one (x ∷ xs) rest (suc limit) all ends less =
     let parts = and_parts (ok x) (list_all ok xs) all in
     let regrouped = append_assoc (text x) (flat_map text xs) rest in
     ap (many next (suc limit)) regrouped
-    ∙ rw (one x (flat_map text xs ++ rest) parts.0, many_again next text ok one xs rest limit parts.1 ends (omega arith)) refl
+    ∙ rw (
+      one x (flat_map text xs ++ rest) parts.0,
+      many_again next text ok one xs rest limit parts.1 ends
+          (omega arith),
+    ) refl
 
 -- ---- names
 
@@ -107,7 +122,8 @@ backslash_marks : is_plain backslash ≡ false
 unfolding is_plain
 backslash_marks = refl
 
-byte_again : (b : ℕ) (rest : List ℕ) → ltb b 256 ≡ true → byte_at (escaped_byte b ++ rest) ≡ Some (Some (b, rest))
+byte_again : (b : ℕ) (rest : List ℕ) → ltb b 256 ≡ true → byte_at (escaped_byte b ++ rest) ≡ Some (Some
+    (b, rest))
 unfolding byte_at escaped_byte
 byte_again b rest fits =
     elim (is_plain b) as (λ t. is_plain b ≡ t
@@ -128,7 +144,8 @@ items_long text some [] = omega arith
 items_long text some (x ∷ xs) =
     omega (arith, length-append (text x) (flat_map text xs), some x, items_long text some xs)
 
-pub name_again : (name : List ℕ) (b : ℕ) (rest : List ℕ) → are_bytes name ≡ true → byte_at (b ∷ rest) ≡ Some None
+pub name_again : (name : List ℕ) (b : ℕ) (rest : List ℕ) → are_bytes name ≡ true → byte_at (b ∷ rest) ≡
+    Some None
     → name_at (escaped name ++ b ∷ rest) ≡ Some (name, b ∷ rest)
 name_again name b rest bytes ends =
     many_again byte_at escaped_byte (λ c. ltb c 256) byte_again name (b ∷ rest)
@@ -162,7 +179,8 @@ unsigned n fits = decimal_by_steps Unsigned one more n fits
         let other : eqb (48 + n) 45 ≡ false = grind (arith, nat_tests) in
         rw other refl
 
-    more : (n : ℕ) (digits : List ℕ) → 10 ≤ n → Unsigned (n / 10) digits → Unsigned n (digits ++ (48 + n % 10) ∷ [])
+    more : (n : ℕ) (digits : List ℕ) → 10 ≤ n → Unsigned (n / 10) digits → Unsigned n (digits ++ (48 + n %
+        10) ∷ [])
     more n digits long front rest =
         let regrouped = append_assoc digits ((48 + n % 10) ∷ []) rest in
         ap sign_at regrouped ∙ front ((48 + n % 10) ∷ rest)
@@ -179,9 +197,17 @@ time_again_of : (negative : Bool) (s n : ℕ) (rest : List ℕ) → s < 2 ^ 64 �
 unfolding time_at behind decimal_from
 time_again_of negative s n rest fits small =
     let tail = dot ∷ (in_digits 10 9 n ++ rest) in
-    rw (sign_again negative s tail fits, decimal_behind s fits tail, digits_again 10 9 n rest (omega arith) small) refl
+    rw (
+      sign_again negative s tail fits,
+      decimal_behind s fits tail,
+      digits_again 10 9 n rest (omega
+          arith) small,
+    ) refl
 
-pub time_again : (t : Time) (rest : List ℕ) → is_time t ≡ true → time_at (time_text t ++ rest) ≡ Some (t, rest)
+pub time_again : (t : Time) (rest : List ℕ) → is_time t ≡ true → time_at (time_text t ++ rest) ≡ Some (
+  t,
+  rest,
+)
 unfolding is_time time_text
 time_again t rest is =
     let first = and_parts (ltb t.seconds (2 ^ 64)) _ is in
@@ -206,11 +232,19 @@ attributes_again a rest is =
     let at_group = codes " gid=" ++ (decimal a.group ++ at_time) in
     let at_owner = codes " uid=" ++ (decimal a.owner ++ at_group) in
     ap attributes_at (regrouped (in_digits 8 4 a.mode) (decimal a.owner) (decimal a.group) (time_text a.time))
-    ∙ rw (digits_again 8 4 a.mode at_owner (omega arith) mode, owner_again a.owner _ second.0, owner_again a.group _ third.0, time_again a.time rest third.1) refl
+    ∙ rw (
+      digits_again 8 4 a.mode at_owner (omega arith) mode,
+      owner_again a.owner _ second.0,
+      owner_again
+          a.group _ third.0,
+      time_again a.time rest third.1,
+    ) refl
   where
     regrouped : (m o g t : List ℕ)
-        → (codes " mode=" ++ (m ++ (codes " uid=" ++ (o ++ (codes " gid=" ++ (g ++ (codes " time=" ++ t))))))) ++ rest
-        ≡ codes " mode=" ++ (m ++ (codes " uid=" ++ (o ++ (codes " gid=" ++ (g ++ (codes " time=" ++ (t ++ rest)))))))
+        → (codes " mode=" ++ (m ++ (codes " uid=" ++ (o ++ (codes " gid=" ++ (g ++ (codes " time=" ++
+        t))))))) ++ rest
+        ≡ codes " mode=" ++ (m ++ (codes " uid=" ++ (o ++ (codes " gid=" ++ (g ++ (codes " time=" ++ (t ++
+        rest)))))))
     regrouped m o g t = simp append_assoc
 
 -- ---- lines
@@ -222,7 +256,8 @@ file_again a rest is = rw (attributes_again a rest is) refl
 
 link_again : (target : List ℕ) (a : Attributes) (rest : List ℕ) → is_text target ≡ true
     → are_attributes a ≡ true
-    → kind_at (codes " type=link" ++ (attributes_text a ++ (codes " link=" ++ (escaped target ++ line_feed ∷ rest))))
+    → kind_at (codes " type=link" ++ (attributes_text a ++ (codes " link=" ++ (escaped target ++ line_feed
+    ∷ rest))))
     ≡ Some ((Link target, a), line_feed ∷ rest)
 unfolding kind_at link_at behind is_text
 link_again target a rest leads is =
@@ -236,13 +271,18 @@ link_again target a rest leads is =
 abbrev told : List ℕ → LineKind → Attributes → Line
 told name kind a = record { name = name; kind = kind; attributes = a }
 
-line_again_of : (name : List ℕ) (kind : LineKind) (a : Attributes) (rest : List ℕ) → is_line (told name kind a) ≡ true
+line_again_of : (name : List ℕ) (kind : LineKind) (a : Attributes) (rest : List ℕ) → is_line (told name
+    kind a) ≡ true
     → line_at (line_text (told name kind a) ++ rest) ≡ Some (told name kind a, rest)
 unfolding line_at line_text is_line behind
 line_again_of name File a rest is =
     let parts = and_parts (is_text name) (are_attributes a) is in
     ap line_at (regrouped (escaped name) (attributes_text a))
-    ∙ rw (name_again name 32 _ (text_bytes name parts.0) (blank_ends _), file_again a (line_feed ∷ rest) parts.1) refl
+    ∙ rw (
+      name_again name 32 _ (text_bytes name parts.0) (blank_ends _),
+      file_again a (line_feed ∷ rest)
+          parts.1,
+    ) refl
   where
     regrouped : (n t : List ℕ)
         → (codes "./" ++ (n ++ ((codes " type=file" ++ t) ++ line_feed ∷ []))) ++ rest
@@ -252,10 +292,15 @@ line_again_of name (Link target) a rest is =
     let first = and_parts (is_text target) _ is in
     let parts = and_parts (is_text name) (are_attributes a) first.1 in
     ap line_at (regrouped (escaped name) (attributes_text a) (escaped target))
-    ∙ rw (name_again name 32 _ (text_bytes name parts.0) (blank_ends _), link_again target a rest first.0 parts.1) refl
+    ∙ rw (
+      name_again name 32 _ (text_bytes name parts.0) (blank_ends _),
+      link_again target a rest first.0
+          parts.1,
+    ) refl
   where
     regrouped : (n t k : List ℕ)
-        → (codes "./" ++ (n ++ ((codes " type=link" ++ (t ++ (codes " link=" ++ k))) ++ line_feed ∷ []))) ++ rest
+        → (codes "./" ++ (n ++ ((codes " type=link" ++ (t ++ (codes " link=" ++ k))) ++ line_feed ∷ [])))
+        ++ rest
         ≡ codes "./" ++ (n ++ (codes " type=link" ++ (t ++ (codes " link=" ++ (k ++ line_feed ∷ rest)))))
     regrouped n t k = simp append_assoc
 
@@ -263,7 +308,8 @@ next_line_again : (line : Line) (rest : List ℕ) → is_line line ≡ true
     → next_line_at (line_text line ++ rest) ≡ Some (Some (line, rest))
 unfolding next_line_at line_text
 next_line_again line rest is =
-    ap (λ (o : Option (Line × List ℕ)). o >>= λ l. Some (Some l)) (line_again_of line.name line.kind line.attributes rest is)
+    ap (λ (o : Option (Line × List ℕ)). o >>= λ l. Some (Some l)) (line_again_of line.name line.kind
+    line.attributes rest is)
 
 line_some : (line : Line) → 0 < length (line_text line)
 unfolding line_text
@@ -285,5 +331,14 @@ all_again m is =
     let lines = and_parts (list_all is_line m.lines) (ascend m.lines) first.1 in
     let texts = flat_map line_text m.lines in
     let long : length m.lines < length (printed m) =
-    omega (arith, length-append (attributes_text m.own) (line_feed ∷ texts), items_long line_text line_some m.lines) in
-    rw (attributes_again m.own (line_feed ∷ texts) first.0, lines_again m.lines (length (printed m)) lines.0 long) refl
+    omega (
+      arith,
+      length-append (attributes_text m.own) (line_feed ∷ texts),
+      items_long line_text
+          line_some m.lines,
+    ) in
+    rw (
+      attributes_again m.own (line_feed ∷ texts) first.0,
+      lines_again m.lines (length (printed m))
+          lines.0 long,
+    ) refl

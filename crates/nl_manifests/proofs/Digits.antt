@@ -29,4 +29,5 @@ digits_fit n width below few =
 
 pub bytes_fit : (bytes : List ℕ) → ((i : ℕ) → get_or bytes i 0 < 256) → are_bytes bytes ≡ true
 bytes_fit [] fits = refl
-bytes_fit (b ∷ bytes) fits = and_from _ (are_bytes bytes) (lt-ltb b 256 (fits 0)) (bytes_fit bytes (λ i. fits (suc i)))
+bytes_fit (b ∷ bytes) fits = and_from _ (are_bytes bytes) (lt-ltb b 256 (fits 0)) (bytes_fit bytes (λ i.
+    fits (suc i)))

@@ -10,7 +10,8 @@ use Rattle.nl_manifests.specs.HostTrees.{parted, shown_link}
 use Rattle.nl_manifests.specs.Private.Opening.{entry_if, link_part, link_where}
 
 -- a link where nothing stands
-pub link_is : (tree : Tree) (dir : Path) (line : Line) (path seen : Path) (name : Name) (entry : Option HostEntry)
+pub link_is : (tree : Tree) (dir : Path) (line : Line) (path seen : Path) (name : Name) (entry : Option
+    HostEntry)
     → path ≡ dir ++ name ∷ [] → name ≡ line.name → seen ≡ path
     → ◌≡◌ {A = Option Node} None (lookup tree seen) → entry ≡ shown_link line.name (Some line)
     → entry_if path entry ≡ link_part tree dir line
@@ -28,5 +29,6 @@ parted_last [] d some = absurd (omega arith)
 parted_last (n ∷ []) d some = refl
 parted_last (n ∷ m ∷ path) d some =
     let front : length (n ∷ m ∷ path) - 1 ≡ suc (length (m ∷ path) - 1) = omega arith in
-    ap (λ (o : Option (Path × Name)). option_map (λ p. (n ∷ p.0, p.1)) o) (parted_last (m ∷ path) d (omega arith))
+    ap (λ (o : Option (Path × Name)). option_map (λ p. (n ∷ p.0, p.1)) o) (parted_last (m ∷ path) d (omega
+    arith))
     ∙ ap (λ (k : ℕ). Some (take k (n ∷ m ∷ path), get_or (n ∷ m ∷ path) k d)) (sym front)

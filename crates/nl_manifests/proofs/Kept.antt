@@ -48,7 +48,8 @@ found_in_entries tree (e ∷ es) d sorted =
         ≡ option_and_then (manifest_for tree d) (cond t (Some e.1) (find path_cmp d es))
     by None is true same below rest =
         let here = same_path-equal d e.0 same in
-        rest ∙ ap (option_and_then (manifest_for tree d)) (ap (λ (p : Path). find path_cmp p es) here ∙ absent e.0 es below)
+        rest ∙ ap (option_and_then (manifest_for tree d)) (ap (λ (p : Path). find path_cmp p es) here ∙
+        absent e.0 es below)
         ∙ sym (ap (λ (p : Path). manifest_for tree p e.1) here ∙ is)
     by None is false same below rest = rest
     by (Some m) is true same below rest =
@@ -69,7 +70,8 @@ manifest_dir tree t d m is = t.parents d manifest_name (by (lookup tree (d ++ ma
 no_file_is_dir : (bytes : List ℕ) → ◌≡◌ {A = Option Node} (Some (File bytes)) (Some Dir) → ⊥
 no_file_is_dir bytes is = cc
 
-pub found_manifests : (tree : Tree) → IsTree tree → (d : Path) → find path_cmp d (manifests tree) ≡ manifest_at tree d
+pub found_manifests : (tree : Tree) → IsTree tree → (d : Path) → find path_cmp d (manifests tree) ≡
+    manifest_at tree d
 found_manifests tree t d =
     found_in_entries tree tree d t.ordered ∙ by (lookup tree d) refl (manifest_at tree d) refl
   where
@@ -118,7 +120,8 @@ lines_sorted (line ∷ []) up = refl
 lines_sorted (line ∷ next ∷ lines) up =
     let parts = and_parts (is_lt (name_cmp line.name next.name)) (ascend (next ∷ lines)) up in
     let rest = lines_sorted (next ∷ lines) parts.1 in
-    let below = and_parts (below_all name_cmp next.name (keyed lines)) (is_sorted name_cmp (keyed lines)) rest in
+    let below = and_parts (below_all name_cmp next.name (keyed lines)) (is_sorted name_cmp (keyed lines))
+    rest in
     and_from _ (is_sorted name_cmp (keyed (next ∷ lines)))
     (and_from (is_lt (name_cmp line.name next.name)) (below_all name_cmp line.name (keyed lines)) parts.0
     (below_more line.name next.name lines parts.0 below.0)) rest
@@ -151,7 +154,8 @@ named_behind line lines (l ∷ some) below named =
 pub are_named : (lines : List Line) → is_sorted name_cmp (keyed lines) ≡ true → AreNamed lines lines
 are_named [] sorted = tt
 are_named (line ∷ lines) sorted =
-    let parts = and_parts (below_all name_cmp line.name (keyed lines)) (is_sorted name_cmp (keyed lines)) sorted in (
+    let parts = and_parts (below_all name_cmp line.name (keyed lines)) (is_sorted name_cmp (keyed lines))
+    sorted in (
       ap (λ t. cond t (Some line) (line_named lines line.name)) (same_name-itself line.name),
       named_behind line lines lines parts.0 (are_named lines parts.1),
     )
@@ -165,7 +169,11 @@ Stand tree es = AllByRecursion (λ e. lookup tree e.0 ≡ Some e.1) es
 stand_behind : (e : Path × Node) (tree some : Tree) → below_all path_cmp e.0 tree ≡ true → Stand tree some
     → Stand (e ∷ tree) some
 stand_behind e tree [] below stand = tt
-stand_behind e tree (f ∷ some) below stand = (by (same_path f.0 e.0) refl, stand_behind e tree some below stand.1)
+stand_behind e tree (f ∷ some) below stand = (
+  by (same_path f.0 e.0) refl,
+  stand_behind e tree some below
+      stand.1,
+)
   where
     by : (t : Bool) → same_path f.0 e.0 ≡ t → lookup (e ∷ tree) f.0 ≡ Some f.1
     by true same =

@@ -16,7 +16,8 @@ begins None = refl
 
 regroup : {X : Type 0} (front : List X) (item : X) (read : Option (List X × List ℕ))
     → with_front front (read >>= λ x. Some (item ∷ x.0, x.1)) ≡ with_front (front ++ item ∷ []) read
-regroup {X} front item (Some x) = ap (λ (items : List X). Some (items, x.1)) (sym (append_assoc front (item ∷ []) x.0))
+regroup {X} front item (Some x) = ap (λ (items : List X). Some (items, x.1)) (sym (append_assoc front
+    (item ∷ []) x.0))
 regroup front item None = refl
 
 module _ {X : Type 0} (next : List ℕ → Option (Option (X × List ℕ))) (front : List X) (limit i : ℕ)
@@ -108,12 +109,14 @@ digits_stop number (b ∷ bytes) is = by (leb 48 b && leb b 57) is
     by true found = absurd (true≢false (sym (ap is_there found)))
     by false found = refl
 
-pub digit_shortens : (left : List ℕ) (digit : ℕ) (rest : List ℕ) → Met (Some (digit, rest)) (decimal_digit_at left)
+pub digit_shortens : (left : List ℕ) (digit : ℕ) (rest : List ℕ) → Met (Some (digit, rest))
+    (decimal_digit_at left)
     → length rest < length left
 digit_shortens [] digit rest is = absurd (true≢false (ap is_there is))
 digit_shortens (b ∷ bytes) digit rest is = by (leb 48 b && leb b 57) is
   where
-    by : (t : Bool) → Met (Some (digit, rest)) (cond t (Some (b - 48, bytes)) None) → length rest < length (b ∷ bytes)
+    by : (t : Bool) → Met (Some (digit, rest)) (cond t (Some (b - 48, bytes)) None) → length rest < length
+        (b ∷ bytes)
     by true found =
         let same : length rest ≡ length bytes = ap (λ r. length (rest_in r)) found in
         omega arith

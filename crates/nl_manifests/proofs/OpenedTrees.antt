@@ -44,7 +44,8 @@ module _ (tree : Tree) (t : IsTree tree) where
       → shown_in (manifest_above tree (parted (d ++ n ∷ []))) (last_name (parted (d ++ n ∷ []))) own node
       ≡ shown_in (manifest_at tree d) n own node
   shown_below d n own node =
-      ap (λ (o : Option (Path × Name)). shown_in (manifest_above tree o) (last_name o) own node) (parted_ends d n)
+      ap (λ (o : Option (Path × Name)). shown_in (manifest_above tree o) (last_name o) own node)
+      (parted_ends d n)
 
   above_is : (o : Option (Path × Name)) → above_in (manifests tree) o ≡ manifest_above tree o
   above_is None = refl
@@ -52,13 +53,15 @@ module _ (tree : Tree) (t : IsTree tree) where
 
   -- ---- what is put together is shown
 
-  link_are : (d : Path) (m : Manifest) → manifest_at tree d ≡ Some m → (l : Line) → line_named m.lines l.name ≡ Some l
+  link_are : (d : Path) (m : Manifest) → manifest_at tree d ≡ Some m → (l : Line) → line_named m.lines
+      l.name ≡ Some l
       → Are (shown_at tree) (link_part tree d l)
   link_are d m is l named =
       entry_are (shown_at tree) (d ++ l.name ∷ []) (link_where (lookup tree (d ++ l.name ∷ [])) l)
       (by (lookup tree (d ++ l.name ∷ [])) refl)
     where
-      by : (o : Option Node) → lookup tree (d ++ l.name ∷ []) ≡ o → (v : HostEntry) → Met (link_where o l) (Some v)
+      by : (o : Option Node) → lookup tree (d ++ l.name ∷ []) ≡ o → (v : HostEntry) → Met (link_where o l)
+          (Some v)
           → shown_at tree (d ++ l.name ∷ []) ≡ Some v
       by (Some node) there v found = absurd (not_none v found)
       by None there v found =
@@ -67,7 +70,8 @@ module _ (tree : Tree) (t : IsTree tree) where
           ∙ ap (λ (k : Option Manifest). shown_link l.name (line_in k l.name)) is
           ∙ ap (shown_link l.name) named ∙ found
 
-  links_are : (d : Path) (m : Manifest) → manifest_at tree d ≡ Some m → (some : List Line) → AreNamed m.lines some
+  links_are : (d : Path) (m : Manifest) → manifest_at tree d ≡ Some m → (some : List Line) → AreNamed
+      m.lines some
       → Are (shown_at tree) (flat_map (link_part tree d) some)
   links_are d m is [] named = tt
   links_are d m is (l ∷ some) named =
@@ -116,18 +120,22 @@ module _ (tree : Tree) (t : IsTree tree) where
       by some None is found = absurd (no_line n v found)
       by [] (Some l) is found = absurd (not_none l is)
       by (k ∷ some) (Some l) is found =
-          elim (same_name n k.name) as (λ b. same_name n k.name ≡ b → cond b (Some k) (line_named some n) ≡ Some l
-          → is_some (find path_cmp (d ++ n ∷ []) (link_part tree d k ++ flat_map (link_part tree d) some)) ≡ true) [
+          elim (same_name n k.name) as (λ b. same_name n k.name ≡ b → cond b (Some k) (line_named some n)
+          ≡ Some l
+          → is_some (find path_cmp (d ++ n ∷ []) (link_part tree d k ++ flat_map (link_part tree d) some))
+          ≡ true) [
             | true ↦ λ same here.
                 let names : n ≡ k.name = same_name-equal n k.name same in
                 let lines : k ≡ l = same_Some k l here in
-                let one : is_some (find path_cmp (d ++ n ∷ []) (entry_if (d ++ n ∷ []) (link_where (lookup tree (d ++ n ∷ [])) k))) ≡ true =
+                let one : is_some (find path_cmp (d ++ n ∷ []) (entry_if (d ++ n ∷ []) (link_where (lookup
+                tree (d ++ n ∷ [])) k))) ≡ true =
                 entry_found (d ++ n ∷ []) (link_where (lookup tree (d ++ n ∷ [])) k) v
                 (ap (λ (o : Option Node). link_where o k) free
                 ∙ ap (λ (x : Name). shown_link x (Some k)) (sym names)
                 ∙ ap (λ (x : Line). shown_link n (Some x)) lines ∙ found) in
                 found_left (d ++ n ∷ []) (link_part tree d k) (flat_map (link_part tree d) some)
-                (subst (λ (x : Name). is_some (find path_cmp (d ++ n ∷ []) (entry_if (d ++ x ∷ []) (link_where (lookup tree (d ++ x ∷ [])) k))) ≡ true) names one)
+                (subst (λ (x : Name). is_some (find path_cmp (d ++ n ∷ []) (entry_if (d ++ x ∷ [])
+                (link_where (lookup tree (d ++ x ∷ [])) k))) ≡ true) names one)
             | false ↦ λ _ behind.
                 found_right (d ++ n ∷ []) (link_part tree d k) (flat_map (link_part tree d) some)
                 (by some (Some l) behind found)
@@ -138,16 +146,19 @@ module _ (tree : Tree) (t : IsTree tree) where
   covers q v is = by (lookup tree q) refl
     where
       shown : (o : Option Node) → lookup tree q ≡ o
-          → Met (shown_in (manifest_above tree (parted q)) (last_name (parted q)) (manifest_at tree q) o) (Some v)
+          → Met (shown_in (manifest_above tree (parted q)) (last_name (parted q)) (manifest_at tree q) o)
+          (Some v)
       shown o there =
-          sym (ap (shown_in (manifest_above tree (parted q)) (last_name (parted q)) (manifest_at tree q)) there) ∙ is
+          sym (ap (shown_in (manifest_above tree (parted q)) (last_name (parted q)) (manifest_at tree q))
+          there) ∙ is
 
       told : (d : Path) (n : Name) → q ≡ d ++ n ∷ [] → lookup tree q ≡ None → (k : Option Manifest)
           → manifest_at tree d ≡ k → Met (shown_link n (line_in k n)) (Some v)
       told d n at free k is_k =
           ap (λ (x : Option Manifest). shown_link n (line_in x n)) (sym is_k)
           ∙ sym (shown_below d n (manifest_at tree q) None)
-          ∙ ap (λ (p : Path). shown_in (manifest_above tree (parted p)) (last_name (parted p)) (manifest_at tree q) None) (sym at)
+          ∙ ap (λ (p : Path). shown_in (manifest_above tree (parted p)) (last_name (parted p))
+          (manifest_at tree q) None) (sym at)
           ∙ shown None free
 
       below : (d : Path) (n : Name) → q ≡ d ++ n ∷ [] → lookup tree q ≡ None → (k : Option Manifest)
@@ -156,30 +167,39 @@ module _ (tree : Tree) (t : IsTree tree) where
       below d n at free None none =
           absurd (no_line n v (told d n at free None none))
       below d n at free (Some m) is_m =
-          let links = link_found d n v (ap (lookup tree) (sym at) ∙ free) m.lines (told d n at free (Some m) is_m) in
-          let own : links_part tree d (find path_cmp d (manifests tree)) ≡ flat_map (link_part tree d) m.lines =
+          let links = link_found d n v (ap (lookup tree) (sym at) ∙ free) m.lines (told d n at free (Some
+          m) is_m) in
+          let own : links_part tree d (find path_cmp d (manifests tree)) ≡ flat_map (link_part tree d)
+          m.lines =
           ap (links_part tree d) (found_manifests tree t d ∙ is_m) in
           let here : is_some (find path_cmp q (links_part tree d (find path_cmp d (manifests tree)))) ≡ true =
-          ap (λ (p : Path). is_some (find path_cmp p (links_part tree d (find path_cmp d (manifests tree))))) at
+          ap (λ (p : Path). is_some (find path_cmp p (links_part tree d (find path_cmp d (manifests
+          tree))))) at
           ∙ ap (λ (x : HostTree). is_some (find path_cmp (d ++ n ∷ []) x)) own ∙ links in
           found_among (part_of tree) q d Dir tree (manifest_dir tree t d m is_m)
-          (found_right q ((d, shown_directory (find path_cmp d (manifests tree))) ∷ []) (links_part tree d (find path_cmp d (manifests tree))) here)
+          (found_right q ((d, shown_directory (find path_cmp d (manifests tree))) ∷ []) (links_part tree d
+          (find path_cmp d (manifests tree))) here)
 
-      by : (o : Option Node) → lookup tree q ≡ o → is_some (find path_cmp q (parts tree (manifests tree) tree)) ≡ true
+      by : (o : Option Node) → lookup tree q ≡ o → is_some (find path_cmp q (parts tree (manifests tree)
+          tree)) ≡ true
       by (Some Dir) there =
           found_among (part_of tree) q q Dir tree there
           (found_left q ((q, shown_directory (find path_cmp q (manifests tree))) ∷ []) _
-          (ap (λ b. is_some (cond b (Some (shown_directory (find path_cmp q (manifests tree)))) (find path_cmp q []))) (same_path-itself q)))
+          (ap (λ b. is_some (cond b (Some (shown_directory (find path_cmp q (manifests tree)))) (find
+          path_cmp q []))) (same_path-itself q)))
       by (Some (File bytes)) there =
           found_among (part_of tree) q q (File bytes) tree there
-          (entry_found q (shown_in (above_in (manifests tree) (parted q)) (last_name (parted q)) None (Some (File bytes))) v
-          (ap (λ (k : Option Manifest). shown_in k (last_name (parted q)) None (Some (File bytes))) (above_is (parted q))
+          (entry_found q (shown_in (above_in (manifests tree) (parted q)) (last_name (parted q)) None
+          (Some (File bytes))) v
+          (ap (λ (k : Option Manifest). shown_in k (last_name (parted q)) None (Some (File bytes)))
+          (above_is (parted q))
           ∙ shown (Some (File bytes)) there))
       by None there = ended (ending_of q)
         where
           ended : (q ≡ []) ⊎ ((d : Path) × (n : Name) × (q ≡ d ++ n ∷ []))
               → is_some (find path_cmp q (parts tree (manifests tree) tree)) ≡ true
-          ended (inl root) = absurd (true≢false (sym (ap is_some (ap (lookup tree) root ∙ t.root)) ∙ ap is_some there))
+          ended (inl root) = absurd (true≢false (sym (ap is_some (ap (lookup tree) root ∙ t.root)) ∙ ap
+              is_some there))
           ended (inr e) = below e.0 e.1 e.2 there (manifest_at tree e.0) refl
 
   pub opened_is : (q : Path) → find path_cmp q (puts [] (parts tree (manifests tree) tree)) ≡ shown_at tree q

@@ -19,7 +19,8 @@ use Rattle.nl_manifests.proofs.Sorted.{inserted, less_is, put_first, replaced}
 
 -- ---- places
 
-pub first_is : (es : HostTree) (e f : Path × HostEntry) (rest others : HostTree) → es ≡ e ∷ rest → es ≡ f ∷ others
+pub first_is : (es : HostTree) (e f : Path × HostEntry) (rest others : HostTree) → es ≡ e ∷ rest → es ≡ f
+    ∷ others
     → e ≡ f
 first_is es e f rest others one other = let both : e ∷ rest ≡ f ∷ others = sym one ∙ other in cc
 
@@ -50,7 +51,8 @@ put_behind k v es (suc p) sorted is other =
     let within : p < length es = omega (arith, is.within) in
     let here : drop p es ≡ e ∷ rest = drop_more es p (k, v) within in
     let at : drop (suc p - 1) es ≡ e ∷ rest = ap (λ (n : ℕ). drop n es) one ∙ here in
-    let greater = not_less (path_cmp k e.0) (is.behind e rest (omega arith) at) (other e rest (omega arith) at) in
+    let greater = not_less (path_cmp k e.0) (is.behind e rest (omega arith) at) (other e rest (omega
+    arith) at) in
     let less : path_cmp e.0 k ≡ Less = path_total.antisymm e.0 k ∙ ap ordering_reverse greater in
     let next : suc p ≡ p + 1 = omega arith in
     let before : BeginsAbove k rest = subst (λ (n : ℕ). BeginsAbove k (drop n es)) next is.before in
@@ -65,19 +67,23 @@ put_over k v es place sorted within is =
     let inside : p < length es = omega (arith, is.0) in
     let here = drop_more es p (k, v) inside in
     let e = get_or es p (k, v) in
-    replaced k v es p e (drop (p + 1) es) sorted here (tied_is (path_cmp k e.0) (is.1 e (drop (p + 1) es) here))
+    replaced k v es p e (drop (p + 1) es) sorted here (tied_is (path_cmp k e.0) (is.1 e (drop (p + 1) es)
+    here))
 
-pub before_by : (k : Path) (es : HostTree) (place : ℕ) (e : Path × HostEntry) (rest : HostTree) (t : Bool) → 0 < place
+pub before_by : (k : Path) (es : HostTree) (place : ℕ) (e : Path × HostEntry) (rest : HostTree) (t : Bool)
+    → 0 < place
     → drop (place - 1) es ≡ e ∷ rest → t ≡ is_eq (path_cmp k e.0) → IsBefore k es place t
 before_by k es place e rest true some here is = (
   some,
   λ f others other.
-      ap (λ (x : Path × HostEntry). is_eq (path_cmp k x.0)) (first_is (drop (place - 1) es) f e others rest other here)
+      ap (λ (x : Path × HostEntry). is_eq (path_cmp k x.0)) (first_is (drop (place - 1) es) f e others
+      rest other here)
       ∙ sym is,
 )
 before_by k es place e rest false some here is =
     λ f others _ other.
-    ap (λ (x : Path × HostEntry). is_eq (path_cmp k x.0)) (first_is (drop (place - 1) es) f e others rest other here)
+    ap (λ (x : Path × HostEntry). is_eq (path_cmp k x.0)) (first_is (drop (place - 1) es) f e others rest
+    other here)
     ∙ sym is
 
 -- one entry more
@@ -85,7 +91,8 @@ pub Puts-one : (k : Path) (v : HostEntry) (old new : HostTree) → is_sorted pat
     → new ≡ put path_cmp k v old → Puts old ((k, v) ∷ []) new
 Puts-one k v old new sorted is = record {
   shown = is;
-  ordered = ap (is_sorted path_cmp) is ∙ is_true _ (is_sorted-put path_cmp path_total k v old (holds _ sorted));
+  ordered = ap (is_sorted path_cmp) is ∙ is_true _ (is_sorted-put path_cmp path_total k v old (holds _
+      sorted));
 }
 
 -- what goes to a place is put
@@ -154,12 +161,14 @@ Putting-done old now left all none so_far sorted =
     record { shown = sym (ap (puts now) none) ∙ s.left; ordered = s.ordered }
 
 -- the part of the next item, and those of the items behind it
-pub flat_map-drop : {X Y : Type 0} (f : X → List Y) (xs : List X) (i : ℕ) (x : X) → i < length xs → x ≡ get_or xs i x
+pub flat_map-drop : {X Y : Type 0} (f : X → List Y) (xs : List X) (i : ℕ) (x : X) → i < length xs → x ≡
+    get_or xs i x
     → flat_map f (drop i xs) ≡ f x ++ flat_map f (drop (i + 1) xs)
 flat_map-drop {X} f xs i x within is =
     ap (flat_map f) (drop_more xs i x within)
     ∙ ap (λ (y : X). f y ++ flat_map f (drop (i + 1) xs)) (sym is)
 
 -- behind the last item nothing is left
-pub all_passed : {X Y : Type 0} (f : X → List Y) (xs : List X) (i : ℕ) → length xs ≤ i → flat_map f (drop i xs) ≡ []
+pub all_passed : {X Y : Type 0} (f : X → List Y) (xs : List X) (i : ℕ) → length xs ≤ i → flat_map f (drop
+    i xs) ≡ []
 all_passed f xs i passed = at_drop_all (flat_map f) xs i passed

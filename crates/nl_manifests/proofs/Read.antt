@@ -36,7 +36,8 @@ read_found bytes m = by (all_at bytes)
     chosen : (k : Manifest) (t : Bool) → is_spelled k bytes ≡ t → Met (cond t (Some k) None) (Some m)
         → IsManifest m × (printed m ≡ bytes)
     chosen k true is found =
-        subst (λ (x : Manifest). IsManifest x × (printed x ≡ bytes)) (ap (or_this k) found) (spelled_is k bytes is)
+        subst (λ (x : Manifest). IsManifest x × (printed x ≡ bytes)) (ap (or_this k) found) (spelled_is k
+        bytes is)
     chosen k false is found = absurd (true≢false (sym (ap is_there found)))
 
     by : (o : Option Manifest) → Met (o >>= λ k. cond (is_spelled k bytes) (Some k) None) (Some m)

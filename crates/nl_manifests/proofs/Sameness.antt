@@ -58,7 +58,11 @@ entry_by one other path entry paths told =
       (λ same. paths ∙ ap (same_path one.0) (sym same) ∙ same_path-itself one.0),
     ) told
     (λ (p : one.0 ≡ other.0) (q : one.1 ≡ other.1). λ i. (p i, q i))
-    (λ (same : one ≡ other). (ap (λ (e : Path × HostEntry). e.0) same, ap (λ (e : Path × HostEntry). e.1) same))
+    (λ (same : one ≡ other). (
+      ap (λ (e : Path × HostEntry). e.0) same,
+      ap (λ (e : Path × HostEntry). e.1)
+          same,
+    ))
 
 pub entry_apart : (one other : Path × HostEntry) (path : Bool) → path ≡ same_path one.0 other.0 → path ≡ false
     → IsTrue path ↔ (one ≡ other)

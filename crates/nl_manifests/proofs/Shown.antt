@@ -29,7 +29,8 @@ module _ {X : Type 0} where
       [ true ↦ refl | false ↦ found_right q a b there ]
 
   -- what an entry adds is found among what all add
-  pub found_among : {Y : Type 0} (part : Path × Y → List (Path × X)) (q p : Path) (y : Y) (es : List (Path × Y))
+  pub found_among : {Y : Type 0} (part : Path × Y → List (Path × X)) (q p : Path) (y : Y) (es : List (Path
+      × Y))
       → find path_cmp p es ≡ Some y → is_some (find path_cmp q (part (p, y))) ≡ true
       → is_some (find path_cmp q (flat_map part es)) ≡ true
   found_among part q p y [] is there = cc
@@ -51,7 +52,8 @@ module _ {X : Type 0} where
 abbrev pub Are : (Path → Option HostEntry) → HostTree → Type 0
 Are shows es = AllByRecursion (λ e. shows e.0 ≡ Some e.1) es
 
-pub Are-append : (shows : Path → Option HostEntry) (a b : HostTree) → Are shows a → Are shows b → Are shows (a ++ b)
+pub Are-append : (shows : Path → Option HostEntry) (a b : HostTree) → Are shows a → Are shows b → Are
+    shows (a ++ b)
 Are-append shows [] b first then = then
 Are-append shows (e ∷ a) b first then = (first.0, Are-append shows a b first.1 then)
 
@@ -108,7 +110,8 @@ puts_are shows more are covers q = by (find path_cmp q (puts [] more)) refl (sho
     none : Finds shows []
     none p v found = absurd (true≢false (sym (ap is_some found)))
 
-    by : (o : Option HostEntry) → find path_cmp q (puts [] more) ≡ o → (s : Option HostEntry) → shows q ≡ s → o ≡ s
+    by : (o : Option HostEntry) → find path_cmp q (puts [] more) ≡ o → (s : Option HostEntry) → shows q ≡
+        s → o ≡ s
     by (Some v) found s is = sym (puts_find shows [] more none are q v found) ∙ is
     by None found None is = refl
     by None found (Some v) is =

@@ -28,7 +28,8 @@ module _ {X : Type 0} where
       ∙ absent p es parts.1
 
   -- what is below all paths is below each
-  pub below_drop : (p : Path) (e : Path × X) (es rest : List (Path × X)) (k : ℕ) → below_all path_cmp p es ≡ true
+  pub below_drop : (p : Path) (e : Path × X) (es rest : List (Path × X)) (k : ℕ) → below_all path_cmp p es
+      ≡ true
       → drop k es ≡ e ∷ rest → path_cmp p e.0 ≡ Less
   below_drop p e [] rest zero below is = cc
   below_drop p e [] rest (suc k) below is = cc

@@ -79,14 +79,17 @@ told_of_link (kind.Link target) attributes =
     Some (record { node = host.Link target; attributes = Some attributes })
 
 abbrev pub shown_link : Name → Option Line → Option HostEntry
-shown_link name line = if is_name name then option_and_then (λ l. told_of_link l.kind l.attributes) line else None
+shown_link name line = if is_name name then option_and_then (λ l. told_of_link l.kind l.attributes) line
+    else None
 
 -- What a node shows under a name: the manifest of its directory is `above`, and `own` that of itself, if it is
 -- a directory. The file of a manifest is not shown.
-abbrev pub shown_in : (above : Option Manifest) → Name → (own : Option Manifest) → Option Node → Option HostEntry
+abbrev pub shown_in : (above : Option Manifest) → Name → (own : Option Manifest) → Option Node → Option
+    HostEntry
 shown_in above name own (Some Dir) = Some (shown_directory own)
 shown_in above name own (Some (File bytes)) =
-    if is_some above && same_name name manifest_name then None else Some (shown_file bytes (line_in above name))
+    if is_some above && same_name name manifest_name then None else Some (shown_file bytes (line_in above
+    name))
 shown_in above name own None = shown_link name (line_in above name)
 
 abbrev pub manifest_above : Tree → Option (Path × Name) → Option Manifest

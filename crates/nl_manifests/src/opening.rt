@@ -100,7 +100,8 @@ fn shown_directory(own: Option<&Manifest>) -> HostEntry
 
 /// The attributes that a line tells of a file.
 fn file_attributes(line: Option<&Line>) -> Option<Attributes>
-    ensures { result ≡ option_and_then (λ l. told_of_file l.kind l.attributes) (option_copied line.entry) }
+    ensures { result
+        ≡ option_and_then (λ l. told_of_file l.kind l.attributes) (option_copied line.entry) }
 {
     match line {
         None => None,

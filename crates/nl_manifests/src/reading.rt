@@ -137,7 +137,8 @@ fn manifest_in(alloc: Global, bytes: &[u8]) -> Result<Option<Manifest>, AllocErr
 /// # Errors
 /// Memory.
 pub fn read_manifest(alloc: Global, bytes: &[u8]) -> Result<Option<Manifest>, AllocError>
-    ensures found { IfOk result (λ read. IfSome read (λ m. IsManifest m × (printed m ≡ bytes.now))) }
+    ensures found { IfOk result (λ read. IfSome read
+        (λ m. IsManifest m × (printed m ≡ bytes.now))) }
     ensures only { IfOk result (λ read. (m : Manifest) → IsManifest m → printed m ≡ bytes.now
         → read ≡ Some m) }
     ensures exact { IfOk result (λ read. read ≡ manifest_in bytes.now) }

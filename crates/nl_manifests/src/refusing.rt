@@ -55,7 +55,8 @@ fn add_line(
     line: &Line,
     refused: &mut Refused,
 ) -> Result<(), AllocError>
-    ensures { OnOk result (refused.new ≡ refused.old ++ refused_line tree.now directory.now line.now) }
+    ensures { OnOk result (refused.new
+        ≡ refused.old ++ refused_line tree.now directory.now line.now) }
 {
     let path = with_name(alloc, directory, line.name.as_slice())?;
     let fault = fault_of(tree, path.as_slice(), line);

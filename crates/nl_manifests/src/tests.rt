@@ -22,8 +22,12 @@ const OWN: Attributes = Attributes {
     time: TIME,
 };
 
-const TEXT: &[u8] =
-    b"#mtree\n. type=dir mode=0755 uid=1000 gid=100 time=1795808658.995470559\n./a\\040b type=file mode=4644 uid=0 gid=0 time=-1.000000007\n./l type=link mode=0777 uid=1000 gid=100 time=1795808658.995470559 link=../x\\134\n";
+const LINES: [&[u8]; 4] = [
+    b"#mtree",
+    b". type=dir mode=0755 uid=1000 gid=100 time=1795808658.995470559",
+    b"./a\\040b type=file mode=4644 uid=0 gid=0 time=-1.000000007",
+    b"./l type=link mode=0777 uid=1000 gid=100 time=1795808658.995470559 link=../x\\134",
+];
 
 fn line(
     alloc: Global,
@@ -63,15 +67,28 @@ fn reads(alloc: Global, bytes: &[u8]) -> Result<bool, AllocError> {
     Ok(read_manifest(alloc, bytes)?.is_some())
 }
 
+fn text(alloc: Global) -> Result<Vec<u8>, AllocError> {
+    let mut text = Vec::new(alloc);
+    for line in LINES {
+        text.extend_from_slice(line)?;
+        text.push(b'\n')?;
+    }
+    Ok(text)
+}
+
 fn is_printed_so(alloc: Global) -> Result<bool, AllocError> {
-    let text = printed(alloc, &manifest(alloc)?)?;
-    Ok(text.as_slice() == TEXT)
+    let printed = printed(alloc, &manifest(alloc)?)?;
+    Ok(printed.as_slice() == text(alloc)?.as_slice())
+}
+
+fn is_read(alloc: Global) -> Result<bool, AllocError> {
+    reads(alloc, text(alloc)?.as_slice())
 }
 
 #[test]
 fn a_manifest_is_printed_as_mtree_has_it(rt: HostRuntime) -> Result<(), AllocError> {
     assert!(rt; is_printed_so(rt.alloc())?);
-    assert!(rt; reads(rt.alloc(), TEXT)?);
+    assert!(rt; is_read(rt.alloc())?);
     Ok(())
 }
 

@@ -36,5 +36,6 @@ pub returns : goal.returns
 returns c =
     let bytes = c.args.bytes.now in
     let limit = c.args.limit in
-    rw (is_spent next_line_at c.loop.lines limit c.loop.counter c.loop.left.now (many next_line_at limit bytes)
+    rw (is_spent next_line_at c.loop.lines limit c.loop.counter c.loop.left.now (many next_line_at limit
+    bytes)
     c.loop.invariant c.loop-test.false) refl

@@ -6,12 +6,14 @@ use Rattle.nl_manifests.specs.Readings.{manifest_in}
 use Rattle.nl_manifests.proofs.Read.{found_is, printed_read}
 use Rattle.nl_manifests.proofs.reading.read_manifest.Goals as goal
 
-found : {E : Type 0} (r : Result (Option Manifest) E) (bytes : List ℕ) → IfOk r (λ read. read ≡ manifest_in bytes)
+found : {E : Type 0} (r : Result (Option Manifest) E) (bytes : List ℕ) → IfOk r (λ read. read ≡
+    manifest_in bytes)
     → IfOk r (λ read. IfSome read (λ m. IsManifest m × (printed m ≡ bytes)))
 found (Ok read) bytes is = found_is read bytes is
 found (Err e) bytes is = tt
 
-only : {E : Type 0} (r : Result (Option Manifest) E) (bytes : List ℕ) → IfOk r (λ read. read ≡ manifest_in bytes)
+only : {E : Type 0} (r : Result (Option Manifest) E) (bytes : List ℕ) → IfOk r (λ read. read ≡ manifest_in
+    bytes)
     → IfOk r (λ read. (m : Manifest) → IsManifest m → printed m ≡ bytes → read ≡ Some m)
 only (Ok read) bytes is = λ m manifest spelled. is ∙ printed_read bytes m manifest spelled
 only (Err e) bytes is = tt
