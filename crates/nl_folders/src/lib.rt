@@ -16,6 +16,7 @@ mod trees;
 
 pub use differences::{Difference, all_differences, difference_between, same_trees};
 pub use folder::{Folder, FolderError, whole_tree};
+pub use looking::find_in;
 pub use passing::{Knowledge, folder_differences};
 pub use paths::{
     Name, Path, appended, begins_with, compare, copied, is_same_path, spelled, with_name,

@@ -1,7 +1,7 @@
 //! The entry of a path in a tree in order, looked for near a place. Who goes through two trees side by side
 //! finds each entry beside another one a step or two further on.
 ghost use Rattle.std.specs.Prelude.{◌≡◌, ◌-◌, ◌<◌, ◌≤◌, IsTrue, drop, length};
-ghost use Rattle.std.specs.FinMap.{is_sorted};
+ghost use Rattle.std.specs.FinMap.{find, is_sorted};
 ghost use Rattle.std.specs.Option.{option_copied};
 ghost use Rattle.std.specs.Ordering.{is_lt};
 ghost use Rattle.nl_types.specs.Paths.{path_cmp};
@@ -18,7 +18,7 @@ pub(crate) struct Found<'a> {
     pub(crate) node: Option<&'a Node>,
 }
 
-fn is_below(entry: &(Path, Node), path: &[Name]) -> bool
+fn is_below<T>(entry: &(Path, T), path: &[Name]) -> bool
     ensures { result ≡ is_lt (path_cmp entry.now.0 path.now) }
 {
     compare(entry.0.as_slice(), path).is_lt()
@@ -58,7 +58,7 @@ fn sunk(entries: &[(Path, Node)], from: usize, path: &[Name]) -> usize
 }
 
 /// What the first entry has, if it is at the path.
-fn first_at<'a>(entries: &'a [(Path, Node)], path: &[Name]) -> Option<&'a Node>
+fn first_at<'a, T>(entries: &'a [(Path, T)], path: &[Name]) -> Option<&'a T>
     ensures { option_copied result ≡ first_at entries.now path.now }
 {
     match entries {
@@ -95,7 +95,7 @@ struct Span {
     high: usize,
 }
 
-fn halved(entries: &[(Path, Node)], span: Span, path: &[Name]) -> Span
+fn halved<T>(entries: &[(Path, T)], span: Span, path: &[Name]) -> Span
     requires between { IsBetween entries.now path.now span.low span.high }
     requires open { span.low < span.high }
     ensures between { IsBetween entries.now path.now result.low result.high }
@@ -114,10 +114,10 @@ fn halved(entries: &[(Path, Node)], span: Span, path: &[Name]) -> Span
 }
 
 /// The place of a path among entries in order: before it all are below the path.
-pub(crate) fn place_in(entries: &[(Path, Node)], path: &[Name]) -> usize
+pub(crate) fn place_in<T>(entries: &[(Path, T)], path: &[Name]) -> usize
     ensures within { result ≤ length entries.now }
     ensures found { IsTrue (is_sorted path_cmp entries.now)
-        → lookup entries.now path.now ≡ first_at (drop result entries.now) path.now }
+        → find path_cmp path.now entries.now ≡ first_at (drop result entries.now) path.now }
 {
     let mut span = Span {
         low: 0,
@@ -129,10 +129,10 @@ pub(crate) fn place_in(entries: &[(Path, Node)], path: &[Name]) -> usize
     span.low
 }
 
-/// What stands at a path of entries in order.
-pub(crate) fn find_in<'a>(entries: &'a [(Path, Node)], path: &[Name]) -> Option<&'a Node>
+/// What stands at a path of entries in order. It looks at few of them.
+pub fn find_in<'a, T>(entries: &'a [(Path, T)], path: &[Name]) -> Option<&'a T>
     ensures { IsTrue (is_sorted path_cmp entries.now)
-        → option_copied result ≡ lookup entries.now path.now }
+        → option_copied result ≡ find path_cmp path.now entries.now }
 {
     first_at(&entries[place_in(entries, path)..], path)
 }

@@ -101,7 +101,7 @@ lines_ascend m is =
     let parts = and_parts (are_attributes m.own) _ is in
     (and_parts (list_all is_line m.lines) (ascend m.lines) parts.1).1
 
-abbrev keyed : List Line → List (Name × Line)
+abbrev pub keyed : List Line → List (Name × Line)
 keyed lines = map (λ line. (line.name, line)) lines
 
 below_more : (n k : Name) (lines : List Line) → is_lt (name_cmp n k) ≡ true
@@ -162,30 +162,28 @@ are_named (line ∷ lines) sorted =
 
 -- ---- entries
 
--- each entry is found at its path
-abbrev pub Stand : Tree → Tree → Type 0
-Stand tree es = AllByRecursion (λ e. lookup tree e.0 ≡ Some e.1) es
+module _ {X : Type 0} where
+  -- each entry is found at its path
+  abbrev pub Stand : (tree es : List (Path × X)) → Type 0
+  Stand tree es = AllByRecursion (λ e. find path_cmp e.0 tree ≡ Some e.1) es
 
-stand_behind : (e : Path × Node) (tree some : Tree) → below_all path_cmp e.0 tree ≡ true → Stand tree some
-    → Stand (e ∷ tree) some
-stand_behind e tree [] below stand = tt
-stand_behind e tree (f ∷ some) below stand = (
-  by (same_path f.0 e.0) refl,
-  stand_behind e tree some below
-      stand.1,
-)
-  where
-    by : (t : Bool) → same_path f.0 e.0 ≡ t → lookup (e ∷ tree) f.0 ≡ Some f.1
-    by true same =
-        let none : lookup tree f.0 ≡ None =
-        ap (lookup tree) (same_path-equal f.0 e.0 same) ∙ absent e.0 tree below in
-        absurd (true≢false (ap is_some (sym stand.0 ∙ none)))
-    by false other = ap (λ t. cond t (Some e.1) (lookup tree f.0)) other ∙ stand.0
+  stand_behind : (e : Path × X) (tree some : List (Path × X)) → below_all path_cmp e.0 tree ≡ true
+      → Stand tree some → Stand (e ∷ tree) some
+  stand_behind e tree [] below stand = tt
+  stand_behind e tree (f ∷ some) below stand =
+      (by (same_path f.0 e.0) refl, stand_behind e tree some below stand.1)
+    where
+      by : (t : Bool) → same_path f.0 e.0 ≡ t → find path_cmp f.0 (e ∷ tree) ≡ Some f.1
+      by true same =
+          let none : find path_cmp f.0 tree ≡ None =
+          ap (λ (p : Path). find path_cmp p tree) (same_path-equal f.0 e.0 same) ∙ absent e.0 tree below in
+          absurd (true≢false (ap is_some (sym stand.0 ∙ none)))
+      by false other = ap (λ t. cond t (Some e.1) (find path_cmp f.0 tree)) other ∙ stand.0
 
-pub entries_stand : (tree : Tree) → is_sorted path_cmp tree ≡ true → Stand tree tree
-entries_stand [] sorted = tt
-entries_stand (e ∷ tree) sorted =
-    let parts = and_parts (below_all path_cmp e.0 tree) (is_sorted path_cmp tree) sorted in (
-      ap (λ t. cond t (Some e.1) (lookup tree e.0)) (same_path-itself e.0),
-      stand_behind e tree tree parts.0 (entries_stand tree parts.1),
-    )
+  pub entries_stand : (tree : List (Path × X)) → is_sorted path_cmp tree ≡ true → Stand tree tree
+  entries_stand [] sorted = tt
+  entries_stand (e ∷ tree) sorted =
+      let parts = and_parts (below_all path_cmp e.0 tree) (is_sorted path_cmp tree) sorted in (
+        ap (λ t. cond t (Some e.1) (find path_cmp e.0 tree)) (same_path-itself e.0),
+        stand_behind e tree tree parts.0 (entries_stand tree parts.1),
+      )

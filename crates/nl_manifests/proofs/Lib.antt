@@ -10,4 +10,8 @@ pub mod Kept
 pub mod OpenedTrees
 pub mod Refused
 pub mod EntryParts
-pub mod Sameness
+pub mod HostLines
+pub mod SealedTrees
+pub mod SealedParts
+pub mod SealedLimits
+pub mod Lookups

@@ -12,7 +12,8 @@ use Rattle.nl_manifests.specs.declared.manifest.Line.{Line}
 use Rattle.nl_manifests.specs.declared.manifest.Manifest.{Manifest}
 use Rattle.nl_manifests.specs.declared.host_tree.HostEntry.{HostEntry}
 use Rattle.nl_manifests.specs.HostTrees.{HostTree, last_name, line_in, line_named, manifest_above, manifest_at, parted, shown_at, shown_directory, shown_in, shown_link}
-use Rattle.nl_manifests.specs.Private.Opening.{above_in, entry_if, link_part, link_where, links_part, manifests, node_part, parts, puts}
+use Rattle.nl_manifests.specs.Private.Opening.{above_in, entry_if, link_part, link_where, links_part, manifests, node_part, parts}
+use Rattle.nl_manifests.specs.Private.Places.{puts}
 use Rattle.nl_manifests.proofs.Kept.{AreNamed, Stand, are_named, entries_stand, found_manifests, lines_ascend, lines_sorted, manifest_at_is, manifest_dir, not_none}
 use Rattle.nl_manifests.proofs.Shown.{Are, Are-append, ending_of, found_among, found_left, found_right, parted_ends, puts_are}
 

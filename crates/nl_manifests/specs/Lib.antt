@@ -1,4 +1,5 @@
 pub mod Manifests
 pub mod Readings
 pub mod HostTrees
+pub mod Sealed
 pub mod Private

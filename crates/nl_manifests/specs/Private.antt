@@ -2,4 +2,5 @@
 pub mod Reading
 pub mod Opening
 pub mod Places
-pub mod Sameness
+pub mod Sealing
+pub mod Looking

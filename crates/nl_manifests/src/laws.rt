@@ -1,6 +1,7 @@
 //! What the definitions mean, as contracts of functions that do nothing.
 ghost use Rattle.nl_manifests.specs.HostTrees.{TreesShowOne};
 ghost use Rattle.nl_manifests.specs.Readings.{ManifestsArePrinted};
+ghost use Rattle.nl_manifests.specs.Sealed.{SealedTreesOpen};
 
 /// A file has a manifest exactly where its bytes are those that this manifest is printed as. So there is one
 /// at most.
@@ -12,3 +13,10 @@ pub fn manifests_are_printed()
 pub fn trees_show_one()
     ensures { TreesShowOne }
 {}
+
+/// What is sealed is opened as it was: for the tree that `seal` answers, `open` answers what was sealed.
+pub fn sealed_trees_open()
+    ensures { SealedTreesOpen }
+{
+    trees_show_one();
+}

@@ -5,9 +5,11 @@
 mod attributes;
 mod fields;
 mod host_tree;
+mod judging;
 pub mod laws;
 mod looking;
 mod manifest;
+mod names;
 mod opening;
 mod ordered;
 mod printing;

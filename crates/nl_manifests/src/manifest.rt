@@ -33,7 +33,7 @@ pub struct Manifest {
 
 /// Whether a file may have this name, or a link may lead there.
 #[tactic(auto, unfolding(crate::specs::Manifests::is_text))]
-fn is_text(bytes: &[u8]) -> bool
+pub(crate) fn is_text(bytes: &[u8]) -> bool
     ensures { result ≡ is_text bytes.now }
 {
     !bytes.is_empty() && !bytes.contains(&0)

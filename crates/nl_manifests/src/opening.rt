@@ -6,12 +6,15 @@ ghost use Rattle.nl_types.specs.Paths.{same_name};
 ghost use Rattle.nl_types.specs.declared.reply.Node.TheVariants.{File};
 ghost use Rattle.nl_types.specs.Trees.{IsTree};
 ghost use Rattle.nl_manifests.specs.HostTrees.{Shows, line_in, manifest_at, last_name, manifest_for, manifest_name, parted, refused, shown_directory, shown_file, shown_in, shown_link, told_of_file};
-ghost use Rattle.nl_manifests.specs.Private.Opening.{Puts, PutsIfOrdered, above_in, entry_if, link_part, links_part, manifest_entry, manifests, node_part, parts};
+ghost use Rattle.nl_manifests.specs.Readings.{manifest_in};
+ghost use Rattle.nl_manifests.specs.Private.Opening.{above_in, entry_if, link_part, links_part, manifest_entry, manifests, node_part, parts};
+ghost use Rattle.nl_manifests.specs.Private.Places.{Puts, PutsIfOrdered};
 
 use crate::attributes::Attributes;
 use crate::host_tree::{HostEntry, HostNode, HostTree, Opened};
-use crate::looking::{found_in, line_named};
-use crate::manifest::{Line, LineKind, Manifest};
+use crate::looking::{Entries, Known};
+use crate::manifest::{Line, LineKind};
+use crate::names::is_manifest_name;
 use crate::ordered::put;
 use crate::reading::read_manifest;
 use crate::refusing::refused_lines;
@@ -21,17 +24,27 @@ use std::alloc::{AllocError, Global};
 
 // ---- manifests
 
+/// The manifest that stands in a file.
+fn known(alloc: Global, bytes: &[u8]) -> Result<Option<Known>, AllocError>
+    ensures { IfOk result (λ known. known ≡ manifest_in bytes.now) }
+{
+    match read_manifest(alloc, bytes)? {
+        None => Ok(None),
+        Some(manifest) => Ok(Some(Known::new(manifest))),
+    }
+}
+
 /// The manifest of a directory.
 fn manifest_at(
     alloc: Global,
-    tree: &[(Path, Node)],
+    tree: &Entries<'_, Node>,
     directory: &[Name],
-) -> Result<Option<Manifest>, AllocError>
-    ensures { IfOk result (λ manifest. manifest ≡ manifest_at tree.now directory.now) }
+) -> Result<Option<Known>, AllocError>
+    ensures { IfOk result (λ manifest. manifest ≡ manifest_at tree.now.all.now directory.now) }
 {
     let path = with_name(alloc, directory, b".nlkeep".as_slice())?;
-    match found_in(tree, path.as_slice()) {
-        Some(Node::File(bytes)) => read_manifest(alloc, bytes.as_slice()),
+    match tree.found(path.as_slice()) {
+        Some(Node::File(bytes)) => known(alloc, bytes.as_slice()),
         Some(Node::Dir) => Ok(None),
         None => Ok(None),
     }
@@ -40,11 +53,11 @@ fn manifest_at(
 /// The manifest of what stands at a path, none of a file.
 fn manifest_for(
     alloc: Global,
-    tree: &[(Path, Node)],
+    tree: &Entries<'_, Node>,
     path: &[Name],
     node: &Node,
-) -> Result<Option<Manifest>, AllocError>
-    ensures { IfOk result (λ manifest. manifest ≡ manifest_for tree.now path.now node.now) }
+) -> Result<Option<Known>, AllocError>
+    ensures { IfOk result (λ manifest. manifest ≡ manifest_for tree.now.all.now path.now node.now) }
 {
     match node {
         Node::Dir => manifest_at(alloc, tree, path),
@@ -55,8 +68,8 @@ fn manifest_for(
 fn add_manifest(
     alloc: Global,
     path: &[Name],
-    manifest: Option<Manifest>,
-    all: &mut Items<(Path, Manifest)>,
+    manifest: Option<Known>,
+    all: &mut Items<(Path, Known)>,
 ) -> Result<(), AllocError>
     ensures { OnOk result (all.new ≡ all.old ++ manifest_entry path.now manifest) }
 {
@@ -70,11 +83,11 @@ fn add_manifest(
 }
 
 /// The manifests of all directories.
-fn manifests(alloc: Global, tree: &[(Path, Node)]) -> Result<Items<(Path, Manifest)>, AllocError>
-    ensures { IfOk result (λ all. all ≡ manifests tree.now) }
+fn manifests(alloc: Global, tree: &Entries<'_, Node>) -> Result<Items<(Path, Known)>, AllocError>
+    ensures { IfOk result (λ all. all ≡ manifests tree.now.all.now) }
 {
     let mut all = Items::new(alloc);
-    for entry in tree {
+    for entry in tree.all {
         let path = entry.0.as_slice();
         let manifest = manifest_for(alloc, tree, path, &entry.1)?;
         add_manifest(alloc, path, manifest, &mut all)?;
@@ -85,12 +98,12 @@ fn manifests(alloc: Global, tree: &[(Path, Node)]) -> Result<Items<(Path, Manife
 // ---- entries
 
 /// A directory with the attributes that its own manifest tells.
-fn shown_directory(own: Option<&Manifest>) -> HostEntry
+fn shown_directory(own: Option<&Known>) -> HostEntry
     ensures { result ≡ shown_directory (option_copied own.entry) }
 {
     let attributes = match own {
         None => None,
-        Some(manifest) => Some(manifest.own),
+        Some(manifest) => Some(manifest.own()),
     };
     HostEntry {
         node: HostNode::Directory,
@@ -121,23 +134,17 @@ fn shown_file(alloc: Global, bytes: &[u8], line: Option<&Line>) -> Result<HostEn
     })
 }
 
-fn line_in<'a>(manifest: Option<&'a Manifest>, name: &[u8]) -> Option<&'a Line>
+fn line_in<'a>(manifest: Option<&'a Known>, name: &[u8]) -> Option<&'a Line>
     ensures { option_copied result ≡ line_in (option_copied manifest.entry) name.now }
 {
     match manifest {
         None => None,
-        Some(manifest) => line_named(manifest.lines.as_slice(), name),
+        Some(manifest) => manifest.line_named(name),
     }
 }
 
-fn is_manifest_name(name: &[u8]) -> bool
-    ensures { result ≡ same_name name.now manifest_name }
-{
-    name.cmp(&b".nlkeep".as_slice()).is_eq()
-}
-
 /// Whether a file under this name is its directory's manifest.
-fn is_hidden(above: Option<&Manifest>, name: &[u8]) -> bool
+fn is_hidden(above: Option<&Known>, name: &[u8]) -> bool
     ensures { result ≡ (is_some (option_copied above.entry) && same_name name.now manifest_name) }
 {
     above.is_some() && is_manifest_name(name)
@@ -146,7 +153,7 @@ fn is_hidden(above: Option<&Manifest>, name: &[u8]) -> bool
 /// A file under a name, of whose directory there may be a manifest. The file of a manifest isn't shown.
 fn file_under(
     alloc: Global,
-    above: Option<&Manifest>,
+    above: Option<&Known>,
     name: &[u8],
     bytes: &[u8],
 ) -> Result<Option<HostEntry>, AllocError>
@@ -163,19 +170,19 @@ fn file_under(
 /// A file at a path.
 fn file_at(
     alloc: Global,
-    all: &[(Path, Manifest)],
+    all: &Entries<'_, Known>,
     path: &[Name],
     bytes: &[u8],
 ) -> Result<Option<HostEntry>, AllocError>
     ensures { IfOk result (λ entry. entry
-        ≡ shown_in (above_in all.now (parted path.now)) (last_name (parted path.now)) None
+        ≡ shown_in (above_in all.now.all.now (parted path.now)) (last_name (parted path.now)) None
         (Some (File bytes.now))) }
 {
     match path {
         [] => file_under(alloc, None, b"".as_slice(), bytes),
         [_, ..] => {
             let last = path.len() - 1;
-            let above = found_in(all, &path[..last]);
+            let above = all.found(&path[..last]);
             file_under(alloc, above, path[last].as_slice(), bytes)
         }
     }
@@ -213,16 +220,16 @@ fn put_if(path: Path, entry: Option<HostEntry>, shown: &mut Shown) -> Result<(),
 /// Puts the link of a line, where nothing stands in its place.
 fn put_link(
     alloc: Global,
-    tree: &[(Path, Node)],
+    tree: &Entries<'_, Node>,
     directory: &[Name],
     line: &Line,
     shown: &mut Shown,
 ) -> Result<(), AllocError>
-    ensures { OnOk result (PutsIfOrdered shown.old.items (link_part tree.now directory.now line.now)
+    ensures { OnOk result (PutsIfOrdered shown.old.items (link_part tree.now.all.now directory.now line.now)
         shown.new.items) }
 {
     let path = with_name(alloc, directory, line.name.as_slice())?;
-    match found_in(tree, path.as_slice()) {
+    match tree.found(path.as_slice()) {
         Some(_) => Ok(()),
         None => {
             let entry = shown_link(alloc, line)?;
@@ -233,13 +240,13 @@ fn put_link(
 
 fn put_links(
     alloc: Global,
-    tree: &[(Path, Node)],
+    tree: &Entries<'_, Node>,
     directory: &[Name],
     lines: &[Line],
     shown: &mut Shown,
 ) -> Result<(), AllocError>
     ensures { OnOk result (PutsIfOrdered shown.old.items
-        (flat_map (link_part tree.now directory.now) lines.now) shown.new.items) }
+        (flat_map (link_part tree.now.all.now directory.now) lines.now) shown.new.items) }
 {
     for line in lines {
         put_link(alloc, tree, directory, line, shown)?;
@@ -249,35 +256,35 @@ fn put_links(
 
 fn put_links_of(
     alloc: Global,
-    tree: &[(Path, Node)],
+    tree: &Entries<'_, Node>,
     directory: &[Name],
-    own: Option<&Manifest>,
+    own: Option<&Known>,
     shown: &mut Shown,
 ) -> Result<(), AllocError>
     ensures { OnOk result (PutsIfOrdered shown.old.items
-        (links_part tree.now directory.now (option_copied own.entry)) shown.new.items) }
+        (links_part tree.now.all.now directory.now (option_copied own.entry)) shown.new.items) }
 {
     match own {
         None => Ok(()),
-        Some(manifest) => put_links(alloc, tree, directory, manifest.lines.as_slice(), shown),
+        Some(manifest) => put_links(alloc, tree, directory, manifest.lines(), shown),
     }
 }
 
 /// Puts a directory with the links in it, or a file.
 fn put_node(
     alloc: Global,
-    tree: &[(Path, Node)],
-    all: &[(Path, Manifest)],
+    tree: &Entries<'_, Node>,
+    all: &Entries<'_, Known>,
     entry: &(Path, Node),
     shown: &mut Shown,
 ) -> Result<(), AllocError>
     ensures { OnOk result (PutsIfOrdered shown.old.items
-        (node_part tree.now all.now entry.now.0 entry.now.1) shown.new.items) }
+        (node_part tree.now.all.now all.now.all.now entry.now.0 entry.now.1) shown.new.items) }
 {
     let path = entry.0.as_slice();
     match &entry.1 {
         Node::Dir => {
-            let own = found_in(all, path);
+            let own = all.found(path);
             put(shown, copied(alloc, path)?, shown_directory(own))?;
             put_links_of(alloc, tree, path, own, shown)
         }
@@ -290,13 +297,13 @@ fn put_node(
 
 fn put_nodes(
     alloc: Global,
-    tree: &[(Path, Node)],
-    all: &[(Path, Manifest)],
+    tree: &Entries<'_, Node>,
+    all: &Entries<'_, Known>,
 ) -> Result<HostTree, AllocError>
-    ensures { IfOk result (λ shown. Puts [] (parts tree.now all.now tree.now) shown) }
+    ensures { IfOk result (λ shown. Puts [] (parts tree.now.all.now all.now.all.now tree.now.all.now) shown) }
 {
     let mut shown = Vec::new(alloc);
-    for entry in tree {
+    for entry in tree.all {
         put_node(alloc, tree, all, entry, &mut shown)?;
     }
     Ok(Items::from_vec(shown))
@@ -311,9 +318,11 @@ pub fn open(alloc: Global, tree: &[(Path, Node)]) -> Result<Opened, AllocError>
     ensures shows { IfOk result (λ opened. IsTree tree.now → Shows tree.now opened.tree) }
     ensures refused { IfOk result (λ opened. opened.refused ≡ refused tree.now) }
 {
-    let all = manifests(alloc, tree)?;
-    let shown = put_nodes(alloc, tree, all.as_slice())?;
-    let refused = refused_lines(alloc, tree, all.as_slice())?;
+    let entries = Entries::of(tree);
+    let all = manifests(alloc, &entries)?;
+    let manifests = Entries::of(all.as_slice());
+    let shown = put_nodes(alloc, &entries, &manifests)?;
+    let refused = refused_lines(alloc, &entries, &manifests)?;
     Ok(Opened {
         tree: shown,
         refused,

@@ -7,8 +7,8 @@ ghost use Rattle.nl_manifests.specs.HostTrees.{fault_at, fault_of, one_if, refus
 ghost use Rattle.nl_manifests.specs.Private.Opening.{refused_lines};
 
 use crate::host_tree::LineFault;
-use crate::looking::found_in;
-use crate::manifest::{Line, LineKind, Manifest};
+use crate::looking::{Entries, Known};
+use crate::manifest::{Line, LineKind};
 use nl_folders::{Name, Path, with_name};
 use nl_types::{Items, Node, is_name};
 use std::alloc::{AllocError, Global};
@@ -29,11 +29,11 @@ fn fault_at(kind: &LineKind, node: Option<&Node>) -> Option<LineFault>
 }
 
 /// The same of a line, where its path is there.
-fn fault_of(tree: &[(Path, Node)], path: &[Name], line: &Line) -> Option<LineFault>
-    ensures { result ≡ fault_of line.now (lookup tree.now path.now) }
+fn fault_of(tree: &Entries<'_, Node>, path: &[Name], line: &Line) -> Option<LineFault>
+    ensures { result ≡ fault_of line.now (lookup tree.now.all.now path.now) }
 {
     if is_name(line.name.as_slice()) {
-        fault_at(&line.kind, found_in(tree, path))
+        fault_at(&line.kind, tree.found(path))
     } else {
         Some(LineFault::BadName)
     }
@@ -50,13 +50,13 @@ fn add_if(path: Path, fault: Option<LineFault>, refused: &mut Refused) -> Result
 
 fn add_line(
     alloc: Global,
-    tree: &[(Path, Node)],
+    tree: &Entries<'_, Node>,
     directory: &[Name],
     line: &Line,
     refused: &mut Refused,
 ) -> Result<(), AllocError>
     ensures { OnOk result (refused.new
-        ≡ refused.old ++ refused_line tree.now directory.now line.now) }
+        ≡ refused.old ++ refused_line tree.now.all.now directory.now line.now) }
 {
     let path = with_name(alloc, directory, line.name.as_slice())?;
     let fault = fault_of(tree, path.as_slice(), line);
@@ -65,13 +65,13 @@ fn add_line(
 
 fn add_lines(
     alloc: Global,
-    tree: &[(Path, Node)],
+    tree: &Entries<'_, Node>,
     directory: &[Name],
     lines: &[Line],
     refused: &mut Refused,
 ) -> Result<(), AllocError>
     ensures { OnOk result (refused.new
-        ≡ refused.old ++ flat_map (refused_line tree.now directory.now) lines.now) }
+        ≡ refused.old ++ flat_map (refused_line tree.now.all.now directory.now) lines.now) }
 {
     for line in lines {
         add_line(alloc, tree, directory, line, refused)?;
@@ -82,14 +82,14 @@ fn add_lines(
 /// The lines of manifests that show nothing.
 pub(crate) fn refused_lines(
     alloc: Global,
-    tree: &[(Path, Node)],
-    all: &[(Path, Manifest)],
+    tree: &Entries<'_, Node>,
+    all: &Entries<'_, Known>,
 ) -> Result<Refused, AllocError>
-    ensures { IfOk result (λ refused. refused ≡ refused_lines tree.now all.now) }
+    ensures { IfOk result (λ refused. refused ≡ refused_lines tree.now.all.now all.now.all.now) }
 {
     let mut refused = Items::new(alloc);
-    for entry in all {
-        let (directory, lines) = (entry.0.as_slice(), entry.1.lines.as_slice());
+    for entry in all.all {
+        let (directory, lines) = (entry.0.as_slice(), entry.1.lines());
         add_lines(alloc, tree, directory, lines, &mut refused)?;
     }
     Ok(refused)

@@ -1,25 +1,39 @@
 //! Trees of the host, sealed in trees of a volume.
-ghost use Rattle.std.specs.Prelude.{◌≡◌, ◌↔◌, [], IfErr, IfOk, IsTrue};
+ghost use Rattle.std.specs.Prelude.{◌≡◌, ◌++◌, [], IfErr, IfOk, OnOk};
+ghost use Rattle.std.specs.List.{list_all};
+ghost use Rattle.std.specs.Option.{option_copied};
 ghost use Rattle.nl_types.specs.Trees.{IsTree};
 ghost use Rattle.nl_manifests.specs.HostTrees.{Shows, refused};
-ghost use Rattle.nl_manifests.specs.Private.Sameness.{same_node};
+ghost use Rattle.nl_manifests.specs.Sealed.{IsSealed, RefusesSealing, is_small, is_within_limits, line_under};
+ghost use Rattle.nl_manifests.specs.Private.Places.{Puts, PutsIfOrdered};
+ghost use Rattle.nl_manifests.specs.Private.Sealing.{lines_until, manifest_part, own_manifest, sealed_part, sealed_parts};
 
-use crate::attributes::Attributes;
 use crate::host_tree::{HostEntry, HostNode};
+use crate::judging::is_host_tree;
 use crate::manifest::{Line, LineKind, Manifest};
-use crate::opening::open;
+use crate::names::name_below;
+use crate::ordered::put;
 use crate::printing::printed;
-use nl_folders::{Name, Path, Tree, begins_with, compare, copied, is_same_path, with_name};
+use nl_folders::{Name, Path, Tree, begins_with, copied, with_name};
 use nl_types::{Items, Node};
 use std::alloc::{AllocError, AllocFailed, Global};
+
+/// The most bytes of a file.
+const FILE_LIMIT: usize = 67_108_864;
+
+/// The most paths of a tree, the root's included.
+const MOST_PATHS: usize = 524_278;
 
 /// Why a tree of the host isn't sealed.
 #[derive(Clone, Copy, Debug, PartialEq, Eq)]
 pub enum SealError {
     Memory,
-    /// No tree of a volume shows it. Its paths are not in order, a name is that of a manifest or no name, a
-    /// directory has no attributes where something in it has, or there are others than a host has.
+    /// No tree of a volume shows it. Its paths are not in order, or the directory of one is not there; a name
+    /// is none, or that of its directory's manifest; something has attributes in a directory that has none; or
+    /// attributes or a target are such as no host has.
     Unshown,
+    /// With the manifests there are more paths than in any tree, or a file is greater than any may be.
+    TooBig,
 }
 
 impl From<AllocError> for SealError {
@@ -35,160 +49,180 @@ impl From<AllocError> for SealError {
 
 // ---- manifests
 
+/// Adds the line of a file or a link that has attributes.
 fn add_line(
     alloc: Global,
-    name: &[u8],
+    name: Option<&Name>,
     entry: &HostEntry,
     lines: &mut Items<Line>,
-) -> Result<(), AllocError> {
+) -> Result<(), AllocError>
+    ensures { OnOk result (lines.new ≡ lines.old ++ line_under (option_copied name.entry) entry.now) }
+{
+    let Some(name) = name else {
+        return Ok(());
+    };
+    let Some(attributes) = entry.attributes else {
+        return Ok(());
+    };
     let kind = match &entry.node {
         HostNode::Directory => return Ok(()),
         HostNode::File(_) => LineKind::File,
         HostNode::Link(target) => LineKind::Link(Items::from_slice(alloc, target.as_slice())?),
     };
-    match entry.attributes {
-        None => Ok(()),
-        Some(attributes) => lines.push(Line {
-            name: Items::from_slice(alloc, name)?,
-            kind,
-            attributes,
-        }),
-    }
+    lines.push(Line {
+        name: Items::from_slice(alloc, name.as_slice())?,
+        kind,
+        attributes,
+    })
 }
 
 /// The lines of a directory, by the entries that come behind it.
-fn lines_of(
+fn lines_until(
     alloc: Global,
-    behind: &[(Path, HostEntry)],
     directory: &[Name],
-) -> Result<Items<Line>, AllocError> {
+    behind: &[(Path, HostEntry)],
+) -> Result<Items<Line>, AllocError>
+    ensures { IfOk result (λ lines. lines ≡ lines_until directory.now behind.now) }
+{
     let mut lines = Items::new(alloc);
     for entry in behind {
         let path = entry.0.as_slice();
         if !begins_with(path, directory) {
             return Ok(lines);
         }
-        match &path[directory.len()..] {
-            [name] => add_line(alloc, name.as_slice(), &entry.1, &mut lines)?,
-            _ => {}
-        }
+        add_line(alloc, name_below(directory, path), &entry.1, &mut lines)?;
     }
     Ok(lines)
+}
+
+/// The manifest of an entry, by those that come behind it.
+fn own_manifest(
+    alloc: Global,
+    entry: &(Path, HostEntry),
+    behind: &[(Path, HostEntry)],
+) -> Result<Option<Manifest>, AllocError>
+    ensures { IfOk result (λ manifest. manifest ≡ own_manifest entry.now behind.now) }
+{
+    match (&entry.1.node, entry.1.attributes) {
+        (HostNode::Directory, Some(own)) => {
+            let lines = lines_until(alloc, entry.0.as_slice(), behind)?;
+            Ok(Some(Manifest { own, lines }))
+        }
+        (HostNode::Directory, None) => Ok(None),
+        (HostNode::File(_), _) => Ok(None),
+        (HostNode::Link(_), _) => Ok(None),
+    }
 }
 
 // ---- entries
 
 type Sealed = Vec<(Path, Node)>;
 
-fn add_manifest(
+fn put_manifest(
     alloc: Global,
     directory: &[Name],
-    manifest: &Manifest,
+    manifest: Option<Manifest>,
     sealed: &mut Sealed,
-) -> Result<(), AllocError> {
-    let path = with_name(alloc, directory, b".nlkeep".as_slice())?;
-    sealed.push((path, Node::File(printed(alloc, manifest)?)))?;
-    Ok(())
+) -> Result<(), AllocError>
+    ensures { OnOk result (PutsIfOrdered sealed.old.items (manifest_part directory.now manifest)
+        sealed.new.items) }
+{
+    match manifest {
+        None => Ok(()),
+        Some(manifest) => {
+            let path = with_name(alloc, directory, b".nlkeep".as_slice())?;
+            let bytes = printed(alloc, &manifest)?;
+            put(sealed, path, Node::File(bytes))
+        }
+    }
 }
 
-/// Adds what an entry becomes: a directory gets its manifest, and a link is in that of its directory.
-fn add_entry(
+/// Puts what an entry becomes: a directory gets its manifest, and a link is in that of its directory.
+fn put_entry(
     alloc: Global,
-    entry: &(Path, HostEntry),
-    behind: &[(Path, HostEntry)],
+    path: &[Name],
+    node: &HostNode,
+    manifest: Option<Manifest>,
     sealed: &mut Sealed,
-) -> Result<(), AllocError> {
-    let path = entry.0.as_slice();
-    match &entry.1.node {
+) -> Result<(), AllocError>
+    ensures { OnOk result (PutsIfOrdered sealed.old.items (sealed_part path.now node.now manifest)
+        sealed.new.items) }
+{
+    match node {
         HostNode::Directory => {
-            sealed.push((copied(alloc, path)?, Node::Dir))?;
-            if let Some(own) = entry.1.attributes {
-                let lines = lines_of(alloc, behind, path)?;
-                add_manifest(alloc, path, &Manifest { own, lines }, sealed)?;
-            }
-            Ok(())
+            put(sealed, copied(alloc, path)?, Node::Dir)?;
+            put_manifest(alloc, path, manifest, sealed)
         }
         HostNode::File(bytes) => {
             let bytes = Items::from_slice(alloc, bytes.as_slice())?;
-            sealed.push((copied(alloc, path)?, Node::File(bytes)))?;
-            Ok(())
+            put(sealed, copied(alloc, path)?, Node::File(bytes))
         }
         HostNode::Link(_) => Ok(()),
     }
 }
 
-fn sealed_entries(alloc: Global, host: &[(Path, HostEntry)]) -> Result<Tree, AllocError> {
+fn put_all(alloc: Global, host: &[(Path, HostEntry)]) -> Result<Tree, AllocError>
+    ensures { IfOk result (λ tree. Puts [] (sealed_parts host.now) tree) }
+{
     let mut sealed = Vec::new(alloc);
     for at in 0..host.len() {
-        add_entry(alloc, &host[at], &host[at + 1..], &mut sealed)?;
+        let entry = &host[at];
+        let manifest = own_manifest(alloc, entry, &host[at + 1..])?;
+        put_entry(
+            alloc,
+            entry.0.as_slice(),
+            &entry.1.node,
+            manifest,
+            &mut sealed,
+        )?;
     }
-    sealed.sort_unstable_by(|a, b| compare(a.0.as_slice(), b.0.as_slice()));
     Ok(Items::from_vec(sealed))
 }
 
-// ---- what is shown
+// ---- limits
 
-fn are_same_attributes(one: Option<Attributes>, other: Option<Attributes>) -> bool
-    ensures { IsTrue result ↔ (one ≡ other) }
+fn is_small(node: &Node) -> bool
+    ensures { result ≡ is_small node.now }
 {
-    one == other
-}
-
-/// Whether two nodes are one, a file by all its bytes.
-fn is_same_node(one: &HostNode, other: &HostNode) -> bool
-    ensures { result ≡ same_node one.now other.now }
-{
-    match (one, other) {
-        (HostNode::Directory, HostNode::Directory) => true,
-        (HostNode::File(one), HostNode::File(other)) => one.as_slice() == other.as_slice(),
-        (HostNode::Link(one), HostNode::Link(other)) => one.as_slice() == other.as_slice(),
-        _ => false,
+    match node {
+        Node::Dir => true,
+        Node::File(bytes) => bytes.len() <= FILE_LIMIT,
     }
 }
 
-fn is_same(one: &HostEntry, other: &HostEntry) -> bool
-    ensures { IsTrue result ↔ (one.now ≡ other.now) }
+fn are_small(tree: &[(Path, Node)]) -> bool
+    ensures { result ≡ list_all (λ e. is_small e.1) tree.now }
 {
-    is_same_node(&one.node, &other.node) && are_same_attributes(one.attributes, other.attributes)
+    tree.iter().all(|entry| is_small(&entry.1))
 }
 
-fn is_same_entry(one: &(Path, HostEntry), other: &(Path, HostEntry)) -> bool
-    ensures { IsTrue result ↔ (one.now ≡ other.now) }
+fn is_within_limits(tree: &[(Path, Node)]) -> bool
+    ensures { result ≡ is_within_limits tree.now }
 {
-    is_same_path(one.0.as_slice(), other.0.as_slice()) && is_same(&one.1, &other.1)
+    let is_short = tree.len() <= MOST_PATHS;
+    is_short && are_small(tree)
 }
 
-/// Whether two trees of the host are one.
-fn is_same_host(one: &[(Path, HostEntry)], other: &[(Path, HostEntry)]) -> bool
-    ensures { IsTrue result ↔ (one.now ≡ other.now) }
-{
-    if one.len() != other.len() {
-        return false;
-    }
-    for at in 0..one.len() {
-        if !is_same_entry(&one[at], &other[at]) {
-            return false;
-        }
-    }
-    true
-}
-
-/// The tree of a volume that shows a tree of the host: a manifest in each directory that has attributes.
-///
-/// What is sealed is opened once more before it is answered. So `Unshown` comes where that shows anything else
-/// than what was given.
+/// The tree of a volume that shows a tree of the host: its directories and files, a manifest in each directory
+/// that has attributes, and no line that shows nothing.
 ///
 /// # Errors
-/// `Memory` and `Unshown`.
+/// `Unshown` where no tree shows it; `TooBig` where the one that does is beyond the limits; `Memory`.
 pub fn seal(alloc: Global, host: &[(Path, HostEntry)]) -> Result<Tree, SealError>
-    ensures shows { IfOk result (λ tree. IsTree tree → Shows tree host.now) }
+    ensures tree { IfOk result (λ tree. IsTree tree) }
+    ensures shows { IfOk result (λ tree. Shows tree host.now) }
     ensures told { IfOk result (λ tree. refused tree ≡ []) }
+    ensures sealed { IfOk result (λ tree. IsSealed host.now tree) }
+    ensures refused { IfErr result (RefusesSealing host.now) }
 {
-    let tree = sealed_entries(alloc, host)?;
-    let opened = open(alloc, tree.as_slice())?;
-    if opened.refused.is_empty() && is_same_host(opened.tree.as_slice(), host) {
+    let is_shown = is_host_tree(alloc, host)?;
+    if !is_shown {
+        return Err(SealError::Unshown);
+    }
+    let tree = put_all(alloc, host)?;
+    if is_within_limits(tree.as_slice()) {
         Ok(tree)
     } else {
-        Err(SealError::Unshown)
+        Err(SealError::TooBig)
     }
 }

@@ -1,6 +1,6 @@
 -- What is shown of a tree, put together entry by entry.
-use Rattle.std.specs.Prelude.{◌≡◌, true, List, [], ◌∷◌, ◌++◌, ℕ, Option, None, Some}
-use Rattle.std.specs.FinMap.{find, put, is_sorted}
+use Rattle.std.specs.Prelude.{List, [], ◌∷◌, ◌++◌, ℕ, Option, None, Some}
+use Rattle.std.specs.FinMap.{find}
 use Rattle.std.specs.List.{flat_map}
 use Rattle.nl_types.specs.declared.reply.Node.{Node}
 use Rattle.nl_types.specs.declared.reply.Node.TheVariants.{Dir, File}
@@ -59,21 +59,6 @@ node_part tree all path (File bytes) = file_part all path bytes
 
 abbrev pub parts : Tree → Manifests → Tree → HostTree
 parts tree all entries = flat_map (λ e. node_part tree all e.0 e.1) entries
-
--- ---- entries in order
-
--- entries, put one after another to the others
-abbrev pub puts : HostTree → HostTree → HostTree
-puts shown [] = shown
-puts shown (e ∷ more) = puts (put path_cmp e.0 e.1 shown) more
-
--- so the ones that were in order are it now
-pub record Puts (old more new : HostTree) : Type 0 where
-  pub shown : new ≡ puts old more
-  pub ordered : is_sorted path_cmp new ≡ true
-
-abbrev pub PutsIfOrdered : HostTree → HostTree → HostTree → Type 0
-PutsIfOrdered old more new = is_sorted path_cmp old ≡ true → Puts old more new
 
 -- ---- lines that show nothing
 

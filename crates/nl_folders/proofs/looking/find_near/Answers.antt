@@ -1,8 +1,5 @@
-use Rattle.std.proofs.Common.{ap, sym, ◌∙◌}
-use Rattle.std.proofs.lemmas.List.{take_rest}
-use Rattle.nl_types.specs.Trees.{Tree}
-use Rattle.nl_folders.proofs.SortedTrees.{first_found_from}
-use Rattle.nl_folders.specs.Private.Looking.{first_at}
+use Rattle.std.proofs.Common.{sym, ◌∙◌}
+use Rattle.nl_folders.proofs.SortedTrees.{first_found_from, first_left}
 use Rattle.nl_folders.proofs.looking.find_near.Goals as goal
 
 pub returns : goal.returns
@@ -11,6 +8,6 @@ returns c sorted =
     let path = c.args.path.now in
     let place = c.sunk-place.result in
     c.first_at.ensures
-    ∙ ap (λ (left : Tree). first_at left path) (take_rest entries place)
+    ∙ first_left entries place path
     ∙ sym (c.sunk-place.ensures.passed sorted
     ∙ first_found_from entries place path sorted c.sunk-place.ensures.ended)

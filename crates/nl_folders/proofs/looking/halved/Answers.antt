@@ -3,7 +3,7 @@ use Rattle.nl_folders.proofs.SortedTrees.{found_behind, less_is, place_is}
 use Rattle.nl_folders.proofs.looking.halved.Goals as goal
 
 pub returns-then-is_below-clause-between : goal.returns-then-is_below-clause-between
-returns-then-is_below-clause-between c =
+returns-then-is_below-clause-between g c =
     let entries = c.args.entries.now in
     let path = c.args.path.now in
     let b = c.requires.between in

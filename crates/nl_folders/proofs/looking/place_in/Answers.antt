@@ -4,7 +4,7 @@ use Rattle.nl_folders.specs.Private.Looking.{BeginsNotBelow}
 use Rattle.nl_folders.proofs.looking.place_in.Goals as goal
 
 pub returns-clause-found : goal.returns-clause-found
-returns-clause-found c sorted =
+returns-clause-found g c sorted =
     let entries = c.args.entries.now in
     let path = c.args.path.now in
     let span = c.loop-span.span in

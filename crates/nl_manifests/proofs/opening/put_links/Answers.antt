@@ -9,7 +9,7 @@ loop-line-init c = λ sorted. record { left = refl; ordered = sorted }
 
 pub loop-line-preserved : goal.loop-line-preserved
 loop-line-preserved c =
-    let part = link_part c.args.tree.now c.args.directory.now in
+    let part = link_part c.args.tree.now.all.now c.args.directory.now in
     let lines = c.args.lines.now in
     let i = c.loop-line.line-index in
     let line = c.line-item.result in
@@ -19,6 +19,6 @@ loop-line-preserved c =
 
 pub returns : goal.returns
 returns c =
-    let part = link_part c.args.tree.now c.args.directory.now in
+    let part = link_part c.args.tree.now.all.now c.args.directory.now in
     Putting-done _ _ (flat_map part (drop c.loop-line.line-index c.args.lines.now)) _
     (all_passed part c.args.lines.now c.loop-line.line-index c.loop-line-test.false) c.loop-line.invariant

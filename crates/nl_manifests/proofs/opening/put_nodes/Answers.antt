@@ -7,8 +7,8 @@ use Rattle.nl_manifests.proofs.opening.put_nodes.Goals as goal
 
 pub loop-entry-preserved : goal.loop-entry-preserved
 loop-entry-preserved c =
-    let tree = c.args.tree.now in
-    let all = c.args.all.now in
+    let tree = c.args.tree.now.all.now in
+    let all = c.args.all.now.all.now in
     let part = λ (e : Path × Node). node_part tree all e.0 e.1 in
     let i = c.loop-entry.entry-index in
     let entry = c.entry-item.result in
@@ -18,8 +18,8 @@ loop-entry-preserved c =
 
 pub returns : goal.returns
 returns c =
-    let tree = c.args.tree.now in
-    let all = c.args.all.now in
+    let tree = c.args.tree.now.all.now in
+    let all = c.args.all.now.all.now in
     let part = λ (e : Path × Node). node_part tree all e.0 e.1 in
     rw c.from_vec.ensures
     (Putting-done [] _ (parts tree all (drop c.loop-entry.entry-index tree)) _

@@ -5,5 +5,5 @@ use Rattle.nl_manifests.proofs.opening.put_nodes.Given as goal
 
 abbrev pub invariant-loop-entry : goal.invariant-loop-entry
 invariant-loop-entry l =
-    PuttingIfOrdered [] l.shown.items (parts l.tree l.all (drop l.entry-index l.tree)) (parts l.tree l.all
-    l.tree)
+    PuttingIfOrdered [] l.shown.items (parts l.tree.all.now l.all.all.now (drop l.entry-index l.tree.all.now))
+    (parts l.tree.all.now l.all.all.now l.tree.all.now)

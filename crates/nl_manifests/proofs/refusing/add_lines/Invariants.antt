@@ -5,5 +5,5 @@ use Rattle.nl_manifests.proofs.refusing.add_lines.Given as goal
 
 abbrev pub invariant-loop-line : goal.invariant-loop-line
 invariant-loop-line l =
-    l.refused ++ flat_map (refused_line l.tree l.directory) (drop l.line-index l.lines)
-    ≡ l.fn.refused ++ flat_map (refused_line l.tree l.directory) l.lines
+    l.refused ++ flat_map (refused_line l.tree.all.now l.directory) (drop l.line-index l.lines)
+    ≡ l.fn.refused ++ flat_map (refused_line l.tree.all.now l.directory) l.lines

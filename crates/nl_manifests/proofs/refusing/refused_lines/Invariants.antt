@@ -4,4 +4,4 @@ use Rattle.nl_manifests.proofs.refusing.refused_lines.Given as goal
 
 abbrev pub invariant-loop-entry : goal.invariant-loop-entry
 invariant-loop-entry l =
-    l.refused ++ refused_lines l.tree (drop l.entry-index l.all) ≡ refused_lines l.tree l.all
+    l.refused ++ refused_lines l.tree.all.now (drop l.entry-index l.all.all.now) ≡ refused_lines l.tree.all.now l.all.all.now
