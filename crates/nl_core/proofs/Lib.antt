@@ -15,3 +15,4 @@ pub mod RestoredImages
 pub mod Closed
 pub mod PenImages
 pub mod OneImage
+pub mod FailedWrites

@@ -28,13 +28,14 @@ use std::alloc::Global;
 /// The volume whose image these bytes are, on a device of its geometry. It is closed to the same bytes, but
 /// for the mark where that is the first one. What the device holds is no part of it. Refused by `BadImage`
 /// with the number of the first condition that the bytes fail, by `Memory`, and by `Fault` where the bytes
-/// are an image and the device failed; the device is dropped then.
+/// are an image and the device failed; the device is dropped then. Where it is opened, no put failed.
 pub fn open<D: Device>(alloc: Global, bytes: &[u8], device: D) -> Result<Pen<D>, VolError>
     requires shape { (p : Parts) → MeetsFirst 2 bytes.now p → IsShapeOf (D.shape device) p.shape }
     ensures accepted { IfOk result (λ _. AreImage bytes.now) }
     ensures rest { IfOk result (λ pen. IsAtRest pen.lists) }
     ensures pen { IfOk result IsPen }
     ensures image { IfOk result (λ pen. IsPenImage pen (with_present_mark bytes.now)) }
+    ensures unfailed { IfOk result (λ pen. pen.store.failed ≡ D.failed device) }
     ensures refused { IfErr result (IsOpenRefusal bytes.now) }
 {
     let read = read_image(alloc, bytes)?;
@@ -51,6 +52,7 @@ fn open_read<D: Device>(alloc: Global, read: ReadImage, device: D) -> Result<Pen
     ensures pen { IfOk result IsPen }
     ensures image { (bytes : List ℕ) → IsReadImage bytes read
         → IfOk result (λ pen. IsPenImage pen (with_present_mark bytes)) }
+    ensures unfailed { IfOk result (λ pen. pen.store.failed ≡ D.failed device) }
     ensures refused { IfErr result (λ e. (e ≡ VolError.Fault) ⊎ (e ≡ VolError.Memory)) }
 {
     // Of the latest one's inodes one is the root's.
@@ -91,6 +93,7 @@ fn restore_store<D: Device>(
     requires over { IsTableOver numbers segments }
     requires own { HaveOwn numbers logs.payload }
     ensures restored { IfOk result (λ dat. IsRestoredStore segments logs numbers dat.store) }
+    ensures unfailed { IfOk result (λ dat. dat.store.failed ≡ D.failed device) }
     ensures refused { OnErr result (result ≡ Err VolError.Fault) }
 {
     match LogSpace::restore(device, segments, logs) {

@@ -7,7 +7,7 @@ ghost use Rattle.nl_core.specs.LedgerEvents.{EventsAreLedgerEvents, RunsAreLedge
 ghost use Rattle.nl_commit.specs.Notes.{CommitsTellAll, PensAreImages, allowed_where};
 ghost use Rattle.nl_core.specs.PenImages.{ImagesMeanOneWorld, PenImagesAreImages, PensHaveOneImage};
 ghost use Rattle.nl_core.specs.Opened.{CheckedCheckpointsHaveInodes, OpenedImagesArePens};
-ghost use Rattle.nl_commit.specs.Laws.{MeansOneWorld, EventsLeadOn, RunsLeadOn, RefusalsKeepPens, RefusalsHaveReasons, NoSpaceIsSaid, NoSpaceIsTrue, MemoryIsTaken, RangesGoOneByOne, ExpiriesGoOneByOne, SettlingsAreAlike};
+ghost use Rattle.nl_commit.specs.Laws.{MeansOneWorld, EventsLeadOn, RunsLeadOn, FailedWritesAreTold, RefusalsKeepPens, RefusalsHaveReasons, NoSpaceIsSaid, NoSpaceIsTrue, MemoryIsTaken, RangesGoOneByOne, ExpiriesGoOneByOne, SettlingsAreAlike};
 
 use nl_check::laws::{checked_checkpoints_are_sound, sound_checkpoints_meet_all};
 use nl_image::laws::{
@@ -32,6 +32,12 @@ pub fn worlds_follow_pens()
 /// failed.
 pub fn refusals_keep_pens()
     ensures { (told : Bool) → RefusalsKeepPens (allowed_where told) }
+{}
+
+/// A write that fails is told: an event is answered by `Fault`, or no write of the device failed during it. It
+/// is said of all events but retirements: how the clear of one went, nobody is told.
+pub fn failed_writes_are_told()
+    ensures { (told : Bool) → FailedWritesAreTold (allowed_where told) }
 {}
 
 /// A refusal is judged by the world or the segments, or it has its reason: space lacks for a checkpoint or a

@@ -13,14 +13,14 @@ use Rattle.nl_types.specs.Facts.WorldJudgements.{steps_judge}
 use Rattle.nl_types.specs.declared.segment.SegmentInfo.{SegmentInfo}
 use Rattle.nl_vstore.specs.Batches.{items_of}
 use Rattle.nl_vstore.specs.Located.{needed_in}
-use Rattle.nl_vstore.specs.Stores.{IsMoveRefused, KeepsStored, StaysStored, Store}
+use Rattle.nl_vstore.specs.Stores.{IsMoveRefused, KeepsStored, Store}
 use Rattle.nl_reclaim.specs.Cleaning.{judged_for, retired}
 use Rattle.nl_commit.specs.CleaningEvents.{HasResizedNone, IsMoveRefusal, needed_by}
 use Rattle.nl_events.specs.Facts.CleaningEvents.{cleaned_judges}
 use Rattle.nl_layout.specs.declared.root.Root.{Root}
 use Rattle.nl_commit.specs.Laws.{IsAsBefore, MemoryIsTaken, RefusalsKeepPens, RefusalsHaveReasons, NoSpaceIsTrue, NoSpaceIsSaid}
 use Rattle.nl_commit.specs.Volume.{latest_root}
-use Rattle.nl_commit.specs.Layout.{AllowedBetween, Does, HasRefused, IsPen, LacksSpaceToSettle, Layout, Settled, cleaned, unshared}
+use Rattle.nl_commit.specs.Layout.{AllowedBetween, Does, HasRefused, IsPen, LacksSpaceToSettle, Layout, Settled, cleaned, layout_of, unshared}
 use Rattle.nl_events.specs.Facts.NothingChanged.{keeps-same}
 use Rattle.nl_events.specs.Facts.Settlings.{births-alike, count-items}
 
@@ -32,20 +32,11 @@ move-kept checkpoint stamp numbers error.Memory old new refused other = refused
 move-kept checkpoint stamp numbers error.Fault old new refused other = absurd (other refl)
 move-kept checkpoint stamp numbers _ old new refused other = absurd refused
 
--- a store stays where it is the same
-stays-same : (old new : Store) → new ≡ old → StaysStored old new
-stays-same old new same = record {
-  numbers = ap (λ (s : Store). s.numbers) same;
-  segments = ap (λ (s : Store). s.segments) same;
-  device = ap (λ (s : Store). s.device) same;
-  payload = ap (λ (s : Store). s.payload) same;
-}
-
 resize-kept : (segments : ℕ) (e : VolError) (old new : Store) → HasResizedNone segments old new e
-    → (e ≢ error.Fault) → StaysStored old new
+    → (e ≢ error.Fault) → new ≡ old
 resize-kept segments error.Fault old new refused other = absurd (other refl)
 resize-kept segments error.Memory old new refused other = refused.1
-resize-kept segments _ old new refused other = stays-same old new refused.0
+resize-kept segments _ old new refused other = refused.0
 
 -- what is refused but for a fault is as it was
 refused_same : (event : Event) (e : VolError) (old new : Layout) → HasRefused event e old new
@@ -54,7 +45,7 @@ refused_same (Checkpoint mode moment) error.Fault old new refused other = absurd
 refused_same (Checkpoint mode moment) _ old new refused other = refused.0
 refused_same (Retire segment) e old new refused other = refused.0
 refused_same (Resize segments) e old new refused other =
-    (refused.0, resize-kept segments e old.store new.store refused.1 other)
+    λ i. layout_of (refused.0 i) (resize-kept segments e old.store new.store refused.1 other i)
 refused_same (Move segment limit moment) e old new refused other =
     (refused.0, by (judged_for old.store.segments segment limit) refused.1)
   where
