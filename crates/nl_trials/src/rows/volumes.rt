@@ -55,10 +55,16 @@ fn reading(alloc: Global, words: &[&str]) -> Result<Option<Event>, AllocError> {
 /// What came of lines, and the pen that was shared as it is in the end.
 type Ran = (io::Result<()>, Pen<FaultDevice>);
 
+/// What a shared volume waits by, and takes its memory from.
+#[derive(Drop)]
+struct Host<'a, R: Wait> {
+    rt: &'a R,
+    alloc: Global,
+}
+
 /// Shares a pen, and does lines on it and on another one. Where it can't be shared it comes back alone.
 fn do_shared<J: Volumes, R: Wait>(
-    rt: &R,
-    alloc: Global,
+    host: &Host<'_, R>,
     opened: Opened,
     alone: &mut Alone,
     other: Pen<FaultDevice>,
@@ -68,6 +74,7 @@ fn do_shared<J: Volumes, R: Wait>(
 ) -> Result<Ran, Pen<FaultDevice>>
     requires { opened.seen.book ≡ J.book opened.id }
 {
+    let (rt, alloc) = (host.rt, host.alloc);
     let (shared, mut ports) = match share::<_, J, _>(alloc, rt, other, 1, opened) {
         Ok(made) => made,
         Err((_, other)) => return Err(other),
@@ -108,13 +115,12 @@ fn do_again<R: Wait>(
     out: &mut Vec<u8>,
 ) -> Result<Ran, Pen<FaultDevice>> {
     let before = look_at_pen(&other);
-    let first = Opened::new(1);
-    match do_shared::<Brand, _>(rt, alloc, first, alone, other, lines, tally, out) {
+    let host = Host { rt, alloc };
+    match do_shared::<Brand, _>(&host, Opened::new(1), alone, other, lines, tally, out) {
         Ok(ran) => Ok(ran),
         Err(other) => {
             tally.note(before, look_at_pen(&other));
-            let second = Opened::new(2);
-            do_shared::<Brand, _>(rt, alloc, second, alone, other, lines, tally, out)
+            do_shared::<Brand, _>(&host, Opened::new(2), alone, other, lines, tally, out)
         }
     }
 }

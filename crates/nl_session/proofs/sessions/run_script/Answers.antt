@@ -7,7 +7,7 @@ returns-in-Ok-clause-run g c =
       old = c.in_ok-volume.volume;
       unused = record { published = begun.held.published; lost = begun.held.lost; mounts = begun.mounts };
       of_pen = begun.held.layout;
-      new = c.run_on-done.new.volume;
+      new = c.run_on-done.new.runner.volume;
       runs = c.in-Ok.ensures.run;
       left_is = c.end-pen.ensures;
     }
